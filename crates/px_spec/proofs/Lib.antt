@@ -1,0 +1,4 @@
+pub mod EdgeOrder
+pub mod LineLemmas
+pub mod WalkLemmas
+pub mod Examples

@@ -1,0 +1,9 @@
+pub mod Members
+pub mod Lines
+pub mod Words
+pub mod Refusals
+pub mod ProgramLimits
+pub mod Graphs
+pub mod Changes
+pub mod Shapes
+pub mod Walks
