@@ -1,0 +1,20 @@
+-- A set of numbers below a size.
+use Rattle.std.specs.Prelude.{◌≡◌, ℕ, ◌+◌, ◌<◌, ◌≤◌, Bool, true, false, List, [], ◌∷◌, if◌then◌else◌}
+use Rattle.px_spec.specs.Members.{has}
+
+pub record BitSet : Type 0 where
+  -- the numbers are below it
+  pub size : ℕ
+  -- the numbers in the set, rising
+  pub members : List ℕ
+
+-- the places of the flags that are set, where the first flag has this place
+abbrev pub places_from : ℕ → List Bool → List ℕ
+places_from n [] = []
+places_from n (b ∷ bs) = if b then n ∷ places_from (n + 1) bs else places_from (n + 1) bs
+
+-- m is the least member that is at least n
+pub record IsNext (members : List ℕ) (n m : ℕ) : Type 0 where
+  pub member : has members m ≡ true
+  pub from : n ≤ m
+  pub first : (k : ℕ) → n ≤ k → k < m → has members k ≡ false

@@ -1,0 +1,60 @@
+-- A line that is put together from the bytes ahead.
+use Rattle.std.specs.Prelude.{◌≡◌, ℕ, ◌+◌, ◌<◌, ◌≤◌, ◌++◌, ⊤, List, [], ◌∷◌, length, Option, None, Some}
+use Rattle.std.specs.Io.KnownBytes.{Consumes}
+use Rattle.px_spec.specs.Lines.{Line, cut, IsUncut}
+use Rattle.px_base.specs.declared.line_end.LineEnd.{LineEnd}
+use Rattle.px_base.specs.LineEnds.{end_bytes, IsStopped}
+use Rattle.px_base.specs.Reading.{IsFirst, IsOver}
+
+-- What is ahead, up to the first LF or CR, or else all of it, went behind the line.
+pub record TakesPart (room : ℕ) (ahead line rest new : List ℕ) : Type 0 where
+  pub part : List ℕ
+  pub plain : IsUncut part
+  pub line_is : new ≡ line ++ part
+  pub short : length new ≤ room
+  pub ahead_is : ahead ≡ part ++ rest
+  pub stopped : IsStopped rest
+
+-- so much of what is ahead stands before the first LF or CR that it passes the line's room
+pub record Overfills (room : ℕ) (ahead line : List ℕ) : Type 0 where
+  pub front : List ℕ
+  pub rest : List ℕ
+  pub plain : IsUncut front
+  pub long : room < length line + length front
+  pub ahead_is : ahead ≡ front ++ rest
+
+-- some of the text ahead, none of it LF or CR, went behind the line
+pub record Gathers (room : ℕ) (line new : List ℕ) (before after : Option (List ℕ)) : Type 0 where
+  pub part : List ℕ
+  pub plain : IsUncut part
+  pub line_is : new ≡ line ++ part
+  pub short : length new ≤ room
+  pub told : Consumes before after part
+
+-- so much stands before the first LF or CR that it passes the line's room
+pub record IsTooLong (room : ℕ) (line : List ℕ) (before : Option (List ℕ)) : Type 0 where
+  pub front : List ℕ
+  pub rest : Option (List ℕ)
+  pub plain : IsUncut front
+  pub long : room < length line + length front
+  pub told : Consumes before rest front
+
+-- the text was over before the line, and nothing was taken
+pub record IsDone (line window : List ℕ) (before after : Option (List ℕ)) : Type 0 where
+  pub empty : line ≡ []
+  pub drained : window ≡ []
+  pub over_before : IsOver before
+  pub over_after : IsOver after
+
+-- a line was taken with its end, both within the limits, or nothing where the text is over
+pub record TakesLine (line_limit room : ℕ) (line : List ℕ) (end : LineEnd) (window : List ℕ) (before after : Option (List ℕ)) : Type 0 where
+  pub short : length line ≤ line_limit
+  pub fits : length line + length (end_bytes end) ≤ room
+  pub first : 0 < length line + length (end_bytes end) → IsFirst (record { text = line; end = end_bytes end }) before after
+  pub done : length line + length (end_bytes end) ≡ 0 → IsDone line window before after
+
+-- the first line of a told text has more bytes than the line's limit, or with its end more than the room
+abbrev pub IsLong : ℕ → ℕ → Option (List ℕ) → Type 0
+IsLong line_limit room None = ⊤
+IsLong line_limit room (Some text) =
+    (l : Line) × (rest : List Line) × (cut text ≡ l ∷ rest) × ¬ ((length l.text ≤ line_limit) × (length l.text + length l.end ≤ room))

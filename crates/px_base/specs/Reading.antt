@@ -1,0 +1,61 @@
+-- What a reader of lines keeps, and what a call of `next` makes of the text that lies ahead.
+use Rattle.std.specs.Prelude.{◌≡◌, ℕ, ◌+◌, ◌<◌, ◌≤◌, ⊤, Bool, List, [], ◌∷◌, length, Option, None, Some}
+use Rattle.std.specs.Io.KnownBytes.{prepend_known}
+use Rattle.px_spec.specs.Lines.{Line, cut}
+
+pub record Reading : Type 0 where
+  -- the bytes that were read and belong to no line yet
+  pub ahead : List ℕ
+  -- the line, without its end, and its number from 1 on; 0 before the first
+  pub line : List ℕ
+  pub number : ℕ
+  -- the bytes of the lines so far, with their ends
+  pub taken : ℕ
+  -- the most bytes of a line without its end, and of a text
+  pub line_limit : ℕ
+  pub text_limit : ℕ
+  -- whether a call answered an error
+  pub failed : Bool
+
+-- ahead of the reader lies what it read ahead, and then what the shelf has left
+abbrev pub stream : Reading → Option (List ℕ) → Option (List ℕ)
+stream r left = prepend_known r.ahead left
+
+-- the reader may take the line
+abbrev pub IsWithin : Reading → Line → Type 0
+IsWithin r l = (length l.text ≤ r.line_limit) × (r.taken + length l.text + length l.end ≤ r.text_limit)
+
+-- the line is the first of a told text, and the others are those of what is ahead after it
+abbrev pub IsFirst : Line → Option (List ℕ) → Option (List ℕ) → Type 0
+IsFirst l None after = ⊤
+IsFirst l (Some text) None = ⊥
+IsFirst l (Some text) (Some rest) = cut text ≡ l ∷ cut rest
+
+-- A line was taken from the text ahead: its first, if the text is told.
+pub record ReadsLine (old new : Reading) (before after : Option (List ℕ)) : Type 0 where
+  pub first : Line
+  pub some : 0 < length first.text + length first.end
+  pub within : IsWithin old first
+  pub told : IsFirst first before after
+  pub passed : new ≡ record old {
+    ahead = new.ahead;
+    line = first.text;
+    number = old.number + 1;
+    taken = old.taken + length first.text + length first.end;
+  }
+
+-- no text is ahead
+abbrev pub IsOver : Option (List ℕ) → Type 0
+IsOver None = ⊤
+IsOver (Some text) = text ≡ []
+
+-- the text is over, and nothing was taken
+pub record Finishes (old new : Reading) (before after : Option (List ℕ)) : Type 0 where
+  pub over_before : IsOver before
+  pub over_after : IsOver after
+  pub kept : new ≡ record old { ahead = []; line = [] }
+
+-- a line passes a limit, the first of the text where that is told
+abbrev pub IsPast : Reading → Option (List ℕ) → Type 0
+IsPast r None = ⊤
+IsPast r (Some text) = (l : Line) × (rest : List Line) × (cut text ≡ l ∷ rest) × ¬ IsWithin r l

@@ -1,0 +1,115 @@
+// A set of small numbers.
+ghost use Rattle.std.specs.Prelude.{◌≡◌, ℕ, ◌<◌, ◌≤◌, ◌^◌, ◌&&◌, ◌||◌, not, nat_eq, nat_le, true, false, [], length, filter, slice_get, IfOk, MatchOption};
+ghost use Rattle.std.specs.List.{position};
+ghost use Rattle.std.specs.List.Sorted.{IsStrictlyIncreasing};
+ghost use Rattle.px_spec.specs.Members.{has};
+ghost use Rattle.px_base.specs.BitSets.{IsNext};
+
+use crate::Memory;
+use std::alloc::Global;
+use std::marker::Model;
+
+/// A set of numbers below a size, seen as that size and the list of its members, rising.
+///
+/// It takes a byte for each number below the size.
+#[derive(Drop)]
+pub struct Bits {
+    flags: Vec<bool>,
+    count: u32,
+}
+
+impl Model for Bits {
+    ghost use Rattle.std.specs.Prelude.{◌≡◌, ◌<◌, ◌^◌, length, vec_len};
+    ghost use Rattle.px_base.specs.BitSets.{BitSet, places_from};
+
+    ghost Value = { BitSet };
+
+    ghost view = { λ b. record { size = vec_len b.flags; members = places_from 0 b.flags.items } };
+
+    ghost invariant = { λ b. (vec_len b.flags < 2 ^ 32) × (b.count ≡ length (places_from 0 b.flags.items)) };
+}
+
+impl Bits {
+    /// The empty set below `size`, which is any number.
+    pub fn new(alloc: Global, size: u32) -> Result<Bits, Memory>
+        ensures { IfOk result (λ b. b ≡ record { size = size; members = [] }) }
+    {
+        let flags = vec![in alloc; false; size as usize]?;
+        Ok(Bits { flags, count: 0 })
+    }
+
+    /// What each member is below. O(1).
+    pub fn size(&self) -> u32
+        ensures size { result ≡ self.now.size }
+        ensures rising { IsStrictlyIncreasing self.now.members }
+        ensures below { (n : ℕ) → has self.now.members n ≡ true → n < self.now.size }
+        ensures small { self.now.size < 2 ^ 32 }
+    {
+        self.flags.len() as u32
+    }
+
+    /// Whether the number is a member; false from the size on. O(1).
+    pub fn contains(&self, n: u32) -> bool
+        ensures { result ≡ has self.now.members n }
+    {
+        (n as usize) < self.flags.len() && self.flags[n as usize]
+    }
+
+    /// How many members there are. O(1).
+    pub fn count(&self) -> u32
+        ensures count { result ≡ length self.now.members }
+        ensures rising { IsStrictlyIncreasing self.now.members }
+        ensures below { (n : ℕ) → has self.now.members n ≡ true → n < self.now.size }
+        ensures small { self.now.size < 2 ^ 32 }
+    {
+        self.count
+    }
+
+    /// The least member that is at least `n`, if there is one. It looks at each number from `n` up
+    /// to that member.
+    pub fn next_from(&self, n: u32) -> Option<u32>
+        ensures next { MatchOption result ((m : ℕ) → n ≤ m → has self.now.members m ≡ false) (λ m. IsNext self.now.members n m) }
+        ensures head { result ≡ slice_get (filter (λ m. nat_le n m) self.now.members) 0 }
+    {
+        let start = (n as usize).min(self.flags.len());
+        match first_set(&self.flags[start..]) {
+            Some(gap) => Some((start + gap) as u32),
+            None => None,
+        }
+    }
+
+    /// Makes `n` a member. O(1).
+    pub fn insert(&mut self, n: u32)
+        requires { n < self.old.size }
+        ensures size { self.new.size ≡ self.old.size }
+        ensures members { (m : ℕ) → has self.new.members m ≡ (nat_eq m n || has self.old.members m) }
+        ensures rising { IsStrictlyIncreasing self.new.members }
+    {
+        if self.flags[n as usize] {
+            return;
+        }
+        self.flags[n as usize] = true;
+        self.count += 1;
+    }
+
+    /// Makes `n` no member. O(1).
+    pub fn remove(&mut self, n: u32)
+        requires { n < self.old.size }
+        ensures size { self.new.size ≡ self.old.size }
+        ensures members { (m : ℕ) → has self.new.members m ≡ (not (nat_eq m n) && has self.old.members m) }
+        ensures rising { IsStrictlyIncreasing self.new.members }
+    {
+        if !self.flags[n as usize] {
+            return;
+        }
+        self.flags[n as usize] = false;
+        self.count -= 1;
+    }
+}
+
+/// The place of the first flag that is set.
+fn first_set(flags: &[bool]) -> Option<usize>
+    ensures { result ≡ position (λ flag. flag) flags.now }
+{
+    flags.iter().position(|flag| *flag)
+}

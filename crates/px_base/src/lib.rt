@@ -1,0 +1,28 @@
+//! What every layer uses: texts, sets of small numbers, counts of steps, files and streams as traits
+//! with one version of each in memory, and the lines of a file.
+#![tactic(auto)]
+
+mod allocation;
+mod bits;
+mod in_memory;
+mod line_end;
+mod lines;
+mod planned_faults;
+mod steps;
+mod streams;
+#[cfg(test)]
+mod tests;
+mod text;
+mod window;
+
+pub use allocation::Memory;
+pub use bits::Bits;
+pub use in_memory::{MemShelf, MemSink};
+pub use lines::{GRAPH_BYTES, LINE_BYTES, LineFault, LineReader, SCRIPT_BYTES};
+pub use px_spec::{Limits, Refusal};
+pub use steps::Steps;
+pub use streams::{Failed, Shelf, Sink, put_all};
+pub use text::{Text, TextError};
+
+/// The number of a node. Nodes are numbered from 0 on, in the order in which they came.
+pub type NodeId = u32;
