@@ -1,0 +1,108 @@
+-- One edge less.
+use Rattle.std.proofs.Common.{◌≡◌, ℕ, zero, suc, ◌-◌, ◌<◌, Bool, true, false, cond, List, None, refl, sym, ap, ◌∙◌, subst, arith, nat_eq, IsTrue, true≢false}
+use Rattle.std.specs.Prelude.{IsSome, ◌&&◌, not}
+use Rattle.std.specs.List.{IsDistinct}
+use Rattle.std.specs.Ordering.{eq_by_cmp}
+use Rattle.std.specs.FinSet as set
+use Rattle.std.proofs.lemmas.Bool.{eqb-true, eqb-false}
+use Rattle.px_spec.specs.Graphs.{Edges, edge_cmp}
+use Rattle.px_spec.specs.Changes.{without_edge}
+use Rattle.px_spec.specs.Members.{has}
+use Rattle.px_spec.proofs.EdgeOrder.{edge_cmp_total, edge_cmp-IsAntisymmetric}
+use Rattle.label_graph.specs.declared.node.Node.{Node}
+use Rattle.label_graph.specs.declared.node.Reserved.{Reserved}
+use Rattle.label_graph.specs.declared.node.Reserved.TheVariants.{Nothing}
+use Rattle.label_graph.specs.Held.{graph_by}
+use Rattle.label_graph.specs.LabelTable.{LabelTable}
+use Rattle.label_graph.specs.Nodes.{labels_of, number_at, texts_of, children_of, parents_of, edges_of, Mirrors, LacksEdge}
+use Rattle.label_graph.specs.Soundness.{IsSound, AreSound, AreLabelled, IsLive}
+use Rattle.label_graph.proofs.EdgeLists.{has_edge-children, eq_pair, and_comm}
+use Rattle.label_graph.proofs.KeepsSound.{labels-cleared}
+
+-- a set with an edge isn't empty
+pub some-edge : (s : Edges) (u v : ℕ) → set.contains s (u, v) ≡ true → 0 < set.len s
+some-edge s u v h =
+    elim (set.len s) as (λ n. set.len s ≡ n → 0 < n) [
+      | zero ↦ λ e. absurd (true≢false (sym h ∙ ap (λ t. set.contains t (u, v)) (set.empty_of_len s e) ∙ set.contains-empty edge_cmp (u, v)))
+      | suc n ↦ λ e. omega arith
+    ] refl
+
+second : (a b : Bool) → IsTrue (a && b) → IsTrue b
+second true b h = h
+second false b h = absurd (true≢false (sym h))
+
+module _ (old new : List Node) (u v : ℕ) (l : LacksEdge old new u v) where
+  child-but : (a b : ℕ) → has (children_of new a) b ≡ (not (nat_eq a u && nat_eq b v) && has (children_of old a) b)
+  child-but a b =
+      elim (nat_eq a u) as (λ x. nat_eq a u ≡ x → has (children_of new a) b ≡ (not (x && nat_eq b v) && has (children_of old a) b)) [
+        | true ↦ λ q. let s = eqb-true a u q in
+            ap (λ k. has (children_of new k) b) s ∙ l.child.members b ∙ ap (λ k. not (nat_eq b v) && has (children_of old k) b) (sym s)
+        | false ↦ λ q. ap (λ xs. has xs b) (l.other_children a (eqb-false a u q))
+      ] refl
+
+  parent-but : (a b : ℕ) → has (parents_of new b) a ≡ (not (nat_eq b v && nat_eq a u) && has (parents_of old b) a)
+  parent-but a b =
+      elim (nat_eq b v) as (λ x. nat_eq b v ≡ x → has (parents_of new b) a ≡ (not (x && nat_eq a u) && has (parents_of old b) a)) [
+        | true ↦ λ q. let s = eqb-true b v q in
+            ap (λ k. has (parents_of new k) a) s ∙ l.parent.members a ∙ ap (λ k. not (nat_eq a u) && has (parents_of old k) a) (sym s)
+        | false ↦ λ q. ap (λ xs. has xs a) (l.other_parents b (eqb-false b v q))
+      ] refl
+
+  edges-taken : edges_of new ≡ set.remove (edges_of old) (u, v)
+  edges-taken = set.same_set edge_cmp_total edge_cmp-IsAntisymmetric (edges_of new) (set.remove (edges_of old) (u, v)) (λ q.
+      has_edge-children new q.0 q.1 ∙ child-but q.0 q.1
+      ∙ ap (λ b. not b && has (children_of old q.0) q.1) (sym (eq_pair q.0 q.1 u v))
+      ∙ ap (λ b. not (eq_by_cmp edge_cmp q (u, v)) && b) (sym (has_edge-children old q.0 q.1))
+      ∙ sym (set.contains-remove edge_cmp_total (edges_of old) (u, v) q))
+
+  mirrors-taken : Mirrors old → Mirrors new
+  mirrors-taken m a b =
+      child-but a b
+      ∙ ap (λ x. not x && has (children_of old a) b) (and_comm (nat_eq a u) (nat_eq b v))
+      ∙ ap (λ x. not (nat_eq b v && nat_eq a u) && x) (m a b)
+      ∙ sym (parent-but a b)
+
+  children-once-after : ((n : ℕ) → IsDistinct nat_eq (children_of old n)) → (n : ℕ) → IsDistinct nat_eq (children_of new n)
+  children-once-after once n =
+      elim (nat_eq n u) as (λ x. nat_eq n u ≡ x → IsDistinct nat_eq (children_of new n)) [
+        | true ↦ λ q. subst (λ k. IsDistinct nat_eq (children_of new k)) (sym (eqb-true n u q)) l.child.once
+        | false ↦ λ q. subst (IsDistinct nat_eq) (sym (l.other_children n (eqb-false n u q))) (once n)
+      ] refl
+
+  parents-once-after : ((n : ℕ) → IsDistinct nat_eq (parents_of old n)) → (n : ℕ) → IsDistinct nat_eq (parents_of new n)
+  parents-once-after once n =
+      elim (nat_eq n v) as (λ x. nat_eq n v ≡ x → IsDistinct nat_eq (parents_of new n)) [
+        | true ↦ λ q. subst (λ k. IsDistinct nat_eq (parents_of new k)) (sym (eqb-true n v q)) l.parent.once
+        | false ↦ λ q. subst (IsDistinct nat_eq) (sym (l.other_parents n (eqb-false n v q))) (once n)
+      ] refl
+
+  live : (w : ℕ) → IsLive old w → IsLive new w
+  live w h = subst (λ ls. IsSome (number_at ls w)) (sym l.labels) h
+
+  lists-taken : (edges : ℕ) → AreSound old edges → has (children_of old u) v ≡ true → AreSound new (edges - 1)
+  lists-taken edges s there = record {
+    mirrors = mirrors-taken s.mirrors;
+    children_once = children-once-after s.children_once;
+    parents_once = parents-once-after s.parents_once;
+    ends = λ a b h.
+        let e = s.ends a b (second (not (nat_eq a u && nat_eq b v)) (has (children_of old a) b) (sym (child-but a b) ∙ h)) in
+        record { from = live a e.from; onto = live b e.onto };
+    edge_count_is =
+        ap (λ n. n - 1) s.edge_count_is
+        ∙ sym (set.len-remove edge_cmp_total (edges_of old) (u, v) ∙ ap (λ b. cond b (set.len (edges_of old) - 1) (set.len (edges_of old))) (has_edge-children old u v ∙ there))
+        ∙ ap set.len (sym edges-taken);
+    few_edges = omega (arith, s.few_edges);
+  }
+
+  module _ (table : LabelTable) where
+    pub sound-less : (capacity edges count : ℕ) (r : Reserved) (more : ℕ) → IsSound table old capacity edges count r → has (children_of old u) v ≡ true
+        → IsSound (record { texts = table.texts; ahead = None }) new more (edges - 1) count Nothing
+    sound-less capacity edges count r more o there = record {
+      lists = lists-taken edges o.lists there;
+      labels = subst (λ ls. AreLabelled (record { texts = table.texts; ahead = None }) ls count) (sym l.labels) (labels-cleared table (labels_of old) count o.labels);
+      room = refl;
+    }
+
+    -- the graph has one edge less
+    pub edge-taken : graph_by (record { texts = table.texts; ahead = None }) new ≡ without_edge (graph_by table old) u v
+    edge-taken i = record { given = texts_of table.texts (l.labels i); edges = edges-taken i; seen = table.texts }

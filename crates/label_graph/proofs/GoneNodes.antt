@@ -1,0 +1,94 @@
+-- One node less.
+use Rattle.std.proofs.Common.{◌≡◌, ◌≢◌, ℕ, zero, suc, ◌+◌, ◌-◌, ◌<◌, true, cond, List, [], ◌∷◌, length, Option, None, Some, refl, sym, ap, ◌∙◌, subst, arith, IsTrue, true≢false, length-set}
+use Rattle.std.specs.Prelude.{slice_get, slice_set, is_some, option_and_then}
+use Rattle.std.specs.List.{count_by}
+use Rattle.std.proofs.lemmas.List.{map-set}
+use Rattle.std.proofs.lemmas.List.Sums.{sum_by-cons}
+use Rattle.px_spec.specs.Graphs.{is_live}
+use Rattle.px_spec.specs.Changes.{without_node}
+use Rattle.px_spec.specs.Members.{has}
+use Rattle.label_graph.specs.declared.node.Node.{Node}
+use Rattle.label_graph.specs.declared.node.Reserved.{Reserved}
+use Rattle.label_graph.specs.declared.node.Reserved.TheVariants.{Nothing}
+use Rattle.label_graph.specs.Held.{graph_by}
+use Rattle.label_graph.specs.LabelTable.{LabelTable}
+use Rattle.label_graph.specs.Nodes.{labels_of, number_at, texts_of, children_of, parents_of}
+use Rattle.label_graph.specs.Soundness.{IsSound, AreLabelled, IsLive}
+use Rattle.label_graph.proofs.EdgeLists.{has_edge-children}
+use Rattle.label_graph.proofs.KeepsSound.{edges-same, lists-as, labels-cleared}
+use Rattle.label_graph.proofs.Uses.{IsBare}
+
+-- the other numbers stay
+number-other : (numbers : List (Option ℕ)) (i n : ℕ) → n ≢ i → number_at (slice_set numbers i None) n ≡ number_at numbers n
+number-other [] i n h = refl
+number-other (x ∷ xs) zero zero h = absurd (h refl)
+number-other (x ∷ xs) zero (suc n) h = refl
+number-other (x ∷ xs) (suc i) zero h = refl
+number-other (x ∷ xs) (suc i) (suc n) h = number-other xs i n (λ e. h (ap suc e))
+
+number-left : (numbers : List (Option ℕ)) (i n l : ℕ) → number_at (slice_set numbers i None) n ≡ Some l → number_at numbers n ≡ Some l
+number-left [] i n l e = e
+number-left (x ∷ xs) zero zero l e = cc
+number-left (x ∷ xs) zero (suc n) l e = e
+number-left (x ∷ xs) (suc i) zero l e = e
+number-left (x ∷ xs) (suc i) (suc n) l e = number-left xs i n l e
+
+count-less : (texts : List (Option (List ℕ))) (i : ℕ) → is_some (option_and_then (λ l. l) (slice_get texts i)) ≡ true → count_by is_some (slice_set texts i None) + 1 ≡ count_by is_some texts
+count-less [] i h = absurd (true≢false (sym h))
+count-less (None ∷ xs) zero h = absurd (true≢false (sym h))
+count-less (Some x ∷ xs) zero h = omega (arith, sum_by-cons (λ t. cond (is_some t) 1 0) None xs, sum_by-cons (λ t. cond (is_some t) 1 0) (Some x) xs)
+count-less (t ∷ xs) (suc i) h = omega (arith, sum_by-cons (λ t. cond (is_some t) 1 0) t (slice_set xs i None), sum_by-cons (λ t. cond (is_some t) 1 0) t xs, count-less xs i h)
+
+pub live-below : (nodes : List Node) (n : ℕ) → IsLive nodes n → n < length nodes
+live-below [] n h = absurd (true≢false (sym h))
+live-below (x ∷ xs) zero h = omega arith
+live-below (x ∷ xs) (suc n) h = omega (arith, live-below xs n h)
+
+module _ (table : LabelTable) (numbers : List (Option ℕ)) (count u : ℕ) (a : AreLabelled table numbers count)
+    (live : is_some (option_and_then (λ l. l) (slice_get (texts_of table.texts numbers) u)) ≡ true) where
+  texts-less : texts_of table.texts (slice_set numbers u None) ≡ slice_set (texts_of table.texts numbers) u None
+  texts-less = map-set (option_and_then (slice_get table.texts)) numbers u None
+
+  pub some-node : 0 < count
+  some-node = omega (arith, a.node_count_is, count-less (texts_of table.texts numbers) u live)
+
+  labels-less : AreLabelled table (slice_set numbers u None) (count - 1)
+  labels-less =
+      let none : Option ℕ = None in
+      record {
+        few_nodes = omega (arith, a.few_nodes, length-set numbers u none);
+        few_labels = omega (arith, a.few_labels, length-set numbers u none);
+        once = a.once;
+        below = λ n l e. a.below n l (number-left numbers u n l e);
+        node_count_is = omega (arith, a.node_count_is, count-less (texts_of table.texts numbers) u live, ap (count_by is_some) texts-less);
+      }
+
+module _ (table : LabelTable) (old new : List Node) (u : ℕ) (live : IsTrue (is_live (graph_by table old) u))
+    (labels : labels_of new ≡ slice_set (labels_of old) u None)
+    (children : (w : ℕ) → children_of new w ≡ children_of old w) (parents : (w : ℕ) → parents_of new w ≡ parents_of old w) where
+  still-live : (w : ℕ) → w ≢ u → IsLive old w → IsLive new w
+  still-live w h l = ap is_some (ap (λ ls. number_at ls w) labels ∙ number-other (labels_of old) u w h) ∙ l
+
+  module _ (bare : IsBare (graph_by table old) u) where
+    pub sound-gone : (capacity edges count : ℕ) (r : Reserved) (more : ℕ) → IsSound table old capacity edges count r
+        → IsSound (record { texts = table.texts; ahead = None }) new more edges (count - 1) Nothing
+    sound-gone capacity edges count r more o = record {
+      lists = lists-as old new edges children parents (λ a b h.
+          let e = o.lists.ends a b h in
+          let there = has_edge-children old a b ∙ h in
+          record {
+            from = still-live a (λ s. true≢false (sym (ap (λ k. has (children_of old k) b) (sym s) ∙ h) ∙ sym (has_edge-children old u b) ∙ bare.from b)) e.from;
+            onto = still-live b (λ s. true≢false (sym (ap (has (children_of old a)) (sym s) ∙ h) ∙ sym (has_edge-children old a u) ∙ bare.onto a)) e.onto;
+          }) o.lists;
+      labels = subst (λ ls. AreLabelled (record { texts = table.texts; ahead = None }) ls (count - 1)) (sym labels)
+          (labels-cleared table (slice_set (labels_of old) u None) (count - 1) (labels-less table (labels_of old) count u o.labels live));
+      room = refl;
+    }
+
+  -- the graph has one node less
+  pub node-taken : graph_by (record { texts = table.texts; ahead = None }) new ≡ without_node (graph_by table old) u
+  node-taken i = record {
+    given = (ap (texts_of table.texts) labels ∙ map-set (option_and_then (slice_get table.texts)) (labels_of old) u None) i;
+    edges = edges-same old new children i;
+    seen = table.texts;
+  }

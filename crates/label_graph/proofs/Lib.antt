@@ -1,0 +1,15 @@
+pub mod Positions
+pub mod Tables
+pub mod EdgeLists
+pub mod Takings
+pub mod SetNodes
+pub mod GetNodes
+pub mod NodeRooms
+pub mod Removals
+pub mod Readings
+pub mod KeepsSound
+pub mod GoneEdges
+pub mod Uses
+pub mod GoneNodes
+pub mod NewNodes
+pub mod Additions

@@ -1,0 +1,99 @@
+-- What sound nodes stand for.
+use Rattle.std.proofs.Common.{◌≡◌, ℕ, zero, suc, ◌<◌, Bool, true, false, List, [], ◌∷◌, length, Option, None, Some, refl, sym, ap, ◌∙◌, subst, get_or, arith, true≢false}
+use Rattle.std.specs.Prelude.{IsSome, slice_get, is_some, option_and_then, position, bytes_eq, ◌&&◌}
+use Rattle.std.specs.List.{IsDistinct}
+use Rattle.std.specs.Option.{option_to_list}
+use Rattle.std.proofs.Math.Seq.{take-append_seam}
+use Rattle.std.proofs.lemmas.Option.{slice_get-get_or}
+use Rattle.px_spec.specs.Graphs.{Graph, label_of, has_edge}
+use Rattle.px_spec.specs.Members.{Lists}
+use Rattle.px_spec.specs.Shapes.{IsNode, IsShape, shape_of, shape_by}
+use Rattle.label_graph.specs.declared.node.Node.{Node}
+use Rattle.label_graph.specs.declared.node.Reserved.{Reserved}
+use Rattle.label_graph.specs.LabelTable.{LabelTable, entries}
+use Rattle.label_graph.specs.Nodes.{labels_of, number_at, texts_of, children_of, parents_of}
+use Rattle.label_graph.specs.Held.{graph_by}
+use Rattle.label_graph.specs.Soundness.{IsSound, AreLabelled, IsLive}
+use Rattle.label_graph.specs.Views.{label_number, is_linked}
+use Rattle.label_graph.proofs.EdgeLists.{has_edge-children}
+use Rattle.label_graph.proofs.Positions.{position-at}
+use Rattle.label_graph.proofs.Tables.{texts-distinct}
+
+pub texts-once : (table : LabelTable) → IsDistinct bytes_eq (entries table) → IsDistinct bytes_eq table.texts
+texts-once table d = subst (IsDistinct bytes_eq) (take-append_seam table.texts (option_to_list table.ahead)) (texts-distinct (length table.texts) (entries table) d)
+
+pub label_of-number : (texts : List (List ℕ)) (numbers : List (Option ℕ)) (n : ℕ)
+    → option_and_then (λ l. l) (slice_get (texts_of texts numbers) n) ≡ option_and_then (slice_get texts) (number_at numbers n)
+label_of-number texts [] n = refl
+label_of-number texts (x ∷ xs) zero = refl
+label_of-number texts (x ∷ xs) (suc n) = label_of-number texts xs n
+
+and_all : (a b c : Bool) → (a ≡ true → (b ≡ true) × (c ≡ true)) → (a && (b && c)) ≡ a
+and_all false b c h = refl
+and_all true b c h = let p = h refl in ap (λ x. x && c) p.0 ∙ p.1
+
+module _ (table : LabelTable) (numbers : List (Option ℕ)) (count : ℕ) (a : AreLabelled table numbers count) (n : ℕ) where
+  number_back : (o : Option ℕ) → number_at numbers n ≡ o → option_and_then (λ t. position (bytes_eq t) table.texts) (option_and_then (slice_get table.texts) o) ≡ o
+  number_back None e = refl
+  number_back (Some l) e =
+      let at = slice_get-get_or table.texts l [] (a.below n l e) in
+      ap (option_and_then (λ t. position (bytes_eq t) table.texts)) at
+      ∙ position-at table.texts l (get_or table.texts l []) (texts-once table a.once) at
+
+  -- a node's label is found by its text
+  pub label_number-is : option_and_then (λ t. position (bytes_eq t) table.texts) (option_and_then (λ l. l) (slice_get (texts_of table.texts numbers) n)) ≡ number_at numbers n
+  label_number-is =
+      ap (option_and_then (λ t. position (bytes_eq t) table.texts)) (label_of-number table.texts numbers n) ∙ number_back (number_at numbers n) refl
+
+given-below : (given : List (Option (List ℕ))) (n : ℕ) → IsSome (option_and_then (λ l. l) (slice_get given n)) → n < length given
+given-below [] n h = absurd (true≢false (sym h))
+given-below (x ∷ xs) zero h = omega arith
+given-below (x ∷ xs) (suc n) h = omega (arith, given-below xs n h)
+
+some-first : {X Y : Type 0} (f : X → Option Y) (o : Option X) → IsSome (option_and_then f o) → IsSome o
+some-first f None h = h
+some-first f (Some x) h = refl
+
+module _ (table : LabelTable) (nodes : List Node) (capacity edges count : ℕ) (reserved : Reserved) (s : IsSound table nodes capacity edges count reserved) where
+  g : Graph
+  g = graph_by table nodes
+
+  pub number-is : (n : ℕ) → label_number (graph_by table nodes) n ≡ number_at (labels_of nodes) n
+  number-is n = label_number-is table (labels_of nodes) count s.labels n
+
+  pub linked-is : (u v : ℕ) → is_linked (graph_by table nodes) u v ≡ has_edge (graph_by table nodes) u v
+  linked-is u v =
+      and_all (has_edge (graph_by table nodes) u v) (is_some (label_number (graph_by table nodes) u)) (is_some (label_number (graph_by table nodes) v)) (λ h.
+      let e = s.lists.ends u v (sym (has_edge-children nodes u v) ∙ h) in
+      (ap is_some (number-is u) ∙ e.from, ap is_some (number-is v) ∙ e.onto))
+
+  pub child-list : (n : ℕ) → Lists (has_edge (graph_by table nodes) n) (children_of nodes n)
+  child-list n = record { once = s.lists.children_once n; members = λ m. sym (has_edge-children nodes n m) }
+
+  pub parent-list : (n : ℕ) → Lists (λ u. has_edge (graph_by table nodes) u n) (parents_of nodes n)
+  parent-list n = record { once = s.lists.parents_once n; members = λ m. sym (s.lists.mirrors m n) ∙ sym (has_edge-children nodes m n) }
+
+  pub child-links : (n : ℕ) → Lists (is_linked (graph_by table nodes) n) (children_of nodes n)
+  child-links n = record { once = s.lists.children_once n; members = λ m. (child-list n).members m ∙ sym (linked-is n m) }
+
+  pub parent-links : (n : ℕ) → Lists (λ u. is_linked (graph_by table nodes) u n) (parents_of nodes n)
+  parent-links n = record { once = s.lists.parents_once n; members = λ m. (parent-list n).members m ∙ sym (linked-is m n) }
+
+  text-is : (n : ℕ) → option_and_then (λ l. slice_get table.texts l) (label_number (graph_by table nodes) n) ≡ label_of (graph_by table nodes) n
+  text-is n = ap (option_and_then (slice_get table.texts)) (number-is n) ∙ sym (label_of-number table.texts (labels_of nodes) n)
+
+  pub shape-is : shape_by table.texts (length (texts_of table.texts (labels_of nodes))) (label_number (graph_by table nodes)) (has_edge (graph_by table nodes)) ≡ shape_of (graph_by table nodes)
+  shape-is i = record { size = length (texts_of table.texts (labels_of nodes)); label = λ n. text-is n i; edge = has_edge (graph_by table nodes) }
+
+  pub links-shape : shape_by table.texts (length (texts_of table.texts (labels_of nodes))) (label_number (graph_by table nodes)) (is_linked (graph_by table nodes)) ≡ shape_of (graph_by table nodes)
+  links-shape i = record { size = length (texts_of table.texts (labels_of nodes)); label = λ n. text-is n i; edge = λ u v. linked-is u v i }
+
+  node-is : (n : ℕ) → IsLive nodes n → IsNode (shape_of (graph_by table nodes)) n
+  node-is n h = some-first (λ t. position (bytes_eq t) table.texts) (label_of (graph_by table nodes) n) (ap is_some (number-is n) ∙ h)
+
+  pub is_shape : IsShape (shape_of (graph_by table nodes))
+  is_shape = record {
+    below = λ n h. given-below (graph_by table nodes).given n h;
+    from = λ u v h. node-is u (s.lists.ends u v (sym (has_edge-children nodes u v) ∙ h)).from;
+    onto = λ u v h. node-is v (s.lists.ends u v (sym (has_edge-children nodes u v) ∙ h)).onto;
+  }

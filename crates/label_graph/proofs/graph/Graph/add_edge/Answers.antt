@@ -1,0 +1,34 @@
+use Rattle.std.proofs.Common.{subst, sym, ap, ◌∙◌, arith, ◌<◌, ◌^◌}
+use Rattle.std.specs.Prelude.{vec_capacity}
+use Rattle.std.specs.FinSet as set
+use Rattle.px_spec.specs.Graphs.{has_edge}
+use Rattle.px_spec.specs.Changes.{with_edge}
+use Rattle.label_graph.specs.Held.{no_room}
+use Rattle.label_graph.specs.Soundness.{IsSound}
+use Rattle.label_graph.proofs.Additions.{sound-edge, edge-added}
+use Rattle.label_graph.proofs.EdgeLists.{has_edge-children}
+use Rattle.label_graph.proofs.NewNodes.{pair-shown}
+use Rattle.label_graph.proofs.graph.Graph.add_edge.Goals as goal
+
+pub invariant_of-self : goal.invariant_of-self
+invariant_of-self c =
+    let s = c.self.inside in
+    let u = c.args.u in
+    let v = c.args.v in
+    let is = pair-shown s.labels s.room u v (ap (λ h. h.room) c.self.view_is ∙ c.requires.room) in
+    let sound = subst (λ r. IsSound s.labels s.nodes.items (vec_capacity s.nodes) s.edge_count s.node_count r) is c.self.invariant in
+    let absent = sym (has_edge-children s.nodes.items u v) ∙ ap (λ h. has_edge h.graph u v) c.self.view_is ∙ c.requires.absent in
+    let few = subst (λ h. set.len h.graph.edges < 2 ^ 30) (sym c.self.view_is) c.requires.few in
+    sound-edge s.labels s.nodes.items c.push_edge.new.nodes.items (vec_capacity s.nodes) s.edge_count s.node_count u v sound
+    c.push_edge.ensures.labels c.push_edge.ensures.children c.push_edge.ensures.parents _ absent (omega (arith, few, c.self.invariant.lists.edge_count_is))
+
+pub returns : goal.returns
+returns c =
+    let s = c.self.inside in
+    let u = c.args.u in
+    let v = c.args.v in
+    let is = pair-shown s.labels s.room u v (ap (λ h. h.room) c.self.view_is ∙ c.requires.room) in
+    let sound = subst (λ r. IsSound s.labels s.nodes.items (vec_capacity s.nodes) s.edge_count s.node_count r) is c.self.invariant in
+    ap (λ g. record { graph = g; room = no_room }) (edge-added s.labels s.nodes.items c.push_edge.new.nodes.items (vec_capacity s.nodes) s.edge_count s.node_count u v sound
+    c.push_edge.ensures.labels c.push_edge.ensures.children c.push_edge.ensures.parents)
+    ∙ ap (λ h. record { graph = with_edge h.graph u v; room = no_room }) c.self.view_is

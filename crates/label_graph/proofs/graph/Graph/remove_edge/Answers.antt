@@ -1,0 +1,47 @@
+use Rattle.std.proofs.Common.{sym, ap, ◌∙◌, arith, subst, true, ◌≡◌, ◌-◌}
+use Rattle.std.specs.Prelude.{vec_capacity}
+use Rattle.px_spec.specs.Graphs.{has_edge}
+use Rattle.px_spec.specs.Changes.{without_edge}
+use Rattle.px_spec.specs.Members.{has}
+use Rattle.label_graph.specs.Held.{graph_by, no_room}
+use Rattle.label_graph.specs.Nodes.{children_of}
+use Rattle.label_graph.specs.declared.node.Reserved.TheVariants.{Nothing}
+use Rattle.label_graph.specs.Soundness.{IsSound}
+use Rattle.label_graph.proofs.EdgeLists.{has_edge-children}
+use Rattle.label_graph.proofs.GoneEdges.{sound-less, edge-taken, some-edge}
+use Rattle.label_graph.proofs.GoneNodes.{live-below}
+use Rattle.label_graph.proofs.graph.Graph.remove_edge.Goals as goal
+
+pub remove_edge-requires-clause-from : goal.remove_edge-requires-clause-from
+remove_edge-requires-clause-from c =
+    let s = c.self.inside in
+    let there : has (children_of s.nodes.items c.args.u) c.args.v ≡ true = sym (has_edge-children s.nodes.items c.args.u c.args.v) ∙ ap (λ h. has_edge h.graph c.args.u c.args.v) c.self.view_is ∙ c.requires.present in
+    omega (arith, live-below s.nodes.items c.args.u (c.self.invariant.lists.ends c.args.u c.args.v there).from)
+
+pub remove_edge-requires-clause-onto : goal.remove_edge-requires-clause-onto
+remove_edge-requires-clause-onto c =
+    let s = c.self.inside in
+    let there : has (children_of s.nodes.items c.args.u) c.args.v ≡ true = sym (has_edge-children s.nodes.items c.args.u c.args.v) ∙ ap (λ h. has_edge h.graph c.args.u c.args.v) c.self.view_is ∙ c.requires.present in
+    omega (arith, live-below s.nodes.items c.args.v (c.self.invariant.lists.ends c.args.u c.args.v there).onto)
+
+pub overflow_sub-self : goal.overflow_sub-self
+overflow_sub-self c =
+    let s = c.self.inside in
+    let there = ap (λ h. has_edge h.graph c.args.u c.args.v) c.self.view_is ∙ c.requires.present in
+    omega (arith, c.self.invariant.lists.edge_count_is, some-edge _ c.args.u c.args.v there)
+
+pub invariant_of-self : goal.invariant_of-self
+invariant_of-self c =
+    let s = c.self.inside in
+    let new = c.remove_edge.new.nodes in
+    let there = sym (has_edge-children s.nodes.items c.args.u c.args.v) ∙ ap (λ h. has_edge h.graph c.args.u c.args.v) c.self.view_is ∙ c.requires.present in
+    subst (λ x. IsSound x new.items (vec_capacity new) (s.edge_count - 1) s.node_count Nothing) (sym c.clear.ensures)
+    (sound-less s.nodes.items new.items c.args.u c.args.v c.remove_edge.ensures s.labels (vec_capacity s.nodes) s.edge_count s.node_count s.room (vec_capacity new) c.self.invariant there)
+
+pub returns : goal.returns
+returns c =
+    let s = c.self.inside in
+    let new = c.remove_edge.new.nodes in
+    ap (λ x. record { graph = graph_by x new.items; room = no_room }) c.clear.ensures
+    ∙ ap (λ g. record { graph = g; room = no_room }) (edge-taken s.nodes.items new.items c.args.u c.args.v c.remove_edge.ensures s.labels)
+    ∙ ap (λ h. record { graph = without_edge h.graph c.args.u c.args.v; room = no_room }) c.self.view_is

@@ -1,0 +1,6 @@
+pub mod LabelTable
+pub mod Nodes
+pub mod Held
+pub mod Soundness
+pub mod Views
+pub mod ViewLaws

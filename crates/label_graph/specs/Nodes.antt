@@ -1,0 +1,80 @@
+-- What a list of nodes stands for.
+use Rattle.std.specs.Prelude.{◌≡◌, ◌≢◌, ℕ, zero, suc, ◌+◌, ◌-◌, ◌<◌, ◌≤◌, ◌&&◌, not, List, [], ◌∷◌, ◌++◌, Option, map, slice_get, option_and_then, nat_eq}
+use Rattle.std.specs.List.{IsDistinct}
+use Rattle.std.specs.FinSet as set
+use Rattle.smallvec.specs.SmallVec.{small_vec_len}
+use Rattle.px_spec.specs.Graphs.{Edges}
+use Rattle.px_spec.specs.Members.{has}
+use Rattle.label_graph.specs.declared.node.Node.{Node}
+
+-- for each node the number of its label, and none where it is gone
+abbrev pub labels_of : List Node → List (Option ℕ)
+labels_of = map (λ n. n.label)
+
+-- the label's number of one node, and none past the end
+abbrev pub number_at : List (Option ℕ) → ℕ → Option ℕ
+number_at numbers n = option_and_then (λ l. l) (slice_get numbers n)
+
+-- the texts of labels that are given by number
+abbrev pub texts_of : List (List ℕ) → List (Option ℕ) → List (Option (List ℕ))
+texts_of texts = map (option_and_then (slice_get texts))
+
+abbrev pub children_of : List Node → ℕ → List ℕ
+children_of [] n = []
+children_of (x ∷ xs) zero = x.children.items
+children_of (x ∷ xs) (suc n) = children_of xs n
+
+abbrev pub parents_of : List Node → ℕ → List ℕ
+parents_of [] n = []
+parents_of (x ∷ xs) zero = x.parents.items
+parents_of (x ∷ xs) (suc n) = parents_of xs n
+
+-- how many more children of a node fit with no more memory
+abbrev pub child_room : List Node → ℕ → ℕ
+child_room [] n = 0
+child_room (x ∷ xs) zero = x.children.capacity - small_vec_len x.children
+child_room (x ∷ xs) (suc n) = child_room xs n
+
+-- how many more parents of a node fit with no more memory
+abbrev pub parent_room : List Node → ℕ → ℕ
+parent_room [] n = 0
+parent_room (x ∷ xs) zero = x.parents.capacity - small_vec_len x.parents
+parent_room (x ∷ xs) (suc n) = parent_room xs n
+
+-- each edge, by where it begins, from the node u on
+abbrev pub pairs_from : ℕ → List Node → List (ℕ × ℕ)
+pairs_from u [] = []
+pairs_from u (x ∷ xs) = map (λ v. (u, v)) x.children.items ++ pairs_from (u + 1) xs
+
+abbrev pub edges_of : List Node → Edges
+edges_of nodes = set.from_list (pairs_from 0 nodes)
+
+-- parents and children list each other
+abbrev pub Mirrors : List Node → Type 0
+Mirrors nodes = (u v : ℕ) → has (children_of nodes u) v ≡ has (parents_of nodes v) u
+
+-- the nodes are the same, and none has less room
+pub record SameNodes (old new : List Node) : Type 0 where
+  pub labels : labels_of new ≡ labels_of old
+  pub children : (w : ℕ) → children_of new w ≡ children_of old w
+  pub parents : (w : ℕ) → parents_of new w ≡ parents_of old w
+  pub child_rooms : (w : ℕ) → child_room old w ≤ child_room new w
+  pub parent_rooms : (w : ℕ) → parent_room old w ≤ parent_room new w
+
+-- one more child of u and one more parent of v fit
+pub record HasRoom (nodes : List Node) (u v : ℕ) : Type 0 where
+  pub child : 0 < child_room nodes u
+  pub parent : 0 < parent_room nodes v
+
+-- the list has the others that it had, each once, and not that number
+pub record IsWithout (old new : List ℕ) (n : ℕ) : Type 0 where
+  pub once : IsDistinct nat_eq new
+  pub members : (m : ℕ) → has new m ≡ (not (nat_eq m n) && has old m)
+
+-- the nodes are the same, but that v isn't among the children of u, nor u among the parents of v
+pub record LacksEdge (old new : List Node) (u v : ℕ) : Type 0 where
+  pub labels : labels_of new ≡ labels_of old
+  pub child : IsWithout (children_of old u) (children_of new u) v
+  pub other_children : (w : ℕ) → w ≢ u → children_of new w ≡ children_of old w
+  pub parent : IsWithout (parents_of old v) (parents_of new v) u
+  pub other_parents : (w : ℕ) → w ≢ v → parents_of new w ≡ parents_of old w

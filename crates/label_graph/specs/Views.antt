@@ -1,0 +1,20 @@
+-- A graph whose labels are numbers of its table.
+use Rattle.std.specs.Prelude.{ℕ, Bool, ◌&&◌, Option, option_and_then, is_some, position, bytes_eq}
+use Rattle.std.specs.List.{count_by}
+use Rattle.std.specs.FinSet as set
+use Rattle.px_spec.specs.Graphs.{Graph, label_of, has_edge}
+
+-- the number of a node's label, and none where the number isn't live
+abbrev pub label_number : Graph → ℕ → Option ℕ
+label_number g n = option_and_then (λ t. position (bytes_eq t) g.seen) (label_of g n)
+
+-- whether an edge leads from the first node to the second, both of them live with labels that were seen
+abbrev pub is_linked : Graph → ℕ → ℕ → Bool
+is_linked g u v = has_edge g u v && (is_some (label_number g u) && is_some (label_number g v))
+
+-- how many nodes are live
+abbrev pub live_count : Graph → ℕ
+live_count g = count_by is_some g.given
+
+abbrev pub edge_count : Graph → ℕ
+edge_count g = set.len g.edges

@@ -1,0 +1,274 @@
+// The graph.
+ghost use Rattle.std.specs.Prelude.{◌≡◌, ◌<◌, ◌≤◌, ◌+◌, ◌^◌, ◌↔◌, length, IsTrue, IfOk, OnOk, OnErr, Some, slice_get, true, false, List, ℕ, is_some};
+ghost use Rattle.std.specs.FinSet as set;
+ghost use Rattle.px_spec.specs.Graphs.{empty_graph, is_live, label_of, has_edge};
+ghost use Rattle.px_spec.specs.Changes.{with_node, with_edge, without_edge, without_node, is_used};
+ghost use Rattle.px_spec.specs.Members.{Lists};
+ghost use Rattle.px_spec.specs.Shapes.{IsShape, shape_of, shape_by};
+ghost use Rattle.label_graph.specs.Held.{no_room, label_room, pair_room};
+ghost use Rattle.label_graph.specs.Views.{label_number, is_linked, live_count, edge_count};
+
+use crate::labels::Labels;
+use crate::node::{self, Node, Reserved};
+use crate::view::GraphView;
+use px_base::{Memory, NodeId, Steps, Text};
+use std::alloc::Global;
+use std::marker::Model;
+use std::sync::ledger::Ledger;
+
+/// A directed graph with a label on each node, and room for at most one addition. Nodes have the
+/// numbers from 0 in the order in which they were added; at most 2^30 nodes and 2^30 edges.
+#[derive(Drop)]
+pub struct Graph {
+    labels: Labels,
+    nodes: Vec<Node>,
+    node_count: u32,
+    edge_count: u32,
+    room: Reserved,
+}
+
+impl Model for Graph {
+    ghost use Rattle.std.specs.Prelude.{vec_capacity};
+    ghost use Rattle.label_graph.specs.Held.{Held, held_code};
+
+    ghost Value = { Held };
+
+    ghost coded = { held_code };
+
+    ghost use Rattle.label_graph.specs.Held.{graph_by, room_by};
+    ghost use Rattle.label_graph.specs.Soundness.{IsSound};
+
+    ghost view = { λ g. record { graph = graph_by g.labels g.nodes.items; room = room_by g.labels g.room } };
+
+    ghost invariant = { λ g. IsSound g.labels g.nodes.items (vec_capacity g.nodes) g.edge_count g.node_count g.room };
+}
+
+// Reading.
+impl Graph {
+    /// The labels that were ever seen, those of gone nodes too.
+    pub fn labels(&self) -> &Labels
+        ensures seen { result.now.texts ≡ self.now.graph.seen }
+        ensures sound { IsShape (shape_of self.now.graph) }
+    {
+        &self.labels
+    }
+
+    /// Whether the number is that of a live node.
+    pub fn is_live(&self, n: NodeId) -> bool
+        ensures live { result ≡ is_live self.now.graph n }
+        ensures number { result ≡ is_some (label_number self.now.graph n) }
+    {
+        node::label(&self.nodes, n).is_some()
+    }
+
+    /// The number of a live node's label in `labels`.
+    pub fn label(&self, n: NodeId) -> u32
+        requires live { IsTrue (is_live self.now.graph n) }
+        ensures text { slice_get self.now.graph.seen result ≡ label_of self.now.graph n }
+        ensures number { label_number self.now.graph n ≡ Some result }
+    {
+        node::label(&self.nodes, n).unwrap()
+    }
+
+    /// Whether no edge begins or ends at a live node. It takes constant time, and isn't counted.
+    pub fn is_isolated(&self, n: NodeId) -> bool
+        requires live { IsTrue (is_live self.now.graph n) }
+        ensures { IsTrue result ↔ (is_used self.now.graph n ≡ false) }
+    {
+        self.child_list(n).is_empty() && self.parent_list(n).is_empty()
+    }
+
+    /// How many node numbers were given, those of gone nodes too: at most 2^30.
+    pub fn created(&self) -> u32
+        ensures count { result ≡ length self.now.graph.given }
+        ensures few { result ≤ 2 ^ 30 }
+    {
+        self.nodes.len() as u32
+    }
+
+    /// How many nodes are live: at most 2^30.
+    pub fn node_count(&self) -> u32
+        ensures count { result ≡ live_count self.now.graph }
+        ensures few { result ≤ 2 ^ 30 }
+    {
+        self.node_count
+    }
+
+    /// How many edges there are: at most 2^30.
+    pub fn edge_count(&self) -> u32
+        ensures count { result ≡ edge_count self.now.graph }
+        ensures few { result ≤ 2 ^ 30 }
+    {
+        self.edge_count
+    }
+
+    /// Whether an edge leads from `u` to `v`; numbers that aren't given have none. It is one step, and
+    /// its time is that of the shorter of two lists, `u`'s children and `v`'s parents.
+    pub fn has_edge<L: Ledger>(&self, u: NodeId, v: NodeId, steps: &mut Steps<L>) -> bool
+        ensures edge { result ≡ has_edge self.now.graph u v }
+        ensures cost { steps.new ≡ steps.old + 1 }
+    {
+        steps.tick();
+        node::is_edge(&self.nodes, u, v)
+    }
+
+    /// The nodes from which an edge leads to a live node, each once, in no stated order. It is one
+    /// step, and one for each of them.
+    pub fn parents<L: Ledger>(&self, n: NodeId, steps: &mut Steps<L>) -> &[NodeId]
+        requires live { IsTrue (is_live self.now.graph n) }
+        ensures parents { Lists (λ u. has_edge self.now.graph u n) result.now }
+        ensures cost { steps.new ≡ steps.old + 1 + length result.now }
+    {
+        let parents = self.parent_list(n);
+        steps.tick();
+        steps.tick_by(parents.len());
+        parents
+    }
+
+    /// The nodes to which an edge leads from a live node, each once, in no stated order. It is one
+    /// step, and one for each of them.
+    pub fn children<L: Ledger>(&self, n: NodeId, steps: &mut Steps<L>) -> &[NodeId]
+        requires live { IsTrue (is_live self.now.graph n) }
+        ensures children { Lists (has_edge self.now.graph n) result.now }
+        ensures cost { steps.new ≡ steps.old + 1 + length result.now }
+    {
+        let children = self.child_list(n);
+        steps.tick();
+        steps.tick_by(children.len());
+        children
+    }
+
+    /// The graph as queries and indexes read it. Reads of the view aren't counted, so it costs a step,
+    /// one for each live node and one for each edge. The label numbers of the view are those of
+    /// `labels`, and its edges are those of the graph.
+    pub fn view<L: Ledger>(&self, steps: &mut Steps<L>) -> GraphView<'_>
+        ensures view { result ≡ self.now.graph }
+        ensures cost { steps.new ≡ steps.old + 1 + live_count self.now.graph + edge_count self.now.graph }
+        ensures shape { shape_by self.now.graph.seen (length self.now.graph.given) (label_number self.now.graph) (has_edge self.now.graph) ≡ shape_of self.now.graph }
+        ensures seen_shape { shape_by self.now.graph.seen (length self.now.graph.given) (label_number self.now.graph) (is_linked self.now.graph) ≡ shape_of self.now.graph }
+        ensures labelled { (n l : ℕ) → label_number self.now.graph n ≡ Some l → l < length self.now.graph.seen }
+    {
+        steps.tick();
+        steps.tick_by(self.node_count as usize);
+        steps.tick_by(self.edge_count as usize);
+        GraphView::new(self)
+    }
+
+    // The parents, with no step.
+    pub(crate) fn parent_list(&self, n: NodeId) -> &[NodeId]
+        ensures edges { Lists (λ u. has_edge self.now.graph u n) result.now }
+        ensures links { Lists (λ u. is_linked self.now.graph u n) result.now }
+    {
+        node::parents(&self.nodes, n)
+    }
+
+    // The children, with no step.
+    pub(crate) fn child_list(&self, n: NodeId) -> &[NodeId]
+        ensures edges { Lists (has_edge self.now.graph n) result.now }
+        ensures links { Lists (is_linked self.now.graph n) result.now }
+    {
+        node::children(&self.nodes, n)
+    }
+}
+
+// Room for one addition, and the additions.
+impl Graph {
+    /// A graph with no nodes. It takes no memory until something is added.
+    pub fn new(alloc: Global) -> Result<Graph, Memory>
+        ensures { IfOk result (λ g. g ≡ record { graph = empty_graph; room = no_room }) }
+    {
+        Ok(Graph {
+            labels: Labels::new(alloc),
+            nodes: Vec::new(alloc),
+            node_count: 0,
+            edge_count: 0,
+            room: Reserved::Nothing,
+        })
+    }
+
+    /// Makes room for a node with that label, in place of the room that there was. On want of memory
+    /// that room stays.
+    pub fn reserve_node(&mut self, alloc: Global, label: &Text) -> Result<(), Memory>
+        ensures graph { self.new.graph ≡ self.old.graph }
+        ensures ok { OnOk result (self.new.room ≡ label_room label.now) }
+        ensures err { OnErr result (self.new ≡ self.old) }
+    {
+        self.nodes.reserve(1)?;
+        let number = self.labels.reserve(alloc, label)?;
+        self.room = Reserved::Label(number);
+        Ok(())
+    }
+
+    /// Makes room for an edge between live nodes, in place of the room that there was. On want of
+    /// memory that room stays.
+    pub fn reserve_edge(&mut self, u: NodeId, v: NodeId) -> Result<(), Memory>
+        requires from { IsTrue (is_live self.old.graph u) }
+        requires onto { IsTrue (is_live self.old.graph v) }
+        ensures graph { self.new.graph ≡ self.old.graph }
+        ensures ok { OnOk result (self.new.room ≡ pair_room u v) }
+        ensures err { OnErr result (self.new ≡ self.old) }
+    {
+        node::reserve_edge(&mut self.nodes, u, v)?;
+        self.labels.clear();
+        self.room = Reserved::Pair(u, v);
+        Ok(())
+    }
+
+    /// Adds the node for which there is room, and gives its number, the next one.
+    pub fn add_node(&mut self) -> NodeId
+        requires room { (t : List ℕ) × (self.old.room ≡ label_room t) }
+        requires few { length self.old.graph.given < 2 ^ 30 }
+        ensures number { result ≡ length self.old.graph.given }
+        ensures added { (t : List ℕ) → self.old.room ≡ label_room t → self.new ≡ record { graph = with_node self.old.graph t; room = no_room } }
+    {
+        let Reserved::Label(label) = self.room else {
+            unreachable!()
+        };
+        let added = self.nodes.len() as u32;
+        self.labels.show();
+        node::push_node(&mut self.nodes, label);
+        self.node_count += 1;
+        self.room = Reserved::Nothing;
+        added
+    }
+
+    /// Adds the edge for which there is room, and which isn't there yet.
+    pub fn add_edge(&mut self, u: NodeId, v: NodeId)
+        requires room { self.old.room ≡ pair_room u v }
+        requires absent { has_edge self.old.graph u v ≡ false }
+        requires few { set.len self.old.graph.edges < 2 ^ 30 }
+        ensures { self.new ≡ record { graph = with_edge self.old.graph u v; room = no_room } }
+    {
+        node::push_edge(&mut self.nodes, u, v);
+        self.edge_count += 1;
+        self.room = Reserved::Nothing;
+    }
+}
+
+// The removals.
+impl Graph {
+    /// Takes away an edge that is there, and any room. It takes no memory, and its time is that of
+    /// one scan of `u`'s children and one of `v`'s parents, whose order may change.
+    pub fn remove_edge(&mut self, u: NodeId, v: NodeId)
+        requires present { has_edge self.old.graph u v ≡ true }
+        ensures { self.new ≡ record { graph = without_edge self.old.graph u v; room = no_room } }
+    {
+        node::remove_edge(&mut self.nodes, u, v);
+        self.labels.clear();
+        self.edge_count -= 1;
+        self.room = Reserved::Nothing;
+    }
+
+    /// Takes away a live node at which no edge begins or ends, and any room. Its number is never
+    /// given again, and its label stays among those seen. It takes no memory, and constant time.
+    pub fn remove_node(&mut self, u: NodeId)
+        requires live { IsTrue (is_live self.old.graph u) }
+        requires unused { is_used self.old.graph u ≡ false }
+        ensures { self.new ≡ record { graph = without_node self.old.graph u; room = no_room } }
+    {
+        node::clear_label(&mut self.nodes, u);
+        self.labels.clear();
+        self.node_count -= 1;
+        self.room = Reserved::Nothing;
+    }
+}

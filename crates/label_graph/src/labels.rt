@@ -1,0 +1,129 @@
+// The table of labels.
+ghost use Rattle.std.specs.Prelude.{◌≡◌, ◌<◌, ◌≤◌, ◌+◌, ◌^◌, ◌++◌, ◌∷◌, [], ℕ, List, length, slice_get, Some, bytes_eq, position, None, false, IfOk, OnOk, OnErr};
+ghost use Rattle.std.specs.List.{IsDistinct};
+ghost use Rattle.px_spec.specs.Graphs.{is_seen};
+ghost use Rattle.label_graph.specs.LabelTable.{entries, with_ahead, shown};
+ghost use Rattle.label_graph.specs.Soundness.{IsNext};
+
+use indexmap::IndexSet;
+use px_base::{Memory, Text};
+use std::alloc::Global;
+use std::marker::Model;
+
+/// The labels that were seen, in the order in which they came. A text may lie ahead of them that is
+/// no label yet: room for one more.
+#[derive(Drop)]
+pub struct Labels {
+    table: IndexSet<Text>,
+    shown: usize,
+}
+
+impl Model for Labels {
+    ghost use Rattle.std.specs.Prelude.{take, ◌≤◌, ◌+◌, ◌^◌, length, slice_get, bytes_eq};
+    ghost use Rattle.std.specs.List.{IsDistinct};
+    ghost use Rattle.label_graph.specs.LabelTable.{LabelTable};
+
+    ghost Value = { LabelTable };
+
+    ghost view = { λ l. record { texts = take l.shown l.table.keys; ahead = slice_get l.table.keys l.shown } };
+
+    ghost invariant = { λ l. record { within : l.shown ≤ length l.table.keys; one_ahead : length l.table.keys ≤ l.shown + 1; few : l.shown ≤ 2 ^ 30; once : IsDistinct bytes_eq l.table.keys } };
+}
+
+impl Labels {
+    pub(crate) fn new(alloc: Global) -> Labels
+        ensures { result ≡ record { texts = []; ahead = None } }
+    {
+        Labels {
+            table: IndexSet::new(alloc),
+            shown: 0,
+        }
+    }
+
+    /// How many labels were seen.
+    pub fn len(&self) -> u32
+        ensures { result ≡ length self.now.texts }
+    {
+        self.shown as u32
+    }
+
+    /// The text of a label, by its number.
+    pub fn text(&self, l: u32) -> &Text
+        requires { l < length self.now.texts }
+        ensures { slice_get self.now.texts l ≡ Some result.now }
+    {
+        &self.table.as_slice()[l as usize]
+    }
+
+    /// The number of the label, and `None` exactly where the text is no label. It is found by hash.
+    pub fn find(&self, t: &Text) -> Option<u32>
+        ensures place { result ≡ position (bytes_eq t.now) self.now.texts }
+        ensures distinct { IsDistinct bytes_eq self.now.texts }
+    {
+        let at = self.table.get_index_of(t)?;
+        if at < self.shown {
+            Some(at as u32)
+        } else {
+            None
+        }
+    }
+
+    /// Makes room for a label, in place of the text that was ahead, and gives the number that it has
+    /// or would have.
+    pub(crate) fn reserve(&mut self, alloc: Global, text: &Text) -> Result<u32, Memory>
+        ensures ahead { OnOk result (self.new ≡ with_ahead self.old text.now) }
+        ensures number { IfOk result (λ l. slice_get (entries self.new) l ≡ Some text.now) }
+        ensures next { IfOk result (λ l. IsNext self.new.ahead (length self.new.texts) l) }
+        ensures err { OnErr result (self.new ≡ self.old) }
+    {
+        match self.find(text) {
+            Some(l) => {
+                self.clear();
+                Ok(l)
+            }
+            None => {
+                self.put_ahead(alloc, text)?;
+                Ok(self.len())
+            }
+        }
+    }
+
+    /// Takes out the text that is ahead.
+    pub(crate) fn clear(&mut self)
+        ensures { self.new ≡ record self.old { ahead = None } }
+    {
+        self.table.truncate(self.shown);
+    }
+
+    /// Makes a label of the text that is ahead.
+    pub(crate) fn show(&mut self)
+        requires few { length self.old.texts < 2 ^ 30 }
+        ensures { self.new ≡ shown self.old }
+    {
+        self.shown = self.table.len();
+    }
+
+    // Puts a text that is no label ahead of the labels, in place of the one that was there.
+    fn put_ahead(&mut self, alloc: Global, text: &Text) -> Result<(), Memory>
+        requires unseen { is_seen self.old.texts text.now ≡ false }
+        ensures ok { OnOk result (self.new ≡ record self.old { ahead = Some text.now }) }
+        ensures err { OnErr result (self.new ≡ self.old) }
+    {
+        let key = text.copy(alloc)?;
+        self.table.insert(key)?;
+        drop_previous(&mut self.table, self.shown);
+        Ok(())
+    }
+}
+
+// Where two entries stand behind the first ones, only the last of them stays.
+fn drop_previous(table: &mut IndexSet<Text>, shown: usize)
+    requires { shown ≤ length table.old.keys }
+    ensures dropped { (front : List (List ℕ)) (old new : List ℕ) → table.old.keys ≡ front ++ old ∷ new ∷ [] → length front ≡ shown → table.new.keys ≡ front ++ new ∷ [] }
+    ensures kept { length table.old.keys ≤ shown + 1 → table.new.keys ≡ table.old.keys }
+    ensures once { IsDistinct bytes_eq table.new.keys }
+{
+    if table.len() > shown + 1 {
+        table.swap_remove_index(shown);
+    }
+}

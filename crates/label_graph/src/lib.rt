@@ -1,0 +1,16 @@
+//! A directed graph with one label on each node, and the interface over which queries read any graph.
+#![tactic(auto)]
+
+mod digraph;
+mod graph;
+mod labels;
+mod node;
+mod view;
+
+pub use digraph::Digraph;
+pub use graph::Graph;
+pub use labels::Labels;
+pub use view::GraphView;
+
+#[cfg(test)]
+mod tests;

@@ -1,0 +1,67 @@
+// A graph as queries and indexes read it.
+ghost use Rattle.std.specs.Prelude.{◌≡◌};
+
+use crate::digraph::Digraph;
+use crate::graph::Graph;
+use px_base::NodeId;
+use std::marker::Model;
+
+/// A graph that doesn't change, for reads that take no memory and no steps.
+#[derive(Drop)]
+pub struct GraphView<'a> {
+    graph: &'a Graph,
+}
+
+impl<'a> Model for GraphView<'a> {
+    ghost use Rattle.px_spec.specs.Graphs.{Graph as Value_of_graph, graph_code};
+
+    ghost Value = { Value_of_graph };
+
+    ghost coded = { graph_code };
+
+    ghost view = { λ v. v.graph.now.graph };
+}
+
+impl<'a> GraphView<'a> {
+    pub(crate) fn new(graph: &'a Graph) -> GraphView<'a>
+        ensures { result ≡ graph.now.graph }
+    {
+        GraphView { graph }
+    }
+}
+
+impl<'a> Digraph for GraphView<'a> {
+    ghost use Rattle.std.specs.Prelude.{length};
+    ghost use Rattle.label_graph.specs.Views.{label_number, is_linked};
+    ghost use Rattle.label_graph.specs.ViewLaws.{below_span, ends_seen};
+
+    ghost span = { λ g. length g.given };
+
+    ghost label_at = { label_number };
+
+    ghost edge = { is_linked };
+
+    fn size(&self) -> u32 {
+        self.graph.created()
+    }
+
+    fn is_node(&self, n: NodeId) -> bool {
+        self.graph.is_live(n)
+    }
+
+    fn label(&self, n: NodeId) -> u32 {
+        self.graph.label(n)
+    }
+
+    fn parents(&self, n: NodeId) -> &[NodeId] {
+        self.graph.parent_list(n)
+    }
+
+    fn children(&self, n: NodeId) -> &[NodeId] {
+        self.graph.child_list(n)
+    }
+
+    ghost below = { below_span };
+
+    ghost ends = { ends_seen };
+}
