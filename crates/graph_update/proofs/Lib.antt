@@ -1,0 +1,5 @@
+pub mod Links
+pub mod Verdicts
+pub mod NeighbourLists
+pub mod ShownEdges
+pub mod ShownLabels

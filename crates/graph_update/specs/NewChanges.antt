@@ -1,0 +1,56 @@
+-- Changes that alter a graph, and the graph that each leaves.
+use Rattle.std.specs.Prelude.{◌≡◌, ℕ, ◌<◌, ◌^◌, Bool, true, false, ◌&&◌, ◌||◌, List, length, nat_lt, IsTrue}
+use Rattle.std.specs.FinSet as set
+use Rattle.px_spec.specs.declared.limits.Limits.{Limits}
+use Rattle.px_spec.specs.Graphs.{Graph, is_live, has_edge, is_seen}
+use Rattle.px_spec.specs.Changes.{Change, node, link, unlink, drop, with_node, with_edge, without_edge, without_node, is_used}
+
+-- the graph that the change leaves where it is made
+abbrev pub after : Change → Graph → Graph
+after (node t) g = with_node g t
+after (link u v) g = with_edge g u v
+after (unlink u v) g = without_edge g u v
+after (drop u) g = without_node g u
+
+-- the change is a link of an edge that is there already, between live nodes
+abbrev pub is_same : Change → Graph → Bool
+is_same (node t) g = false
+is_same (link u v) g = is_live g u && (is_live g v && has_edge g u v)
+is_same (unlink u v) g = false
+is_same (drop u) g = false
+
+-- one more number can be given, and the label is seen or can be
+pub record IsNewNode (g : Graph) (t : List ℕ) : Type 0 where
+  pub few_nodes : length g.given < 2 ^ 30
+  pub few_labels : IsTrue (is_seen g.seen t || nat_lt (length g.seen) (2 ^ 30))
+
+-- the nodes are live, and there is no edge between them, but there can be
+pub record IsNewLink (g : Graph) (u v : ℕ) : Type 0 where
+  pub from : IsTrue (is_live g u)
+  pub onto : IsTrue (is_live g v)
+  pub absent : has_edge g u v ≡ false
+  pub few_edges : set.len g.edges < 2 ^ 30
+
+-- the nodes are live, with an edge between them
+pub record IsNewUnlink (g : Graph) (u v : ℕ) : Type 0 where
+  pub from : IsTrue (is_live g u)
+  pub onto : IsTrue (is_live g v)
+  pub present : has_edge g u v ≡ true
+
+-- the node is live, and no edge begins or ends there
+pub record IsNewDrop (g : Graph) (u : ℕ) : Type 0 where
+  pub live : IsTrue (is_live g u)
+  pub unused : is_used g u ≡ false
+
+-- within some limits the change is accepted, and alters the graph
+abbrev pub IsNew : Change → Graph → Type 0
+IsNew (node t) g = IsNewNode g t
+IsNew (link u v) g = IsNewLink g u v
+IsNew (unlink u v) g = IsNewUnlink g u v
+IsNew (drop u) g = IsNewDrop g u
+
+-- no limits on a graph are higher
+pub record AreHighest (limits : Limits) : Type 0 where
+  pub nodes : limits.nodes ≡ 2 ^ 30
+  pub edges : limits.edges ≡ 2 ^ 30
+  pub labels : limits.labels ≡ 2 ^ 30

@@ -1,0 +1,33 @@
+// Changes, and what becomes of them.
+use px_base::{NodeId, Text};
+
+/// A change of a graph.
+#[derive(Debug, Drop)]
+pub enum Change {
+    /// One more node, with this label.
+    Node(Text),
+    /// An edge from the first node to the second.
+    Link(NodeId, NodeId),
+    /// That edge is taken away.
+    Unlink(NodeId, NodeId),
+    /// The node is taken away. Its number is never given again.
+    Drop(NodeId),
+}
+
+/// What an accepted change means for the graph.
+#[derive(Clone, Copy, Debug, PartialEq, Eq)]
+pub enum Verdict {
+    /// The graph changes.
+    New,
+    /// The edge is there already, and the graph stays as it is.
+    Same,
+}
+
+/// What a change did.
+#[derive(Clone, Copy, Debug, PartialEq, Eq)]
+pub enum Applied {
+    /// It added the node of this number.
+    Added(NodeId),
+    /// It was made.
+    Done,
+}

@@ -1,0 +1,116 @@
+// Whether a change is accepted.
+ghost use Rattle.std.specs.Prelude.{◌≡◌, ◌≢◌, ◌<◌, ◌↔◌, IsTrue, Ok, Err, false};
+ghost use Rattle.px_spec.specs.Graphs.{is_live, is_seen, has_edge};
+ghost use Rattle.px_spec.specs.Changes.{node, link, unlink, drop, node_fits};
+ghost use Rattle.graph_update.specs.NewChanges.{IsNew, AreHighest};
+ghost use Rattle.graph_update.specs.Judging.{change_of, Judges};
+
+use crate::changes::{Change, Verdict};
+use label_graph::{Graph, Labels};
+use px_base::{Limits, NodeId, Refusal, Steps, Text};
+use std::marker::Brand;
+use std::sync::ledger::{Blank, Ledger};
+
+/// Whether a change is accepted, and if so, whether the graph changes: not where an edge is linked
+/// that is there already, which is accepted at the limits too. A refusal is the first of these that
+/// holds: `NoNode` exactly where a node that the change names isn't live; then `InUse` exactly where
+/// a node to be dropped has an edge, `NoEdge` exactly where an edge to be unlinked isn't present, and
+/// `Limit` exactly where the change needs one more of what is at its limit. It takes no memory, and
+/// the time of finding a label or an edge.
+pub fn judge(graph: &Graph, change: &Change, limits: &Limits) -> Result<Verdict, Refusal>
+    ensures judges { Judges (change_of change.now) graph.now.graph limits.now result }
+    ensures new { result ≡ Ok Verdict.New → IsNew (change_of change.now) graph.now.graph }
+    ensures highest { AreHighest limits.now → IsNew (change_of change.now) graph.now.graph → result ≡ Ok Verdict.New }
+    ensures index { result ≢ Err Refusal.NoIndex }
+{
+    match change {
+        Change::Node(label) => judge_node(graph, label, limits),
+        Change::Link(from, to) => judge_link(graph, *from, *to, limits),
+        Change::Unlink(from, to) => judge_unlink(graph, *from, *to),
+        Change::Drop(node) => judge_drop(graph, *node),
+    }
+}
+
+fn judge_node(graph: &Graph, label: &Text, limits: &Limits) -> Result<Verdict, Refusal>
+    ensures { Judges (node label.now) graph.now.graph limits.now result }
+{
+    if node_fits(graph, limits, label) {
+        Ok(Verdict::New)
+    } else {
+        Err(Refusal::Limit)
+    }
+}
+
+fn judge_link(graph: &Graph, from: NodeId, to: NodeId, limits: &Limits) -> Result<Verdict, Refusal>
+    ensures { Judges (link from to) graph.now.graph limits.now result }
+{
+    if !graph.is_live(from) || !graph.is_live(to) {
+        return Err(Refusal::NoNode);
+    }
+    if has_edge(graph, from, to) {
+        return Ok(Verdict::Same);
+    }
+    if graph.edge_count() < limits.edges {
+        Ok(Verdict::New)
+    } else {
+        Err(Refusal::Limit)
+    }
+}
+
+fn judge_unlink(graph: &Graph, from: NodeId, to: NodeId) -> Result<Verdict, Refusal>
+    ensures { (limits : Limits) → Judges (unlink from to) graph.now.graph limits result }
+{
+    if !graph.is_live(from) || !graph.is_live(to) {
+        return Err(Refusal::NoNode);
+    }
+    if has_edge(graph, from, to) {
+        Ok(Verdict::New)
+    } else {
+        Err(Refusal::NoEdge)
+    }
+}
+
+fn judge_drop(graph: &Graph, node: NodeId) -> Result<Verdict, Refusal>
+    ensures { (limits : Limits) → Judges (drop node) graph.now.graph limits result }
+{
+    if !graph.is_live(node) {
+        return Err(Refusal::NoNode);
+    }
+    if graph.is_isolated(node) {
+        Ok(Verdict::New)
+    } else {
+        Err(Refusal::InUse)
+    }
+}
+
+/// Whether the text is a label already.
+fn is_seen(labels: &Labels, label: &Text) -> bool
+    ensures { result ≡ is_seen labels.now.texts label.now }
+{
+    labels.find(label).is_some()
+}
+
+/// Whether one more node with that label is within the limits.
+fn node_fits(graph: &Graph, limits: &Limits, label: &Text) -> bool
+    ensures { result ≡ node_fits graph.now.graph limits.now label.now }
+{
+    graph.created() < limits.nodes
+        && (is_seen(graph.labels(), label) || graph.labels().len() < limits.labels)
+}
+
+fn counted_edge<L: Ledger>(graph: &Graph, from: NodeId, to: NodeId, blank: Blank) -> bool
+    requires name { blank.name ≡ L.name }
+    requires parts { blank.parts ≡ L.parts }
+    requires some { 0 < blank.parts }
+    ensures { result ≡ has_edge graph.now.graph from to }
+{
+    let mut steps = Steps::<L>::new(blank);
+    graph.has_edge(from, to, &mut steps)
+}
+
+/// Whether the edge is present.
+fn has_edge(graph: &Graph, from: NodeId, to: NodeId) -> bool
+    ensures { result ≡ has_edge graph.now.graph from to }
+{
+    counted_edge::<Brand>(graph, from, to, Blank::new(1))
+}

@@ -1,0 +1,148 @@
+// A graph as a change will leave it.
+ghost use Rattle.std.specs.Prelude.{◌≡◌, ◌<◌, ◌≤◌, ◌+◌, ◌∷◌, ◌++◌, [], ◌^◌, length, IsTrue, Some, slice_get, position, bytes_eq, nat_eq};
+ghost use Rattle.px_spec.specs.Graphs.{is_live, label_of, has_edge};
+ghost use Rattle.px_spec.specs.Changes.{with_label};
+ghost use Rattle.px_spec.specs.Members.{Lists};
+ghost use Rattle.label_graph.specs.Views.{label_number};
+ghost use Rattle.graph_update.specs.NewChanges.{IsNew};
+ghost use Rattle.graph_update.specs.Judging.{change_of};
+ghost use Rattle.graph_update.specs.Shown.{shown_of, lost_from, lost_onto};
+
+use crate::changes::Change;
+use crate::neighbours::Neighbours;
+use label_graph::{Graph, Labels};
+use px_base::{NodeId, Steps, Text};
+use std::marker::Model;
+use std::sync::ledger::Ledger;
+
+/// A graph as a change will leave it. It is read from the graph as it is, and nothing is copied.
+#[derive(Drop)]
+pub struct After<'a> {
+    graph: &'a Graph,
+    labels: &'a Labels,
+    change: &'a Change,
+}
+
+impl<'a> Model for After<'a> {
+    ghost use Rattle.graph_update.specs.Shown.{Shown, shown_code};
+
+    ghost Value = { Shown };
+
+    ghost coded = { shown_code };
+
+    ghost use Rattle.graph_update.specs.NewChanges.{IsNew};
+    ghost use Rattle.graph_update.specs.Judging.{change_of};
+    ghost use Rattle.graph_update.specs.Shown.{shown_of};
+    ghost use Rattle.std.specs.Prelude.{◌≡◌};
+    ghost use Rattle.px_spec.specs.Shapes.{IsShape, shape_of};
+
+    ghost view = { λ a. shown_of (change_of a.change.now) a.graph.now.graph };
+
+    ghost invariant = { λ a. record { new : IsNew (change_of a.change.now) a.graph.now.graph; seen : a.labels.now.texts ≡ a.graph.now.graph.seen; sound : IsShape (shape_of a.graph.now.graph) } };
+}
+
+impl<'a> After<'a> {
+    /// The graph after a change that `judge` accepts as new within some limits.
+    pub fn new(graph: &'a Graph, change: &'a Change) -> After<'a>
+        requires new { IsNew (change_of change.now) graph.now.graph }
+        ensures { result ≡ shown_of (change_of change.now) graph.now.graph }
+    {
+        After {
+            graph,
+            labels: graph.labels(),
+            change,
+        }
+    }
+
+    /// Whether the number is that of a live node.
+    pub fn is_live(&self, n: NodeId) -> bool
+        ensures { result ≡ is_live self.now.graph n }
+    {
+        match self.change {
+            Change::Node(_) => n == self.graph.created() || self.graph.is_live(n),
+            Change::Drop(node) => n != *node && self.graph.is_live(n),
+            _ => self.graph.is_live(n),
+        }
+    }
+
+    /// The number of a live node's label. A label that is not seen yet has the next number, the count
+    /// of the labels.
+    pub fn label(&self, n: NodeId) -> u32
+        requires live { IsTrue (is_live self.now.graph n) }
+        ensures text { slice_get self.now.graph.seen result ≡ label_of self.now.graph n }
+        ensures number { label_number self.now.graph n ≡ Some result }
+    {
+        match self.change {
+            Change::Node(label) if n == self.graph.created() => label_number(self.labels, label),
+            _ => self.graph.label(n),
+        }
+    }
+
+    /// How many node numbers will have been given: at most 2^30.
+    pub fn created(&self) -> u32
+        ensures count { result ≡ length self.now.graph.given }
+        ensures few { result ≤ 2 ^ 30 }
+    {
+        match self.change {
+            Change::Node(_) => self.graph.created() + 1,
+            _ => self.graph.created(),
+        }
+    }
+
+    /// The nodes from which an edge leads to a live node, each once, in no stated order. It is one
+    /// step, one for each of them, and one for the edge to the node that the change takes away.
+    pub fn parents<L: Ledger>(&self, n: NodeId, steps: &mut Steps<L>) -> Neighbours<'_>
+        requires live { IsTrue (is_live self.now.graph n) }
+        ensures parents { Lists (λ u. has_edge self.now.graph u n) result }
+        ensures cost { steps.new ≡ steps.old + 1 + length result + lost_onto self.now.lost n }
+    {
+        match self.change {
+            Change::Node(_) if n == self.graph.created() => {
+                steps.tick();
+                Neighbours::none()
+            }
+            Change::Link(from, to) if n == *to => {
+                steps.tick();
+                Neighbours::with(self.graph.parents(n, steps), *from)
+            }
+            Change::Unlink(from, to) if n == *to => {
+                Neighbours::without(self.graph.parents(n, steps), *from)
+            }
+            _ => Neighbours::of(self.graph.parents(n, steps)),
+        }
+    }
+
+    /// The nodes to which an edge leads from a live node, each once, in no stated order. It is one
+    /// step, one for each of them, and one for the edge from the node that the change takes away.
+    pub fn children<L: Ledger>(&self, n: NodeId, steps: &mut Steps<L>) -> Neighbours<'_>
+        requires live { IsTrue (is_live self.now.graph n) }
+        ensures children { Lists (has_edge self.now.graph n) result }
+        ensures cost { steps.new ≡ steps.old + 1 + length result + lost_from self.now.lost n }
+    {
+        match self.change {
+            Change::Node(_) if n == self.graph.created() => {
+                steps.tick();
+                Neighbours::none()
+            }
+            Change::Link(from, to) if n == *from => {
+                steps.tick();
+                Neighbours::with(self.graph.children(n, steps), *to)
+            }
+            Change::Unlink(from, to) if n == *from => {
+                Neighbours::without(self.graph.children(n, steps), *to)
+            }
+            _ => Neighbours::of(self.graph.children(n, steps)),
+        }
+    }
+}
+
+// The number that a label has, or would have.
+fn label_number(labels: &Labels, label: &Text) -> u32
+    ensures text { slice_get (with_label labels.now.texts label.now) result ≡ Some label.now }
+    ensures number { position (bytes_eq label.now) (with_label labels.now.texts label.now) ≡ Some result }
+{
+    match labels.find(label) {
+        Some(number) => number,
+        None => labels.len(),
+    }
+}

@@ -1,0 +1,85 @@
+// Making a change in two steps.
+ghost use Rattle.std.specs.Prelude.{◌≡◌, OnOk, OnErr, IfOk};
+ghost use Rattle.px_spec.specs.Changes as change;
+ghost use Rattle.label_graph.specs.Held.{no_room};
+ghost use Rattle.graph_update.specs.NewChanges.{after, IsNew};
+ghost use Rattle.graph_update.specs.Judging.{change_of};
+ghost use Rattle.graph_update.specs.Staging.{kept_of, IsStaged, applied_of};
+
+use crate::changes::{Applied, Change};
+use label_graph::Graph;
+use px_base::{Memory, NodeId};
+use std::alloc::Global;
+use std::marker::Model;
+
+// What is kept of a change: numbers alone.
+#[derive(Clone, Copy, Drop)]
+enum Kept {
+    Node,
+    Link(NodeId, NodeId),
+    Unlink(NodeId, NodeId),
+    Drop(NodeId),
+}
+
+/// A change for which the graph has room. Nothing has happened to the graph yet, and nothing does
+/// where this is dropped.
+#[derive(Drop)]
+pub struct Staged {
+    kept: Kept,
+}
+
+impl Model for Staged {
+    ghost use Rattle.graph_update.specs.declared.staging.Kept.{Kept as Value_of_staged};
+
+    ghost Value = { Value_of_staged };
+
+    ghost view = { λ s. s.kept };
+}
+
+/// Takes all the memory that a change needs, which `judge` accepts as new within some limits. The
+/// graph stays as it is seen, and on want of memory its room does too. The time is that of adding
+/// an entry to a table, once it has grown.
+pub fn stage(alloc: Global, graph: &mut Graph, change: &Change) -> Result<Staged, Memory>
+    requires new { IsNew (change_of change.now) graph.old.graph }
+    ensures graph { graph.new.graph ≡ graph.old.graph }
+    ensures staged { IfOk result (λ staged. IsStaged (change_of change.now) graph.new staged) }
+    ensures err { OnErr result (graph.new ≡ graph.old) }
+{
+    let kept = match change {
+        Change::Node(label) => {
+            graph.reserve_node(alloc, label)?;
+            Kept::Node
+        }
+        Change::Link(from, to) => {
+            graph.reserve_edge(*from, *to)?;
+            Kept::Link(*from, *to)
+        }
+        Change::Unlink(from, to) => Kept::Unlink(*from, *to),
+        Change::Drop(node) => Kept::Drop(*node),
+    };
+    Ok(Staged { kept })
+}
+
+/// Makes a change that is staged in the graph, which is as `stage` left it, and leaves the graph with
+/// no room. It can't fail and takes no memory.
+pub fn commit(graph: &mut Graph, staged: Staged) -> Applied
+    requires staged { (c : change.Change) × IsStaged c graph.old staged × IsNew c graph.old.graph }
+    ensures made { (c : change.Change) → IsStaged c graph.old staged → graph.new ≡ record { graph = after c graph.old.graph; room = no_room } }
+    ensures applied { (c : change.Change) → IsStaged c graph.old staged → result ≡ applied_of c graph.old.graph }
+{
+    match staged.kept {
+        Kept::Node => Applied::Added(graph.add_node()),
+        Kept::Link(from, to) => {
+            graph.add_edge(from, to);
+            Applied::Done
+        }
+        Kept::Unlink(from, to) => {
+            graph.remove_edge(from, to);
+            Applied::Done
+        }
+        Kept::Drop(node) => {
+            graph.remove_node(node);
+            Applied::Done
+        }
+    }
+}
