@@ -1,0 +1,7 @@
+pub mod LabelBytes
+pub mod Cuts
+pub mod Spellings
+pub mod LabelNumbers
+pub mod Paths
+pub mod Markings
+pub mod Examples

@@ -1,0 +1,5 @@
+pub mod Trees
+pub mod Matches
+pub mod Answers
+pub mod Spelling
+pub mod Marking

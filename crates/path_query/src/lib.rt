@@ -1,0 +1,13 @@
+//! Path expressions: how they are written, and their answers over any graph.
+#![tactic(auto)]
+
+mod answers;
+mod expr;
+mod words;
+
+pub use answers::eval;
+pub use expr::{ExprError, PathExpr};
+pub use words::{is_label, skip_blanks, split_word};
+
+#[cfg(test)]
+mod tests;
