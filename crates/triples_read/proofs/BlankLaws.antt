@@ -1,0 +1,71 @@
+-- Blanks at the front.
+use Rattle.std.proofs.Common.{◌≡◌, ◌<◌, ℕ, List, [], ◌∷◌, ◌++◌, Bool, true, false, refl, sym, ◌∙◌, ap, subst, arith, ◌⊎◌, inl, inr}
+use Rattle.std.specs.Prelude.{nat_eq}
+use Rattle.std.specs.Char.{IsScalar}
+use Rattle.std.proofs.Math.Utf8.{scalars, encodes}
+use Rattle.std.proofs.lemmas.Str.{encode_ascii, encodes-append}
+use Rattle.std.proofs.lemmas.Bool.{eqb-true}
+use Rattle.triples_read.specs.Characters.{is_blank}
+use Rattle.triples_read.specs.Terminals.{AllOf, Blanks}
+use Rattle.triples_read.specs.Reading.{past_blanks}
+use Rattle.triples_read.specs.Fronts.{Front, IsText}
+use Rattle.triples_read.proofs.Pieces.{bool_cases}
+use Rattle.triples_read.proofs.Opening.{split-encodes, scalars-right}
+
+-- characters of a class of ASCII are their own bytes
+pub own_bytes : (class : ℕ → Bool) → ((c : ℕ) → class c ≡ true → c < 128) → (xs : List ℕ) → AllOf class xs → encodes xs ≡ xs
+own_bytes class small [] all = refl
+own_bytes class small (x ∷ xs) all = rw (encode_ascii x (small x all.0.1), own_bytes class small xs all.1) refl
+
+pub blank_is : (b : ℕ) → is_blank b ≡ true → (b ≡ 32) ⊎ (b ≡ 9)
+blank_is b h = elim (bool_cases (nat_eq b 32)) [ inl e ↦ inl (eqb-true b 32 e) | inr e ↦ inr (eqb-true b 9 (sym (rw e refl) ∙ h)) ]
+
+pub blank_small : (b : ℕ) → is_blank b ≡ true → b < 128
+blank_small b h = elim (blank_is b h) [ inl e ↦ omega (arith, e) | inr e ↦ omega (arith, e) ]
+
+blank_scalar : (b : ℕ) → is_blank b ≡ true → IsScalar b
+blank_scalar b h = elim (blank_is b h) [ inl e ↦ subst IsScalar (sym e) refl | inr e ↦ subst IsScalar (sym e) refl ]
+
+pub blanks_bytes : (gap : List ℕ) → Blanks gap → encodes gap ≡ gap
+blanks_bytes gap all = own_bytes is_blank blank_small gap all
+
+pub past-blank : (b : ℕ) (bs : List ℕ) → is_blank b ≡ true → past_blanks (b ∷ bs) ≡ past_blanks bs
+past-blank b bs e = rw e refl
+
+pub past-other : (b : ℕ) (bs : List ℕ) → is_blank b ≡ false → past_blanks (b ∷ bs) ≡ b ∷ bs
+past-other b bs e = rw e refl
+
+blanks-front : (bytes : List ℕ) → (gap : List ℕ) × (bytes ≡ gap ++ past_blanks bytes) × Blanks gap
+blanks-front [] = ([], refl, tt)
+blanks-front (b ∷ bs) =
+    elim (bool_cases (is_blank b)) [
+      | inl e ↦ (
+          let (gap, parts, all) = blanks-front bs in
+          (b ∷ gap, ap (λ (z : List ℕ). b ∷ z) parts ∙ ap (λ (z : List ℕ). b ∷ (gap ++ z)) (sym (past-blank b bs e)), ((blank_scalar b e, e), all)))
+      | inr e ↦ ([], sym (past-other b bs e), tt)
+    ]
+
+-- the blanks that are skipped
+pub skip-found : (b cs : List ℕ) → IsText b cs → Front Blanks cs (past_blanks b)
+skip-found b cs is =
+    let (gap, parts, all) = blanks-front b in
+    let (r, split, left) = split-encodes gap cs (past_blanks b) (sym is.0 ∙ parts ∙ ap (λ (z : List ℕ). z ++ past_blanks b) (sym (blanks_bytes gap all))) in
+    (gap, r, split, (left, scalars-right gap r (sym (ap scalars split) ∙ is.1)), all)
+
+skip-gap : (gap rest : List ℕ) → Blanks gap → past_blanks (gap ++ rest) ≡ past_blanks rest
+skip-gap [] rest all = refl
+skip-gap (b ∷ gap) rest all = past-blank b (gap ++ rest) all.0.1 ∙ skip-gap gap rest all.1
+
+-- all blanks are skipped
+pub skip-whole : (b gap : List ℕ) (c : ℕ) (r : List ℕ) → b ≡ encodes (gap ++ c ∷ r) → Blanks gap → c < 128 → is_blank c ≡ false → past_blanks b ≡ encodes (c ∷ r)
+skip-whole b gap c r is all small other =
+    ap past_blanks (is ∙ encodes-append gap (c ∷ r) ∙ ap (λ (z : List ℕ). z ++ encodes (c ∷ r)) (blanks_bytes gap all))
+    ∙ skip-gap gap (encodes (c ∷ r)) all
+    ∙ rw (encode_ascii c small) (past-other c (encodes r) other)
+
+nothing : (xs : List ℕ) → xs ++ [] ≡ xs
+nothing [] = refl
+nothing (x ∷ xs) = ap (λ (z : List ℕ). x ∷ z) (nothing xs)
+
+pub skip-end : (b gap : List ℕ) → b ≡ encodes gap → Blanks gap → past_blanks b ≡ []
+skip-end b gap is all = ap past_blanks (is ∙ blanks_bytes gap all ∙ sym (nothing gap)) ∙ skip-gap gap [] all

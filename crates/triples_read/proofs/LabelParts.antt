@@ -1,0 +1,38 @@
+-- A blank node label with its mark at the front.
+use Rattle.std.proofs.Common.{◌≡◌, true, ◌-◌, ℕ, List, [], ◌∷◌, ◌++◌, length, take, drop, refl, sym, ◌∙◌, ap, arith}
+use Rattle.std.specs.Prelude.{IsUtf8}
+use Rattle.std.proofs.Math.Utf8.{scalars, encodes}
+use Rattle.std.proofs.lemmas.Str.{encode_ascii, encodes-append}
+use Rattle.triples_read.specs.Terminals.{IsLabel}
+use Rattle.triples_read.specs.Lines.{IsBlankNode}
+use Rattle.triples_read.specs.Fronts.{IsLabelFront, Front, IsText}
+use Rattle.triples_read.proofs.Opening.{split-encodes, scalars-left, scalars-right}
+use Rattle.triples_read.proofs.TagLaws.{cut_at}
+
+marked_bytes : (v : List ℕ) → encodes (95 ∷ 58 ∷ v) ≡ 95 ∷ 58 ∷ encodes v
+marked_bytes v = rw (encode_ascii 95 (omega arith), encode_ascii 58 (omega arith)) refl
+
+cons-tail : {a b : ℕ} {xs ys : List ℕ} → a ∷ xs ≡ b ∷ ys → xs ≡ ys
+cons-tail e = cc
+
+-- what stands behind the mark, where a label stands there
+pub label-after : (bytes after s r label : List ℕ) → bytes ≡ 95 ∷ 58 ∷ after → IsText bytes (s ++ r) → IsBlankNode s label → (v : List ℕ) × IsLabel v × (label ≡ encodes v) × (after ≡ encodes (v ++ r)) × (scalars (v ++ r) ≡ true)
+label-after bytes after s r label marked is (v, (sp, good), label_is) =
+    let whole : s ++ r ≡ 95 ∷ 58 ∷ (v ++ r) = ap (λ (z : List ℕ). z ++ r) sp in
+    let both : 95 ∷ 58 ∷ after ≡ 95 ∷ 58 ∷ encodes (v ++ r) = sym marked ∙ is.0 ∙ ap encodes whole ∙ marked_bytes (v ++ r) in
+    (v, good, label_is, cons-tail (cons-tail both), scalars-right (95 ∷ 58 ∷ []) (v ++ r) (ap scalars (sym whole) ∙ is.1))
+
+pub label-found : (bytes after text tail front back label cs : List ℕ) → bytes ≡ 95 ∷ 58 ∷ after → text ≡ after → IsLabelFront text tail → front ≡ take (length after - length tail) after → back ≡ drop (length after - length tail) after → label ≡ front → IsText bytes cs → Front (λ s. IsBlankNode s label) cs back
+label-found bytes after text tail front back label cs marked same (v, good, eq) front_is back_is label_is is =
+    let cut = cut_at after (encodes v) tail (sym same ∙ eq) in
+    let whole : bytes ≡ encodes (95 ∷ 58 ∷ v) ++ tail = marked ∙ ap (λ (z : List ℕ). 95 ∷ 58 ∷ z) (sym same ∙ eq) ∙ ap (λ (z : List ℕ). z ++ tail) (sym (marked_bytes v)) in
+    let (r, parts, left) = split-encodes (95 ∷ 58 ∷ v) cs tail (sym is.0 ∙ whole) in
+    (95 ∷ 58 ∷ v, r, parts, (back_is ∙ cut.1 ∙ left, scalars-right (95 ∷ 58 ∷ v) r (sym (ap scalars parts) ∙ is.1)), (v, (refl, good), label_is ∙ front_is ∙ cut.0))
+
+pub label-cut : (after v r tail front back : List ℕ) → after ≡ encodes (v ++ r) → tail ≡ encodes r → front ≡ take (length after - length tail) after → back ≡ drop (length after - length tail) after → (front ≡ encodes v) × (back ≡ encodes r)
+label-cut after v r tail front back is tail_is front_is back_is =
+    let cut = cut_at after (encodes v) tail (is ∙ encodes-append v r ∙ ap (λ (z : List ℕ). encodes v ++ z) (sym tail_is)) in
+    (front_is ∙ cut.0, back_is ∙ cut.1 ∙ tail_is)
+
+pub label-utf8 : (front v r : List ℕ) → scalars (v ++ r) ≡ true → front ≡ encodes v → IsUtf8 front
+label-utf8 front v r ok is = (v, (scalars-left v r ok, sym is))

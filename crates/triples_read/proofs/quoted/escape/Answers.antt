@@ -1,0 +1,7 @@
+use Rattle.triples_read.specs.Quotes.{Escape, escape_at}
+use Rattle.triples_read.proofs.Pieces.{escape-within}
+use Rattle.triples_read.proofs.Quoting.{quote_escapes}
+use Rattle.triples_read.proofs.quoted.escape.Goals as goal
+
+pub returns-clause-within : goal.returns-clause-within
+returns-clause-within c = escape-within (Escape c.args.quote) (escape_at c.args.quote) (quote_escapes c.args.quote) c.args.bytes.now c.escape_behind.result c.escape_behind.ensures

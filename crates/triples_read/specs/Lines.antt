@@ -1,0 +1,68 @@
+-- Which line spells which triple: RDF 1.1 N-Triples, section 7.
+use Rattle.std.specs.Prelude.{ℕ, List, [], ◌∷◌, ◌++◌, ◌≡◌, ◌⊎◌, encode_utf8_all, codes, Option, Some, None}
+use Rattle.std.specs.Str.{all_scalars}
+use Rattle.std.specs.Prelude.{true}
+use Rattle.triples_read.specs.Terminals.{IRIREF, BLANK_NODE_LABEL, STRING_LITERAL_QUOTE, LANGTAG, Blanks, Comment}
+use Rattle.triples_read.specs.declared.term.Term.{Term}
+use Rattle.triples_read.specs.declared.term.Term.TheVariants.{Iri, Blank, Literal}
+use Rattle.triples_read.specs.declared.term.Triple.{Triple}
+
+abbrev pub xsd_string : List ℕ
+xsd_string = codes "http://www.w3.org/2001/XMLSchema#string"
+
+abbrev pub lang_string : List ℕ
+lang_string = codes "http://www.w3.org/1999/02/22-rdf-syntax-ns#langString"
+
+-- an IRIREF for the IRI
+abbrev pub IsIri : List ℕ → List ℕ → Type 0
+IsIri s iri = (v : List ℕ) × IRIREF s v × (iri ≡ encode_utf8_all v)
+
+-- what follows the quoted string: nothing, a datatype, or a tag
+abbrev pub Suffix : List ℕ → List ℕ → Option (List ℕ) → Type 0
+Suffix s datatype None = ((s ≡ []) × (datatype ≡ xsd_string)) ⊎ ((gap : List ℕ) × (after : List ℕ) × (name : List ℕ) × (s ≡ gap ++ (94 ∷ 94 ∷ (after ++ name))) × Blanks gap × Blanks after × IsIri name datatype)
+Suffix s datatype (Some tag) = (gap : List ℕ) × (name : List ℕ) × (s ≡ gap ++ name) × Blanks gap × LANGTAG name tag × (datatype ≡ lang_string)
+
+-- STRING_LITERAL_QUOTE (WS* '^^' WS* IRIREF | WS* LANGTAG)?
+abbrev pub IsLiteral : List ℕ → List ℕ → List ℕ → Option (List ℕ) → Type 0
+IsLiteral s text datatype tag = (quoted : List ℕ) × (rest : List ℕ) × (v : List ℕ) × (s ≡ quoted ++ rest) × STRING_LITERAL_QUOTE quoted v × (text ≡ encode_utf8_all v) × Suffix rest datatype tag
+
+abbrev pub IsBlankNode : List ℕ → List ℕ → Type 0
+IsBlankNode s label = (v : List ℕ) × BLANK_NODE_LABEL s v × (label ≡ encode_utf8_all v)
+
+abbrev pub IsSubject : List ℕ → Term → Type 0
+IsSubject s (Iri iri) = IsIri s iri
+IsSubject s (Blank label) = IsBlankNode s label
+IsSubject s (Literal text datatype tag) = ⊥
+
+abbrev pub IsObject : List ℕ → Term → Type 0
+IsObject s (Iri iri) = IsIri s iri
+IsObject s (Blank label) = IsBlankNode s label
+IsObject s (Literal text datatype tag) = IsLiteral s text datatype tag
+
+-- subject WS* predicate WS* object WS* '.'
+pub record IsTriple (s : List ℕ) (t : Triple) : Type 0 where
+  pub subject : List ℕ
+  pub gap : List ℕ
+  pub predicate : List ℕ
+  pub gap2 : List ℕ
+  pub object : List ℕ
+  pub gap3 : List ℕ
+  pub whole : s ≡ subject ++ (gap ++ (predicate ++ (gap2 ++ (object ++ (gap3 ++ 46 ∷ [])))))
+  pub gaps : Blanks gap × Blanks gap2 × Blanks gap3
+  pub is_subject : IsSubject subject t.subject
+  pub is_predicate : IsIri predicate t.predicate
+  pub is_object : IsObject object t.object
+
+-- characters that the bytes are the UTF-8 of
+pub record TextOf (bytes : List ℕ) : Type 0 where
+  pub chars : List ℕ
+  pub scalars : all_scalars chars ≡ true
+  pub encoded : bytes ≡ encode_utf8_all chars
+
+-- WS* triple WS* comment?
+abbrev pub Spells : List ℕ → Triple → Type 0
+Spells line t = (cs : TextOf line) × (before : List ℕ) × (triple : List ℕ) × (after : List ℕ) × (comment : List ℕ) × (cs.chars ≡ before ++ (triple ++ (after ++ comment))) × Blanks before × IsTriple triple t × Blanks after × Comment comment
+
+-- WS* comment?
+abbrev pub Empty : List ℕ → Type 0
+Empty line = (cs : TextOf line) × (before : List ℕ) × (comment : List ℕ) × (cs.chars ≡ before ++ comment) × Blanks before × Comment comment

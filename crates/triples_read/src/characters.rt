@@ -1,0 +1,81 @@
+// Classes of characters, by the standard's names.
+ghost use Rattle.std.specs.Prelude.{◌≡◌};
+ghost use Rattle.triples_read.specs.Characters.{from_to as is_from_to, is_letter as letter, is_digit as digit, pn_chars_base, pn_chars_u, pn_chars, label_first, is_iri_char, is_string_char};
+ghost use Rattle.std.proofs.Common.{not};
+
+fn from_to(low: u32, high: u32, c: u32) -> bool
+    ensures { result ≡ is_from_to low high c }
+{
+    low <= c && c <= high
+}
+
+fn is_letter(c: u32) -> bool
+    ensures { result ≡ letter c }
+{
+    from_to(65, 90, c) || from_to(97, 122, c)
+}
+
+// PN_CHARS_BASE
+fn is_base(c: u32) -> bool
+    ensures { result ≡ pn_chars_base c }
+{
+    is_letter(c)
+        || from_to(0xC0, 0xD6, c)
+        || from_to(0xD8, 0xF6, c)
+        || from_to(0xF8, 0x2FF, c)
+        || from_to(0x370, 0x37D, c)
+        || from_to(0x37F, 0x1FFF, c)
+        || from_to(0x200C, 0x200D, c)
+        || from_to(0x2070, 0x218F, c)
+        || from_to(0x2C00, 0x2FEF, c)
+        || from_to(0x3001, 0xD7FF, c)
+        || from_to(0xF900, 0xFDCF, c)
+        || from_to(0xFDF0, 0xFFFD, c)
+        || from_to(0x10000, 0xEFFFF, c)
+}
+
+// PN_CHARS_U
+fn is_base_or_sign(c: u32) -> bool
+    ensures { result ≡ pn_chars_u c }
+{
+    is_base(c) || c == 95 || c == 58
+}
+
+/// Whether a label may hold the character anywhere but at its start: PN_CHARS.
+pub(crate) fn is_label_char(c: char) -> bool
+    ensures { result ≡ pn_chars c }
+{
+    let c = c as u32;
+    is_base_or_sign(c)
+        || c == 45
+        || from_to(48, 57, c)
+        || c == 0xB7
+        || from_to(0x300, 0x36F, c)
+        || from_to(0x203F, 0x2040, c)
+}
+
+/// Whether a label may begin with the character.
+pub(crate) fn is_label_first(c: char) -> bool
+    ensures { result ≡ label_first c }
+{
+    let c = c as u32;
+    is_base_or_sign(c) || from_to(48, 57, c)
+}
+
+/// Whether the byte ends a run of characters that stand for themselves in an IRIREF.
+pub(crate) fn ends_iri_run(b: u8) -> bool
+    ensures { result ≡ not (is_iri_char b) }
+{
+    b <= b' '
+        || matches!(
+            b,
+            b'<' | b'>' | b'"' | b'{' | b'}' | b'|' | b'^' | b'`' | b'\\'
+        )
+}
+
+/// Whether the byte ends a run of characters that stand for themselves in a string.
+pub(crate) fn ends_string_run(b: u8) -> bool
+    ensures { result ≡ not (is_string_char b) }
+{
+    matches!(b, b'"' | b'\\' | b'\n' | b'\r')
+}

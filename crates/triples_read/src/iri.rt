@@ -1,0 +1,34 @@
+// IRIs in angle brackets.
+ghost use Rattle.std.specs.Prelude.{◌≡◌, ◌++◌, List, ℕ, IfOk, IfSome, IsSomeAnd, encode_utf8_all};
+ghost use Rattle.triples_read.specs.Fronts.{IsIriFront, Front, IsText};
+ghost use Rattle.triples_read.specs.Lines.{IsIri};
+
+use crate::quoted::{Quote, read_quoted};
+use px_base::{Memory, Text};
+use std::alloc::Global;
+
+/// The IRI whose IRIREF is at the front of the bytes, with its escapes read, and the length in bytes
+/// of that IRIREF. None exactly where no front of the bytes is an IRIREF (RDF 1.1 N-Triples,
+/// section 7). What lies behind it may be any bytes.
+pub fn read_iri_front(alloc: Global, b: &[u8]) -> Result<Option<(Text, usize)>, Memory>
+    // What is read stands at the front.
+    ensures found { IfOk result (λ r. IfSome r (λ f. IsIriFront b.now f.1 f.0)) }
+    // What stands at the front is read.
+    ensures only { (n : ℕ) (iri : List ℕ) → IsIriFront b.now n iri → IfOk result (λ r. IsSomeAnd r (λ f. (f.0 ≡ iri) × (f.1 ≡ n))) }
+{
+    let Some((text, rest)) = read_quoted(Quote::Angle, alloc, b)? else {
+        return Ok(None);
+    };
+    Ok(Some((Text::from_string(text), b.len() - rest.len())))
+}
+
+/// The IRI whose IRIREF is at the front, and what follows it.
+pub(crate) fn read_iri(alloc: Global, bytes: &[u8]) -> Result<Option<(Text, &[u8])>, Memory>
+    ensures found { (cs : List ℕ) → IsText bytes.now cs → IfOk result (λ r. IfSome r (λ f. Front (λ s. IsIri s f.0) cs f.1.now)) }
+    ensures whole { (s r iri : List ℕ) → IsText bytes.now (s ++ r) → IsIri s iri → IfOk result (λ found. IsSomeAnd found (λ f. (f.0 ≡ iri) × (f.1.now ≡ encode_utf8_all r))) }
+{
+    let Some((text, rest)) = read_quoted(Quote::Angle, alloc, bytes)? else {
+        return Ok(None);
+    };
+    Ok(Some((Text::from_string(text), rest)))
+}

@@ -1,0 +1,94 @@
+// Blank node labels.
+ghost use Rattle.std.specs.Prelude.{true, ◌≡◌, ◌++◌, [], List, ℕ, MatchOption, IfOk, IfSome, IsSomeAnd, encode_utf8, encode_utf8_all, ◌∷◌};
+ghost use Rattle.triples_read.specs.Reading.{past_label};
+ghost use Rattle.triples_read.specs.Terminals.{IsLabel};
+ghost use Rattle.triples_read.specs.Fronts.{IsLabelFront, EndsLabel, Front, IsText};
+ghost use Rattle.triples_read.specs.Lines.{IsBlankNode};
+ghost use Rattle.std.specs.Str.{chars};
+
+use crate::characters::{is_label_char, is_label_first};
+use px_base::{Memory, Text, TextError};
+use std::alloc::Global;
+
+/// The first character, and what follows.
+pub(crate) fn next_char(text: &str) -> Option<(char, &str)>
+    ensures { MatchOption result (text.now ≡ []) (λ p. text.now ≡ encode_utf8 p.0 ++ p.1.now) }
+{
+    let mut chars = text.chars();
+    let c = chars.next()?;
+    Some((c, chars.as_str()))
+}
+
+// What follows the longest front that holds label characters and dots and doesn't end in a dot.
+fn after_label(text: &str) -> &str
+    ensures { (cs : List ℕ) → text.now ≡ encode_utf8_all cs → result.now ≡ encode_utf8_all (past_label cs cs) }
+{
+    let mut tail = text;
+    let mut rest = text;
+    while let Some((c, after)) = next_char(rest) {
+        if is_label_char(c) {
+            tail = after;
+        } else if c != '.' {
+            return tail;
+        }
+        rest = after;
+    }
+    tail
+}
+
+// What follows the longest label at the front.
+fn past_front(text: &str) -> Option<&str>
+    ensures found { IfSome result (λ tail. IsLabelFront text.now tail.now) }
+    ensures whole { (v tail : List ℕ) → text.now ≡ encode_utf8_all (v ++ tail) → IsLabel v → EndsLabel tail → IsSomeAnd result (λ left. left.now ≡ encode_utf8_all tail) }
+{
+    let Some((first, after)) = next_char(text) else {
+        return None;
+    };
+    if !is_label_first(first) {
+        return None;
+    }
+    Some(after_label(after))
+}
+
+// What follows the mark `_:` at the front.
+fn past_mark(bytes: &[u8]) -> Option<&[u8]>
+    ensures { MatchOption result ((x : List ℕ) → bytes.now ≡ 95 ∷ 58 ∷ x → ⊥) (λ x. bytes.now ≡ 95 ∷ 58 ∷ x.now) }
+{
+    match bytes {
+        [b'_', b':', after @ ..] => Some(after),
+        _ => None,
+    }
+}
+
+/// The longest blank node label at the front, without its `_:`, and what follows it.
+pub(crate) fn read_label(alloc: Global, bytes: &[u8]) -> Result<Option<(Text, &[u8])>, Memory>
+    ensures found { (cs : List ℕ) → IsText bytes.now cs → IfOk result (λ r. IfSome r (λ f. Front (λ s. IsBlankNode s f.0) cs f.1.now)) }
+    ensures whole { (s r label : List ℕ) → IsText bytes.now (s ++ r) → IsBlankNode s label → EndsLabel r → IfOk result (λ found. IsSomeAnd found (λ f. (f.0 ≡ label) × (f.1.now ≡ encode_utf8_all r))) }
+{
+    let Some(after) = past_mark(bytes) else {
+        return Ok(None);
+    };
+    let Ok(text) = str::from_utf8(after) else {
+        return Ok(None);
+    };
+    let Some(tail) = past_front(text) else {
+        return Ok(None);
+    };
+    let (label, rest) = after.split_at(after.len() - tail.len());
+    match Text::from_bytes(alloc, label) {
+        Ok(label) => Ok(Some((label, rest))),
+        Err(TextError::NotUtf8) => Ok(None),
+        Err(TextError::Memory) => Err(Memory),
+    }
+}
+
+/// Whether the whole text is a blank node label, without its `_:`.
+pub(crate) fn is_label(text: &str) -> bool
+    ensures sound { result ≡ true → IsBlankNode (95 ∷ 58 ∷ chars text.now) text.now }
+    ensures complete { (s : List ℕ) → IsBlankNode s text.now → result ≡ true }
+{
+    match past_front(text) {
+        Some(rest) => rest.is_empty(),
+        None => false,
+    }
+}

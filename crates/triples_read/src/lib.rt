@@ -1,0 +1,24 @@
+//! Lines of RDF 1.1 N-Triples: read exactly as the grammar spells them, and written in one canonical spelling.
+#![tactic(auto)]
+
+mod blanks;
+mod characters;
+mod escapes;
+mod iri;
+mod labels;
+mod line;
+mod literal;
+mod quoted;
+mod tags;
+mod term;
+mod triple_test;
+mod writing;
+
+pub use iri::read_iri_front;
+pub use line::{LineError, read_line};
+pub use term::{Term, Triple};
+pub use triple_test::is_triple;
+pub use writing::{write_term, write_triple};
+
+#[cfg(test)]
+mod tests;

@@ -1,0 +1,202 @@
+// What stands between quotes, with escapes: the body of an IRIREF and of a string.
+ghost use Rattle.std.specs.Prelude.{◌≡◌, ◌<◌, ◌≤◌, ◌+◌, ◌++◌, ◌∷◌, [], List, ℕ, true, false, length, IfOk, IfSome, IfNone, IsSomeAnd, string_bytes, encode_utf8_all};
+ghost use Rattle.std.specs.List.{position_or_len, position};
+ghost use Rattle.std.proofs.Common.{not};
+ghost use Rattle.triples_read.specs.Bodies.{Body, Adds, StopsAt, IsBodyFront};
+ghost use Rattle.triples_read.specs.Quotes.{opening as opening_of, closing as closing_of, inner, escape_at, PieceIn, IsQuoted};
+
+use crate::characters::{ends_iri_run, ends_string_run};
+use crate::escapes::{string_escape, uchar};
+use std::alloc::{AllocError, Global};
+
+/// What quotes stand around a part.
+#[derive(Clone, Copy)]
+pub(crate) enum Quote {
+    /// `<` and `>`, around an IRI.
+    Angle,
+    /// `"` at both ends, around a string.
+    Double,
+}
+
+impl Quote {
+    pub(crate) fn opening(self) -> u8
+        ensures { result ≡ opening_of self }
+    {
+        match self {
+            Quote::Angle => b'<',
+            Quote::Double => b'"',
+        }
+    }
+
+    pub(crate) fn closing(self) -> u8
+        ensures { result ≡ closing_of self }
+    {
+        match self {
+            Quote::Angle => b'>',
+            Quote::Double => b'"',
+        }
+    }
+}
+
+// Where the first byte stands that doesn't stand for itself in an IRIREF.
+fn iri_run_end(bytes: &[u8]) -> Option<usize>
+    ensures { result ≡ position (λ b. not (inner Quote.Angle b)) bytes.now }
+{
+    bytes.iter().position(|b| ends_iri_run(*b))
+}
+
+// The same in a string.
+fn string_run_end(bytes: &[u8]) -> Option<usize>
+    ensures { result ≡ position (λ b. not (inner Quote.Double b)) bytes.now }
+{
+    bytes.iter().position(|b| ends_string_run(*b))
+}
+
+fn run_end(quote: Quote, bytes: &[u8]) -> Option<usize>
+    ensures { result ≡ position (λ b. not (inner quote b)) bytes.now }
+{
+    match quote {
+        Quote::Angle => iri_run_end(bytes),
+        Quote::Double => string_run_end(bytes),
+    }
+}
+
+// How many bytes at the front stand for themselves.
+fn run_len(quote: Quote, bytes: &[u8]) -> usize
+    ensures is { result ≡ position_or_len (λ b. not (inner quote b)) bytes.now }
+    ensures within { result ≤ length bytes.now }
+{
+    match run_end(quote, bytes) {
+        Some(len) => len,
+        None => bytes.len(),
+    }
+}
+
+// The character of the escape whose backslash was read, and its length with the backslash.
+fn escape_behind(quote: Quote, bytes: &[u8]) -> Option<(char, usize)>
+    ensures { result ≡ escape_at quote bytes.now }
+{
+    match quote {
+        Quote::Angle => uchar(bytes),
+        Quote::Double => string_escape(bytes),
+    }
+}
+
+// The same, with the bounds of that length.
+fn escape(quote: Quote, bytes: &[u8]) -> Option<(char, usize)>
+    ensures is { result ≡ escape_at quote bytes.now }
+    ensures within { IfSome result (λ found. (0 < found.1) × (found.1 ≤ length bytes.now + 1)) }
+{
+    escape_behind(quote, bytes)
+}
+
+// Takes the run of bytes that stand for themselves, as one slice.
+fn take_run<'a>(
+    quote: Quote,
+    text: &mut String,
+    rest: &'a [u8],
+) -> Result<Option<&'a [u8]>, AllocError>
+    ensures found { IfOk result (λ r. IfSome r (λ after. Adds (PieceIn quote) (closing_of quote) (string_bytes text.old) (string_bytes text.new) rest.now after.now)) }
+    ensures none { IfOk result (λ r. IfNone r ((v tail : List ℕ) → Body (PieceIn quote) (closing_of quote) rest.now v tail → ⊥)) }
+    ensures ended { IfOk result (λ r. IfSome r (λ after. StopsAt (inner quote) after.now)) }
+    ensures shorter { IfOk result (λ r. IfSome r (λ after. length after.now ≤ length rest.now)) }
+{
+    let (run, after) = rest.split_at(run_len(quote, rest));
+    match str::from_utf8(run) {
+        Ok(run) => {
+            text.push_str(run)?;
+            Ok(Some(after))
+        }
+        Err(_) => Ok(None),
+    }
+}
+
+// Takes the escape whose backslash was read.
+fn take_escape<'a>(
+    quote: Quote,
+    text: &mut String,
+    rest: &'a [u8],
+) -> Result<Option<&'a [u8]>, AllocError>
+    ensures found { IfOk result (λ r. IfSome r (λ after. Adds (PieceIn quote) (closing_of quote) (string_bytes text.old) (string_bytes text.new) (92 ∷ rest.now) after.now)) }
+    ensures none { IfOk result (λ r. IfNone r ((v tail : List ℕ) → Body (PieceIn quote) (closing_of quote) (92 ∷ rest.now) v tail → ⊥)) }
+    ensures shorter { IfOk result (λ r. IfSome r (λ after. length after.now < length rest.now + 1)) }
+{
+    match escape(quote, rest) {
+        Some((c, len)) => {
+            text.push(c)?;
+            let (_, after) = rest.split_at(len - 1);
+            Ok(Some(after))
+        }
+        None => Ok(None),
+    }
+}
+
+// Takes a run and what follows it: an escape, or the end, behind which the rest is handed out with true.
+fn take_piece<'a>(
+    quote: Quote,
+    text: &mut String,
+    rest: &'a [u8],
+) -> Result<Option<(bool, &'a [u8])>, AllocError>
+    ensures more { IfOk result (λ r. IfSome r (λ f. f.0 ≡ false → Adds (PieceIn quote) (closing_of quote) (string_bytes text.old) (string_bytes text.new) rest.now f.1.now)) }
+    ensures shorter { IfOk result (λ r. IfSome r (λ f. length f.1.now < length rest.now)) }
+    ensures end { IfOk result (λ r. IfSome r (λ f. f.0 ≡ true → Adds (PieceIn quote) (closing_of quote) (string_bytes text.old) (string_bytes text.new) rest.now (closing_of quote ∷ f.1.now))) }
+    ensures none { IfOk result (λ r. IfNone r ((v tail : List ℕ) → Body (PieceIn quote) (closing_of quote) rest.now v tail → ⊥)) }
+{
+    let Some(after) = take_run(quote, text, rest)? else {
+        return Ok(None);
+    };
+    let Some((first, behind)) = after.split_first() else {
+        return Ok(None);
+    };
+    if *first == quote.closing() {
+        return Ok(Some((true, behind)));
+    }
+    if *first != b'\\' {
+        return Ok(None);
+    }
+    let Some(next) = take_escape(quote, text, behind)? else {
+        return Ok(None);
+    };
+    Ok(Some((false, next)))
+}
+
+// Reads what follows the opening quote, up to the closing one; what lies behind it is handed out.
+fn quoted_body(
+    quote: Quote,
+    alloc: Global,
+    bytes: &[u8],
+) -> Result<Option<(String, &[u8])>, AllocError>
+    ensures found { IfOk result (λ r. IfSome r (λ f. IsBodyFront (PieceIn quote) (closing_of quote) bytes.now (string_bytes f.0) f.1.now)) }
+    ensures only { (v tail : List ℕ) → Body (PieceIn quote) (closing_of quote) bytes.now v tail → IfOk result (λ r. IsSomeAnd r (λ f. (string_bytes f.0 ≡ encode_utf8_all v) × (f.1.now ≡ tail))) }
+{
+    let mut text = String::new(alloc);
+    let mut rest = bytes;
+    loop {
+        let Some((ended, after)) = take_piece(quote, &mut text, rest)? else {
+            return Ok(None);
+        };
+        if ended {
+            return Ok(Some((text, after)));
+        }
+        rest = after;
+    }
+}
+
+/// The text between quotes that stand at the front, and what lies behind them. None where no such
+/// quotes stand there, or what is between them spells no text.
+pub(crate) fn read_quoted(
+    quote: Quote,
+    alloc: Global,
+    bytes: &[u8],
+) -> Result<Option<(String, &[u8])>, AllocError>
+    ensures found { IfOk result (λ r. IfSome r (λ f. (v : List ℕ) × (string_bytes f.0 ≡ encode_utf8_all v) × IsQuoted quote bytes.now v f.1.now)) }
+    ensures only { (v tail : List ℕ) → IsQuoted quote bytes.now v tail → IfOk result (λ r. IsSomeAnd r (λ f. (string_bytes f.0 ≡ encode_utf8_all v) × (f.1.now ≡ tail))) }
+{
+    let Some((first, body)) = bytes.split_first() else {
+        return Ok(None);
+    };
+    if *first != quote.opening() {
+        return Ok(None);
+    }
+    quoted_body(quote, alloc, body)
+}

@@ -1,0 +1,104 @@
+// Language tags.
+ghost use Rattle.std.specs.Prelude.{[], ◌↔◌, ◌≡◌, ◌∷◌, ◌++◌, List, ℕ, true, false, None, Some, MatchOption, IfOk, IfSome, IsSomeAnd, encode_utf8_all};
+ghost use Rattle.std.specs.List.{list_all};
+ghost use Rattle.std.proofs.Common.{not};
+ghost use Rattle.triples_read.specs.Characters.{from_to, is_letter, is_letter_or_digit};
+ghost use Rattle.triples_read.specs.Terminals.{LANGTAG};
+ghost use Rattle.triples_read.specs.Reading.{tag_part, past_tag as past};
+ghost use Rattle.triples_read.specs.Fronts.{Front, IsText, EndsTag};
+
+use px_base::{Memory, Text};
+use std::alloc::Global;
+
+fn is_ascii_letter(b: u8) -> bool
+    ensures { result ≡ is_letter b }
+{
+    (65 <= b && b <= 90) || (97 <= b && b <= 122)
+}
+
+fn is_ascii_letter_or_digit(b: u8) -> bool
+    ensures { result ≡ is_letter_or_digit b }
+{
+    is_ascii_letter(b) || (48 <= b && b <= 57)
+}
+
+// Whether the first part of a tag, or another part, may hold the byte.
+fn is_in_part(main: bool, b: u8) -> bool
+    ensures { result ≡ tag_part main b }
+{
+    if main {
+        is_ascii_letter(b)
+    } else {
+        is_ascii_letter_or_digit(b)
+    }
+}
+
+// What follows the longest tag at the front, behind its `@`. None where one of its parts is empty.
+fn past_tag(bytes: &[u8]) -> Option<&[u8]>
+    ensures { MatchOption result (past true true bytes.now ≡ None) (λ rest. past true true bytes.now ≡ Some rest.now) }
+{
+    let mut rest = bytes;
+    let mut main = true;
+    let mut fresh = true;
+    'bytes: while let Some((first, after)) = rest.split_first() {
+        if is_in_part(main, *first) {
+            fresh = false;
+        } else if fresh {
+            return None;
+        } else if *first == b'-' {
+            main = false;
+            fresh = true;
+        } else {
+            return Some(rest);
+        }
+        rest = after;
+    }
+    if fresh {
+        return None;
+    }
+    Some(rest)
+}
+
+/// The language tag behind an `@` that was read, in lower case, and what follows it.
+pub(crate) fn read_tag(alloc: Global, bytes: &[u8]) -> Result<Option<(Text, &[u8])>, Memory>
+    ensures found { (cs : List ℕ) → IsText bytes.now cs → IfOk result (λ r. IfSome r (λ f. Front (λ s. LANGTAG (64 ∷ s) f.0) cs f.1.now)) }
+    ensures whole { (s r tag : List ℕ) → IsText bytes.now (s ++ r) → LANGTAG (64 ∷ s) tag → EndsTag (encode_utf8_all r) → IfOk result (λ found. IsSomeAnd found (λ f. (f.0 ≡ tag) × (f.1.now ≡ encode_utf8_all r))) }
+{
+    let Some(rest) = past_tag(bytes) else {
+        return Ok(None);
+    };
+    let (tag, rest) = bytes.split_at(bytes.len() - rest.len());
+    let Ok(tag) = str::from_utf8(tag) else {
+        return Ok(None);
+    };
+    Ok(Some((Text::from_string(tag.to_ascii_lowercase(alloc)?), rest)))
+}
+
+fn is_lower(b: u8) -> bool
+    ensures { result ≡ not (from_to 65 90 b) }
+{
+    b < 65 || 90 < b
+}
+
+fn are_lower(bytes: &[u8]) -> bool
+    ensures { result ≡ list_all (λ b. not (from_to 65 90 b)) bytes.now }
+{
+    bytes.iter().all(|b| is_lower(*b))
+}
+
+fn is_tag_in_any_case(bytes: &[u8]) -> bool
+    ensures { result ≡ true ↔ past true true bytes.now ≡ Some [] }
+{
+    match past_tag(bytes) {
+        Some(rest) => rest.is_empty(),
+        None => false,
+    }
+}
+
+/// Whether the whole text is a language tag in lower case, without its `@`.
+pub(crate) fn is_tag(bytes: &[u8]) -> bool
+    ensures sound { result ≡ true → LANGTAG (64 ∷ bytes.now) bytes.now }
+    ensures complete { (s : List ℕ) → LANGTAG (64 ∷ s) bytes.now → result ≡ true }
+{
+    is_tag_in_any_case(bytes) && are_lower(bytes)
+}

@@ -1,0 +1,34 @@
+// Terms and triples.
+use px_base::Text;
+
+/// A term of RDF 1.1: what stands as the subject or the object of a triple. Its texts are those after
+/// escapes are read. Two terms are equal where their kind and all their characters are.
+#[derive(Debug, Drop, PartialEq, Eq)]
+pub enum Term {
+    /// An IRI, without its brackets. It isn't checked to be absolute, and may be empty.
+    Iri(Text),
+    /// A blank node, by its label without the `_:`.
+    Blank(Text),
+    /// A literal.
+    Literal {
+        /// The characters of the string, without its quotes.
+        text: Text,
+        /// The IRI of its datatype: that of `xsd:string` for a plain literal, that of
+        /// `rdf:langString` for one with a tag.
+        datatype: Text,
+        /// The language tag in lower case, without its `@`.
+        tag: Option<Text>,
+    },
+}
+
+/// A triple of RDF 1.1. A value of this type may also be no triple that a line can spell, as one whose
+/// subject is a literal: `is_triple` is the test.
+#[derive(Debug, Drop, PartialEq, Eq)]
+pub struct Triple {
+    /// What the triple is about.
+    pub subject: Term,
+    /// The IRI of the property.
+    pub predicate: Text,
+    /// The value of the property.
+    pub object: Term,
+}
