@@ -1,0 +1,20 @@
+use Rattle.std.proofs.Common.{◌≡◌, ◌-◌, ◌≤◌}
+use Rattle.px_base.specs.declared.lines.TheConstants.{SCRIPT_BYTES}
+use Rattle.px_base.specs.Reading.{stream}
+use Rattle.pathindex_run.specs.Headline.{first_state}
+use Rattle.pathindex_run.specs.Going.{progress, CanRead}
+use Rattle.pathindex_run.proofs.ReachedLemmas.{Reached}
+use Rattle.pathindex_run.proofs.script.run_lines.Given as goal
+
+abbrev pub invariant-lines : goal.invariant-lines
+invariant-lines g l = record {
+  reached : Reached l.limits first_state (g.H.Shelf.left l.fn.shelf) (stream l.reader (g.H.Shelf.left l.shelf)) (g.K.Sink.written l.fn.sink) (g.K.Sink.written l.sink) l.out.items (progress l.interpreter l.reader);
+  can : CanRead l.reader (g.H.Shelf.is_open l.shelf);
+  taken : l.reader.taken ≤ SCRIPT_BYTES;
+  files : g.H.Shelf.files l.shelf ≡ g.H.Shelf.files l.fn.shelf;
+  shelf_faults : g.H.Shelf.faults l.shelf ≡ g.H.Shelf.faults l.fn.shelf;
+  sink_faults : g.K.Sink.faults l.sink ≡ g.K.Sink.faults l.fn.sink;
+}
+
+abbrev pub decreases-lines : goal.decreases-lines
+decreases-lines g l = SCRIPT_BYTES - l.reader.taken

@@ -1,0 +1,14 @@
+-- What a run keeps from line to line.
+use Rattle.std.specs.Prelude.{Bool, refl}
+use Rattle.std.specs.Coded.{Coded, code_by, coded×, coded_bool}
+use Rattle.px_spec.specs.Graphs.{Graph, graph_code}
+use Rattle.pathindex_run.specs.Runs.{State}
+
+-- its state, and whether some line printed `refused`
+pub record Kept : Type 0 where
+  pub state : State
+  pub refused : Bool
+
+abbrev pub kept_code : Coded Kept
+kept_code = code_by (Graph × Bool) (coded× graph_code coded_bool)
+    (λ k. (k.state.graph, k.refused)) (λ p. record { state = record { graph = p.0 }; refused = p.1 }) (λ _. refl)

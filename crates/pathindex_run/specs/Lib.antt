@@ -1,0 +1,12 @@
+pub mod Texts
+pub mod Commands
+pub mod Runs
+pub mod Forms
+pub mod Kept
+pub mod Going
+pub mod Listing
+pub mod Endings
+pub mod Told
+pub mod Parts
+pub mod Reading
+pub mod Headline

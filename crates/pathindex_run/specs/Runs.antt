@@ -1,0 +1,120 @@
+-- A run of a script: what it prints, its status, and its last state.
+use Rattle.std.specs.Prelude.{ℕ, ◌+◌, ◌≡◌, ◌≤◌, ◌⊎◌, Bool, false, ◌||◌, List, [], ◌∷◌, ◌++◌, length, if◌then◌else◌, Result, Ok, Err, is_err}
+use Rattle.px_base.specs.declared.lines.TheConstants.{LINE_BYTES, SCRIPT_BYTES}
+use Rattle.px_spec.specs.declared.limits.Limits.{Limits}
+use Rattle.px_spec.specs.declared.refusal.Refusal.{Refusal}
+use Rattle.px_spec.specs.Lines.{Line, cut}
+use Rattle.px_spec.specs.Graphs.{Graph}
+use Rattle.px_spec.specs.Changes.{Change, apply}
+use Rattle.px_spec.specs.Shapes.{shape_of}
+use Rattle.path_query.specs.Trees.{Seq}
+use Rattle.path_query.specs.Answers.{AreAnswers}
+use Rattle.pathindex_run.specs.Texts.{reply, answers_text, bad_line}
+use Rattle.pathindex_run.specs.Commands.{Command, change, path, IsQuiet, IsSpelled, SpellsNothing}
+
+-- what commands change
+pub record State : Type 0 where
+  pub graph : Graph
+
+-- the state after a change, by its outcome: a refusal leaves it
+abbrev pub moved : State → Result Graph Refusal → State
+moved s (Ok g) = record s { graph = g }
+moved s (Err r) = s
+
+-- A command in a state may print this, tell whether it printed a refusal, and lead to that state.
+pub data Obeys (limits : Limits) (s : State) : Command → List ℕ → Bool → State → Type 0 where
+  changes : (c : Change)
+      → Obeys limits s (change c) (reply c s.graph (apply c s.graph limits)) (is_err (apply c s.graph limits))
+      (moved s (apply c s.graph limits))
+  answers : (e : Seq) (nodes : List ℕ) → AreAnswers (shape_of s.graph) e nodes → Obeys limits s (path e) (answers_text nodes) false s
+
+-- so may a line
+pub data Does (limits : Limits) (s : State) (line : List ℕ) : List ℕ → Bool → State → Type 0 where
+  nothing : IsQuiet line → Does limits s line [] false s
+  command : (c : Command) → IsSpelled line c → (printed : List ℕ) (refuses : Bool) (t : State)
+      → Obeys limits s c printed refuses t → Does limits s line printed refuses t
+
+-- how far a run has come
+pub record Progress : Type 0 where
+  pub state : State
+  -- whether some line printed `refused`
+  pub refused : Bool
+  -- the lines that were taken, and their bytes with their ends
+  pub lines : ℕ
+  pub bytes : ℕ
+
+abbrev pub start : State → Progress
+start s = record { state = s; refused = false; lines = 0; bytes = 0 }
+
+-- the bytes of the script up to the end of the line
+abbrev pub bytes_with : Progress → Line → ℕ
+bytes_with p l = p.bytes + length l.text + length l.end
+
+-- the line passes neither the limit on a line nor the limit on a script
+abbrev pub IsWithin : Progress → Line → Type 0
+IsWithin p l = (length l.text ≤ LINE_BYTES) × (bytes_with p l ≤ SCRIPT_BYTES)
+
+-- From here the line may print this and lead there.
+pub record TakesLine (limits : Limits) (p : Progress) (l : Line) (printed : List ℕ) (q : Progress) : Type 0 where
+  pub within : IsWithin p l
+  pub refuses : Bool
+  pub does : Does limits p.state l.text printed refuses q.state
+  pub refused : q.refused ≡ (p.refused || refuses)
+  pub lines : q.lines ≡ p.lines + 1
+  pub bytes : q.bytes ≡ bytes_with p l
+
+-- The line ends the run: it passes a limit, or it is within them and spells nothing.
+abbrev pub IsBad : Progress → Line → Type 0
+IsBad p l = IsWithin p l → SpellsNothing l.text
+
+-- so may these lines, one after another
+abbrev pub TakesLines : Limits → Progress → List Line → List ℕ → Progress → Type 0
+TakesLines limits p [] printed q = (printed ≡ []) × (q ≡ p)
+TakesLines limits p (l ∷ ls) printed q = (text : List ℕ) × (rest : List ℕ) × (mid : Progress)
+    × TakesLine limits p l text mid × TakesLines limits mid ls rest q × (printed ≡ text ++ rest)
+
+-- the status at the end of the script
+abbrev pub status_of : Progress → ℕ
+status_of p = if p.refused then 1 else 0
+
+-- the run after the last line that it takes: at the end of the script, or at a bad line
+abbrev pub Ends : Progress → List Line → List ℕ → ℕ → Type 0
+Ends p [] printed status = (printed ≡ []) × (status ≡ status_of p)
+Ends p (l ∷ ls) printed status = IsBad p l × (printed ≡ bad_line (p.lines + 1)) × (status ≡ 4)
+
+-- From the first state the script is run to its end or to a bad line.
+pub record IsRun (limits : Limits) (first : State) (script output : List ℕ) (status : ℕ) (last : Progress) : Type 0 where
+  -- the lines that are taken, and the others
+  pub before : List Line
+  pub left : List Line
+  pub printed : List ℕ
+  pub ending : List ℕ
+  pub script_is : cut script ≡ before ++ left
+  pub takes : TakesLines limits (start first) before printed last
+  pub ends : Ends last left ending status
+  pub output_is : output ≡ printed ++ ending
+
+-- what a line prints, a bad one too
+abbrev pub Prints : Limits → Progress → Line → List ℕ → Type 0
+Prints limits p l text = ((q : Progress) × TakesLine limits p l text q) ⊎ (IsBad p l × (text ≡ bad_line (p.lines + 1)))
+
+-- nothing, or a front of what the next line prints
+abbrev pub PrintsFront : Limits → Progress → List Line → List ℕ → Type 0
+PrintsFront limits p [] front = front ≡ []
+PrintsFront limits p (l ∷ ls) front = (front ≡ []) ⊎ ((rest : List ℕ) × Prints limits p l (front ++ rest))
+
+-- A front of what the lines print: all that some first lines print, and a front of what the next one prints.
+pub record RunsFront (limits : Limits) (p : Progress) (lines : List Line) (output : List ℕ) : Type 0 where
+  pub before : List Line
+  pub left : List Line
+  pub printed : List ℕ
+  pub front : List ℕ
+  pub last : Progress
+  pub lines_are : lines ≡ before ++ left
+  pub takes : TakesLines limits p before printed last
+  pub next : PrintsFront limits last left front
+  pub output_is : output ≡ printed ++ front
+
+-- a front of what a run of the script prints
+abbrev pub IsRunFront : Limits → State → List ℕ → List ℕ → Type 0
+IsRunFront limits first script output = RunsFront limits (start first) (cut script) output

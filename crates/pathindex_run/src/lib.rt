@@ -1,0 +1,17 @@
+//! The run of a script, from the words of the command line and the bytes of its file to the bytes written and
+//! the exit status.
+#![tactic(auto)]
+
+mod changes;
+mod commands;
+mod host;
+mod interpreter;
+mod output;
+mod queries;
+mod script;
+#[cfg(test)]
+mod tests;
+mod top;
+
+pub use host::{HostShelf, HostSink};
+pub use top::run;

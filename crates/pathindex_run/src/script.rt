@@ -1,0 +1,205 @@
+// The run of a script, line by line.
+ghost use Rattle.std.specs.Prelude.{◌≡◌, ◌≢◌, ◌<◌, ◌≤◌, ◌⊎◌, ◌++◌, IfOk, OnOk, OnErr, IsErrOf, IsTrue, Err, if◌then◌else◌};
+ghost use Rattle.std.specs.Io.KnownBytes.{Appends};
+ghost use Rattle.px_base.specs.Causes.{Rose, HasCause};
+ghost use Rattle.px_base.specs.Files.{AppendsFront};
+ghost use Rattle.px_base.specs.Reading.{stream};
+ghost use Rattle.pathindex_run.specs.Going.{progress, Goes, OnTaken, CanRead, Writes};
+ghost use Rattle.pathindex_run.specs.Endings.{status_at};
+ghost use Rattle.pathindex_run.specs.Headline.{first_state};
+ghost use Rattle.pathindex_run.specs.Texts.{bad_line};
+ghost use Rattle.pathindex_run.specs.Told.{RanTold, FrontTold};
+ghost use Rattle.pathindex_run.specs.declared.script.Stop.TheVariants.{Sink as SinkStop, Memory as MemoryStop};
+
+use crate::interpreter::{Interpreter, Outcome};
+use crate::output::{flush, push_number};
+use px_base::{
+    Failed, LINE_BYTES, Limits, LineFault, LineReader, Memory, SCRIPT_BYTES, Shelf, Sink,
+};
+use std::alloc::Global;
+
+/// How many gathered bytes are written at once.
+const PIECE_BYTES: usize = 65536;
+
+/// What ends a run before its end.
+#[derive(Clone, Copy, Debug, PartialEq, Eq)]
+pub(crate) enum Stop {
+    Shelf,
+    Sink,
+    Memory,
+}
+
+impl From<Memory> for Stop {
+    ghost from_gives = { λ _ e. e ≡ MemoryStop };
+
+    fn from(_: Memory) -> Self {
+        Stop::Memory
+    }
+}
+
+impl From<Failed> for Stop {
+    ghost from_gives = { λ _ e. e ≡ SinkStop };
+
+    fn from(_: Failed) -> Self {
+        Stop::Sink
+    }
+}
+
+/// How a run came to its end.
+#[derive(Clone, Copy)]
+pub(crate) enum Ending {
+    /// The script was read to its end, and nothing was refused.
+    Done,
+    /// The script was read to its end, and some line printed a refusal.
+    Refused,
+    /// A line was bad.
+    Bad,
+}
+
+impl Ending {
+    ghost use Rattle.pathindex_run.specs.Endings.{status_at};
+
+    /// The exit status.
+    pub(crate) fn status(self) -> u8
+        ensures { result ≡ status_at self }
+    {
+        match self {
+            Ending::Done => 0,
+            Ending::Refused => 1,
+            Ending::Bad => 4,
+        }
+    }
+}
+
+/// What a step of the run comes to.
+#[derive(Clone, Copy)]
+pub(crate) enum Next {
+    Taken,
+    AtBad,
+    AtEnd,
+}
+
+/// Gathers that the line of that number is bad.
+fn push_bad(out: &mut Vec<u8>, line: u32) -> Result<Next, Stop>
+    ensures ok { IfOk result (λ next. (next ≡ Next.AtBad) × (out.new.items ≡ out.old.items ++ bad_line line)) }
+    ensures err { OnErr result (out.new.items ≡ out.old.items) }
+    ensures memory { result ≢ Err Stop.Shelf }
+    ensures no_sink { result ≢ Err Stop.Sink }
+{
+    match push_number(out, b"bad ", line) {
+        Ok(()) => Ok(Next::AtBad),
+        Err(_) => Err(Stop::Memory),
+    }
+}
+
+/// Reads a line, and takes it.
+fn next_line<H: Shelf>(
+    alloc: Global,
+    limits: &Limits,
+    reader: &mut LineReader,
+    interpreter: &mut Interpreter,
+    shelf: &mut H,
+    out: &mut Vec<u8>,
+) -> Result<Next, Stop>
+    requires { CanRead reader.old (H.is_open shelf.old) }
+    ensures goes { IfOk result (λ next. Goes limits.now (progress interpreter.old reader.old) (stream reader.old (H.left shelf.old)) out.old.items next (progress interpreter.new reader.new) (stream reader.new (H.left shelf.new)) out.new.items) }
+    ensures can { IfOk result (λ next. OnTaken next (CanRead reader.new (H.is_open shelf.new))) }
+    ensures nearer { IfOk result (λ next. OnTaken next ((reader.old.taken < reader.new.taken) × (reader.new.taken ≤ SCRIPT_BYTES))) }
+    ensures gathered { OnErr result (out.new.items ≡ out.old.items) }
+    ensures files { H.files shelf.new ≡ H.files shelf.old }
+    ensures fault { IsErrOf result Stop.Shelf → Rose (H.faults shelf.old) (H.faults shelf.new) }
+    ensures no_fault { result ≢ Err Stop.Shelf → H.faults shelf.new ≡ H.faults shelf.old }
+    ensures no_sink { result ≢ Err Stop.Sink }
+{
+    match reader.next(shelf) {
+        Ok(true) => match interpreter.take(alloc, limits, reader.line(), out) {
+            Ok(Outcome::Done) => Ok(Next::Taken),
+            Ok(Outcome::Bad) => push_bad(out, reader.number()),
+            Err(_) => Err(Stop::Memory),
+        },
+        Ok(false) => Ok(Next::AtEnd),
+        Err(LineFault::Limit) => push_bad(out, reader.number()),
+        Err(LineFault::Fault) => Err(Stop::Shelf),
+        Err(LineFault::Memory) => Err(Stop::Memory),
+    }
+}
+
+/// Writes what is gathered where there is much of it, and before the next line is read of the shelf, so that a
+/// failing read loses no line that was taken.
+fn make_way<K: Sink>(reader: &LineReader, out: &mut Vec<u8>, sink: &mut K) -> Result<(), Failed>
+    ensures written { OnOk result (Writes (K.written sink.old) (K.written sink.new) out.old.items out.new.items) }
+    ensures part { OnErr result (AppendsFront (K.written sink.old) (K.written sink.new) out.old.items) }
+    ensures cause { HasCause (K.faults sink.old) (K.faults sink.new) result }
+{
+    if out.len() >= PIECE_BYTES || !reader.has_line_ahead() {
+        flush(out, sink)?;
+    }
+    Ok(())
+}
+
+/// Writes what is gathered, and ends so.
+fn finish<K: Sink>(ending: Ending, out: &mut Vec<u8>, sink: &mut K) -> Result<Ending, Stop>
+    ensures ending { IfOk result (λ e. e ≡ ending) }
+    ensures all { OnOk result (Appends (K.written sink.old) (K.written sink.new) out.old.items) }
+    ensures part { OnErr result (AppendsFront (K.written sink.old) (K.written sink.new) out.old.items) }
+    ensures sink { IsErrOf result Stop.Sink → Rose (K.faults sink.old) (K.faults sink.new) }
+    ensures no_sink { result ≢ Err Stop.Sink → K.faults sink.new ≡ K.faults sink.old }
+    ensures no_shelf { result ≢ Err Stop.Shelf }
+{
+    match flush(out, sink) {
+        Ok(()) => Ok(ending),
+        Err(_) => Err(Stop::Sink),
+    }
+}
+
+/// How a run ends at the end of its script.
+fn ending_of(refused: bool) -> Ending
+    ensures { status_at result ≡ (if refused then 1 else 0) }
+{
+    if refused {
+        Ending::Refused
+    } else {
+        Ending::Done
+    }
+}
+
+/// Runs the script that is open, to its end or to a line that is bad.
+pub(crate) fn run_lines<H: Shelf, K: Sink>(
+    alloc: Global,
+    limits: &Limits,
+    shelf: &mut H,
+    sink: &mut K,
+) -> Result<Ending, Stop>
+    requires { IsTrue (H.is_open shelf.old) }
+    ensures ran { IfOk result (λ ending. RanTold limits.now first_state (H.left shelf.old) (K.written sink.old) (K.written sink.new) (status_at ending)) }
+    ensures part { OnErr result (FrontTold limits.now first_state (H.left shelf.old) (K.written sink.old) (K.written sink.new)) }
+    ensures files { H.files shelf.new ≡ H.files shelf.old }
+    ensures shelf_fault { IsErrOf result Stop.Shelf → Rose (H.faults shelf.old) (H.faults shelf.new) }
+    ensures no_shelf_fault { result ≢ Err Stop.Shelf → H.faults shelf.new ≡ H.faults shelf.old }
+    ensures sink_fault { IsErrOf result Stop.Sink → Rose (K.faults sink.old) (K.faults sink.new) }
+    ensures no_sink_fault { result ≢ Err Stop.Sink → K.faults sink.new ≡ K.faults sink.old }
+{
+    let mut reader = LineReader::new(alloc, LINE_BYTES, SCRIPT_BYTES)?;
+    let mut interpreter = Interpreter::new(alloc)?;
+    let mut out = Vec::new(alloc);
+    'lines: loop {
+        make_way(&reader, &mut out, sink)?;
+        match next_line(
+            alloc,
+            limits,
+            &mut reader,
+            &mut interpreter,
+            shelf,
+            &mut out,
+        ) {
+            Ok(Next::Taken) => (),
+            Ok(Next::AtBad) => return finish(Ending::Bad, &mut out, sink),
+            Ok(Next::AtEnd) => return finish(ending_of(interpreter.refused()), &mut out, sink),
+            Err(Stop::Memory) => {
+                flush(&mut out, sink)?;
+                return Err(Stop::Memory);
+            }
+            Err(stop) => return Err(stop),
+        }
+    }
+}
