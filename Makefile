@@ -1,0 +1,46 @@
+# The commands of this repository. `make help` lists them.
+
+SHELL := /bin/bash
+.DEFAULT_GOAL := help
+.PHONY: help run test try bench
+
+PROGRAM := crates/pathindex_main
+COUNTER := crates/triples_count
+NEEDS_RT = command -v rt >/dev/null || { echo "make $@: the command rt of the Rattle kit isn't on the path" >&2; exit 1; }
+
+help:
+	@echo 'make run               prove and build the program, and run examples/first.script'
+	@echo 'make test              the gate: each proof, each edit that must be refused, each test and program'
+	@echo 'make try SCRIPT=FILE   run a script without proving anything, for a first look'
+	@echo 'make bench             measure bin/pathindex on generated scripts, and triples_count beside serdi'
+
+run:
+	@$(NEEDS_RT)
+	@echo 'Proving and building the program. The first time takes minutes.'
+	@mkdir -p bin
+	@cd $(PROGRAM) && rt run -- ../../examples/first.script >../../bin/first.out 2>../../bin/run.log \
+		|| { status=$$?; cat ../../bin/run.log ../../bin/first.out; exit $$status; }
+	@cp $(PROGRAM)/out/pathindex_main bin/pathindex
+	@echo 'bin/pathindex is built. The script examples/first.script:'
+	@sed 's/^/    /' examples/first.script
+	@echo 'What it writes:'
+	@sed 's/^/    /' bin/first.out
+
+test:
+	@$(NEEDS_RT)
+	rt ci
+
+try:
+	@$(NEEDS_RT)
+	@test -n '$(SCRIPT)' || { echo 'make try: name a script, as in make try SCRIPT=examples/first.script' >&2; exit 1; }
+	@test -f '$(SCRIPT)' || { echo 'make try: there is no file $(SCRIPT)' >&2; exit 1; }
+	@echo 'A first look: the program is compiled, and nothing is proved.'
+	@cd $(PROGRAM) && rt try --data s='$(abspath $(SCRIPT))' -- s
+
+bench:
+	@command -v python3 >/dev/null || { echo "make bench: python3 isn't on the path" >&2; exit 1; }
+	@command -v serdi >/dev/null || { echo "make bench: serdi isn't on the path; apt-get install serdi brings it" >&2; exit 1; }
+	@test -x bin/pathindex || { echo 'make bench: bin/pathindex is missing; make run builds it' >&2; exit 1; }
+	@test -x $(COUNTER)/out/triples_count || { echo 'make bench: triples_count is missing; make test builds it' >&2; exit 1; }
+	@python3 tools/bench.py
+	@python3 tools/bench_triples.py

@@ -1,0 +1,47 @@
+#!/usr/bin/env python3
+"""Counts the triples of a generated file with the proved triples_count, and has serdi read and write the
+same file, in turns, and prints how fast each is. The gate doesn't run this.
+"""
+import os
+import pathlib
+import shutil
+import subprocess
+import sys
+import tempfile
+import time
+
+ROOT = pathlib.Path(__file__).resolve().parent.parent
+PROGRAM = ROOT / "crates" / "triples_count" / "out" / "triples_count"
+MAKE = ROOT / "tools" / "make_triples.py"
+COUNT = 200_000
+TURNS = 5
+
+
+def seconds(command, text):
+    with open(text, "rb") as source:
+        start = time.monotonic()
+        subprocess.run(command, stdin=source, stdout=subprocess.DEVNULL, check=True)
+        return time.monotonic() - start
+
+
+def main():
+    if not os.access(PROGRAM, os.X_OK):
+        sys.exit("bench_triples.py: triples_count isn't built; `rt run` in crates/triples_count builds it")
+    if shutil.which("serdi") is None:
+        sys.exit("bench_triples.py: serdi isn't there; `apt-get install serdi` installs it")
+    with tempfile.TemporaryDirectory() as folder:
+        text = os.path.join(folder, "triples.nt")
+        with open(text, "wb") as out:
+            subprocess.run([sys.executable, MAKE, str(COUNT)], stdout=out, check=True)
+        size = os.path.getsize(text) / 1e6
+        ours, theirs = [], []
+        for _ in range(TURNS):
+            ours.append(seconds([PROGRAM], text))
+            theirs.append(seconds(["serdi", "-b", text], text))
+    for name, times in (("triples_count", ours), ("serdi -b", theirs)):
+        print(f"{name:<16}{COUNT:>9} triples{size:>7.1f} MB{min(times):>7.2f} s{size / min(times):>8.0f} MB/s")
+    print(f"triples_count takes {min(ours) / min(theirs):.2f} times as long as serdi -b; the mark is 1.5")
+
+
+if __name__ == "__main__":
+    main()

@@ -1,0 +1,27 @@
+#!/usr/bin/env bash
+# Runs each script of examples/ on the program, and compares what it writes with NAME.out and its exit
+# status with NAME.status, which is 0 where there is no such file.
+set -eu
+cd "$(dirname "$0")/.."
+program=${1:?usage: tools/compare_examples.sh PROGRAM}
+[ -x "$program" ] || { echo "$program: there is no such program" >&2; exit 1; }
+written=$(mktemp)
+trap 'rm -f "$written"' EXIT
+failed=0
+for script in examples/*.script; do
+    name=${script%.script}
+    wanted=0
+    [ ! -f "$name.status" ] || wanted=$(cat "$name.status")
+    status=0
+    "$program" "$script" >"$written" || status=$?
+    if ! diff -u "$name.out" "$written"; then
+        echo "FAILED $script: it writes something else"
+        failed=1
+    elif [ "$status" != "$wanted" ]; then
+        echo "FAILED $script: the status is $status, not $wanted"
+        failed=1
+    else
+        echo "ok     $script (status $status)"
+    fi
+done
+exit "$failed"

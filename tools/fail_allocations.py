@@ -1,0 +1,63 @@
+#!/usr/bin/env python3
+"""Runs a script with its Nth allocation failing, for N = 1, 2, 3 and so on until a run succeeds.
+
+fail_allocations.py SCRIPT [COUNT]
+
+Each run must end with the status 7 and a front of what the script prints, or as it ends where no
+allocation fails. COUNT runs go on at a time, 4 where none is given. The program is compiled by `rt try`,
+and nothing is proved; the gate doesn't run this.
+"""
+import concurrent.futures
+import pathlib
+import subprocess
+import sys
+
+ROOT = pathlib.Path(__file__).resolve().parent.parent
+PROGRAM = ROOT / "crates" / "pathindex_main"
+NO_MEMORY = 7
+# the statuses of a whole run
+ENDINGS = 0, 1, 4
+
+
+def run(script, failing):
+    """The status and the output where the allocation of that number fails, or where none does."""
+    chosen = [] if failing is None else ["--fail-alloc", str(failing)]
+    words = ["rt", "try", *chosen, "--data", f"s={script}", "--", "s"]
+    done = subprocess.run(words, cwd=PROGRAM, stdout=subprocess.PIPE, stderr=subprocess.PIPE)
+    return done.returncode, done.stdout
+
+
+def judge(whole, failing, status, output):
+    """Whether the run is whole; a run that is neither that nor a front ends the tool."""
+    if (status, output) == whole:
+        return True
+    if status == NO_MEMORY and whole[1].startswith(output):
+        return False
+    sys.exit(f"fail_allocations.py: allocation {failing} failed: status {status}, output {output!r}")
+
+
+def main():
+    if len(sys.argv) not in (2, 3):
+        sys.exit("usage: fail_allocations.py SCRIPT [COUNT]")
+    script = pathlib.Path(sys.argv[1]).resolve()
+    if not script.is_file():
+        sys.exit(f"fail_allocations.py: there is no file {script}")
+    count = int(sys.argv[2]) if len(sys.argv) == 3 else 4
+    whole = run(script, None)
+    if whole[0] not in ENDINGS or not whole[1]:
+        sys.exit(f"fail_allocations.py: where no allocation fails, the run ends with {whole[0]} and {whole[1]!r}")
+    tried = 0
+    with concurrent.futures.ThreadPoolExecutor(count) as pool:
+        while True:
+            numbers = range(tried + 1, tried + 1 + count)
+            for failing, (status, output) in zip(numbers, pool.map(lambda n: run(script, n), numbers)):
+                tried += 1
+                if judge(whole, failing, status, output):
+                    if tried == 1:
+                        sys.exit("fail_allocations.py: no allocation failed")
+                    print(f"{tried - 1} allocations failed, one a run: each run ended with the status 7 and a front")
+                    return
+
+
+if __name__ == "__main__":
+    main()
