@@ -1,4 +1,5 @@
 pub mod EdgeOrder
+pub mod ListLemmas
 pub mod LineLemmas
 pub mod WalkLemmas
 pub mod Examples

@@ -1,5 +1,5 @@
 -- The words of a line, and labels.
-use Rattle.std.specs.Prelude.{ℕ, ◌≢◌, ◌==◌, ◌||◌, ◌&&◌, not, Bool, List, length, codes, filter, nat_le, IsTrue, slice_index, drop}
+use Rattle.std.specs.Prelude.{ℕ, ◌≢◌, ◌==◌, ◌||◌, ◌&&◌, not, Bool, List, ◌∷◌, length, codes, decimal, filter, nat_le, IsTrue, slice_index, drop}
 use Rattle.std.specs.List.{slice_split, list_all}
 
 -- space and tab
@@ -28,3 +28,7 @@ is_name w = not (length w == 0) && is_letter (slice_index w 0) && list_all is_na
 -- a label of a node: a name, but none of the words of the query languages
 abbrev pub IsLabel : List ℕ → Type 0
 IsLabel w = IsTrue (is_name w) × (w ≢ codes "and") × (w ≢ codes "or") × (w ≢ codes "not")
+
+-- how a node is written, as `n7`
+abbrev pub node_word : ℕ → List ℕ
+node_word n = 110 ∷ decimal n
