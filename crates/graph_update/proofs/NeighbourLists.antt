@@ -7,16 +7,13 @@ use Rattle.std.proofs.lemmas.List.Quantifiers.{position-Some}
 use Rattle.std.proofs.lemmas.Cmp.{nat_eq_equiv}
 use Rattle.std.proofs.lemmas.Map.Keys.{IsDistinct-head, IsDistinct-tail, IsDistinct-cons, IsDistinct-push}
 use Rattle.px_spec.specs.Members.{has, Lists}
+use Rattle.px_spec.proofs.ListLemmas.{none-has}
 
 swap : (x y z : Bool) → (x || (y || z)) ≡ (y || (x || z))
 swap true true z = refl
 swap true false z = refl
 swap false true z = refl
 swap false false z = refl
-
-or_false : (x : Bool) → (x || false) ≡ x
-or_false true = refl
-or_false false = refl
 
 -- the list is parted at that place
 pub parted : (xs : List ℕ) (i d : ℕ) → i < length xs → xs ≡ take i xs ++ get_or xs i d ∷ drop (suc i) xs
@@ -27,10 +24,6 @@ parted (x ∷ xs) (suc i) d h = ap (λ l. x ∷ l) (parted xs i d (omega arith))
 has-middle : (front back : List ℕ) (l m : ℕ) → has (front ++ l ∷ back) m ≡ (nat_eq m l || has (front ++ back) m)
 has-middle [] back l m = refl
 has-middle (x ∷ xs) back l m = ap (λ b. nat_eq m x || b) (has-middle xs back l m) ∙ swap (nat_eq m x) (nat_eq m l) (has (xs ++ back) m)
-
-none-has : (n : ℕ) (xs : List ℕ) → AllByRecursion (λ y. nat_eq n y ≡ false) xs → has xs n ≡ false
-none-has n [] h = refl
-none-has n (x ∷ xs) h = ap (λ b. b || has xs n) h.0 ∙ none-has n xs h.1
 
 all-but : (n : ℕ) (front back : List ℕ) (l : ℕ) → AllByRecursion (λ y. nat_eq n y ≡ false) (front ++ l ∷ back)
     → (nat_eq n l ≡ false) × AllByRecursion (λ y. nat_eq n y ≡ false) (front ++ back)

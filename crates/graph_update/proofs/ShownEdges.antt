@@ -1,41 +1,22 @@
 -- The edges of a graph after a change.
 use Rattle.std.proofs.Common.{◌≡◌, ℕ, arith, Bool, true, false, List, [], ◌∷◌, ◌++◌, refl, sym, ap, ◌∙◌, nat_eq, rules, true≢false}
 use Rattle.std.specs.Prelude.{◌||◌, ◌&&◌, not, is_some, option_and_then, length}
-use Rattle.std.specs.Ordering.{nat_cmp, eq_by_cmp, ordering_then, is_eq}
-use Rattle.std.specs.declared.cmp.Ordering.{Ordering}
-use Rattle.std.specs.declared.cmp.Ordering.TheVariants.{Less, Equal, Greater}
-use Rattle.std.specs.Cmp.{unsigned_tied}
 use Rattle.std.specs.FinSet as set
 use Rattle.std.specs.List.{IsDistinct}
 use Rattle.std.proofs.lemmas.Option.{slice_get_past}
-use Rattle.px_spec.specs.Graphs.{Graph, edge_cmp, has_edge, is_live}
+use Rattle.px_spec.specs.Graphs.{Graph, has_edge, is_live}
 use Rattle.px_spec.specs.Changes.{with_edge, without_edge}
 use Rattle.px_spec.specs.Members.{has, Lists}
 use Rattle.px_spec.specs.Shapes.{shape_of, IsShape}
-use Rattle.px_spec.proofs.EdgeOrder.{edge_cmp_total}
+use Rattle.px_spec.proofs.EdgeOrder.{edge_cmp_total, eq_pair}
 use Rattle.graph_update.proofs.NeighbourLists.{and_one}
-
-is_eq-then : (q r : Ordering) → is_eq (ordering_then q r) ≡ (is_eq q && is_eq r)
-is_eq-then Less r = refl
-is_eq-then Equal r = refl
-is_eq-then Greater r = refl
-
-eq_pair : (u v a b : ℕ) → eq_by_cmp edge_cmp (u, v) (a, b) ≡ (nat_eq u a && nat_eq v b)
-eq_pair u v a b = is_eq-then (nat_cmp u a) (nat_cmp v b) ∙ ap (λ x. x && is_eq (nat_cmp v b)) (unsigned_tied u a) ∙ ap (λ x. nat_eq u a && x) (unsigned_tied v b)
+use Rattle.std.proofs.Math.Bool.{and-true, and-false}
 
 edge-with : (g : Graph) (u v a b : ℕ) → has_edge (with_edge g u v) a b ≡ ((nat_eq a u && nat_eq b v) || has_edge g a b)
 edge-with g u v a b = set.contains-insert edge_cmp_total g.edges (u, v) (a, b) ∙ ap (λ x. x || has_edge g a b) (eq_pair a b u v)
 
 edge-without : (g : Graph) (u v a b : ℕ) → has_edge (without_edge g u v) a b ≡ (not (nat_eq a u && nat_eq b v) && has_edge g a b)
 edge-without g u v a b = set.contains-remove edge_cmp_total g.edges (u, v) (a, b) ∙ ap (λ x. not x && has_edge g a b) (eq_pair a b u v)
-
-and_true : (x : Bool) → (x && true) ≡ x
-and_true true = refl
-and_true false = refl
-
-and_false : (x : Bool) → (x && false) ≡ false
-and_false true = refl
-and_false false = refl
 
 relist : (p q : ℕ → Bool) (xs : List ℕ) → ((m : ℕ) → p m ≡ q m) → Lists p xs → Lists q xs
 relist p q xs e l = record { once = l.once; members = λ m. l.members m ∙ e m }
@@ -56,7 +37,7 @@ module _ (g : Graph) (u v n : ℕ) (list : List ℕ) where
   pub link-parents : n ≡ v → has_edge g u v ≡ false → Lists (λ m. has_edge g m n) list → Lists (λ m. has_edge (with_edge g u v) m n) (list ++ u ∷ [])
   link-parents e none l =
       relist (λ m. nat_eq m u || has list m) (λ m. has_edge (with_edge g u v) m n) (list ++ u ∷ [])
-      (λ m. ap (λ b. nat_eq m u || b) (l.members m) ∙ sym (edge-with g u v m n ∙ ap (λ b. (nat_eq m u && b) || has_edge g m n) (same n v e) ∙ ap (λ b. b || has_edge g m n) (and_true (nat_eq m u))))
+      (λ m. ap (λ b. nat_eq m u || b) (l.members m) ∙ sym (edge-with g u v m n ∙ ap (λ b. (nat_eq m u && b) || has_edge g m n) (same n v e) ∙ ap (λ b. b || has_edge g m n) (and-true (nat_eq m u))))
       (and_one list u l.once (l.members u ∙ ap (has_edge g u) e ∙ none))
     where
       same : (a b : ℕ) → a ≡ b → nat_eq a b ≡ true
@@ -65,7 +46,7 @@ module _ (g : Graph) (u v n : ℕ) (list : List ℕ) where
   pub link-parents_other : nat_eq n v ≡ false → Lists (λ m. has_edge g m n) list → Lists (λ m. has_edge (with_edge g u v) m n) list
   link-parents_other e l =
       relist (λ m. has_edge g m n) (λ m. has_edge (with_edge g u v) m n) list
-      (λ m. sym (edge-with g u v m n ∙ ap (λ b. (nat_eq m u && b) || has_edge g m n) e ∙ ap (λ b. b || has_edge g m n) (and_false (nat_eq m u)))) l
+      (λ m. sym (edge-with g u v m n ∙ ap (λ b. (nat_eq m u && b) || has_edge g m n) e ∙ ap (λ b. b || has_edge g m n) (and-false (nat_eq m u)))) l
 
   pub unlink-children : (others : List ℕ) → n ≡ u → Lists (has_edge g n) list → Lists (λ m. not (nat_eq m v) && has list m) others → Lists (has_edge (without_edge g u v) n) others
   unlink-children others e l o =
@@ -83,7 +64,7 @@ module _ (g : Graph) (u v n : ℕ) (list : List ℕ) where
   unlink-parents others e l o =
       relist (λ m. not (nat_eq m u) && has list m) (λ m. has_edge (without_edge g u v) m n) others
       (λ m. ap (λ b. not (nat_eq m u) && b) (l.members m)
-      ∙ sym (edge-without g u v m n ∙ ap (λ b. not (nat_eq m u && b) && has_edge g m n) (same n v e) ∙ ap (λ b. not b && has_edge g m n) (and_true (nat_eq m u)))) o
+      ∙ sym (edge-without g u v m n ∙ ap (λ b. not (nat_eq m u && b) && has_edge g m n) (same n v e) ∙ ap (λ b. not b && has_edge g m n) (and-true (nat_eq m u)))) o
     where
       same : (a b : ℕ) → a ≡ b → nat_eq a b ≡ true
       same a b p = search (p, rules)
@@ -91,7 +72,7 @@ module _ (g : Graph) (u v n : ℕ) (list : List ℕ) where
   pub unlink-parents_other : nat_eq n v ≡ false → Lists (λ m. has_edge g m n) list → Lists (λ m. has_edge (without_edge g u v) m n) list
   unlink-parents_other e l =
       relist (λ m. has_edge g m n) (λ m. has_edge (without_edge g u v) m n) list
-      (λ m. sym (edge-without g u v m n ∙ ap (λ b. not (nat_eq m u && b) && has_edge g m n) e ∙ ap (λ b. not b && has_edge g m n) (and_false (nat_eq m u)))) l
+      (λ m. sym (edge-without g u v m n ∙ ap (λ b. not (nat_eq m u && b) && has_edge g m n) e ∙ ap (λ b. not b && has_edge g m n) (and-false (nat_eq m u)))) l
 
 -- a number that isn't given yet is not live
 unborn : (g : Graph) (n : ℕ) → n ≡ length g.given → is_live g n ≡ true → ⊥

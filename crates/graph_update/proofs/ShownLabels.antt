@@ -14,21 +14,12 @@ use Rattle.graph_update.specs.Judging.{change_of}
 use Rattle.graph_update.specs.declared.changes.Change.{Change as Asked}
 use Rattle.graph_update.specs.declared.changes.Change.TheVariants.{Node, Link, Unlink, Drop}
 use Rattle.graph_update.proofs.Links.{is_some-position}
-
-get_seam : {X : Type 0} (front : List X) (x : X) → slice_get (front ++ x ∷ []) (length front) ≡ Some x
-get_seam [] x = refl
-get_seam (y ∷ ys) x = get_seam ys x
+use Rattle.px_spec.proofs.ListLemmas.{get_seam, found, is_found}
 
 get_front : {X : Type 0} (front : List X) (x : X) (i : ℕ) → i < length front → slice_get (front ++ x ∷ []) i ≡ slice_get front i
 get_front [] x i h = absurd (omega arith)
 get_front (y ∷ ys) x zero h = refl
 get_front (y ∷ ys) x (suc i) h = get_front ys x i (omega arith)
-
-found : (k m i : ℕ) → cond (nat_lt k m) (Some k) None ≡ Some i → (k < m) × (k ≡ i)
-found k m i e = grind (arith, nat_tests)
-
-is_found : (k m i : ℕ) → k < m → k ≡ i → cond (nat_lt k m) (Some k) None ≡ Some i
-is_found k m i h e = grind (arith, nat_tests)
 
 prefix-front : (p : List ℕ → Bool) (xs ys : List (List ℕ)) → prefix_len p xs < length xs → prefix_len p (xs ++ ys) ≡ prefix_len p xs
 prefix-front p [] ys h = absurd (omega arith)

@@ -13,6 +13,8 @@ use Rattle.graph_update.specs.Judging.{Judges}
 use Rattle.graph_update.specs.declared.changes.Verdict.{Verdict}
 use Rattle.graph_update.specs.declared.changes.Verdict.TheVariants.{New, Same}
 use Rattle.graph_update.proofs.Links.{linked}
+use Rattle.std.proofs.lemmas.Bool.{and_parts}
+use Rattle.std.proofs.Math.Bool.{or-true}
 
 passes : (b : Bool) (r : Result Graph Refusal) (e : Refusal) (h : Graph) → (if b then r else Err e) ≡ Ok h → (b ≡ true) × (r ≡ Ok h)
 passes true r e h p = (refl, p)
@@ -21,11 +23,6 @@ passes false r e h p = cc
 fails : (b : Bool) (r : Result Graph Refusal) (e : Refusal) (h : Graph) → (if b then Err e else r) ≡ Ok h → b ≡ false
 fails true r e h p = cc
 fails false r e h p = refl
-
-both : (x y : Bool) → (x && y) ≡ true → (x ≡ true) × (y ≡ true)
-both true true p = (refl, refl)
-both true false p = cc
-both false y p = cc
 
 below : (a b m : ℕ) → b ≤ m → nat_lt a b ≡ true → a < m
 below a b m l h = grind (arith, nat_tests)
@@ -46,7 +43,7 @@ absent false to edge p q h = cc
 
 pub new_of : (c : Change) (g : Graph) (limits : Limits) → is_same c g ≡ false → apply c g limits ≡ Ok (after c g) → IsNew c g
 new_of (node t) g limits s h =
-    let fits = both (nat_lt (length g.given) limits.nodes) (is_seen g.seen t || nat_lt (length g.seen) limits.labels)
+    let fits = and_parts (nat_lt (length g.given) limits.nodes) (is_seen g.seen t || nat_lt (length g.seen) limits.labels)
     (passes (node_fits g limits t) (Ok (with_node g t)) Limit (with_node g t) h).0 in
     record {
       few_nodes = below (length g.given) limits.nodes (2 ^ 30) limits.nodes_bounded fits.0;
@@ -54,7 +51,7 @@ new_of (node t) g limits s h =
     }
 new_of (link u v) g limits s h =
     let outer = passes (is_live g u && is_live g v) (if edge_fits g limits u v then Ok (with_edge g u v) else Err Limit) NoNode (with_edge g u v) h in
-    let live = both (is_live g u) (is_live g v) outer.0 in
+    let live = and_parts (is_live g u) (is_live g v) outer.0 in
     let fits = (passes (edge_fits g limits u v) (Ok (with_edge g u v)) Limit (with_edge g u v) outer.1).0 in
     let none = absent (is_live g u) (is_live g v) (has_edge g u v) live.0 live.1 s in
     record {
@@ -65,7 +62,7 @@ new_of (link u v) g limits s h =
     }
 new_of (unlink u v) g limits s h =
     let outer = passes (is_live g u && is_live g v) (if has_edge g u v then Ok (without_edge g u v) else Err NoEdge) NoNode (without_edge g u v) h in
-    let live = both (is_live g u) (is_live g v) outer.0 in
+    let live = and_parts (is_live g u) (is_live g v) outer.0 in
     record {
       from = live.0;
       onto = live.1;
@@ -106,10 +103,6 @@ judged_same g limits u v p q e = (ap (λ b. b && (is_live g v && has_edge g u v)
 within : (a b m : ℕ) → b ≡ m → a < m → nat_lt a b ≡ true
 within a b m e h = grind (arith, nat_tests)
 
-or_true : (x : Bool) → (x || true) ≡ true
-or_true true = refl
-or_true false = refl
-
 -- what is new is accepted within the highest limits
 accepted : (c : Change) (g : Graph) (limits : Limits) → AreHighest limits → IsNew c g → (is_same c g ≡ false) × (apply c g limits ≡ Ok (after c g))
 accepted (node t) g limits a n =
@@ -125,7 +118,7 @@ accepted (link u v) g limits a n =
       ap (λ b. if b && is_live g v then (if edge_fits g limits u v then Ok (with_edge g u v) else Err Limit) else Err NoNode) n.from
           ∙ ap (λ b. if b then (if edge_fits g limits u v then Ok (with_edge g u v) else Err Limit) else Err NoNode) n.onto
           ∙ ap (λ b. if has_edge g u v || b then Ok (with_edge g u v) else Err Limit) few
-          ∙ ap (λ b. if b then Ok (with_edge g u v) else Err Limit) (or_true (has_edge g u v)),
+          ∙ ap (λ b. if b then Ok (with_edge g u v) else Err Limit) (or-true (has_edge g u v)),
     )
 accepted (unlink u v) g limits a n = (
   refl,

@@ -1,6 +1,6 @@
 // Whether a change is accepted.
-ghost use Rattle.std.specs.Prelude.{◌≡◌, ◌≢◌, ◌<◌, ◌↔◌, IsTrue, Ok, Err, false};
-ghost use Rattle.px_spec.specs.Graphs.{is_live, is_seen, has_edge};
+ghost use Rattle.std.specs.Prelude.{◌≡◌, ◌≢◌, ◌<◌, Ok, Err};
+ghost use Rattle.px_spec.specs.Graphs.{is_seen, has_edge};
 ghost use Rattle.px_spec.specs.Changes.{node, link, unlink, drop, node_fits};
 ghost use Rattle.graph_update.specs.NewChanges.{IsNew, AreHighest};
 ghost use Rattle.graph_update.specs.Judging.{change_of, Judges};

@@ -1,5 +1,5 @@
 // A graph as a change will leave it.
-ghost use Rattle.std.specs.Prelude.{◌≡◌, ◌<◌, ◌≤◌, ◌+◌, ◌∷◌, ◌++◌, [], ◌^◌, length, IsTrue, Some, slice_get, position, bytes_eq, nat_eq};
+ghost use Rattle.std.specs.Prelude.{◌≡◌, ◌≤◌, ◌+◌, ◌^◌, length, IsTrue, Some, slice_get, position, bytes_eq};
 ghost use Rattle.px_spec.specs.Graphs.{is_live, label_of, has_edge};
 ghost use Rattle.px_spec.specs.Changes.{with_label};
 ghost use Rattle.px_spec.specs.Members.{Lists};

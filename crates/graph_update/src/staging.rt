@@ -1,10 +1,10 @@
 // Making a change in two steps.
-ghost use Rattle.std.specs.Prelude.{◌≡◌, OnOk, OnErr, IfOk};
+ghost use Rattle.std.specs.Prelude.{◌≡◌, OnErr, IfOk};
 ghost use Rattle.px_spec.specs.Changes as change;
 ghost use Rattle.label_graph.specs.Held.{no_room};
 ghost use Rattle.graph_update.specs.NewChanges.{after, IsNew};
 ghost use Rattle.graph_update.specs.Judging.{change_of};
-ghost use Rattle.graph_update.specs.Staging.{kept_of, IsStaged, applied_of};
+ghost use Rattle.graph_update.specs.Staging.{IsStaged, applied_of};
 
 use crate::changes::{Applied, Change};
 use label_graph::Graph;
@@ -12,9 +12,9 @@ use px_base::{Memory, NodeId};
 use std::alloc::Global;
 use std::marker::Model;
 
-// What is kept of a change: numbers alone.
+// How a staged change is made: numbers alone.
 #[derive(Clone, Copy, Drop)]
-enum Kept {
+enum Plan {
     Node,
     Link(NodeId, NodeId),
     Unlink(NodeId, NodeId),
@@ -25,15 +25,15 @@ enum Kept {
 /// where this is dropped.
 #[derive(Drop)]
 pub struct Staged {
-    kept: Kept,
+    plan: Plan,
 }
 
 impl Model for Staged {
-    ghost use Rattle.graph_update.specs.declared.staging.Kept.{Kept as Value_of_staged};
+    ghost use Rattle.graph_update.specs.declared.staging.Plan.{Plan as Value_of_staged};
 
     ghost Value = { Value_of_staged };
 
-    ghost view = { λ s. s.kept };
+    ghost view = { λ s. s.plan };
 }
 
 /// Takes all the memory that a change needs, which `judge` accepts as new within some limits. The
@@ -45,19 +45,19 @@ pub fn stage(alloc: Global, graph: &mut Graph, change: &Change) -> Result<Staged
     ensures staged { IfOk result (λ staged. IsStaged (change_of change.now) graph.new staged) }
     ensures err { OnErr result (graph.new ≡ graph.old) }
 {
-    let kept = match change {
+    let plan = match change {
         Change::Node(label) => {
             graph.reserve_node(alloc, label)?;
-            Kept::Node
+            Plan::Node
         }
         Change::Link(from, to) => {
             graph.reserve_edge(*from, *to)?;
-            Kept::Link(*from, *to)
+            Plan::Link(*from, *to)
         }
-        Change::Unlink(from, to) => Kept::Unlink(*from, *to),
-        Change::Drop(node) => Kept::Drop(*node),
+        Change::Unlink(from, to) => Plan::Unlink(*from, *to),
+        Change::Drop(node) => Plan::Drop(*node),
     };
-    Ok(Staged { kept })
+    Ok(Staged { plan })
 }
 
 /// Makes a change that is staged in the graph, which is as `stage` left it, and leaves the graph with
@@ -67,17 +67,17 @@ pub fn commit(graph: &mut Graph, staged: Staged) -> Applied
     ensures made { (c : change.Change) → IsStaged c graph.old staged → graph.new ≡ record { graph = after c graph.old.graph; room = no_room } }
     ensures applied { (c : change.Change) → IsStaged c graph.old staged → result ≡ applied_of c graph.old.graph }
 {
-    match staged.kept {
-        Kept::Node => Applied::Added(graph.add_node()),
-        Kept::Link(from, to) => {
+    match staged.plan {
+        Plan::Node => Applied::Added(graph.add_node()),
+        Plan::Link(from, to) => {
             graph.add_edge(from, to);
             Applied::Done
         }
-        Kept::Unlink(from, to) => {
+        Plan::Unlink(from, to) => {
             graph.remove_edge(from, to);
             Applied::Done
         }
-        Kept::Drop(node) => {
+        Plan::Drop(node) => {
             graph.remove_node(node);
             Applied::Done
         }

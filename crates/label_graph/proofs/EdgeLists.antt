@@ -2,40 +2,22 @@
 use Rattle.std.proofs.Common.{◌≡◌, ◌≢◌, ℕ, zero, suc, ◌+◌, ◌<◌, Bool, true, false, List, [], ◌∷◌, ◌++◌, map, refl, sym, ap, ◌∙◌, arith, nat_eq, rules}
 use Rattle.std.specs.Prelude.{◌||◌, ◌&&◌, if◌then◌else◌}
 use Rattle.std.specs.List.{list_any}
-use Rattle.std.specs.Ordering.{nat_cmp, eq_by_cmp, ordering_then, is_eq}
-use Rattle.std.specs.declared.cmp.Ordering.{Ordering}
-use Rattle.std.specs.declared.cmp.Ordering.TheVariants.{Less, Equal, Greater}
-use Rattle.std.specs.Cmp.{unsigned_tied}
+use Rattle.std.specs.Ordering.{eq_by_cmp}
 use Rattle.std.specs.FinSet as set
 use Rattle.std.proofs.lemmas.Bool.{ne_eqb}
 use Rattle.std.proofs.lemmas.List.Folds.{list_any-append}
 use Rattle.px_spec.specs.Graphs.{edge_cmp}
-use Rattle.px_spec.proofs.EdgeOrder.{edge_cmp_total, edge_cmp-IsAntisymmetric}
+use Rattle.px_spec.proofs.EdgeOrder.{edge_cmp_total, edge_cmp-IsAntisymmetric, eq_pair}
 use Rattle.label_graph.specs.declared.node.Node.{Node}
 use Rattle.label_graph.specs.Nodes.{children_of, parents_of, pairs_from, edges_of, Mirrors}
-
-is_eq-then : (q r : Ordering) → is_eq (ordering_then q r) ≡ (is_eq q && is_eq r)
-is_eq-then Less r = refl
-is_eq-then Equal r = refl
-is_eq-then Greater r = refl
-
-pub eq_pair : (u v a b : ℕ) → eq_by_cmp edge_cmp (u, v) (a, b) ≡ (nat_eq u a && nat_eq v b)
-eq_pair u v a b = is_eq-then (nat_cmp u a) (nat_cmp v b) ∙ ap (λ x. x && is_eq (nat_cmp v b)) (unsigned_tied u a) ∙ ap (λ x. nat_eq u a && x) (unsigned_tied v b)
+use Rattle.std.proofs.Math.Bool.{and-false, or-false}
 
 and_or : (x y z : Bool) → ((x && y) || (x && z)) ≡ (x && (y || z))
 and_or true y z = refl
 and_or false y z = refl
 
-and_false : (x : Bool) → (x && false) ≡ false
-and_false true = refl
-and_false false = refl
-
-or_false : (x : Bool) → (x || false) ≡ x
-or_false true = refl
-or_false false = refl
-
 row : (u v a : ℕ) (ws : List ℕ) → list_any (eq_by_cmp edge_cmp (u, v)) (map (λ w. (a, w)) ws) ≡ (nat_eq u a && list_any (nat_eq v) ws)
-row u v a [] = sym (and_false (nat_eq u a))
+row u v a [] = sym (and-false (nat_eq u a))
 row u v a (w ∷ ws) =
     ap (λ x. x || list_any (eq_by_cmp edge_cmp (u, v)) (map (λ w. (a, w)) ws)) (eq_pair u v a w)
     ∙ ap (λ x. (nat_eq u a && nat_eq v w) || x) (row u v a ws) ∙ and_or (nat_eq u a) (nat_eq v w) (list_any (nat_eq v) ws)
@@ -58,7 +40,7 @@ pairs_at k zero v (x ∷ xs) u e =
     let same : u ≡ k = omega arith in
     list_any-append (eq_by_cmp edge_cmp (u, v)) (map (λ w. (k, w)) x.children.items) (pairs_from (k + 1) xs)
     ∙ ap (λ b. list_any (eq_by_cmp edge_cmp (u, v)) (map (λ w. (k, w)) x.children.items) || b) (none_before u v (k + 1) xs (omega arith))
-    ∙ or_false _
+    ∙ or-false _
     ∙ row u v k x.children.items
     ∙ ap (λ b. b && list_any (nat_eq v) x.children.items) (ap (λ n. nat_eq n k) same ∙ same_eqb k)
 pairs_at k (suc i) v (x ∷ xs) u e =
@@ -84,7 +66,7 @@ or_comm false true = refl
 or_comm false false = refl
 
 pub one : (b : Bool) (n v : ℕ) → list_any (nat_eq n) (if b then v ∷ [] else []) ≡ (b && nat_eq n v)
-one true n v = or_false (nat_eq n v)
+one true n v = or-false (nat_eq n v)
 one false n v = refl
 
 module _ (old new : List Node) (u v : ℕ) where

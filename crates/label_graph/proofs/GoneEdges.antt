@@ -16,8 +16,9 @@ use Rattle.label_graph.specs.Held.{graph_by}
 use Rattle.label_graph.specs.LabelTable.{LabelTable}
 use Rattle.label_graph.specs.Nodes.{labels_of, number_at, texts_of, children_of, parents_of, edges_of, Mirrors, LacksEdge}
 use Rattle.label_graph.specs.Soundness.{IsSound, AreSound, AreLabelled, IsLive}
-use Rattle.label_graph.proofs.EdgeLists.{has_edge-children, eq_pair, and_comm}
+use Rattle.label_graph.proofs.EdgeLists.{has_edge-children, and_comm}
 use Rattle.label_graph.proofs.KeepsSound.{labels-cleared}
+use Rattle.px_spec.proofs.EdgeOrder.{eq_pair}
 
 -- a set with an edge isn't empty
 pub some-edge : (s : Edges) (u v : ℕ) → set.contains s (u, v) ≡ true → 0 < set.len s

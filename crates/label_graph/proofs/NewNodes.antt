@@ -17,7 +17,8 @@ use Rattle.label_graph.specs.LabelTable.{LabelTable, entries, shown}
 use Rattle.label_graph.specs.Nodes.{labels_of, number_at, texts_of, children_of, parents_of}
 use Rattle.label_graph.specs.Soundness.{IsSound, AreLabelled, IsNext}
 use Rattle.label_graph.proofs.KeepsSound.{edges-same, lists-kept}
-use Rattle.label_graph.proofs.Tables.{bytes_laws, get_seam}
+use Rattle.label_graph.proofs.Tables.{bytes_laws}
+use Rattle.px_spec.proofs.ListLemmas.{get_seam}
 
 -- what holds of each item holds of the last
 all_last : {X : Type 0} (P : X → Type 0) (xs : List X) (y : X) → AllByRecursion P (xs ++ y ∷ []) → P y

@@ -10,6 +10,7 @@ use Rattle.std.proofs.lemmas.Map.Keys.{apart_from_distinct}
 use Rattle.std.proofs.lemmas.Slice.Eq.{bytes_eq-Decides}
 use Rattle.std.proofs.lemmas.Option.{slice_get_within, slice_get-get_or, get_or_from_slice_get}
 use Rattle.label_graph.proofs.Tables.{bytes_laws}
+use Rattle.px_spec.proofs.ListLemmas.{found, is_found}
 
 pub prefix_len-take : {X : Type 0} (p : X → Bool) (n : ℕ) (xs : List X) → prefix_len p (take n xs) ≡ min n (prefix_len p xs)
 prefix_len-take p zero xs = omega arith
@@ -20,14 +21,8 @@ prefix_len-take p (suc n) (x ∷ xs) =
       | false ↦ omega arith
     ]
 
-found : (k m i : ℕ) → cond (nat_lt k m) (Some k) None ≡ Some i → (k < m) × (k ≡ i)
-found k m i e = grind (arith, nat_tests)
-
 missing : (k m : ℕ) → cond (nat_lt k m) (Some k) None ≡ None → m ≤ k
 missing k m e = grind (arith, nat_tests)
-
-is_found : (k m i : ℕ) → k < m → k ≡ i → cond (nat_lt k m) (Some k) None ≡ Some i
-is_found k m i h e = grind (arith, nat_tests)
 
 is_missing : (k m : ℕ) → m ≤ k → cond (nat_lt k m) (Some k) None ≡ None
 is_missing k m h = grind (arith, nat_tests)

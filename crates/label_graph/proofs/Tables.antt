@@ -1,5 +1,5 @@
 -- The table of labels, cut where the labels end.
-use Rattle.std.proofs.Common.{◌≡◌, ℕ, zero, suc, ◌+◌, ◌-◌, ◌≤◌, Bool, true, false, List, [], ◌∷◌, ◌++◌, length, take, Option, None, Some, refl, sym, ap, ◌∙◌, subst, arith, rules, get_or, set, append_assoc, append-nil, length-append}
+use Rattle.std.proofs.Common.{◌≡◌, ℕ, zero, suc, ◌+◌, ◌-◌, ◌≤◌, true, false, List, [], ◌∷◌, ◌++◌, length, take, Option, None, Some, refl, sym, ap, ◌∙◌, subst, arith, rules, get_or, set, append_assoc, append-nil, length-append}
 use Rattle.std.specs.Prelude.{slice_get, IfSome, bytes_eq, if◌then◌else◌, ◌||◌}
 use Rattle.std.specs.List.{IsDistinct, list_any, swap_remove}
 use Rattle.std.specs.Option.{option_to_list}
@@ -12,16 +12,14 @@ use Rattle.std.proofs.lemmas.Slice.Eq.{bytes_eq-Decides}
 use Rattle.indexmap.proofs.MapLemmas.{distinct-take}
 use Rattle.indexmap.specs.IndexSet.{insert_key}
 use Rattle.px_spec.specs.Graphs.{is_seen}
+use Rattle.std.proofs.Math.Bool.{or-false, or-true}
+use Rattle.px_spec.proofs.ListLemmas.{get_seam}
 
 pub bytes_laws : IsEquivalence bytes_eq
 bytes_laws = search (comparing, rules)
 
 pub texts-distinct : (n : ℕ) (keys : List (List ℕ)) → IsDistinct bytes_eq keys → IsDistinct bytes_eq (take n keys)
 texts-distinct n keys d = distinct-take bytes_laws n keys d
-
-pub get_seam : {X : Type 0} (front : List X) (x : X) → slice_get (front ++ x ∷ []) (length front) ≡ Some x
-get_seam [] x = refl
-get_seam (y ∷ ys) x = get_seam ys x
 
 -- the entries are the labels, and then the text ahead
 pub parted : {X : Type 0} (keys : List X) (n : ℕ) → n ≤ length keys → length keys ≤ n + 1 → keys ≡ take n keys ++ option_to_list (slice_get keys n)
@@ -55,14 +53,6 @@ module _ {X : Type 0} where
       ∙ ap (take n) (set_seam front old new (new ∷ []))
       ∙ take_seam front new new n e
 
-or_false : (x : Bool) → (x || false) ≡ x
-or_false true = refl
-or_false false = refl
-
-or_true : (x : Bool) → (x || true) ≡ true
-or_true true = refl
-or_true false = refl
-
 -- A text was inserted behind the labels and the text ahead, and then at most one entry stays behind the labels.
 module _ (front : List (List ℕ)) (t : List ℕ) (unseen : is_seen front t ≡ false) (inserted final : List (List ℕ))
     (dropped : (f : List (List ℕ)) (old new : List ℕ) → inserted ≡ f ++ old ∷ new ∷ [] → length f ≡ length front → final ≡ f ++ new ∷ [])
@@ -76,11 +66,11 @@ module _ (front : List (List ℕ)) (t : List ℕ) (unseen : is_seen front t ≡ 
         | true ↦ λ q.
             let same = (bytes_eq-Decides t a).0 q in
             let has : list_any (bytes_eq t) (front ++ a ∷ []) ≡ true =
-            list_any-append (bytes_eq t) front (a ∷ []) ∙ ap (λ b. list_any (bytes_eq t) front || (b || false)) q ∙ or_true (list_any (bytes_eq t) front) in
+            list_any-append (bytes_eq t) front (a ∷ []) ∙ ap (λ b. list_any (bytes_eq t) front || (b || false)) q ∙ or-true (list_any (bytes_eq t) front) in
             put-more (e ∙ ap (λ b. if b then (front ++ a ∷ []) else ((front ++ a ∷ []) ++ t ∷ [])) has ∙ ap (λ x. front ++ x ∷ []) (sym same))
         | false ↦ λ q.
             let none : list_any (bytes_eq t) (front ++ a ∷ []) ≡ false =
-            list_any-append (bytes_eq t) front (a ∷ []) ∙ ap (λ b. list_any (bytes_eq t) front || (b || false)) q ∙ or_false (list_any (bytes_eq t) front) ∙ unseen in
+            list_any-append (bytes_eq t) front (a ∷ []) ∙ ap (λ b. list_any (bytes_eq t) front || (b || false)) q ∙ or-false (list_any (bytes_eq t) front) ∙ unseen in
             dropped front a t (e ∙ ap (λ b. if b then (front ++ a ∷ []) else ((front ++ a ∷ []) ++ t ∷ [])) none ∙ append_assoc front (a ∷ []) (t ∷ [])) refl
       ] refl
 

@@ -1,7 +1,7 @@
 -- A list from which a number is taken.
-use Rattle.std.proofs.Common.{◌≡◌, ℕ, true, false, List, [], ◌∷◌, None, Some, refl, sym, ap, ◌∙◌, nat_eq, get_or, subst}
+use Rattle.std.proofs.Common.{◌≡◌, ℕ, true, false, List, ◌∷◌, None, Some, refl, sym, ap, ◌∙◌, nat_eq, get_or, subst}
 use Rattle.std.specs.Prelude.{◌||◌, ◌&&◌, not, position, slice_index_or}
-use Rattle.std.specs.List.{IsDistinct, AllByRecursion, swap_remove}
+use Rattle.std.specs.List.{IsDistinct, swap_remove}
 use Rattle.std.proofs.lemmas.Cmp.{nat_eq_equiv}
 use Rattle.std.proofs.lemmas.Bool.{eqb-true}
 use Rattle.std.proofs.lemmas.List.Quantifiers.{position-Some}
@@ -10,11 +10,7 @@ use Rattle.std.proofs.lemmas.Map.Keys.{IsDistinct-IsPermutation, IsDistinct-head
 use Rattle.px_spec.specs.Members.{has}
 use Rattle.label_graph.specs.Nodes.{IsWithout}
 use Rattle.label_graph.proofs.Positions.{position-none}
-
--- a number that each one differs from isn't among them
-none-has : (n : ℕ) (xs : List ℕ) → AllByRecursion (λ y. nat_eq n y ≡ false) xs → has xs n ≡ false
-none-has n [] h = refl
-none-has n (x ∷ xs) h = ap (λ b. b || has xs n) h.0 ∙ none-has n xs h.1
+use Rattle.px_spec.proofs.ListLemmas.{none-has}
 
 -- what was one number and others has just the others
 others : (n : ℕ) (old new : List ℕ) → has new n ≡ false → ((m : ℕ) → has old m ≡ (nat_eq m n || has new m)) → (m : ℕ) → has new m ≡ (not (nat_eq m n) && has old m)

@@ -9,33 +9,19 @@ use Rattle.std.proofs.lemmas.Cmp.{nat_eq_equiv}
 use Rattle.px_spec.specs.Graphs.{Graph, edge_cmp, has_edge}
 use Rattle.px_spec.specs.Changes.{is_used}
 use Rattle.px_spec.specs.Members.{has, Lists}
-use Rattle.label_graph.proofs.EdgeLists.{eq_pair}
+use Rattle.px_spec.proofs.EdgeOrder.{eq_pair}
+use Rattle.std.proofs.lemmas.Bool.{and_parts, or_parts}
+use Rattle.std.proofs.Math.Bool.{and-true, or-true}
 
 abbrev touches : ℕ → ℕ × ℕ → Bool
 touches u e = nat_eq e.0 u || nat_eq e.1 u
-
-neither : (a b : Bool) → (a || b) ≡ false → (a ≡ false) × (b ≡ false)
-neither true b h = absurd (true≢false h)
-neither false b h = (refl, h)
-
-both : (a b : Bool) → (a && b) ≡ true → (a ≡ true) × (b ≡ true)
-both true b h = (refl, h)
-both false b h = absurd (true≢false (sym h))
-
-and_true : (a : Bool) → (a && true) ≡ a
-and_true true = refl
-and_true false = refl
-
-or_true : (a : Bool) → (a || true) ≡ true
-or_true true = refl
-or_true false = refl
 
 -- a pair that touches the node isn't one that doesn't
 apart : (u a b : ℕ) (e : ℕ × ℕ) → touches u e ≡ false → touches u (a, b) ≡ true → eq_by_cmp edge_cmp (a, b) e ≡ false
 apart u a b e h t =
     eq_pair a b e.0 e.1
     ∙ elim (nat_eq a e.0 && nat_eq b e.1) as (λ x. (nat_eq a e.0 && nat_eq b e.1) ≡ x → x ≡ false) [
-      | true ↦ λ q. let p = both (nat_eq a e.0) (nat_eq b e.1) q in
+      | true ↦ λ q. let p = and_parts (nat_eq a e.0) (nat_eq b e.1) q in
           absurd (true≢false (sym t ∙ ap (λ k. nat_eq k u || nat_eq b u) (eqb-true a e.0 p.0) ∙ ap (λ k. nat_eq e.0 u || nat_eq k u) (eqb-true b e.1 p.1) ∙ h))
       | false ↦ λ q. refl
     ] refl
@@ -43,11 +29,11 @@ apart u a b e h t =
 untouched : (u a b : ℕ) (es : List (ℕ × ℕ)) → list_any (touches u) es ≡ false → touches u (a, b) ≡ true → list_any (eq_by_cmp edge_cmp (a, b)) es ≡ false
 untouched u a b [] h t = refl
 untouched u a b (e ∷ es) h t =
-    let n = neither (touches u e) (list_any (touches u) es) h in
+    let n = or_parts (touches u e) (list_any (touches u) es) h in
     ap (λ x. x || list_any (eq_by_cmp edge_cmp (a, b)) es) (apart u a b e n.0 t) ∙ untouched u a b es n.1 t
 
 begins : (u : ℕ) (e : ℕ × ℕ) → eq_by_cmp edge_cmp (u, e.1) e ≡ nat_eq e.0 u
-begins u e = eq_pair u e.1 e.0 e.1 ∙ ap (λ x. nat_eq u e.0 && x) (nat_eq_equiv.refl e.1) ∙ and_true (nat_eq u e.0) ∙ nat_eq_equiv.symm u e.0
+begins u e = eq_pair u e.1 e.0 e.1 ∙ ap (λ x. nat_eq u e.0 && x) (nat_eq_equiv.refl e.1) ∙ and-true (nat_eq u e.0) ∙ nat_eq_equiv.symm u e.0
 
 ends : (u : ℕ) (e : ℕ × ℕ) → eq_by_cmp edge_cmp (e.0, u) e ≡ nat_eq e.1 u
 ends u e = eq_pair e.0 u e.0 e.1 ∙ ap (λ x. x && nat_eq u e.1) (nat_eq_equiv.refl e.0) ∙ nat_eq_equiv.symm u e.1
@@ -56,11 +42,11 @@ bare : (u : ℕ) (es : List (ℕ × ℕ)) → ((w : ℕ) → list_any (eq_by_cmp
     → list_any (touches u) es ≡ false
 bare u [] from onto = refl
 bare u (e ∷ es) from onto =
-    let first = sym (begins u e) ∙ (neither (eq_by_cmp edge_cmp (u, e.1) e) (list_any (eq_by_cmp edge_cmp (u, e.1)) es) (from e.1)).0 in
-    let last = sym (ends u e) ∙ (neither (eq_by_cmp edge_cmp (e.0, u) e) (list_any (eq_by_cmp edge_cmp (e.0, u)) es) (onto e.0)).0 in
+    let first = sym (begins u e) ∙ (or_parts (eq_by_cmp edge_cmp (u, e.1) e) (list_any (eq_by_cmp edge_cmp (u, e.1)) es) (from e.1)).0 in
+    let last = sym (ends u e) ∙ (or_parts (eq_by_cmp edge_cmp (e.0, u) e) (list_any (eq_by_cmp edge_cmp (e.0, u)) es) (onto e.0)).0 in
     ap (λ x. (x || nat_eq e.1 u) || list_any (touches u) es) first ∙ ap (λ x. x || list_any (touches u) es) last
-    ∙ bare u es (λ w. (neither (eq_by_cmp edge_cmp (u, w) e) (list_any (eq_by_cmp edge_cmp (u, w)) es) (from w)).1)
-    (λ w. (neither (eq_by_cmp edge_cmp (w, u) e) (list_any (eq_by_cmp edge_cmp (w, u)) es) (onto w)).1)
+    ∙ bare u es (λ w. (or_parts (eq_by_cmp edge_cmp (u, w) e) (list_any (eq_by_cmp edge_cmp (u, w)) es) (from w)).1)
+    (λ w. (or_parts (eq_by_cmp edge_cmp (w, u) e) (list_any (eq_by_cmp edge_cmp (w, u)) es) (onto w)).1)
 
 -- no edge begins at the node, and none ends at it
 pub record IsBare (g : Graph) (u : ℕ) : Type 0 where
@@ -74,7 +60,7 @@ bare-unused g u b =
 pub unused-bare : (g : Graph) (u : ℕ) → is_used g u ≡ false → IsBare g u
 unused-bare g u h = record {
   from = λ w. set.contains-items g.edges (u, w) ∙ untouched u u w (set.items g.edges) h (ap (λ x. x || nat_eq w u) (nat_eq_equiv.refl u));
-  onto = λ w. set.contains-items g.edges (w, u) ∙ untouched u w u (set.items g.edges) h (ap (λ x. nat_eq w u || x) (nat_eq_equiv.refl u) ∙ or_true (nat_eq w u));
+  onto = λ w. set.contains-items g.edges (w, u) ∙ untouched u w u (set.items g.edges) h (ap (λ x. nat_eq w u || x) (nat_eq_equiv.refl u) ∙ or-true (nat_eq w u));
 }
 
 none : (xs : List ℕ) → ((m : ℕ) → has xs m ≡ false) → xs ≡ []

@@ -94,10 +94,11 @@ impl Graph {
         self.node_count
     }
 
-    /// How many edges there are: at most 2^30.
+    /// How many edges there are: at most 2^30. Each leads between nodes whose labels were seen.
     pub fn edge_count(&self) -> u32
         ensures count { result ≡ edge_count self.now.graph }
         ensures few { result ≤ 2 ^ 30 }
+        ensures shape { shape_by self.now.graph.seen (length self.now.graph.given) (label_number self.now.graph) (is_linked self.now.graph) ≡ shape_of self.now.graph }
     {
         self.edge_count
     }

@@ -1,5 +1,7 @@
 // A graph as queries and indexes read it.
-ghost use Rattle.std.specs.Prelude.{◌≡◌};
+ghost use Rattle.std.specs.Prelude.{◌≡◌, ◌≤◌, ◌^◌, length};
+ghost use Rattle.px_spec.specs.Shapes.{shape_of, shape_by};
+ghost use Rattle.label_graph.specs.Views.{label_number, is_linked, edge_count};
 
 use crate::digraph::Digraph;
 use crate::graph::Graph;
@@ -27,6 +29,15 @@ impl<'a> GraphView<'a> {
         ensures { result ≡ graph.now.graph }
     {
         GraphView { graph }
+    }
+
+    /// How many edges there are: at most 2^30. What is read of the view is the graph itself.
+    pub fn edge_count(&self) -> u32
+        ensures count { result ≡ edge_count self.now }
+        ensures few { result ≤ 2 ^ 30 }
+        ensures shape { shape_by self.now.seen (length self.now.given) (label_number self.now) (is_linked self.now) ≡ shape_of self.now }
+    {
+        self.graph.edge_count()
     }
 }
 

@@ -1,5 +1,5 @@
 // Path expressions.
-ghost use Rattle.std.specs.Prelude.{◌≡◌, List, ℕ, IfOk, IsErrOf};
+ghost use Rattle.std.specs.Prelude.{◌≡◌, List, IfOk, IsErrOf};
 ghost use Rattle.path_query.specs.Trees.{Item, Separator, Seq, label_item, children};
 ghost use Rattle.path_query.specs.Spelling.{BeginsRest, SpellsItem, SpellsRest, Spells};
 
