@@ -17,11 +17,12 @@ COUNT = 200_000
 TURNS = 5
 
 
-def seconds(command, text):
+def run(command, text, output):
+    """The seconds that the command takes, and what it writes where that goes to a pipe."""
     with open(text, "rb") as source:
         start = time.monotonic()
-        subprocess.run(command, stdin=source, stdout=subprocess.DEVNULL, check=True)
-        return time.monotonic() - start
+        done = subprocess.run(command, stdin=source, stdout=output, check=True)
+        return time.monotonic() - start, done.stdout
 
 
 def main():
@@ -36,8 +37,11 @@ def main():
         size = os.path.getsize(text) / 1e6
         ours, theirs = [], []
         for _ in range(TURNS):
-            ours.append(seconds([PROGRAM], text))
-            theirs.append(seconds(["serdi", "-b", text], text))
+            taken, counted = run([PROGRAM], text, subprocess.PIPE)
+            if counted.strip() != str(COUNT).encode():
+                sys.exit(f"bench_triples.py: triples_count wrote {counted!r} for {COUNT} triples")
+            ours.append(taken)
+            theirs.append(run(["serdi", "-b", text], text, subprocess.DEVNULL)[0])
     for name, times in (("triples_count", ours), ("serdi -b", theirs)):
         print(f"{name:<16}{COUNT:>9} triples{size:>7.1f} MB{min(times):>7.2f} s{size / min(times):>8.0f} MB/s")
     print(f"triples_count takes {min(ours) / min(theirs):.2f} times as long as serdi -b; the mark is 1.5")

@@ -1,5 +1,6 @@
 //! The program `triples_count`: it counts the triples of the N-Triples text on standard input. At a line
-//! that is none, it says behind how many LFs that line stands, counted from 1, and ends with status 1.
+//! that is none, it says the line's number, from 1 on, and ends with status 1. A line ends at LF, at CR LF or
+//! at another CR.
 #![tactic(auto)]
 
 use std::alloc::Global;
@@ -8,7 +9,11 @@ use std::io::{BufRead, BufReader, ErrorKind};
 use std::process::ExitCode;
 use triples_read::{LineError, read_line};
 
+#[cfg(test)]
+mod tests;
+
 /// What a text holds.
+#[derive(Debug, Drop, PartialEq)]
 enum Count {
     /// So many triples.
     Triples(u64),
@@ -16,34 +21,64 @@ enum Count {
     BadLine(u64),
 }
 
-/// How many triples the lines spell, which may end with CR as well. None where one is bad.
-fn count_lines(alloc: Global, lines: &[u8]) -> io::Result<Option<u64>> {
-    let mut count = 0u64;
-    for line in lines.split(|b| *b == b'\n' || *b == b'\r') {
-        match read_line(alloc, line) {
-            Ok(Some(_)) => count = count.saturating_add(1),
-            Ok(None) => {}
-            Err(LineError::Syntax) => return Ok(None),
-            Err(LineError::Memory) => return Err(io::Error::from(ErrorKind::OutOfMemory)),
+/// How far a text was read.
+#[derive(Drop)]
+struct Tally {
+    /// The lines that were taken.
+    lines: u64,
+    /// The triples that they spell.
+    triples: u64,
+}
+
+/// Takes one more line. False where it is bad.
+fn take_line(alloc: Global, line: &[u8], tally: &mut Tally) -> io::Result<bool> {
+    tally.lines = tally.lines.saturating_add(1);
+    match read_line(alloc, line) {
+        Ok(Some(_)) => {
+            tally.triples = tally.triples.saturating_add(1);
+            Ok(true)
+        }
+        Ok(None) => Ok(true),
+        Err(LineError::Syntax) => Ok(false),
+        Err(LineError::Memory) => Err(io::Error::from(ErrorKind::OutOfMemory)),
+    }
+}
+
+/// The bytes without the LF or CR LF at their end.
+fn without_end(bytes: &[u8]) -> &[u8] {
+    match bytes {
+        [line @ .., b'\r', b'\n'] => line,
+        [line @ .., b'\n'] => line,
+        _ => bytes,
+    }
+}
+
+/// Takes the lines that stand before one LF, with a CR between each two. False where one is bad.
+fn take_lines(alloc: Global, lines: &[u8], tally: &mut Tally) -> io::Result<bool> {
+    for line in lines.split(|b| *b == b'\r') {
+        if !take_line(alloc, line, tally)? {
+            return Ok(false);
         }
     }
-    Ok(Some(count))
+    Ok(true)
 }
 
 fn count_all<R: BufRead>(alloc: Global, text: &mut R) -> io::Result<Count> {
-    let mut line = Vec::new(alloc);
-    let mut count = 0u64;
-    for number in 1..u64::MAX {
-        line.clear();
-        if text.read_until(b'\n', &mut line)? == 0 {
+    let mut bytes = Vec::new(alloc);
+    let mut tally = Tally {
+        lines: 0,
+        triples: 0,
+    };
+    for _ in 0..u64::MAX {
+        bytes.clear();
+        if text.read_until(b'\n', &mut bytes)? == 0 {
             break;
         }
-        match count_lines(alloc, &line)? {
-            Some(more) => count = count.saturating_add(more),
-            None => return Ok(Count::BadLine(number)),
+        if !take_lines(alloc, without_end(&bytes), &mut tally)? {
+            return Ok(Count::BadLine(tally.lines));
         }
     }
-    Ok(Count::Triples(count))
+    Ok(Count::Triples(tally.triples))
 }
 
 fn main(rt: HostRuntime) -> io::Result<ExitCode> {

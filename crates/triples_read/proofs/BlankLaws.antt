@@ -1,16 +1,19 @@
 -- Blanks at the front.
-use Rattle.std.proofs.Common.{◌≡◌, ◌<◌, ℕ, List, [], ◌∷◌, ◌++◌, Bool, true, false, refl, sym, ◌∙◌, ap, subst, arith, ◌⊎◌, inl, inr}
-use Rattle.std.specs.Prelude.{nat_eq}
+use Rattle.std.proofs.Common.{◌≡◌, ◌<◌, ◌+◌, ◌-◌, ℕ, suc, List, [], ◌∷◌, ◌++◌, length, drop, Bool, true, false, cond, refl, sym, ◌∙◌, ap, subst, arith, ◌⊎◌, inl, inr, length-append}
+use Rattle.std.specs.Prelude.{nat_eq, IsUtf8}
+use Rattle.std.specs.Str.{IsCharBoundary}
+use Rattle.std.specs.List.{prefix_len}
 use Rattle.std.specs.Char.{IsScalar}
 use Rattle.std.proofs.Math.Utf8.{scalars, encodes}
 use Rattle.std.proofs.lemmas.Str.{encode_ascii, encodes-append}
 use Rattle.std.proofs.lemmas.Bool.{eqb-true}
+use Rattle.std.proofs.lemmas.List.{append-nil, length-drop}
+use Rattle.std.proofs.lemmas.List.Sums.{prefix_len-le-length}
 use Rattle.triples_read.specs.Characters.{is_blank}
 use Rattle.triples_read.specs.Terminals.{AllOf, Blanks}
 use Rattle.triples_read.specs.Reading.{past_blanks}
 use Rattle.triples_read.specs.Fronts.{Front, IsText}
-use Rattle.triples_read.proofs.Pieces.{bool_cases}
-use Rattle.triples_read.proofs.Opening.{split-encodes, scalars-right}
+use Rattle.triples_read.proofs.Basics.{bool_cases, scalars-right, split-encodes, seam}
 
 -- characters of a class of ASCII are their own bytes
 pub own_bytes : (class : ℕ → Bool) → ((c : ℕ) → class c ≡ true → c < 128) → (xs : List ℕ) → AllOf class xs → encodes xs ≡ xs
@@ -63,9 +66,26 @@ skip-whole b gap c r is all small other =
     ∙ skip-gap gap (encodes (c ∷ r)) all
     ∙ rw (encode_ascii c small) (past-other c (encodes r) other)
 
-nothing : (xs : List ℕ) → xs ++ [] ≡ xs
-nothing [] = refl
-nothing (x ∷ xs) = ap (λ (z : List ℕ). x ∷ z) (nothing xs)
-
 pub skip-end : (b gap : List ℕ) → b ≡ encodes gap → Blanks gap → past_blanks b ≡ []
-skip-end b gap is all = ap past_blanks (is ∙ blanks_bytes gap all ∙ sym (nothing gap)) ∙ skip-gap gap [] all
+skip-end b gap is all = ap past_blanks (is ∙ blanks_bytes gap all ∙ sym (append-nil gap)) ∙ skip-gap gap [] all
+
+drop-run : (b : ℕ) (bs : List ℕ) (n : ℕ) → drop (1 + n) (b ∷ bs) ≡ drop n bs
+drop-run b bs n = let one : 1 + n ≡ suc n = omega arith in ap (λ (k : ℕ). drop k (b ∷ bs)) one
+
+-- the blanks in front are counted
+pub blanks-counted : (xs : List ℕ) → past_blanks xs ≡ drop (prefix_len is_blank xs) xs
+blanks-counted [] = refl
+blanks-counted (b ∷ bs) =
+    elim (bool_cases (is_blank b)) [
+      | inl e ↦ past-blank b bs e ∙ blanks-counted bs ∙ sym (drop-run b bs (prefix_len is_blank bs)) ∙ ap (λ (t : Bool). drop (cond t (1 + prefix_len is_blank bs) 0) (b ∷ bs)) (sym e)
+      | inr e ↦ past-other b bs e ∙ ap (λ (t : Bool). drop (cond t (1 + prefix_len is_blank bs) 0) (b ∷ bs)) (sym e)
+    ]
+
+pub blanks-boundary : (text : List ℕ) (n : ℕ) → IsUtf8 text → n ≡ prefix_len is_blank text → IsCharBoundary text n
+blanks-boundary text n utf8 is =
+    let (gap, parts, all) = blanks-front text in
+    let own : encodes gap ≡ gap = blanks_bytes gap all in
+    let size : length text ≡ length gap + length (past_blanks text) = ap length parts ∙ length-append gap (past_blanks text) in
+    let left : length (past_blanks text) ≡ length text - n = ap length (blanks-counted text) ∙ ap (λ (i : ℕ). length (drop i text)) (sym is) ∙ length-drop n text in
+    let count : length (encodes gap) ≡ n = ap length own ∙ omega (arith, size, left, prefix_len-le-length is_blank text, is) in
+    subst (IsCharBoundary text) count (seam gap (past_blanks text) text utf8 (parts ∙ ap (λ (z : List ℕ). z ++ past_blanks text) (sym own)))

@@ -1,5 +1,5 @@
 -- The canonical spelling of a triple spells it.
-use Rattle.std.proofs.Common.{◌≡◌, ◌<◌, ℕ, List, [], ◌∷◌, ◌++◌, Bool, true, false, refl, sym, ◌∙◌, ap, subst, arith, map, inl, inr, ◌&&◌, not, Option, Some, None}
+use Rattle.std.proofs.Common.{◌≡◌, ◌<◌, ℕ, List, [], ◌∷◌, ◌++◌, Bool, true, false, refl, sym, ◌∙◌, ap, subst, arith, map, inl, inr, not, Option, Some, None}
 use Rattle.std.specs.Prelude.{nat_eq, bytes_eq, IsUtf8}
 use Rattle.std.specs.Char.{to_ascii_lowercase}
 use Rattle.std.specs.List.{AllByRecursion, flat_map, list_all}
@@ -24,14 +24,11 @@ use Rattle.triples_read.specs.declared.quoted.Quote.TheVariants.{Angle, Double}
 use Rattle.triples_read.specs.declared.term.Term.{Term}
 use Rattle.triples_read.specs.declared.term.Term.TheVariants.{Iri, Blank, Literal}
 use Rattle.triples_read.specs.declared.term.Triple.{Triple}
-use Rattle.triples_read.proofs.Pieces.{bool_cases, many-scalars, scalars-both}
+use Rattle.triples_read.proofs.Basics.{bool_cases, and_both, scalars-both, none_some}
+use Rattle.triples_read.proofs.Pieces.{many-scalars}
 use Rattle.triples_read.proofs.Quoting.{quote_escapes}
 use Rattle.triples_read.proofs.SpellingLaws.{pieces_of}
-use Rattle.triples_read.proofs.TagLaws.{TagRest, dashed, langtag-rest, rest-whole, rest-langtag, rest_bytes, tag-read, past-part, past-empty, past-dash, past-stop, none_some, some_same, no_cons}
-
-and_both : (a b : Bool) → a && b ≡ true → (a ≡ true) × (b ≡ true)
-and_both true b h = (refl, h)
-and_both false b h = absurd cc
+use Rattle.triples_read.proofs.TagLaws.{TagRest, dashed, langtag-rest, rest-whole, rest-langtag, rest_bytes, tag-read, past-part, past-empty, past-dash, past-stop, some_same, no_cons}
 
 -- values are characters
 echar_value : (e c : ℕ) → escape_of e ≡ Some c → c < 128
@@ -248,14 +245,14 @@ canonical_spells t (line, (cs, before, triple, after, comment, parts, blanks, is
 pub iri_of_text : (iri : List ℕ) → IsUtf8 iri → (s : List ℕ) × IsIri s iri
 iri_of_text iri (cs, (ok, eq)) = (iri_text cs, (cs, (flat_map iri_char cs, refl, pieces_of cs ok), sym eq))
 
-pub literal_of_text : (text s datatype : List ℕ) (tag : Option (List ℕ)) → IsUtf8 text → Suffix s datatype tag → (w : List ℕ) × IsLiteral w text datatype tag
-literal_of_text text s datatype tag (cs, (ok, eq)) suffix =
-    (string_text cs ++ s, (string_text cs, s, cs, refl, (flat_map string_char cs, refl, string_pieces cs ok), sym eq, suffix))
+pub string_of_text : (text : List ℕ) → IsUtf8 text → (s : List ℕ) × (v : List ℕ) × STRING_LITERAL_QUOTE s v × (text ≡ encodes v)
+string_of_text text (cs, (ok, eq)) = (string_text cs, cs, (flat_map string_char cs, refl, string_pieces cs ok), sym eq)
 
-pub plain_suffix : (datatype : List ℕ) → IsUtf8 datatype → (s : List ℕ) × Suffix s datatype None
-plain_suffix datatype utf8 =
-    let (s, spelled) = iri_of_text datatype utf8 in
-    (94 ∷ 94 ∷ s, inr ([], [], s, refl, tt, tt, spelled))
+pub literal_of_text : (q v text s datatype : List ℕ) (tag : Option (List ℕ)) → STRING_LITERAL_QUOTE q v → text ≡ encodes v → Suffix s datatype tag → (w : List ℕ) × IsLiteral w text datatype tag
+literal_of_text q v text s datatype tag string is suffix = (q ++ s, (q, s, v, refl, string, is, suffix))
+
+pub plain_suffix : (s datatype : List ℕ) → IsIri s datatype → (r : List ℕ) × Suffix r datatype None
+plain_suffix s datatype spelled = (94 ∷ 94 ∷ s, inr ([], [], s, refl, tt, tt, spelled))
 
 pub tagged_suffix : (datatype tag : List ℕ) → bytes_eq datatype lang_string ≡ true → LANGTAG (64 ∷ tag) tag → (s : List ℕ) × Suffix s datatype (Some tag)
 tagged_suffix datatype tag same langtag = (64 ∷ tag, ([], 64 ∷ tag, refl, tt, langtag, (bytes_eq-Decides datatype lang_string).0 same))

@@ -1,5 +1,5 @@
 -- Laws of hexadecimal digits.
-use Rattle.std.proofs.Common.{◌≡◌, ◌<◌, ◌≤◌, ◌^◌, ◌-◌, ◌+◌, ◌*◌, ℕ, suc, List, ◌∷◌, Bool, true, false, refl, sym, ◌∙◌, ap, arith, cond, Some, None, Option, length, drop, get_or, drop-cons, add-one}
+use Rattle.std.proofs.Common.{◌≡◌, ◌<◌, ◌≤◌, ◌^◌, ◌-◌, ◌+◌, ◌*◌, ℕ, suc, List, ◌∷◌, true, false, refl, sym, ◌∙◌, ap, arith, None, length, drop, get_or, drop-cons, add-one}
 use Rattle.std.proofs.Math.ListN.{drop_of_length-le}
 use Rattle.std.proofs.Math.Nat.{pow-succ'}
 use Rattle.std.proofs.lemmas.Bool.{ltb-true}
@@ -39,11 +39,3 @@ hex-good count i n b whole more inside is good h =
       same = sym (hex_step (count - (i + 1)) n b (drop (i + 1) whole) good) ∙ ap (λ (k : ℕ). hex_at k n (b ∷ drop (i + 1) whole)) (sym (left_suc count i more)) ∙ ap (hex_at (count - i) n) (sym at) ∙ h.same;
       bound = omega (arith, h.bound, small, power);
     }
-
-pub if_none : (b : Bool) (x : ℕ) → ◌≡◌ {A = Option ℕ} None (cond b (Some x) None) → b ≡ false
-if_none true x e = absurd cc
-if_none false x e = refl
-
-pub if_some : (b : Bool) (x d : ℕ) → Some d ≡ cond b (Some x) None → (b ≡ true) × (d ≡ x)
-if_some true x d e = (refl, cc)
-if_some false x d e = absurd cc

@@ -1,5 +1,5 @@
 -- The longest label, with its inner dots.
-use Rattle.std.proofs.Common.{◌≡◌, ◌≢◌, ◌<◌, ◌+◌, ℕ, List, [], ◌∷◌, ◌++◌, length, Bool, true, false, refl, sym, ◌∙◌, ap, arith, ◌⊎◌, inl, inr, append_assoc, length-append, ◌&&◌}
+use Rattle.std.proofs.Common.{◌≡◌, ◌≢◌, ◌<◌, ◌+◌, ℕ, List, [], ◌∷◌, ◌++◌, length, true, false, refl, sym, ◌∙◌, ap, arith, ◌⊎◌, inl, inr, append_assoc, length-append, ◌&&◌}
 use Rattle.std.specs.Prelude.{nat_eq, IsUtf8}
 use Rattle.std.proofs.Math.Utf8.{scalar, scalars, encode, encodes}
 use Rattle.std.proofs.lemmas.Str.{cons_from_encodes, encodes-append, length-encode, len_utf8_bounds, length-le-encodes}
@@ -9,7 +9,7 @@ use Rattle.triples_read.specs.Characters.{pn_chars, label_inner, label_first}
 use Rattle.triples_read.specs.Terminals.{EndsIn, AllOf, IsLabel}
 use Rattle.triples_read.specs.Fronts.{IsLabelFront, EndsLabel}
 use Rattle.triples_read.specs.Reading.{past_label}
-use Rattle.triples_read.proofs.Pieces.{bool_cases}
+use Rattle.triples_read.proofs.Basics.{bool_cases, and_both, no_both}
 
 past-pn : (tail cs : List ℕ) (c : ℕ) → pn_chars c ≡ true → past_label tail (c ∷ cs) ≡ past_label cs cs
 past-pn tail cs c e = rw e refl
@@ -47,10 +47,6 @@ pn_inner c e = rw e refl
 
 dot_inner : (c : ℕ) → pn_chars c ≡ false → nat_eq c 46 ≡ true → label_inner c ≡ true
 dot_inner c e d = rw (e, d) refl
-
-and_both : (a b : Bool) → a && b ≡ true → (a ≡ true) × (b ≡ true)
-and_both true b h = (refl, h)
-and_both false b h = absurd cc
 
 -- what is read is a label's part
 label-front : (whole s t done rest : List ℕ) → whole ≡ s ++ t → EndsIn label_inner pn_chars s → whole ≡ done ++ rest → AllOf label_inner done → scalars rest ≡ true → (front : List ℕ) × (whole ≡ front ++ past_label t rest) × EndsIn label_inner pn_chars front
@@ -127,9 +123,6 @@ front-whole text after left first step reads v tail is (d, more, parts, ok, good
     let same : d ≡ first = cc in
     let rest : more ++ tail ≡ es = cc in
     (ap label_first (sym same) ∙ good, reads (more ++ tail) (sym behind ∙ ap encodes (sym rest)) ∙ ap encodes (label-whole more tail ends over))
-
-no_both : (b : Bool) → b ≡ true → b ≡ false → ⊥
-no_both b t f = cc
 
 pub front-none : (text : List ℕ) → text ≡ [] → (v tail : List ℕ) → text ≡ encodes (v ++ tail) → IsLabel v → EndsLabel tail → ⊥
 front-none text empty v tail is (d, more, parts, ok, good, ends) over =

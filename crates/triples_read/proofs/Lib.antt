@@ -1,7 +1,9 @@
+pub mod Basics
 pub mod Digits
 pub mod Pieces
 pub mod Uchars
 pub mod Opening
+pub mod IriFronts
 pub mod LabelEnds
 pub mod StringEscapes
 pub mod Quoting

@@ -1,8 +1,9 @@
 -- The parts of a line, one behind another.
-use Rattle.std.proofs.Common.{◌≡◌, ◌<◌, ℕ, List, [], ◌∷◌, ◌++◌, drop, true, false, refl, sym, ◌∙◌, ap, subst, arith, ◌⊎◌, inl, inr, append_assoc, Option}
+use Rattle.std.proofs.Common.{◌≡◌, ◌<◌, ℕ, List, [], ◌∷◌, ◌++◌, true, false, refl, sym, ◌∙◌, ap, subst, arith, ◌⊎◌, inl, inr, append_assoc, Option}
 use Rattle.std.specs.Prelude.{IsUtf8, nat_eq}
 use Rattle.std.proofs.Math.Utf8.{scalars, encodes}
 use Rattle.std.proofs.lemmas.Str.{encodes-append}
+use Rattle.std.proofs.lemmas.List.{append-nil}
 use Rattle.triples_read.specs.Terminals.{Blanks, Comment}
 use Rattle.triples_read.specs.Reading.{past_blanks, starts_with, is_over}
 use Rattle.triples_read.specs.Lines.{Suffix, IsIri, IsBlankNode, IsLiteral, IsSubject, IsObject, Spells, Empty}
@@ -11,8 +12,8 @@ use Rattle.triples_read.specs.Parts.{AfterObject, AfterPredicate, AfterSubject, 
 use Rattle.triples_read.specs.declared.term.Term.{Term}
 use Rattle.triples_read.specs.declared.term.Term.TheVariants.{Iri, Blank, Literal}
 use Rattle.triples_read.specs.declared.term.Triple.{Triple}
+use Rattle.triples_read.proofs.Basics.{cons-tail, scalars-right}
 use Rattle.triples_read.proofs.LabelEnds.{no_chars}
-use Rattle.triples_read.proofs.Opening.{scalars-right}
 use Rattle.triples_read.proofs.BlankLaws.{skip-found, skip-whole, skip-end}
 use Rattle.triples_read.proofs.FrontLaws.{first-byte, behind-byte, Starts, skip-to, starts-cons}
 use Rattle.triples_read.proofs.LiteralLaws.{iri-starts}
@@ -64,21 +65,17 @@ over-comment (x ∷ xs) cs is over =
     let (r, parts, text) = behind-byte 35 (x ∷ xs) xs cs (omega arith) eq is in
     inr (r, parts)
 
-nothing : (xs : List ℕ) → xs ++ [] ≡ xs
-nothing [] = refl
-nothing (x ∷ xs) = ap (λ (z : List ℕ). x ∷ z) (nothing xs)
-
 pub comment-over : (b gap comment : List ℕ) → b ≡ encodes (gap ++ comment) → Blanks gap → Comment comment → is_over (past_blanks b) ≡ true
 comment-over b gap comment is blanks (inl none) =
-    ap is_over (skip-end b gap (is ∙ encodes-append gap comment ∙ ap (λ (z : List ℕ). encodes gap ++ encodes z) none ∙ nothing (encodes gap)) blanks)
+    ap is_over (skip-end b gap (is ∙ encodes-append gap comment ∙ ap (λ (z : List ℕ). encodes gap ++ encodes z) none ∙ append-nil (encodes gap)) blanks)
 comment-over b gap comment is blanks (inr (text, begin)) =
     ap is_over (first-byte 35 (past_blanks b) text (omega arith) (skip-whole b gap 35 text (is ∙ ap (λ (z : List ℕ). encodes (gap ++ z)) begin) blanks (omega arith) refl))
 
 -- the dot
-pub dot-found : (bytes after behind rest cs : List ℕ) → IsText bytes cs → after ≡ past_blanks bytes → starts_with 46 after ≡ true → behind ≡ drop 1 after → rest ≡ past_blanks behind → is_over rest ≡ true → AfterObject cs
-dot-found bytes after behind rest cs is after_is dot behind_is rest_is over =
+pub dot-found : (bytes after behind rest cs : List ℕ) → IsText bytes cs → after ≡ past_blanks bytes → after ≡ 46 ∷ behind → rest ≡ past_blanks behind → is_over rest ≡ true → AfterObject cs
+dot-found bytes after behind rest cs is after_is dot rest_is over =
     let (gap, cs2, split, text, blanks) = skip-found bytes cs is in
-    let eq : past_blanks bytes ≡ 46 ∷ behind = sym after_is ∙ starts-cons 46 after behind dot behind_is in
+    let eq : past_blanks bytes ≡ 46 ∷ behind = sym after_is ∙ dot in
     let (cs3, parts, text2) = behind-byte 46 (past_blanks bytes) behind cs2 (omega arith) eq text in
     let (gap2, cs4, split2, text3, blanks2) = skip-found behind cs3 text2 in (
       gap,
@@ -90,13 +87,13 @@ dot-found bytes after behind rest cs is after_is dot behind_is rest_is over =
       over-comment (past_blanks behind) cs4 text3 (ap is_over (sym rest_is) ∙ over),
     )
 
-pub dot-stands : (bytes after cs : List ℕ) → IsText bytes cs → after ≡ past_blanks bytes → AfterObject cs → (starts_with 46 after ≡ true) × ((behind rest : List ℕ) → behind ≡ drop 1 after → rest ≡ past_blanks behind → is_over rest ≡ true)
+pub dot-stands : (bytes after cs : List ℕ) → IsText bytes cs → after ≡ past_blanks bytes → AfterObject cs → (starts_with 46 after ≡ true) × ((behind rest : List ℕ) → after ≡ 46 ∷ behind → rest ≡ past_blanks behind → is_over rest ≡ true)
 dot-stands bytes after cs is after_is (gap, more, comment, parts, blanks, blanks2, last) =
     let skipped = skip-whole bytes gap 46 (more ++ comment) (is.0 ∙ ap encodes parts) blanks (omega arith) refl in
     let eq : after ≡ 46 ∷ encodes (more ++ comment) = after_is ∙ first-byte 46 (past_blanks bytes) (more ++ comment) (omega arith) skipped in (
       ap (starts_with 46) eq,
-      λ behind rest behind_is rest_is.
-          ap is_over rest_is ∙ comment-over behind more comment (behind_is ∙ ap (drop 1) eq) blanks2 last,
+      λ behind rest dot rest_is.
+          ap is_over rest_is ∙ comment-over behind more comment (cons-tail (sym dot ∙ eq)) blanks2 last,
     )
 
 -- the object and what follows

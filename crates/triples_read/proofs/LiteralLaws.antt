@@ -11,9 +11,10 @@ use Rattle.triples_read.specs.Parts.{IsDatatype, AfterObject}
 use Rattle.triples_read.specs.Quotes.{IsQuoted}
 use Rattle.triples_read.specs.declared.quoted.Quote.TheVariants.{Double}
 use Rattle.triples_read.specs.declared.term.Term.TheVariants.{Literal}
-use Rattle.triples_read.proofs.Opening.{scalars-right, quoted-split, quoted-join, in_quotes}
+use Rattle.triples_read.proofs.Basics.{cons-tail, scalars-right}
+use Rattle.triples_read.proofs.Opening.{quoted-split, quoted-join, in_quotes}
 use Rattle.triples_read.proofs.BlankLaws.{skip-whole}
-use Rattle.triples_read.proofs.FrontLaws.{cons-tail, first-byte, behind-byte, Starts, skip-to}
+use Rattle.triples_read.proofs.FrontLaws.{first-byte, behind-byte, Starts, skip-to}
 use Rattle.triples_read.proofs.Follow.{tag-ends}
 
 pub carets_bytes : (v : List ℕ) → encodes (94 ∷ 94 ∷ v) ≡ 94 ∷ 94 ∷ encodes v

@@ -1,14 +1,12 @@
 -- The definitions at small cases.
-use Rattle.std.proofs.Common.{◌≡◌, ℕ, List, [], ◌∷◌, ◌++◌, Bool, true, false, refl, sym, ◌∙◌, ap, inl, inr, Some, None}
+use Rattle.std.proofs.Common.{◌≡◌, ℕ, List, [], ◌∷◌, ◌++◌, refl, sym, ◌∙◌, ap, inl, inr, Some, None}
 use Rattle.std.specs.Prelude.{codes}
 use Rattle.triples_read.specs.Characters.{pn_chars, label_inner}
 use Rattle.triples_read.specs.Terminals.{EndsIn, LANGTAG}
 use Rattle.triples_read.specs.Lines.{Spells}
 use Rattle.triples_read.specs.declared.term.Term.TheVariants.{Iri, Blank}
 use Rattle.triples_read.specs.Reading.{past_label, string_escape_at, uchar_at}
-
-no_both : (b : Bool) → b ≡ true → b ≡ false → ⊥
-no_both b t f = cc
+use Rattle.triples_read.proofs.Basics.{no_both}
 
 no_nil : (xs : List ℕ) → xs ++ 46 ∷ [] ≡ [] → ⊥
 no_nil [] e = absurd cc

@@ -13,10 +13,10 @@ use Rattle.triples_read.specs.declared.quoted.Quote.TheVariants.{Angle, Double}
 use Rattle.triples_read.specs.declared.term.Term.{Term}
 use Rattle.triples_read.specs.declared.term.Term.TheVariants.{Iri, Blank, Literal}
 use Rattle.triples_read.specs.declared.term.Triple.{Triple}
+use Rattle.triples_read.proofs.Basics.{no_both, cons-tail}
 use Rattle.triples_read.proofs.LabelEnds.{label-whole}
 use Rattle.triples_read.proofs.Opening.{iri-whole, quoted-unique, text-rest}
 use Rattle.triples_read.proofs.TagLaws.{tag-stands, some_same}
-use Rattle.triples_read.proofs.FrontLaws.{no_both, cons-tail}
 use Rattle.triples_read.proofs.LiteralLaws.{carets_bytes, datatype-stands, suffix-stands, literal-stands}
 use Rattle.triples_read.proofs.Follow.{label-ends}
 use Rattle.triples_read.proofs.LineLaws.{subject-stands, object-stands, last-stands, rest-stands, line-stands, line-empty, after-subject-ends}
@@ -63,8 +63,8 @@ datatype-unique b s r datatype s2 r2 datatype2 h h2 (gap, name, sp, blanks, spel
 
 tag-unique : (b s r tag s2 r2 tag2 : List ℕ) → IsText b (s ++ r) → IsText b (s2 ++ r2) → LANGTAG (64 ∷ s) tag → LANGTAG (64 ∷ s2) tag2 → EndsTag (encodes r) → EndsTag (encodes r2) → (tag ≡ tag2) × (r ≡ r2)
 tag-unique b s r tag s2 r2 tag2 h h2 is is2 over over2 =
-    let (whole, lower, bytes, text) = tag-stands b s r tag h is over in
-    let (whole2, lower2, bytes2, text2) = tag-stands b s2 r2 tag2 h2 is2 over2 in
+    let (whole, lower, bytes) = tag-stands b s r tag h is over in
+    let (whole2, lower2, bytes2) = tag-stands b s2 r2 tag2 h2 is2 over2 in
     let rest : encodes r ≡ encodes r2 = some_same (encodes r) (encodes r2) (sym whole ∙ whole2) in
     let same : s ≡ s2 = append_cancel_right s s2 (encodes r) (sym bytes ∙ bytes2 ∙ ap (λ (z : List ℕ). s2 ++ z) (sym rest)) in
     (lower ∙ ap (map to_ascii_lowercase) same ∙ sym lower2, encodes_same r r2 rest)

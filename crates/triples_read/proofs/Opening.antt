@@ -1,38 +1,17 @@
 -- Quotes at the front, and what they mean for an IRIREF that stands there.
-use Rattle.std.proofs.Common.{◌≡◌, Bool, true, false, ◌&&◌, ◌<◌, ◌+◌, ◌-◌, ℕ, List, [], ◌∷◌, ◌++◌, length, take, drop, refl, sym, ◌∙◌, ap, arith, append_assoc, length-append}
-use Rattle.std.proofs.Math.Utf8.{scalar, scalars, encode, encodes}
-use Rattle.std.proofs.lemmas.Str.{encode_ascii, encodes-append, cons_from_encodes}
+use Rattle.std.proofs.Common.{◌≡◌, ◌<◌, ◌+◌, ◌-◌, ℕ, List, [], ◌∷◌, ◌++◌, length, take, drop, refl, sym, ◌∙◌, ap, subst, arith, append_assoc, length-append}
+use Rattle.std.proofs.Math.Utf8.{scalars, encodes}
+use Rattle.std.proofs.lemmas.Str.{encode_ascii, encodes-append}
 use Rattle.std.proofs.lemmas.List.{take-append-drop, length-drop}
 use Rattle.triples_read.specs.Terminals.{Many}
-use Rattle.triples_read.specs.Fronts.{IsIriFront, Front, IsText}
-use Rattle.triples_read.specs.Lines.{IsIri}
+use Rattle.triples_read.specs.Fronts.{Front, IsText}
+use Rattle.triples_read.specs.Lines.{IsIri, IsIriFront}
 use Rattle.triples_read.specs.Quotes.{opening, closing, inner, Escape, escape_at, PieceIn, IsQuoted}
 use Rattle.triples_read.specs.declared.quoted.Quote.{Quote}
 use Rattle.triples_read.specs.declared.quoted.Quote.TheVariants.{Angle, Double}
+use Rattle.triples_read.proofs.Basics.{cons-tail, take-past, scalars-right, split-encodes}
 use Rattle.triples_read.proofs.Pieces.{body-unique}
 use Rattle.triples_read.proofs.Quoting.{quote_kind, quote_escapes}
-
--- what stands in front of a text is spelled by the first of its characters
-pub split-encodes : (s cs rest : List ℕ) → encodes cs ≡ encodes s ++ rest → (r : List ℕ) × (cs ≡ s ++ r) × (rest ≡ encodes r)
-split-encodes [] cs rest e = (cs, refl, sym e)
-split-encodes (x ∷ s) cs rest e =
-    let (es, front, behind) = cons_from_encodes cs (encodes s ++ rest) x (e ∙ append_assoc (encode x) (encodes s) rest) in
-    let (r, parts, left) = split-encodes s es rest behind in
-    (r, front ∙ ap (λ (z : List ℕ). x ∷ z) parts, left)
-
-and_both : (a b : Bool) → a && b ≡ true → (a ≡ true) × (b ≡ true)
-and_both true b h = (refl, h)
-and_both false b h = absurd cc
-
-pub scalars-right : (xs ys : List ℕ) → scalars (xs ++ ys) ≡ true → scalars ys ≡ true
-scalars-right [] ys h = h
-scalars-right (x ∷ xs) ys h = scalars-right xs ys (and_both (scalar x) (scalars (xs ++ ys)) h).1
-
-pub scalars-left : (xs ys : List ℕ) → scalars (xs ++ ys) ≡ true → scalars xs ≡ true
-scalars-left [] ys h = refl
-scalars-left (x ∷ xs) ys h =
-    let both = and_both (scalar x) (scalars (xs ++ ys)) h in
-    rw (both.0, scalars-left xs ys both.1) refl
 
 -- what follows a front of a text is a text
 pub text-rest : (b s r : List ℕ) → IsText b (s ++ r) → IsText (encodes r) r
@@ -48,7 +27,7 @@ in_quotes q body = opening q ∷ (body ++ closing q ∷ [])
 quotes_encoded : (q : Quote) (body : List ℕ) → encodes (in_quotes q body) ≡ opening q ∷ (encodes body ++ closing q ∷ [])
 quotes_encoded q body = rw (encode_ascii (opening q) (opening_ascii q), encodes-append body (closing q ∷ []), encode_ascii (closing q) (quote_kind q).end_ascii) refl
 
-quotes_before : (q : Quote) (body rest : List ℕ) → encodes (in_quotes q body) ++ rest ≡ opening q ∷ (encodes body ++ closing q ∷ rest)
+pub quotes_before : (q : Quote) (body rest : List ℕ) → encodes (in_quotes q body) ++ rest ≡ opening q ∷ (encodes body ++ closing q ∷ rest)
 quotes_before q body rest =
     ap (λ (z : List ℕ). z ++ rest) (quotes_encoded q body) ∙ ap (λ (z : List ℕ). opening q ∷ z) (append_assoc (encodes body) (closing q ∷ []) rest)
 
@@ -60,9 +39,6 @@ quoted-split q b cs v rest is (body, eq, m) =
 
 pub quoted-join : (q : Quote) (b body r v : List ℕ) → b ≡ encodes (in_quotes q body ++ r) → Many (PieceIn q) body v → IsQuoted q b v (encodes r)
 quoted-join q b body r v is m = (body, is ∙ encodes-append (in_quotes q body) r ∙ quotes_before q body (encodes r), m)
-
-cons-tail : {a b : ℕ} {xs ys : List ℕ} → a ∷ xs ≡ b ∷ ys → xs ≡ ys
-cons-tail e = cc
 
 -- one text has one quoted part at its front
 pub quoted-unique : (q : Quote) (b v w tail end : List ℕ) → IsQuoted q b v tail → IsQuoted q b w end → (v ≡ w) × (tail ≡ end)
@@ -84,10 +60,6 @@ front-quoted b n iri (le, s, front, (v, (body, sp, m), is)) =
     let whole : b ≡ encodes (in_quotes Angle body) ++ drop n b = sym (take-append-drop n b) ∙ ap (λ (z : List ℕ). z ++ drop n b) (front ∙ ap encodes sp) in
     (v, drop n b, is, omega (arith, le, length-drop n b), (body, whole ∙ quotes_before Angle body (drop n b), m))
 
-pub take-past : (xs ys : List ℕ) → take (length xs) (xs ++ ys) ≡ xs
-take-past [] ys = refl
-take-past (x ∷ xs) ys = ap (λ (z : List ℕ). x ∷ z) (take-past xs ys)
-
 pub quoted-front : (b v tail : List ℕ) → IsQuoted Angle b v tail → IsIriFront b (length b - length tail) (encodes v)
 quoted-front b v tail (body, eq, m) =
     let text : List ℕ = encodes (in_quotes Angle body) in
@@ -95,3 +67,11 @@ quoted-front b v tail (body, eq, m) =
     let size : length b ≡ length text + length tail = ap length whole ∙ length-append text tail in
     let count : length b - length tail ≡ length text = omega (arith, size) in
     (omega arith, in_quotes Angle body, ap (λ (n : ℕ). take n b) count ∙ ap (take (length text)) whole ∙ take-past text tail, (v, (body, refl, m), refl))
+
+-- the same in a front of the bytes
+pub quoted-within : (b front more v rest : List ℕ) → b ≡ front ++ more → IsQuoted Angle front v rest → IsIriFront b (length front - length rest) (encodes v)
+quoted-within b front more v rest is (body, eq, m) =
+    let whole : b ≡ 60 ∷ (encodes body ++ 62 ∷ (rest ++ more)) = is ∙ ap (λ (z : List ℕ). z ++ more) eq ∙ ap (λ (z : List ℕ). 60 ∷ z) (append_assoc (encodes body) (62 ∷ rest) more) in
+    let size : length b ≡ length front + length more = ap length is ∙ length-append front more in
+    let count : length b - length (rest ++ more) ≡ length front - length rest = omega (arith, size, length-append rest more) in
+    subst (λ (n : ℕ). IsIriFront b n (encodes v)) count (quoted-front b v (rest ++ more) (body, whole, m))

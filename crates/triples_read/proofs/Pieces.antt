@@ -1,16 +1,19 @@
 -- Pieces between quotes, read from the front.
-use Rattle.std.proofs.Common.{◌≡◌, ◌≢◌, ◌<◌, ◌≤◌, ◌+◌, ◌-◌, ℕ, suc, List, [], ◌∷◌, ◌++◌, length, take, drop, Bool, true, false, refl, sym, ◌∙◌, ap, subst, arith, cond, Some, None, Option, ◌⊎◌, inl, inr, append_assoc, length-append, get_or, drop-cons, ◌&&◌, not}
+use Rattle.std.proofs.Common.{◌≡◌, ◌≢◌, ◌<◌, ◌≤◌, ◌+◌, ◌-◌, ℕ, suc, List, [], ◌∷◌, ◌++◌, length, take, drop, Bool, true, false, refl, sym, ◌∙◌, ap, subst, arith, cond, Some, None, Option, inl, inr, append_assoc, length-append, get_or, drop-cons, not}
 use Rattle.std.specs.List.{AllByRecursion}
-use Rattle.std.proofs.Math.Utf8.{scalar, scalars, encode, encodes, low_scalar}
-use Rattle.std.proofs.lemmas.Str.{encode_same, encode_ascii, encodes-append, IsUtf8-take, IsCharBoundary-before_ascii}
+use Rattle.std.proofs.Math.Utf8.{scalar, scalars, encode, encodes}
+use Rattle.std.proofs.lemmas.Str.{encode_same, encode_ascii, encodes-append, IsUtf8-take, IsCharBoundary-before_ascii, IsCharBoundary-end}
 use Rattle.std.proofs.lemmas.Bool.{cases_lt, ltb-false}
 use Rattle.std.specs.List.{position_or_len, position, take_while}
 use Rattle.std.specs.Prelude.{IsUtf8, IfSome}
-use Rattle.std.proofs.lemmas.List.{take-append-drop, append-nil, get_or-append_right, get_or_append_left, take-append-le}
+use Rattle.std.specs.Str.{IsCharBoundary}
+use Rattle.std.proofs.lemmas.List.{take-append-drop, append-nil}
 use Rattle.std.proofs.Math.ListN.{drop_of_length-le}
-use Rattle.std.proofs.lemmas.List.Sums.{prefix_len-le-length, prefix_len_passes, passes_at_first, take_while-cons}
+use Rattle.std.proofs.lemmas.List.Sums.{prefix_len-le-length, passes_at_first, take_while-cons}
 use Rattle.triples_read.specs.Terminals.{Many}
+use Rattle.triples_read.specs.Reading.{starts_with}
 use Rattle.triples_read.specs.Bodies.{PieceOf, Body, Step, Adds, StopsAt, IsBodyFront}
+use Rattle.triples_read.proofs.Basics.{and_both, no_both, cons-tail, drop-past, scalars-both, seam, eqb_same, if_none, first_of, second_of, none_some}
 
 pub record Kind (class : ℕ → Bool) (e : ℕ) : Type 0 where
   pub no_escape : class 92 ≡ false
@@ -37,14 +40,6 @@ step-then P e a b c xs ys f g =
 
 abbrev pub AllPass : (ℕ → Bool) → List ℕ → Type 0
 AllPass p xs = AllByRecursion (λ x. p x ≡ true) xs
-
-pub bool_cases : (b : Bool) → (b ≡ true) ⊎ (b ≡ false)
-bool_cases true = inl refl
-bool_cases false = inr refl
-
-and_both : (a b : Bool) → a && b ≡ true → (a ≡ true) × (b ≡ true)
-and_both true b h = (refl, h)
-and_both false b h = absurd cc
 
 all_parts : (p : ℕ → Bool) (xs ys : List ℕ) → AllPass p (xs ++ ys) → AllPass p xs × AllPass p ys
 all_parts p [] ys h = (tt, h)
@@ -77,9 +72,6 @@ run-sound class Esc e (c ∷ cs) rest v tail ok all b =
 first_char : (c d : ℕ) (x y : List ℕ) → d < 128 → encode c ++ x ≡ d ∷ y → (c ≡ d) × (x ≡ y)
 first_char c d x y small eq = encode_same c d x y (eq ∙ ap (λ (z : List ℕ). z ++ y) (sym (encode_ascii d small)))
 
-no_both : (b : Bool) → b ≡ true → b ≡ false → ⊥
-no_both b t f = cc
-
 pub run-complete : (class : ℕ → Bool) (Esc : List ℕ → ℕ → Type 0) (esc_at : List ℕ → Option (ℕ × ℕ)) (e : ℕ) → Kind class e → Escapes Esc esc_at → (cs rest v tail : List ℕ) → AllPass class cs → Body (PieceOf class Esc) e (encodes cs ++ rest) v tail → (w : List ℕ) × (v ≡ cs ++ w) × Body (PieceOf class Esc) e rest w tail
 run-complete class Esc esc_at e k escapes [] rest v tail all b = (v, refl, b)
 run-complete class Esc esc_at e k escapes (c ∷ cs) rest [] tail all (s, eq, m) =
@@ -109,9 +101,6 @@ run-step class Esc esc_at e k escapes cs rest ok all =
       sound = λ v tail b. run-sound class Esc e cs rest v tail ok each b;
       complete = λ v tail b. run-complete class Esc esc_at e k escapes cs rest v tail each b;
     }
-
-cons-tail : {a b : ℕ} {xs ys : List ℕ} → a ∷ xs ≡ b ∷ ys → xs ≡ ys
-cons-tail e = cc
 
 -- at the end
 pub at_end : (class : ℕ → Bool) (Esc : List ℕ → ℕ → Type 0) (esc_at : List ℕ → Option (ℕ × ℕ)) (e : ℕ) → Kind class e → Escapes Esc esc_at → (b : ℕ) (after v tail : List ℕ) → b < 128 → class b ≡ false → b ≢ 92 → Body (PieceOf class Esc) e (b ∷ after) v tail → (b ≡ e) × (v ≡ []) × (after ≡ tail)
@@ -173,26 +162,12 @@ run-adds class Esc esc_at e k escapes rest old n is (cs, (ok, eq)) =
     let whole : encodes cs ++ drop n rest ≡ rest = ap (λ (z : List ℕ). z ++ drop n rest) eq ∙ take-append-drop n rest in
     (cs, ap (λ (z : List ℕ). old ++ z) (sym eq), subst (λ (z : List ℕ). Step (PieceOf class Esc) e z (drop n rest) cs) whole step)
 
-pub drop-past : (xs ys : List ℕ) → drop (length xs) (xs ++ ys) ≡ ys
-drop-past [] ys = refl
-drop-past (x ∷ xs) ys = drop-past xs ys
-
-pub scalars-both : (xs ys : List ℕ) → scalars xs ≡ true → scalars ys ≡ true → scalars (xs ++ ys) ≡ true
-scalars-both [] ys a b = b
-scalars-both (x ∷ xs) ys a b =
-    let both = and_both (scalar x) (scalars xs) a in
-    rw (both.0, scalars-both xs ys both.1 b) refl
-
 pub many-scalars : (class : ℕ → Bool) (Esc : List ℕ → ℕ → Type 0) (esc_at : List ℕ → Option (ℕ × ℕ)) → Escapes Esc esc_at → (v s : List ℕ) → Many (PieceOf class Esc) s v → scalars s ≡ true
 many-scalars class Esc esc_at escapes [] s m = rw m refl
 many-scalars class Esc esc_at escapes (d ∷ v) s (piece, left, parts, inl one, m) =
     rw (parts, one.0, one.1, many-scalars class Esc esc_at escapes v left m) refl
 many-scalars class Esc esc_at escapes (d ∷ v) s (piece, left, parts, inr esc, m) =
     rw parts (scalars-both piece left (escapes.text piece d esc) (many-scalars class Esc esc_at escapes v left m))
-
-not_not : (b : Bool) → not (not b) ≡ true → b ≡ true
-not_not true h = refl
-not_not false h = absurd cc
 
 not_true : (b : Bool) → not b ≡ true → b ≡ false
 not_true true h = absurd cc
@@ -205,40 +180,17 @@ ascii_stop class e k b h =
       | inr large ↦ absurd (no_both (class b) (k.wide b large) h)
     ]
 
-sub-self : (n : ℕ) → n - n ≡ 0
-sub-self n = omega arith
-
--- a run that is no text begins nothing
-pub run-bad : (class : ℕ → Bool) (Esc : List ℕ → ℕ → Type 0) (esc_at : List ℕ → Option (ℕ × ℕ)) (e : ℕ) → Kind class e → Escapes Esc esc_at → (rest : List ℕ) (n : ℕ) → n ≡ position_or_len (λ x. not (class x)) rest → (IsUtf8 (take n rest) → ⊥) → (v tail : List ℕ) → Body (PieceOf class Esc) e rest v tail → ⊥
-run-bad class Esc esc_at e k escapes rest n is bad v tail (s, eq, m) =
-    let ok = scalars-both s (e ∷ []) (many-scalars class Esc esc_at escapes v s m) (rw (low_scalar e (omega (arith, k.end_ascii))) refl) in
-    let text : encodes (s ++ e ∷ []) ≡ encodes s ++ e ∷ [] = encodes-append s (e ∷ []) ∙ ap (λ (z : List ℕ). encodes s ++ (z ++ [])) (encode_ascii e k.end_ascii) in
-    let whole : rest ≡ (encodes s ++ e ∷ []) ++ tail = eq ∙ sym (append_assoc (encodes s) (e ∷ []) tail) in
-    let utf8 : IsUtf8 (encodes s ++ e ∷ []) = (s ++ e ∷ [], (ok, text)) in
-    let long : length (encodes s ++ e ∷ []) ≡ length (encodes s) + 1 = length-append (encodes s) (e ∷ []) in
-    let size : length rest ≡ length (encodes s ++ e ∷ []) + length tail = ap length whole ∙ length-append (encodes s ++ e ∷ []) tail in
-    let here : get_or rest (length (encodes s)) 0 ≡ e =
-    ap (λ (z : List ℕ). get_or z (length (encodes s)) 0) eq ∙ get_or-append_right (encodes s) (e ∷ tail) (length (encodes s)) (length (encodes s)) 0 refl (omega arith) ∙ ap (λ (i : ℕ). get_or (e ∷ tail) i 0) (sub-self (length (encodes s))) in
-    let inside : n ≤ length (encodes s) =
-    elim (cases_lt (length (encodes s)) n) [
-      | inl past ↦ absurd (no_both (class e) (ap class (sym here) ∙ not_not _ (prefix_len_passes (λ x. not (not (class x))) rest (length (encodes s)) 0 (subst (λ (i : ℕ). length (encodes s) < i) is past))) k.no_end)
-      | inr before ↦ before
-    ] in
-    let stops : class (get_or rest n 0) ≡ false =
-    ap (λ (i : ℕ). class (get_or rest i 0)) is ∙ not_true _ (passes_at_first (λ x. not (class x)) rest 0 (omega (arith, inside, long, size, is))) in
-    let read : get_or rest n 0 ≡ get_or (encodes s ++ e ∷ []) n 0 = ap (λ (z : List ℕ). get_or z n 0) whole ∙ get_or_append_left (encodes s ++ e ∷ []) tail 0 n (omega (arith, inside, long)) in
-    let small : get_or (encodes s ++ e ∷ []) n 0 < 128 = subst (λ (b : ℕ). b < 128) read (ascii_stop class e k _ stops) in
-    let cut = IsUtf8-take (encodes s ++ e ∷ []) n utf8 (IsCharBoundary-before_ascii (encodes s ++ e ∷ []) n (omega (arith, inside, long)) small) in
-    let same : take n rest ≡ take n (encodes s ++ e ∷ []) = ap (take n) whole ∙ take-append-le n (encodes s ++ e ∷ []) tail (omega (arith, inside, long)) in
-    bad (subst IsUtf8 (sym same) cut)
-
-abbrev first_of : Option (ℕ × ℕ) → ℕ
-first_of None = 0
-first_of (Some p) = p.0
-
-abbrev second_of : Option (ℕ × ℕ) → ℕ
-second_of None = 0
-second_of (Some p) = p.1
+-- a run ends where a character does
+pub run-boundary : (class : ℕ → Bool) (e : ℕ) → Kind class e → (rest : List ℕ) (n : ℕ) → n ≡ position_or_len (λ x. not (class x)) rest → IsCharBoundary rest n
+run-boundary class e k rest n is =
+    elim (cases_lt n (length rest)) [
+      | inl inside ↦ (
+          let stops : class (get_or rest n 0) ≡ false = ap (λ (i : ℕ). class (get_or rest i 0)) is ∙ not_true _ (passes_at_first (λ x. not (class x)) rest 0 (subst (λ (i : ℕ). i < length rest) is inside)) in
+          IsCharBoundary-before_ascii rest n inside (ascii_stop class e k _ stops))
+      | inr past ↦ (
+          let all : length rest ≡ n = omega (arith, past, is, prefix_len-le-length (λ x. not (not (class x))) rest) in
+          subst (IsCharBoundary rest) all (IsCharBoundary-end rest))
+    ]
 
 -- an escape behind its backslash
 pub escape-step : (class : ℕ → Bool) (Esc : List ℕ → ℕ → Type 0) (esc_at : List ℕ → Option (ℕ × ℕ)) (e : ℕ) → Kind class e → Escapes Esc esc_at → (bs : List ℕ) (c n : ℕ) → esc_at bs ≡ Some (c, n) → Step (PieceOf class Esc) e (92 ∷ bs) (drop (n - 1) bs) (c ∷ [])
@@ -268,13 +220,10 @@ pub escape-adds : (class : ℕ → Bool) (Esc : List ℕ → ℕ → Type 0) (es
 escape-adds class Esc esc_at e k escapes bs old c n found =
     (c ∷ [], ap (λ (z : List ℕ). old ++ z) (sym (append-nil (encode c))), escape-step class Esc esc_at e k escapes bs c n found)
 
-none_pair : (m : ℕ × ℕ) → ◌≡◌ {A = Option (ℕ × ℕ)} None (Some m) → ⊥
-none_pair m e = cc
-
 pub escape-none : (class : ℕ → Bool) (Esc : List ℕ → ℕ → Type 0) (esc_at : List ℕ → Option (ℕ × ℕ)) (e : ℕ) → Kind class e → Escapes Esc esc_at → (bs : List ℕ) → None ≡ esc_at bs → (v tail : List ℕ) → Body (PieceOf class Esc) e (92 ∷ bs) v tail → ⊥
 escape-none class Esc esc_at e k escapes bs none v tail b =
     let (d, w, t, left, is, cut, m, read) = escape-here class Esc esc_at e k escapes bs v tail b in
-    none_pair (d, suc (length t)) (none ∙ read)
+    none_some (d, suc (length t)) (none ∙ read)
 
 pub escape-within : (Esc : List ℕ → ℕ → Type 0) (esc_at : List ℕ → Option (ℕ × ℕ)) → Escapes Esc esc_at → (bs : List ℕ) (r : Option (ℕ × ℕ)) → r ≡ esc_at bs → IfSome r (λ found. (0 < found.1) × (found.1 ≤ length bs + 1))
 escape-within Esc esc_at escapes bs None e = tt
@@ -286,6 +235,17 @@ escape-within Esc esc_at escapes bs (Some (c, n)) e =
     let count : n ≡ suc (length known.0) = len ∙ ap length known.1 in
     (omega (arith, count), omega (arith, count, size))
 
+-- an escape ends where a character does
+pub escape-boundary : (Esc : List ℕ → ℕ → Type 0) (esc_at : List ℕ → Option (ℕ × ℕ)) → Escapes Esc esc_at → (bs : List ℕ) (c n : ℕ) → IsUtf8 bs → Some (c, n) ≡ esc_at bs → IsCharBoundary bs (n - 1)
+escape-boundary Esc esc_at escapes bs c n utf8 found =
+    let (p, rest, parts, len, esc, plain) = escapes.sound bs c n (sym found) in
+    let known = escapes.complete p c esc in
+    let behind : bs ≡ known.0 ++ rest = cons-tail (parts ∙ ap (λ (z : List ℕ). z ++ rest) known.1) in
+    let first : encodes (92 ∷ known.0) ≡ 92 ∷ encodes known.0 = rw (encode_ascii 92 (omega arith)) refl in
+    let own : encodes known.0 ≡ known.0 = cons-tail (sym first ∙ ap encodes (sym known.1) ∙ plain ∙ known.1) in
+    let count : n - 1 ≡ length known.0 = ap (λ (i : ℕ). i - 1) (len ∙ ap length known.1) ∙ omega arith in
+    subst (IsCharBoundary bs) (ap length own ∙ sym count) (seam known.0 rest bs utf8 (behind ∙ ap (λ (z : List ℕ). z ++ rest) (sym own)))
+
 pub adds-then : (P : List ℕ → ℕ → Type 0) (e : ℕ) (old mid new rest after next : List ℕ) → Adds P e old mid rest after → Adds P e mid new after next → Adds P e old new rest next
 adds-then P e old mid new rest after next (xs, is, f) (ys, is', g) =
     (xs ++ ys, is' ∙ ap (λ (z : List ℕ). z ++ encodes ys) is ∙ append_assoc old (encodes xs) (encodes ys) ∙ ap (λ (z : List ℕ). old ++ z) (sym (encodes-append xs ys)), step-then P e rest after next xs ys f g)
@@ -294,11 +254,11 @@ pub adds-none : (P : List ℕ → ℕ → Type 0) (e : ℕ) (old mid rest after 
 adds-none P e old mid rest after (xs, is, f) none v tail b =
     let on = f.complete v tail b in none on.0 tail on.2
 
-pub run-added : (class : ℕ → Bool) (Esc : List ℕ → ℕ → Type 0) (esc_at : List ℕ → Option (ℕ × ℕ)) (e : ℕ) → Kind class e → Escapes Esc esc_at → (rest old new run front after : List ℕ) (n : ℕ) → n ≡ position_or_len (λ x. not (class x)) rest → front ≡ take n rest → after ≡ drop n rest → IsUtf8 front → run ≡ front → new ≡ old ++ run → Adds (PieceOf class Esc) e old new rest after
-run-added class Esc esc_at e k escapes rest old new run front after n is front_is after_is utf8 same text =
-    let made = run-adds class Esc esc_at e k escapes rest old n is (subst IsUtf8 front_is utf8) in
+pub run-added : (class : ℕ → Bool) (Esc : List ℕ → ℕ → Type 0) (esc_at : List ℕ → Option (ℕ × ℕ)) (e : ℕ) → Kind class e → Escapes Esc esc_at → (rest old new run after : List ℕ) (n : ℕ) → IsUtf8 rest → n ≡ position_or_len (λ x. not (class x)) rest → run ≡ take n rest → after ≡ drop n rest → new ≡ old ++ run → Adds (PieceOf class Esc) e old new rest after
+run-added class Esc esc_at e k escapes rest old new run after n utf8 is run_is after_is text =
+    let made = run-adds class Esc esc_at e k escapes rest old n is (IsUtf8-take rest n utf8 (run-boundary class e k rest n is)) in
     let to_after : Adds (PieceOf class Esc) e old (old ++ take n rest) rest after = subst (λ (z : List ℕ). Adds (PieceOf class Esc) e old (old ++ take n rest) rest z) (sym after_is) made in
-    subst (λ (z : List ℕ). Adds (PieceOf class Esc) e old z rest after) (sym (text ∙ ap (λ (z : List ℕ). old ++ z) (same ∙ front_is))) to_after
+    subst (λ (z : List ℕ). Adds (PieceOf class Esc) e old z rest after) (sym (text ∙ ap (λ (z : List ℕ). old ++ z) run_is)) to_after
 
 pub escape-added : (class : ℕ → Bool) (Esc : List ℕ → ℕ → Type 0) (esc_at : List ℕ → Option (ℕ × ℕ)) (e : ℕ) → Kind class e → Escapes Esc esc_at → (bs old new after : List ℕ) (c n : ℕ) → Some (c, n) ≡ esc_at bs → after ≡ drop (n - 1) bs → new ≡ old ++ encode c → Adds (PieceOf class Esc) e old new (92 ∷ bs) after
 escape-added class Esc esc_at e k escapes bs old new after c n found after_is text =
@@ -306,13 +266,9 @@ escape-added class Esc esc_at e k escapes bs old new after c n found after_is te
     let to_after : Adds (PieceOf class Esc) e old (old ++ encode c) (92 ∷ bs) after = subst (λ (z : List ℕ). Adds (PieceOf class Esc) e old (old ++ encode c) (92 ∷ bs) z) (sym after_is) made in
     subst (λ (z : List ℕ). Adds (PieceOf class Esc) e old z (92 ∷ bs) after) (sym text) to_after
 
-if_none_at : {A : Type 0} (b : Bool) (x : A) → ◌≡◌ {A = Option A} None (cond b (Some x) None) → b ≡ false
-if_none_at true x e = absurd cc
-if_none_at false x e = refl
-
 pub position-none : (p : ℕ → Bool) (xs : List ℕ) → None ≡ position p xs → length xs ≡ position_or_len p xs
 position-none p xs none =
-    let past = ltb-false (position_or_len p xs) (length xs) (if_none_at _ _ none) in
+    let past = ltb-false (position_or_len p xs) (length xs) (if_none _ _ none) in
     omega (arith, past, prefix_len-le-length (λ x. not (p x)) xs)
 
 pub run-stops : (class : ℕ → Bool) (rest after : List ℕ) (n : ℕ) → n ≡ position_or_len (λ x. not (class x)) rest → after ≡ drop n rest → StopsAt class after
@@ -324,11 +280,11 @@ run-stops class rest after n is after_is =
       | inr past ↦ subst (StopsAt class) (sym (after_is ∙ drop_of_length-le rest past)) tt
     ]
 
-pub stop-none : (class : ℕ → Bool) (Esc : List ℕ → ℕ → Type 0) (esc_at : List ℕ → Option (ℕ × ℕ)) (e : ℕ) → Kind class e → Escapes Esc esc_at → (after bs : List ℕ) (b : ℕ) → StopsAt class after → after ≡ b ∷ bs → b ≢ e → b ≢ 92 → (v tail : List ℕ) → Body (PieceOf class Esc) e after v tail → ⊥
-stop-none class Esc esc_at e k escapes after bs b stop is no_end no_escape v tail body =
-    let out : class b ≡ false = subst (StopsAt class) is stop in
-    let at = at_end class Esc esc_at e k escapes b bs v tail (ascii_stop class e k b out) out no_escape (subst (λ (z : List ℕ). Body (PieceOf class Esc) e z v tail) is body) in
-    no_end at.0
+pub stop-none : (class : ℕ → Bool) (Esc : List ℕ → ℕ → Type 0) (esc_at : List ℕ → Option (ℕ × ℕ)) (e : ℕ) → Kind class e → Escapes Esc esc_at → (after : List ℕ) → StopsAt class after → starts_with e after ≡ false → starts_with 92 after ≡ false → (v tail : List ℕ) → Body (PieceOf class Esc) e after v tail → ⊥
+stop-none class Esc esc_at e k escapes [] stop no_end no_escape v tail body = end-nothing (PieceOf class Esc) e v tail body
+stop-none class Esc esc_at e k escapes (b ∷ bs) stop no_end no_escape v tail body =
+    let at = at_end class Esc esc_at e k escapes b bs v tail (ascii_stop class e k b stop) stop (λ is. no_both _ (eqb_same b 92 is) no_escape) body in
+    no_both _ (eqb_same b e at.0) no_end
 
 pub ended-found : (P : List ℕ → ℕ → Type 0) (e : ℕ) (text bytes tail : List ℕ) → Adds P e [] text bytes (e ∷ tail) → IsBodyFront P e bytes text tail
 ended-found P e text bytes tail (cs, is, f) =

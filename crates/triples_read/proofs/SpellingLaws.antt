@@ -1,5 +1,5 @@
 -- What is written is spelled so.
-use Rattle.std.proofs.Common.{◌≡◌, ◌<◌, ◌/◌, ◌%◌, ℕ, List, [], ◌∷◌, Bool, true, false, refl, sym, arith, inl, inr, ◌&&◌}
+use Rattle.std.proofs.Common.{◌≡◌, ◌<◌, ◌/◌, ◌%◌, ℕ, List, [], ◌∷◌, true, false, refl, sym, arith, inl, inr}
 use Rattle.std.specs.Char.{digit_value}
 use Rattle.std.specs.List.{flat_map}
 use Rattle.std.proofs.Math.Utf8.{scalar, scalars}
@@ -9,7 +9,7 @@ use Rattle.std.proofs.lemmas.List.Concat.{flat_map-cons}
 use Rattle.triples_read.specs.Characters.{is_iri_char, is_hex}
 use Rattle.triples_read.specs.Terminals.{Many, IriPiece, hex_number}
 use Rattle.triples_read.specs.Canonical.{upper_hex, iri_char}
-use Rattle.triples_read.proofs.Pieces.{bool_cases}
+use Rattle.triples_read.proofs.Basics.{bool_cases, and_both, no_both}
 use Rattle.triples_read.proofs.Uchars.{iri_kind}
 
 value_of : (d : ℕ) → d < 16 → digit_value (upper_hex d) ≡ d
@@ -17,9 +17,6 @@ value_of d small = grind (arith, nat_tests)
 
 is_digit_of : (d : ℕ) → d < 16 → is_hex (upper_hex d) ≡ true
 is_digit_of d small = let v = value_of d small in rw v (grind (arith, nat_tests))
-
-no_both : (b : Bool) → b ≡ true → b ≡ false → ⊥
-no_both b t f = cc
 
 excluded_small : (c : ℕ) → is_iri_char c ≡ false → c < 128
 excluded_small c bad = elim (cases_lt c 128) [ inl small ↦ small | inr large ↦ absurd (no_both (is_iri_char c) (iri_kind.wide c large) bad) ]
@@ -38,10 +35,6 @@ piece_of c ok =
           let small = excluded_small c bad in
           (117, 48 ∷ 48 ∷ upper_hex (c / 16) ∷ upper_hex (c % 16) ∷ [], rw bad refl, inl (refl, refl), (refl, (refl, (is_digit_of (c / 16) (omega arith), (is_digit_of (c % 16) (omega arith), tt)))), sym (number_of c small), ok))
     ]
-
-and_both : (a b : Bool) → a && b ≡ true → (a ≡ true) × (b ≡ true)
-and_both true b h = (refl, h)
-and_both false b h = absurd cc
 
 pub pieces_of : (cs : List ℕ) → scalars cs ≡ true → Many IriPiece (flat_map iri_char cs) cs
 pieces_of [] ok = refl

@@ -8,6 +8,7 @@ use Rattle.triples_read.specs.Characters.{is_string_char}
 use Rattle.triples_read.specs.Terminals.{escape_of}
 use Rattle.triples_read.specs.Reading.{uchar_at, escape_or, string_escape_at}
 use Rattle.triples_read.specs.Quotes.{StringEscape}
+use Rattle.triples_read.proofs.Basics.{cons-tail, first_of, second_of}
 use Rattle.triples_read.proofs.Pieces.{Escapes, Kind}
 use Rattle.triples_read.proofs.Uchars.{uchar_escapes}
 
@@ -23,14 +24,6 @@ echar_small x c e = elim (cases_lt x 128) [ inl small ↦ small | inr large ↦ 
 echar_ascii : (x c : ℕ) → escape_of x ≡ Some c → encodes (92 ∷ x ∷ []) ≡ 92 ∷ x ∷ []
 echar_ascii x c e = rw (encode_ascii 92 (omega arith), encode_ascii x (echar_small x c e)) refl
 
-abbrev first_of : Option (ℕ × ℕ) → ℕ
-first_of None = 0
-first_of (Some p) = p.0
-
-abbrev second_of : Option (ℕ × ℕ) → ℕ
-second_of None = 0
-second_of (Some p) = p.1
-
 sound-of : (x : ℕ) (bs : List ℕ) (c n : ℕ) (o : Option ℕ) → escape_of x ≡ o → escape_or o (uchar_at (x ∷ bs)) ≡ Some (c, n) → (s : List ℕ) × (rest : List ℕ) × (92 ∷ x ∷ bs ≡ s ++ rest) × (n ≡ length s) × StringEscape s c × (encodes s ≡ s)
 sound-of x bs c n (Some d) is e =
     (92 ∷ x ∷ [], bs, refl, sym (ap second_of e), inl (x, refl, is ∙ ap Some (ap first_of e)), echar_ascii x d is)
@@ -45,9 +38,6 @@ string-sound (x ∷ bs) c n e = sound-of x bs c n (escape_of x) refl e
 string-text : (s : List ℕ) (c : ℕ) → StringEscape s c → scalars s ≡ true
 string-text s c (inl (x, sp, is)) = rw (sp, low_scalar 92 (omega arith), low_scalar x (omega (arith, echar_small x c is))) refl
 string-text s c (inr u) = uchar_escapes.text s c u
-
-cons-tail : {a b : ℕ} {xs ys : List ℕ} → a ∷ xs ≡ b ∷ ys → xs ≡ ys
-cons-tail e = cc
 
 string-complete : (s : List ℕ) (c : ℕ) → StringEscape s c → (t : List ℕ) × (s ≡ 92 ∷ t) × (encodes s ≡ s) × ((rest : List ℕ) → string_escape_at (t ++ rest) ≡ Some (c, length s))
 string-complete s c (inl (x, sp, is)) =

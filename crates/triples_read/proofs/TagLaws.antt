@@ -1,6 +1,7 @@
 -- Language tags at the front.
 use Rattle.std.proofs.Common.{◌≡◌, ◌≢◌, ◌<◌, ◌≤◌, ◌+◌, ◌-◌, ℕ, List, [], ◌∷◌, ◌++◌, length, take, drop, map, Bool, true, false, refl, sym, ◌∙◌, ap, subst, arith, inl, inr, append_assoc, length-append, Option, Some, None}
 use Rattle.std.specs.Prelude.{nat_eq, IsUtf8}
+use Rattle.std.specs.Str.{IsCharBoundary}
 use Rattle.std.specs.Char.{IsScalar, to_ascii_lowercase}
 use Rattle.std.specs.List.{AllByRecursion, flat_map}
 use Rattle.std.proofs.Math.Utf8.{scalars, encodes, low_scalar}
@@ -12,8 +13,7 @@ use Rattle.triples_read.specs.Characters.{is_letter, is_letter_or_digit}
 use Rattle.triples_read.specs.Terminals.{AllOf, OneOrMore, LANGTAG}
 use Rattle.triples_read.specs.Reading.{past_tag, tag_part}
 use Rattle.triples_read.specs.Fronts.{Front, IsText, EndsTag}
-use Rattle.triples_read.proofs.Pieces.{bool_cases, drop-past}
-use Rattle.triples_read.proofs.Opening.{split-encodes, scalars-left, scalars-right, take-past}
+use Rattle.triples_read.proofs.Basics.{bool_cases, no_both, cons-tail, drop-past, take-past, scalars-right, split-encodes, seam, none_some}
 use Rattle.triples_read.proofs.BlankLaws.{own_bytes}
 
 abbrev pub dashed : List (List ℕ) → List ℕ
@@ -38,9 +38,6 @@ past-stop main c cs e d = rw (e, d) refl
 part_wide : (c : ℕ) → 128 ≤ c → is_letter_or_digit c ≡ false
 part_wide c large = grind (arith, nat_tests)
 
-no_both : (b : Bool) → b ≡ true → b ≡ false → ⊥
-no_both b t f = cc
-
 letter_part : (main : Bool) (c : ℕ) → is_letter_or_digit c ≡ false → tag_part main c ≡ false
 letter_part true c e = elim (bool_cases (is_letter c)) [ inl h ↦ absurd (no_both (is_letter_or_digit c) (rw h refl) e) | inr h ↦ h ]
 letter_part false c e = e
@@ -57,9 +54,6 @@ part_scalar main c e = low_scalar c (omega (arith, part_small main c e))
 
 pub no_cons : (c : ℕ) (cs : List ℕ) → c ∷ cs ≡ [] → ⊥
 no_cons c cs e = cc
-
-pub none_some : (r : List ℕ) → ◌≡◌ {A = Option (List ℕ)} None (Some r) → ⊥
-none_some r e = cc
 
 pub some_same : (a b : List ℕ) → ◌≡◌ {A = Option (List ℕ)} (Some a) (Some b) → a ≡ b
 some_same a b e = cc
@@ -121,9 +115,6 @@ rest-whole s main fresh r (part, subs, is, all, some, others) ends =
     ∙ ap (past_tag main fresh) (append_assoc part (dashed subs) r)
     ∙ part-on part main fresh (dashed subs ++ r) r all some (subs-on subs main r others ends)
 
-cons-tail : {a b : ℕ} {xs ys : List ℕ} → a ∷ xs ≡ b ∷ ys → xs ≡ ys
-cons-tail e = cc
-
 pub langtag-rest : (s tag : List ℕ) → LANGTAG (64 ∷ s) tag → TagRest true true s × (tag ≡ map to_ascii_lowercase s)
 langtag-rest s tag (main, subs, first, others, is, lower) = ((main, subs, cons-tail is, first.1, (λ t. first.0), others), cons-tail lower)
 
@@ -161,25 +152,18 @@ tag-found b rest front back text cs read front_is back_is text_is is =
     (s, r, split, (back_is ∙ cut.1 ∙ left, scalars-right s r (sym (ap scalars split) ∙ is.1)), subst (LANGTAG (64 ∷ s)) (ap (map to_ascii_lowercase) (sym cut.0 ∙ sym front_is) ∙ sym text_is) (rest-langtag s tag))
 
 -- the tag that stands there is read
-pub tag-stands : (b s r tag : List ℕ) → IsText b (s ++ r) → LANGTAG (64 ∷ s) tag → EndsTag (encodes r) → (past_tag true true b ≡ Some (encodes r)) × (tag ≡ map to_ascii_lowercase s) × (b ≡ s ++ encodes r) × IsUtf8 s
+pub tag-stands : (b s r tag : List ℕ) → IsText b (s ++ r) → LANGTAG (64 ∷ s) tag → EndsTag (encodes r) → (past_tag true true b ≡ Some (encodes r)) × (tag ≡ map to_ascii_lowercase s) × (b ≡ s ++ encodes r)
 tag-stands b s r tag is langtag ends =
     let (rest, lower) = langtag-rest s tag langtag in
     let bytes : b ≡ s ++ encodes r = is.0 ∙ encodes-append s r ∙ ap (λ (z : List ℕ). z ++ encodes r) (rest_bytes s true true rest) in
-    (ap (past_tag true true) bytes ∙ rest-whole s true true (encodes r) rest ends, lower, bytes, (s, (scalars-left s r is.1, rest_bytes s true true rest)))
+    (ap (past_tag true true) bytes ∙ rest-whole s true true (encodes r) rest ends, lower, bytes)
 
 pub tag-only : (b rest s r tag front back text : List ℕ) → past_tag true true b ≡ Some rest → front ≡ take (length b - length rest) b → back ≡ drop (length b - length rest) b → text ≡ map to_ascii_lowercase front → IsText b (s ++ r) → LANGTAG (64 ∷ s) tag → EndsTag (encodes r) → (text ≡ tag) × (back ≡ encodes r)
 tag-only b rest s r tag front back text read front_is back_is text_is is langtag ends =
-    let (whole, lower, bytes, utf8) = tag-stands b s r tag is langtag ends in
+    let (whole, lower, bytes) = tag-stands b s r tag is langtag ends in
     let same : rest ≡ encodes r = some_same rest (encodes r) (sym read ∙ whole) in
     let cut = cut_at b s rest (bytes ∙ ap (λ (z : List ℕ). s ++ z) (sym same)) in
     (text_is ∙ ap (map to_ascii_lowercase) (front_is ∙ cut.0) ∙ sym lower, back_is ∙ cut.1 ∙ same)
-
-pub tag-text : (b rest s r tag front : List ℕ) → past_tag true true b ≡ Some rest → front ≡ take (length b - length rest) b → (IsUtf8 front → ⊥) → IsText b (s ++ r) → LANGTAG (64 ∷ s) tag → EndsTag (encodes r) → ⊥
-tag-text b rest s r tag front read front_is bad is langtag ends =
-    let (whole, lower, bytes, utf8) = tag-stands b s r tag is langtag ends in
-    let same : rest ≡ encodes r = some_same rest (encodes r) (sym read ∙ whole) in
-    let cut = cut_at b s rest (bytes ∙ ap (λ (z : List ℕ). s ++ z) (sym same)) in
-    bad (subst IsUtf8 (sym (front_is ∙ cut.0)) utf8)
 
 pub tag-none : (b s r tag : List ℕ) → past_tag true true b ≡ None → IsText b (s ++ r) → LANGTAG (64 ∷ s) tag → EndsTag (encodes r) → ⊥
 tag-none b s r tag none is langtag ends = none_some (encodes r) (sym none ∙ (tag-stands b s r tag is langtag ends).0)
@@ -189,3 +173,12 @@ tag-within b rest read =
     let (s, parts, tag) = tag-read b true true rest read in
     let size : length b ≡ length s + length rest = ap length parts ∙ length-append s rest in
     omega (arith, size)
+
+-- a tag ends where a character does
+pub tag-boundary : (b rest : List ℕ) → IsUtf8 b → past_tag true true b ≡ Some rest → IsCharBoundary b (length b - length rest)
+tag-boundary b rest utf8 read =
+    let (s, parts, tag) = tag-read b true true rest read in
+    let own = rest_bytes s true true tag in
+    let size : length b ≡ length s + length rest = ap length parts ∙ length-append s rest in
+    let count : length (encodes s) ≡ length b - length rest = ap length own ∙ omega (arith, size) in
+    subst (IsCharBoundary b) count (seam s rest b utf8 (parts ∙ ap (λ (z : List ℕ). z ++ rest) (sym own)))

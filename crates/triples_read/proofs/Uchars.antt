@@ -1,5 +1,5 @@
 -- UCHAR against the function that reads it.
-use Rattle.std.proofs.Common.{◌≡◌, ◌<◌, ◌≤◌, ◌+◌, ◌*◌, ℕ, zero, suc, List, [], ◌∷◌, ◌++◌, length, Bool, true, false, refl, sym, ◌∙◌, ap, subst, arith, Some, None, Option, ◌⊎◌, inl, inr}
+use Rattle.std.proofs.Common.{◌≡◌, ◌<◌, ◌≤◌, ◌+◌, ◌*◌, ℕ, zero, suc, List, [], ◌∷◌, ◌++◌, length, true, refl, sym, ◌∙◌, ap, subst, arith, Some, None, Option, ◌⊎◌, inl, inr}
 use Rattle.std.specs.Prelude.{nat_eq}
 use Rattle.std.specs.Char.{digit_value}
 use Rattle.std.specs.List.{AllByRecursion}
@@ -10,25 +10,8 @@ use Rattle.std.proofs.lemmas.Bool.Decides.{nat_tests}
 use Rattle.triples_read.specs.Characters.{is_hex, is_iri_char}
 use Rattle.triples_read.specs.Terminals.{UCHAR, HEX, hex_number}
 use Rattle.triples_read.specs.Reading.{hex_at, scalar_of, with_len, uchar_at}
+use Rattle.triples_read.proofs.Basics.{bool_cases, first_of, second_of, none_some}
 use Rattle.triples_read.proofs.Pieces.{Escapes, Kind}
-
-pub bool_cases : (b : Bool) → (b ≡ true) ⊎ (b ≡ false)
-bool_cases true = inl refl
-bool_cases false = inr refl
-
-none_some : (m : ℕ) → ◌≡◌ {A = Option ℕ} None (Some m) → ⊥
-none_some m e = cc
-
-none_pair : (m : ℕ × ℕ) → ◌≡◌ {A = Option (ℕ × ℕ)} None (Some m) → ⊥
-none_pair m e = cc
-
-abbrev first_of : Option (ℕ × ℕ) → ℕ
-first_of None = 0
-first_of (Some p) = p.0
-
-abbrev second_of : Option (ℕ × ℕ) → ℕ
-second_of None = 0
-second_of (Some p) = p.1
 
 pair_some : (a b c d : ℕ) → ◌≡◌ {A = Option (ℕ × ℕ)} (Some (a, b)) (Some (c, d)) → (a ≡ c) × (b ≡ d)
 pair_some a b c d e = (ap first_of e, ap second_of e)
@@ -71,7 +54,7 @@ scalar-some (Some m) k c n e =
           let known : ◌≡◌ {A = Option (ℕ × ℕ)} (Some (m, k)) (Some (c, n)) = sym (rw good refl) ∙ e in
           let both = pair_some m k c n known in
           (ap Some both.0, ap scalar (sym both.0) ∙ good, sym both.1))
-      | inr bad ↦ absurd (none_pair (c, n) (sym (rw bad refl) ∙ e))
+      | inr bad ↦ absurd (none_some (c, n) (sym (rw bad refl) ∙ e))
     ]
 
 abbrev Which : ℕ → ℕ → Type 0
@@ -98,7 +81,7 @@ uchar-sound (u ∷ bs) c n e =
       | inl short ↦ sound-of u 4 c n 6 bs (inl (eqb-true u 117 short, refl)) refl (sym (rw short refl) ∙ e)
       | inr other ↦ elim (bool_cases (nat_eq u 85)) [
         | inl long ↦ sound-of u 8 c n 10 bs (inr (eqb-true u 85 long, refl)) refl (sym (rw (other, long) refl) ∙ e)
-        | inr none ↦ absurd (none_pair (c, n) (sym (rw (other, none) refl) ∙ e))
+        | inr none ↦ absurd (none_some (c, n) (sym (rw (other, none) refl) ∙ e))
       ]
     ]
 

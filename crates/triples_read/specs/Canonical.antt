@@ -4,13 +4,11 @@ use Rattle.std.specs.List.{flat_map}
 use Rattle.std.specs.Str.{chars}
 use Rattle.triples_read.specs.Characters.{is_iri_char}
 use Rattle.triples_read.specs.Lines.{xsd_string, Spells}
-use Rattle.triples_read.specs.Quotes.{opening, closing}
-use Rattle.triples_read.specs.declared.quoted.Quote.{Quote}
-use Rattle.triples_read.specs.declared.quoted.Quote.TheVariants.{Angle, Double}
 use Rattle.triples_read.specs.declared.term.Term.{Term}
 use Rattle.triples_read.specs.declared.term.Term.TheVariants.{Iri, Blank, Literal}
 use Rattle.triples_read.specs.declared.term.Triple.{Triple}
 
+-- the digit of a number below 16: 0 to 9, A to F
 abbrev pub upper_hex : ℕ → ℕ
 upper_hex d = if nat_lt d 10 then 48 + d else 55 + d
 
@@ -22,30 +20,26 @@ iri_char c = if is_iri_char c then c ∷ [] else 92 ∷ 117 ∷ 48 ∷ 48 ∷ up
 abbrev pub string_char : ℕ → List ℕ
 string_char c = if c == 34 then 92 ∷ 34 ∷ [] else if c == 92 then 92 ∷ 92 ∷ [] else if c == 10 then 92 ∷ 110 ∷ [] else if c == 13 then 92 ∷ 114 ∷ [] else c ∷ []
 
-abbrev pub quoted_char : Quote → ℕ → List ℕ
-quoted_char Angle = iri_char
-quoted_char Double = string_char
-
--- between quotes
-abbrev pub quoted_text : Quote → List ℕ → List ℕ
-quoted_text q cs = opening q ∷ (flat_map (quoted_char q) cs ++ closing q ∷ [])
-
+-- '<', the characters of an IRI, '>'
 abbrev pub iri_text : List ℕ → List ℕ
-iri_text cs = quoted_text Angle cs
+iri_text cs = 60 ∷ (flat_map iri_char cs ++ 62 ∷ [])
 
+-- '"', the characters of a string, '"'
 abbrev pub string_text : List ℕ → List ℕ
-string_text cs = quoted_text Double cs
+string_text cs = 34 ∷ (flat_map string_char cs ++ 34 ∷ [])
 
 -- the tag where there is one; else nothing for the string datatype; else the datatype
 abbrev pub suffix_text : List ℕ → Option (List ℕ) → List ℕ
 suffix_text datatype None = if bytes_eq datatype xsd_string then [] else 94 ∷ 94 ∷ iri_text (chars datatype)
 suffix_text datatype (Some tag) = 64 ∷ chars tag
 
+-- an IRI, '_:' and a label, or a string and what follows it
 abbrev pub term_text : Term → List ℕ
 term_text (Iri iri) = iri_text (chars iri)
 term_text (Blank label) = 95 ∷ 58 ∷ chars label
 term_text (Literal text datatype tag) = string_text (chars text) ++ suffix_text datatype tag
 
+-- the three parts, each followed by one space, and a dot
 abbrev pub triple_text : Triple → List ℕ
 triple_text t = term_text t.subject ++ (32 ∷ (iri_text (chars t.predicate) ++ (32 ∷ (term_text t.object ++ (32 ∷ 46 ∷ [])))))
 

@@ -1,14 +1,10 @@
--- What stands at the front of bytes or of characters.
-use Rattle.std.specs.Prelude.{ℕ, List, [], ◌∷◌, ◌++◌, ◌≡◌, ◌≢◌, ◌≤◌, length, false, take, true, encode_utf8_all}
+-- What stands at the front of bytes or of characters: what private readers say.
+use Rattle.std.specs.Prelude.{ℕ, List, [], ◌∷◌, ◌++◌, ◌≡◌, ◌≢◌, false, true, encode_utf8_all}
 use Rattle.std.specs.Str.{all_scalars}
+use Rattle.std.specs.List.{AllByRecursion}
 use Rattle.triples_read.specs.Characters.{is_letter_or_digit}
 use Rattle.triples_read.specs.Terminals.{IsLabel}
 use Rattle.triples_read.specs.Reading.{past_label}
-use Rattle.triples_read.specs.Lines.{IsIri}
-
--- the first n bytes are an IRIREF
-abbrev pub IsIriFront : List ℕ → ℕ → List ℕ → Type 0
-IsIriFront b n iri = (n ≤ length b) × (s : List ℕ) × (take n b ≡ encode_utf8_all s) × IsIri s iri
 
 -- the bytes are the UTF-8 of the characters
 abbrev pub IsText : List ℕ → List ℕ → Type 0
@@ -30,3 +26,7 @@ EndsLabel tail = past_label tail tail ≡ tail
 abbrev pub EndsTag : List ℕ → Type 0
 EndsTag [] = Unit {0}
 EndsTag (b ∷ bs) = (is_letter_or_digit b ≡ false) × (b ≢ 45)
+
+-- none of the bytes is this one
+abbrev pub Lacks : ℕ → List ℕ → Type 0
+Lacks c xs = AllByRecursion (λ x. x ≢ c) xs

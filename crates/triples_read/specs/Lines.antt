@@ -1,7 +1,8 @@
--- Which line spells which triple: RDF 1.1 N-Triples, section 7.
-use Rattle.std.specs.Prelude.{ℕ, List, [], ◌∷◌, ◌++◌, ◌≡◌, ◌⊎◌, encode_utf8_all, codes, Option, Some, None}
+-- Which line spells which triple, by the grammar of RDF 1.1 N-Triples (W3C Recommendation, 25 February 2014), section 7.
+-- In brackets stand the numbers that its productions have there. A text of [1] ntriplesDoc is such lines with a [7] EOL
+-- between each two; a line is given without its end.
+use Rattle.std.specs.Prelude.{ℕ, List, [], ◌∷◌, ◌++◌, ◌≡◌, ◌⊎◌, ◌≤◌, length, take, encode_utf8_all, codes, Option, Some, None, true}
 use Rattle.std.specs.Str.{all_scalars}
-use Rattle.std.specs.Prelude.{true}
 use Rattle.triples_read.specs.Terminals.{IRIREF, BLANK_NODE_LABEL, STRING_LITERAL_QUOTE, LANGTAG, Blanks, Comment}
 use Rattle.triples_read.specs.declared.term.Term.{Term}
 use Rattle.triples_read.specs.declared.term.Term.TheVariants.{Iri, Blank, Literal}
@@ -13,33 +14,36 @@ xsd_string = codes "http://www.w3.org/2001/XMLSchema#string"
 abbrev pub lang_string : List ℕ
 lang_string = codes "http://www.w3.org/1999/02/22-rdf-syntax-ns#langString"
 
--- an IRIREF for the IRI
+-- [8] IRIREF for the IRI; [4] predicate is one
 abbrev pub IsIri : List ℕ → List ℕ → Type 0
 IsIri s iri = (v : List ℕ) × IRIREF s v × (iri ≡ encode_utf8_all v)
 
--- what follows the quoted string: nothing, a datatype, or a tag
+-- what follows the quoted string in [6] literal: nothing, a datatype, or a tag
 abbrev pub Suffix : List ℕ → List ℕ → Option (List ℕ) → Type 0
 Suffix s datatype None = ((s ≡ []) × (datatype ≡ xsd_string)) ⊎ ((gap : List ℕ) × (after : List ℕ) × (name : List ℕ) × (s ≡ gap ++ (94 ∷ 94 ∷ (after ++ name))) × Blanks gap × Blanks after × IsIri name datatype)
 Suffix s datatype (Some tag) = (gap : List ℕ) × (name : List ℕ) × (s ≡ gap ++ name) × Blanks gap × LANGTAG name tag × (datatype ≡ lang_string)
 
--- STRING_LITERAL_QUOTE (WS* '^^' WS* IRIREF | WS* LANGTAG)?
+-- [6] literal: STRING_LITERAL_QUOTE (WS* '^^' WS* IRIREF | WS* LANGTAG)?
 abbrev pub IsLiteral : List ℕ → List ℕ → List ℕ → Option (List ℕ) → Type 0
 IsLiteral s text datatype tag = (quoted : List ℕ) × (rest : List ℕ) × (v : List ℕ) × (s ≡ quoted ++ rest) × STRING_LITERAL_QUOTE quoted v × (text ≡ encode_utf8_all v) × Suffix rest datatype tag
 
+-- [141s] BLANK_NODE_LABEL for the label, which is given without its '_:'
 abbrev pub IsBlankNode : List ℕ → List ℕ → Type 0
 IsBlankNode s label = (v : List ℕ) × BLANK_NODE_LABEL s v × (label ≡ encode_utf8_all v)
 
+-- [3] subject: IRIREF | BLANK_NODE_LABEL
 abbrev pub IsSubject : List ℕ → Term → Type 0
 IsSubject s (Iri iri) = IsIri s iri
 IsSubject s (Blank label) = IsBlankNode s label
 IsSubject s (Literal text datatype tag) = ⊥
 
+-- [5] object: IRIREF | BLANK_NODE_LABEL | literal
 abbrev pub IsObject : List ℕ → Term → Type 0
 IsObject s (Iri iri) = IsIri s iri
 IsObject s (Blank label) = IsBlankNode s label
 IsObject s (Literal text datatype tag) = IsLiteral s text datatype tag
 
--- subject WS* predicate WS* object WS* '.'
+-- [2] triple: subject WS* predicate WS* object WS* '.'
 pub record IsTriple (s : List ℕ) (t : Triple) : Type 0 where
   pub subject : List ℕ
   pub gap : List ℕ
@@ -53,16 +57,20 @@ pub record IsTriple (s : List ℕ) (t : Triple) : Type 0 where
   pub is_predicate : IsIri predicate t.predicate
   pub is_object : IsObject object t.object
 
--- characters that the bytes are the UTF-8 of
+-- the characters that the bytes are the UTF-8 of
 pub record TextOf (bytes : List ℕ) : Type 0 where
   pub chars : List ℕ
   pub scalars : all_scalars chars ≡ true
   pub encoded : bytes ≡ encode_utf8_all chars
 
--- WS* triple WS* comment?
+-- a line with a triple: WS* triple WS* comment?
 abbrev pub Spells : List ℕ → Triple → Type 0
 Spells line t = (cs : TextOf line) × (before : List ℕ) × (triple : List ℕ) × (after : List ℕ) × (comment : List ℕ) × (cs.chars ≡ before ++ (triple ++ (after ++ comment))) × Blanks before × IsTriple triple t × Blanks after × Comment comment
 
--- WS* comment?
+-- a line without one: WS* comment?
 abbrev pub Empty : List ℕ → Type 0
 Empty line = (cs : TextOf line) × (before : List ℕ) × (comment : List ℕ) × (cs.chars ≡ before ++ comment) × Blanks before × Comment comment
+
+-- the first n bytes are an IRIREF for the IRI
+abbrev pub IsIriFront : List ℕ → ℕ → List ℕ → Type 0
+IsIriFront b n iri = (n ≤ length b) × (s : List ℕ) × (take n b ≡ encode_utf8_all s) × IsIri s iri

@@ -1,10 +1,12 @@
--- The two kinds of quotes, and what may stand between them.
-use Rattle.std.specs.Prelude.{◌≡◌, ℕ, List, ◌∷◌, ◌++◌, Bool, ◌⊎◌, Option}
+-- The two kinds of quotes, and what may stand between them: what private readers and writers say.
+use Rattle.std.specs.Prelude.{◌≡◌, ℕ, List, [], ◌∷◌, ◌++◌, Bool, ◌⊎◌, Option}
+use Rattle.std.specs.List.{flat_map}
 use Rattle.std.proofs.Math.Utf8.{encodes}
 use Rattle.triples_read.specs.Characters.{is_iri_char, is_string_char}
 use Rattle.triples_read.specs.Terminals.{ECHAR, UCHAR, Many}
 use Rattle.triples_read.specs.Reading.{uchar_at, string_escape_at}
 use Rattle.triples_read.specs.Bodies.{PieceOf}
+use Rattle.triples_read.specs.Canonical.{iri_char, string_char}
 use Rattle.triples_read.specs.declared.quoted.Quote.{Quote}
 use Rattle.triples_read.specs.declared.quoted.Quote.TheVariants.{Angle, Double}
 
@@ -38,3 +40,12 @@ PieceIn q = PieceOf (inner q) (Escape q)
 -- quotes around pieces that spell the text stand in front of the tail
 abbrev pub IsQuoted : Quote → List ℕ → List ℕ → List ℕ → Type 0
 IsQuoted q bytes v tail = (body : List ℕ) × (bytes ≡ opening q ∷ (encodes body ++ closing q ∷ tail)) × Many (PieceIn q) body v
+
+-- how a character is written between quotes
+abbrev pub quoted_char : Quote → ℕ → List ℕ
+quoted_char Angle = iri_char
+quoted_char Double = string_char
+
+-- how a text is written with its quotes
+abbrev pub quoted_text : Quote → List ℕ → List ℕ
+quoted_text q cs = opening q ∷ (flat_map (quoted_char q) cs ++ closing q ∷ [])

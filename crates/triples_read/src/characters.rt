@@ -1,7 +1,6 @@
 // Classes of characters, by the standard's names.
 ghost use Rattle.std.specs.Prelude.{◌≡◌};
-ghost use Rattle.triples_read.specs.Characters.{from_to as is_from_to, is_letter as letter, is_digit as digit, pn_chars_base, pn_chars_u, pn_chars, label_first, is_iri_char, is_string_char};
-ghost use Rattle.std.proofs.Common.{not};
+ghost use Rattle.triples_read.specs.Characters.{from_to as is_from_to, is_letter as letter, is_digit as digit, is_letter_or_digit as letter_or_digit, pn_chars_base, pn_chars_u, pn_chars, label_first, is_iri_char, is_string_char};
 
 fn from_to(low: u32, high: u32, c: u32) -> bool
     ensures { result ≡ is_from_to low high c }
@@ -9,10 +8,24 @@ fn from_to(low: u32, high: u32, c: u32) -> bool
     low <= c && c <= high
 }
 
-fn is_letter(c: u32) -> bool
+/// Whether the character is one of A to Z and a to z.
+pub(crate) fn is_letter(c: u32) -> bool
     ensures { result ≡ letter c }
 {
     from_to(65, 90, c) || from_to(97, 122, c)
+}
+
+fn is_digit(c: u32) -> bool
+    ensures { result ≡ digit c }
+{
+    from_to(48, 57, c)
+}
+
+/// Whether the character is such a letter or one of 0 to 9.
+pub(crate) fn is_letter_or_digit(c: u32) -> bool
+    ensures { result ≡ letter_or_digit c }
+{
+    is_letter(c) || is_digit(c)
 }
 
 // PN_CHARS_BASE
@@ -48,7 +61,7 @@ pub(crate) fn is_label_char(c: char) -> bool
     let c = c as u32;
     is_base_or_sign(c)
         || c == 45
-        || from_to(48, 57, c)
+        || is_digit(c)
         || c == 0xB7
         || from_to(0x300, 0x36F, c)
         || from_to(0x203F, 0x2040, c)
@@ -59,23 +72,19 @@ pub(crate) fn is_label_first(c: char) -> bool
     ensures { result ≡ label_first c }
 {
     let c = c as u32;
-    is_base_or_sign(c) || from_to(48, 57, c)
+    is_base_or_sign(c) || is_digit(c)
 }
 
-/// Whether the byte ends a run of characters that stand for themselves in an IRIREF.
-pub(crate) fn ends_iri_run(b: u8) -> bool
-    ensures { result ≡ not (is_iri_char b) }
+/// Whether the character stands for itself in an IRIREF.
+pub(crate) fn stands_in_iri(c: char) -> bool
+    ensures { result ≡ is_iri_char c }
 {
-    b <= b' '
-        || matches!(
-            b,
-            b'<' | b'>' | b'"' | b'{' | b'}' | b'|' | b'^' | b'`' | b'\\'
-        )
+    c > ' ' && !matches!(c, '<' | '>' | '"' | '{' | '}' | '|' | '^' | '`' | '\\')
 }
 
-/// Whether the byte ends a run of characters that stand for themselves in a string.
-pub(crate) fn ends_string_run(b: u8) -> bool
-    ensures { result ≡ not (is_string_char b) }
+/// Whether the character stands for itself in a string.
+pub(crate) fn stands_in_string(c: char) -> bool
+    ensures { result ≡ is_string_char c }
 {
-    matches!(b, b'"' | b'\\' | b'\n' | b'\r')
+    !matches!(c, '"' | '\\' | '\n' | '\r')
 }

@@ -1,11 +1,31 @@
 // IRIs in angle brackets.
-ghost use Rattle.std.specs.Prelude.{◌≡◌, ◌++◌, List, ℕ, IfOk, IfSome, IsSomeAnd, encode_utf8_all};
-ghost use Rattle.triples_read.specs.Fronts.{IsIriFront, Front, IsText};
-ghost use Rattle.triples_read.specs.Lines.{IsIri};
+ghost use Rattle.std.specs.Prelude.{◌≡◌, ◌==◌, ◌++◌, ◌∷◌, [], List, ℕ, IfOk, IfSome, IsSomeAnd, encode_utf8_all};
+ghost use Rattle.std.specs.List.{position};
+ghost use Rattle.triples_read.specs.Fronts.{Front, IsText, Lacks};
+ghost use Rattle.triples_read.specs.Lines.{IsIri, IsIriFront};
 
 use crate::quoted::{Quote, read_quoted};
 use px_base::{Memory, Text};
 use std::alloc::Global;
+
+// Where the first `>` stands.
+fn end_at(b: &[u8]) -> Option<usize>
+    ensures { result ≡ position (λ c. c == 62) b.now }
+{
+    b.iter().position(|c| *c == b'>')
+}
+
+// The bytes up to the first `>`, with which an IRIREF ends.
+fn up_to_end(b: &[u8]) -> Option<&[u8]>
+    ensures front { IfSome result (λ front. (rest : List ℕ) × (b.now ≡ front.now ++ rest)) }
+    ensures whole { (xs ys : List ℕ) → b.now ≡ xs ++ 62 ∷ ys → Lacks 62 xs → IsSomeAnd result (λ front. front.now ≡ xs ++ 62 ∷ []) }
+{
+    let Some(end) = end_at(b) else {
+        return None;
+    };
+    let (front, _) = b.split_at(end + 1);
+    Some(front)
+}
 
 /// The IRI whose IRIREF is at the front of the bytes, with its escapes read, and the length in bytes
 /// of that IRIREF. None exactly where no front of the bytes is an IRIREF (RDF 1.1 N-Triples,
@@ -16,19 +36,25 @@ pub fn read_iri_front(alloc: Global, b: &[u8]) -> Result<Option<(Text, usize)>, 
     // What stands at the front is read.
     ensures only { (n : ℕ) (iri : List ℕ) → IsIriFront b.now n iri → IfOk result (λ r. IsSomeAnd r (λ f. (f.0 ≡ iri) × (f.1 ≡ n))) }
 {
-    let Some((text, rest)) = read_quoted(Quote::Angle, alloc, b)? else {
+    let Some(front) = up_to_end(b) else {
         return Ok(None);
     };
-    Ok(Some((Text::from_string(text), b.len() - rest.len())))
+    let Ok(text) = str::from_utf8(front) else {
+        return Ok(None);
+    };
+    let Some((iri, rest)) = read_quoted(Quote::Angle, alloc, text)? else {
+        return Ok(None);
+    };
+    Ok(Some((Text::from_string(iri), front.len() - rest.len())))
 }
 
 /// The IRI whose IRIREF is at the front, and what follows it.
-pub(crate) fn read_iri(alloc: Global, bytes: &[u8]) -> Result<Option<(Text, &[u8])>, Memory>
-    ensures found { (cs : List ℕ) → IsText bytes.now cs → IfOk result (λ r. IfSome r (λ f. Front (λ s. IsIri s f.0) cs f.1.now)) }
-    ensures whole { (s r iri : List ℕ) → IsText bytes.now (s ++ r) → IsIri s iri → IfOk result (λ found. IsSomeAnd found (λ f. (f.0 ≡ iri) × (f.1.now ≡ encode_utf8_all r))) }
+pub(crate) fn read_iri(alloc: Global, text: &str) -> Result<Option<(Text, &str)>, Memory>
+    ensures found { (cs : List ℕ) → IsText text.now cs → IfOk result (λ r. IfSome r (λ f. Front (λ s. IsIri s f.0) cs f.1.now)) }
+    ensures whole { (s r iri : List ℕ) → IsText text.now (s ++ r) → IsIri s iri → IfOk result (λ found. IsSomeAnd found (λ f. (f.0 ≡ iri) × (f.1.now ≡ encode_utf8_all r))) }
 {
-    let Some((text, rest)) = read_quoted(Quote::Angle, alloc, bytes)? else {
+    let Some((iri, rest)) = read_quoted(Quote::Angle, alloc, text)? else {
         return Ok(None);
     };
-    Ok(Some((Text::from_string(text), rest)))
+    Ok(Some((Text::from_string(iri), rest)))
 }

@@ -6,8 +6,9 @@ ghost use Rattle.triples_read.specs.Fronts.{IsLabelFront, EndsLabel, Front, IsTe
 ghost use Rattle.triples_read.specs.Lines.{IsBlankNode};
 ghost use Rattle.std.specs.Str.{chars};
 
+use crate::blanks::past_two;
 use crate::characters::{is_label_char, is_label_first};
-use px_base::{Memory, Text, TextError};
+use px_base::{Memory, Text};
 use std::alloc::Global;
 
 /// The first character, and what follows.
@@ -50,36 +51,19 @@ fn past_front(text: &str) -> Option<&str>
     Some(after_label(after))
 }
 
-// What follows the mark `_:` at the front.
-fn past_mark(bytes: &[u8]) -> Option<&[u8]>
-    ensures { MatchOption result ((x : List ℕ) → bytes.now ≡ 95 ∷ 58 ∷ x → ⊥) (λ x. bytes.now ≡ 95 ∷ 58 ∷ x.now) }
-{
-    match bytes {
-        [b'_', b':', after @ ..] => Some(after),
-        _ => None,
-    }
-}
-
 /// The longest blank node label at the front, without its `_:`, and what follows it.
-pub(crate) fn read_label(alloc: Global, bytes: &[u8]) -> Result<Option<(Text, &[u8])>, Memory>
-    ensures found { (cs : List ℕ) → IsText bytes.now cs → IfOk result (λ r. IfSome r (λ f. Front (λ s. IsBlankNode s f.0) cs f.1.now)) }
-    ensures whole { (s r label : List ℕ) → IsText bytes.now (s ++ r) → IsBlankNode s label → EndsLabel r → IfOk result (λ found. IsSomeAnd found (λ f. (f.0 ≡ label) × (f.1.now ≡ encode_utf8_all r))) }
+pub(crate) fn read_label(alloc: Global, text: &str) -> Result<Option<(Text, &str)>, Memory>
+    ensures found { (cs : List ℕ) → IsText text.now cs → IfOk result (λ r. IfSome r (λ f. Front (λ s. IsBlankNode s f.0) cs f.1.now)) }
+    ensures whole { (s r label : List ℕ) → IsText text.now (s ++ r) → IsBlankNode s label → EndsLabel r → IfOk result (λ found. IsSomeAnd found (λ f. (f.0 ≡ label) × (f.1.now ≡ encode_utf8_all r))) }
 {
-    let Some(after) = past_mark(bytes) else {
+    let Some(after) = past_two(b'_', b':', text) else {
         return Ok(None);
     };
-    let Ok(text) = str::from_utf8(after) else {
-        return Ok(None);
-    };
-    let Some(tail) = past_front(text) else {
+    let Some(tail) = past_front(after) else {
         return Ok(None);
     };
     let (label, rest) = after.split_at(after.len() - tail.len());
-    match Text::from_bytes(alloc, label) {
-        Ok(label) => Ok(Some((label, rest))),
-        Err(TextError::NotUtf8) => Ok(None),
-        Err(TextError::Memory) => Err(Memory),
-    }
+    Ok(Some((Text::from_string(String::from_str(alloc, label)?), rest)))
 }
 
 /// Whether the whole text is a blank node label, without its `_:`.

@@ -4,12 +4,13 @@ ghost use Rattle.triples_read.specs.Lines.{IsIri, IsBlankNode, IsSubject, IsObje
 ghost use Rattle.triples_read.specs.Fronts.{Front, IsText, EndsLabel};
 ghost use Rattle.triples_read.specs.Parts.{AfterObject, AfterPredicate, AfterSubject, FromSubject};
 
-use crate::blanks::{is_over, skip_blanks, starts_with};
+use crate::blanks::{is_over, past_byte, skip_blanks, starts_with};
 use crate::iri::read_iri;
 use crate::labels::read_label;
 use crate::literal::read_literal;
 use crate::term::{Term, Triple};
 use px_base::{Memory, Text};
+use simdutf8::basic::from_utf8;
 use std::alloc::Global;
 
 /// Why no triple was read from a line.
@@ -21,67 +22,65 @@ pub enum LineError {
     Memory,
 }
 
-fn read_iri_term(alloc: Global, bytes: &[u8]) -> Result<Option<(Term, &[u8])>, Memory>
-    ensures found { (cs : List ℕ) → IsText bytes.now cs → IfOk result (λ r. IfSome r (λ f. Front (λ s. IsSubject s f.0) cs f.1.now)) }
-    ensures whole { (s r iri : List ℕ) → IsText bytes.now (s ++ r) → IsIri s iri → IfOk result (λ found. IsSomeAnd found (λ f. (f.0 ≡ Term.Iri iri) × (f.1.now ≡ encode_utf8_all r))) }
+fn read_iri_term(alloc: Global, text: &str) -> Result<Option<(Term, &str)>, Memory>
+    ensures found { (cs : List ℕ) → IsText text.now cs → IfOk result (λ r. IfSome r (λ f. Front (λ s. IsSubject s f.0) cs f.1.now)) }
+    ensures whole { (s r iri : List ℕ) → IsText text.now (s ++ r) → IsIri s iri → IfOk result (λ found. IsSomeAnd found (λ f. (f.0 ≡ Term.Iri iri) × (f.1.now ≡ encode_utf8_all r))) }
 {
-    let Some((iri, rest)) = read_iri(alloc, bytes)? else {
+    let Some((iri, rest)) = read_iri(alloc, text)? else {
         return Ok(None);
     };
     Ok(Some((Term::Iri(iri), rest)))
 }
 
-fn read_blank_node(alloc: Global, bytes: &[u8]) -> Result<Option<(Term, &[u8])>, Memory>
-    ensures found { (cs : List ℕ) → IsText bytes.now cs → IfOk result (λ r. IfSome r (λ f. Front (λ s. IsSubject s f.0) cs f.1.now)) }
-    ensures whole { (s r label : List ℕ) → IsText bytes.now (s ++ r) → IsBlankNode s label → EndsLabel r → IfOk result (λ found. IsSomeAnd found (λ f. (f.0 ≡ Term.Blank label) × (f.1.now ≡ encode_utf8_all r))) }
+fn read_blank_node(alloc: Global, text: &str) -> Result<Option<(Term, &str)>, Memory>
+    ensures found { (cs : List ℕ) → IsText text.now cs → IfOk result (λ r. IfSome r (λ f. Front (λ s. IsSubject s f.0) cs f.1.now)) }
+    ensures whole { (s r label : List ℕ) → IsText text.now (s ++ r) → IsBlankNode s label → EndsLabel r → IfOk result (λ found. IsSomeAnd found (λ f. (f.0 ≡ Term.Blank label) × (f.1.now ≡ encode_utf8_all r))) }
 {
-    let Some((label, rest)) = read_label(alloc, bytes)? else {
+    let Some((label, rest)) = read_label(alloc, text)? else {
         return Ok(None);
     };
     Ok(Some((Term::Blank(label), rest)))
 }
 
 // The subject at the front, and what follows it.
-fn read_subject(alloc: Global, bytes: &[u8]) -> Result<Option<(Term, &[u8])>, Memory>
-    ensures found { (cs : List ℕ) → IsText bytes.now cs → IfOk result (λ r. IfSome r (λ f. Front (λ s. IsSubject s f.0) cs f.1.now)) }
-    ensures whole { (s r : List ℕ) (t : Term) → IsText bytes.now (s ++ r) → IsSubject s t → EndsLabel r → IfOk result (λ found. IsSomeAnd found (λ f. (f.0 ≡ t) × (f.1.now ≡ encode_utf8_all r))) }
+fn read_subject(alloc: Global, text: &str) -> Result<Option<(Term, &str)>, Memory>
+    ensures found { (cs : List ℕ) → IsText text.now cs → IfOk result (λ r. IfSome r (λ f. Front (λ s. IsSubject s f.0) cs f.1.now)) }
+    ensures whole { (s r : List ℕ) (t : Term) → IsText text.now (s ++ r) → IsSubject s t → EndsLabel r → IfOk result (λ found. IsSomeAnd found (λ f. (f.0 ≡ t) × (f.1.now ≡ encode_utf8_all r))) }
 {
-    if starts_with(b'<', bytes) {
-        return read_iri_term(alloc, bytes);
+    if starts_with(b'<', text) {
+        return read_iri_term(alloc, text);
     }
-    read_blank_node(alloc, bytes)
+    read_blank_node(alloc, text)
 }
 
 // The object at the front, and what follows it.
-fn read_object(alloc: Global, bytes: &[u8]) -> Result<Option<(Term, &[u8])>, Memory>
-    ensures found { (cs : List ℕ) → IsText bytes.now cs → IfOk result (λ r. IfSome r (λ f. Front (λ s. IsObject s f.0) cs f.1.now)) }
-    ensures whole { (s r : List ℕ) (t : Term) → IsText bytes.now (s ++ r) → IsObject s t → AfterObject r → IfOk result (λ found. IsSomeAnd found (λ f. (f.0 ≡ t) × (f.1.now ≡ encode_utf8_all r))) }
+fn read_object(alloc: Global, text: &str) -> Result<Option<(Term, &str)>, Memory>
+    ensures found { (cs : List ℕ) → IsText text.now cs → IfOk result (λ r. IfSome r (λ f. Front (λ s. IsObject s f.0) cs f.1.now)) }
+    ensures whole { (s r : List ℕ) (t : Term) → IsText text.now (s ++ r) → IsObject s t → AfterObject r → IfOk result (λ found. IsSomeAnd found (λ f. (f.0 ≡ t) × (f.1.now ≡ encode_utf8_all r))) }
 {
-    if starts_with(b'"', bytes) {
-        return read_literal(alloc, bytes);
+    if starts_with(b'"', text) {
+        return read_literal(alloc, text);
     }
-    read_subject(alloc, bytes)
+    read_subject(alloc, text)
 }
 
 // Whether the dot of a triple comes next, and then nothing or a comment.
-fn ends_triple(bytes: &[u8]) -> bool
-    ensures found { (cs : List ℕ) → IsText bytes.now cs → result ≡ true → AfterObject cs }
-    ensures whole { (cs : List ℕ) → IsText bytes.now cs → AfterObject cs → result ≡ true }
+fn ends_triple(text: &str) -> bool
+    ensures found { (cs : List ℕ) → IsText text.now cs → result ≡ true → AfterObject cs }
+    ensures whole { (cs : List ℕ) → IsText text.now cs → AfterObject cs → result ≡ true }
 {
-    let after = skip_blanks(bytes);
-    if !starts_with(b'.', after) {
+    let Some(behind) = past_byte(b'.', skip_blanks(text)) else {
         return false;
-    }
-    let (_, behind) = after.split_at(1);
+    };
     is_over(skip_blanks(behind))
 }
 
 // The object of the triple whose predicate was read, where the rest of the line is as it must be.
-fn read_last(alloc: Global, bytes: &[u8]) -> Result<Option<Term>, Memory>
-    ensures found { (cs : List ℕ) → IsText bytes.now cs → IfOk result (λ r. IfSome r (λ o. AfterPredicate cs o)) }
-    ensures whole { (cs : List ℕ) (object : Term) → IsText bytes.now cs → AfterPredicate cs object → IfOk result (λ r. IsSomeAnd r (λ o. o ≡ object)) }
+fn read_last(alloc: Global, text: &str) -> Result<Option<Term>, Memory>
+    ensures found { (cs : List ℕ) → IsText text.now cs → IfOk result (λ r. IfSome r (λ o. AfterPredicate cs o)) }
+    ensures whole { (cs : List ℕ) (object : Term) → IsText text.now cs → AfterPredicate cs object → IfOk result (λ r. IsSomeAnd r (λ o. o ≡ object)) }
 {
-    let Some((object, rest)) = read_object(alloc, skip_blanks(bytes))? else {
+    let Some((object, rest)) = read_object(alloc, skip_blanks(text))? else {
         return Ok(None);
     };
     if !ends_triple(rest) {
@@ -91,11 +90,11 @@ fn read_last(alloc: Global, bytes: &[u8]) -> Result<Option<Term>, Memory>
 }
 
 // The predicate and the object of the triple whose subject was read.
-fn read_rest(alloc: Global, bytes: &[u8]) -> Result<Option<(Text, Term)>, Memory>
-    ensures found { (cs : List ℕ) → IsText bytes.now cs → IfOk result (λ r. IfSome r (λ f. AfterSubject cs f.0 f.1)) }
-    ensures whole { (cs predicate : List ℕ) (object : Term) → IsText bytes.now cs → AfterSubject cs predicate object → IfOk result (λ r. IsSomeAnd r (λ f. (f.0 ≡ predicate) × (f.1 ≡ object))) }
+fn read_rest(alloc: Global, text: &str) -> Result<Option<(Text, Term)>, Memory>
+    ensures found { (cs : List ℕ) → IsText text.now cs → IfOk result (λ r. IfSome r (λ f. AfterSubject cs f.0 f.1)) }
+    ensures whole { (cs predicate : List ℕ) (object : Term) → IsText text.now cs → AfterSubject cs predicate object → IfOk result (λ r. IsSomeAnd r (λ f. (f.0 ≡ predicate) × (f.1 ≡ object))) }
 {
-    let Some((predicate, rest)) = read_iri(alloc, skip_blanks(bytes))? else {
+    let Some((predicate, rest)) = read_iri(alloc, skip_blanks(text))? else {
         return Ok(None);
     };
     let Some(object) = read_last(alloc, rest)? else {
@@ -105,11 +104,11 @@ fn read_rest(alloc: Global, bytes: &[u8]) -> Result<Option<(Text, Term)>, Memory
 }
 
 // The triple that begins at the front and takes the whole rest of the line.
-fn read_triple(alloc: Global, bytes: &[u8]) -> Result<Option<Triple>, Memory>
-    ensures found { (cs : List ℕ) → IsText bytes.now cs → IfOk result (λ r. IfSome r (λ t. FromSubject cs t)) }
-    ensures whole { (cs : List ℕ) (t : Triple) → IsText bytes.now cs → FromSubject cs t → IfOk result (λ r. IsSomeAnd r (λ u. u ≡ t)) }
+fn read_triple(alloc: Global, text: &str) -> Result<Option<Triple>, Memory>
+    ensures found { (cs : List ℕ) → IsText text.now cs → IfOk result (λ r. IfSome r (λ t. FromSubject cs t)) }
+    ensures whole { (cs : List ℕ) (t : Triple) → IsText text.now cs → FromSubject cs t → IfOk result (λ r. IsSomeAnd r (λ u. u ≡ t)) }
 {
-    let Some((subject, rest)) = read_subject(alloc, bytes)? else {
+    let Some((subject, rest)) = read_subject(alloc, text)? else {
         return Ok(None);
     };
     let Some((predicate, object)) = read_rest(alloc, rest)? else {
@@ -123,9 +122,8 @@ fn read_triple(alloc: Global, bytes: &[u8]) -> Result<Option<Triple>, Memory>
 }
 
 /// The triple that a line spells (RDF 1.1 N-Triples, section 7), with its escapes read; None where the
-/// line is blank or a comment. The line is given without its end. The whole of it must be UTF-8, its
-/// comment too. `Syntax` exactly where it is none of these. The time grows with the length of the line,
-/// and a part without escapes is copied as one slice.
+/// line is blank or a comment. The line is given without its end, so it holds neither LF nor CR. The whole
+/// of it must be UTF-8, its comment too. `Syntax` exactly where it is none of these.
 pub fn read_line(alloc: Global, line: &[u8]) -> Result<Option<Triple>, LineError>
     // A triple comes only where the line spells it.
     ensures triple { IfOk result (λ r. IfSome r (λ t. Spells line.now t)) }
@@ -138,10 +136,10 @@ pub fn read_line(alloc: Global, line: &[u8]) -> Result<Option<Triple>, LineError
     // Syntax comes only where the line is neither.
     ensures syntax { IsErrOf result LineError.Syntax → (¬ Empty line.now) × ((t : Triple) → Spells line.now t → ⊥) }
 {
-    let Ok(_) = str::from_utf8(line) else {
+    let Ok(text) = from_utf8(line) else {
         return Err(LineError::Syntax);
     };
-    let rest = skip_blanks(line);
+    let rest = skip_blanks(text);
     if is_over(rest) {
         return Ok(None);
     }

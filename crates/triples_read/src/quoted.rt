@@ -1,11 +1,12 @@
 // What stands between quotes, with escapes: the body of an IRIREF and of a string.
-ghost use Rattle.std.specs.Prelude.{◌≡◌, ◌<◌, ◌≤◌, ◌+◌, ◌++◌, ◌∷◌, [], List, ℕ, true, false, length, IfOk, IfSome, IfNone, IsSomeAnd, string_bytes, encode_utf8_all};
+ghost use Rattle.std.specs.Prelude.{◌≡◌, ◌<◌, ◌≤◌, ◌+◌, ◌∷◌, List, ℕ, true, false, length, IfOk, IfSome, IfNone, IsSomeAnd, IsUtf8, string_bytes, encode_utf8_all};
 ghost use Rattle.std.specs.List.{position_or_len, position};
 ghost use Rattle.std.proofs.Common.{not};
 ghost use Rattle.triples_read.specs.Bodies.{Body, Adds, StopsAt, IsBodyFront};
 ghost use Rattle.triples_read.specs.Quotes.{opening as opening_of, closing as closing_of, inner, escape_at, PieceIn, IsQuoted};
 
-use crate::characters::{ends_iri_run, ends_string_run};
+use crate::blanks::past_byte;
+use crate::characters::{stands_in_iri, stands_in_string};
 use crate::escapes::{string_escape, uchar};
 use std::alloc::{AllocError, Global};
 
@@ -20,7 +21,8 @@ pub(crate) enum Quote {
 
 impl Quote {
     pub(crate) fn opening(self) -> u8
-        ensures { result ≡ opening_of self }
+        ensures is { result ≡ opening_of self }
+        ensures ascii { result < 128 }
     {
         match self {
             Quote::Angle => b'<',
@@ -29,7 +31,8 @@ impl Quote {
     }
 
     pub(crate) fn closing(self) -> u8
-        ensures { result ≡ closing_of self }
+        ensures is { result ≡ closing_of self }
+        ensures ascii { result < 128 }
     {
         match self {
             Quote::Angle => b'>',
@@ -42,14 +45,14 @@ impl Quote {
 fn iri_run_end(bytes: &[u8]) -> Option<usize>
     ensures { result ≡ position (λ b. not (inner Quote.Angle b)) bytes.now }
 {
-    bytes.iter().position(|b| ends_iri_run(*b))
+    bytes.iter().position(|b| !stands_in_iri(*b as char))
 }
 
 // The same in a string.
 fn string_run_end(bytes: &[u8]) -> Option<usize>
     ensures { result ≡ position (λ b. not (inner Quote.Double b)) bytes.now }
 {
-    bytes.iter().position(|b| ends_string_run(*b))
+    bytes.iter().position(|b| !stands_in_string(*b as char))
 }
 
 fn run_end(quote: Quote, bytes: &[u8]) -> Option<usize>
@@ -90,38 +93,30 @@ fn escape(quote: Quote, bytes: &[u8]) -> Option<(char, usize)>
     escape_behind(quote, bytes)
 }
 
-// Takes the run of bytes that stand for themselves, as one slice.
-fn take_run<'a>(
-    quote: Quote,
-    text: &mut String,
-    rest: &'a [u8],
-) -> Result<Option<&'a [u8]>, AllocError>
-    ensures found { IfOk result (λ r. IfSome r (λ after. Adds (PieceIn quote) (closing_of quote) (string_bytes text.old) (string_bytes text.new) rest.now after.now)) }
-    ensures none { IfOk result (λ r. IfNone r ((v tail : List ℕ) → Body (PieceIn quote) (closing_of quote) rest.now v tail → ⊥)) }
-    ensures ended { IfOk result (λ r. IfSome r (λ after. StopsAt (inner quote) after.now)) }
-    ensures shorter { IfOk result (λ r. IfSome r (λ after. length after.now ≤ length rest.now)) }
+// Takes the run of characters that stand for themselves, as one slice.
+fn take_run<'a>(quote: Quote, text: &mut String, rest: &'a str) -> Result<&'a str, AllocError>
+    ensures found { IfOk result (λ after. Adds (PieceIn quote) (closing_of quote) (string_bytes text.old) (string_bytes text.new) rest.now after.now) }
+    ensures ended { IfOk result (λ after. StopsAt (inner quote) after.now) }
+    ensures shorter { IfOk result (λ after. length after.now ≤ length rest.now) }
+    ensures utf8 { IfOk result (λ after. IsUtf8 after.now) }
 {
-    let (run, after) = rest.split_at(run_len(quote, rest));
-    match str::from_utf8(run) {
-        Ok(run) => {
-            text.push_str(run)?;
-            Ok(Some(after))
-        }
-        Err(_) => Ok(None),
-    }
+    let (run, after) = rest.split_at(run_len(quote, rest.as_bytes()));
+    text.push_str(run)?;
+    Ok(after)
 }
 
 // Takes the escape whose backslash was read.
 fn take_escape<'a>(
     quote: Quote,
     text: &mut String,
-    rest: &'a [u8],
-) -> Result<Option<&'a [u8]>, AllocError>
+    rest: &'a str,
+) -> Result<Option<&'a str>, AllocError>
     ensures found { IfOk result (λ r. IfSome r (λ after. Adds (PieceIn quote) (closing_of quote) (string_bytes text.old) (string_bytes text.new) (92 ∷ rest.now) after.now)) }
     ensures none { IfOk result (λ r. IfNone r ((v tail : List ℕ) → Body (PieceIn quote) (closing_of quote) (92 ∷ rest.now) v tail → ⊥)) }
     ensures shorter { IfOk result (λ r. IfSome r (λ after. length after.now < length rest.now + 1)) }
+    ensures utf8 { IfOk result (λ r. IfSome r (λ after. IsUtf8 after.now)) }
 {
-    match escape(quote, rest) {
+    match escape(quote, rest.as_bytes()) {
         Some((c, len)) => {
             text.push(c)?;
             let (_, after) = rest.split_at(len - 1);
@@ -135,25 +130,21 @@ fn take_escape<'a>(
 fn take_piece<'a>(
     quote: Quote,
     text: &mut String,
-    rest: &'a [u8],
-) -> Result<Option<(bool, &'a [u8])>, AllocError>
+    rest: &'a str,
+) -> Result<Option<(bool, &'a str)>, AllocError>
     ensures more { IfOk result (λ r. IfSome r (λ f. f.0 ≡ false → Adds (PieceIn quote) (closing_of quote) (string_bytes text.old) (string_bytes text.new) rest.now f.1.now)) }
     ensures shorter { IfOk result (λ r. IfSome r (λ f. length f.1.now < length rest.now)) }
+    ensures utf8 { IfOk result (λ r. IfSome r (λ f. IsUtf8 f.1.now)) }
     ensures end { IfOk result (λ r. IfSome r (λ f. f.0 ≡ true → Adds (PieceIn quote) (closing_of quote) (string_bytes text.old) (string_bytes text.new) rest.now (closing_of quote ∷ f.1.now))) }
     ensures none { IfOk result (λ r. IfNone r ((v tail : List ℕ) → Body (PieceIn quote) (closing_of quote) rest.now v tail → ⊥)) }
 {
-    let Some(after) = take_run(quote, text, rest)? else {
-        return Ok(None);
-    };
-    let Some((first, behind)) = after.split_first() else {
-        return Ok(None);
-    };
-    if *first == quote.closing() {
+    let after = take_run(quote, text, rest)?;
+    if let Some(behind) = past_byte(quote.closing(), after) {
         return Ok(Some((true, behind)));
     }
-    if *first != b'\\' {
+    let Some(behind) = past_byte(b'\\', after) else {
         return Ok(None);
-    }
+    };
     let Some(next) = take_escape(quote, text, behind)? else {
         return Ok(None);
     };
@@ -164,13 +155,13 @@ fn take_piece<'a>(
 fn quoted_body(
     quote: Quote,
     alloc: Global,
-    bytes: &[u8],
-) -> Result<Option<(String, &[u8])>, AllocError>
-    ensures found { IfOk result (λ r. IfSome r (λ f. IsBodyFront (PieceIn quote) (closing_of quote) bytes.now (string_bytes f.0) f.1.now)) }
-    ensures only { (v tail : List ℕ) → Body (PieceIn quote) (closing_of quote) bytes.now v tail → IfOk result (λ r. IsSomeAnd r (λ f. (string_bytes f.0 ≡ encode_utf8_all v) × (f.1.now ≡ tail))) }
+    body: &str,
+) -> Result<Option<(String, &str)>, AllocError>
+    ensures found { IfOk result (λ r. IfSome r (λ f. IsBodyFront (PieceIn quote) (closing_of quote) body.now (string_bytes f.0) f.1.now)) }
+    ensures only { (v tail : List ℕ) → Body (PieceIn quote) (closing_of quote) body.now v tail → IfOk result (λ r. IsSomeAnd r (λ f. (string_bytes f.0 ≡ encode_utf8_all v) × (f.1.now ≡ tail))) }
 {
     let mut text = String::new(alloc);
-    let mut rest = bytes;
+    let mut rest = body;
     loop {
         let Some((ended, after)) = take_piece(quote, &mut text, rest)? else {
             return Ok(None);
@@ -187,16 +178,13 @@ fn quoted_body(
 pub(crate) fn read_quoted(
     quote: Quote,
     alloc: Global,
-    bytes: &[u8],
-) -> Result<Option<(String, &[u8])>, AllocError>
-    ensures found { IfOk result (λ r. IfSome r (λ f. (v : List ℕ) × (string_bytes f.0 ≡ encode_utf8_all v) × IsQuoted quote bytes.now v f.1.now)) }
-    ensures only { (v tail : List ℕ) → IsQuoted quote bytes.now v tail → IfOk result (λ r. IsSomeAnd r (λ f. (string_bytes f.0 ≡ encode_utf8_all v) × (f.1.now ≡ tail))) }
+    text: &str,
+) -> Result<Option<(String, &str)>, AllocError>
+    ensures found { IfOk result (λ r. IfSome r (λ f. (v : List ℕ) × (string_bytes f.0 ≡ encode_utf8_all v) × IsQuoted quote text.now v f.1.now)) }
+    ensures only { (v tail : List ℕ) → IsQuoted quote text.now v tail → IfOk result (λ r. IsSomeAnd r (λ f. (string_bytes f.0 ≡ encode_utf8_all v) × (f.1.now ≡ tail))) }
 {
-    let Some((first, body)) = bytes.split_first() else {
+    let Some(body) = past_byte(quote.opening(), text) else {
         return Ok(None);
     };
-    if *first != quote.opening() {
-        return Ok(None);
-    }
     quoted_body(quote, alloc, body)
 }

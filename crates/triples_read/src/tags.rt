@@ -2,34 +2,23 @@
 ghost use Rattle.std.specs.Prelude.{[], ◌↔◌, ◌≡◌, ◌∷◌, ◌++◌, List, ℕ, true, false, None, Some, MatchOption, IfOk, IfSome, IsSomeAnd, encode_utf8_all};
 ghost use Rattle.std.specs.List.{list_all};
 ghost use Rattle.std.proofs.Common.{not};
-ghost use Rattle.triples_read.specs.Characters.{from_to, is_letter, is_letter_or_digit};
+ghost use Rattle.triples_read.specs.Characters.{from_to};
 ghost use Rattle.triples_read.specs.Terminals.{LANGTAG};
 ghost use Rattle.triples_read.specs.Reading.{tag_part, past_tag as past};
 ghost use Rattle.triples_read.specs.Fronts.{Front, IsText, EndsTag};
 
+use crate::characters::{is_letter, is_letter_or_digit};
 use px_base::{Memory, Text};
 use std::alloc::Global;
-
-fn is_ascii_letter(b: u8) -> bool
-    ensures { result ≡ is_letter b }
-{
-    (65 <= b && b <= 90) || (97 <= b && b <= 122)
-}
-
-fn is_ascii_letter_or_digit(b: u8) -> bool
-    ensures { result ≡ is_letter_or_digit b }
-{
-    is_ascii_letter(b) || (48 <= b && b <= 57)
-}
 
 // Whether the first part of a tag, or another part, may hold the byte.
 fn is_in_part(main: bool, b: u8) -> bool
     ensures { result ≡ tag_part main b }
 {
     if main {
-        is_ascii_letter(b)
+        is_letter(u32::from(b))
     } else {
-        is_ascii_letter_or_digit(b)
+        is_letter_or_digit(u32::from(b))
     }
 }
 
@@ -60,30 +49,27 @@ fn past_tag(bytes: &[u8]) -> Option<&[u8]>
 }
 
 /// The language tag behind an `@` that was read, in lower case, and what follows it.
-pub(crate) fn read_tag(alloc: Global, bytes: &[u8]) -> Result<Option<(Text, &[u8])>, Memory>
-    ensures found { (cs : List ℕ) → IsText bytes.now cs → IfOk result (λ r. IfSome r (λ f. Front (λ s. LANGTAG (64 ∷ s) f.0) cs f.1.now)) }
-    ensures whole { (s r tag : List ℕ) → IsText bytes.now (s ++ r) → LANGTAG (64 ∷ s) tag → EndsTag (encode_utf8_all r) → IfOk result (λ found. IsSomeAnd found (λ f. (f.0 ≡ tag) × (f.1.now ≡ encode_utf8_all r))) }
+pub(crate) fn read_tag(alloc: Global, text: &str) -> Result<Option<(Text, &str)>, Memory>
+    ensures found { (cs : List ℕ) → IsText text.now cs → IfOk result (λ r. IfSome r (λ f. Front (λ s. LANGTAG (64 ∷ s) f.0) cs f.1.now)) }
+    ensures whole { (s r tag : List ℕ) → IsText text.now (s ++ r) → LANGTAG (64 ∷ s) tag → EndsTag (encode_utf8_all r) → IfOk result (λ found. IsSomeAnd found (λ f. (f.0 ≡ tag) × (f.1.now ≡ encode_utf8_all r))) }
 {
-    let Some(rest) = past_tag(bytes) else {
+    let Some(behind) = past_tag(text.as_bytes()) else {
         return Ok(None);
     };
-    let (tag, rest) = bytes.split_at(bytes.len() - rest.len());
-    let Ok(tag) = str::from_utf8(tag) else {
-        return Ok(None);
-    };
+    let (tag, rest) = text.split_at(text.len() - behind.len());
     Ok(Some((Text::from_string(tag.to_ascii_lowercase(alloc)?), rest)))
 }
 
-fn is_lower(b: u8) -> bool
+fn is_not_upper(b: u8) -> bool
     ensures { result ≡ not (from_to 65 90 b) }
 {
     b < 65 || 90 < b
 }
 
-fn are_lower(bytes: &[u8]) -> bool
+fn has_no_upper(bytes: &[u8]) -> bool
     ensures { result ≡ list_all (λ b. not (from_to 65 90 b)) bytes.now }
 {
-    bytes.iter().all(|b| is_lower(*b))
+    bytes.iter().all(|b| is_not_upper(*b))
 }
 
 fn is_tag_in_any_case(bytes: &[u8]) -> bool
@@ -100,5 +86,5 @@ pub(crate) fn is_tag(bytes: &[u8]) -> bool
     ensures sound { result ≡ true → LANGTAG (64 ∷ bytes.now) bytes.now }
     ensures complete { (s : List ℕ) → LANGTAG (64 ∷ s) bytes.now → result ≡ true }
 {
-    is_tag_in_any_case(bytes) && are_lower(bytes)
+    is_tag_in_any_case(bytes) && has_no_upper(bytes)
 }

@@ -1,9 +1,15 @@
 // Terms and triples.
 use px_base::Text;
 
+/// The datatype of a literal without a datatype and a tag: `xsd:string`.
+pub(crate) const XSD_STRING: &str = "http://www.w3.org/2001/XMLSchema#string";
+
+/// The datatype of a literal with a tag: `rdf:langString`.
+pub(crate) const LANG_STRING: &str = "http://www.w3.org/1999/02/22-rdf-syntax-ns#langString";
+
 /// A term of RDF 1.1: what stands as the subject or the object of a triple. Its texts are those after
 /// escapes are read. Two terms are equal where their kind and all their characters are.
-#[derive(Debug, Drop, PartialEq, Eq)]
+#[derive(Debug, Drop, PartialEq, Eq, Hash)]
 pub enum Term {
     /// An IRI, without its brackets. It isn't checked to be absolute, and may be empty.
     Iri(Text),

@@ -1,17 +1,26 @@
 // Whether a triple is one that a line can spell.
-ghost use Rattle.std.specs.Prelude.{◌≡◌, true, List, ℕ, bytes_eq, IsUtf8};
+ghost use Rattle.std.specs.Prelude.{◌≡◌, true, List, ℕ, bytes_eq, encode_utf8_all};
+ghost use Rattle.triples_read.specs.Terminals.{STRING_LITERAL_QUOTE};
 ghost use Rattle.triples_read.specs.Lines.{IsIri, IsSubject, IsObject, Suffix, lang_string};
 ghost use Rattle.triples_read.specs.Canonical.{IsSpelled};
 
 use crate::labels::is_label;
 use crate::tags::is_tag;
-use crate::term::{Term, Triple};
+use crate::term::{LANG_STRING, Term, Triple};
 use px_base::Text;
 
-// Every text can stand in an IRI or a string, with escapes where it needs them.
-fn can_be_escaped(_text: &str) -> bool
+// Whether some IRIREF spells the text. Each text has one, with escapes where it needs them.
+fn is_iri(_text: &str) -> bool
     ensures always { result ≡ true }
-    ensures utf8 { IsUtf8 _text.now }
+    ensures spelled { (s : List ℕ) × IsIri s _text.now }
+{
+    true
+}
+
+// Whether some quoted string spells the text. Each text has one, with escapes where it needs them.
+fn is_string(_text: &str) -> bool
+    ensures always { result ≡ true }
+    ensures spelled { (s : List ℕ) × (v : List ℕ) × STRING_LITERAL_QUOTE s v × (_text.now ≡ encode_utf8_all v) }
 {
     true
 }
@@ -21,7 +30,7 @@ fn is_subject(term: &Term) -> bool
     ensures complete { (s : List ℕ) → IsSubject s term.now → result ≡ true }
 {
     match term {
-        Term::Iri(iri) => can_be_escaped(iri.as_str()),
+        Term::Iri(iri) => is_iri(iri.as_str()),
         Term::Blank(label) => is_label(label.as_str()),
         Term::Literal { .. } => false,
     }
@@ -30,7 +39,7 @@ fn is_subject(term: &Term) -> bool
 fn is_lang_string(datatype: &str) -> bool
     ensures { result ≡ bytes_eq datatype.now lang_string }
 {
-    datatype == "http://www.w3.org/1999/02/22-rdf-syntax-ns#langString"
+    datatype == LANG_STRING
 }
 
 // Whether the datatype and the tag of a literal go together.
@@ -40,7 +49,7 @@ fn is_suffix(datatype: &Text, tag: &Option<Text>) -> bool
 {
     match tag {
         Some(tag) => is_lang_string(datatype.as_str()) && is_tag(tag.as_bytes()),
-        None => can_be_escaped(datatype.as_str()),
+        None => is_iri(datatype.as_str()),
     }
 }
 
@@ -53,7 +62,7 @@ fn is_object(term: &Term) -> bool
             text,
             datatype,
             tag,
-        } => can_be_escaped(text.as_str()) && is_suffix(datatype, tag),
+        } => is_string(text.as_str()) && is_suffix(datatype, tag),
         _ => is_subject(term),
     }
 }
@@ -62,7 +71,7 @@ fn has_predicate_and_object(t: &Triple) -> bool
     ensures sound { result ≡ true → (y : List ℕ) × (z : List ℕ) × IsIri y t.now.predicate × IsObject z t.now.object }
     ensures complete { (z : List ℕ) → IsObject z t.now.object → result ≡ true }
 {
-    can_be_escaped(t.predicate.as_str()) && is_object(&t.object)
+    is_iri(t.predicate.as_str()) && is_object(&t.object)
 }
 
 /// Whether some line spells the triple: its subject is no literal, its blank nodes have labels of the

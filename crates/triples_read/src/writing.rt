@@ -4,11 +4,13 @@ ghost use Rattle.std.specs.List.{flat_map};
 ghost use Rattle.std.specs.Str.{chars};
 ghost use Rattle.triples_read.specs.Characters.{is_iri_char};
 ghost use Rattle.triples_read.specs.Lines.{Spells, xsd_string};
-ghost use Rattle.triples_read.specs.Canonical.{upper_hex as upper_hex_of, iri_char, string_char, quoted_char, quoted_text, suffix_text, term_text, triple_text, IsSpelled};
+ghost use Rattle.triples_read.specs.Quotes.{quoted_char, quoted_text};
+ghost use Rattle.triples_read.specs.Canonical.{upper_hex as upper_hex_of, iri_char, string_char, suffix_text, term_text, triple_text, IsSpelled};
 
+use crate::characters::stands_in_iri;
 use crate::labels::next_char;
 use crate::quoted::Quote;
-use crate::term::{Term, Triple};
+use crate::term::{Term, Triple, XSD_STRING};
 use px_base::{Memory, Text};
 use std::alloc::{AllocError, Global};
 
@@ -20,12 +22,6 @@ fn upper_hex(d: u32) -> char
         return (48 + d as u8) as char;
     }
     (55 + d as u8) as char
-}
-
-fn is_plain_in_iri(c: char) -> bool
-    ensures { result ≡ is_iri_char c }
-{
-    c > ' ' && !matches!(c, '<' | '>' | '"' | '{' | '}' | '|' | '^' | '`' | '\\')
 }
 
 // Writes a character by its number.
@@ -42,7 +38,7 @@ fn push_number(out: &mut String, c: char) -> Result<(), AllocError>
 fn push_iri_char(out: &mut String, c: char) -> Result<(), AllocError>
     ensures { OnOk result (string_bytes out.new ≡ string_bytes out.old ++ encode_utf8_all (iri_char c)) }
 {
-    if is_plain_in_iri(c) {
+    if stands_in_iri(c) {
         return out.push(c);
     }
     push_number(out, c)
@@ -98,7 +94,7 @@ fn push_label(out: &mut String, label: &str) -> Result<(), AllocError>
 fn is_xsd_string(datatype: &str) -> bool
     ensures { result ≡ bytes_eq datatype.now xsd_string }
 {
-    datatype == "http://www.w3.org/2001/XMLSchema#string"
+    datatype == XSD_STRING
 }
 
 fn push_datatype(out: &mut String, datatype: &str) -> Result<(), AllocError>

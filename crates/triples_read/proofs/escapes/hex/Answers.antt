@@ -1,6 +1,7 @@
 use Rattle.std.proofs.Common.{arith, ℕ, sym, subst, ◌+◌, ◌*◌, drop}
 use Rattle.std.proofs.lemmas.Bool.{ltb-true, ltb-false}
-use Rattle.triples_read.proofs.Digits.{hex-out, hex-bad, hex-good, if_none, if_some, HexSoFar}
+use Rattle.triples_read.proofs.Basics.{if_none, if_some}
+use Rattle.triples_read.proofs.Digits.{hex-out, hex-bad, hex-good, HexSoFar}
 use Rattle.triples_read.proofs.escapes.hex.Goals as goal
 
 pub returns-in_default : goal.returns-in_default

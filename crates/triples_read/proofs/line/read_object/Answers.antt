@@ -4,14 +4,15 @@ use Rattle.std.proofs.Math.Utf8.{encodes}
 use Rattle.triples_read.specs.declared.term.Term.{Term}
 use Rattle.triples_read.specs.Fronts.{Front}
 use Rattle.triples_read.specs.Lines.{IsSubject, IsObject}
-use Rattle.triples_read.proofs.FrontLaws.{no_both, ok-some-map}
+use Rattle.triples_read.proofs.Basics.{no_both}
+use Rattle.triples_read.proofs.FrontLaws.{ok-some-map}
 use Rattle.triples_read.proofs.LineLaws.{object-stands, subject-object}
 use Rattle.triples_read.proofs.Follow.{label-ends}
 use Rattle.triples_read.proofs.line.read_object.Goals as goal
 
 pub returns-then-starts_with-clause-whole : goal.returns-then-starts_with-clause-whole
 returns-then-starts_with-clause-whole c s r t is spelled over =
-    elim (object-stands c.args.bytes.now s r t is spelled) [
+    elim (object-stands c.args.text.now s r t is spelled) [
       | inl (begins, text, datatype, tag, same, named) ↦ subst (λ (u : Term). IfOk c.read_literal.result (λ found. IsSomeAnd found (λ f. (f.0 ≡ u) × (f.1.now ≡ encodes r)))) (sym same) (c.read_literal.ensures.whole s r text datatype tag is named over)
       | inr (begins, named) ↦ absurd (no_both _ (sym c.starts_with.ensures ∙ c.if-starts_with.true) begins)
     ]
@@ -23,7 +24,7 @@ returns-clause-found c cs is =
 
 pub returns-clause-whole : goal.returns-clause-whole
 returns-clause-whole c s r t is spelled over =
-    elim (object-stands c.args.bytes.now s r t is spelled) [
+    elim (object-stands c.args.text.now s r t is spelled) [
       | inl (begins, text, datatype, tag, same, named) ↦ absurd (no_both _ begins (sym c.starts_with.ensures ∙ c.if-starts_with.false))
       | inr (begins, named) ↦ c.read_subject.ensures.whole s r t is named (label-ends r over)
     ]

@@ -1,38 +1,35 @@
-use Rattle.std.proofs.Common.{◌∙◌, ap, sym, subst, List, ℕ, ◌∷◌}
+use Rattle.std.proofs.Common.{◌≡◌, ◌∙◌, ap, sym, subst, false, List, ℕ, ◌∷◌}
 use Rattle.std.specs.Prelude.{string_bytes}
-use Rattle.std.proofs.lemmas.List.{nil_from_length}
 use Rattle.triples_read.specs.Bodies.{Adds, Body}
+use Rattle.triples_read.specs.Reading.{starts_with}
 use Rattle.triples_read.specs.Quotes.{inner, Escape, escape_at, closing, PieceIn}
-use Rattle.triples_read.proofs.Pieces.{adds-then, adds-none, end-nothing, stop-none}
+use Rattle.triples_read.proofs.FrontLaws.{behind-utf8}
+use Rattle.triples_read.proofs.Pieces.{adds-then, adds-none, stop-none}
 use Rattle.triples_read.proofs.Quoting.{quote_kind, quote_escapes}
 use Rattle.triples_read.proofs.quoted.take_piece.Goals as goal
 
-pub returns-in_default-split_first-clause-none : goal.returns-in_default-split_first-clause-none
-returns-in_default-split_first-clause-none c =
-    let found = rw c.in-Some.is at c.in_ok-after.ensures.found in
-    let empty = nil_from_length _ c.in_default-split_first.ensures.cases in
-    adds-none (PieceIn c.args.quote) (closing c.args.quote) (string_bytes c.args.text.now) (string_bytes c.take_run.new.text) c.args.rest.now c.in-Some.after.now found
-    (λ v tail b. end-nothing (PieceIn c.args.quote) (closing c.args.quote) v tail (subst (λ (z : List ℕ). Body (PieceIn c.args.quote) (closing c.args.quote) z v tail) empty b))
+pub returns-in-Some-clause-end : goal.returns-in-Some-clause-end
+returns-in-Some-clause-end c _ =
+    let front = c.in-Some.ensures ∙ ap (λ (z : ℕ). z ∷ c.in-Some.behind.now) c.closing.ensures.is in
+    subst (λ (z : List ℕ). Adds (PieceIn c.args.quote) (closing c.args.quote) (string_bytes c.args.text.now) (string_bytes c.take_run.new.text) c.args.rest.now z) front c.in_ok-after.ensures.found
 
-pub returns-then-first-ne92-clause-none : goal.returns-then-first-ne92-clause-none
-returns-then-first-ne92-clause-none c =
-    let found = rw c.in-Some.is at c.in_ok-after.ensures.found in
-    let stops = rw c.in-Some.is at c.in_ok-after.ensures.ended in
-    adds-none (PieceIn c.args.quote) (closing c.args.quote) (string_bytes c.args.text.now) (string_bytes c.take_run.new.text) c.args.rest.now c.in-Some.after.now found
-    (stop-none (inner c.args.quote) (Escape c.args.quote) (escape_at c.args.quote) (closing c.args.quote) (quote_kind c.args.quote) (quote_escapes c.args.quote) c.in-Some.after.now c.in-Some-split_first.behind.now c.in-Some-split_first.first.now stops c.in-Some-split_first.ensures.cases.0 (λ e. c.if-first-closing.false (e ∙ sym c.closing.ensures)) c.if-first-ne92.true)
+pub returns-in-Some-clause-utf8 : goal.returns-in-Some-clause-utf8
+returns-in-Some-clause-utf8 c = behind-utf8 c.closing.result c.in_ok-after.after.now c.in-Some.behind.now c.closing.ensures.ascii c.in_ok-after.ensures.utf8 c.in-Some.ensures
+
+pub returns-in_default-past_byte-clause-none : goal.returns-in_default-past_byte-clause-none
+returns-in_default-past_byte-clause-none c =
+    let no_end : starts_with (closing c.args.quote) c.in_ok-after.after.now ≡ false = ap (λ (e : ℕ). starts_with e c.in_ok-after.after.now) (sym c.closing.ensures.is) ∙ c.in_default.ensures in
+    adds-none (PieceIn c.args.quote) (closing c.args.quote) (string_bytes c.args.text.now) (string_bytes c.take_run.new.text) c.args.rest.now c.in_ok-after.after.now c.in_ok-after.ensures.found
+    (stop-none (inner c.args.quote) (Escape c.args.quote) (escape_at c.args.quote) (closing c.args.quote) (quote_kind c.args.quote) (quote_escapes c.args.quote) c.in_ok-after.after.now c.in_ok-after.ensures.ended no_end c.in_default-past_byte.ensures)
 
 pub returns-in_default-2-clause-none : goal.returns-in_default-2-clause-none
 returns-in_default-2-clause-none c =
-    let found = rw c.in-Some.is at c.in_ok-after.ensures.found in
     let none = rw c.in_default-2.is at c.in_ok-next.ensures.none in
-    let front = c.in-Some-split_first.ensures.cases.0 ∙ ap (λ (z : ℕ). z ∷ c.in-Some-split_first.behind.now) c.if-first-ne92.false in
-    adds-none (PieceIn c.args.quote) (closing c.args.quote) (string_bytes c.args.text.now) (string_bytes c.take_run.new.text) c.args.rest.now c.in-Some.after.now found
-    (λ v tail b. none v tail (subst (λ (z : List ℕ). Body (PieceIn c.args.quote) (closing c.args.quote) z v tail) front b))
+    adds-none (PieceIn c.args.quote) (closing c.args.quote) (string_bytes c.args.text.now) (string_bytes c.take_run.new.text) c.args.rest.now c.in_ok-after.after.now c.in_ok-after.ensures.found
+    (λ v tail b. none v tail (subst (λ (z : List ℕ). Body (PieceIn c.args.quote) (closing c.args.quote) z v tail) c.in-Some-past_byte.ensures b))
 
 pub returns-clause-more : goal.returns-clause-more
 returns-clause-more c _ =
-    let found = rw c.in-Some.is at c.in_ok-after.ensures.found in
     let next = rw c.in-Some-2.is at c.in_ok-next.ensures.found in
-    let front = c.in-Some-split_first.ensures.cases.0 ∙ ap (λ (z : ℕ). z ∷ c.in-Some-split_first.behind.now) c.if-first-ne92.false in
-    adds-then (PieceIn c.args.quote) (closing c.args.quote) (string_bytes c.args.text.now) (string_bytes c.take_run.new.text) (string_bytes c.take_escape.new.text) c.args.rest.now (92 ∷ c.in-Some-split_first.behind.now) c.in-Some-2.next.now
-    (subst (λ (z : List ℕ). Adds (PieceIn c.args.quote) (closing c.args.quote) (string_bytes c.args.text.now) (string_bytes c.take_run.new.text) c.args.rest.now z) front found) next
+    adds-then (PieceIn c.args.quote) (closing c.args.quote) (string_bytes c.args.text.now) (string_bytes c.take_run.new.text) (string_bytes c.take_escape.new.text) c.args.rest.now (92 ∷ c.in-Some-past_byte.behind.now) c.in-Some-2.next.now
+    (subst (λ (z : List ℕ). Adds (PieceIn c.args.quote) (closing c.args.quote) (string_bytes c.args.text.now) (string_bytes c.take_run.new.text) c.args.rest.now z) c.in-Some-past_byte.ensures c.in_ok-after.ensures.found) next

@@ -1,5 +1,4 @@
-use Rattle.std.proofs.Common.{sym, subst, List, ℕ}
-use Rattle.std.specs.Prelude.{IsUtf8}
+use Rattle.std.proofs.Common.{◌∙◌, sym, subst, List, ℕ}
 use Rattle.triples_read.specs.Lines.{IsObject, IsLiteral}
 use Rattle.triples_read.specs.declared.term.Term.{Term}
 use Rattle.triples_read.specs.declared.term.Term.TheVariants.{Literal}
@@ -7,15 +6,16 @@ use Rattle.triples_read.proofs.CanonicalLaws.{literal_of_text}
 use Rattle.triples_read.proofs.LineLaws.{subject-object, object-subject, literal-suffix}
 use Rattle.triples_read.proofs.triple_test.is_object.Goals as goal
 
-pub returns-then-can_be_escaped-clause-sound : goal.returns-then-can_be_escaped-clause-sound
-returns-then-can_be_escaped-clause-sound c e =
+pub returns-then-is_string-clause-sound : goal.returns-then-is_string-clause-sound
+returns-then-is_string-clause-sound c e =
+    let string = c.is_string.ensures.spelled in
     let suffix = c.is_suffix.ensures.sound e in
     let made : (s : List ℕ) × IsObject s (Literal c.in-Literal.text c.in-Literal.datatype c.in-Literal.tag) =
-    literal_of_text c.in-Literal.text suffix.0 c.in-Literal.datatype c.in-Literal.tag (subst IsUtf8 c.as_str.ensures c.as_str.utf8) suffix.1 in
+    literal_of_text string.0 string.1 c.in-Literal.text suffix.0 c.in-Literal.datatype c.in-Literal.tag string.2 (sym c.as_str.ensures ∙ string.3) suffix.1 in
     subst (λ (u : Term). (s : List ℕ) × IsObject s u) (sym c.in-Literal.is) made
 
-pub returns-then-can_be_escaped-clause-complete : goal.returns-then-can_be_escaped-clause-complete
-returns-then-can_be_escaped-clause-complete c s spelled =
+pub returns-then-is_string-clause-complete : goal.returns-then-is_string-clause-complete
+returns-then-is_string-clause-complete c s spelled =
     let own : IsLiteral s c.in-Literal.text c.in-Literal.datatype c.in-Literal.tag = subst (IsObject s) c.in-Literal.is spelled in
     let suffix = literal-suffix s c.in-Literal.text c.in-Literal.datatype c.in-Literal.tag own in
     c.is_suffix.ensures.complete suffix.0 suffix.1

@@ -1,14 +1,13 @@
 use Rattle.std.proofs.Common.{◌∷◌, sym, subst, List, ℕ}
-use Rattle.std.specs.Prelude.{IsUtf8}
 use Rattle.std.specs.Str.{chars}
-use Rattle.triples_read.specs.Lines.{IsSubject, IsBlankNode}
+use Rattle.triples_read.specs.Lines.{IsIri, IsSubject, IsBlankNode}
 use Rattle.triples_read.specs.declared.term.Term.{Term}
-use Rattle.triples_read.proofs.CanonicalLaws.{iri_of_text}
 use Rattle.triples_read.proofs.triple_test.is_subject.Goals as goal
 
 pub returns-in-Iri-clause-sound : goal.returns-in-Iri-clause-sound
 returns-in-Iri-clause-sound c e =
-    subst (λ (u : Term). (s : List ℕ) × IsSubject s u) (sym c.in-Iri.is) (iri_of_text c.in-Iri.iri (subst IsUtf8 c.as_str.ensures c.as_str.utf8))
+    let iri = c.is_iri.ensures.spelled in
+    subst (λ (u : Term). (s : List ℕ) × IsSubject s u) (sym c.in-Iri.is) (iri.0, subst (IsIri iri.0) c.as_str.ensures iri.1)
 
 pub returns-in-Blank-clause-sound : goal.returns-in-Blank-clause-sound
 returns-in-Blank-clause-sound c e =

@@ -1,7 +1,7 @@
 use Rattle.std.proofs.Common.{◌≡◌, ◌∙◌, ◌∷◌, sym, ap, subst, true, List, ℕ, Option, Some}
-use Rattle.std.specs.Prelude.{IsUtf8, bytes_eq}
+use Rattle.std.specs.Prelude.{bytes_eq}
 use Rattle.triples_read.specs.Terminals.{LANGTAG}
-use Rattle.triples_read.specs.Lines.{Suffix, lang_string}
+use Rattle.triples_read.specs.Lines.{IsIri, Suffix, lang_string}
 use Rattle.triples_read.proofs.CanonicalLaws.{tagged_suffix, plain_suffix, suffix_tag}
 use Rattle.triples_read.proofs.triple_test.is_suffix.Goals as goal
 
@@ -19,4 +19,5 @@ returns-then-is_lang_string-clause-complete c s spelled =
 
 pub returns-in-None-clause-sound : goal.returns-in-None-clause-sound
 returns-in-None-clause-sound c e =
-    subst (λ (t : Option (List ℕ)). (s : List ℕ) × Suffix s c.args.datatype.now t) (sym c.in-None.is) (plain_suffix c.args.datatype.now (subst IsUtf8 c.as_str-in-None.ensures c.as_str-in-None.utf8))
+    let iri = c.is_iri.ensures.spelled in
+    subst (λ (t : Option (List ℕ)). (s : List ℕ) × Suffix s c.args.datatype.now t) (sym c.in-None.is) (plain_suffix iri.0 c.args.datatype.now (subst (IsIri iri.0) c.as_str-in-None.ensures iri.1))

@@ -3,7 +3,7 @@ use denote.Text.{Utf8}
 use denote.Shadow.{shadow}
 use Rattle.triples_read.proofs.Written.{WrittenSoFar}
 use Rattle.std.specs.Prelude.{string_bytes}
-use Rattle.triples_read.specs.Canonical.{quoted_char}
+use Rattle.triples_read.specs.Quotes.{quoted_char}
 use Rattle.triples_read.proofs.writing.push_chars.Given as goal
 
 abbrev pub invariant-chars : goal.invariant-chars
