@@ -1,72 +1,23 @@
 -- The definitions at worked lines, and at near misses.
-use Rattle.std.proofs.Common.{◌≡◌, ℕ, ◌<◌, ◌^◌, List, [], ◌∷◌, ◌++◌, length, drop, false, refl, sym, ap, ◌∙◌, arith, append-nil, lit<, lit≤, Option, None, ◌⊎◌, inl, inr}
-use Rattle.std.specs.Prelude.{codes, decimal, slice_index}
-use Rattle.std.proofs.lemmas.Fmt.{decimal_digit, first_decimal}
+use Rattle.std.proofs.Common.{◌≡◌, ℕ, zero, suc, ◌≤◌, List, [], ◌∷◌, ◌++◌, length, subst, true, false, refl, sym, ap, ◌∙◌, arith, append-nil, lit<, lit≤, Option, None, Some, inl, inr, Ok, Err}
+use Rattle.std.specs.Prelude.{codes, slice_get, slice_index}
+use Rattle.index_api.specs.declared.kinds.Via.TheVariants.{Data}
+use Rattle.std.proofs.lemmas.Fmt.{decimal_digit}
+use Rattle.px_spec.specs.Lines.{Line, cut}
+use Rattle.px_spec.specs.declared.refusal.Refusal.TheVariants.{InUse}
 use Rattle.px_spec.specs.ProgramLimits.{program_limits}
-use Rattle.px_spec.specs.Words.{IsLabel}
-use Rattle.px_spec.specs.Graphs.{empty_graph}
+use Rattle.px_base.specs.declared.lines.TheConstants.{LINE_BYTES}
+use Rattle.px_spec.specs.Graphs.{Graph, empty_graph}
 use Rattle.px_spec.specs.Changes.{node, link, unlink, drop as drop_node, with_node}
-use Rattle.pathindex_run.specs.Texts.{node_word, nodes_line, answers_text, bad_line}
-use Rattle.pathindex_run.specs.Commands.{Command, change, path, IsQuiet, IsSpelled, SpellsNothing}
-use Rattle.pathindex_run.specs.Parts.{behind_word}
+use Rattle.px_spec.specs.Words.{IsLabel, node_word}
+use Rattle.pathindex_run.specs.Texts.{reply, nodes_line, answers_text, bad_line}
+use Rattle.script_read.specs.Commands.{Command, change, path, IsSpelled, SpellsNothing, SpellsSomething}
 use Rattle.pathindex_run.specs.Forms.{form_of, script, none}
-use Rattle.pathindex_run.specs.Headline.{first_state, RunsScript}
-use Rattle.pathindex_run.specs.Runs.{Progress, start, TakesLine, IsRun, command, changes}
+use Rattle.pathindex_run.specs.Headline.{first_state, RunsScript, IsProper, HasStatus, Completes}
+use Rattle.pathindex_run.specs.Runs.{Progress, start, TakesLine, IsRun, Obeys, command, changes}
 
--- blanks may stand at both ends and between the words
 label_a : IsLabel (codes "a")
 label_a = (refl, (λ e. omega (arith, ap (λ l. slice_index l 1) e)), (λ e. omega (arith, ap (λ l. slice_index l 0) e)), (λ e. omega (arith, ap (λ l. slice_index l 0) e)))
-
-node_spelled : IsSpelled (codes " node\ta ") (change (node (codes "a")))
-node_spelled = (refl, label_a)
-
-abbrev second : List (List ℕ) → List ℕ
-second [] = []
-second (a ∷ []) = []
-second (a ∷ b ∷ ws) = b
-
-abbrev first : List (List ℕ) → List ℕ
-first [] = []
-first (a ∷ ws) = a
-
-link_spelled : IsSpelled (codes "link n0 n1") (change (link 0 1))
-link_spelled = (
-  ap (λ d. codes "link" ∷ (110 ∷ d) ∷ codes "n1" ∷ []) (sym (decimal_digit 0 (lit< tt)))
-      ∙ ap (λ d. codes "link" ∷ node_word 0 ∷ (110 ∷ d) ∷ []) (sym (decimal_digit 1 (lit< tt))),
-  lit< tt,
-  lit< tt,
-)
-
--- a number has no leading zero
-no_two_zeros : (n : ℕ) → n < 2 ^ 64 → decimal n ≡ 48 ∷ 48 ∷ [] → ⊥
-no_two_zeros n b e = elim (zero_or_more n) [
-  | inl z ↦ (let l : decimal 0 ≡ 48 ∷ 48 ∷ [] = ap decimal (sym z) ∙ e in let one = decimal_digit 0 (lit< tt) in omega (arith, ap length (sym one ∙ l)))
-  | inr p ↦ omega (arith, first_decimal n p b, ap (λ l. slice_index l 0) e)
-]
-  where
-    zero_or_more : (n : ℕ) → (n ≡ 0) ⊎ (0 < n)
-    zero_or_more n = grind arith
-
-no_zero_in_front : (u v : ℕ) → ¬ IsSpelled (codes "link n00 n1") (change (link u v))
-no_zero_in_front u v h =
-    (let z : codes "link" ∷ codes "n00" ∷ codes "n1" ∷ [] ≡ codes "link" ∷ (110 ∷ decimal u) ∷ (110 ∷ decimal v) ∷ [] = h.0 in
-    let d : 48 ∷ 48 ∷ [] ≡ decimal u = ap (λ ws. drop 1 (second ws)) z in
-    no_two_zeros u (let b = h.1 in omega (arith, b)) (sym d))
-
--- one word too many
-no_third_word : (t : List ℕ) → ¬ IsSpelled (codes "node a b") (change (node t))
-no_third_word t h = (let z : codes "node" ∷ codes "a" ∷ codes "b" ∷ [] ≡ codes "node" ∷ t ∷ [] = h.0 in cc)
-
--- a blank line and a comment are quiet
-blank_quiet : IsQuiet (codes " \t")
-blank_quiet = tt
-
-comment_quiet : IsQuiet (codes "  # node a")
-comment_quiet = refl
-
--- what stands behind the first two words of a query
-text_of_query : behind_word (behind_word (codes "path data a / b ")) ≡ codes " a / b "
-text_of_query = refl
 
 -- one word names a script, but not an option
 named : form_of (codes "s" ∷ []) ≡ script (codes "s")
@@ -104,17 +55,6 @@ run_empty = record {
   output_is = refl;
 }
 
--- the second line is no command, so the third isn't taken
-bad_label : SpellsNothing (codes "node and")
-bad_label = (λ q. omega (arith, q), other)
-  where
-    other : (c : Command) → ¬ IsSpelled (codes "node and") c
-    other (change (node t)) h = h.1.1 (sym (ap second h.0))
-    other (change (link u v)) h = omega (arith, ap length h.0)
-    other (change (unlink u v)) h = omega (arith, ap length h.0)
-    other (change (drop_node u)) h = omega (arith, ap (λ ws. slice_index (first ws) 0) h.0)
-    other (path e) h = omega (arith, ap (λ l. slice_index l 0) h.0)
-
 after_one : Progress
 after_one = record { state = record { graph = with_node empty_graph (codes "a") }; refused = false; lines = 1; bytes = 7 }
 
@@ -129,6 +69,24 @@ takes_one = record {
   bytes = refl;
 }
 
+-- a label that is none makes no command of any kind
+bad_label : SpellsNothing (codes "node and")
+bad_label = (λ q. omega (arith, q), other)
+  where
+    word : List (List ℕ) → ℕ → List ℕ
+    word [] n = []
+    word (w ∷ ws) zero = w
+    word (w ∷ ws) (suc n) = word ws n
+
+    other : (c : Command) → ¬ IsSpelled (codes "node and") c
+    other (change (node t)) h = h.1.1 (sym (ap (λ ws. word ws 1) h.0))
+    other (change (link u v)) h = omega (arith, ap length h.0)
+    other (change (unlink u v)) h = omega (arith, ap length h.0)
+    other (change (drop_node u)) h = omega (arith, ap (λ ws. slice_index (word ws 0) 0) h.0)
+    other (path Data e) h = omega (arith, ap (λ l. slice_index l 0) h.0)
+    other (path via e) h = absurd h
+
+-- the second line is no command, so the third isn't taken
 run_bad : IsRun program_limits first_state (codes "node a\nnode and\nnode b\n") ((codes "added " ++ node_word 0 ++ 10 ∷ []) ++ bad_line 2) 4 after_one
 unfolding after_one
 run_bad = record {
@@ -145,3 +103,37 @@ run_bad = record {
 -- a script that isn't there is no empty one
 not_empty : (old : Option (List ℕ)) → ¬ RunsScript None old old 0
 not_empty old r = elim r.1 [ inl e ↦ omega (arith, e) | inr e ↦ omega (arith, e) ]
+
+-- what changes that take away print
+unlink_done : (g h : Graph) → reply (unlink 0 1) g (Ok h) ≡ codes "ok\n"
+unlink_done g h = refl
+
+drop_refused : (g : Graph) → reply (drop_node 0) g (Err InUse) ≡ codes "refused in-use\n"
+drop_refused g = refl
+
+-- one line that adds a node is proper; one with no label isn't
+proper_one : IsProper (codes "node a\n")
+proper_one = record { small = lit≤ tt; lines = each }
+  where
+    each : (i : ℕ) (l : Line) → slice_get (cut (codes "node a\n")) i ≡ Some l → (length l.text ≤ LINE_BYTES) × SpellsSomething l.text
+    each zero l e = let same : record { text = codes "node a"; end = 10 ∷ [] } ≡ l = cc in
+        subst (λ k. (length k.text ≤ LINE_BYTES) × SpellsSomething k.text) same (lit≤ tt, inr (change (node (codes "a")), (refl, label_a)))
+    each (suc i) l e = cc
+
+not_proper : ¬ IsProper (codes "node and\n")
+not_proper w = elim (w.lines 0 (record { text = codes "node and"; end = 10 ∷ [] }) refl).1 [ inl q ↦ bad_label.0 q | inr c ↦ bad_label.1 c.0 c.1 ]
+
+-- a change that is refused prints why, and leaves the state
+obeys_refused : Obeys program_limits first_state (change (unlink 0 1)) (codes "refused no-node\n") true first_state
+obeys_refused = changes (unlink 0 1)
+
+-- a proper script that is there doesn't end at a bad line where no call fails
+not_bad : ¬ Completes (script (codes "s")) (Some (record { name = codes "s"; bytes = codes "node a\n" } ∷ [])) 0 0 0 0 4
+not_bad c = elim (c (codes "node a\n", refl, proper_one) (refl, lit< tt) (refl, lit< tt)) [ inl e ↦ omega (arith, e) | inr e ↦ omega (arith, e) ]
+
+-- status 5 with no risen count is none where the shelf tells the script
+not_failed : ¬ HasStatus (script (codes "s")) (Some (record { name = codes "s"; bytes = [] } ∷ [])) 0 0 0 0 5
+not_failed s = elim (s.missing refl) [
+  | inl r ↦ elim r.1 [ inl e ↦ omega (arith, e) | inr e ↦ omega (arith, e) ]
+  | inr m ↦ (let z : Some [] ≡ None = m in cc)
+]

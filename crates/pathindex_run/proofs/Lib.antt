@@ -1,10 +1,7 @@
-pub mod WordLemmas
-pub mod CommandLemmas
 pub mod TakenLemmas
-pub mod AsciiLemmas
 pub mod FrontLemmas
 pub mod ReachedLemmas
 pub mod TopLemmas
 pub mod ListingLemmas
 pub mod Examples
-pub mod CommandLaws
+pub mod CompleteLemmas

@@ -6,7 +6,8 @@ use Rattle.std.specs.List.Sorted.{IsStrictlyIncreasing}
 use Rattle.std.proofs.lemmas.Bool.Decides.{nat_tests}
 use Rattle.std.proofs.lemmas.List.Elements.{recursion_from_All}
 use Rattle.std.proofs.lemmas.List.Kept.{AllPairs-from_increasing}
-use Rattle.pathindex_run.specs.Texts.{node_word, nodes_line}
+use Rattle.px_spec.specs.Words.{node_word}
+use Rattle.pathindex_run.specs.Texts.{nodes_line}
 use Rattle.pathindex_run.specs.Going.{Extends}
 use Rattle.pathindex_run.specs.Listing.{members_from, others_text}
 

@@ -1,55 +1,63 @@
--- Lines that are taken.
+-- Commands that are carried out, and lines that are taken.
 use Rattle.std.proofs.Common.{◌≡◌, ℕ, Bool, true, false, List, [], refl, sym, ap, subst, append-nil, Result, Ok, Err}
-use Rattle.std.specs.Prelude.{◌||◌, is_err, IfOk}
+use Rattle.std.specs.Prelude.{◌||◌, ◌++◌, is_err, OnOk}
 use Rattle.px_spec.specs.declared.limits.Limits.{Limits}
 use Rattle.px_spec.specs.Graphs.{Graph}
 use Rattle.px_spec.specs.Changes.{Change, apply}
-use Rattle.path_query.specs.Spelling.{Spells}
-use Rattle.pathindex_run.specs.Reading.{SaysPath}
-use Rattle.pathindex_run.specs.declared.interpreter.Outcome.{Outcome}
-use Rattle.pathindex_run.specs.declared.interpreter.Outcome.TheVariants.{Done, Bad}
+use Rattle.px_spec.specs.Shapes.{shape_of}
+use Rattle.index_api.specs.declared.kinds.Via.TheVariants.{Data, A, One, Fb}
+use Rattle.path_query.specs.Trees.{Seq}
+use Rattle.path_query.specs.Answers.{AreAnswers}
+use Rattle.script_read.specs.Commands.{Command, change, path, IsQuiet, IsSpelled}
+use Rattle.pathindex_run.specs.declared.interpreter.Outcome.TheVariants.{Done}
 use Rattle.pathindex_run.specs.Texts.{reply, answers_text}
-use Rattle.pathindex_run.specs.Commands.{change, path, IsQuiet, IsSpelled}
 use Rattle.pathindex_run.specs.Kept.{Kept}
 use Rattle.pathindex_run.specs.Runs.{nothing, command, Obeys, changes, answers}
-use Rattle.pathindex_run.proofs.CommandLemmas.{path_bad}
-use Rattle.pathindex_run.specs.Going.{Changes, Answers, Comes, state_of}
+use Rattle.pathindex_run.specs.Going.{Changes, Obeyed, AsksData, Comes, state_of}
 
-or_false : (b : Bool) → b ≡ (b || false)
-or_false true = refl
-or_false false = refl
+or_same : (b : Bool) → b ≡ (b || false)
+or_same true = refl
+or_same false = refl
 
 pub quiet_comes : (limits : Limits) (k : Kept) (line out : List ℕ) → IsQuiet line → Comes limits k line out Done k out
-quiet_comes limits k line out q = ([], false, nothing q, or_false k.refused, sym (append-nil out))
+quiet_comes limits k line out q = ([], false, nothing q, or_same k.refused, sym (append-nil out))
 
-pub change_comes : (limits : Limits) (k : Kept) (line : List ℕ) (c : Change) (out : List ℕ) (refuses : Bool) (h : Graph) (gathered : List ℕ)
-    → IsSpelled line (change c) → Changes limits c k.state.graph out refuses h gathered
-    → Comes limits k line out Done (record { state = state_of h; refused = k.refused || refuses }) gathered
-change_comes limits k line c out refuses h gathered s d =
+-- a change that was judged, and carried out where it was accepted
+pub change_obeyed : (limits : Limits) (k : Kept) (c : Change) (out : List ℕ) (refuses : Bool) (h : Graph) (gathered : List ℕ)
+    → Changes limits c k.state.graph out refuses h gathered
+    → Obeyed limits k (change c) out (record { state = state_of h; refused = k.refused || refuses }) gathered
+change_obeyed limits k c out refuses h gathered d =
     let outcome = apply c k.state.graph limits in
-    let obeys : Obeys limits k.state (change c) (reply c k.state.graph outcome) (is_err outcome) (state_of h) =
-    subst (λ t. Obeys limits k.state (change c) (reply c k.state.graph outcome) (is_err outcome) t) (sym d.graph) (changes c) in
-    (reply c k.state.graph outcome, is_err outcome, command (change c) s _ _ _ obeys, ap (λ b. k.refused || b) d.refusal, d.printed)
+    record {
+      printed = reply c k.state.graph outcome;
+      refuses = is_err outcome;
+      obeys = subst (λ t. Obeys limits k.state (change c) (reply c k.state.graph outcome) (is_err outcome) t) (sym d.graph) (changes c);
+      refused = ap (λ b. k.refused || b) d.refusal;
+      gathered_is = d.printed;
+    }
 
--- a line that asks for answers
-pub answers_come : (limits : Limits) (k : Kept) (line text out : List ℕ) (outcome : Outcome) (gathered : List ℕ)
-    → SaysPath line text → Answers k.state.graph text out outcome gathered → Comes limits k line out outcome k gathered
-answers_come limits k line text out Done gathered s a =
-    (answers_text a.1, false, command (path a.0) (s.0, s.1, subst (λ t. Spells t a.0) s.2 a.2) _ _ _ (answers a.0 a.1 a.3), or_false k.refused, a.4)
-answers_come limits k line text out Bad gathered s a = (path_bad line text s a.0, a.1)
+-- an expression that was asked of the graph itself
+pub answers_obeyed : {E : Type 0} (limits : Limits) (k : Kept) (e : Seq) (out : List ℕ) (r : Result (Unit {0}) E) (gathered : List ℕ)
+    → OnOk r ((nodes : List ℕ) × AreAnswers (shape_of k.state.graph) e nodes × (gathered ≡ out ++ answers_text nodes))
+    → OnOk r (Obeyed limits k (path Data e) out k gathered)
+answers_obeyed limits k e out (Ok u) gathered a = record {
+  printed = answers_text a.0;
+  refuses = false;
+  obeys = answers e a.0 a.1;
+  refused = or_same k.refused;
+  gathered_is = a.2;
+}
+answers_obeyed limits k e out (Err x) gathered a = tt
 
--- the same, for what the answer of a call says
-pub answers_result : {E : Type 0} (limits : Limits) (k : Kept) (line text out : List ℕ) (r : Result Outcome E) (gathered : List ℕ)
-    → SaysPath line text → IfOk r (λ o. Answers k.state.graph text out o gathered) → IfOk r (λ o. Comes limits k line out o k gathered)
-answers_result limits k line text out (Ok o) gathered s a = answers_come limits k line text out o gathered s a
-answers_result limits k line text out (Err e) gathered s a = tt
+-- what a line spells asks the graph itself
+pub spelled_asks : (line : List ℕ) (c : Command) → IsSpelled line c → AsksData c
+spelled_asks line (change c) h = tt
+spelled_asks line (path Data e) h = refl
+spelled_asks line (path (A level) e) h = absurd h
+spelled_asks line (path One e) h = absurd h
+spelled_asks line (path Fb e) h = absurd h
 
--- a line that makes a change
-pub change_result : {E : Type 0} (limits : Limits) (k : Kept) (line : List ℕ) (c : Change) (out : List ℕ) (r : Result Outcome E) (m : Kept) (gathered : List ℕ)
-    → IsSpelled line (change c)
-    → IfOk r (λ o. (o ≡ Done) × ((refuses : Bool) × Changes limits c k.state.graph out refuses m.state.graph gathered × (m.refused ≡ (k.refused || refuses))))
-    → IfOk r (λ o. Comes limits k line out o m gathered)
-change_result limits k line c out (Ok Done) m gathered s h =
-    subst (λ n. Comes limits k line out Done n gathered) (ap (λ b. record { state = state_of m.state.graph; refused = b }) (sym h.1.2)) (change_comes limits k line c out h.1.0 m.state.graph gathered s h.1.1)
-change_result limits k line c out (Ok Bad) m gathered s h = absurd (let z : Bad ≡ Done = h.0 in cc)
-change_result limits k line c out (Err e) m gathered s h = tt
+-- a line whose command was carried out
+pub obeyed_comes : (limits : Limits) (k : Kept) (line : List ℕ) (c : Command) (out : List ℕ) (m : Kept) (gathered : List ℕ)
+    → IsSpelled line c → Obeyed limits k c out m gathered → Comes limits k line out Done m gathered
+obeyed_comes limits k line c out m gathered s o = (o.printed, o.refuses, command c s _ _ _ o.obeys, o.refused, o.gathered_is)

@@ -7,18 +7,15 @@ use Rattle.px_spec.specs.Lines.{Line, cut}
 use Rattle.px_spec.specs.declared.limits.Limits.{Limits}
 use Rattle.px_spec.specs.Graphs.{Graph}
 use Rattle.px_spec.specs.Changes.{Change, apply}
-use Rattle.px_spec.specs.Shapes.{shape_of}
-use Rattle.path_query.specs.Trees.{Seq}
-use Rattle.path_query.specs.Spelling.{Spells}
-use Rattle.path_query.specs.Answers.{AreAnswers}
-use Rattle.pathindex_run.specs.Texts.{reply, answers_text, bad_line}
-use Rattle.pathindex_run.specs.Commands.{SpellsNothing}
+use Rattle.index_api.specs.declared.kinds.Via.TheVariants.{Data}
+use Rattle.pathindex_run.specs.Texts.{reply, bad_line}
+use Rattle.script_read.specs.Commands.{Command, change, path, SpellsNothing}
 use Rattle.pathindex_run.specs.declared.interpreter.Outcome.{Outcome}
 use Rattle.pathindex_run.specs.declared.interpreter.Outcome.TheVariants.{Done, Bad}
 use Rattle.pathindex_run.specs.declared.script.Next.{Next}
 use Rattle.pathindex_run.specs.declared.script.Next.TheVariants.{Taken, AtBad, AtEnd}
 use Rattle.pathindex_run.specs.Kept.{Kept}
-use Rattle.pathindex_run.specs.Runs.{State, Progress, Does, TakesLine, IsBad, moved}
+use Rattle.pathindex_run.specs.Runs.{State, Progress, Obeys, Does, TakesLine, IsBad, moved}
 
 -- the new text begins with the old one
 pub record Extends (old new : List ℕ) : Type 0 where
@@ -33,6 +30,19 @@ pub record Changes (limits : Limits) (c : Change) (g : Graph) (out : List ℕ) (
   pub refusal : refuses ≡ is_err (apply c g limits)
   pub graph : state_of h ≡ moved (state_of g) (apply c g limits)
   pub printed : gathered ≡ out ++ reply c g (apply c g limits)
+
+-- A command was carried out, and what it prints is gathered.
+pub record Obeyed (limits : Limits) (k : Kept) (c : Command) (out : List ℕ) (m : Kept) (gathered : List ℕ) : Type 0 where
+  pub printed : List ℕ
+  pub refuses : Bool
+  pub obeys : Obeys limits k.state c printed refuses m.state
+  pub refused : m.refused ≡ (k.refused || refuses)
+  pub gathered_is : gathered ≡ out ++ printed
+
+-- the command asks the graph itself, if it asks
+abbrev pub AsksData : Command → Type 0
+AsksData (change c) = ⊤
+AsksData (path via e) = via ≡ Data
 
 -- A line was taken, and what it prints is gathered; or it is bad, and nothing is.
 abbrev pub Comes : Limits → Kept → List ℕ → List ℕ → Outcome → Kept → List ℕ → Type 0
@@ -71,9 +81,3 @@ pub record CanRead (r : Reading) (is_open : Bool) : Type 0 where
 -- a front of what was gathered is written, and the rest is left
 abbrev pub Writes : Option (List ℕ) → Option (List ℕ) → List ℕ → List ℕ → Type 0
 Writes old new out left = (front : List ℕ) × Appends old new front × (out ≡ front ++ left)
-
--- The answers of what the text spells are gathered; or it spells nothing, and nothing is.
-abbrev pub Answers : Graph → List ℕ → List ℕ → Outcome → List ℕ → Type 0
-Answers g text out Done gathered = (e : Seq) × (nodes : List ℕ)
-    × Spells text e × AreAnswers (shape_of g) e nodes × (gathered ≡ out ++ answers_text nodes)
-Answers g text out Bad gathered = ((e : Seq) → Spells text e → ⊥) × (gathered ≡ out)

@@ -1,10 +1,13 @@
 -- What a call of `run` does, by its words, the files, the bytes written, the counts of faults, and the status.
-use Rattle.std.specs.Prelude.{◌≡◌, ℕ, ◌<◌, ◌≤◌, ◌⊎◌, List, ⊤, Option, None, Some}
+use Rattle.std.specs.Prelude.{◌≡◌, ℕ, ◌-◌, ◌^◌, ◌<◌, ◌≤◌, ◌⊎◌, List, length, slice_get, ⊤, Option, None, Some}
 use Rattle.std.specs.Io.KnownBytes.{Appends, Keeps}
+use Rattle.px_spec.specs.Lines.{Line, cut}
 use Rattle.px_spec.specs.ProgramLimits.{program_limits}
 use Rattle.px_spec.specs.Graphs.{empty_graph}
+use Rattle.px_base.specs.declared.lines.TheConstants.{LINE_BYTES, SCRIPT_BYTES}
 use Rattle.px_base.specs.Causes.{Rose}
 use Rattle.px_base.specs.Files.{File, content_of, AppendsFront}
+use Rattle.script_read.specs.Commands.{SpellsSomething}
 use Rattle.pathindex_run.specs.Texts.{usage_line}
 use Rattle.pathindex_run.specs.Runs.{State}
 use Rattle.pathindex_run.specs.Forms.{Form, script, none}
@@ -41,3 +44,23 @@ pub record HasStatus (form : Form) (files : Option (List File)) (shelf_before sh
   pub sink : status ≡ 6 → Rose sink_before sink_after
   pub shelf_rose : shelf_before < shelf_after → status ≡ 5
   pub sink_rose : sink_before < sink_after → status ≡ 6
+
+-- a script without a bad line: it is within its limit, each line is within that on a line, and is quiet or a command
+pub record IsProper (text : List ℕ) : Type 0 where
+  pub small : length text ≤ SCRIPT_BYTES
+  pub lines : (i : ℕ) (l : Line) → slice_get (cut text) i ≡ Some l → (length l.text ≤ LINE_BYTES) × SpellsSomething l.text
+
+-- the words name a script that the shelf tells, and it is there and proper
+abbrev pub NamesProper : Form → Option (List File) → Type 0
+NamesProper none files = ⊥
+NamesProper (script name) None = ⊥
+NamesProper (script name) (Some files) = (text : List ℕ) × (content_of files name ≡ Some text) × IsProper text
+
+-- no call failed: the count is as before, and it could rise
+abbrev pub NoFault : ℕ → ℕ → Type 0
+NoFault before now = (now ≡ before) × (before < 2 ^ 64 - 1)
+
+-- A proper script that is there is read to its end, unless a call fails or memory is wanting.
+abbrev pub Completes : Form → Option (List File) → ℕ → ℕ → ℕ → ℕ → ℕ → Type 0
+Completes form files shelf_before shelf_after sink_before sink_after status =
+    NamesProper form files → NoFault shelf_before shelf_after → NoFault sink_before sink_after → (status ≤ 1) ⊎ (status ≡ 7)

@@ -1,5 +1,4 @@
 pub mod Texts
-pub mod Commands
 pub mod Runs
 pub mod Forms
 pub mod Kept
@@ -7,6 +6,4 @@ pub mod Going
 pub mod Listing
 pub mod Endings
 pub mod Told
-pub mod Parts
-pub mod Reading
 pub mod Headline

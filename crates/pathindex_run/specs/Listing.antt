@@ -1,6 +1,6 @@
 -- Nodes that are listed from some number on.
 use Rattle.std.specs.Prelude.{ℕ, List, [], ◌∷◌, ◌++◌, filter, nat_le}
-use Rattle.pathindex_run.specs.Texts.{node_word}
+use Rattle.px_spec.specs.Words.{node_word}
 
 abbrev pub members_from : List ℕ → ℕ → List ℕ
 members_from members from = filter (λ m. nat_le from m) members

@@ -7,10 +7,11 @@ use Rattle.px_spec.specs.Lines.{Line, cut}
 use Rattle.px_spec.specs.Graphs.{Graph}
 use Rattle.px_spec.specs.Changes.{Change, apply}
 use Rattle.px_spec.specs.Shapes.{shape_of}
+use Rattle.index_api.specs.declared.kinds.Via.TheVariants.{Data}
 use Rattle.path_query.specs.Trees.{Seq}
 use Rattle.path_query.specs.Answers.{AreAnswers}
 use Rattle.pathindex_run.specs.Texts.{reply, answers_text, bad_line}
-use Rattle.pathindex_run.specs.Commands.{Command, change, path, IsQuiet, IsSpelled, SpellsNothing}
+use Rattle.script_read.specs.Commands.{Command, change, path, IsQuiet, IsSpelled, SpellsNothing}
 
 -- what commands change
 pub record State : Type 0 where
@@ -26,7 +27,7 @@ pub data Obeys (limits : Limits) (s : State) : Command → List ℕ → Bool →
   changes : (c : Change)
       → Obeys limits s (change c) (reply c s.graph (apply c s.graph limits)) (is_err (apply c s.graph limits))
       (moved s (apply c s.graph limits))
-  answers : (e : Seq) (nodes : List ℕ) → AreAnswers (shape_of s.graph) e nodes → Obeys limits s (path e) (answers_text nodes) false s
+  answers : (e : Seq) (nodes : List ℕ) → AreAnswers (shape_of s.graph) e nodes → Obeys limits s (path Data e) (answers_text nodes) false s
 
 -- so may a line
 pub data Does (limits : Limits) (s : State) (line : List ℕ) : List ℕ → Bool → State → Type 0 where

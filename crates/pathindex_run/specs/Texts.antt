@@ -3,12 +3,9 @@ use Rattle.std.specs.Prelude.{ℕ, List, [], ◌∷◌, ◌++◌, length, codes,
 use Rattle.std.specs.List.{join_with_byte}
 use Rattle.px_spec.specs.declared.refusal.Refusal.{Refusal}
 use Rattle.px_spec.specs.Refusals.{word_of}
+use Rattle.px_spec.specs.Words.{node_word}
 use Rattle.px_spec.specs.Graphs.{Graph}
 use Rattle.px_spec.specs.Changes.{Change, node, link, unlink, drop}
-
--- how a node is written, as `n7`
-abbrev pub node_word : ℕ → List ℕ
-node_word n = 110 ∷ decimal n
 
 abbrev pub refused_line : Refusal → List ℕ
 refused_line r = codes "refused " ++ word_of r ++ 10 ∷ []

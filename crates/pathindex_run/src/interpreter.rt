@@ -1,21 +1,24 @@
 // Carrying out the lines of a script.
-ghost use Rattle.std.specs.Prelude.{◌≡◌, ◌||◌, Bool, IfOk, OnOk, OnErr, false};
-ghost use Rattle.px_spec.specs.Words.{IsLabel};
-ghost use Rattle.px_spec.specs.Changes.{node};
+ghost use Rattle.std.specs.Prelude.{◌≡◌, ◌++◌, ℕ, List, IfOk, OnOk, OnErr, false};
+ghost use Rattle.px_spec.specs.Shapes.{shape_of};
 ghost use Rattle.graph_update.specs.Judging.{change_of};
-ghost use Rattle.pathindex_run.specs.Going.{Answers, Changes, Comes};
+ghost use Rattle.path_query.specs.Answers.{AreAnswers};
+ghost use Rattle.script_read.specs.Commands.{change as changing};
+ghost use Rattle.script_read.specs.Reading.{command_of};
+ghost use Rattle.pathindex_run.specs.Texts.{answers_text};
+ghost use Rattle.pathindex_run.specs.Going.{Obeyed, AsksData, Comes};
 ghost use Rattle.pathindex_run.specs.Headline.{first_state};
 
 use crate::changes::make_change;
-use crate::commands::{Said, read};
 use crate::queries::{answers, push_answers};
 use graph_update::Change;
+use index_api::Via;
 use label_graph::Graph;
-use path_query::{ExprError, PathExpr};
-use px_base::{Limits, Memory, Text, TextError};
+use path_query::PathExpr;
+use px_base::{Limits, Memory};
+use script_read::{Command, ScriptError, read};
 use std::alloc::Global;
 use std::marker::Model;
-use std::mem;
 
 /// What a line came to.
 #[derive(Clone, Copy)]
@@ -31,8 +34,6 @@ pub(crate) enum Outcome {
 pub(crate) struct Interpreter {
     graph: Graph,
     refused: bool,
-    // The label of the last node line, so that lines need no allocation of their own.
-    label: Text,
 }
 
 impl Model for Interpreter {
@@ -45,34 +46,6 @@ impl Model for Interpreter {
     ghost view = { λ i. record { state = record { graph = i.graph.graph }; refused = i.refused } };
 }
 
-/// Keeps the label in the text.
-fn keep_label(text: &mut Text, label: &[u8]) -> Result<(), Memory>
-    requires { IsLabel label.now }
-    ensures { OnOk result (text.new ≡ label.now) }
-{
-    match text.replace(label) {
-        Ok(()) => Ok(()),
-        Err(TextError::NotUtf8) => unreachable!(),
-        Err(TextError::Memory) => Err(Memory),
-    }
-}
-
-/// Gathers the answers of what the text spells.
-fn ask(alloc: Global, graph: &Graph, text: &[u8], out: &mut Vec<u8>) -> Result<Outcome, Memory>
-    ensures ok { IfOk result (λ outcome. Answers graph.now.graph text.now out.old.items outcome out.new.items) }
-    ensures err { OnErr result (out.new.items ≡ out.old.items) }
-{
-    match PathExpr::parse(alloc, text) {
-        Ok(expr) => {
-            let answers = answers(alloc, graph, &expr)?;
-            push_answers(out, &answers)?;
-            Ok(Outcome::Done)
-        }
-        Err(ExprError::Syntax) => Ok(Outcome::Bad),
-        Err(ExprError::Memory) => Err(Memory),
-    }
-}
-
 impl Interpreter {
     /// Starts with the empty graph.
     pub(crate) fn new(alloc: Global) -> Result<Interpreter, Memory>
@@ -81,7 +54,6 @@ impl Interpreter {
         Ok(Interpreter {
             graph: Graph::new(alloc)?,
             refused: false,
-            label: Text::new(alloc),
         })
     }
 
@@ -99,32 +71,45 @@ impl Interpreter {
         limits: &Limits,
         change: &Change,
         out: &mut Vec<u8>,
-    ) -> Result<Outcome, Memory>
-        ensures ok { IfOk result (λ outcome. (outcome ≡ Outcome.Done) × ((refuses : Bool) × Changes limits.now (change_of change.now) self.old.state.graph out.old.items refuses self.new.state.graph out.new.items × (self.new.refused ≡ (self.old.refused || refuses)))) }
+    ) -> Result<(), Memory>
+        ensures ok { OnOk result (Obeyed limits.now self.old (changing (change_of change.now)) out.old.items self.new out.new.items) }
         ensures err { OnErr result (out.new.items ≡ out.old.items) }
     {
         let refuses = make_change(alloc, limits, &mut self.graph, change, out)?;
         self.refused = self.refused || refuses;
-        Ok(Outcome::Done)
+        Ok(())
     }
 
-    /// Adds a node where that is accepted, gathers what that prints, and keeps the text for a later line.
-    fn add_node(
+    /// Gathers the answers of the expression, asked of the graph itself.
+    fn ask(&self, alloc: Global, expr: &PathExpr, out: &mut Vec<u8>) -> Result<(), Memory>
+        ensures ok { OnOk result ((nodes : List ℕ) × AreAnswers (shape_of self.now.state.graph) expr.now nodes × (out.new.items ≡ out.old.items ++ answers_text nodes)) }
+        ensures err { OnErr result (out.new.items ≡ out.old.items) }
+    {
+        let answers = answers(alloc, &self.graph, expr)?;
+        push_answers(out, &answers)?;
+        Ok(())
+    }
+
+    /// Carries out a command, and gathers what it prints.
+    fn obey(
         &mut self,
         alloc: Global,
         limits: &Limits,
-        label: Text,
+        command: Command,
         out: &mut Vec<u8>,
-    ) -> Result<Outcome, Memory>
-        ensures ok { IfOk result (λ outcome. (outcome ≡ Outcome.Done) × ((refuses : Bool) × Changes limits.now (node label) self.old.state.graph out.old.items refuses self.new.state.graph out.new.items × (self.new.refused ≡ (self.old.refused || refuses)))) }
+    ) -> Result<(), Memory>
+        requires { AsksData (command_of command) }
+        ensures ok { OnOk result (Obeyed limits.now self.old (command_of command) out.old.items self.new out.new.items) }
         ensures err { OnErr result (out.new.items ≡ out.old.items) }
     {
-        let change = Change::Node(label);
-        let outcome = self.change(alloc, limits, &change, out)?;
-        if let Change::Node(label) = change {
-            self.label = label;
+        match command {
+            Command::Node(label) => self.change(alloc, limits, &Change::Node(label), out),
+            Command::Link(from, to) => self.change(alloc, limits, &Change::Link(from, to), out),
+            Command::Unlink(from, to) => self.change(alloc, limits, &Change::Unlink(from, to), out),
+            Command::Drop(node) => self.change(alloc, limits, &Change::Drop(node), out),
+            Command::Path(Via::Data, expr) => self.ask(alloc, &expr, out),
+            Command::Path(_, _) => unreachable!(),
         }
-        Ok(outcome)
     }
 
     /// Takes a line, and gathers what it prints. Where memory is wanting, nothing is gathered.
@@ -138,18 +123,14 @@ impl Interpreter {
         ensures ok { IfOk result (λ outcome. Comes limits.now self.old line.now out.old.items outcome self.new out.new.items) }
         ensures err { OnErr result (out.new.items ≡ out.old.items) }
     {
-        match read(line) {
-            Said::Quiet => Ok(Outcome::Done),
-            Said::Node(label) => {
-                let mut text = mem::replace(&mut self.label, Text::new(alloc));
-                keep_label(&mut text, label)?;
-                self.add_node(alloc, limits, text, out)
+        match read(alloc, line) {
+            Ok(Some(command)) => {
+                self.obey(alloc, limits, command, out)?;
+                Ok(Outcome::Done)
             }
-            Said::Link(from, to) => self.change(alloc, limits, &Change::Link(from, to), out),
-            Said::Unlink(from, to) => self.change(alloc, limits, &Change::Unlink(from, to), out),
-            Said::Drop(node) => self.change(alloc, limits, &Change::Drop(node), out),
-            Said::Path(text) => ask(alloc, &self.graph, text, out),
-            Said::Bad => Ok(Outcome::Bad),
+            Ok(None) => Ok(Outcome::Done),
+            Err(ScriptError::Bad) => Ok(Outcome::Bad),
+            Err(ScriptError::Memory) => Err(Memory),
         }
     }
 }

@@ -3,7 +3,6 @@
 #![tactic(auto)]
 
 mod changes;
-mod commands;
 mod host;
 mod interpreter;
 mod output;

@@ -4,7 +4,8 @@ ghost use Rattle.std.specs.List.Sorted.{IsStrictlyIncreasing};
 ghost use Rattle.px_spec.specs.Members.{has};
 ghost use Rattle.px_spec.specs.Shapes.{shape_of};
 ghost use Rattle.path_query.specs.Answers.{AreAnswers};
-ghost use Rattle.pathindex_run.specs.Texts.{answers_text, nodes_line, node_word};
+ghost use Rattle.px_spec.specs.Words.{node_word};
+ghost use Rattle.pathindex_run.specs.Texts.{answers_text, nodes_line};
 ghost use Rattle.pathindex_run.specs.Going.{Extends};
 ghost use Rattle.pathindex_run.specs.Listing.{others_text, members_from};
 

@@ -113,6 +113,7 @@ fn failing_calls_lose_no_line(rt: HostRuntime) -> Result<(), Fail> {
         (read_failed, written.as_slice()),
         (5, b"added n0\n".as_slice())
     );
+    let script: Option<&[u8]> = Some(b"node a\nnode b\nlink n0 n1\npath data a/b\n");
     let (write_failed, written) = run_script(rt.alloc(), &["s"], script, &[], &[1])?;
     assert_eq!(rt; (write_failed, written.is_empty()), (6, true));
     Ok(())

@@ -2,7 +2,7 @@
 ghost use Rattle.std.specs.Prelude.{◌≡◌, map, string_bytes, option_copied};
 ghost use Rattle.px_base.specs.Causes.{Rose};
 ghost use Rattle.pathindex_run.specs.Forms.{form_of, script_name, script, none};
-ghost use Rattle.pathindex_run.specs.Headline.{Meets, HasStatus};
+ghost use Rattle.pathindex_run.specs.Headline.{Meets, HasStatus, Completes};
 
 use crate::script::{Stop, run_lines};
 use px_base::{Limits, Shelf, Sink, put_all};
@@ -46,11 +46,14 @@ fn show_usage<K: Sink>(sink: &mut K) -> u8
 /// | 6 | a call of the sink failed |
 /// | 7 | memory is wanting |
 ///
-/// At 5, 6 and 7 a front of what the run prints is written. The cost is linear in the script's bytes but for
+/// Where the shelf tells its files, a script that is there, with no line that is bad, gives 0, 1 or 7 where no
+/// call fails and no count of faults stands at its last value. At 5, 6 and 7 a front of what the run prints is
+/// written. The cost is linear in the script's bytes but for
 /// what its commands cost.
 pub fn run<H: Shelf, K: Sink>(alloc: Global, words: &[String], shelf: &mut H, sink: &mut K) -> u8
     ensures meets { Meets (form_of (map string_bytes words.now)) (H.files shelf.old) (K.written sink.old) (K.written sink.new) result }
     ensures status { HasStatus (form_of (map string_bytes words.now)) (H.files shelf.old) (H.faults shelf.old) (H.faults shelf.new) (K.faults sink.old) (K.faults sink.new) result }
+    ensures complete { Completes (form_of (map string_bytes words.now)) (H.files shelf.old) (H.faults shelf.old) (H.faults shelf.new) (K.faults sink.old) (K.faults sink.new) result }
     ensures files { H.files shelf.new ≡ H.files shelf.old }
     ensures idle { form_of (map string_bytes words.now) ≡ none → shelf.new ≡ shelf.old }
 {

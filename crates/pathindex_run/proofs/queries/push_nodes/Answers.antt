@@ -1,5 +1,5 @@
 use Rattle.std.proofs.Common.{◌+◌, ◌++◌, ◌∷◌, [], ◌∙◌, ap, sym, append_assoc}
-use Rattle.pathindex_run.specs.Texts.{node_word}
+use Rattle.px_spec.specs.Words.{node_word}
 use Rattle.pathindex_run.specs.Listing.{members_from, others_text}
 use Rattle.pathindex_run.proofs.ListingLemmas.{line_by_first}
 use Rattle.pathindex_run.proofs.queries.push_nodes.Goals as goal

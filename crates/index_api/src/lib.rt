@@ -1,0 +1,8 @@
+//! The kinds of indexes, and through which one a query is answered.
+#![tactic(auto)]
+
+mod kinds;
+#[cfg(test)]
+mod tests;
+
+pub use kinds::{Kind, Via};

@@ -1,0 +1,126 @@
+-- A proper script is read to its end.
+use Rattle.std.proofs.Common.{◌≡◌, ℕ, ◌+◌, ◌≤◌, Bool, true, false, List, [], ◌∷◌, ◌++◌, length, Option, None, Some, refl, sym, ap, ◌∙◌, subst, arith, cond, ◌⊎◌, inl, inr}
+use Rattle.std.specs.Prelude.{◌==◌, slice_get, if◌then◌else◌}
+use Rattle.px_base.specs.Causes.{Rose}
+use Rattle.px_base.specs.Files.{File, content_of}
+use Rattle.px_spec.specs.declared.limits.Limits.{Limits}
+use Rattle.px_spec.specs.ProgramLimits.{program_limits}
+use Rattle.px_spec.specs.Lines.{Line, cut, onto, ended, return_onto}
+use Rattle.script_read.specs.Commands.{SpellsSomething, SpellsNothing}
+use Rattle.pathindex_run.specs.Forms.{Form, script, none}
+use Rattle.pathindex_run.specs.Runs.{State, Progress, start, IsWithin, TakesLines, Ends}
+use Rattle.pathindex_run.specs.Told.{RanTold}
+use Rattle.pathindex_run.specs.Headline.{RunsScript, Meets, HasStatus, IsMissing, IsProper, NamesProper, NoFault, Completes, first_state}
+
+-- the bytes of the lines with their ends
+abbrev bytes_of : List Line → ℕ
+bytes_of [] = 0
+bytes_of (l ∷ ls) = length l.text + length l.end + bytes_of ls
+
+onto-bytes : (b : ℕ) (ls : List Line) → bytes_of (onto b ls) ≡ 1 + bytes_of ls
+onto-bytes b [] = refl
+onto-bytes b (l ∷ ls) = omega arith
+
+-- a CR in front of a text whose first line isn't empty with an LF
+return-other : (c : ℕ) (cs : List ℕ) (ls : List Line) → (c == 10) ≡ false → bytes_of ls ≡ length (c ∷ cs) → bytes_of (return_onto (c ∷ cs) ls) ≡ 1 + bytes_of ls
+return-other c cs [] e h = absurd (omega (arith, h))
+return-other c cs (l ∷ ls) e h = ap (λ t. bytes_of (cond t (ended (13 ∷ 10 ∷ []) ∷ ls) (ended (13 ∷ []) ∷ l ∷ ls))) e
+
+cut_step : (b : ℕ) (bs : List ℕ) → bytes_of (cut bs) ≡ length bs → bytes_of (return_onto bs (cut bs)) ≡ 1 + length bs → bytes_of (cut (b ∷ bs)) ≡ length (b ∷ bs)
+cut_step b bs p q =
+    elim (b == 10) as (λ t. bytes_of (cond t (ended (10 ∷ []) ∷ cut bs) (cond (b == 13) (return_onto bs (cut bs)) (onto b (cut bs)))) ≡ length (b ∷ bs)) [
+      | true ↦ omega (arith, p)
+      | false ↦ elim (b == 13) as (λ t. bytes_of (cond t (return_onto bs (cut bs)) (onto b (cut bs))) ≡ length (b ∷ bs)) [
+        | true ↦ omega (arith, q)
+        | false ↦ omega (arith, onto-bytes b (cut bs), p)
+      ]
+    ]
+
+return_step : (c : ℕ) (cs : List ℕ) → bytes_of (cut cs) ≡ length cs → bytes_of (cut (c ∷ cs)) ≡ length (c ∷ cs) → bytes_of (return_onto (c ∷ cs) (cut (c ∷ cs))) ≡ 1 + length (c ∷ cs)
+return_step c cs p w =
+    elim (c == 10) as (λ t. (c == 10) ≡ t → bytes_of (return_onto (c ∷ cs) (cut (c ∷ cs))) ≡ 1 + length (c ∷ cs)) [
+      | true ↦ λ e. ap (λ ls. bytes_of (return_onto (c ∷ cs) ls)) (ap (λ t. cond t (ended (10 ∷ []) ∷ cut cs) (cond (c == 13) (return_onto cs (cut cs)) (onto c (cut cs)))) e)
+          ∙ ap (λ t. bytes_of (cond t (ended (13 ∷ 10 ∷ []) ∷ cut cs) (ended (13 ∷ []) ∷ ended (10 ∷ []) ∷ cut cs))) e ∙ omega (arith, p)
+      | false ↦ λ e. return-other c cs (cut (c ∷ cs)) e w ∙ ap (λ n. 1 + n) w
+    ] refl
+
+-- the lines are all of the text, and so are those behind a CR
+cut_whole : (text : List ℕ) → (bytes_of (cut text) ≡ length text) × (bytes_of (return_onto text (cut text)) ≡ 1 + length text)
+cut_whole [] = (refl, refl)
+cut_whole (b ∷ bs) =
+    let h = cut_whole bs in
+    let w = cut_step b bs h.0 h.1 in
+    (w, return_step b bs h.0 w)
+
+bytes-append : (xs ys : List Line) → bytes_of (xs ++ ys) ≡ bytes_of xs + bytes_of ys
+bytes-append [] ys = omega arith
+bytes-append (x ∷ xs) ys = omega (arith, bytes-append xs ys)
+
+taken-bytes : (limits : Limits) (p : Progress) (ls : List Line) (printed : List ℕ) (q : Progress) → TakesLines limits p ls printed q → q.bytes ≡ p.bytes + bytes_of ls
+taken-bytes limits p [] printed q h = ap (λ r. r.bytes) h.1 ∙ omega arith
+taken-bytes limits p (l ∷ ls) printed q h = (let e = taken-bytes limits h.2 ls h.1 q h.4 in let b = h.3.bytes in omega (arith, e, b))
+
+at_seam : (xs : List Line) (l : Line) (ls : List Line) → slice_get (xs ++ l ∷ ls) (length xs) ≡ Some l
+at_seam [] l ls = refl
+at_seam (x ∷ xs) l ls = at_seam xs l ls
+
+not_both : (text : List ℕ) → SpellsSomething text → SpellsNothing text → ⊥
+not_both text (inl q) n = n.0 q
+not_both text (inr c) n = n.1 c.0 c.1
+
+-- the next line of a proper script isn't bad
+none_bad : (limits : Limits) (first : State) (text : List ℕ) (before left : List Line) (printed ending : List ℕ) (last : Progress) (status : ℕ)
+    → IsProper text → cut text ≡ before ++ left → TakesLines limits (start first) before printed last → Ends last left ending status → status ≤ 1
+none_bad limits first text before [] printed ending last status w cuts takes ends = at_end last.refused status ends.1
+  where
+    at_end : (b : Bool) (n : ℕ) → n ≡ (if b then 1 else 0) → n ≤ 1
+    at_end true n e = omega (arith, e)
+    at_end false n e = omega (arith, e)
+none_bad limits first text before (l ∷ ls) printed ending last status w cuts takes ends =
+    let here = w.lines (length before) l (ap (λ k. slice_get k (length before)) cuts ∙ at_seam before l ls) in
+    let whole : bytes_of before + (length l.text + length l.end + bytes_of ls) ≡ length text = sym (bytes-append before (l ∷ ls)) ∙ ap bytes_of (sym cuts) ∙ (cut_whole text).0 in
+    let taken = taken-bytes limits (start first) before printed last takes in
+    let small = w.small in
+    let within : IsWithin last l = (here.0, omega (arith, whole, taken, small)) in
+    absurd (not_both l.text here.1 (ends.0 within))
+
+ran_few : (first : State) (text : List ℕ) (old new : Option (List ℕ)) (status : ℕ) → IsProper text → RanTold program_limits first (Some text) old new status → status ≤ 1
+ran_few first text old new status w r = none_bad program_limits first text r.3.before r.3.left r.3.printed r.3.ending r.1 status w r.3.script_is r.3.takes r.3.ends
+
+not_rose : (before now : ℕ) → NoFault before now → Rose before now → ⊥
+not_rose before now n (l, inl r) = (let e = n.0 in omega (arith, e, r))
+not_rose before now n (l, inr r) = (let e = n.1 in omega (arith, e, r))
+
+runs_few : (text : Option (List ℕ)) (t : List ℕ) (old new : Option (List ℕ)) (status : ℕ) → text ≡ Some t → IsProper t → RunsScript text old new status → (status ≤ 1) ⊎ (5 ≤ status)
+runs_few None t old new status e w r = cc
+runs_few (Some s) t old new status e w (inl r) = inl (ran_few first_state s old new status (let same : s ≡ t = cc in subst IsProper (sym same) w) r.1)
+runs_few (Some s) t old new status e w (inr r) = inr r.0
+
+no_five : (form : Form) (files : Option (List File)) (h h2 : ℕ) → NoFault h h2 → Rose h h2 ⊎ IsMissing form files → NamesProper form files → ⊥
+no_five form files h h2 f (inl r) w = not_rose h h2 f r
+no_five none files h h2 f (inr m) w = m
+no_five (script name) None h h2 f (inr m) w = w
+no_five (script name) (Some files) h h2 f (inr m) w = (let z : None ≡ Some w.0 = sym m ∙ w.1 in cc)
+
+-- a status of 5 or 6 has a cause
+seven : (form : Form) (files : Option (List File)) (h h2 k k2 status : ℕ) → HasStatus form files h h2 k k2 status → NamesProper form files → NoFault h h2 → NoFault k k2 → 5 ≤ status → status ≡ 7
+seven form files h h2 k k2 status s w f g l = elim s.is_one [
+  | inl few ↦ elim few [ inl e ↦ absurd (omega (arith, e, l)) | inr e ↦ absurd (omega (arith, e, l)) ]
+  | inr most ↦ elim (three status most.0 most.1) [
+    | inl e ↦ absurd (no_five form files h h2 f (s.missing e) w)
+    | inr o ↦ elim o [ inl e ↦ absurd (not_rose k k2 g (s.sink e)) | inr e ↦ e ]
+  ]
+]
+  where
+    three : (n : ℕ) → 5 ≤ n → n ≤ 7 → (n ≡ 5) ⊎ ((n ≡ 6) ⊎ (n ≡ 7))
+    three n a b = grind (arith, a, b)
+
+pub completes : (form : Form) (files : Option (List File)) (old new : Option (List ℕ)) (h h2 k k2 status : ℕ)
+    → Meets form files old new status → HasStatus form files h h2 k k2 status → Completes form files h h2 k k2 status
+completes none files old new h h2 k k2 status m s w f g = absurd w
+completes (script name) None old new h h2 k k2 status m s w f g = absurd w
+completes (script name) (Some files) old new h h2 k k2 status m s w f g =
+    elim (runs_few (content_of files name) w.0 old new status w.1 w.2 m) [
+      | inl e ↦ inl e
+      | inr e ↦ inr (seven (script name) (Some files) h h2 k k2 status s w f g e)
+    ]

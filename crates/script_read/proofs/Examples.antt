@@ -1,0 +1,103 @@
+-- What lines spell, at worked lines and at near misses.
+use Rattle.std.proofs.Common.{◌≡◌, ℕ, ◌<◌, ◌^◌, List, [], ◌∷◌, length, drop, refl, sym, ap, ◌∙◌, arith, lit<, ◌⊎◌, inl, inr}
+use Rattle.std.specs.Prelude.{codes, decimal, slice_index}
+use Rattle.std.proofs.lemmas.Fmt.{decimal_digit, first_decimal}
+use Rattle.px_spec.specs.Words.{IsLabel, node_word}
+use Rattle.px_spec.specs.Changes.{node, link, unlink, drop as drop_node}
+use Rattle.path_query.specs.Trees.{Seq, path_of}
+use Rattle.index_api.specs.declared.kinds.Via.{Via}
+use Rattle.index_api.specs.declared.kinds.Via.TheVariants.{Data}
+use Rattle.script_read.specs.Commands.{Command, change, path, IsQuiet, IsSpelled, SpellsNothing}
+use Rattle.script_read.specs.Parts.{behind_word}
+use Rattle.script_read.proofs.CommandLemmas.{asks_data}
+
+label_a : IsLabel (codes "a")
+label_a = (refl, (λ e. omega (arith, ap (λ l. slice_index l 1) e)), (λ e. omega (arith, ap (λ l. slice_index l 0) e)), (λ e. omega (arith, ap (λ l. slice_index l 0) e)))
+
+-- blanks may stand at both ends and between the words
+node_spelled : IsSpelled (codes " node\ta ") (change (node (codes "a")))
+node_spelled = (refl, label_a)
+
+abbrev second : List (List ℕ) → List ℕ
+second [] = []
+second (a ∷ []) = []
+second (a ∷ b ∷ ws) = b
+
+abbrev first : List (List ℕ) → List ℕ
+first [] = []
+first (a ∷ ws) = a
+
+link_spelled : IsSpelled (codes "link n0 n1") (change (link 0 1))
+link_spelled = (
+  ap (λ d. codes "link" ∷ (110 ∷ d) ∷ codes "n1" ∷ []) (sym (decimal_digit 0 (lit< tt)))
+      ∙ ap (λ d. codes "link" ∷ node_word 0 ∷ (110 ∷ d) ∷ []) (sym (decimal_digit 1 (lit< tt))),
+  lit< tt,
+  lit< tt,
+)
+
+unlink_spelled : IsSpelled (codes "unlink n1 n0") (change (unlink 1 0))
+unlink_spelled = (
+  ap (λ d. codes "unlink" ∷ (110 ∷ d) ∷ codes "n0" ∷ []) (sym (decimal_digit 1 (lit< tt)))
+      ∙ ap (λ d. codes "unlink" ∷ node_word 1 ∷ (110 ∷ d) ∷ []) (sym (decimal_digit 0 (lit< tt))),
+  lit< tt,
+  lit< tt,
+)
+
+drop_spelled : IsSpelled (codes "drop n7") (change (drop_node 7))
+drop_spelled = (ap (λ d. codes "drop" ∷ (110 ∷ d) ∷ []) (sym (decimal_digit 7 (lit< tt))), lit< tt)
+
+-- a node is written with an n, and one is dropped at a time
+no_bare_number : (u : ℕ) → ¬ IsSpelled (codes "drop 0") (change (drop_node u))
+no_bare_number u h = omega (arith, ap (λ ws. slice_index (second ws) 0) h.0)
+
+no_second_node : (u : ℕ) → ¬ IsSpelled (codes "drop n0 n1") (change (drop_node u))
+no_second_node u h = omega (arith, ap length h.0)
+
+-- a number has no leading zero
+no_two_zeros : (n : ℕ) → n < 2 ^ 64 → decimal n ≡ 48 ∷ 48 ∷ [] → ⊥
+no_two_zeros n b e = elim (zero_or_more n) [
+  | inl z ↦ (let l : decimal 0 ≡ 48 ∷ 48 ∷ [] = ap decimal (sym z) ∙ e in let one = decimal_digit 0 (lit< tt) in omega (arith, ap length (sym one ∙ l)))
+  | inr p ↦ omega (arith, first_decimal n p b, ap (λ l. slice_index l 0) e)
+]
+  where
+    zero_or_more : (n : ℕ) → (n ≡ 0) ⊎ (0 < n)
+    zero_or_more n = grind arith
+
+no_zero_in_front : (u v : ℕ) → ¬ IsSpelled (codes "link n00 n1") (change (link u v))
+no_zero_in_front u v h =
+    (let z : codes "link" ∷ codes "n00" ∷ codes "n1" ∷ [] ≡ codes "link" ∷ (110 ∷ decimal u) ∷ (110 ∷ decimal v) ∷ [] = h.0 in
+    let d : 48 ∷ 48 ∷ [] ≡ decimal u = ap (λ ws. drop 1 (second ws)) z in
+    no_two_zeros u (let b = h.1 in omega (arith, b)) (sym d))
+
+-- one word too many
+no_third_word : (t : List ℕ) → ¬ IsSpelled (codes "node a b") (change (node t))
+no_third_word t h = (let z : codes "node" ∷ codes "a" ∷ codes "b" ∷ [] ≡ codes "node" ∷ t ∷ [] = h.0 in cc)
+
+-- a blank line and a comment are quiet
+blank_quiet : IsQuiet (codes " \t")
+blank_quiet = tt
+
+comment_quiet : IsQuiet (codes "  # node a")
+comment_quiet = refl
+
+-- what stands behind the first two words of a query
+-- an expression is asked of the graph itself; through an index no line asks yet
+path_spelled : IsSpelled (codes "path data a") (path Data (path_of (codes "a") []))
+path_spelled = (refl, refl, (codes " a", [], (codes " ", codes "a", [], refl, (label_a, refl), refl, refl), refl, refl))
+
+no_index : (via : Via) (e : Seq) → ¬ IsSpelled (codes "path one a") (path via e)
+no_index via e h = (let d = (asks_data (codes "path one a") via e h).1.1 in omega (arith, ap (λ l. slice_index l 0) d))
+
+text_of_query : behind_word (behind_word (codes "path data a / b ")) ≡ codes " a / b "
+text_of_query = refl
+
+-- a word of the query languages is no label, so the line is no command
+bad_label : SpellsNothing (codes "node and")
+bad_label = (λ q. omega (arith, q), other)
+  where
+    other : (c : Command) → ¬ IsSpelled (codes "node and") c
+    other (change (node t)) h = h.1.1 (sym (ap second h.0))
+    other (change (link u v)) h = omega (arith, ap length h.0)
+    other (change (unlink u v)) h = omega (arith, ap length h.0)
+    other (change (drop_node u)) h = omega (arith, ap (λ ws. slice_index (first ws) 0) h.0)
+    other (path via e) h = omega (arith, ap (λ l. slice_index l 0) (asks_data (codes "node and") via e h).1.0)

@@ -1,0 +1,5 @@
+pub mod AsciiLemmas
+pub mod WordLemmas
+pub mod CommandLemmas
+pub mod CommandLaws
+pub mod Examples

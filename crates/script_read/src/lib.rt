@@ -1,0 +1,11 @@
+//! The lines of a script: which command each of them is.
+#![tactic(auto)]
+
+mod commands;
+mod nodes;
+mod scan;
+#[cfg(test)]
+mod tests;
+mod words;
+
+pub use commands::{Command, ScriptError, read};

@@ -1,0 +1,69 @@
+// What lines spell.
+use super::*;
+use index_api::Via;
+use px_base::Text;
+use std::alloc::Global;
+use std::test::Fail;
+
+/// What a line gives, in short: its command's first letter with its numbers, or why there is none.
+#[derive(Clone, Copy, Debug, PartialEq, Eq)]
+enum Short {
+    Quiet,
+    Node,
+    Pair(char, u32, u32),
+    Drop(u32),
+    Path,
+    Bad,
+    Memory,
+}
+
+fn shorten(read: Result<Option<Command>, ScriptError>) -> Short {
+    match read {
+        Ok(None) => Short::Quiet,
+        Ok(Some(Command::Node(_))) => Short::Node,
+        Ok(Some(Command::Link(from, to))) => Short::Pair('l', from, to),
+        Ok(Some(Command::Unlink(from, to))) => Short::Pair('u', from, to),
+        Ok(Some(Command::Drop(node))) => Short::Drop(node),
+        Ok(Some(Command::Path(_, _))) => Short::Path,
+        Err(ScriptError::Bad) => Short::Bad,
+        Err(ScriptError::Memory) => Short::Memory,
+    }
+}
+
+#[test]
+fn lines_are_commands(rt: HostRuntime) -> Result<(), Fail> {
+    let rows: [(&[u8], Short); 8] = [
+        (b"", Short::Quiet),
+        (b" \t# node a", Short::Quiet),
+        (b" node\ta ", Short::Node),
+        (b"link n0 n4294967295", Short::Pair('l', 0, 4294967295)),
+        (b"unlink n10 n2", Short::Pair('u', 10, 2)),
+        (b"drop n7", Short::Drop(7)),
+        (b"path data a / b", Short::Path),
+        (b"path one a", Short::Bad),
+    ];
+    for (line, short) in rows {
+        assert_eq!(rt; shorten(read(rt.alloc(), line)), short);
+    }
+    Ok(())
+}
+
+#[test]
+fn near_misses_are_bad(rt: HostRuntime) -> Result<(), Fail> {
+    let lines: [&[u8]; 10] = [
+        b"node",
+        b"node and",
+        b"node a b",
+        b"link n0 n01",
+        b"link n0 n4294967296",
+        b"link n0",
+        b"drop 0",
+        b"drop n0 n1",
+        b"path data a b",
+        b"Node a",
+    ];
+    for line in lines {
+        assert_eq!(rt; shorten(read(rt.alloc(), line)), Short::Bad);
+    }
+    Ok(())
+}

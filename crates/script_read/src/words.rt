@@ -1,0 +1,29 @@
+// The words of a line, one after another.
+ghost use Rattle.std.specs.Prelude.{◌≡◌, ◌↔◌, IsTrue, []};
+ghost use Rattle.px_spec.specs.Words.{words};
+ghost use Rattle.script_read.specs.Parts.{first_word, behind_word, IsSplit};
+
+use path_query::skip_blanks;
+
+/// The first word of the line, which is empty where there is none, and what follows it.
+pub(crate) fn split_word(line: &[u8]) -> (&[u8], &[u8])
+    ensures word { result.0.now ≡ first_word line.now }
+    ensures rest { result.1.now ≡ behind_word line.now }
+    ensures parts { IsSplit line.now result.0.now result.1.now }
+{
+    path_query::split_word(skip_blanks(line))
+}
+
+/// Whether the line has no word.
+pub(crate) fn is_over(line: &[u8]) -> bool
+    ensures { IsTrue result ↔ (words line.now ≡ []) }
+{
+    split_word(line).0.is_empty()
+}
+
+/// Whether the word is this text.
+pub(crate) fn is_word(word: &[u8], text: &str) -> bool
+    ensures { IsTrue result ↔ (word.now ≡ text.now) }
+{
+    word == text.as_bytes()
+}
