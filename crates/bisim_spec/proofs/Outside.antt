@@ -1,0 +1,145 @@
+-- What a change leaves as it was: the nodes that aren't reached from its targets.
+use Rattle.std.proofs.Common.{◌≡◌, ◌≢◌, ◌↔◌, ℕ, zero, suc, List, Option, Some, IsFalse, Bool, sym, ◌∙◌, ap, arith, inl, inr}
+use Rattle.std.proofs.lemmas.Bool.{false_from_ne_true, both_ways}
+use Rattle.px_spec.specs.Shapes.{Shape, IsParent, IsShape}
+use Rattle.bisim_spec.specs.Bisimilarity.{Covers, Bis}
+use Rattle.bisim_spec.specs.Partitions.{block_at, Together, IsPartition}
+use Rattle.bisim_spec.specs.Stability.{StableBut, Stable, Mergeable, Minimal, merged}
+use Rattle.bisim_spec.specs.Reach.{near, reach}
+use Rattle.bisim_spec.proofs.Stable.{stable_label, stable_parents}
+use Rattle.bisim_spec.proofs.Together.{together_sym, together_at, merged_keeps, merged_a, merged_b, merged_cases}
+use Rattle.bisim_spec.proofs.Merging.{mergeable_from}
+use Rattle.bisim_spec.proofs.Reached.{near_next, near_step, near_more, reach_start, unreached_parent}
+
+-- the two shapes differ at the targets alone: in their labels, and in the edges that lead to them
+pub record DiffersAt (target : ℕ → Bool) (s s2 : Shape) : Type 0 where
+  pub label : (n : ℕ) → IsFalse (target n) → s.label n ≡ s2.label n
+  pub edge : (p n : ℕ) → IsFalse (target n) → s.edge p n ≡ s2.edge p n
+
+-- such nodes have their labels and parents, and their parents are such nodes
+pub record IsOutside (s s2 : Shape) (Out : ℕ → Type 0) : Type 0 where
+  pub parents : (p n : ℕ) → Out n → IsParent s2 p n → Out p
+  pub label : (n : ℕ) → Out n → s.label n ≡ s2.label n
+  pub edge : (p n : ℕ) → Out n → s.edge p n ≡ s2.edge p n
+
+pub outside_reach : (target : ℕ → Bool) (s s2 : Shape) → IsShape s2 → DiffersAt target s s2 → IsOutside s s2 (λ n. IsFalse (reach s2 target n))
+outside_reach target s s2 shape d =
+    let apart : (n : ℕ) → IsFalse (reach s2 target n) → IsFalse (target n) =
+    λ n h. false_from_ne_true (target n) (λ t. both_ways (reach s2 target n) h (reach_start s2 target n t))
+    in
+    record {
+      parents = λ p n h e. unreached_parent s2 shape target p n h e;
+      label = λ n h. d.label n (apart n h);
+      edge = λ p n h. d.edge p n (apart n h);
+    }
+
+-- a stable partition is so after the change, but maybe at the targets
+pub stable_but_targets : (target : ℕ → Bool) (s s2 : Shape) (block : List (Option ℕ)) → DiffersAt target s s2 → Stable s block → IsPartition s2 block
+    → StableBut s2 block target
+stable_but_targets target s s2 block d st partition = record {
+  partition = partition;
+  label = λ u v nu nv t. sym (d.label u nu) ∙ stable_label s block st u v t ∙ d.label v nv;
+  parents = λ u v nu nv t p e.
+      let q = stable_parents s block st u v t p (d.edge p u nu ∙ e) in
+      (q.0, sym (d.edge q.0 v nv) ∙ q.1, q.2);
+}
+
+-- By level: such nodes have their labels and parents, and from one level up their parents are such nodes.
+record IsOutsideBy (s s2 : Shape) (Out : ℕ → ℕ → Type 0) : Type 0 where
+  lower : (i n : ℕ) → Out (suc i) n → Out i n
+  parents : (i p n : ℕ) → Out (suc i) n → IsParent s2 p n → Out i p
+  label : (i n : ℕ) → Out i n → s.label n ≡ s2.label n
+  edge : (i p n : ℕ) → Out i n → s.edge p n ≡ s2.edge p n
+
+outside_back : (s s2 : Shape) (Out : ℕ → ℕ → Type 0) → IsOutsideBy s s2 Out → IsOutsideBy s2 s Out
+outside_back s s2 Out o = record {
+  lower = o.lower;
+  parents = λ i p n h e. o.parents i p n h (sym (o.edge i p n (o.lower i n h)) ∙ e);
+  label = λ i n h. sym (o.label i n h);
+  edge = λ i p n h. sym (o.edge i p n h);
+}
+
+-- a parent of the one and the parent of the other, to which it is bisimilar
+covers_carried : (s s2 : Shape) (Out : ℕ → ℕ → Type 0) → IsOutsideBy s s2 Out → (i u v : ℕ)
+    → ((p q : ℕ) → Out i p → Out i q → Bis s i p q → Bis s2 i p q) → Out (suc i) u → Out (suc i) v
+    → Covers (IsParent s) (Bis s i) u v → Covers (IsParent s2) (Bis s2 i) u v
+covers_carried s s2 Out o i u v below ou ov h p e =
+    let q = h p (o.edge i p u (o.lower i u ou) ∙ e) in
+    let f = sym (o.edge i q.0 v (o.lower i v ov)) ∙ q.1 in
+    (q.0, f, below p q.0 (o.parents i p u ou e) (o.parents i q.0 v ov f) q.2)
+
+bis_carried : (s s2 : Shape) (Out : ℕ → ℕ → Type 0) → IsOutsideBy s s2 Out → (i u v : ℕ) → Out i u → Out i v → Bis s i u v → Bis s2 i u v
+bis_carried s s2 Out o zero u v ou ov h = (h.0, sym (o.label 0 u ou) ∙ h.1, sym (o.label 0 v ov) ∙ h.2)
+bis_carried s s2 Out o (suc i) u v ou ov h = (
+  bis_carried s s2 Out o i u v (o.lower i u ou) (o.lower i v ov) h.0,
+  record {
+    there = covers_carried s s2 Out o i u v (bis_carried s s2 Out o i) ou ov h.1.there;
+    back = covers_carried s s2 Out o i v u (bis_carried s s2 Out o i) ov ou h.1.back;
+  },
+)
+
+outside_near : (target : ℕ → Bool) (s s2 : Shape) → IsShape s2 → DiffersAt target s s2 → IsOutsideBy s s2 (λ i n. IsFalse (near s2 target i n))
+outside_near target s s2 shape d =
+    let apart : (i n : ℕ) → IsFalse (near s2 target i n) → IsFalse (target n) =
+    λ i n h. false_from_ne_true (target n) (λ t. both_ways (near s2 target i n) h (near_more s2 target 0 i n (omega arith) t))
+    in
+    record {
+      lower = λ i n h. false_from_ne_true (near s2 target i n) (λ t. both_ways (near s2 target (suc i) n) h (near_next s2 target i n t));
+      parents = λ i p n h e. false_from_ne_true (near s2 target i p) (λ t. both_ways (near s2 target (suc i) n) h (near_step s2 shape target i p n t e));
+      label = λ i n h. d.label n (apart i n h);
+      edge = λ i p n h. d.edge p n (apart i n h);
+    }
+
+-- nodes that aren't near the targets by so many edges are bisimilar to that level exactly where they were
+pub bis_kept : (target : ℕ → Bool) (s s2 : Shape) → IsShape s2 → DiffersAt target s s2 → (i u v : ℕ)
+    → IsFalse (near s2 target i u) → IsFalse (near s2 target i v) → Bis s i u v ↔ Bis s2 i u v
+bis_kept target s s2 shape d i u v nu nv =
+    let out = outside_near target s s2 shape d in
+    let Out : ℕ → ℕ → Type 0 = λ i n. IsFalse (near s2 target i n) in
+    (bis_carried s s2 Out out i u v nu nv, bis_carried s2 s Out (outside_back s s2 Out out) i u v nu nv)
+
+-- two partitions group these nodes alike
+pub record SameOutside (p p2 : List (Option ℕ)) (Out : ℕ → Type 0) : Type 0 where
+  pub into : (x y : ℕ) → Out x → Out y → Together p x y → Together p2 x y
+  pub back : (x y : ℕ) → Out x → Out y → Together p2 x y → Together p x y
+
+-- nodes of the two blocks are together once the blocks are one, after the change and so before it
+outside_merged : (p p2 : List (Option ℕ)) (Out : ℕ → Type 0) → SameOutside p p2 Out → (x y a b a0 b0 : ℕ) → Out x → Out y
+    → block_at p2 x ≡ Some a → block_at p2 y ≡ Some b → block_at p x ≡ Some a0 → block_at p y ≡ Some b0
+    → (u v : ℕ) → Out u → Out v → Together (merged a b p2) u v → Together (merged a0 b0 p) u v
+outside_merged p p2 Out same x y a b a0 b0 ox oy hx hy kx ky u v ou ov t = elim (merged_cases a b p2 u v t) [
+  | inl near ↦ merged_keeps a0 b0 p u v (same.back u v ou ov near)
+  | inr (inl (eu, ev)) ↦
+      (let pu = together_at p x u a0 (same.back x u ox ou (a, hx, eu)) kx in
+      let pv = together_at p y v b0 (same.back y v oy ov (b, hy, ev)) ky in
+      (a0, merged_a a0 b0 p u pu, merged_b a0 b0 p v pv))
+  | inr (inr (eu, ev)) ↦
+      (let pv = together_at p x v a0 (same.back x v ox ov (a, hx, ev)) kx in
+      let pu = together_at p y u b0 (same.back y u oy ou (b, hy, eu)) ky in
+      (a0, merged_b a0 b0 p u pu, merged_a a0 b0 p v pv))
+]
+
+-- Two blocks with members outside can't be merged after the change, where no two blocks could before.
+pub none_outside : (s s2 : Shape) (Out : ℕ → Type 0) (p p2 : List (Option ℕ)) → IsOutside s s2 Out → SameOutside p p2 Out → Stable s p → Minimal s p
+    → (x y a b : ℕ) → Out x → Out y → block_at p2 x ≡ Some a → block_at p2 y ≡ Some b → a ≢ b → Mergeable s2 p2 a b → ⊥
+none_outside s s2 Out p p2 out same st min x y a b ox oy hx hy apart can =
+    let tx = same.back x x ox ox (a, hx, hx) in
+    let ty = same.back y y oy oy (b, hy, hy) in
+    let apart0 : tx.0 ≢ ty.0 = λ e. apart (let t = same.into x y ox oy (tx.0, tx.1, ty.1 ∙ ap Some (sym e)) in let f = t.1 in let g = t.2 in let z : a ≡ b = cc in z) in
+    let joined : Together (merged a b p2) x y = (a, merged_a a b p2 x hx, merged_b a b p2 y hy) in
+    let over : (u v q : ℕ) → Out u → Out v → Together (merged a b p2) u v → IsParent s q u → (r : ℕ) × IsParent s r v × Together (merged tx.0 ty.0 p) q r =
+    λ u v q ou ov t e.
+    let e2 : IsParent s2 q u = sym (out.edge q u ou) ∙ e in
+    let r = stable_parents s2 (merged a b p2) can u v t q e2 in (
+      r.0,
+      out.edge r.0 v ov ∙ r.1,
+      outside_merged p p2 Out same x y a b tx.0 ty.0 ox oy hx hy tx.1 ty.1 q r.0 (out.parents q u ou e2) (out.parents r.0 v ov r.1) r.2,
+    )
+    in
+    min.apart x y tx.0 ty.0 tx.1 ty.1 apart0 (mergeable_from s p tx.0 ty.0 x y st tx.1 ty.1 (record {
+      label = out.label x ox ∙ stable_label s2 (merged a b p2) can x y joined ∙ sym (out.label y oy);
+      parents = record {
+        there = λ q e. over x y q ox oy joined e;
+        back = λ q e. over y x q oy ox (together_sym (merged a b p2) x y joined) e;
+      };
+    }))
