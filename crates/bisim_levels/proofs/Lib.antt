@@ -1,0 +1,5 @@
+pub mod Rising
+pub mod Written
+pub mod Numbering
+pub mod Views
+pub mod LevelLaws

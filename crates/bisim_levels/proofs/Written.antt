@@ -1,0 +1,88 @@
+-- What a key that was written says of its node.
+use Rattle.std.proofs.Common.{◌≡◌, ℕ, ◌+◌, ◌<◌, List, [], ◌∷◌, ◌++◌, length, Option, Some, None, IsTrue, refl, sym, ◌∙◌, ap, subst, arith, Bool, get_or, filter_map, option_to_list, take, append_assoc}
+use Rattle.std.specs.List.{cons_option}
+use Rattle.std.proofs.lemmas.List.{take_more, length-append}
+use Rattle.std.proofs.lemmas.List.Elements.{filter_map-append}
+use Rattle.px_spec.specs.Members.{has, Lists}
+use Rattle.bisim_spec.specs.Partitions.{block_at, Together}
+use Rattle.bisim_levels.specs.Keys.{IsSetOf, IsWritten, IsKey}
+use Rattle.bisim_levels.specs.Refining.{StayTogether}
+use Rattle.bisim_levels.proofs.Rising.{images_set, rising_unique}
+
+one_image : (o : Option ℕ) → cons_option o [] ≡ option_to_list o
+one_image None = refl
+one_image (Some b) = refl
+
+-- one more node's block
+pub blocks_more : (f : ℕ → Option ℕ) (nodes numbers before now : List ℕ) (i d : ℕ) (o : Option ℕ) → i < length nodes → before ≡ numbers ++ filter_map f (take i nodes)
+    → o ≡ f (get_or nodes i d) → now ≡ before ++ option_to_list o → now ≡ numbers ++ filter_map f (take (i + 1) nodes)
+blocks_more f nodes numbers before now i d o within e is added =
+    let more : filter_map f (take (i + 1) nodes) ≡ filter_map f (take i nodes) ++ option_to_list o =
+    ap (filter_map f) (take_more nodes i d within) ∙ filter_map-append f (take i nodes) (get_or nodes i d ∷ [])
+    ∙ ap (λ xs. filter_map f (take i nodes) ++ xs) (one_image (f (get_or nodes i d)) ∙ ap option_to_list (sym is))
+    in
+    added ∙ ap (λ xs. xs ++ option_to_list o) e ∙ append_assoc numbers (filter_map f (take i nodes)) (option_to_list o) ∙ ap (λ xs. numbers ++ xs) (sym more)
+
+-- a key that is written into an empty list
+pub written : (f : ℕ → Option ℕ) (nodes empty numbers set key : List ℕ) (number : ℕ) → empty ≡ [] → numbers ≡ empty ++ filter_map f nodes → IsSetOf numbers set
+    → key ≡ set ++ number ∷ [] → IsWritten f nodes number key
+written f nodes empty numbers set key number none e s is = record {
+  around = set;
+  is = is;
+  images = images_set f nodes set (subst (λ xs. IsSetOf xs set) (e ∙ ap (λ xs. xs ++ filter_map f nodes) none) s);
+}
+
+pub key_of : (own : ℕ → Option ℕ) (base : List (Option ℕ)) (near : ℕ → ℕ → Bool) (n number : ℕ) (nodes key : List ℕ) → Lists (λ p. near p n) nodes → own n ≡ Some number
+    → IsWritten (block_at base) nodes number key → IsKey own base near n key
+key_of own base near n number nodes key l own_is w = record {
+  number = number;
+  around = w.around;
+  is = w.is;
+  own_is = own_is;
+  rising = w.images.rising;
+  each = λ b h. let p = w.images.each b h in (p.0, sym (l.members p.0) ∙ p.1, p.2);
+  every = λ p b h e. w.images.every p b (l.members p ∙ h) e;
+}
+
+-- keys with one last number apart from it
+last_same : (xs ys : List ℕ) (x y : ℕ) → xs ++ x ∷ [] ≡ ys ++ y ∷ [] → (xs ≡ ys) × (x ≡ y)
+last_same [] [] x y e = (refl, (cc))
+last_same [] (b ∷ ys) x y e = absurd (let l = ap length e in let m = length-append ys (y ∷ []) in omega (arith, l, m))
+last_same (a ∷ xs) [] x y e = absurd (let l = ap length e in let m = length-append xs (x ∷ []) in omega (arith, l, m))
+last_same (a ∷ xs) (b ∷ ys) x y e =
+    let tail : xs ++ x ∷ [] ≡ ys ++ y ∷ [] = cc in
+    let head : a ≡ b = cc in
+    let r = last_same xs ys x y tail in
+    ((let t = r.0 in cc), r.1)
+
+-- nodes of one key stay together, where neighbours have blocks
+pub together_from_key : (own : ℕ → Option ℕ) (base : List (Option ℕ)) (near : ℕ → ℕ → Bool) (u v : ℕ) (key : List ℕ) → ((p n : ℕ) → IsTrue (near p n) → (b : ℕ) × (block_at base p ≡ Some b))
+    → IsKey own base near u key → IsKey own base near v key → StayTogether own base near u v
+together_from_key own base near u v key blocks k l =
+    let same = last_same k.around l.around k.number l.number (sym k.is ∙ l.is) in
+    record {
+      one_number = (k.number, k.own_is, l.own_is ∙ ap Some (sym same.1));
+      neighbours = record {
+        there = λ p e.
+            let b = blocks p u e in
+            let q = l.each b.0 (ap (λ xs. has xs b.0) (sym same.0) ∙ k.every p b.0 e b.1) in
+            (q.0, q.1, (b.0, b.1, q.2));
+        back = λ p e.
+            let b = blocks p v e in
+            let q = k.each b.0 (ap (λ xs. has xs b.0) same.0 ∙ l.every p b.0 e b.1) in
+            (q.0, q.1, (b.0, b.1, q.2));
+      };
+    }
+
+-- nodes that stay together have one key
+pub key_from_together : (own : ℕ → Option ℕ) (base : List (Option ℕ)) (near : ℕ → ℕ → Bool) (u v : ℕ) (ku kv : List ℕ) → StayTogether own base near u v
+    → IsKey own base near u ku → IsKey own base near v kv → ku ≡ kv
+key_from_together own base near u v ku kv same k l =
+    let number : k.number ≡ l.number = (let a = same.one_number.1 in let b = same.one_number.2 in let c = k.own_is in let d = l.own_is in cc) in
+    let moved : (b : ℕ) (p q : ℕ) → block_at base p ≡ Some b → Together base p q → block_at base q ≡ Some b = λ b p q e t. let f = t.1 in let g = t.2 in cc in
+    let around : k.around ≡ l.around =
+    rising_unique k.around l.around k.rising l.rising
+    (λ b h. let p = k.each b h in let q = same.neighbours.there p.0 p.1 in l.every q.0 b q.1 (moved b p.0 q.0 p.2 q.2))
+    (λ b h. let p = l.each b h in let q = same.neighbours.back p.0 p.1 in k.every q.0 b q.1 (moved b p.0 q.0 p.2 q.2))
+    in
+    k.is ∙ ap (λ xs. xs ++ k.number ∷ []) around ∙ ap (λ x. l.around ++ x ∷ []) number ∙ sym l.is

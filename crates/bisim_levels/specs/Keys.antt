@@ -1,0 +1,32 @@
+-- The key of a node: the blocks of its neighbours, and a number of its own.
+use Rattle.std.specs.Prelude.{ℕ, ◌≡◌, Bool, List, [], ◌∷◌, ◌++◌, Option, Some, IsTrue}
+use Rattle.std.specs.List.Sorted.{IsStrictlyIncreasing}
+use Rattle.px_spec.specs.Members.{has}
+use Rattle.bisim_spec.specs.Partitions.{block_at}
+
+-- the same numbers, rising, each once
+pub record IsSetOf (numbers set : List ℕ) : Type 0 where
+  pub rising : IsStrictlyIncreasing set
+  pub same : (b : ℕ) → has set b ≡ has numbers b
+
+-- the numbers that f gives of the list, rising, each once
+pub record AreImages (f : ℕ → Option ℕ) (nodes images : List ℕ) : Type 0 where
+  pub rising : IsStrictlyIncreasing images
+  pub each : (b : ℕ) → IsTrue (has images b) → (p : ℕ) × IsTrue (has nodes p) × (f p ≡ Some b)
+  pub every : (p b : ℕ) → IsTrue (has nodes p) → f p ≡ Some b → IsTrue (has images b)
+
+-- the key is that of a node with these neighbours, whose own block has this number
+pub record IsWritten (f : ℕ → Option ℕ) (nodes : List ℕ) (number : ℕ) (key : List ℕ) : Type 0 where
+  pub around : List ℕ
+  pub is : key ≡ around ++ number ∷ []
+  pub images : AreImages f nodes around
+
+-- the key is that of the node: the blocks of its neighbours in the partition base, rising, each once, and its own number
+pub record IsKey (own : ℕ → Option ℕ) (base : List (Option ℕ)) (near : ℕ → ℕ → Bool) (n : ℕ) (key : List ℕ) : Type 0 where
+  pub number : ℕ
+  pub around : List ℕ
+  pub is : key ≡ around ++ number ∷ []
+  pub own_is : own n ≡ Some number
+  pub rising : IsStrictlyIncreasing around
+  pub each : (b : ℕ) → IsTrue (has around b) → (p : ℕ) × IsTrue (near p n) × (block_at base p ≡ Some b)
+  pub every : (p b : ℕ) → IsTrue (near p n) → block_at base p ≡ Some b → IsTrue (has around b)

@@ -1,0 +1,75 @@
+// Writing the key of a node.
+ghost use Rattle.std.specs.Prelude.{◌≡◌, ◌++◌, ◌∷◌, [], filter_map, nat_eq, option_to_list, OnOk};
+ghost use Rattle.std.specs.List.Retain.{IsFiltered, DiffersFromLast};
+ghost use Rattle.bisim_spec.specs.Partitions.{block_at};
+ghost use Rattle.bisim_levels.specs.Keys.{IsSetOf, IsWritten};
+
+use px_base::{Memory, NodeId};
+
+/// The block of a node, and `None` past the end of the list.
+#[inline(always)]
+pub(crate) fn block_of(block: &[Option<u32>], n: NodeId) -> Option<u32>
+    ensures { result ≡ block_at block.now n }
+{
+    if (n as usize) < block.len() {
+        block[n as usize]
+    } else {
+        None
+    }
+}
+
+// Puts the block of a node behind the numbers, where it has one.
+#[inline(always)]
+fn push_block(numbers: &mut Vec<u32>, block: Option<u32>) -> Result<(), Memory>
+    ensures { OnOk result (numbers.new.items ≡ numbers.old.items ++ option_to_list block) }
+{
+    if let Some(b) = block {
+        numbers.push(b)?;
+    }
+    Ok(())
+}
+
+// Puts the blocks of the nodes behind the numbers.
+fn push_blocks(
+    numbers: &mut Vec<u32>,
+    block: &[Option<u32>],
+    nodes: &[NodeId],
+) -> Result<(), Memory>
+    ensures { OnOk result (numbers.new.items ≡ numbers.old.items ++ filter_map (block_at block.now) nodes.now) }
+{
+    for n in nodes {
+        push_block(numbers, block_of(block, *n))?;
+    }
+    Ok(())
+}
+
+// Of numbers that follow one another and are equal only the first stays.
+fn drop_repeats(numbers: &mut Vec<u32>)
+    ensures { IsFiltered (DiffersFromLast nat_eq) [] numbers.old.items numbers.new.items }
+{
+    numbers.dedup();
+}
+
+// Sorts the numbers, and keeps each once.
+fn sort_once(numbers: &mut Vec<u32>)
+    ensures { IsSetOf numbers.old.items numbers.new.items }
+{
+    numbers.sort_unstable();
+    drop_repeats(numbers);
+}
+
+/// Writes the key of a node with these neighbours, whose own block has this number.
+pub(crate) fn write_key(
+    key: &mut Vec<u32>,
+    block: &[Option<u32>],
+    nodes: &[NodeId],
+    number: u32,
+) -> Result<(), Memory>
+    ensures { OnOk result (IsWritten (block_at block.now) nodes.now number key.new.items) }
+{
+    key.clear();
+    push_blocks(key, block, nodes)?;
+    sort_once(key);
+    key.push(number)?;
+    Ok(())
+}

@@ -1,0 +1,75 @@
+// Levels of bisimilarity, each from the one below.
+ghost use Rattle.std.specs.Prelude.{◌≡◌, ℕ, suc, [], IsSome, IfOk};
+ghost use Rattle.label_graph.specs.Views.{label_number};
+ghost use Rattle.key_table.specs.Interning.{AreDistinct};
+ghost use Rattle.bisim_spec.specs.Bisimilarity.{Bis, Both, SameLabel};
+ghost use Rattle.bisim_spec.specs.Partitions.{block_at, IsPartition, Agrees};
+ghost use Rattle.bisim_levels.specs.declared.sides.Side.TheVariants.{Parents};
+ghost use Rattle.bisim_levels.specs.Sides.{view_shape, is_near, no_neighbours};
+ghost use Rattle.bisim_levels.specs.Refining.{AreNumbered, Numbers};
+
+use crate::refining::{Level, refine};
+use crate::sides::Side;
+use key_table::KeyTable;
+use label_graph::{Digraph, GraphView};
+use px_base::{Memory, NodeId};
+use std::alloc::Global;
+
+// The number of the key of a node's label alone, and `None` where the number is no node.
+fn number_label(keys: &mut KeyTable, view: &GraphView<'_>, n: NodeId) -> Result<Option<u32>, Memory>
+    requires distinct { AreDistinct keys.old }
+    ensures ok { IfOk result (λ number. Numbers (label_number view.now) [] no_neighbours n keys.old keys.new number) }
+    ensures distinct { IfOk result (λ number. AreDistinct keys.new) }
+{
+    if view.is_node(n) {
+        let k = keys.intern(&[view.label(n)])?;
+        Ok(Some(k))
+    } else {
+        Ok(None)
+    }
+}
+
+/// Level 0: nodes of one label together. The key of a block is the number of its label.
+pub fn label_level(alloc: Global, view: &GraphView<'_>) -> Result<Level, Memory>
+    ensures agrees { IfOk result (λ l. Agrees (view_shape view.now) l.block.items (SameLabel (view_shape view.now))) }
+    ensures numbered { IfOk result (λ l. AreNumbered (label_number view.now) [] no_neighbours l.block.items l.keys) }
+    ensures distinct { IfOk result (λ l. AreDistinct l.keys) }
+{
+    let mut keys = KeyTable::new(alloc)?;
+    let mut block = Vec::with_capacity(alloc, view.size() as usize)?;
+    for n in 0..view.size() {
+        let number = number_label(&mut keys, view, n)?;
+        block.push(number)?;
+    }
+    Ok(Level { block, keys })
+}
+
+/// The level above a level of bisimilarity. The key of a block is the blocks of its members' parents,
+/// rising, each once, and then their own block, all of the level below.
+pub fn next_level(
+    alloc: Global,
+    view: &GraphView<'_>,
+    block: &[Option<u32>],
+) -> Result<Level, Memory>
+    requires partition { IsPartition (view_shape view.now) block.now }
+    ensures agrees { IfOk result (λ l. (i : ℕ) → Agrees (view_shape view.now) block.now (Bis (view_shape view.now) i) → Agrees (view_shape view.now) l.block.items (Bis (view_shape view.now) (suc i))) }
+    ensures partition { IfOk result (λ l. IsPartition (view_shape view.now) l.block.items) }
+    ensures numbered { IfOk result (λ l. AreNumbered (block_at block.now) block.now (is_near Parents view.now) l.block.items l.keys) }
+    ensures distinct { IfOk result (λ l. AreDistinct l.keys) }
+{
+    refine(alloc, view, Side::Parents, block, block)
+}
+
+/// The level above a level of bisimilarity over parents and children.
+pub fn next_level_both(
+    alloc: Global,
+    view: &GraphView<'_>,
+    block: &[Option<u32>],
+) -> Result<Level, Memory>
+    requires partition { IsPartition (view_shape view.now) block.now }
+    ensures agrees { IfOk result (λ l. (i : ℕ) → Agrees (view_shape view.now) block.now (Both (view_shape view.now) i) → Agrees (view_shape view.now) l.block.items (Both (view_shape view.now) (suc i))) }
+    ensures partition { IfOk result (λ l. IsPartition (view_shape view.now) l.block.items) }
+{
+    let by_parents = refine(alloc, view, Side::Parents, block, block)?;
+    refine(alloc, view, Side::Children, &by_parents.block, block)
+}

@@ -1,0 +1,13 @@
+//! Partitions of a graph's nodes by levels of bisimilarity, each made from the one below.
+#![tactic(auto)]
+
+mod keys;
+mod levels;
+mod refining;
+mod sides;
+#[cfg(test)]
+mod tests;
+
+pub use levels::{label_level, next_level, next_level_both};
+pub use refining::{Level, refine};
+pub use sides::Side;

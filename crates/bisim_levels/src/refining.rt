@@ -1,0 +1,90 @@
+// A partition that is refined by the blocks of neighbours.
+ghost use Rattle.std.specs.Prelude.{◌≡◌, ℕ, List, IsSome, IfOk};
+ghost use Rattle.label_graph.specs.Views.{label_number};
+ghost use Rattle.key_table.specs.Interning.{AreDistinct, Interns};
+ghost use Rattle.bisim_spec.specs.Partitions.{block_at, IsPartition};
+ghost use Rattle.bisim_levels.specs.Sides.{view_shape, is_near};
+ghost use Rattle.bisim_levels.specs.Keys.{IsWritten};
+ghost use Rattle.bisim_levels.specs.Refining.{Refines, AreNumbered, Numbers};
+
+use crate::keys::{block_of, write_key};
+use crate::sides::Side;
+use key_table::KeyTable;
+use label_graph::{Digraph, GraphView};
+use px_base::{Memory, NodeId};
+use std::alloc::Global;
+
+/// A partition of the nodes, whose blocks are numbered by the keys of their members.
+#[derive(Drop)]
+pub struct Level {
+    /// The block of each node, and `None` where the number is no node.
+    pub block: Vec<Option<u32>>,
+    /// The key of each block.
+    pub keys: KeyTable,
+}
+
+// The number of the key of a node with these neighbours, whose own block has this number.
+fn intern_key(
+    keys: &mut KeyTable,
+    key: &mut Vec<u32>,
+    base: &[Option<u32>],
+    nodes: &[NodeId],
+    number: u32,
+) -> Result<u32, Memory>
+    ensures ok { IfOk result (λ k. (key : List ℕ) × IsWritten (block_at base.now) nodes.now number key × Interns keys.old keys.new key k) }
+    ensures distinct { IfOk result (λ k. AreDistinct keys.new) }
+{
+    write_key(key, base, nodes, number)?;
+    keys.intern(key)
+}
+
+// The number of the key of a node, and `None` where it has no block.
+fn number_of(
+    keys: &mut KeyTable,
+    key: &mut Vec<u32>,
+    view: &GraphView<'_>,
+    side: Side,
+    own: &[Option<u32>],
+    base: &[Option<u32>],
+    n: NodeId,
+) -> Result<Option<u32>, Memory>
+    requires distinct { AreDistinct keys.old }
+    requires nodes { IsSome (block_at own.now n) → IsSome (label_number view.now n) }
+    ensures ok { IfOk result (λ number. Numbers (block_at own.now) base.now (is_near side view.now) n keys.old keys.new number) }
+    ensures distinct { IfOk result (λ number. AreDistinct keys.new) }
+{
+    match block_of(own, n) {
+        Some(number) => {
+            let k = intern_key(keys, key, base, side.neighbours(view, n), number)?;
+            Ok(Some(k))
+        }
+        None => Ok(None),
+    }
+}
+
+/// The partition `own`, refined by the blocks in `base` of the neighbours on one side: nodes stay
+/// together where those are the same. Its blocks are numbered in the order of their first members.
+///
+/// It takes the time to sort each node's list of neighbours.
+pub fn refine(
+    alloc: Global,
+    view: &GraphView<'_>,
+    side: Side,
+    own: &[Option<u32>],
+    base: &[Option<u32>],
+) -> Result<Level, Memory>
+    requires own { IsPartition (view_shape view.now) own.now }
+    requires base { IsPartition (view_shape view.now) base.now }
+    ensures refines { IfOk result (λ l. Refines (block_at own.now) base.now (is_near side view.now) l.block.items) }
+    ensures numbered { IfOk result (λ l. AreNumbered (block_at own.now) base.now (is_near side view.now) l.block.items l.keys) }
+    ensures distinct { IfOk result (λ l. AreDistinct l.keys) }
+{
+    let mut keys = KeyTable::new(alloc)?;
+    let mut key = Vec::new(alloc);
+    let mut block = Vec::with_capacity(alloc, view.size() as usize)?;
+    for n in 0..view.size() {
+        let number = number_of(&mut keys, &mut key, view, side, own, base, n)?;
+        block.push(number)?;
+    }
+    Ok(Level { block, keys })
+}

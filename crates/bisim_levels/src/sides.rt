@@ -1,0 +1,30 @@
+// The two sides of a node.
+ghost use Rattle.std.specs.Prelude.{IsSome};
+ghost use Rattle.px_spec.specs.Members.{Lists};
+ghost use Rattle.label_graph.specs.Views.{label_number};
+ghost use Rattle.bisim_levels.specs.Sides.{is_near};
+
+use label_graph::{Digraph, GraphView};
+use px_base::NodeId;
+
+/// On which side of a node its neighbours lie.
+#[derive(Clone, Copy, Debug, PartialEq, Eq)]
+pub enum Side {
+    /// Where edges to the node begin.
+    Parents,
+    /// Where edges from the node end.
+    Children,
+}
+
+impl Side {
+    /// The neighbours of the node, each once.
+    pub(crate) fn neighbours<'a>(self, view: &'a GraphView<'_>, n: NodeId) -> &'a [NodeId]
+        requires { IsSome (label_number view.now n) }
+        ensures { Lists (λ p. is_near self view.now p n) result.now }
+    {
+        match self {
+            Side::Parents => view.parents(n),
+            Side::Children => view.children(n),
+        }
+    }
+}

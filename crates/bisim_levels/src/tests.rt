@@ -1,0 +1,107 @@
+// Levels of small graphs.
+ghost use Rattle.std.specs.Prelude.{◌≡◌, ◌<◌};
+
+use super::*;
+use label_graph::Graph;
+use px_base::{NodeId, Steps, Text};
+use std::alloc::Global;
+use std::marker::Brand;
+use std::process::Abort;
+use std::sync::ledger::{Blank, Ledger};
+use std::test::Fail;
+
+const MOST: u32 = 1 << 30;
+
+fn put_node(rt: &impl Abort, alloc: Global, graph: &mut Graph, label: u8) -> Result<(), Fail> {
+    assert!(rt; graph.created() < MOST);
+    graph.reserve_node(alloc, &Text::from_bytes(alloc, &[label])?)?;
+    graph.add_node();
+    Ok(())
+}
+
+fn put_edge<L: Ledger>(
+    rt: &impl Abort,
+    graph: &mut Graph,
+    u: NodeId,
+    v: NodeId,
+    steps: &mut Steps<L>,
+) -> Result<(), Fail> {
+    assert!(rt; graph.is_live(u));
+    assert!(rt; graph.is_live(v));
+    assert!(rt; graph.edge_count() < MOST);
+    assert!(rt; !graph.has_edge(u, v, steps));
+    graph.reserve_edge(u, v)?;
+    graph.add_edge(u, v);
+    Ok(())
+}
+
+// A graph whose nodes have these labels, a byte each.
+fn drawn<L: Ledger>(
+    rt: &impl Abort,
+    alloc: Global,
+    labels: &[u8],
+    edges: &[(NodeId, NodeId)],
+    steps: &mut Steps<L>,
+) -> Result<Graph, Fail> {
+    let mut graph = Graph::new(alloc)?;
+    for label in labels {
+        put_node(rt, alloc, &mut graph, *label)?;
+    }
+    for (u, v) in edges {
+        put_edge(rt, &mut graph, *u, *v, steps)?;
+    }
+    Ok(graph)
+}
+
+// Whether each node has the block of the same place.
+fn is_parted(block: &[Option<u32>], numbers: &[u32]) -> bool {
+    block.len() == numbers.len() && block.iter().zip(numbers).all(|(b, n)| *b == Some(*n))
+}
+
+// Two chains a, b, c, and an x in front of the second one: each level parts one more pair.
+fn check_chains<L: Ledger>(rt: &impl Abort, alloc: Global, blank: Blank) -> Result<(), Fail>
+    requires name { blank.name ≡ L.name }
+    requires parts { blank.parts ≡ L.parts }
+    requires some { 0 < blank.parts }
+{
+    let mut steps = Steps::<L>::new(blank);
+    let edges = [(0, 1), (1, 2), (3, 4), (4, 5), (6, 3)];
+    let chains = drawn(rt, alloc, b"abcabcx", &edges, &mut steps)?;
+    let view = chains.view(&mut steps);
+    let labels = label_level(alloc, &view)?;
+    assert!(rt; is_parted(&labels.block, &[0, 1, 2, 0, 1, 2, 3]));
+    let first = next_level(alloc, &view, &labels.block)?;
+    assert!(rt; is_parted(&first.block, &[0, 1, 2, 3, 1, 2, 4]));
+    let second = next_level(alloc, &view, &first.block)?;
+    assert!(rt; is_parted(&second.block, &[0, 1, 2, 3, 4, 2, 5]));
+    Ok(())
+}
+
+#[test]
+fn each_level_parts_more(rt: HostRuntime) -> Result<(), Fail> {
+    check_chains::<Brand>(&rt, rt.alloc(), Blank::new(1))
+}
+
+fn check_children<L: Ledger>(rt: &impl Abort, alloc: Global, blank: Blank) -> Result<(), Fail>
+    requires name { blank.name ≡ L.name }
+    requires parts { blank.parts ≡ L.parts }
+    requires some { 0 < blank.parts }
+{
+    let mut steps = Steps::<L>::new(blank);
+    // an a with a child b, and an a without
+    let graph = drawn(rt, alloc, b"aba", &[(0, 1)], &mut steps)?;
+    let view = graph.view(&mut steps);
+    let labels = label_level(alloc, &view)?;
+    let parents = next_level(alloc, &view, &labels.block)?;
+    assert!(rt; is_parted(&parents.block, &[0, 1, 0]));
+    assert_eq!(rt; parents.keys.len(), 2);
+    assert_eq!(rt; parents.keys.find(&[0, 1]), Some(1));
+    let both = next_level_both(alloc, &view, &labels.block)?;
+    assert!(rt; is_parted(&both.block, &[0, 1, 2]));
+    Ok(())
+}
+
+#[test]
+fn children_tell_more_apart(rt: HostRuntime) -> Result<(), Fail> {
+    check_children::<Brand>(&rt, rt.alloc(), Blank::new(1))
+}

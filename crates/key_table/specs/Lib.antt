@@ -1,0 +1,4 @@
+pub mod Hashes
+pub mod Entries
+pub mod Chains
+pub mod Interning

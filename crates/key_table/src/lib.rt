@@ -1,0 +1,12 @@
+//! Keys that are lists of numbers, each kept once and numbered in the order in which they came. All lie
+//! one after another in one arena, so that a new key takes no allocation of its own.
+#![tactic(auto)]
+
+mod chains;
+mod entries;
+mod hashing;
+mod keys;
+#[cfg(test)]
+mod tests;
+
+pub use keys::KeyTable;
