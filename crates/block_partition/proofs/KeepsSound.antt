@@ -1,0 +1,268 @@
+-- Tables that are sound stay so.
+use Rattle.std.proofs.Common.{◌≡◌, ◌≢◌, ℕ, ◌+◌, ◌-◌, ◌<◌, ◌≤◌, List, [], ◌∷◌, ◌++◌, length, Option, Some, None, IsSome, refl, sym, ◌∙◌, ap, arith, slice_set, slice_index, subst, count_by}
+use Rattle.std.specs.Prelude.{is_some}
+use Rattle.std.specs.List.Sorted.{IsPermutation}
+use Rattle.std.proofs.lemmas.List.{length-set, length-append}
+use Rattle.block_partition.specs.Partitions.{at, is_this}
+use Rattle.block_partition.specs.Tables.{Table, Heap, set_at, head_where, grown}
+use Rattle.block_partition.specs.Soundness.{IsSound}
+use Rattle.block_partition.proofs.Mirrors.{length-set_at, mirrored_out, mirrored_in, mirrored_same, at_grown}
+use Rattle.block_partition.proofs.Counts.{some_within, counted_out, counted_in, counted_grown, counted_again, counted_next, counted_retired}
+use Rattle.block_partition.proofs.Growth.{length_grown}
+use Rattle.block_partition.proofs.FreedNumbers.{freed_within, lists_taken, lists_put, lists_next, all_blocks, count_all, no_freed}
+
+abbrev pub put_in : Table → List (Option ℕ) → Table
+put_in t places = record { places = places; capacity = t.capacity }
+
+pub sound_out : (bl nx pv fs : Table) (lb : List (Option ℕ)) (lc : ℕ) (sz : List ℕ) (sc : ℕ) (fr : Heap) (count nr br n b : ℕ)
+    → IsSound bl nx pv fs lb lc sz sc fr count nr br → at bl.places n ≡ Some b
+    → IsSound (put_in bl (slice_set bl.places n None)) (put_in nx (slice_set (set_at nx.places (at pv.places n) (at nx.places n)) n None))
+    (put_in pv (slice_set (set_at pv.places (at nx.places n) (at pv.places n)) n None)) (put_in fs (set_at fs.places (head_where b (at pv.places n)) (at nx.places n)))
+    lb lc (slice_set sz b (slice_index sz b - 1)) sc fr count nr br
+sound_out bl nx pv fs lb lc sz sc fr count nr br n b s has =
+    let in_lb = some_within lb b (s.counted.live n b has) in
+    let first = s.tables.length_first in
+    let sizes = s.tables.length_sizes in
+    let len = length-set bl.places n None in
+    let f = s.nodes_fit in
+    record {
+      mirrored = mirrored_out bl.places nx.places pv.places fs.places n b s.mirrored has (omega (arith, in_lb, first));
+      counted = counted_out bl.places lb sz count n b s.counted has (omega (arith, in_lb, sizes));
+      tables =
+          record {
+            length_first = length-set_at fs.places (head_where b (at pv.places n)) (at nx.places n) ∙ first;
+            length_sizes = length-set sz b (slice_index sz b - 1) ∙ sizes;
+            few = s.tables.few;
+            freed_are = s.tables.freed_are;
+            all_fit = s.tables.all_fit;
+          };
+      nodes_fit = record { few = rw len f.few; block_fits = rw len f.block_fits; next_fits = rw len f.next_fits; prev_fits = rw len f.prev_fits };
+      blocks_fit = s.blocks_fit;
+    }
+
+pub sound_in : (bl nx pv fs : Table) (lb : List (Option ℕ)) (lc : ℕ) (sz : List ℕ) (sc : ℕ) (fr : Heap) (count nr br n b : ℕ)
+    → IsSound bl nx pv fs lb lc sz sc fr count nr br → at bl.places n ≡ None → n < length bl.places → IsSome (at lb b)
+    → IsSound (put_in bl (slice_set bl.places n (Some b))) (put_in nx (slice_set nx.places n (at fs.places b)))
+    (put_in pv (set_at pv.places (at fs.places b) (Some n))) (put_in fs (slice_set fs.places b (Some n)))
+    lb lc (slice_set sz b (slice_index sz b + 1)) sc fr count nr br
+sound_in bl nx pv fs lb lc sz sc fr count nr br n b s none in_bl is_block =
+    let in_lb = some_within lb b is_block in
+    let first = s.tables.length_first in
+    let sizes = s.tables.length_sizes in
+    let len = length-set bl.places n (Some b) in
+    let f = s.nodes_fit in
+    record {
+      mirrored = mirrored_in bl.places nx.places pv.places fs.places n b s.mirrored none in_bl (omega (arith, in_lb, first));
+      counted = counted_in bl.places lb sz count n b s.counted none in_bl is_block (omega (arith, in_lb, sizes));
+      tables =
+          record {
+            length_first = length-set fs.places b (Some n) ∙ first;
+            length_sizes = length-set sz b (slice_index sz b + 1) ∙ sizes;
+            few = s.tables.few;
+            freed_are = s.tables.freed_are;
+            all_fit = s.tables.all_fit;
+          };
+      nodes_fit = record { few = rw len f.few; block_fits = rw len f.block_fits; next_fits = rw len f.next_fits; prev_fits = rw len f.prev_fits };
+      blocks_fit = s.blocks_fit;
+    }
+
+-- the list grows by its room
+pub sound_grown : (bl nx pv fs : Table) (lb : List (Option ℕ)) (lc : ℕ) (sz : List ℕ) (sc : ℕ) (fr : Heap) (count nr br len : ℕ)
+    → IsSound bl nx pv fs lb lc sz sc fr count nr br → len ≤ length bl.places + nr
+    → IsSound (put_in bl (grown bl.places len)) (put_in nx (grown nx.places len)) (put_in pv (grown pv.places len)) fs
+    lb lc sz sc fr count (nr - (length (grown bl.places len) - length bl.places)) br
+sound_grown bl nx pv fs lb lc sz sc fr count nr br len s h =
+    let f = s.nodes_fit in
+    let b = length_grown bl.places len in
+    let n = length_grown nx.places len in
+    let p = length_grown pv.places len in
+    let ln = s.mirrored.length_next in
+    let lp = s.mirrored.length_prev in
+    record {
+      mirrored =
+          mirrored_same bl.places nx.places pv.places fs.places (grown bl.places len) (grown nx.places len) (grown pv.places len) fs.places s.mirrored
+          (at_grown bl.places (len - length bl.places)) (at_grown nx.places (len - length nx.places)) (at_grown pv.places (len - length pv.places)) (λ _. refl)
+          (omega (arith, b, n, ln)) (omega (arith, b, p, lp));
+      counted = counted_grown bl.places lb sz count (len - length bl.places) s.counted;
+      tables = s.tables;
+      nodes_fit =
+          (let few = f.few in let x = f.block_fits in let y = f.next_fits in let z = f.prev_fits in
+          record { few = omega (arith, b, h, few); block_fits = omega (arith, b, h, x); next_fits = omega (arith, b, h, y); prev_fits = omega (arith, b, h, z) });
+      blocks_fit = s.blocks_fit;
+    }
+
+-- a block without members is no block any more
+pub sound_retired : (bl nx pv fs : Table) (lb : List (Option ℕ)) (lc : ℕ) (sz : List ℕ) (sc : ℕ) (fr fr' : Heap) (count nr br b l : ℕ)
+    → IsSound bl nx pv fs lb lc sz sc fr count nr br → at lb b ≡ Some l → ((n : ℕ) → at bl.places n ≢ Some b)
+    → IsPermutation (b ∷ fr.numbers) fr'.numbers → fr.capacity ≤ fr'.capacity
+    → IsSound bl nx pv fs (slice_set lb b None) lc sz sc fr' (count - 1) nr br
+sound_retired bl nx pv fs lb lc sz sc fr fr' count nr br b l s is_block empty p more =
+    let k = counted_retired bl.places lb sz count b s.counted (subst IsSome (sym is_block) refl) empty in
+    let some = k.0 in
+    let len = length-set lb b None in
+    let t = s.tables in
+    let f = s.blocks_fit in
+    let x0 = f.few in
+    let x1 = f.first_fits in
+    let x2 = f.labels_fit in
+    let x3 = f.sizes_fit in
+    let x4 = f.freed_fit in
+    record {
+      mirrored = s.mirrored;
+      counted = k.1;
+      tables =
+          record {
+            length_first = t.length_first ∙ sym len;
+            length_sizes = t.length_sizes ∙ sym len;
+            few = rw len t.few;
+            freed_are = lists_put lb fr.numbers fr'.numbers b l t.freed_are is_block p;
+            all_fit = rw len (let all = t.all_fit in omega (arith, all, more));
+          };
+      nodes_fit = s.nodes_fit;
+      blocks_fit =
+          record {
+            few = omega (arith, some, x0);
+            first_fits = omega (arith, some, x1);
+            labels_fit = omega (arith, some, x2);
+            sizes_fit = omega (arith, some, x3);
+            freed_fit = omega (arith, some, x4, more);
+          };
+    }
+
+-- a number that was freed is a block again
+pub sound_again : (bl nx pv fs : Table) (lb : List (Option ℕ)) (lc : ℕ) (sz : List ℕ) (sc : ℕ) (fr fr' : Heap) (count nr br b label : ℕ)
+    → IsSound bl nx pv fs lb lc sz sc fr count nr br → 0 < br
+    → IsPermutation fr.numbers (b ∷ fr'.numbers) → fr'.capacity ≡ fr.capacity
+    → IsSound bl nx pv fs (slice_set lb b (Some label)) lc sz sc fr' (count + 1) nr (br - 1)
+sound_again bl nx pv fs lb lc sz sc fr fr' count nr br b label s room p same =
+    let t = s.tables in
+    let is = freed_within lb fr.numbers fr'.numbers b t.freed_are p in
+    let len = length-set lb b (Some label) in
+    let f = s.blocks_fit in
+    let x0 = f.few in
+    let x1 = f.first_fits in
+    let x2 = f.labels_fit in
+    let x3 = f.sizes_fit in
+    let x4 = f.freed_fit in
+    record {
+      mirrored = s.mirrored;
+      counted = counted_again bl.places lb sz count b label s.counted is.1 is.0;
+      tables =
+          record {
+            length_first = t.length_first ∙ sym len;
+            length_sizes = t.length_sizes ∙ sym len;
+            few = rw len t.few;
+            freed_are = lists_taken lb fr.numbers fr'.numbers b label t.freed_are p;
+            all_fit = rw len (let all = t.all_fit in omega (arith, all, same));
+          };
+      nodes_fit = s.nodes_fit;
+      blocks_fit =
+          record {
+            few = omega (arith, room, x0);
+            first_fits = omega (arith, room, x1);
+            labels_fit = omega (arith, room, x2);
+            sizes_fit = omega (arith, room, x3);
+            freed_fit = omega (arith, room, x4, same);
+          };
+    }
+
+-- where no number is free, there are as many blocks as numbers
+pub count_full : (bl nx pv fs : Table) (lb : List (Option ℕ)) (lc : ℕ) (sz : List ℕ) (sc : ℕ) (fr : Heap) (count nr br : ℕ)
+    → IsSound bl nx pv fs lb lc sz sc fr count nr br → fr.numbers ≡ [] → count ≡ length lb
+count_full bl nx pv fs lb lc sz sc fr count nr br s none = s.counted.count_is ∙ count_all lb (all_blocks lb fr.numbers s.tables.freed_are none)
+
+-- the next number is a block
+pub sound_next : (bl nx pv fs : Table) (lb : List (Option ℕ)) (lc : ℕ) (sz : List ℕ) (sc : ℕ) (fr fr' : Heap) (count nr br label : ℕ)
+    → IsSound bl nx pv fs lb lc sz sc fr count nr br → 0 < br
+    → fr.numbers ≡ [] → fr'.numbers ≡ [] → fr'.capacity ≡ fr.capacity
+    → IsSound bl nx pv (put_in fs (fs.places ++ None ∷ [])) (lb ++ Some label ∷ []) lc (sz ++ 0 ∷ []) sc fr' (count + 1) nr (br - 1)
+sound_next bl nx pv fs lb lc sz sc fr fr' count nr br label s room none none' same =
+    let t = s.tables in
+    let full = count_full bl nx pv fs lb lc sz sc fr count nr br s none in
+    let len = length-append lb (Some label ∷ []) in
+    let first = length-append fs.places (None ∷ []) in
+    let sizes = length-append sz (0 ∷ []) in
+    let lf = t.length_first in
+    let ls = t.length_sizes in
+    let f = s.blocks_fit in
+    let x0 = f.few in
+    let x1 = f.first_fits in
+    let x2 = f.labels_fit in
+    let x3 = f.sizes_fit in
+    let x4 = f.freed_fit in
+    record {
+      mirrored =
+          mirrored_same bl.places nx.places pv.places fs.places bl.places nx.places pv.places (fs.places ++ None ∷ []) s.mirrored
+          (λ _. refl) (λ _. refl) (λ _. refl) (at_grown fs.places 1) s.mirrored.length_next s.mirrored.length_prev;
+      counted = counted_next bl.places lb sz count label s.counted ls;
+      tables =
+          record {
+            length_first = omega (arith, first, len, lf);
+            length_sizes = omega (arith, sizes, len, ls);
+            few = omega (arith, len, full, x0, room);
+            freed_are = lists_next lb fr.numbers fr'.numbers label t.freed_are none none';
+            all_fit = omega (arith, len, full, x4, same, room);
+          };
+      nodes_fit = s.nodes_fit;
+      blocks_fit =
+          record {
+            few = omega (arith, room, x0);
+            first_fits = omega (arith, room, x1);
+            labels_fit = omega (arith, room, x2);
+            sizes_fit = omega (arith, room, x3);
+            freed_fit = omega (arith, room, x4, same);
+          };
+    }
+
+nowhere : (xs : List (Option ℕ)) (n v : ℕ) → xs ≡ [] → at xs n ≡ Some v → ⊥
+nowhere xs n v e h = let none : at xs n ≡ None = ap (λ ys. at ys n) e in cc
+
+-- tables that are empty
+pub sound_none : (bl nx pv fs : Table) (lb : List (Option ℕ)) (lc : ℕ) (sz : List ℕ) (sc : ℕ) (fr : Heap)
+    → bl.places ≡ [] → nx.places ≡ [] → pv.places ≡ [] → fs.places ≡ [] → lb ≡ [] → sz ≡ [] → fr.numbers ≡ []
+    → IsSound bl nx pv fs lb lc sz sc fr 0 0 0
+sound_none bl nx pv fs lb lc sz sc fr eb en ep ef el es er =
+    let b0 : length bl.places ≡ 0 = ap length eb in
+    let n0 : length nx.places ≡ 0 = ap length en in
+    let p0 : length pv.places ≡ 0 = ap length ep in
+    let f0 : length fs.places ≡ 0 = ap length ef in
+    let l0 : length lb ≡ 0 = ap length el in
+    let s0 : length sz ≡ 0 = ap length es in
+    record {
+      mirrored =
+          record {
+            length_next = omega (arith, b0, n0);
+            length_prev = omega (arith, b0, p0);
+            rank = λ _. 0;
+            top = 0;
+            below_top = λ _. omega arith;
+            links =
+                record {
+                  next_back = λ n q e. absurd (nowhere nx.places n q en e);
+                  next_block = λ n q e. absurd (nowhere nx.places n q en e);
+                  next_rank = λ n q e. absurd (nowhere nx.places n q en e);
+                  prev_back = λ n p e. absurd (nowhere pv.places n p ep e);
+                  head = λ n b e _. absurd (nowhere bl.places n b eb e);
+                  first_block = λ b n e. absurd (nowhere fs.places b n ef e);
+                  first_prev = λ b n e. absurd (nowhere fs.places b n ef e);
+                  free_next = λ n _. ap (λ xs. at xs n) en;
+                  free_prev = λ n _. ap (λ xs. at xs n) ep;
+                };
+          };
+      counted =
+          record {
+            live = λ n b e. absurd (nowhere bl.places n b eb e);
+            sizes_are = λ b. ap (λ xs. slice_index xs b) es ∙ sym (ap (count_by (is_this b)) eb);
+            count_is = sym (ap (count_by is_some) el);
+          };
+      tables =
+          record {
+            length_first = omega (arith, f0, l0);
+            length_sizes = omega (arith, s0, l0);
+            few = omega (arith, l0);
+            freed_are = rw er (no_freed lb el);
+            all_fit = omega (arith, l0);
+          };
+      nodes_fit = record { few = omega (arith, b0); block_fits = omega (arith, b0); next_fits = omega (arith, b0); prev_fits = omega (arith, b0) };
+      blocks_fit = record { few = omega arith; first_fits = omega arith; labels_fit = omega arith; sizes_fit = omega arith; freed_fit = omega arith };
+    }

@@ -1,0 +1,7 @@
+mod Links
+mod Mirrors
+mod Chains
+mod Counts
+mod Growth
+mod FreedNumbers
+mod KeepsSound

@@ -1,0 +1,4 @@
+pub mod Partitions
+pub mod Tables
+pub mod Soundness
+pub mod Chains

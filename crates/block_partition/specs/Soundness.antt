@@ -1,0 +1,69 @@
+-- What holds of the tables of each partition.
+use Rattle.std.specs.Prelude.{◌≡◌, ℕ, ◌+◌, ◌<◌, ◌≤◌, ◌^◌, ◌&&◌, not, Bool, List, length, Option, None, Some, IsSome, is_some, nat_lt, slice_index}
+use Rattle.std.specs.List.{count_by}
+use Rattle.px_spec.specs.Members.{Lists}
+use Rattle.block_partition.specs.Partitions.{at, is_this}
+use Rattle.block_partition.specs.Tables.{Table, Heap}
+
+-- The members of a block form a doubly linked list: the block of a node, the next member and the one before it, and the
+-- first member of a block. Ranks fall along each list, so none runs in a ring
+pub record AreLinked (block next prev first : ℕ → Option ℕ) (rank : ℕ → ℕ) : Type 0 where
+  pub next_back : (n q : ℕ) → next n ≡ Some q → prev q ≡ Some n
+  pub next_block : (n q : ℕ) → next n ≡ Some q → block q ≡ block n
+  pub next_rank : (n q : ℕ) → next n ≡ Some q → rank q < rank n
+  pub prev_back : (n p : ℕ) → prev n ≡ Some p → next p ≡ Some n
+  pub head : (n b : ℕ) → block n ≡ Some b → prev n ≡ None → first b ≡ Some n
+  pub first_block : (b n : ℕ) → first b ≡ Some n → block n ≡ Some b
+  pub first_prev : (b n : ℕ) → first b ≡ Some n → prev n ≡ None
+  pub free_next : (n : ℕ) → block n ≡ None → next n ≡ None
+  pub free_prev : (n : ℕ) → block n ≡ None → prev n ≡ None
+
+-- the tables mirror each other: a node is listed in a block exactly where that is its block
+pub record AreMirrored (block next prev first : List (Option ℕ)) : Type 0 where
+  pub length_next : length next ≡ length block
+  pub length_prev : length prev ≡ length block
+  pub rank : ℕ → ℕ
+  pub top : ℕ
+  pub below_top : (n : ℕ) → rank n ≤ top
+  pub links : AreLinked (at block) (at next) (at prev) (at first) rank
+
+-- nodes are in blocks, and the counts are right
+pub record AreCounted (block labels : List (Option ℕ)) (sizes : List ℕ) (count : ℕ) : Type 0 where
+  pub live : (n b : ℕ) → at block n ≡ Some b → IsSome (at labels b)
+  pub sizes_are : (b : ℕ) → slice_index sizes b ≡ count_by (is_this b) block
+  pub count_is : count ≡ count_by is_some labels
+
+-- the number is free, and was a block
+abbrev pub is_freed : List (Option ℕ) → ℕ → Bool
+is_freed labels b = nat_lt b (length labels) && not (is_some (at labels b))
+
+-- the tables by block are of one length, and the freed numbers are at hand
+pub record AreTables (first labels : List (Option ℕ)) (sizes : List ℕ) (freed : Heap) : Type 0 where
+  pub length_first : length first ≡ length labels
+  pub length_sizes : length sizes ≡ length labels
+  pub few : length labels ≤ 2 ^ 31
+  pub freed_are : Lists (is_freed labels) freed.numbers
+  pub all_fit : length labels ≤ freed.capacity
+
+-- that many more numbers fit behind the list
+pub record NodesFit (block next prev : Table) (more : ℕ) : Type 0 where
+  pub few : length block.places + more ≤ 2 ^ 31
+  pub block_fits : length block.places + more ≤ block.capacity
+  pub next_fits : length block.places + more ≤ next.capacity
+  pub prev_fits : length block.places + more ≤ prev.capacity
+
+-- that many more blocks fit
+pub record BlocksFit (count first labels sizes freed more : ℕ) : Type 0 where
+  pub few : count + more ≤ 2 ^ 31
+  pub first_fits : count + more ≤ first
+  pub labels_fit : count + more ≤ labels
+  pub sizes_fit : count + more ≤ sizes
+  pub freed_fit : count + more ≤ freed
+
+pub record IsSound (block next prev first : Table) (labels : List (Option ℕ)) (labels_capacity : ℕ) (sizes : List ℕ)
+    (sizes_capacity : ℕ) (freed : Heap) (count node_room block_room : ℕ) : Type 0 where
+  pub mirrored : AreMirrored block.places next.places prev.places first.places
+  pub counted : AreCounted block.places labels sizes count
+  pub tables : AreTables first.places labels sizes freed
+  pub nodes_fit : NodesFit block next prev node_room
+  pub blocks_fit : BlocksFit count first.capacity labels_capacity sizes_capacity freed.capacity block_room

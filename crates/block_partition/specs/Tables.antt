@@ -1,0 +1,56 @@
+-- The tables in which a partition is kept.
+use Rattle.std.specs.Prelude.{◌≡◌, ℕ, ◌+◌, ◌-◌, ◌<◌, ◌≤◌, List, ◌++◌, length, Option, None, Some, nat_eq, if◌then◌else◌, slice_set}
+use Rattle.std.proofs.Math.ListN.{replicate}
+use Rattle.block_partition.specs.Partitions.{Partition}
+
+-- for each place a number or none, and how many places fit with no more memory
+pub record Table : Type 0 where
+  pub places : List (Option ℕ)
+  pub capacity : ℕ
+
+-- numbers, and how many fit with no more memory
+pub record Heap : Type 0 where
+  pub numbers : List ℕ
+  pub capacity : ℕ
+
+-- the greatest value of 32 bits stands for none
+abbrev pub shown : ℕ → Option ℕ
+shown v = if nat_eq v 4294967295 then None else Some v
+
+-- the number can be kept, since it doesn't stand for none
+abbrev pub IsSmall : Option ℕ → Type 0
+IsSmall None = Unit {0}
+IsSmall (Some v) = v < 4294967295
+
+-- the place is one of the list, where there is a place
+abbrev pub IsIn : Option ℕ → List (Option ℕ) → Type 0
+IsIn None xs = Unit {0}
+IsIn (Some i) xs = i < length xs
+
+-- the list with a value at the place, where there is a place
+abbrev pub set_at : List (Option ℕ) → Option ℕ → Option ℕ → List (Option ℕ)
+set_at xs None v = xs
+set_at xs (Some i) v = slice_set xs i v
+
+-- the list with none behind it, up to this length
+abbrev pub grown : List (Option ℕ) → ℕ → List (Option ℕ)
+grown xs len = xs ++ replicate (len - length xs) None
+
+-- the same places, and no less memory
+pub record Keeps (old new : Table) : Type 0 where
+  pub places : new.places ≡ old.places
+  pub capacity : old.capacity ≤ new.capacity
+
+-- the block whose first member a node of the block b is, after this one
+abbrev pub head_where : ℕ → Option ℕ → Option ℕ
+head_where b None = Some b
+head_where b (Some p) = None
+
+-- the list of blocks grows up to this length, and the room shrinks by as much
+abbrev pub with_length : Partition → ℕ → Partition
+with_length p len =
+    record {
+      block_of = grown p.block_of len;
+      labels = p.labels;
+      room = record { nodes = length p.block_of + p.room.nodes - length (grown p.block_of len); blocks = p.room.blocks };
+    }

@@ -1,0 +1,325 @@
+// The tables of a partition.
+ghost use Rattle.std.specs.Prelude.{◌≡◌, ◌≢◌, ◌+◌, ◌-◌, ◌<◌, ◌≤◌, ◌^◌, ℕ, nat_eq, if◌then◌else◌, Some, None, IsSome, is_some, IfOk, OnOk, OnErr, IfSome, length, slice_set, slice_index, vec_len, vec_capacity};
+ghost use Rattle.px_spec.specs.Members.{Lists};
+ghost use Rattle.block_partition.specs.Partitions.{at, IsBlock, is_member, block_count, member_count, IsLeastFree, no_blocks, with_room, with_block, with_member, with_move, without_block};
+ghost use Rattle.block_partition.specs.Tables.{Keeps, head_where, with_length};
+
+use crate::freed::Freed;
+use crate::members::Members;
+use crate::slots::Slots;
+use px_base::{Memory, NodeId};
+use std::alloc::Global;
+use std::marker::Model;
+
+/// A partition of nodes into blocks: a list with a block or none for each node number, and a label for
+/// each block. Numbers of nodes and of blocks are below 2^31.
+///
+/// It takes 12 bytes for each node number, and 20 for each block number.
+#[derive(Drop)]
+pub struct Blocks {
+    block: Slots,
+    next: Slots,
+    prev: Slots,
+    first: Slots,
+    labels: Vec<Option<u32>>,
+    sizes: Vec<u32>,
+    freed: Freed,
+    count: u32,
+    node_room: u32,
+    block_room: u32,
+}
+
+impl Model for Blocks {
+    ghost use Rattle.std.specs.Prelude.{vec_capacity};
+    ghost use Rattle.block_partition.specs.Partitions.{Partition};
+    ghost use Rattle.block_partition.specs.Soundness.{IsSound};
+
+    ghost Value = { Partition };
+
+    ghost view = { λ b. record { block_of = b.block.places; labels = b.labels.items; room = record { nodes = b.node_room; blocks = b.block_room } } };
+
+    ghost invariant = { λ b. IsSound b.block b.next b.prev b.first b.labels.items (vec_capacity b.labels) b.sizes.items (vec_capacity b.sizes) b.freed b.count b.node_room b.block_room };
+}
+
+// Reading.
+impl Blocks {
+    /// The length of the list of blocks: at most 2^31. Numbers past its end have no block.
+    pub fn numbers(&self) -> u32
+        ensures count { result ≡ length self.now.block_of }
+        ensures few { result ≤ 2 ^ 31 }
+    {
+        self.block.len() as u32
+    }
+
+    /// The block of a node, and none where it has none.
+    pub fn block_of(&self, n: NodeId) -> Option<u32>
+        ensures block { result ≡ at self.now.block_of n }
+        ensures live { IfSome result (IsBlock self.now) }
+    {
+        self.block.get(n)
+    }
+
+    /// Whether the number is that of a block.
+    pub fn is_block(&self, b: u32) -> bool
+        ensures { result ≡ is_some (at self.now.labels b) }
+    {
+        label_at(&self.labels, b).is_some()
+    }
+
+    /// How many blocks there are: at most 2^31. O(1).
+    pub fn count(&self) -> u32
+        ensures count { result ≡ block_count self.now }
+        ensures few { result ≤ 2 ^ 31 }
+    {
+        self.count
+    }
+
+    /// The numbers of blocks are below it: at most 2^31.
+    pub fn span(&self) -> u32
+        ensures span { result ≡ length self.now.labels }
+        ensures few { result ≤ 2 ^ 31 }
+        ensures live { (n b : ℕ) → at self.now.block_of n ≡ Some b → IsBlock self.now b }
+    {
+        self.labels.len() as u32
+    }
+
+    /// The label of a block.
+    pub fn label(&self, b: u32) -> u32
+        requires block { IsBlock self.now b }
+        ensures { at self.now.labels b ≡ Some result }
+    {
+        label_at(&self.labels, b).unwrap()
+    }
+
+    /// How many members a block has. O(1).
+    pub fn member_count(&self, b: u32) -> u32
+        requires block { IsBlock self.now b }
+        ensures { result ≡ member_count self.now b }
+    {
+        self.sizes[b as usize]
+    }
+
+    /// The members of a block, each once, in no stated order.
+    pub fn members(&self, b: u32) -> Members<'_>
+        requires block { IsBlock self.now b }
+        ensures { Lists (is_member self.now b) result }
+    {
+        Members::new(&self.next, self.first.get(b), self.block.len())
+    }
+}
+
+// Room.
+impl Blocks {
+    /// No blocks. It takes no memory until room is made.
+    pub fn new(alloc: Global) -> Result<Blocks, Memory>
+        ensures { IfOk result (λ b. b ≡ no_blocks) }
+    {
+        Ok(Blocks {
+            block: Slots::new(alloc),
+            next: Slots::new(alloc),
+            prev: Slots::new(alloc),
+            first: Slots::new(alloc),
+            labels: Vec::new(alloc),
+            sizes: Vec::new(alloc),
+            freed: Freed::new(alloc),
+            count: 0,
+            node_room: 0,
+            block_room: 0,
+        })
+    }
+
+    /// Makes room for that many further numbers past the end of the list, and for that many further
+    /// blocks, in place of the room that there was. On want of memory that room stays.
+    pub fn reserve(&mut self, nodes: u32, blocks: u32) -> Result<(), Memory>
+        requires nodes { length self.old.block_of + nodes ≤ 2 ^ 31 }
+        requires blocks { block_count self.old + blocks ≤ 2 ^ 31 }
+        ensures ok { OnOk result (self.new ≡ with_room self.old nodes blocks) }
+        ensures err { OnErr result (self.new ≡ self.old) }
+    {
+        reserve_nodes(
+            &mut self.block,
+            &mut self.next,
+            &mut self.prev,
+            nodes as usize,
+        )?;
+        reserve_blocks(
+            &mut self.first,
+            &mut self.labels,
+            &mut self.sizes,
+            blocks as usize,
+        )?;
+        self.freed.reserve(self.count as usize + blocks as usize)?;
+        self.node_room = nodes;
+        self.block_room = blocks;
+        Ok(())
+    }
+}
+
+// Writing.
+impl Blocks {
+    /// Makes a block without members, by the room of one, and gives its number, the least that isn't a
+    /// block. It takes no memory, and at most logarithmic time.
+    pub fn new_block(&mut self, label: u32) -> u32
+        requires room { 0 < self.old.room.blocks }
+        ensures least { IsLeastFree self.old.labels result }
+        ensures added { self.new ≡ with_block self.old result label }
+        ensures labels { (c : ℕ) → at self.new.labels c ≡ (if nat_eq c result then Some label else at self.old.labels c) }
+    {
+        self.block_room -= 1;
+        self.count += 1;
+        match self.freed.take_least() {
+            Some(b) => {
+                self.labels[b as usize] = Some(label);
+                b
+            }
+            None => {
+                let b = self.labels.len() as u32;
+                self.labels.push_reserved(Some(label));
+                self.sizes.push_reserved(0);
+                self.first.push_none();
+                b
+            }
+        }
+    }
+
+    /// Puts a node that has no block into one. Where the node stands past the end of the list, the list
+    /// grows to end with it, by the room for numbers. It takes no memory.
+    pub fn place(&mut self, n: NodeId, b: u32)
+        requires block { IsBlock self.old b }
+        requires free { at self.old.block_of n ≡ None }
+        requires within { n < length self.old.block_of + self.old.room.nodes }
+        ensures placed { self.new ≡ with_member self.old n b }
+        ensures blocks { (m : ℕ) → at self.new.block_of m ≡ (if nat_eq m n then Some b else at self.old.block_of m) }
+    {
+        self.grow(n as usize + 1);
+        self.link(n, b);
+    }
+
+    /// Moves a node to a block, from that which it has. It takes no memory, and constant time.
+    pub fn move_node(&mut self, n: NodeId, b: u32)
+        requires has { IsSome (at self.old.block_of n) }
+        requires block { IsBlock self.old b }
+        ensures { self.new ≡ with_move self.old n (Some b) }
+    {
+        self.take_out(n);
+        self.link(n, b);
+    }
+
+    /// Takes a node out of its block. It takes no memory, and constant time.
+    pub fn take_out(&mut self, n: NodeId)
+        requires has { IsSome (at self.old.block_of n) }
+        ensures { self.new ≡ with_move self.old n None }
+    {
+        let Some(own) = self.block.get(n) else {
+            unreachable!()
+        };
+        let before = self.prev.get(n);
+        let after = self.next.get(n);
+        self.next.set_at(before, after);
+        self.prev.set_at(after, before);
+        self.first.set_at(head_of(own, before), after);
+        self.next.set(n, None);
+        self.prev.set(n, None);
+        self.block.set(n, None);
+        self.sizes[own as usize] -= 1;
+    }
+
+    /// Takes a block without members away; its number is free again. It takes no memory, and at most
+    /// logarithmic time.
+    pub fn retire_block(&mut self, b: u32)
+        requires block { IsBlock self.old b }
+        requires empty { (n : ℕ) → at self.old.block_of n ≢ Some b }
+        ensures { self.new ≡ without_block self.old b }
+    {
+        self.labels[b as usize] = None;
+        self.count -= 1;
+        self.freed.put(b);
+    }
+
+    // Lets the list grow up to a length, with none.
+    fn grow(&mut self, len: usize)
+        requires { len ≤ length self.old.block_of + self.old.room.nodes }
+        ensures { self.new ≡ with_length self.old len }
+    {
+        let old = self.block.len();
+        self.block.grow(len);
+        self.next.grow(len);
+        self.prev.grow(len);
+        self.node_room -= (self.block.len() - old) as u32;
+    }
+
+    // Puts a node of the list that has no block in front of the members of one.
+    fn link(&mut self, n: NodeId, b: u32)
+        requires block { IsBlock self.old b }
+        requires free { at self.old.block_of n ≡ None }
+        requires within { n < length self.old.block_of }
+        ensures { self.new ≡ with_move self.old n (Some b) }
+    {
+        let head = self.first.get(b);
+        self.prev.set_at(head, Some(n));
+        self.next.set(n, head);
+        self.first.set(b, Some(n));
+        self.block.set(n, Some(b));
+        self.sizes[b as usize] += 1;
+    }
+}
+
+// The label of a block, and none past the end.
+fn label_at(labels: &[Option<u32>], b: u32) -> Option<u32>
+    ensures { result ≡ at labels.now b }
+{
+    let label = labels.get(b as usize)?;
+    *label
+}
+
+// The block whose first member a node of this block is, after this one.
+fn head_of(block: u32, before: Option<u32>) -> Option<u32>
+    ensures { result ≡ head_where block before }
+{
+    match before {
+        None => Some(block),
+        Some(_) => None,
+    }
+}
+
+// Makes room for that many more numbers.
+fn reserve_nodes(
+    block: &mut Slots,
+    next: &mut Slots,
+    prev: &mut Slots,
+    more: usize,
+) -> Result<(), Memory>
+    ensures block { Keeps block.old block.new }
+    ensures next { Keeps next.old next.new }
+    ensures prev { Keeps prev.old prev.new }
+    ensures block_ok { OnOk result (length block.new.places + more ≤ block.new.capacity) }
+    ensures next_ok { OnOk result (length next.new.places + more ≤ next.new.capacity) }
+    ensures prev_ok { OnOk result (length prev.new.places + more ≤ prev.new.capacity) }
+{
+    block.reserve(more)?;
+    next.reserve(more)?;
+    prev.reserve(more)?;
+    Ok(())
+}
+
+// Makes room for that many more blocks.
+fn reserve_blocks(
+    first: &mut Slots,
+    labels: &mut Vec<Option<u32>>,
+    sizes: &mut Vec<u32>,
+    more: usize,
+) -> Result<(), Memory>
+    ensures first { Keeps first.old first.new }
+    ensures labels { labels.new.items ≡ labels.old.items }
+    ensures labels_capacity { vec_capacity labels.old ≤ vec_capacity labels.new }
+    ensures sizes { sizes.new.items ≡ sizes.old.items }
+    ensures sizes_capacity { vec_capacity sizes.old ≤ vec_capacity sizes.new }
+    ensures first_ok { OnOk result (length first.new.places + more ≤ first.new.capacity) }
+    ensures labels_ok { OnOk result (vec_len labels.new + more ≤ vec_capacity labels.new) }
+    ensures sizes_ok { OnOk result (vec_len sizes.new + more ≤ vec_capacity sizes.new) }
+{
+    first.reserve(more)?;
+    labels.reserve(more)?;
+    sizes.reserve(more)?;
+    Ok(())
+}

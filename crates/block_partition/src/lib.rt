@@ -1,0 +1,12 @@
+//! A partition of nodes into blocks, in tables that mirror each other.
+#![tactic(auto)]
+
+mod blocks;
+mod freed;
+mod members;
+mod slots;
+#[cfg(test)]
+mod tests;
+
+pub use blocks::Blocks;
+pub use members::Members;

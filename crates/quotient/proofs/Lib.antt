@@ -1,0 +1,5 @@
+mod Looked
+mod Near
+mod Pairs
+mod Between
+mod Nodes

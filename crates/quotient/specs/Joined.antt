@@ -1,0 +1,55 @@
+-- The lists of neighbours of blocks.
+use Rattle.std.specs.Prelude.{◌≡◌, ◌≢◌, ℕ, ◌+◌, ◌<◌, ◌&&◌, Bool, List, [], Option, Some, IsSome, length, cond, map, nat_lt, slice_index_or, count_by}
+use Rattle.std.specs.FinMap as table
+use Rattle.std.specs.FinSet as set
+use Rattle.px_spec.specs.Graphs.{Edges}
+use Rattle.px_spec.specs.Members.{Lists}
+use Rattle.block_partition.specs.Partitions.{Partition, at}
+use Rattle.bisim_spec.specs.Supports.{joins}
+use Rattle.bisim_spec.specs.Views.{SupportTable, support_at}
+
+-- the list with this number, and an empty one past the end
+abbrev pub list_at : List (List ℕ) → ℕ → List ℕ
+list_at lists n = slice_index_or lists n []
+
+abbrev pub is_supported : SupportTable → ℕ → ℕ → Bool
+is_supported t a b = nat_lt 0 (support_at t a b)
+
+-- children and parents are listed exactly where there is support
+pub record AreNear (t : SupportTable) (children parents : List (List ℕ)) : Type 0 where
+  pub children_are : (a : ℕ) → Lists (is_supported t a) (list_at children a)
+  pub parents_are : (b : ℕ) → Lists (λ a. is_supported t a b) (list_at parents b)
+
+-- one more edge from a to b
+abbrev pub with_edge : SupportTable → ℕ → ℕ → SupportTable
+with_edge t a b = table.insert t (a, b) (support_at t a b + 1)
+
+abbrev pub one_if : Bool → ℕ
+one_if b = cond b 1 0
+
+-- the edges from n to each of these
+abbrev pub pairs_of : ℕ → List ℕ → List (ℕ × ℕ)
+pairs_of n children = map (λ c. (n, c)) children
+
+-- how many of the edges from n to each of these lead from x to y
+abbrev pub pairs_between : List (Option ℕ) → ℕ → List ℕ → ℕ → ℕ → ℕ
+pairs_between block n children x y = count_by (joins block x y) (pairs_of n children)
+
+-- how many of the edges that begin before a node lead from x to y
+abbrev pub edges_below : Edges → List (Option ℕ) → ℕ → ℕ → ℕ → ℕ
+edges_below edges block n x y = set.len (set.retain edges (λ e. nat_lt e.0 n && joins block x y e))
+
+-- each pair in the table has edges
+abbrev pub IsPositive : SupportTable → Type 0
+IsPositive t = (p : ℕ × ℕ) → table.get t p ≢ Some 0
+
+-- support is only between blocks
+abbrev pub AreLive : Partition → SupportTable → Type 0
+AreLive p t = (a b : ℕ) → 0 < support_at t a b → IsSome (at p.labels a) × IsSome (at p.labels b)
+
+-- what holds of each quotient and its lists of neighbours
+pub record IsSound (p : Partition) (t : SupportTable) (children parents : List (List ℕ)) : Type 0 where
+  pub near : AreNear t children parents
+  pub live : AreLive p t
+  pub length_children : length children ≡ length p.labels
+  pub length_parents : length parents ≡ length p.labels

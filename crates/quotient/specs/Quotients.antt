@@ -1,0 +1,42 @@
+-- The quotient of a graph by a partition of its nodes: how many edges lead from one block to another. It is the index graph
+-- of the partition (T. Milo and D. Suciu, ICDT 1999; support counts: K. Yi, H. He, I. Stanoi and J. Yang, SIGMOD 2004).
+use Rattle.std.specs.Prelude.{ℕ, ◌≡◌, ◌&&◌, Bool, List, Option, is_some, nat_lt, refl}
+use Rattle.std.specs.Coded.{Coded, code_by, coded×, coded_ℕ, coded_list, coded_option}
+use Rattle.std.specs.FinMap as table
+use Rattle.px_spec.specs.Graphs.{Edges, edge_cmp}
+use Rattle.block_partition.specs.Partitions.{Partition, at}
+use Rattle.bisim_spec.specs.Supports.{edges_between}
+use Rattle.bisim_spec.specs.Views.{View, SupportTable, support_at}
+
+pub record Quotient : Type 0 where
+  pub blocks : Partition
+  pub supports : SupportTable
+
+-- a quotient is stored as its parts
+abbrev pub quotient_code : Coded Quotient
+quotient_code =
+    code_by ((List (Option ℕ) × (List (Option ℕ) × (ℕ × ℕ))) × SupportTable)
+    (coded× (coded× (coded_list (coded_option coded_ℕ)) (coded× (coded_list (coded_option coded_ℕ)) (coded× coded_ℕ coded_ℕ)))
+    (table.code {R = edge_cmp} (coded× coded_ℕ coded_ℕ) coded_ℕ))
+    (λ q. ((q.blocks.block_of, (q.blocks.labels, (q.blocks.room.nodes, q.blocks.room.blocks))), q.supports))
+    (λ p. record {
+      blocks = record { block_of = p.0.0; labels = p.0.1.0; room = record { nodes = p.0.1.1.0; blocks = p.0.1.1.1 } };
+      supports = p.1;
+    })
+    (λ _. refl)
+
+-- the quotient without the room in its tables
+abbrev pub view_of : Quotient → View
+view_of q = record { block_of = q.blocks.block_of; labels = q.blocks.labels; supports = q.supports }
+
+-- each support is the number of edges
+abbrev pub AreCounted : Edges → List (Option ℕ) → SupportTable → Type 0
+AreCounted edges block supports = (a b : ℕ) → support_at supports a b ≡ edges_between edges block a b
+
+-- how many pairs of blocks have support
+abbrev pub pair_count : SupportTable → ℕ
+pair_count supports = table.len (table.retain_keys supports (λ p. nat_lt 0 (support_at supports p.0 p.1)))
+
+-- whether an edge of the index graph leads from a to b: both are blocks, and they have support
+abbrev pub is_joined : Quotient → ℕ → ℕ → Bool
+is_joined q a b = nat_lt 0 (support_at q.supports a b) && (is_some (at q.blocks.labels a) && is_some (at q.blocks.labels b))

@@ -1,0 +1,12 @@
+//! The quotient of a graph by a partition of its nodes, as an index graph with supports.
+#![tactic(auto)]
+
+mod counting;
+mod joins;
+mod neighbours;
+mod summary;
+mod supports;
+#[cfg(test)]
+mod tests;
+
+pub use summary::Summary;

@@ -1,0 +1,140 @@
+// The index graph of a partition.
+ghost use Rattle.std.specs.Prelude.{◌≡◌, ◌<◌, ◌≤◌, ◌^◌, ℕ, List, is_some, IsSome, IfOk, IfSome, length};
+ghost use Rattle.px_spec.specs.Members.{Lists};
+ghost use Rattle.px_spec.specs.Shapes.{shape_of, shape_by};
+ghost use Rattle.block_partition.specs.Partitions.{at, is_member, block_count};
+ghost use Rattle.bisim_spec.specs.Partitions.{IsPartition};
+ghost use Rattle.bisim_spec.specs.Views.{support_at, shape_of_view};
+ghost use Rattle.quotient.specs.Quotients.{AreCounted, pair_count, is_joined, view_of};
+
+use crate::counting::count_edges;
+use crate::joins::Joins;
+use block_partition::{Blocks, Members};
+use label_graph::{Digraph, GraphView};
+use px_base::{Memory, NodeId};
+use std::alloc::Global;
+use std::marker::Model;
+
+/// The quotient of a graph by a partition of its nodes: the blocks, and the support of each pair of
+/// blocks, which is the number of edges from a member of the first to a member of the second. As a
+/// graph its nodes are the blocks, and edges join the pairs that have support: the index graph of the
+/// partition.
+#[derive(Drop)]
+pub struct Summary {
+    blocks: Blocks,
+    joins: Joins,
+}
+
+impl Model for Summary {
+    ghost use Rattle.quotient.specs.Quotients.{Quotient, quotient_code};
+
+    ghost Value = { Quotient };
+
+    ghost coded = { quotient_code };
+
+    ghost use Rattle.quotient.specs.Joined.{IsSound};
+
+    ghost view = { λ s. record { blocks = s.blocks; supports = s.joins.supports } };
+
+    ghost invariant = { λ s. IsSound s.blocks s.joins.supports s.joins.children s.joins.parents };
+}
+
+impl Summary {
+    /// The quotient of a graph by a partition of its live nodes. It reads each node's children once, and
+    /// finds each pair by hash. On want of memory the blocks are dropped.
+    pub fn of(alloc: Global, blocks: Blocks, view: &GraphView<'_>) -> Result<Summary, Memory>
+        requires partition { IsPartition (shape_of view.now) blocks.block_of }
+        ensures blocks { IfOk result (λ s. s.blocks ≡ blocks) }
+        ensures supports { IfOk result (λ s. AreCounted view.now.edges blocks.block_of s.supports) }
+    {
+        // It tells that the view shows the graph itself.
+        let _ = view.edge_count();
+        let joins = count_edges(alloc, &blocks, view)?;
+        Ok(Summary { blocks, joins })
+    }
+
+    /// The block of a node, and none where it has none.
+    pub fn block_of(&self, n: NodeId) -> Option<u32>
+        ensures block { result ≡ at self.now.blocks.block_of n }
+        ensures live { IfSome result (λ b. IsSome (at self.now.blocks.labels b)) }
+    {
+        self.blocks.block_of(n)
+    }
+
+    /// The members of a block, each once, in no stated order.
+    pub fn extent(&self, b: u32) -> Members<'_>
+        requires block { IsSome (at self.now.blocks.labels b) }
+        ensures { Lists (is_member self.now.blocks b) result }
+    {
+        self.blocks.members(b)
+    }
+
+    /// How many edges lead from a member of `a` to a member of `b`; none where one of them is no block.
+    /// It is found by hash.
+    pub fn support(&self, a: u32, b: u32) -> u32
+        ensures { result ≡ support_at self.now.supports a b }
+    {
+        self.joins.supports.get(a, b)
+    }
+
+    /// How many blocks there are: at most 2^31. O(1).
+    pub fn blocks(&self) -> u32
+        ensures count { result ≡ block_count self.now.blocks }
+        ensures few { result ≤ 2 ^ 31 }
+        ensures shape { (texts : List (List ℕ)) → shape_by texts (length self.now.blocks.labels) (at self.now.blocks.labels) (is_joined self.now) ≡ shape_of_view texts (view_of self.now) }
+    {
+        self.blocks.count()
+    }
+
+    /// How many pairs of blocks have support. O(1).
+    pub fn pairs(&self) -> u64
+        ensures { result ≡ pair_count self.now.supports }
+    {
+        self.joins.supports.pairs() as u64
+    }
+
+    /// The length of the list of blocks: at most 2^31. Numbers past its end have no block.
+    pub fn numbers(&self) -> u32
+        ensures count { result ≡ length self.now.blocks.block_of }
+        ensures few { result ≤ 2 ^ 31 }
+    {
+        self.blocks.numbers()
+    }
+}
+
+impl Digraph for Summary {
+    ghost use Rattle.std.specs.Prelude.{length};
+    ghost use Rattle.block_partition.specs.Partitions.{at};
+    ghost use Rattle.quotient.specs.Quotients.{is_joined};
+    ghost use Rattle.quotient.specs.Laws.{below_span, ends_live};
+
+    ghost span = { λ q. length q.blocks.labels };
+
+    ghost label_at = { λ q. at q.blocks.labels };
+
+    ghost edge = { is_joined };
+
+    fn size(&self) -> u32 {
+        self.blocks.span()
+    }
+
+    fn is_node(&self, b: u32) -> bool {
+        self.blocks.is_block(b)
+    }
+
+    fn label(&self, b: u32) -> u32 {
+        self.blocks.label(b)
+    }
+
+    fn parents(&self, b: u32) -> &[u32] {
+        self.joins.parents.get(b)
+    }
+
+    fn children(&self, b: u32) -> &[u32] {
+        self.joins.children.get(b)
+    }
+
+    ghost below = { below_span };
+
+    ghost ends = { ends_live };
+}
