@@ -1,0 +1,87 @@
+-- What steps of a loader keep.
+use Rattle.std.proofs.Common.{◌≡◌, ℕ, ◌+◌, ◌≤◌, Bool, true, false, List, [], ◌∷◌, ◌++◌, length, Some, None, Ok, refl, sym, ap, ◌∙◌, subst, arith, append-nil}
+use Rattle.std.specs.Prelude.{is_some, if◌then◌else◌, position, bytes_eq}
+use Rattle.std.specs.List.{list_any, AllByRecursion}
+use Rattle.std.specs.Map.{keys_of}
+use Rattle.std.proofs.lemmas.List.{length-map, length_push}
+use Rattle.px_spec.specs.declared.limits.Limits.{Limits}
+use Rattle.px_spec.specs.Changes.{node, apply}
+use Rattle.label_graph.specs.Held.{Held, no_room}
+use Rattle.triples_read.specs.declared.term.Term.{Term}
+use Rattle.graph_load.specs.declared.known.Key.{Key}
+use Rattle.graph_load.specs.declared.loader.Loader.{Loader}
+use Rattle.graph_load.specs.Loading.{number_of, same_term, need, changed, with_graph, term_label, predicate_label}
+use Rattle.graph_load.specs.Places.{place_of, with_predicate}
+use Rattle.graph_load.specs.Holding.{loading, IsWithin, IsSound, Begins, Steps}
+use Rattle.graph_load.proofs.Standing.{position_push, lookup_push, keys_push, is_some-lookup}
+use Rattle.graph_load.proofs.SameTerms.{term_same}
+use Rattle.graph_load.proofs.Changing.{node_made, need_new}
+
+pub more_within : (m n p q : ℕ) → m ≤ p → n ≤ q → (ks : List Key) → AllByRecursion (IsWithin m n) ks → AllByRecursion (IsWithin p q) ks
+more_within m n p q mp nq [] h = tt
+more_within m n p q mp nq (k ∷ ks) h = (
+  (let s = h.0.subject in let r = h.0.predicate in let o = h.0.object in
+      record { subject = omega (arith, s, mp); predicate = omega (arith, r, nq); object = omega (arith, o, mp) }),
+  more_within m n p q mp nq ks h.1,
+)
+
+-- a term becomes a node
+pub term_steps : (limits : Limits) (x : Term) (old : Loader) (h : Held) (n : ℕ) (terms : List (Term × ℕ)) → IsSound old → number_of old.terms x ≡ None
+    → apply (node (term_label x)) old.graph.graph limits ≡ Ok h.graph → h.room ≡ no_room → n ≡ length old.graph.graph.given → terms ≡ old.terms ++ (x, n) ∷ []
+    → Steps (need limits x) old (record old { graph = h; terms = terms })
+term_steps limits x old h n terms sound none made room number added =
+    let exact : terms ≡ old.terms ++ (x, length old.graph.graph.given) ∷ [] = added ∙ ap (λ m. old.terms ++ (x, m) ∷ []) number in
+    let given = node_made (term_label x) old.graph.graph limits h.graph made in
+    let longer = ap length added ∙ length_push old.terms (x, n) in
+    let few = sound.terms in
+    let fewer = sound.predicates in
+    record {
+      does = λ triples. need_new limits x (loading old triples) h.graph none made ∙ ap (λ ts. Ok (record { graph = h.graph; terms = ts; triples = triples })) (sym exact);
+      sound = record {
+        room = room;
+        terms = omega (arith, given, longer, few);
+        predicates = omega (arith, given, fewer);
+        known = more_within (length old.terms) (length old.predicates) (length terms) (length old.predicates) (omega (arith, longer)) (omega arith) old.known sound.known;
+      };
+      grows = record { terms = ((x, n) ∷ [], added); predicates = ([], sym (append-nil old.predicates)); known = refl };
+    }
+
+pub term_place : (terms : List (Term × ℕ)) (x : Term) (n : ℕ) → number_of terms x ≡ None → place_of (terms ++ (x, n) ∷ []) x ≡ Some (length terms)
+term_place terms x n none =
+    ap (position (same_term x)) (keys_push terms x n)
+    ∙ position_push (same_term x) (keys_of terms) x (term_same x) (sym (is_some-lookup (same_term x) terms) ∙ ap is_some none)
+    ∙ ap Some (length-map terms (λ e. e.0))
+
+pub term_number : (terms : List (Term × ℕ)) (x : Term) (n : ℕ) → number_of terms x ≡ None → number_of (terms ++ (x, n) ∷ []) x ≡ Some n
+term_number terms x n none = lookup_push (same_term x) terms x n (term_same x) none
+
+record Interned (old new : List (List ℕ)) : Type 0 where
+  pub begins : Begins old new
+  pub more : length old ≤ length new
+  pub few : length new ≤ length old + 1
+
+interned : (b : Bool) (xs : List (List ℕ)) (x : List ℕ) → Interned xs (if b then xs else xs ++ x ∷ [])
+interned true xs x = record { begins = ([], sym (append-nil xs)); more = omega arith; few = omega arith }
+interned false xs x = let longer = length_push xs x in record { begins = (x ∷ [], refl); more = omega (arith, longer); few = omega (arith, longer) }
+
+-- the node of a triple is added
+pub node_steps : (limits : Limits) (iri : List ℕ) (old : Loader) (h : Held) (predicates : List (List ℕ)) → IsSound old
+    → apply (node (predicate_label iri)) old.graph.graph limits ≡ Ok h.graph → h.room ≡ no_room → predicates ≡ with_predicate old.predicates iri
+    → Steps (changed limits (node (predicate_label iri))) old (record old { graph = h; predicates = predicates })
+node_steps limits iri old h predicates sound made room added =
+    let is : Interned old.predicates predicates = subst (Interned old.predicates) (sym added) (interned (list_any (bytes_eq iri) old.predicates) old.predicates iri) in
+    let given = node_made (predicate_label iri) old.graph.graph limits h.graph made in
+    let few = sound.terms in
+    let fewer = sound.predicates in
+    let more = is.more in
+    let next = is.few in
+    record {
+      does = λ triples. ap (with_graph (loading old triples)) made;
+      sound = record {
+        room = room;
+        terms = omega (arith, given, few);
+        predicates = omega (arith, given, next, fewer);
+        known = more_within (length old.terms) (length old.predicates) (length old.terms) (length predicates) (omega arith) more old.known sound.known;
+      };
+      grows = record { terms = ([], sym (append-nil old.terms)); predicates = is.begins; known = refl };
+    }

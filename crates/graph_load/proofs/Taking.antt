@@ -1,0 +1,114 @@
+-- How a triple is taken.
+use Rattle.std.proofs.Common.{◌≡◌, ℕ, true, false, ◌||◌, List, [], ◌∷◌, ◌++◌, length, Some, Ok, sym, ap, ◌∙◌, subst, arith}
+use Rattle.std.specs.Prelude.{position, bytes_eq, if◌then◌else◌}
+use Rattle.std.specs.List.{list_any, AllByRecursion}
+use Rattle.std.specs.Map.{keys_of}
+use Rattle.std.proofs.lemmas.List.{length-map, map-append}
+use Rattle.std.proofs.lemmas.List.Folds.{list_any-append}
+use Rattle.std.proofs.lemmas.List.Quantifiers.{position-Some}
+use Rattle.px_spec.specs.declared.limits.Limits.{Limits}
+use Rattle.px_spec.specs.Changes.{node}
+use Rattle.triples_read.specs.declared.term.Term.{Term}
+use Rattle.triples_read.specs.declared.term.Triple.{Triple}
+use Rattle.graph_load.specs.declared.known.Key.{Key}
+use Rattle.graph_load.specs.declared.loader.Loader.{Loader}
+use Rattle.graph_load.specs.Loading.{same_term, same_triple, need, changed, then_do, joined, placed, predicate_label, with_triple}
+use Rattle.graph_load.specs.Places.{place_of, is_key_of, same_key}
+use Rattle.graph_load.specs.Holding.{loading, is_known, Holds, with_new, IsWithin, IsSound, Grows, Steps, IsStopped, IsTaken, IsUntaken}
+use Rattle.graph_load.proofs.Standing.{position_append}
+use Rattle.graph_load.proofs.Joining.{grows_trans}
+use Rattle.graph_load.proofs.Knowing.{known_stays, known_key, key_of_same}
+
+-- a triple that is known stays
+pub taken_known : (limits : Limits) (t : Triple) (r : Loader) → IsSound r → is_known r t ≡ true → IsTaken limits t r r
+taken_known limits t r sound known = record {
+  sound = sound;
+  does = λ triples holds.
+      ap (λ b. if b then Ok (loading r triples) else then_do (need limits t.subject (loading r triples)) (λ a. then_do (placed limits t (length a.graph.given) a) (λ b. Ok (record b { triples = b.triples ++ t ∷ [] })))) (holds t ∙ known)
+      ∙ ap (λ ts. Ok (loading r ts)) (sym (same triples holds));
+  holds = λ triples holds. subst (Holds r) (sym (same triples holds)) holds;
+}
+  where
+    same : (triples : List Triple) → Holds r triples → with_new triples t ≡ triples
+    same triples holds = ap (λ b. if b then triples else triples ++ t ∷ []) (holds t ∙ known)
+
+all_push : {X : Type 0} (P : X → Type 0) (xs : List X) (x : X) → AllByRecursion P xs → P x → AllByRecursion P (xs ++ x ∷ [])
+all_push P [] x h q = (q, tt)
+all_push P (y ∷ ys) x h q = (h.0, all_push P ys x h.1 q)
+
+module _ (limits : Limits) (t : Triple) (old : Loader) (unknown : is_known old t ≡ false) where
+  fresh : (triples : List Triple) → Holds old triples → with_triple limits t (loading old triples) ≡ then_do (need limits t.subject (loading old triples)) (λ a. then_do (placed limits t (length a.graph.given) a) (λ b. Ok (record b { triples = b.triples ++ t ∷ [] })))
+  fresh triples holds = ap (λ b. if b then Ok (loading old triples) else then_do (need limits t.subject (loading old triples)) (λ a. then_do (placed limits t (length a.graph.given) a) (λ b. Ok (record b { triples = b.triples ++ t ∷ [] })))) (holds t ∙ unknown)
+
+  new_is : (triples : List Triple) → Holds old triples → with_new triples t ≡ triples ++ t ∷ []
+  new_is triples holds = ap (λ b. if b then triples else triples ++ t ∷ []) (holds t ∙ unknown)
+
+  pub untaken_subject : IsStopped (need limits t.subject) old → IsUntaken limits t old
+  untaken_subject stop triples holds =
+      let s = stop triples in
+      (s.0, fresh triples holds ∙ ap (λ r. then_do r (λ a. then_do (placed limits t (length a.graph.given) a) (λ b. Ok (record b { triples = b.triples ++ t ∷ [] })))) s.1)
+
+  module _ (a : Loader) (needs : Steps (need limits t.subject) old a) where
+    first : (triples : List Triple) → Holds old triples
+        → with_triple limits t (loading old triples) ≡ then_do (placed limits t (length a.graph.graph.given) (loading a triples)) (λ b. Ok (record b { triples = b.triples ++ t ∷ [] }))
+    first triples holds = fresh triples holds ∙ ap (λ r. then_do r (λ a. then_do (placed limits t (length a.graph.given) a) (λ b. Ok (record b { triples = b.triples ++ t ∷ [] })))) (needs.does triples)
+
+    pub untaken_node : IsStopped (changed limits (node (predicate_label t.predicate))) a → IsUntaken limits t old
+    untaken_node stop triples holds =
+        let s = stop triples in
+        (s.0, first triples holds ∙ ap (λ r. then_do (then_do r (joined limits t.subject (length a.graph.graph.given) t.object)) (λ b. Ok (record b { triples = b.triples ++ t ∷ [] }))) s.1)
+
+    module _ (n : ℕ) (number : n ≡ length a.graph.graph.given) (b : Loader) (adds : Steps (changed limits (node (predicate_label t.predicate))) a b) where
+      second : (triples : List Triple) → Holds old triples
+          → with_triple limits t (loading old triples) ≡ then_do (joined limits t.subject n t.object (loading b triples)) (λ b. Ok (record b { triples = b.triples ++ t ∷ [] }))
+      second triples holds =
+          first triples holds ∙ ap (λ r. then_do (then_do r (joined limits t.subject (length a.graph.graph.given) t.object)) (λ b. Ok (record b { triples = b.triples ++ t ∷ [] }))) (adds.does triples)
+          ∙ ap (λ m. then_do (joined limits t.subject m t.object (loading b triples)) (λ b. Ok (record b { triples = b.triples ++ t ∷ [] }))) (sym number)
+
+      pub untaken_joined : IsStopped (joined limits t.subject n t.object) b → IsUntaken limits t old
+      untaken_joined stop triples holds =
+          let s = stop triples in
+          (s.0, second triples holds ∙ ap (λ r. then_do r (λ b. Ok (record b { triples = b.triples ++ t ∷ [] }))) s.1)
+
+      module _ (c : Loader) (joins : Steps (joined limits t.subject n t.object) b c) (sound : IsSound old) where
+        grown : Grows old c
+        grown = grows_trans old b c (grows_trans old a b needs.grows adds.grows) joins.grows
+
+        pub still_unknown : (key : Key) → place_of c.terms t.subject ≡ Some key.subject → position (bytes_eq t.predicate) c.predicates ≡ Some key.predicate
+            → place_of c.terms t.object ≡ Some key.object → list_any (same_key key) c.known ≡ false
+        still_unknown key s p o = known_key c.terms c.predicates t c.known key s p o ∙ known_stays old c grown sound t ∙ unknown
+
+        pub taken_new : (key : Key) (known : List Key) → place_of c.terms t.subject ≡ Some key.subject → position (bytes_eq t.predicate) c.predicates ≡ Some key.predicate
+            → place_of c.terms t.object ≡ Some key.object → known ≡ c.known ++ key ∷ [] → IsTaken limits t old (record c { known = known })
+        taken_new key known s p o added = record {
+          sound = record {
+            room = joins.sound.room;
+            terms = joins.sound.terms;
+            predicates = joins.sound.predicates;
+            known = subst (AllByRecursion (IsWithin (length c.terms) (length c.predicates))) (sym added) (all_push (IsWithin (length c.terms) (length c.predicates)) c.known key joins.sound.known within);
+          };
+          does = λ triples holds.
+              second triples holds ∙ ap (λ r. then_do r (λ b. Ok (record b { triples = b.triples ++ t ∷ [] }))) (joins.does triples)
+              ∙ ap (λ ts. Ok (loading c ts)) (sym (new_is triples holds));
+          holds = λ triples holds. subst (Holds (record c { known = known })) (sym (new_is triples holds)) (λ u.
+              list_any-append (same_triple u) triples (t ∷ [])
+              ∙ (λ i. (holds u ∙ sym (known_stays old c grown sound u)) i || (sym (key_of_same c.terms c.predicates t key s p o u) i || false))
+              ∙ sym (list_any-append (is_key_of c.terms c.predicates u) c.known (key ∷ []))
+              ∙ ap (list_any (is_key_of c.terms c.predicates u)) (sym added));
+        }
+          where
+            within : IsWithin (length c.terms) (length c.predicates) key
+            within =
+                let size = length-map c.terms (λ e. e.0) in
+                let i = (position-Some (same_term t.subject) (keys_of c.terms) key.subject t.subject s).0 in
+                let j = (position-Some (bytes_eq t.predicate) c.predicates key.predicate [] p).0 in
+                let k = (position-Some (same_term t.object) (keys_of c.terms) key.object t.object o).0 in
+                record { subject = omega (arith, size, i); predicate = j; object = omega (arith, size, k) }
+
+-- the places of the subject and the predicate stay
+pub place_stays : (old new : Loader) → Grows old new → (x : Term) (i : ℕ) → place_of old.terms x ≡ Some i → place_of new.terms x ≡ Some i
+place_stays old new grows x i h =
+    ap (λ ts. place_of ts x) grows.terms.1 ∙ ap (position (same_term x)) (map-append (λ e. e.0) old.terms grows.terms.0) ∙ position_append (same_term x) (keys_of old.terms) (keys_of grows.terms.0) i h
+
+pub predicate_stays : (old new : Loader) → Grows old new → (iri : List ℕ) (i : ℕ) → position (bytes_eq iri) old.predicates ≡ Some i → position (bytes_eq iri) new.predicates ≡ Some i
+predicate_stays old new grows iri i h = ap (position (bytes_eq iri)) grows.predicates.1 ∙ position_append (bytes_eq iri) old.predicates grows.predicates.0 i h

@@ -1,0 +1,69 @@
+-- What a loader keeps of what is loaded.
+use Rattle.std.specs.Prelude.{◌≡◌, ℕ, ◌<◌, ◌≤◌, Bool, List, [], ◌∷◌, ◌++◌, length, Result, Ok, Err, if◌then◌else◌}
+use Rattle.std.specs.List.{list_any, AllByRecursion}
+use Rattle.px_spec.specs.declared.limits.Limits.{Limits}
+use Rattle.px_spec.specs.declared.refusal.Refusal.{Refusal}
+use Rattle.label_graph.specs.Held.{no_room}
+use Rattle.triples_read.specs.declared.term.Triple.{Triple}
+use Rattle.graph_load.specs.declared.known.Key.{Key}
+use Rattle.graph_load.specs.declared.loader.Loader.{Loader}
+use Rattle.graph_load.specs.Loading.{Loading, same_triple, with_triple}
+use Rattle.graph_load.specs.Places.{is_key_of}
+
+-- what is loaded, where these are the triples
+abbrev pub loading : Loader → List Triple → Loading
+loading r triples = record { graph = r.graph.graph; terms = r.terms; triples = triples }
+
+abbrev pub is_known : Loader → Triple → Bool
+is_known r t = list_any (is_key_of r.terms r.predicates t) r.known
+
+-- the loader knows just these triples
+abbrev pub Holds : Loader → List Triple → Type 0
+Holds r triples = (t : Triple) → list_any (same_triple t) triples ≡ is_known r t
+
+-- the triples, and this one behind them where it is new
+abbrev pub with_new : List Triple → Triple → List Triple
+with_new triples t = if list_any (same_triple t) triples then triples else triples ++ t ∷ []
+
+-- its places are in tables of these sizes
+pub record IsWithin (terms predicates : ℕ) (k : Key) : Type 0 where
+  pub subject : k.subject < terms
+  pub predicate : k.predicate < predicates
+  pub object : k.object < terms
+
+-- what each loader keeps
+pub record IsSound (r : Loader) : Type 0 where
+  pub room : r.graph.room ≡ no_room
+  pub terms : length r.terms ≤ length r.graph.graph.given
+  pub predicates : length r.predicates ≤ length r.graph.graph.given
+  pub known : AllByRecursion (IsWithin (length r.terms) (length r.predicates)) r.known
+
+-- the second list begins with the first
+abbrev pub Begins : {X : Type 0} → List X → List X → Type 0
+Begins {X} xs ys = (more : List X) × (ys ≡ xs ++ more)
+
+-- nothing is taken out of a table, and no triple is known that wasn't
+pub record Grows (old new : Loader) : Type 0 where
+  pub terms : Begins old.terms new.terms
+  pub predicates : Begins old.predicates new.predicates
+  pub known : new.known ≡ old.known
+
+-- a step leads from the one loader to the other
+pub record Steps (step : Loading → Result Loading Refusal) (old new : Loader) : Type 0 where
+  pub does : (triples : List Triple) → step (loading old triples) ≡ Ok (loading new triples)
+  pub sound : IsSound new
+  pub grows : Grows old new
+
+-- a step is refused
+abbrev pub IsStopped : (Loading → Result Loading Refusal) → Loader → Type 0
+IsStopped step r = (triples : List Triple) → (refusal : Refusal) × (step (loading r triples) ≡ Err refusal)
+
+-- the triple is loaded: it was, or its nodes and edges are added
+pub record IsTaken (limits : Limits) (t : Triple) (old new : Loader) : Type 0 where
+  pub sound : IsSound new
+  pub does : (triples : List Triple) → Holds old triples → with_triple limits t (loading old triples) ≡ Ok (loading new (with_new triples t))
+  pub holds : (triples : List Triple) → Holds old triples → Holds new (with_new triples t)
+
+-- the triple is refused
+abbrev pub IsUntaken : Limits → Triple → Loader → Type 0
+IsUntaken limits t r = (triples : List Triple) → Holds r triples → (refusal : Refusal) × (with_triple limits t (loading r triples) ≡ Err refusal)

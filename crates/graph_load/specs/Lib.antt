@@ -1,0 +1,6 @@
+pub mod Loading
+pub mod Loads
+pub mod Places
+pub mod Steps
+pub mod Holding
+pub mod Going

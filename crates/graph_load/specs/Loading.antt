@@ -1,0 +1,101 @@
+-- The graph of a set of triples. Each term that is a subject or an object is a node, labelled by its kind; each triple
+-- is a node, labelled by its predicate; edges lead from the subject to the triple and on to the object. Numbers are given
+-- in the order of first need: of a new triple its subject, the triple, its object.
+use Rattle.std.specs.Prelude.{ℕ, Bool, true, false, ◌&&◌, List, [], ◌∷◌, ◌++◌, length, codes, encode_utf8_all, bytes_eq, is_some, unwrap_or, if◌then◌else◌, Option, Some, None, Result, Ok, Err}
+use Rattle.std.specs.List.{list_any}
+use Rattle.std.specs.Map.{lookup}
+use Rattle.px_spec.specs.declared.limits.Limits.{Limits}
+use Rattle.px_spec.specs.declared.refusal.Refusal.{Refusal}
+use Rattle.px_spec.specs.Graphs.{Graph, empty_graph}
+use Rattle.px_spec.specs.Changes.{Change, node, link, apply}
+use Rattle.triples_read.specs.declared.term.Term.{Term}
+use Rattle.triples_read.specs.declared.term.Term.TheVariants.{Iri, Blank, Literal}
+use Rattle.triples_read.specs.declared.term.Triple.{Triple}
+use Rattle.triples_read.specs.Canonical.{term_text}
+
+abbrev pub same_tag : Option (List ℕ) → Option (List ℕ) → Bool
+same_tag None None = true
+same_tag (Some s) (Some t) = bytes_eq s t
+same_tag a b = false
+
+-- the kind and all characters are equal
+abbrev pub same_term : Term → Term → Bool
+same_term (Iri x) (Iri y) = bytes_eq x y
+same_term (Blank x) (Blank y) = bytes_eq x y
+same_term (Literal x d s) (Literal y e t) = bytes_eq x y && (bytes_eq d e && same_tag s t)
+same_term a b = false
+
+abbrev pub same_triple : Triple → Triple → Bool
+same_triple t u = same_term t.subject u.subject && (bytes_eq t.predicate u.predicate && same_term t.object u.object)
+
+-- the label of a term's node
+abbrev pub term_label : Term → List ℕ
+term_label (Iri iri) = codes "iri"
+term_label (Blank label) = codes "blank"
+term_label (Literal text datatype tag) = codes "literal"
+
+-- the label of a triple's node: its predicate in the canonical spelling, brackets included
+abbrev pub predicate_label : List ℕ → List ℕ
+predicate_label iri = encode_utf8_all (term_text (Iri iri))
+
+pub record Loading : Type 0 where
+  pub graph : Graph
+  -- each term that is a node, with its number
+  pub terms : List (Term × ℕ)
+  -- the triples so far, each once
+  pub triples : List Triple
+
+abbrev pub nothing_loaded : Loading
+nothing_loaded = record { graph = empty_graph; terms = []; triples = [] }
+
+-- the number of a term that is a node
+abbrev pub number_of : List (Term × ℕ) → Term → Option ℕ
+number_of terms x = lookup (same_term x) terms
+
+abbrev pub is_loaded : Loading → Triple → Bool
+is_loaded l t = list_any (same_triple t) l.triples
+
+-- what is done next, unless something was refused
+abbrev pub then_do : Result Loading Refusal → (Loading → Result Loading Refusal) → Result Loading Refusal
+then_do (Ok l) f = f l
+then_do (Err r) f = Err r
+
+-- the loading with the graph after a change
+abbrev pub with_graph : Loading → Result Graph Refusal → Result Loading Refusal
+with_graph l (Ok g) = Ok (record l { graph = g })
+with_graph l (Err r) = Err r
+
+abbrev pub changed : Limits → Change → Loading → Result Loading Refusal
+changed limits c l = with_graph l (apply c l.graph limits)
+
+-- the term gets the next number
+abbrev pub numbered : Term → ℕ → Loading → Loading
+numbered x n l = record l { terms = l.terms ++ (x, n) ∷ [] }
+
+-- the term is a node: it is one already, or becomes one
+abbrev pub need : Limits → Term → Loading → Result Loading Refusal
+need limits x l =
+    if is_some (number_of l.terms x) then Ok l
+    else changed limits (node (term_label x)) (numbered x (length l.graph.given) l)
+
+-- an edge between the node of a triple and that of a term, one way or the other
+abbrev pub from_term : Limits → Term → ℕ → Loading → Result Loading Refusal
+from_term limits x n l = changed limits (link (unwrap_or (number_of l.terms x) 0) n) l
+
+abbrev pub onto_term : Limits → ℕ → Term → Loading → Result Loading Refusal
+onto_term limits n x l = changed limits (link n (unwrap_or (number_of l.terms x) 0)) l
+
+-- the object of a triple is a node too, and edges lead from the subject to the triple's node n and on to the object
+abbrev pub joined : Limits → Term → ℕ → Term → Loading → Result Loading Refusal
+joined limits x n y l = then_do (need limits y l) (λ a. then_do (from_term limits x n a) (onto_term limits n y))
+
+-- the nodes and edges of a new triple, whose own node has the number n
+abbrev pub placed : Limits → Triple → ℕ → Loading → Result Loading Refusal
+placed limits t n l = then_do (changed limits (node (predicate_label t.predicate)) l) (joined limits t.subject n t.object)
+
+-- The triple is loaded: it is already, or its nodes and edges are added. It is refused where one of them passes a limit.
+abbrev pub with_triple : Limits → Triple → Loading → Result Loading Refusal
+with_triple limits t l =
+    if is_loaded l t then Ok l
+    else then_do (need limits t.subject l)
+    (λ a. then_do (placed limits t (length a.graph.given) a) (λ b. Ok (record b { triples = b.triples ++ t ∷ [] })))

@@ -1,0 +1,7 @@
+-- What a step of the loading says of its outcome.
+use Rattle.std.specs.Prelude.{◌≡◌, Result, Err}
+use Rattle.px_spec.specs.declared.refusal.Refusal.{Refusal}
+
+-- some refusal came
+abbrev pub IsRefused : {T : Type 0} → Result T Refusal → Type 0
+IsRefused x = (r : Refusal) × (x ≡ Err r)

@@ -1,0 +1,70 @@
+// Nodes and edges are added within the limits.
+ghost use Rattle.std.specs.Prelude.{◌≡◌, ◌<◌, ◌^◌, ℕ, length, IfOk, OnOk, IsErrOf, Ok};
+ghost use Rattle.px_spec.specs.Changes.{apply};
+ghost use Rattle.label_graph.specs.Held.{no_room};
+ghost use Rattle.graph_update.specs.Judging.{change_of};
+ghost use Rattle.graph_load.specs.Steps.{IsRefused};
+ghost use Rattle.graph_load.specs.declared.additions.Stop.TheVariants.{Memory as NoMemory};
+
+use graph_update::{Change, Verdict, commit, judge, stage};
+use label_graph::Graph;
+use px_base::{Limits, Memory, NodeId};
+use std::alloc::Global;
+
+/// Why nothing was added.
+#[derive(Clone, Copy, Debug, PartialEq, Eq)]
+pub(crate) enum Stop {
+    /// It is past a limit of the graph.
+    Limit,
+    /// An allocation failed.
+    Memory,
+}
+
+impl From<Memory> for Stop {
+    ghost from_gives = { λ _ e. e ≡ NoMemory };
+
+    fn from(_: Memory) -> Self {
+        Stop::Memory
+    }
+}
+
+/// Makes the change, where the limits allow it.
+pub(crate) fn make(
+    alloc: Global,
+    graph: &mut Graph,
+    change: &Change,
+    limits: &Limits,
+) -> Result<(), Stop>
+    requires room { graph.old.room ≡ no_room }
+    ensures made { OnOk result (apply (change_of change.now) graph.old.graph limits.now ≡ Ok graph.new.graph) }
+    ensures room { OnOk result (graph.new.room ≡ no_room) }
+    ensures limit { IsErrOf result Stop.Limit → IsRefused (apply (change_of change.now) graph.old.graph limits.now) }
+{
+    match judge(graph, change, limits) {
+        Ok(Verdict::New) => {
+            let staged = stage(alloc, graph, change)?;
+            commit(graph, staged);
+            Ok(())
+        }
+        Ok(Verdict::Same) => Ok(()),
+        Err(_) => Err(Stop::Limit),
+    }
+}
+
+/// Adds a node, and gives its number.
+pub(crate) fn add_node(
+    alloc: Global,
+    graph: &mut Graph,
+    node: &Change,
+    limits: &Limits,
+) -> Result<NodeId, Stop>
+    requires room { graph.old.room ≡ no_room }
+    ensures made { OnOk result (apply (change_of node.now) graph.old.graph limits.now ≡ Ok graph.new.graph) }
+    ensures room { OnOk result (graph.new.room ≡ no_room) }
+    ensures number { IfOk result (λ n. n ≡ length graph.old.graph.given) }
+    ensures limit { IsErrOf result Stop.Limit → IsRefused (apply (change_of node.now) graph.old.graph limits.now) }
+{
+    let number = graph.created();
+    make(alloc, graph, node, limits)?;
+    Ok(number)
+}

@@ -1,0 +1,56 @@
+// The labels of terms.
+ghost use Rattle.std.specs.Prelude.{◌≡◌, IfOk, codes};
+ghost use Rattle.graph_load.specs.Loading.{term_label};
+
+use graph_update::Change;
+use px_base::{Memory, Text};
+use std::alloc::Global;
+use std::marker::Model;
+use triples_read::Term;
+
+/// The changes that add the node of a term, one for each kind of term.
+#[derive(Drop)]
+pub(crate) struct Kinds {
+    iri: Change,
+    blank: Change,
+    literal: Change,
+}
+
+impl Model for Kinds {
+    ghost use Rattle.std.specs.Prelude.{⊤, ◌≡◌, codes};
+    ghost use Rattle.graph_update.specs.declared.changes.Change.TheVariants.{Node as node_of_change};
+
+    ghost Value = { ⊤ };
+
+    ghost view = { λ _. tt };
+
+    ghost invariant = { λ k. (k.iri ≡ node_of_change (codes "iri")) × (k.blank ≡ node_of_change (codes "blank")) × (k.literal ≡ node_of_change (codes "literal")) };
+}
+
+fn labelled(alloc: Global, label: &str) -> Result<Change, Memory>
+    ensures { IfOk result (λ c. c ≡ Change.Node label.now) }
+{
+    Ok(Change::Node(Text::from_string(String::from_str(alloc, label)?)))
+}
+
+impl Kinds {
+    /// The three labels are made once.
+    pub(crate) fn new(alloc: Global) -> Result<Kinds, Memory> {
+        Ok(Kinds {
+            iri: labelled(alloc, "iri")?,
+            blank: labelled(alloc, "blank")?,
+            literal: labelled(alloc, "literal")?,
+        })
+    }
+
+    /// The change that adds the node of the term.
+    pub(crate) fn node(&self, term: &Term) -> &Change
+        ensures { result.now ≡ Change.Node (term_label term.now) }
+    {
+        match term {
+            Term::Iri(_) => &self.iri,
+            Term::Blank(_) => &self.blank,
+            Term::Literal { .. } => &self.literal,
+        }
+    }
+}

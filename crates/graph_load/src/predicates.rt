@@ -1,0 +1,102 @@
+// The predicates of the triples that are loaded.
+ghost use Rattle.std.specs.Prelude.{◌≡◌, ◌<◌, ◌^◌, ◌++◌, ◌∷◌, [], length, position, bytes_eq, Some, None, OnOk, IfOk, false};
+ghost use Rattle.std.specs.List.{list_any};
+ghost use Rattle.graph_load.specs.Loading.{predicate_label};
+ghost use Rattle.graph_load.specs.Places.{predicate_at, with_predicate};
+
+use graph_update::Change;
+use indexmap::IndexMap;
+use px_base::{Memory, Text};
+use std::alloc::Global;
+use std::marker::Model;
+use triples_read::{Term, write_term};
+
+/// The predicates, each once, in the order in which they came. Beside each stands the change that adds the
+/// node of a triple with it, so that a label is spelled once and not for each triple. They are found by hash.
+#[derive(Drop)]
+pub(crate) struct Predicates {
+    table: IndexMap<Text, Change>,
+}
+
+impl Model for Predicates {
+    ghost use Rattle.std.specs.Prelude.{List, ℕ, ◌≤◌, ◌^◌, length};
+    ghost use Rattle.std.specs.Map.{keys_of};
+    ghost use Rattle.graph_load.specs.Places.{AddLabels};
+
+    ghost Value = { List (List ℕ) };
+
+    ghost view = { λ p. keys_of p.table.entries };
+
+    ghost invariant = { λ p. (length p.table.entries ≤ 2 ^ 30) × AddLabels p.table.entries };
+}
+
+// The change that adds the node of a triple with the predicate.
+fn node_by(alloc: Global, predicate: &Text) -> Result<Change, Memory>
+    ensures { IfOk result (λ c. c ≡ Change.Node (predicate_label predicate.now)) }
+{
+    let term = Term::Iri(predicate.copy(alloc)?);
+    Ok(Change::Node(write_term(alloc, &term)?))
+}
+
+impl Predicates {
+    /// No predicates.
+    pub(crate) fn new(alloc: Global) -> Predicates
+        ensures { result ≡ [] }
+    {
+        Predicates {
+            table: IndexMap::new(alloc),
+        }
+    }
+
+    /// How many there are.
+    pub(crate) fn len(&self) -> u32
+        ensures { result ≡ length self.now }
+    {
+        self.table.len() as u32
+    }
+
+    /// The place of the predicate.
+    pub(crate) fn find(&self, iri: &Text) -> Option<u32>
+        ensures { result ≡ position (bytes_eq iri.now) self.now }
+    {
+        let place = self.table.get_index_of(iri)?;
+        Some(place as u32)
+    }
+
+    /// The change that adds the node of a triple with the predicate at that place.
+    pub(crate) fn node(&self, place: u32) -> &Change
+        requires { place < length self.now }
+        ensures { result.now ≡ Change.Node (predicate_label (predicate_at self.now place)) }
+    {
+        let Some((_, node)) = self.table.get_index(place as usize) else {
+            unreachable!()
+        };
+        node
+    }
+
+    // Puts in a predicate that isn't there.
+    fn add(&mut self, alloc: Global, iri: Text) -> Result<(), Memory>
+        requires few { length self.old < 2 ^ 30 }
+        requires absent { list_any (bytes_eq iri) self.old ≡ false }
+        ensures { OnOk result (self.new ≡ self.old ++ iri ∷ []) }
+    {
+        let node = node_by(alloc, &iri)?;
+        self.table.insert(iri, node)?;
+        Ok(())
+    }
+
+    /// The place of the predicate, which is put in where it isn't there.
+    pub(crate) fn intern(&mut self, alloc: Global, iri: Text) -> Result<u32, Memory>
+        requires few { length self.old < 2 ^ 30 }
+        ensures added { OnOk result (self.new ≡ with_predicate self.old iri) }
+        ensures place { IfOk result (λ p. position (bytes_eq iri) self.new ≡ Some p) }
+        ensures at { IfOk result (λ p. predicate_at self.new p ≡ iri) }
+    {
+        if let Some(place) = self.find(&iri) {
+            return Ok(place);
+        }
+        let place = self.len();
+        self.add(alloc, iri)?;
+        Ok(place)
+    }
+}
