@@ -1,11 +1,13 @@
 #!/usr/bin/env python3
-"""Runs a script with its Nth allocation failing, for N = 1, 2, 3 and so on until a run succeeds.
+"""Runs a script with its Nth allocation failing, for N = 1, 2, 3 and so on.
 
 fail_allocations.py SCRIPT [COUNT]
 
 Each run must end with the status 7 and a front of what the script prints, or as it ends where no
-allocation fails. COUNT runs go on at a time, 4 where none is given. The program is compiled by `rt try`,
-and nothing is proved; the gate doesn't run this.
+allocation fails. A table that can't grow far may try to grow less, so one whole run doesn't show that
+the script has no more allocations: the tool ends after as many whole runs in a row as LAST says. COUNT
+runs go on at a time, 4 where none is given. The program is compiled by `rt try`, and nothing is proved;
+the gate doesn't run this.
 """
 import concurrent.futures
 import pathlib
@@ -17,6 +19,8 @@ PROGRAM = ROOT / "crates" / "pathindex_main"
 NO_MEMORY = 7
 # the statuses of a whole run
 ENDINGS = 0, 1, 4
+# how many whole runs in a row end the tool
+LAST = 8
 
 
 def run(script, failing):
@@ -46,17 +50,19 @@ def main():
     whole = run(script, None)
     if whole[0] not in ENDINGS or not whole[1]:
         sys.exit(f"fail_allocations.py: where no allocation fails, the run ends with {whole[0]} and {whole[1]!r}")
-    tried = 0
+    failed, row, next_number = 0, 0, 1
     with concurrent.futures.ThreadPoolExecutor(count) as pool:
-        while True:
-            numbers = range(tried + 1, tried + 1 + count)
+        while row < LAST:
+            numbers = range(next_number, next_number + count)
+            next_number += count
             for failing, (status, output) in zip(numbers, pool.map(lambda n: run(script, n), numbers)):
-                tried += 1
                 if judge(whole, failing, status, output):
-                    if tried == 1:
-                        sys.exit("fail_allocations.py: no allocation failed")
-                    print(f"{tried - 1} allocations failed, one a run: each run ended with the status 7 and a front")
-                    return
+                    row += 1
+                else:
+                    failed, row = failed + 1, 0
+    if failed == 0:
+        sys.exit("fail_allocations.py: no allocation failed")
+    print(f"{next_number - 1} runs: {failed} ended with the status 7 and a front, the others whole")
 
 
 if __name__ == "__main__":
