@@ -1,4 +1,5 @@
 pub mod Positions
+pub mod Pieces
 pub mod Tables
 pub mod EdgeLists
 pub mod Takings

@@ -21,10 +21,10 @@ prefix_len-take p (suc n) (x ∷ xs) =
       | false ↦ omega arith
     ]
 
-missing : (k m : ℕ) → cond (nat_lt k m) (Some k) None ≡ None → m ≤ k
+pub missing : (k m : ℕ) → cond (nat_lt k m) (Some k) None ≡ None → m ≤ k
 missing k m e = grind (arith, nat_tests)
 
-is_missing : (k m : ℕ) → m ≤ k → cond (nat_lt k m) (Some k) None ≡ None
+pub is_missing : (k m : ℕ) → m ≤ k → cond (nat_lt k m) (Some k) None ≡ None
 is_missing k m h = grind (arith, nat_tests)
 
 module _ {X : Type 0} (p : X → Bool) (xs : List X) (n : ℕ) where

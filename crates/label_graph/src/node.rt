@@ -1,5 +1,5 @@
 // The nodes of a graph, and their lists of neighbours.
-ghost use Rattle.std.specs.Prelude.{◌≡◌, ◌<◌, ◌+◌, ◌==◌, ◌++◌, ◌∷◌, [], ℕ, if◌then◌else◌, Some, None, OnOk, vec_len, vec_capacity, slice_set, nat_eq, position};
+ghost use Rattle.std.specs.Prelude.{◌≡◌, ◌<◌, ◌+◌, ◌==◌, ◌++◌, ◌∷◌, [], ℕ, if◌then◌else◌, false, Some, None, OnOk, ◌≤◌, length, take, vec_len, vec_capacity, slice_set, nat_eq, position};
 ghost use Rattle.std.specs.List.{IsDistinct};
 ghost use Rattle.px_spec.specs.Members.{has};
 ghost use Rattle.label_graph.specs.Nodes.{labels_of, number_at, children_of, parents_of, Mirrors, SameNodes, HasRoom, IsWithout, LacksEdge};
@@ -7,6 +7,9 @@ ghost use Rattle.label_graph.specs.Nodes.{labels_of, number_at, children_of, par
 use px_base::{Memory, NodeId};
 use smallvec::SmallVec;
 use std::alloc::Global;
+
+/// How many numbers of a long list are searched at once.
+const PIECE: usize = 256;
 
 /// One node: the number of its label in the table, or none where the node is gone, and its
 /// neighbours, each once.
@@ -144,5 +147,33 @@ fn take_out(list: &mut SmallVec<u32, 4>, n: u32)
 fn place_of(list: &[u32], n: u32) -> Option<usize>
     ensures { result ≡ position (nat_eq n) list.now }
 {
+    let front = front_without(list, n);
+    let at = place_near(&list[front..], n)?;
+    Some(front + at)
+}
+
+// The same, number by number.
+fn place_near(list: &[u32], n: u32) -> Option<usize>
+    ensures { result ≡ position (nat_eq n) list.now }
+{
     list.iter().position(|m| n == *m)
+}
+
+// How many places at the front don't have the number, in whole pieces. A piece is searched as `contains` does it,
+// several numbers at a time.
+fn front_without(list: &[u32], n: u32) -> usize
+    ensures within { result ≤ length list.now }
+    ensures without { has (take result list.now) n ≡ false }
+{
+    let mut front = 0;
+    while list.len() - front >= PIECE && !is_among(&list[front..front + PIECE], n) {
+        front += PIECE;
+    }
+    front
+}
+
+fn is_among(list: &[u32], n: u32) -> bool
+    ensures { result ≡ has list.now n }
+{
+    list.contains(&n)
 }

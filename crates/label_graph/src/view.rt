@@ -31,6 +31,14 @@ impl<'a> GraphView<'a> {
         GraphView { graph }
     }
 
+    /// How many node numbers were given, those of gone nodes too: at most 2^30.
+    pub fn created(&self) -> u32
+        ensures count { result ≡ length self.now.given }
+        ensures few { result ≤ 2 ^ 30 }
+    {
+        self.graph.created()
+    }
+
     /// How many edges there are: at most 2^30. What is read of the view is the graph itself.
     pub fn edge_count(&self) -> u32
         ensures count { result ≡ edge_count self.now }
@@ -53,7 +61,7 @@ impl<'a> Digraph for GraphView<'a> {
     ghost edge = { is_linked };
 
     fn size(&self) -> u32 {
-        self.graph.created()
+        self.created()
     }
 
     fn is_node(&self, n: NodeId) -> bool {

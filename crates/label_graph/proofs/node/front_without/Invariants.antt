@@ -1,0 +1,9 @@
+use Rattle.std.proofs.Common.{◌≡◌, ◌≤◌, ◌-◌, false, length, take}
+use Rattle.px_spec.specs.Members.{has}
+use Rattle.label_graph.proofs.node.front_without.Given as goal
+
+abbrev pub invariant-loop-front : goal.invariant-loop-front
+invariant-loop-front l = record { within : l.front ≤ length l.list; without : has (take l.front l.list) l.n ≡ false }
+
+abbrev pub decreases-loop-front : goal.decreases-loop-front
+decreases-loop-front l = length l.list - l.front
