@@ -8,20 +8,20 @@ use std::sync::ledger::{Blank, Ledger};
 use std::test::Fail;
 
 #[test]
-fn texts_are_made_and_replaced(rt: HostRuntime) -> Result<(), Fail> {
+fn texts_are_made_and_compared(rt: HostRuntime) -> Result<(), Fail> {
     let alloc = rt.alloc();
-    let mut text = Text::new(alloc);
-    text.replace("né".as_bytes())?;
-    let kept = text.copy(alloc)?;
-    let refused = text.replace(b"a\xFF");
-    let seen = (kept.as_bytes(), text.as_str(), refused);
+    let text = Text::from_bytes(alloc, "né".as_bytes())?;
+    let copy = text.copy(alloc)?;
+    let empty = Text::from_bytes(alloc, b"")?;
+    let refused = Text::from_bytes(alloc, b"a\xFF").err();
+    let seen = (copy.as_bytes(), empty.as_str(), refused);
     assert_eq!(rt;
         seen,
-        (b"n\xC3\xA9".as_slice(), "", Err(TextError::NotUtf8))
+        (b"n\xC3\xA9".as_slice(), "", Some(TextError::NotUtf8))
     );
-    assert!(rt; kept != text && text < kept);
+    assert!(rt; copy == text && empty < text);
     assert_eq!(rt;
-        format!(in alloc; "{kept:?}")?.as_str(),
+        format!(in alloc; "{text:?}")?.as_str(),
         "Text { content: \"né\" }"
     );
     Ok(())

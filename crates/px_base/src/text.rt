@@ -1,5 +1,5 @@
 // Text as a value of its own.
-ghost use Rattle.std.specs.Prelude.{◌≡◌, ◌↔◌, [], IsUtf8, IfOk, OnOk, OnErr, IsErrOf, string_bytes};
+ghost use Rattle.std.specs.Prelude.{◌≡◌, ◌↔◌, IsUtf8, IfOk, OnOk, IsErrOf, string_bytes};
 
 use crate::Memory;
 use std::alloc::Global;
@@ -33,15 +33,6 @@ impl Model for Text {
 }
 
 impl Text {
-    /// The empty text. It takes no memory yet.
-    pub fn new(alloc: Global) -> Text
-        ensures { result ≡ [] }
-    {
-        Text {
-            content: String::new(alloc),
-        }
-    }
-
     /// The text of these bytes. `NotUtf8` exactly where they aren't UTF-8.
     pub fn from_bytes(alloc: Global, bytes: &[u8]) -> Result<Text, TextError>
         ensures ok { IfOk result (λ t. t ≡ bytes.now) }
@@ -62,24 +53,6 @@ impl Text {
         ensures { result ≡ string_bytes content }
     {
         Text { content }
-    }
-
-    /// Makes it the text of these bytes, in the memory that it has where that is enough. `NotUtf8`
-    /// exactly where they aren't UTF-8. After an error the text is empty.
-    pub fn replace(&mut self, bytes: &[u8]) -> Result<(), TextError>
-        ensures ok { OnOk result (self.new ≡ bytes.now) }
-        ensures utf8 { OnOk result (IsUtf8 bytes.now) }
-        ensures not_utf8 { IsErrOf result TextError.NotUtf8 ↔ ¬ IsUtf8 bytes.now }
-        ensures err { OnErr result (self.new ≡ []) }
-    {
-        self.content.clear();
-        match str::from_utf8(bytes) {
-            Ok(content) => match self.content.push_str(content) {
-                Ok(()) => Ok(()),
-                Err(_) => Err(TextError::Memory),
-            },
-            Err(_) => Err(TextError::NotUtf8),
-        }
     }
 
     /// Its bytes.
