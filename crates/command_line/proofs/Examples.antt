@@ -1,0 +1,106 @@
+-- The forms of worked words, and laws on words that are of no form.
+use Rattle.std.proofs.Common.{◌≡◌, ◌∙◌, ℕ, List, [], ◌∷◌, Option, Some, None, true, false, codes, refl, ap}
+use Rattle.clap.proofs.OnLiterals.{clap_on_literals}
+use Rattle.command_line.specs.Forms.{Form, neither, runs}
+use Rattle.command_line.specs.Givens.{level_of, run_with}
+use Rattle.command_line.specs.Usage.{IsPlainText}
+use Rattle.command_line.specs.Words.{form_of, form_read}
+use Rattle.command_line.proofs.Marks.{read_marked}
+use Rattle.command_line.proofs.Usages.{plain_form}
+
+-- ---- worked words
+
+abbrev run_of : Option (List ℕ) → ℕ → Form
+run_of graph k = runs (record { script = codes "s"; graph = graph; k = k })
+
+script_alone : form_of (codes "s" ∷ []) ≡ run_of None 2
+unfolding clap_on_literals
+script_alone = refl
+
+all_three : form_of (codes "s" ∷ codes "--graph" ∷ codes "g" ∷ codes "--k" ∷ codes "0" ∷ []) ≡ run_of (Some (codes "g")) 0
+unfolding clap_on_literals
+all_three = refl
+
+highest_level : form_of (codes "s" ∷ codes "--k" ∷ codes "8" ∷ []) ≡ run_of None 8
+unfolding clap_on_literals
+highest_level = refl
+
+graph_first : form_of (codes "--graph" ∷ codes "g" ∷ codes "s" ∷ []) ≡ run_of (Some (codes "g")) 2
+unfolding clap_on_literals
+graph_first = refl
+
+-- what clap offers beside the usage line's words
+with_equals_sign : form_of (codes "s" ∷ codes "--graph=g" ∷ []) ≡ run_of (Some (codes "g")) 2
+unfolding clap_on_literals
+with_equals_sign = refl
+
+-- a script may be named as a subcommand would be
+named_help : form_of (codes "help" ∷ []) ≡ runs (record { script = codes "help"; graph = None; k = 2 })
+unfolding clap_on_literals
+named_help = refl
+
+-- to clap an empty word is a text like others
+empty_name : form_of ([] ∷ []) ≡ runs (record { script = []; graph = None; k = 2 })
+unfolding clap_on_literals
+empty_name = refl
+
+-- ---- words of no form
+
+no_words : form_of [] ≡ neither
+unfolding clap_on_literals
+no_words = refl
+
+call_for_help : form_of (codes "--help" ∷ []) ≡ neither
+unfolding clap_on_literals
+call_for_help = refl
+
+help_behind : form_of (codes "s" ∷ codes "--help" ∷ []) ≡ neither
+unfolding clap_on_literals
+help_behind = refl
+
+level_nine : form_of (codes "s" ∷ codes "--k" ∷ codes "9" ∷ []) ≡ neither
+unfolding clap_on_literals
+level_nine = refl
+
+two_digits : form_of (codes "s" ∷ codes "--k" ∷ codes "02" ∷ []) ≡ neither
+unfolding clap_on_literals
+two_digits = refl
+
+unknown_option : form_of (codes "--make" ∷ codes "1" ∷ []) ≡ neither
+unfolding clap_on_literals
+unknown_option = refl
+
+no_script : form_of (codes "--graph" ∷ codes "g" ∷ []) ≡ neither
+unfolding clap_on_literals
+no_script = refl
+
+no_text : form_of (codes "s" ∷ codes "--graph" ∷ []) ≡ neither
+unfolding clap_on_literals
+no_text = refl
+
+lone_hyphens : form_of (codes "--" ∷ []) ≡ neither
+unfolding clap_on_literals
+lone_hyphens = refl
+
+-- ---- words of no form, for all plain texts
+
+second_script : (s t : List ℕ) → IsPlainText s → IsPlainText t → form_of (s ∷ t ∷ []) ≡ neither
+unfolding clap_on_literals
+second_script s t p q = ap form_read (read_marked ((true, s) ∷ (true, t) ∷ []) (p, (q, tt)))
+
+repeated_graph : (s g h : List ℕ) → IsPlainText s → IsPlainText g → IsPlainText h
+    → form_of (s ∷ codes "--graph" ∷ g ∷ codes "--graph" ∷ h ∷ []) ≡ neither
+unfolding clap_on_literals
+repeated_graph s g h p q r =
+    ap form_read (read_marked ((true, s) ∷ (false, codes "--graph") ∷ (true, g) ∷ (false, codes "--graph") ∷ (true, h) ∷ []) (p, (q, (r, tt))))
+
+repeated_level : (s m n : List ℕ) → IsPlainText s → IsPlainText m → IsPlainText n
+    → form_of (s ∷ codes "--k" ∷ m ∷ codes "--k" ∷ n ∷ []) ≡ neither
+unfolding clap_on_literals
+repeated_level s m n p q r =
+    ap form_read (read_marked ((true, s) ∷ (false, codes "--k") ∷ (true, m) ∷ (false, codes "--k") ∷ (true, n) ∷ []) (p, (q, (r, tt))))
+
+-- a text that names no level
+no_level : (s n : List ℕ) → IsPlainText s → IsPlainText n → level_of n ≡ None → form_of (s ∷ codes "--k" ∷ n ∷ []) ≡ neither
+no_level s n p q none =
+    plain_form (record { script = s; graph = None; k = Some n }) (p, tt, q) ∙ ap (run_with (Some s) None) none

@@ -1,0 +1,5 @@
+pub mod NoFlag
+pub mod Marks
+pub mod Usages
+pub mod Reading
+pub mod Examples

@@ -1,0 +1,22 @@
+-- What the words of the command line can ask for.
+use Rattle.std.specs.Prelude.{ℕ, ◌≤◌, ⊤, List, Option}
+
+-- what a script is run with
+pub record Settings : Type 0 where
+  -- the name of the script's file
+  pub script : List ℕ
+  -- the name of the graph's file, if one is loaded first
+  pub graph : Option (List ℕ)
+  -- the highest level of the indexes that are kept
+  pub k : ℕ
+
+pub data Form : Type 0 where
+  -- a script is run
+  runs : Settings → Form
+  -- the words are of no form
+  neither : Form
+
+-- a level, where there is one, is at most 8
+abbrev pub HasLevel : Form → Type 0
+HasLevel (runs s) = s.k ≤ 8
+HasLevel neither = ⊤

@@ -1,0 +1,5 @@
+pub mod Forms
+pub mod Givens
+pub mod Words
+pub mod Usage
+pub mod Shown

@@ -1,0 +1,30 @@
+-- What the code's values say, in the words of the definitions.
+use Rattle.std.specs.Prelude.{◌≡◌, ℕ, List, Option, Some, None, option_map, true, false}
+use Rattle.clap.specs.Words.{found_of, matches_of, rows_of}
+use Rattle.clap.specs.declared.parser.matches.ArgMatches.{ArgMatches}
+use Rattle.command_line.specs.Forms.{Form, Settings, runs, neither}
+use Rattle.command_line.specs.Givens.{Given}
+use Rattle.command_line.specs.Words.{command, is_accepted}
+use Rattle.command_line.specs.declared.form.Form.{Form as FormSeen}
+use Rattle.command_line.specs.declared.form.Form.TheVariants.{Run, Neither}
+use Rattle.command_line.specs.declared.form.Settings.{Settings as SettingsSeen}
+use Rattle.command_line.specs.declared.given.Given.{Given as GivenSeen}
+
+abbrev pub shown_settings : SettingsSeen → Settings
+shown_settings s = record { script = s.script.now; graph = option_map (λ t. t.now) s.graph; k = s.k }
+
+abbrev pub shown : FormSeen → Form
+shown (Run s) = runs (shown_settings s)
+shown Neither = neither
+
+abbrev pub shown_given : GivenSeen → Given
+shown_given g = record {
+  script = option_map (λ t. t.now) g.script;
+  graph = option_map (λ t. t.now) g.graph;
+  k = option_map (λ t. t.now) g.k;
+}
+
+-- clap's matches of the words; none where it refuses them, and only there
+abbrev pub Matches : List (List ℕ) → Option ArgMatches → Type 0
+Matches words None = is_accepted words ≡ false
+Matches words (Some m) = (is_accepted words ≡ true) × (rows_of (found_of m) ≡ matches_of command words)

@@ -1,0 +1,54 @@
+-- The words of the usage line, and the same in another order.
+use Rattle.std.specs.Prelude.{ℕ, ◌≢◌, List, [], ◌∷◌, ◌++◌, Option, Some, None, IfSome, codes}
+use Rattle.command_line.specs.Givens.{Given}
+
+-- SCRIPT [--graph FILE] [--k N]
+pub record Usage : Type 0 where
+  pub script : List ℕ
+  pub graph : Option (List ℕ)
+  pub k : Option (List ℕ)
+
+-- an option and its text
+abbrev pub option_words : List ℕ → Option (List ℕ) → List (List ℕ)
+option_words name None = []
+option_words name (Some text) = name ∷ text ∷ []
+
+abbrev pub script_words : Usage → List (List ℕ)
+script_words u = u.script ∷ []
+
+abbrev pub graph_words : Usage → List (List ℕ)
+graph_words u = option_words (codes "--graph") u.graph
+
+abbrev pub level_words : Usage → List (List ℕ)
+level_words u = option_words (codes "--k") u.k
+
+-- in the order of the usage line
+abbrev pub words_of : Usage → List (List ℕ)
+words_of u = script_words u ++ (graph_words u ++ level_words u)
+
+-- the other orders
+pub data Order : Type 0 where
+  script_level_graph : Order
+  graph_script_level : Order
+  graph_level_script : Order
+  level_script_graph : Order
+  level_graph_script : Order
+
+abbrev pub words_in : Order → Usage → List (List ℕ)
+words_in script_level_graph u = script_words u ++ (level_words u ++ graph_words u)
+words_in graph_script_level u = graph_words u ++ (script_words u ++ level_words u)
+words_in graph_level_script u = graph_words u ++ (level_words u ++ script_words u)
+words_in level_script_graph u = level_words u ++ (script_words u ++ graph_words u)
+words_in level_graph_script u = level_words u ++ (graph_words u ++ script_words u)
+
+-- just these texts
+abbrev pub given_by : Usage → Given
+given_by u = record { script = Some u.script; graph = u.graph; k = u.k }
+
+-- not empty, and no hyphen (45) first
+abbrev pub IsPlainText : List ℕ → Type 0
+IsPlainText [] = ⊥
+IsPlainText (b ∷ bs) = b ≢ 45
+
+abbrev pub HasPlainTexts : Usage → Type 0
+HasPlainTexts u = IsPlainText u.script × IfSome u.graph IsPlainText × IfSome u.k IsPlainText

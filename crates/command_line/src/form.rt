@@ -1,0 +1,92 @@
+// What the command line asks for.
+ghost use Rattle.std.specs.Prelude.{◌≡◌, IfOk, false, map, option_map, string_bytes};
+ghost use Rattle.command_line.specs.Forms.{neither, HasLevel};
+ghost use Rattle.command_line.specs.Givens.{form_given, level_or_default as level_given, level_of as level_in};
+ghost use Rattle.command_line.specs.Words.{form_of, form_read, is_accepted};
+ghost use Rattle.command_line.specs.Shown.{shown, shown_given};
+ghost use Rattle.command_line.specs.Usage.{HasPlainTexts, Order, Usage, given_by, words_in, words_of};
+
+use crate::given::{Given, read_given};
+use px_base::Memory;
+use std::alloc::Global;
+
+/// What a script is run with.
+#[derive(Clone, Copy, Debug, PartialEq, Eq)]
+pub struct Settings<'a> {
+    /// The name of the script's file.
+    pub script: &'a str,
+    /// The name of the graph's file, if one is loaded before the script.
+    pub graph: Option<&'a str>,
+    /// The highest level of the A(k)-indexes that are kept, from 0 to 8.
+    pub k: u32,
+}
+
+/// What the words of the command line ask for.
+#[derive(Clone, Copy, Debug, PartialEq, Eq)]
+pub enum Form<'a> {
+    /// A script is run.
+    Run(Settings<'a>),
+    /// The words are of no form.
+    Neither,
+}
+
+// The level that the text names: one of the words `0` to `8`.
+fn level_of(text: &str) -> Option<u32>
+    ensures { result ≡ level_in text.now }
+{
+    match text.as_bytes() {
+        [byte] if b'0' <= *byte && *byte <= b'8' => Some((*byte - b'0') as u32),
+        _ => None,
+    }
+}
+
+// The level of the option's text, and 2 where the option isn't there.
+fn level_or_default(text: Option<&str>) -> Option<u32>
+    ensures { result ≡ level_given (option_map (λ t. t.now) text.entry) }
+{
+    match text {
+        Some(text) => level_of(text),
+        None => Some(2),
+    }
+}
+
+fn run_with<'a>(given: &Given<'a>) -> Form<'a>
+    ensures { shown result ≡ form_given (shown_given given.now) }
+{
+    let Some(script) = given.script else {
+        return Form::Neither;
+    };
+    match level_or_default(given.k) {
+        Some(k) => Form::Run(Settings {
+            script,
+            graph: given.graph,
+            k,
+        }),
+        None => Form::Neither,
+    }
+}
+
+fn judge<'a>(given: Option<Given<'a>>) -> Form<'a>
+    ensures { shown result ≡ form_read (option_map shown_given given.entry) }
+{
+    match given {
+        Some(given) => run_with(&given),
+        None => Form::Neither,
+    }
+}
+
+/// What the words after the program's name ask for: `SCRIPT [--graph FILE] [--k N]`, where N is one of the
+/// words `0` to `8`, and 2 where the option isn't there. The words are those that `clap` reads for this
+/// command. All that it refuses are of no form, a call for help too. The time is linear in the words.
+pub fn read_words<'a>(alloc: Global, words: &'a [String]) -> Result<Form<'a>, Memory>
+    ensures exact { IfOk result (λ f. shown f ≡ form_of (map string_bytes words.entry.now)) }
+    // The words of the usage line, with texts that aren't empty and don't begin with a hyphen, give those texts.
+    ensures plain { (u : Usage) → map string_bytes words.entry.now ≡ words_of u → HasPlainTexts u → IfOk result (λ f. shown f ≡ form_given (given_by u)) }
+    // So they do in another order.
+    ensures reordered { (u : Usage) (o : Order) → map string_bytes words.entry.now ≡ words_in o u → HasPlainTexts u → IfOk result (λ f. shown f ≡ form_of (words_of u)) }
+    ensures refused { is_accepted (map string_bytes words.entry.now) ≡ false → IfOk result (λ f. shown f ≡ neither) }
+    ensures level { IfOk result (λ f. HasLevel (shown f)) }
+{
+    let given = read_given(alloc, words)?;
+    Ok(judge(given))
+}

@@ -1,0 +1,46 @@
+// Each form once, with ample memory.
+use super::*;
+use px_base::Memory;
+use std::alloc::Global;
+use std::process::Abort;
+use std::test::Fail;
+
+/// What the words ask for; blanks part the words.
+fn is_read_as(alloc: Global, line: &str, form: Form) -> Result<bool, Memory> {
+    let mut words: Vec<String> = Vec::new(alloc);
+    for word in line.split(' ') {
+        words.push(String::from_str(alloc, word)?)?;
+    }
+    Ok(read_words(alloc, &words)? == form)
+}
+
+fn run<'a>(graph: Option<&'a str>, k: u32) -> Form<'a> {
+    Form::Run(Settings {
+        script: "s",
+        graph,
+        k,
+    })
+}
+
+#[test]
+fn plain_words_name_a_script(rt: HostRuntime) -> Result<(), Fail> {
+    let rows = [
+        ("s", run(None, 2)),
+        ("s --graph g", run(Some("g"), 2)),
+        ("s --k 0", run(None, 0)),
+        ("s --graph g --k 8", run(Some("g"), 8)),
+        ("--graph g s", run(Some("g"), 2)),
+    ];
+    for (line, form) in rows {
+        assert!(rt; is_read_as(rt.alloc(), line, form)?, "at {line}");
+    }
+    Ok(())
+}
+
+#[test]
+fn other_words_are_of_no_form(rt: HostRuntime) -> Result<(), Fail> {
+    for line in ["--k 2", "s --k 9", "s t"] {
+        assert!(rt; is_read_as(rt.alloc(), line, Form::Neither)?, "at {line}");
+    }
+    Ok(())
+}
