@@ -16,7 +16,7 @@ prefix_len-cut p (x ∷ xs) b h s =
     let k = both (p x) (list_all p xs) h in
     ap (λ t. cond t (1 + prefix_len p (xs ++ b)) 0) k.0 ∙ omega (arith, prefix_len-cut p xs b k.1 s)
 
-drop_front : (a b : List ℕ) → drop (length a) (a ++ b) ≡ b
+pub drop_front : (a b : List ℕ) → drop (length a) (a ++ b) ≡ b
 drop_front [] b = refl
 drop_front (x ∷ xs) b = drop_front xs b
 
@@ -42,15 +42,4 @@ front_passes p (x ∷ xs) =
     ] refl
   where
     one_more : (n : ℕ) → 1 + n ≡ suc n
-    one_more n = omega arith
-
-pub back_stops : (p : ℕ → Bool) (xs : List ℕ) → Stops p (drop (prefix_len p xs) xs)
-back_stops p [] = tt
-back_stops p (x ∷ xs) =
-    elim (p x) as (λ t. p x ≡ t → Stops p (drop (cond t (1 + prefix_len p xs) 0) (x ∷ xs))) [
-      | true ↦ λ e. subst (λ n. Stops p (drop n (x ∷ xs))) (one_more (prefix_len p xs)) (back_stops p xs)
-      | false ↦ λ e. e
-    ] refl
-  where
-    one_more : (n : ℕ) → suc n ≡ 1 + n
     one_more n = omega arith

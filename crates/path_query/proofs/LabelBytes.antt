@@ -1,11 +1,11 @@
--- The bytes of a label: ASCII, no blank and no '/'.
+-- The bytes of names: ASCII, a letter first, and no blank among them.
 use Rattle.std.proofs.Common.{◌≡◌, ℕ, zero, suc, ◌<◌, Bool, true, false, List, [], ◌∷◌, length, refl, sym, arith, true≢false}
 use Rattle.std.specs.Prelude.{◌&&◌, not, ◌==◌, slice_index, IsUtf8}
 use Rattle.std.specs.List.{list_all}
 use Rattle.std.proofs.lemmas.Bool.Decides.{nat_tests}
 use Rattle.std.proofs.lemmas.Str.{IsUtf8-from_ascii}
-use Rattle.px_spec.specs.Words.{is_blank, is_letter, is_name_byte, is_name, IsLabel}
-use Rattle.path_query.specs.Spelling.{is_slash}
+use Rattle.px_spec.specs.Words.{is_blank, is_letter, is_name_byte, is_name}
+use Rattle.path_query.specs.Labels.{IsPlainLabel}
 
 pub both : (x y : Bool) → (x && y) ≡ true → (x ≡ true) × (y ≡ true)
 both true true h = (refl, refl)
@@ -18,30 +18,8 @@ name_byte_small b h = grind (arith, nat_tests)
 letter_small : (b : ℕ) → is_letter b ≡ true → b < 128
 letter_small b h = grind (arith, nat_tests)
 
-name_byte_no_blank : (b : ℕ) → is_name_byte b ≡ true → not (is_blank b) ≡ true
-name_byte_no_blank b h = grind (arith, nat_tests)
-
-letter_no_blank : (b : ℕ) → is_letter b ≡ true → not (is_blank b) ≡ true
-letter_no_blank b h = grind (arith, nat_tests)
-
-name_byte_no_slash : (b : ℕ) → is_name_byte b ≡ true → not (is_slash b) ≡ true
-name_byte_no_slash b h = grind (arith, nat_tests)
-
-letter_no_slash : (b : ℕ) → is_letter b ≡ true → not (is_slash b) ≡ true
-letter_no_slash b h = grind (arith, nat_tests)
-
-blank_no_slash : (b : ℕ) → is_blank b ≡ true → not (is_slash b) ≡ true
-blank_no_slash b h = grind (arith, nat_tests)
-
--- a test that each byte of a kind passes
-pub all_by : (p q : ℕ → Bool) → ((b : ℕ) → p b ≡ true → q b ≡ true) → (xs : List ℕ) → list_all p xs ≡ true → list_all q xs ≡ true
-all_by p q f [] h = refl
-all_by p q f (x ∷ xs) h =
-    let a = both (p x) (list_all p xs) h in
-    both_true (q x) (list_all q xs) (f x a.0) (all_by p q f xs a.1)
-  where
-    both_true : (x y : Bool) → x ≡ true → y ≡ true → (x && y) ≡ true
-    both_true x y h k = rw (h, k) refl
+letter_in_name : (b : ℕ) → is_letter b ≡ true → is_name_byte b ≡ true
+letter_in_name b h = grind (arith, nat_tests)
 
 -- the first byte is a letter, and the others are name bytes
 pub record IsNamed (first : ℕ) (others : List ℕ) : Type 0 where
@@ -66,19 +44,12 @@ name_small (x ∷ xs) h (suc i) = small_at xs (named x xs h).name_bytes i
 pub letter_is_no_blank : (b : ℕ) → is_letter b ≡ true → is_blank b ≡ false
 letter_is_no_blank b h = grind (arith, nat_tests)
 
-pub label_utf8 : (w : List ℕ) → IsLabel w → IsUtf8 w
-label_utf8 w h = IsUtf8-from_ascii w (name_small w h.0)
+pub blank_ends_name : (b : ℕ) → is_blank b ≡ true → is_name_byte b ≡ false
+blank_ends_name b h = grind (arith, nat_tests)
 
-name_by : (q : ℕ → Bool) → ((b : ℕ) → is_letter b ≡ true → q b ≡ true) → ((b : ℕ) → is_name_byte b ≡ true → q b ≡ true)
-    → (w : List ℕ) → is_name w ≡ true → list_all q w ≡ true
-name_by q f g [] h = refl
-name_by q f g (x ∷ xs) h = let n = named x xs h in rw (f x n.letter) (all_by is_name_byte q g xs n.name_bytes)
+pub plain_utf8 : (w : List ℕ) → IsPlainLabel w → IsUtf8 w
+plain_utf8 w h = IsUtf8-from_ascii w (name_small w h.0)
 
-pub label_no_blank : (w : List ℕ) → IsLabel w → list_all (λ b. not (is_blank b)) w ≡ true
-label_no_blank w h = name_by (λ b. not (is_blank b)) letter_no_blank name_byte_no_blank w h.0
-
-pub label_no_slash : (w : List ℕ) → IsLabel w → list_all (λ b. not (is_slash b)) w ≡ true
-label_no_slash w h = name_by (λ b. not (is_slash b)) letter_no_slash name_byte_no_slash w h.0
-
-pub blanks_no_slash : (w : List ℕ) → list_all is_blank w ≡ true → list_all (λ b. not (is_slash b)) w ≡ true
-blanks_no_slash w h = all_by is_blank (λ b. not (is_slash b)) blank_no_slash w h
+pub name_bytes : (w : List ℕ) → is_name w ≡ true → list_all is_name_byte w ≡ true
+name_bytes [] h = refl
+name_bytes (x ∷ xs) h = let n = named x xs h in rw (letter_in_name x n.letter, n.name_bytes) refl

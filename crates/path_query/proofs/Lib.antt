@@ -1,5 +1,6 @@
 pub mod LabelBytes
 pub mod Cuts
+pub mod LabelLaws
 pub mod Spellings
 pub mod LabelNumbers
 pub mod Paths

@@ -1,105 +1,117 @@
 -- How a text is cut into the parts that spell an expression.
-use Rattle.std.proofs.Common.{◌≡◌, ℕ, Bool, true, false, List, [], ◌∷◌, ◌++◌, length, take, drop, refl, sym, ap, ◌∙◌, subst, true≢false, append-nil, eqb-true, arith, ◌<◌}
-use Rattle.std.specs.Prelude.{not}
-use Rattle.std.specs.List.{list_all, prefix_len, position_or_len}
+use Rattle.std.proofs.Common.{◌≡◌, ℕ, List, [], ◌∷◌, ◌++◌, length, take, drop, refl, sym, ap, ◌∙◌, subst, append-nil, append_assoc, eqb-true, length-append, arith, ◌<◌}
+use Rattle.std.proofs.Math.Seq.{take-append_seam}
+use Rattle.std.specs.List.{list_all, prefix_len}
 use Rattle.std.proofs.lemmas.List.{take-append-drop}
-use Rattle.std.proofs.lemmas.List.Folds.{list_all-append}
-use Rattle.px_spec.specs.Words.{is_blank, AreBlanks, IsLabel}
+use Rattle.px_spec.specs.Words.{is_blank, AreBlanks}
+use Rattle.path_query.specs.Labels.{SpellsLabel, IsLabelFront, EndsName}
 use Rattle.path_query.specs.Trees.{Atom, label, Item, Separator, slash, Seq, label_item, children}
-use Rattle.path_query.specs.Spelling.{is_slash, SpellsAtom, SpellsItem, SpellsRest, Spells, BeginsRest}
-use Rattle.path_query.proofs.LabelBytes.{both, label_no_blank, label_no_slash, blanks_no_slash, named, letter_is_no_blank}
-use Rattle.path_query.proofs.Cuts.{Stops, cut_at, front_passes, back_stops}
+use Rattle.path_query.specs.Spelling.{SpellsItem, SpellsRest, Spells, BeginsRest, IsItemFront}
+use Rattle.path_query.proofs.LabelBytes.{both, blank_ends_name}
+use Rattle.path_query.proofs.LabelLaws.{front_one, label_stops}
+use Rattle.path_query.proofs.Cuts.{Stops, cut_at, drop_front, front_passes}
 
--- the text from its first byte that is no blank
-abbrev pub start_of : List ℕ → List ℕ
-start_of text = drop (prefix_len is_blank text) text
+-- what follows the blanks in front
+abbrev pub past_blanks : List ℕ → List ℕ
+past_blanks text = drop (prefix_len is_blank text) text
 
-abbrev pub word_of : List ℕ → List ℕ
-word_of text = take (position_or_len is_blank (start_of text)) (start_of text)
+-- Where an item is at the front of the text: its label stands behind blanks, and no name goes on behind it; after more
+-- blanks comes the rest.
+pub record ItemParts (text : List ℕ) (i : Item) (rest : List ℕ) : Type 0 where
+  pub len : ℕ
+  pub label : List ℕ
+  pub item_is : i ≡ label_item label
+  pub front : IsLabelFront (past_blanks text) len label
+  pub ends : EndsName (drop len (past_blanks text))
+  pub rest_is : past_blanks (drop len (past_blanks text)) ≡ rest
 
--- what stands behind that word
-abbrev pub end_of : List ℕ → List ℕ
-end_of text = drop (position_or_len is_blank (start_of text)) (start_of text)
+rest_stops : (rest : List ℕ) → BeginsRest rest → Stops is_blank rest
+rest_stops [] h = tt
+rest_stops (x ∷ xs) h = ap is_blank (eqb-true x 47 h)
 
-pub item_made : (text : List ℕ) → IsLabel (word_of text) → AreBlanks (end_of text) → SpellsItem text (label_item (word_of text))
-item_made text l e = (
-  take (prefix_len is_blank text) text,
-  word_of text,
-  end_of text,
-  front_passes is_blank text,
-  (l, refl),
-  e,
-  sym (take-append-drop (prefix_len is_blank text) text)
-      ∙ ap (λ r. take (prefix_len is_blank text) text ++ r) (sym (take-append-drop (position_or_len is_blank (start_of text)) (start_of text))),
-)
+rest_ends : (rest : List ℕ) → BeginsRest rest → EndsName rest
+rest_ends [] h = tt
+rest_ends (x ∷ xs) h = subst (λ b. EndsName (b ∷ xs)) (sym (eqb-true x 47 h)) refl
 
--- a text that spells an item is its word and blanks around it
-pub record IsItem (text : List ℕ) (i : Item) : Type 0 where
-  pub spelled : IsLabel (word_of text)
-  pub after : AreBlanks (end_of text)
-  pub item_is : i ≡ label_item (word_of text)
+-- blanks and then a '/' or the end end a name
+after_ends : (after rest : List ℕ) → AreBlanks after → BeginsRest rest → EndsName (after ++ rest)
+after_ends [] rest h k = rest_ends rest k
+after_ends (x ∷ xs) rest h k = blank_ends_name x (both (is_blank x) (list_all is_blank xs) h).0
 
-blanks_stop : (w : List ℕ) → AreBlanks w → Stops (λ b. not (is_blank b)) w
-blanks_stop [] h = tt
-blanks_stop (x ∷ xs) h = ap not (both (is_blank x) (list_all is_blank xs) h).0
+label_parts : (text before word after rest t : List ℕ) → AreBlanks before → SpellsLabel word t → AreBlanks after
+    → text ≡ before ++ (word ++ (after ++ rest)) → BeginsRest rest → ItemParts text (label_item t) rest
+label_parts text before word after rest t blanks spelled blanks2 e begins =
+    let more : List ℕ = after ++ rest in
+    let from : past_blanks text ≡ word ++ more = (cut_at is_blank before (word ++ more) text e blanks (label_stops word t more spelled)).back in
+    let behind : drop (length word) (past_blanks text) ≡ more = ap (drop (length word)) from ∙ drop_front word more in
+    let taken : take (length word) (past_blanks text) ≡ word = ap (take (length word)) from ∙ take-append_seam word more in
+    record {
+      len = length word;
+      label = t;
+      item_is = refl;
+      front = (omega (arith, ap length from, length-append word more), subst (λ x. SpellsLabel x t) (sym taken) spelled);
+      ends = subst EndsName (sym behind) (after_ends after rest blanks2 begins);
+      rest_is = ap past_blanks behind ∙ (cut_at is_blank after rest more refl blanks2 (rest_stops rest begins)).back;
+    }
 
-label_stops : (t more : List ℕ) → IsLabel t → Stops is_blank (t ++ more)
-label_stops [] more l = absurd (true≢false (sym l.0))
-label_stops (x ∷ xs) more l = letter_is_no_blank x (named x xs l.0).letter
+pub item_parts : (text : List ℕ) (i : Item) (rest : List ℕ) → IsItemFront text i rest → ItemParts text i rest
+item_parts text i rest (item, spelled, e, begins) = at_atom i.atom spelled
+  where
+    at_atom : (a : Atom) → SpellsItem item (record { atom = a }) → ItemParts text (record { atom = a }) rest
+    at_atom (label t) (before, word, after, blanks, spelled, blanks2, parts) =
+        label_parts text before word after rest t blanks spelled blanks2
+        (e ∙ ap (λ x. x ++ rest) parts ∙ append_assoc before (word ++ after) rest ∙ ap (λ x. before ++ x) (append_assoc word after rest)) begins
 
-label_read : (text t : List ℕ) → SpellsItem text (label_item t) → IsItem text (label_item t)
-label_read text t h =
-    let l = h.4.0 in
-    let whole : text ≡ h.0 ++ (t ++ h.2) = h.6 ∙ ap (λ x. h.0 ++ (x ++ h.2)) h.4.1 in
-    let one = cut_at is_blank h.0 (t ++ h.2) text whole h.3 (label_stops t h.2 l) in
-    let two = cut_at (λ b. not (is_blank b)) t h.2 (start_of text) one.back (label_no_blank t l) (blanks_stop h.2 h.5) in
-    record { spelled = subst IsLabel (sym two.front) l; after = subst AreBlanks (sym two.back) h.5; item_is = ap label_item (sym two.front) }
+-- one item stands in front
+pub item_one : (text : List ℕ) (i j : Item) (r s : List ℕ) → IsItemFront text i r → IsItemFront text j s → (i ≡ j) × (r ≡ s)
+item_one text i j r s h k =
+    let a = item_parts text i r h in
+    let b = item_parts text j s k in
+    let same = front_one (past_blanks text) a.len b.len a.label b.label a.front a.ends b.front b.ends in (
+      a.item_is ∙ ap label_item same.1 ∙ sym b.item_is,
+      sym a.rest_is ∙ ap (λ n. past_blanks (drop n (past_blanks text))) same.0 ∙ b.rest_is,
+    )
 
-pub item_read : (text : List ℕ) (i : Item) → SpellsItem text i → IsItem text i
-item_read text i h =
-    elim i.atom as (λ a. SpellsItem text (record { atom = a }) → IsItem text (record { atom = a })) [ label t ↦ λ k. label_read text t k ] h
+-- what was read is an item in front
+pub item_made : (text : List ℕ) (n : ℕ) (t behind rest : List ℕ) → IsLabelFront (past_blanks text) n t → behind ≡ drop n (past_blanks text)
+    → rest ≡ past_blanks behind → BeginsRest rest → IsItemFront text (label_item t) rest
+item_made text n t behind rest h b r begins =
+    let before : List ℕ = take (prefix_len is_blank text) text in
+    let word : List ℕ = take n (past_blanks text) in
+    let after : List ℕ = take (prefix_len is_blank behind) behind in
+    let end : behind ≡ after ++ rest = sym (take-append-drop (prefix_len is_blank behind) behind) ∙ ap (λ x. after ++ x) (sym r) in
+    let from : past_blanks text ≡ word ++ (after ++ rest) = sym (take-append-drop n (past_blanks text)) ∙ ap (λ x. word ++ x) (sym b ∙ end) in (
+      before ++ (word ++ after),
+      (before, word, after, front_passes is_blank text, h.1, front_passes is_blank behind, refl),
+      sym (take-append-drop (prefix_len is_blank text) text) ∙ ap (λ x. before ++ x) (from ∙ sym (append_assoc word after rest)) ∙ sym (append_assoc before (word ++ after) rest),
+      begins,
+    )
 
-pub item_one : (text : List ℕ) (i j : Item) → SpellsItem text i → SpellsItem text j → i ≡ j
-item_one text i j h k = (item_read text i h).item_is ∙ sym (item_read text j k).item_is
+pub begins_rest : (text : List ℕ) (r : List (Separator × Item)) → SpellsRest text r → BeginsRest text
+begins_rest text [] h = subst BeginsRest (sym h) tt
+begins_rest text ((slash, i) ∷ r) h = subst BeginsRest (sym h.4) refl
 
-abbrev no_slash : ℕ → Bool
-no_slash b = not (is_slash b)
-
-no_slash_joined : (a b : List ℕ) → list_all no_slash a ≡ true → list_all no_slash b ≡ true → list_all no_slash (a ++ b) ≡ true
-no_slash_joined a b h k = rw (list_all-append no_slash a b, h, k) refl
-
-atom_no_slash : (text : List ℕ) (a : Atom) → SpellsAtom text a → list_all no_slash text ≡ true
-atom_no_slash text (label t) h = subst (λ x. list_all no_slash x ≡ true) (sym h.1) (label_no_slash t h.0)
-
-item_no_slash : (text : List ℕ) (i : Item) → SpellsItem text i → list_all no_slash text ≡ true
-item_no_slash text i h =
-    subst (λ x. list_all no_slash x ≡ true) (sym h.6)
-    (no_slash_joined h.0 (h.1 ++ h.2) (blanks_no_slash h.0 h.3) (no_slash_joined h.1 h.2 (atom_no_slash h.1 i.atom h.4) (blanks_no_slash h.2 h.5)))
-
-rest_stops : (text : List ℕ) (r : List (Separator × Item)) → SpellsRest text r → Stops no_slash text
-rest_stops text [] h = subst (Stops no_slash) (sym h) tt
-rest_stops text ((slash, i) ∷ r) h = subst (Stops no_slash) (sym h.4) refl
-
--- the bytes before the first '/', and from it on
-abbrev pub part_of : List ℕ → List ℕ
-part_of text = take (position_or_len is_slash text) text
-
-abbrev pub rest_of : List ℕ → List ℕ
-rest_of text = drop (position_or_len is_slash text) text
-
+-- an item, and what the rest spells
 pub record Parts (text : List ℕ) (i : Item) (r : List (Separator × Item)) : Type 0 where
-  pub front : SpellsItem (part_of text) i
-  pub back : SpellsRest (rest_of text) r
+  pub rest : List ℕ
+  pub front : IsItemFront text i rest
+  pub back : SpellsRest rest r
 
 pub parted : (text item more : List ℕ) (i : Item) (r : List (Separator × Item)) → text ≡ item ++ more → SpellsItem item i → SpellsRest more r → Parts text i r
-parted text item more i r e h k =
-    let c = cut_at no_slash item more text e (item_no_slash item i h) (rest_stops more r k) in
-    record { front = subst (λ x. SpellsItem x i) (sym c.front) h; back = subst (λ x. SpellsRest x r) (sym c.back) k }
+parted text item more i r e h k = record { rest = more; front = (item, h, e, begins_rest more r k); back = k }
 
-pub joined : (text part left : List ℕ) (i : Item) (r : List (Separator × Item)) → part ≡ part_of text → left ≡ rest_of text
-    → SpellsItem part i → SpellsRest left r → Spells text (record { first = i; rest = r })
-joined text part left i r p l h k =
-    (part, left, h, k, sym (take-append-drop (position_or_len is_slash text) text) ∙ ap (λ x. x ++ rest_of text) (sym p) ∙ ap (λ x. part ++ x) (sym l))
+pub spelled_parts : (text : List ℕ) (e : Seq) → Spells text e → Parts text e.first e.rest
+spelled_parts text e h = parted text h.0 h.1 e.first e.rest h.4 h.2 h.3
+
+-- the parts of one text
+pub parts_one : (text : List ℕ) (i j : Item) (r s : List (Separator × Item)) → Parts text i r → Parts text j s
+    → (i ≡ j) × (rest : List ℕ) × SpellsRest rest r × SpellsRest rest s
+parts_one text i j r s a b =
+    let same = item_one text i j a.rest b.rest a.front b.front in
+    (same.0, a.rest, a.back, subst (λ x. SpellsRest x s) (sym same.1) b.back)
+
+pub joined : (text rest : List ℕ) (i : Item) (r : List (Separator × Item)) → IsItemFront text i rest → SpellsRest rest r → Spells text (record { first = i; rest = r })
+joined text rest i r h k = (h.0, rest, h.1, k, h.2)
 
 -- what spells more begins with '/'
 pub record NextParts (part : List ℕ) : Type 0 where
@@ -113,17 +125,6 @@ rest_next b part ((slash, i) ∷ r) h =
     let e : part ≡ h.0 ++ h.1 = cc (h.4) in
     record { item = i; more = r; parts = parted part h.0 h.1 i r e h.2 h.3 }
 
-begins : (xs : List ℕ) → Stops no_slash xs → BeginsRest xs
-begins [] h = tt
-begins (x ∷ xs) h = is_true (is_slash x) h
-  where
-    is_true : (b : Bool) → not b ≡ false → b ≡ true
-    is_true true h = refl
-    is_true false h = absurd (true≢false h)
-
-pub begins_rest : (text : List ℕ) → BeginsRest (rest_of text)
-begins_rest text = begins (rest_of text) (back_stops no_slash text)
-
 -- The labels were read from the front of the text: what is left spells the rest exactly where the text spells all.
 pub record Reads (text left : List ℕ) (labels : List (List ℕ)) : Type 0 where
   pub begins_left : BeginsRest left
@@ -134,34 +135,34 @@ one_child : (labels : List (List ℕ)) (t : List ℕ) (tail : List (Separator ×
 one_child [] t tail = refl
 one_child (x ∷ xs) t tail = ap (λ r. (slash, label_item x) ∷ r) (one_child xs t tail)
 
-reads_next : (text : List ℕ) (b : ℕ) (part : List ℕ) (labels : List (List ℕ)) (t : List ℕ)
-    → SpellsItem (part_of part) (label_item t) → Reads text (b ∷ part) labels → Reads text (rest_of part) (labels ++ t ∷ [])
-reads_next text b part labels t h k = record {
-  begins_left = begins_rest part;
+reads_next : (text : List ℕ) (b : ℕ) (part : List ℕ) (labels : List (List ℕ)) (t rest : List ℕ)
+    → IsItemFront part (label_item t) rest → Reads text (b ∷ part) labels → Reads text rest (labels ++ t ∷ [])
+reads_next text b part labels t rest h k = record {
+  begins_left = h.3;
   so_far = λ tail s.
-      let e : b ∷ part ≡ 47 ∷ (part_of part ++ rest_of part) =
-      ap (λ x. x ∷ part) (eqb-true b 47 k.begins_left) ∙ ap (λ x. 47 ∷ x) (sym (take-append-drop (position_or_len is_slash part) part)) in
+      let e : b ∷ part ≡ 47 ∷ (h.0 ++ rest) = ap (λ x. x ∷ part) (eqb-true b 47 k.begins_left) ∙ ap (λ x. 47 ∷ x) h.2 in
       let r : children labels ++ (slash, label_item t) ∷ tail ≡ children (labels ++ t ∷ []) ++ tail = one_child labels t tail in
-      subst (SpellsRest text) r (k.so_far ((slash, label_item t) ∷ tail) (part_of part, rest_of part, h, s, e));
-  needs = λ r s. let q = k.needs r s in let n = rest_next b part q.0 q.1 in (n.more, n.parts.back);
+      subst (SpellsRest text) r (k.so_far ((slash, label_item t) ∷ tail) (h.0, rest, h.1, s, e));
+  needs = λ r s.
+      let q = k.needs r s in
+      let n = rest_next b part q.0 q.1 in
+      let same = item_one part (label_item t) n.item rest n.parts.rest h n.parts.front in
+      (n.more, subst (λ x. SpellsRest x n.more) (sym same.1) n.parts.back);
 }
 
--- the loop's step: what is left is a '/', a part and more
-pub reads_more : (text left part front back : List ℕ) (labels : List (List ℕ)) (t : List ℕ)
-    → 0 < length left → part ≡ drop 1 left → front ≡ part_of part → back ≡ rest_of part
-    → SpellsItem front (label_item t) → Reads text left labels → Reads text back (labels ++ t ∷ [])
-reads_more text [] part front back labels t n p f b h k = absurd (omega arith)
-reads_more text (x ∷ xs) part front back labels t n p f b h k =
-    subst (λ r. Reads text r (labels ++ t ∷ [])) (sym (b ∙ ap rest_of p))
-    (reads_next text x xs labels t (subst (λ r. SpellsItem r (label_item t)) (f ∙ ap part_of p) h) k)
+-- the loop's step: what is left is a '/', an item and more
+pub reads_more : (text left part rest : List ℕ) (labels : List (List ℕ)) (t : List ℕ)
+    → 0 < length left → part ≡ drop 1 left → IsItemFront part (label_item t) rest → Reads text left labels → Reads text rest (labels ++ t ∷ [])
+reads_more text [] part rest labels t n p h k = absurd (omega arith)
+reads_more text (x ∷ xs) part rest labels t n p h k = reads_next text x xs labels t rest (subst (λ y. IsItemFront y (label_item t) rest) p h) k
 
-pub reads_bad : (text left part front : List ℕ) (labels : List (List ℕ)) → 0 < length left → part ≡ drop 1 left → front ≡ part_of part
-    → ((i : Item) → SpellsItem front i → ⊥) → Reads text left labels → (r : List (Separator × Item)) → SpellsRest text r → ⊥
-reads_bad text [] part front labels n p f bad k r h = absurd (omega arith)
-reads_bad text (x ∷ xs) part front labels n p f bad k r h =
+pub reads_bad : (text left part : List ℕ) (labels : List (List ℕ)) → 0 < length left → part ≡ drop 1 left
+    → ((i : Item) (rest : List ℕ) → IsItemFront part i rest → ⊥) → Reads text left labels → (r : List (Separator × Item)) → SpellsRest text r → ⊥
+reads_bad text [] part labels n p bad k r h = absurd (omega arith)
+reads_bad text (x ∷ xs) part labels n p bad k r h =
     let q = k.needs r h in
     let m = rest_next x xs q.0 q.1 in
-    bad m.item (subst (λ y. SpellsItem y m.item) (sym (f ∙ ap part_of p)) m.parts.front)
+    bad m.item m.parts.rest (subst (λ y. IsItemFront y m.item m.parts.rest) (sym p) m.parts.front)
 
 pub reads_done : (text left : List ℕ) (labels : List (List ℕ)) → left ≡ [] → Reads text left labels → SpellsRest text (children labels)
 reads_done text left labels e k = subst (SpellsRest text) (append-nil (children labels)) (k.so_far [] e)
@@ -172,17 +173,11 @@ rest_one text [] ((slash, j) ∷ s) h k = cc (h, k.4)
 rest_one text ((slash, i) ∷ r) [] h k = cc (h.4, k)
 rest_one text ((slash, i) ∷ r) ((slash, j) ∷ s) h k =
     let e : h.0 ++ h.1 ≡ k.0 ++ k.1 = cc (h.4, k.4) in
-    let a = parted (h.0 ++ h.1) h.0 h.1 i r refl h.2 h.3 in
-    let b = parted (h.0 ++ h.1) k.0 k.1 j s e k.2 k.3 in
-    let same : i ≡ j = item_one (part_of (h.0 ++ h.1)) i j a.front b.front in
-    let rest : r ≡ s = rest_one (rest_of (h.0 ++ h.1)) r s a.back b.back in
-    ap (λ x. (slash, x) ∷ r) same ∙ ap (λ x. (slash, j) ∷ x) rest
+    let p = parts_one (h.0 ++ h.1) i j r s (parted (h.0 ++ h.1) h.0 h.1 i r refl h.2 h.3) (parted (h.0 ++ h.1) k.0 k.1 j s e k.2 k.3) in
+    ap (λ x. (slash, x) ∷ r) p.0 ∙ ap (λ x. (slash, j) ∷ x) (rest_one p.1 r s p.2 p.3)
 
 -- a text spells at most one expression
 pub spells_one : (text : List ℕ) (e f : Seq) → Spells text e → Spells text f → e ≡ f
 spells_one text e f h k =
-    let a = parted text h.0 h.1 e.first e.rest h.4 h.2 h.3 in
-    let b = parted text k.0 k.1 f.first f.rest k.4 k.2 k.3 in
-    let same : e.first ≡ f.first = item_one (part_of text) e.first f.first a.front b.front in
-    let rest : e.rest ≡ f.rest = rest_one (rest_of text) e.rest f.rest a.back b.back in
-    ap (λ x. record { first = x; rest = e.rest }) same ∙ ap (λ x. record { first = f.first; rest = x }) rest
+    let p = parts_one text e.first f.first e.rest f.rest (spelled_parts text e h) (spelled_parts text f k) in
+    ap (λ x. record { first = x; rest = e.rest }) p.0 ∙ ap (λ x. record { first = f.first; rest = x }) (rest_one p.1 e.rest f.rest p.2 p.3)

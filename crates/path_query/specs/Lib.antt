@@ -1,4 +1,5 @@
 pub mod Trees
+pub mod Labels
 pub mod Matches
 pub mod Answers
 pub mod Spelling

@@ -1,15 +1,16 @@
 -- How path expressions are written: labels with '/' between them. Blanks may stand around each label,
 -- and nowhere else.
 use Rattle.std.specs.Prelude.{ℕ, ◌≡◌, ◌==◌, Bool, IsTrue, List, [], ◌∷◌, ◌++◌}
-use Rattle.px_spec.specs.Words.{AreBlanks, IsLabel}
+use Rattle.px_spec.specs.Words.{AreBlanks}
 use Rattle.path_query.specs.Trees.{Atom, label, Item, Separator, slash, Seq}
+use Rattle.path_query.specs.Labels.{SpellsLabel}
 
 -- '/'
 abbrev pub is_slash : ℕ → Bool
 is_slash b = b == 47
 
 abbrev pub SpellsAtom : List ℕ → Atom → Type 0
-SpellsAtom text (label t) = IsLabel t × (text ≡ t)
+SpellsAtom text (label t) = SpellsLabel text t
 
 -- blanks, the atom, and blanks
 abbrev pub SpellsItem : List ℕ → Item → Type 0
@@ -30,3 +31,7 @@ Spells text e = (item : List ℕ) × (more : List ℕ) × SpellsItem item e.firs
 abbrev pub BeginsRest : List ℕ → Type 0
 BeginsRest [] = Unit {0}
 BeginsRest (b ∷ bs) = IsTrue (is_slash b)
+
+-- the text is an item, and then the rest
+abbrev pub IsItemFront : List ℕ → Item → List ℕ → Type 0
+IsItemFront text i rest = (item : List ℕ) × SpellsItem item i × (text ≡ item ++ rest) × BeginsRest rest

@@ -1,10 +1,11 @@
 // Path expressions.
-ghost use Rattle.std.specs.Prelude.{◌≡◌, List, IfOk, IsErrOf};
+ghost use Rattle.std.specs.Prelude.{◌≡◌, ◌↔◌, ℕ, List, IsTrue, IfOk, IsErrOf};
 ghost use Rattle.path_query.specs.Trees.{Item, Separator, Seq, label_item, children};
-ghost use Rattle.path_query.specs.Spelling.{BeginsRest, SpellsItem, SpellsRest, Spells};
+ghost use Rattle.path_query.specs.Spelling.{BeginsRest, IsItemFront, SpellsRest, Spells};
 
-use crate::words::{are_blanks, is_label, skip_blanks, split_part, split_word};
-use px_base::{Text, TextError};
+use crate::labels::read_front;
+use crate::words::skip_blanks;
+use px_base::{Memory, Text};
 use std::alloc::{AllocFailed, Global};
 use std::marker::Model;
 
@@ -28,6 +29,17 @@ impl<T: Drop> From<AllocFailed<T>> for ExprError {
     }
 }
 
+impl From<Memory> for ExprError {
+    ghost use Rattle.std.specs.Prelude.{◌≡◌};
+    ghost use Rattle.path_query.specs.declared.expr.ExprError.TheVariants as variants;
+
+    ghost from_gives = { λ _ e. e ≡ variants.Memory };
+
+    fn from(_: Memory) -> Self {
+        ExprError::Memory
+    }
+}
+
 /// A path expression, seen as its tree: labels, each of a child of the node before.
 #[derive(Drop)]
 pub struct PathExpr {
@@ -44,34 +56,43 @@ impl Model for PathExpr {
 }
 
 impl PathExpr {
-    /// The one expression that the text spells: labels with `/` between them, as `a/b`, where spaces
-    /// and tabs may stand around each label. `Syntax` comes only where the text spells none, `Memory`
-    /// at want of memory. Linear in the text.
+    /// The one expression that the text spells: labels with `/` between them, as `a/<http://e/b>`, where
+    /// spaces and tabs may stand around each label. A label is a name or an IRIREF, as `read_label` reads
+    /// it. `Syntax` comes only where the text spells none, `Memory` at want of memory. Linear in the text.
     pub fn parse(alloc: Global, text: &[u8]) -> Result<PathExpr, ExprError>
         ensures ok { IfOk result (Spells text.now) }
         ensures only { IfOk result (λ e. (other : Seq) → Spells text.now other → other ≡ e) }
         ensures syntax { IsErrOf result ExprError.Syntax → (e : Seq) → Spells text.now e → ⊥ }
+        ensures once { (a b : Seq) → Spells text.now a → Spells text.now b → a ≡ b }
     {
-        let (part, left) = split_part(text);
-        let first = parse_label(alloc, part)?;
+        let (first, left) = read_item(alloc, text)?;
         let rest = parse_rest(alloc, left)?;
         Ok(PathExpr { first, rest })
     }
 }
 
-/// The label that stands alone between blanks.
-fn parse_label(alloc: Global, text: &[u8]) -> Result<Text, ExprError>
-    ensures ok { IfOk result (λ t. SpellsItem text.now (label_item t)) }
-    ensures syntax { IsErrOf result ExprError.Syntax → (i : Item) → SpellsItem text.now i → ⊥ }
+/// Whether an item may end here.
+fn begins_rest(text: &[u8]) -> bool
+    ensures { IsTrue result ↔ BeginsRest text.now }
 {
-    let (word, after) = split_word(skip_blanks(text));
-    if !is_label(word) || !are_blanks(after) {
+    matches!(text, [] | [b'/', ..])
+}
+
+/// The label between blanks with which the text begins, and what follows.
+fn read_item(alloc: Global, text: &[u8]) -> Result<(Text, &[u8]), ExprError>
+    ensures ok { IfOk result (λ r. IsItemFront text.now (label_item r.0) r.1.now) }
+    ensures syntax { IsErrOf result ExprError.Syntax → (i : Item) (rest : List ℕ) → IsItemFront text.now i rest → ⊥ }
+{
+    let from_label = skip_blanks(text);
+    let Some((label, len)) = read_front(alloc, from_label)? else {
         return Err(ExprError::Syntax);
-    }
-    match Text::from_bytes(alloc, word) {
-        Ok(label) => Ok(label),
-        Err(TextError::NotUtf8) => Err(ExprError::Syntax),
-        Err(TextError::Memory) => Err(ExprError::Memory),
+    };
+    let (_, behind) = from_label.split_at(len);
+    let rest = skip_blanks(behind);
+    if begins_rest(rest) {
+        Ok((label, rest))
+    } else {
+        Err(ExprError::Syntax)
     }
 }
 
@@ -84,8 +105,8 @@ fn parse_rest(alloc: Global, text: &[u8]) -> Result<Vec<Text>, ExprError>
     let mut labels = Vec::new(alloc);
     let mut left = text;
     while !left.is_empty() {
-        let (part, after) = split_part(&left[1..]);
-        labels.push(parse_label(alloc, part)?)?;
+        let (label, after) = read_item(alloc, &left[1..])?;
+        labels.push(label)?;
         left = after;
     }
     Ok(labels)

@@ -3,11 +3,13 @@
 
 mod answers;
 mod expr;
+mod labels;
 mod words;
 
 pub use answers::eval;
 pub use expr::{ExprError, PathExpr};
-pub use words::{is_label, skip_blanks, split_word};
+pub use labels::read_label;
+pub use words::{skip_blanks, split_word};
 
 #[cfg(test)]
 mod tests;

@@ -21,6 +21,8 @@ fn texts_spell_expressions(rt: HostRuntime) -> Result<(), Fail> {
         "\ta\t/\tb\t",
         "a-1/B_2/c",
         "andy/notes/order",
+        "<http://e/a>/iri/<http://e/b>",
+        " <a/b> /\t<> ",
     ] {
         let expr = PathExpr::parse(alloc, text.as_bytes());
         assert!(rt; expr.is_ok(), "at {text}");
@@ -33,7 +35,7 @@ fn other_texts_spell_none(rt: HostRuntime) -> Result<(), Fail> {
     let alloc = rt.alloc();
     let texts = [
         "", " ", "a b", "a/", "/a", "a//b", "a/ /b", "/", "and", "a/or", "not/a", "1a", "_a",
-        "a.b", "a\n", "\u{e4}",
+        "a.b", "a\n", "\u{e4}", "a<b>", "<a>b", "<a><b>", "<a b>", "<a", "<a/b",
     ];
     for text in texts {
         let expr = PathExpr::parse(alloc, text.as_bytes());
@@ -42,23 +44,56 @@ fn other_texts_spell_none(rt: HostRuntime) -> Result<(), Fail> {
     Ok(())
 }
 
+/// The label that the word spells.
+fn label_of(alloc: Global, word: &str) -> Result<Option<Text>, Fail> {
+    Ok(read_label(alloc, word.as_bytes())?)
+}
+
 #[test]
-fn labels_and_words(rt: HostRuntime) {
+fn words_are_labels(rt: HostRuntime) -> Result<(), Fail> {
     let words = [
-        ("a", true),
-        ("B-2_c", true),
-        ("nota", true),
-        ("not", false),
-        ("and", false),
-        ("or", false),
-        ("", false),
-        ("-a", false),
-        ("2a", false),
-        ("a/b", false),
+        ("a", "a"),
+        ("B-2_c", "B-2_c"),
+        ("nota", "nota"),
+        ("<>", "<>"),
+        ("<http://e/a>", "<http://e/a>"),
+        ("<http://e/\\u0061>", "<http://e/a>"),
+        ("<a\\u0020/>", "<a\\u0020/>"),
+        ("<\u{e4}>", "<\u{e4}>"),
     ];
     for (word, label) in words {
-        assert_eq!(rt; is_label(word.as_bytes()), label, "at {word}");
+        let found = label_of(rt.alloc(), word)?.ok_or("a label")?;
+        assert_eq!(rt; found.as_str(), label, "at {word}");
     }
+    Ok(())
+}
+
+#[test]
+fn other_words_are_none(rt: HostRuntime) -> Result<(), Fail> {
+    let words = [
+        "not",
+        "and",
+        "or",
+        "",
+        "-a",
+        "2a",
+        "a/b",
+        "<",
+        "<http://e/a",
+        "<a b>",
+        "a<b>",
+        "<a>b",
+        "<a><b>",
+        "<\\u006>",
+    ];
+    for word in words {
+        assert!(rt; label_of(rt.alloc(), word)?.is_none(), "at {word}");
+    }
+    Ok(())
+}
+
+#[test]
+fn words_are_split(rt: HostRuntime) {
     let (word, rest) = split_word(skip_blanks(b" \tnode a \n"));
     assert_eq!(rt; (word, rest), (b"node".as_slice(), b" a \n".as_slice()));
     assert!(rt; skip_blanks(b" \t").is_empty());

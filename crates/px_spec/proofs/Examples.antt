@@ -10,7 +10,7 @@ use Rattle.px_spec.specs.declared.limits.Limits.{Limits}
 use Rattle.px_spec.specs.declared.refusal.Refusal.TheVariants.{NoNode, NoEdge, InUse}
 use Rattle.px_spec.specs.ProgramLimits.{program_limits}
 use Rattle.px_spec.specs.Lines.{cut}
-use Rattle.px_spec.specs.Words.{words, is_name, IsLabel}
+use Rattle.px_spec.specs.Words.{words, is_name}
 use Rattle.px_spec.specs.Graphs.{Graph, empty_graph, edge_cmp, has_edge}
 use Rattle.px_spec.specs.Changes.{node, link, unlink, drop, apply, with_node, with_edge, without_edge, without_node}
 use Rattle.px_spec.specs.Shapes.{Shape}
@@ -33,7 +33,7 @@ words_parted = refl
 words_none : words (codes " \t ") ≡ []
 words_none = refl
 
--- a name begins with a letter; and, or and not are no labels
+-- a name begins with a letter
 name_plain : is_name (codes "a-1_B") ≡ true
 name_plain = refl
 
@@ -45,9 +45,6 @@ name_empty = refl
 
 name_slash : is_name (codes "a/b") ≡ false
 name_slash = refl
-
-no_label_and : ¬ IsLabel (codes "and")
-no_label_and l = l.1 refl
 
 -- CR LF is one end, a CR alone is one, and LF CR are two
 cut_returns : cut (codes "a\r\nb\rc") ≡ record { text = codes "a"; end = 13 ∷ 10 ∷ [] } ∷ record { text = codes "b"; end = 13 ∷ [] } ∷ record { text = codes "c"; end = [] } ∷ []

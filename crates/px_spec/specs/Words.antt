@@ -1,5 +1,5 @@
--- The words of a line, and labels.
-use Rattle.std.specs.Prelude.{ℕ, ◌≢◌, ◌==◌, ◌||◌, ◌&&◌, not, Bool, List, ◌∷◌, length, codes, decimal, filter, nat_le, IsTrue, slice_index, drop}
+-- The words of a line, and names.
+use Rattle.std.specs.Prelude.{ℕ, ◌==◌, ◌||◌, ◌&&◌, not, Bool, List, ◌∷◌, length, decimal, filter, nat_le, IsTrue, slice_index, drop}
 use Rattle.std.specs.List.{slice_split, list_all}
 
 -- space and tab
@@ -24,10 +24,6 @@ is_name_byte b = is_letter b || (nat_le 48 b && nat_le b 57) || b == 95 || b == 
 -- a letter, and then letters, digits, _ and -
 abbrev pub is_name : List ℕ → Bool
 is_name w = not (length w == 0) && is_letter (slice_index w 0) && list_all is_name_byte (drop 1 w)
-
--- a label of a node: a name, but none of the words of the query languages
-abbrev pub IsLabel : List ℕ → Type 0
-IsLabel w = IsTrue (is_name w) × (w ≢ codes "and") × (w ≢ codes "or") × (w ≢ codes "not")
 
 -- how a node is written, as `n7`
 abbrev pub node_word : ℕ → List ℕ

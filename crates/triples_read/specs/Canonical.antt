@@ -1,5 +1,5 @@
 -- The one canonical spelling of a triple, as characters.
-use Rattle.std.specs.Prelude.{ℕ, List, [], ◌∷◌, ◌++◌, ◌+◌, ◌/◌, ◌%◌, ◌==◌, nat_lt, Option, Some, None, bytes_eq, if◌then◌else◌}
+use Rattle.std.specs.Prelude.{ℕ, List, [], ◌∷◌, ◌++◌, ◌+◌, ◌/◌, ◌%◌, ◌==◌, nat_lt, Option, Some, None, bytes_eq, encode_utf8_all, if◌then◌else◌}
 use Rattle.std.specs.List.{flat_map}
 use Rattle.std.specs.Str.{chars}
 use Rattle.triples_read.specs.Characters.{is_iri_char}
@@ -38,6 +38,10 @@ abbrev pub term_text : Term → List ℕ
 term_text (Iri iri) = iri_text (chars iri)
 term_text (Blank label) = 95 ∷ 58 ∷ chars label
 term_text (Literal text datatype tag) = string_text (chars text) ++ suffix_text datatype tag
+
+-- the bytes of an IRI in its one spelling, brackets included
+abbrev pub iri_spelling : List ℕ → List ℕ
+iri_spelling iri = encode_utf8_all (term_text (Iri iri))
 
 -- the three parts, each followed by one space, and a dot
 abbrev pub triple_text : Triple → List ℕ

@@ -106,7 +106,7 @@ fn has_label(alloc: Global, label: &[u8]) -> Result<bool, Fail> {
     let triple = Triple {
         subject: Term::Blank(Text::from_bytes(alloc, label)?),
         predicate: Text::from_bytes(alloc, b"http://e/p")?,
-        object: Term::Iri(Text::new(alloc)),
+        object: Term::Iri(Text::from_bytes(alloc, b"")?),
     };
     Ok(is_triple(&triple))
 }

@@ -1,0 +1,24 @@
+-- Labels, as they are written: names, and IRIs in brackets.
+use Rattle.std.specs.Prelude.{ℕ, ◌≡◌, ◌≢◌, ◌≤◌, ◌⊎◌, false, List, [], ◌∷◌, length, take, codes, IsTrue}
+use Rattle.px_spec.specs.Words.{is_name, is_name_byte}
+use Rattle.triples_read.specs.Lines.{IsIriFront}
+use Rattle.triples_read.specs.Canonical.{iri_spelling}
+
+-- a name, but none of the words of the query languages
+abbrev pub IsPlainLabel : List ℕ → Type 0
+IsPlainLabel w = IsTrue (is_name w) × (w ≢ codes "and") × (w ≢ codes "or") × (w ≢ codes "not")
+
+-- The text is a name, which is the label; or it is an IRIREF (RDF 1.1 N-Triples, section 7), and the label is the one
+-- spelling of its IRI, brackets included.
+abbrev pub SpellsLabel : List ℕ → List ℕ → Type 0
+SpellsLabel text t =
+    (IsPlainLabel text × (t ≡ text)) ⊎ ((iri : List ℕ) × IsIriFront text (length text) iri × (t ≡ iri_spelling iri))
+
+-- the first n bytes spell the label
+abbrev pub IsLabelFront : List ℕ → ℕ → List ℕ → Type 0
+IsLabelFront text n t = (n ≤ length text) × SpellsLabel (take n text) t
+
+-- no name goes on into the text
+abbrev pub EndsName : List ℕ → Type 0
+EndsName [] = Unit {0}
+EndsName (b ∷ bs) = is_name_byte b ≡ false
