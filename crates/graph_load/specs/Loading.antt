@@ -1,7 +1,7 @@
 -- The graph of a set of triples. Each term that is a subject or an object is a node, labelled by its kind; each triple
 -- is a node, labelled by its predicate; edges lead from the subject to the triple and on to the object. Numbers are given
 -- in the order of first need: of a new triple its subject, the triple, its object.
-use Rattle.std.specs.Prelude.{ℕ, Bool, true, false, ◌&&◌, List, [], ◌∷◌, ◌++◌, length, codes, encode_utf8_all, bytes_eq, is_some, unwrap_or, if◌then◌else◌, Option, Some, None, Result, Ok, Err}
+use Rattle.std.specs.Prelude.{ℕ, Bool, true, false, ◌&&◌, List, [], ◌∷◌, ◌++◌, length, codes, bytes_eq, is_some, unwrap_or, if◌then◌else◌, Option, Some, None, Result, Ok, Err}
 use Rattle.std.specs.List.{list_any}
 use Rattle.std.specs.Map.{lookup}
 use Rattle.px_spec.specs.declared.limits.Limits.{Limits}
@@ -11,7 +11,7 @@ use Rattle.px_spec.specs.Changes.{Change, node, link, apply}
 use Rattle.triples_read.specs.declared.term.Term.{Term}
 use Rattle.triples_read.specs.declared.term.Term.TheVariants.{Iri, Blank, Literal}
 use Rattle.triples_read.specs.declared.term.Triple.{Triple}
-use Rattle.triples_read.specs.Canonical.{term_text}
+use Rattle.triples_read.specs.Canonical.{iri_spelling}
 
 abbrev pub same_tag : Option (List ℕ) → Option (List ℕ) → Bool
 same_tag None None = true
@@ -36,7 +36,7 @@ term_label (Literal text datatype tag) = codes "literal"
 
 -- the label of a triple's node: its predicate in the canonical spelling, brackets included
 abbrev pub predicate_label : List ℕ → List ℕ
-predicate_label iri = encode_utf8_all (term_text (Iri iri))
+predicate_label iri = iri_spelling iri
 
 pub record Loading : Type 0 where
   pub graph : Graph

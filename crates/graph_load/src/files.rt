@@ -5,7 +5,7 @@ ghost use Rattle.px_base.specs.Reading.{stream};
 ghost use Rattle.label_graph.specs.Held.{no_room};
 ghost use Rattle.triples_read.specs.declared.term.Triple.{Triple as TripleSeen};
 ghost use Rattle.triples_read.specs.Lines.{Spells, Empty};
-ghost use Rattle.graph_load.specs.Loads.{loaded, at_start};
+ghost use Rattle.graph_load.specs.Loads.{Outcome, Loads, loaded, at_start};
 ghost use Rattle.graph_load.specs.Holding.{Holds, IsSound};
 ghost use Rattle.graph_load.specs.Going.{LoadsTold, IsMissing, Says, LoadsAhead, place, CanRead, TakesText, RefusesText, Goes, OnTaken};
 ghost use Rattle.graph_load.specs.declared.files.LoadError.TheVariants.{Memory as NoMemory};
@@ -143,6 +143,7 @@ fn load_lines<H: Shelf>(alloc: Global, limits: &Limits, shelf: &mut H) -> Result
 /// The first line that is refused ends the load: `Limit` and `Syntax` have its number. `Missing` comes where
 /// there is no file of that name, and `Fault` where a call on the shelf failed. The time is linear in the
 /// bytes of the file.
+#[tactic(auto, using(crate::proofs::OneOutcome::one_outcome))]
 pub fn load<H: Shelf>(
     alloc: Global,
     shelf: &mut H,
@@ -155,6 +156,8 @@ pub fn load<H: Shelf>(
     ensures room { IfOk result (λ g. g.room ≡ no_room) }
     // The number of a line comes only where the text of the file is refused there, for that reason.
     ensures refused { IfErr result (Says (LoadsTold limits.now (H.files shelf.old) name.now)) }
+    // A text loads to one outcome at most.
+    ensures once { (text : List ℕ) (a b : Outcome) → Loads limits.now text a → Loads limits.now text b → a ≡ b }
     ensures missing { IsErrOf result LoadError.Missing → IsMissing (H.files shelf.old) name.now }
     ensures files { H.files shelf.new ≡ H.files shelf.old }
     ensures fault { IsErrOf result LoadError.Fault → Rose (H.faults shelf.old) (H.faults shelf.new) }
