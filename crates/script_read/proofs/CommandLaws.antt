@@ -1,13 +1,18 @@
 -- A line spells at most one command, and none where it is quiet.
-use Rattle.std.proofs.Common.{◌≡◌, ℕ, ◌≢◌, ◌<◌, ◌^◌, List, [], ◌∷◌, sym, ap, ◌∙◌, arith}
-use Rattle.std.specs.Prelude.{slice_index}
+use Rattle.std.proofs.Common.{◌≡◌, ℕ, ◌≢◌, ◌<◌, ◌^◌, List, [], ◌∷◌, refl, sym, ap, ◌∙◌, subst, arith}
+use Rattle.std.specs.Prelude.{codes, slice_index}
 use Rattle.std.proofs.lemmas.Fmt.{decimal_injective}
-use Rattle.px_spec.specs.Changes.{Change, node, link, unlink, drop}
-use Rattle.path_query.proofs.Spellings.{spells_one}
+use Rattle.px_spec.specs.Changes.{node, link, unlink, drop}
+use Rattle.path_query.specs.Labels.{SpellsLabel}
 use Rattle.px_spec.specs.Words.{node_word}
+use Rattle.index_api.specs.declared.kinds.Via.{Via}
+use Rattle.index_api.specs.declared.kinds.Via.TheVariants.{Data, A, One, Fb}
+use Rattle.index_api.specs.Spelling.{via_word}
 use Rattle.script_read.specs.Parts.{first_word, behind_word}
-use Rattle.script_read.specs.Commands.{Command, change, path, IsSpelled, SpellsPair}
-use Rattle.script_read.proofs.CommandLemmas.{keyword, apart, asks_data, begins, silent}
+use Rattle.script_read.specs.Commands.{Command, change, path, extents, sizes, IsIndex, IsQuiet, IsSpelled, SpellsPair, SpellsNothing, SpellsOnce, LabelsOnce, PathsOnce}
+use Rattle.script_read.specs.Saying.{SaysNode, SaysPath}
+use Rattle.script_read.proofs.WordLemmas.{head_word, is_split}
+use Rattle.script_read.proofs.CommandLemmas.{second_same, no_query, apart, asks_data, begins, silent}
 
 node_number : (m n : ℕ) → m < 2 ^ 32 → n < 2 ^ 32 → node_word m ≡ node_word n → m ≡ n
 node_number m n a b e = decimal_injective m n (omega arith) (omega arith) cc
@@ -29,27 +34,80 @@ pair_one line word u v x y f h k =
     let z = sym h.0 ∙ k.0 in
     ap (λ n. f n v) (node_number u x h.1 k.1 (ap second z)) ∙ ap (λ n. f x n) (node_number v y h.2 k.2 (ap third z))
 
-change_one : (line : List ℕ) (c d : Change) → IsSpelled line (change c) → IsSpelled line (change d) → change c ≡ change d
-change_one line (node t) (node u) h k = ap (λ x. change (node x)) (ap second (sym h.0 ∙ k.0))
-change_one line (link u v) (link x y) h k = pair_one line _ u v x y (λ a b. change (link a b)) h k
-change_one line (unlink u v) (unlink x y) h k = pair_one line _ u v x y (λ a b. change (unlink a b)) h k
-change_one line (drop u) (drop x) h k = ap (λ n. change (drop n)) (node_number u x h.1 k.1 (ap second (sym h.0 ∙ k.0)))
-change_one line c d h k = absurd (apart (first_word line) _ _ (begins line (change c) h) (begins line (change d) k) (λ e. omega (arith, e)))
+-- an index is named by one word
+via_one : (v w : Via) → IsIndex v → IsIndex w → via_word v ≡ via_word w → v ≡ w
+via_one (A m) (A n) h k e = ap A (decimal_injective m n (omega (arith, h)) (omega (arith, k)) cc)
+via_one One One h k e = refl
+via_one Fb Fb h k e = refl
+via_one Data w h k e = absurd h
+via_one v Data h k e = absurd k
+via_one v w h k e = absurd (let first = ap (λ l. slice_index l 0) e in omega (arith, first))
 
--- no change is a query
-no_query : (c : Change) → slice_index (keyword (change c)) 0 ≢ 112
-no_query (node t) e = omega (arith, e)
-no_query (link u v) e = omega (arith, e)
-no_query (unlink u v) e = omega (arith, e)
-no_query (drop u) e = omega (arith, e)
+-- the word behind `node`, where there is one, spells at most one label, and what follows `path data` at most one expression
+record PartsOnce (line : List ℕ) : Type 0 where
+  label : (word : List ℕ) → SaysNode line word → LabelsOnce word
+  expression : first_word line ≡ codes "path" → PathsOnce (behind_word (behind_word line))
 
-pub command_one : (line : List ℕ) (c d : Command) → IsSpelled line c → IsSpelled line d → c ≡ d
-command_one line (change c) (change d) h k = change_one line c d h k
-command_one line (path v e) (path w f) h k =
+command_one : (line : List ℕ) → PartsOnce line → (c d : Command) → IsSpelled line c → IsSpelled line d → c ≡ d
+command_one line o (change (node t)) (change (node u)) h k =
+    let same : h.0 ≡ k.0 = second_same (sym h.1 ∙ k.1) in
+    ap (λ x. change (node x)) (o.label h.0 h.1 t u h.2 (subst (λ w. SpellsLabel w u) (sym same) k.2))
+command_one line o (change (link u v)) (change (link x y)) h k = pair_one line _ u v x y (λ a b. change (link a b)) h k
+command_one line o (change (unlink u v)) (change (unlink x y)) h k = pair_one line _ u v x y (λ a b. change (unlink a b)) h k
+command_one line o (change (drop u)) (change (drop x)) h k = ap (λ n. change (drop n)) (node_number u x h.1 k.1 (ap second (sym h.0 ∙ k.0)))
+command_one line o (path v e) (path w f) h k =
     let p = asks_data line v e h in
     let q = asks_data line w f k in
-    ap (λ v. path v e) (p.0 ∙ sym q.0) ∙ ap (path w) (spells_one (behind_word (behind_word line)) e f p.1.2 q.1.2)
-command_one line (change c) (path v e) h k = absurd (no_query c (ap (λ l. slice_index l 0) (sym (begins line (change c) h) ∙ begins line (path v e) k)))
-command_one line (path v e) (change d) h k = absurd (no_query d (ap (λ l. slice_index l 0) (sym (begins line (change d) k) ∙ begins line (path v e) h)))
+    ap (λ v. path v e) (p.0 ∙ sym q.0) ∙ ap (path w) (o.expression p.1.0 e f p.1.2 q.1.2)
+command_one line o (extents v) (extents w) h k = ap extents (via_one v w h.1 k.1 (second_same (sym h.0 ∙ k.0)))
+command_one line o sizes sizes h k = refl
+command_one line o (change c) (path v e) h k = absurd (apart (first_word line) _ _ (begins line (change c) h) (begins line (path v e) k) (no_query c).no_path)
+command_one line o (change c) (extents v) h k = absurd (apart (first_word line) _ _ (begins line (change c) h) (begins line (extents v) k) (no_query c).no_extents)
+command_one line o (change c) sizes h k = absurd (apart (first_word line) _ _ (begins line (change c) h) (begins line sizes k) (no_query c).no_sizes)
+command_one line o (path v e) (change c) h k = absurd (apart (first_word line) _ _ (begins line (change c) k) (begins line (path v e) h) (no_query c).no_path)
+command_one line o (extents v) (change c) h k = absurd (apart (first_word line) _ _ (begins line (change c) k) (begins line (extents v) h) (no_query c).no_extents)
+command_one line o sizes (change c) h k = absurd (apart (first_word line) _ _ (begins line (change c) k) (begins line sizes h) (no_query c).no_sizes)
+command_one line o c d h k = absurd (apart (first_word line) _ _ (begins line c h) (begins line d k) (λ e. omega (arith, e)))
 
-pub ruleset reading_laws = (command_one, silent)
+-- a first byte other than that of `node` (110) and of `path` (112)
+no_parts : (line word : List ℕ) → first_word line ≡ word → slice_index word 0 ≢ 110 → slice_index word 0 ≢ 112 → PartsOnce line
+no_parts line word e n p = record {
+  label = λ w s. absurd (n (ap (λ l. slice_index l 0) (sym e ∙ (head_word line _ _ _ _ (is_split line) s).0)));
+  expression = λ f. absurd (p (ap (λ l. slice_index l 0) (sym e ∙ f)));
+}
+
+-- one lemma for each thing that a line can say
+pub quiet_once : (line : List ℕ) → IsQuiet line → SpellsOnce line
+quiet_once line q c d h k = absurd (silent line q c h)
+
+pub bad_once : (line : List ℕ) → SpellsNothing line → SpellsOnce line
+bad_once line n c d h k = absurd (n.1 c h)
+
+pub node_once : (line word : List ℕ) → SaysNode line word → LabelsOnce word → SpellsOnce line
+node_once line word s once = command_one line (record {
+  label = λ w t. subst LabelsOnce (second_same (sym s ∙ t)) once;
+  expression = λ f. absurd (apart (first_word line) _ _ (head_word line _ _ _ _ (is_split line) s).0 f (λ e. omega (arith, e)));
+})
+
+pub path_once : (line text : List ℕ) → SaysPath line text → PathsOnce text → SpellsOnce line
+path_once line text s once = command_one line (record {
+  label = λ w t. absurd (apart (first_word line) _ _ (head_word line _ _ _ _ (is_split line) t).0 s.0 (λ e. omega (arith, e)));
+  expression = λ f. subst PathsOnce s.2 once;
+})
+
+pub link_once : (line : List ℕ) (u v : ℕ) → IsSpelled line (change (link u v)) → SpellsOnce line
+link_once line u v h = command_one line (no_parts line _ (begins line (change (link u v)) h) (λ e. omega (arith, e)) (λ e. omega (arith, e)))
+
+pub unlink_once : (line : List ℕ) (u v : ℕ) → IsSpelled line (change (unlink u v)) → SpellsOnce line
+unlink_once line u v h = command_one line (no_parts line _ (begins line (change (unlink u v)) h) (λ e. omega (arith, e)) (λ e. omega (arith, e)))
+
+pub drop_once : (line : List ℕ) (u : ℕ) → IsSpelled line (change (drop u)) → SpellsOnce line
+drop_once line u h = command_one line (no_parts line _ (begins line (change (drop u)) h) (λ e. omega (arith, e)) (λ e. omega (arith, e)))
+
+pub extents_once : (line : List ℕ) (via : Via) → IsSpelled line (extents via) → SpellsOnce line
+extents_once line via h = command_one line (no_parts line _ (begins line (extents via) h) (λ e. omega (arith, e)) (λ e. omega (arith, e)))
+
+pub sizes_once : (line : List ℕ) → IsSpelled line sizes → SpellsOnce line
+sizes_once line h = command_one line (no_parts line _ (begins line sizes h) (λ e. omega (arith, e)) (λ e. omega (arith, e)))
+
+pub ruleset reading_laws = (silent, quiet_once, bad_once, node_once, path_once, link_once, unlink_once, drop_once, extents_once, sizes_once)

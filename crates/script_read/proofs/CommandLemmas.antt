@@ -1,20 +1,22 @@
 -- From the first word of a line to what the line says.
 use Rattle.std.proofs.Common.{◌≡◌, ◌≢◌, ℕ, ◌<◌, ◌^◌, List, [], ◌∷◌, refl, sym, ap, ◌∙◌, subst, arith, Err}
 use Rattle.std.specs.Prelude.{codes, slice_index}
-use Rattle.px_spec.specs.Words.{words, IsLabel}
-use Rattle.px_spec.specs.Changes.{node, link, unlink, drop}
+use Rattle.px_spec.specs.Words.{words}
+use Rattle.px_spec.specs.Changes.{Change, node, link, unlink, drop}
 use Rattle.index_api.specs.declared.kinds.Via.{Via}
 use Rattle.index_api.specs.declared.kinds.Via.TheVariants.{Data, A, One, Fb}
+use Rattle.index_api.specs.Spelling.{via_word}
+use Rattle.path_query.specs.Labels.{SpellsLabel}
 use Rattle.path_query.specs.Trees.{Seq}
 use Rattle.path_query.specs.Spelling.{Spells}
-use Rattle.script_read.specs.Saying.{SaysPath}
+use Rattle.script_read.specs.Saying.{SaysNode, SaysPath, OpensOther}
 use Rattle.script_read.specs.Reading.{Reads}
 use Rattle.script_read.specs.declared.commands.ScriptError.{ScriptError}
 use Rattle.script_read.specs.declared.commands.ScriptError.TheVariants.{Bad, Memory}
 use Rattle.px_spec.specs.Words.{node_word}
-use Rattle.script_read.specs.Commands.{Command, change, path, SaysNothing, IsQuiet, SpellsPath, IsSpelled, SpellsNothing}
+use Rattle.script_read.specs.Commands.{Command, change, path, extents, sizes, IsIndex, SaysNothing, IsQuiet, SpellsPath, IsSpelled, SpellsNothing}
 use Rattle.script_read.specs.Parts.{IsSplit, OpensNothing, first_word, behind_word}
-use Rattle.script_read.proofs.WordLemmas.{head_word, is_split}
+use Rattle.script_read.proofs.WordLemmas.{head_word, is_split, words-cons}
 
 pub opens_quiet : (line word rest : List ℕ) → IsSplit line word rest → OpensNothing word → SaysNothing (words line)
 opens_quiet line [] rest s o = subst SaysNothing (sym (s.none refl)) tt
@@ -34,6 +36,25 @@ keyword (change (link u v)) = codes "link"
 keyword (change (unlink u v)) = codes "unlink"
 keyword (change (drop u)) = codes "drop"
 keyword (path via e) = codes "path"
+keyword (extents via) = codes "extents"
+keyword sizes = codes "sizes"
+
+-- two lists of words with the same second word
+pub second_same : {a b v w : List ℕ} → a ∷ v ∷ [] ≡ b ∷ w ∷ [] → v ≡ w
+second_same e = cc
+
+-- a first byte that isn't that of `path`, `extents` or `sizes`
+pub record OpensChange (b : ℕ) : Type 0 where
+  pub no_path : b ≢ 112
+  pub no_extents : b ≢ 101
+  pub no_sizes : b ≢ 115
+
+-- no change is a query
+pub no_query : (c : Change) → OpensChange (slice_index (keyword (change c)) 0)
+no_query (node t) = record { no_path = λ e. omega (arith, e); no_extents = λ e. omega (arith, e); no_sizes = λ e. omega (arith, e) }
+no_query (link u v) = record { no_path = λ e. omega (arith, e); no_extents = λ e. omega (arith, e); no_sizes = λ e. omega (arith, e) }
+no_query (unlink u v) = record { no_path = λ e. omega (arith, e); no_extents = λ e. omega (arith, e); no_sizes = λ e. omega (arith, e) }
+no_query (drop u) = record { no_path = λ e. omega (arith, e); no_extents = λ e. omega (arith, e); no_sizes = λ e. omega (arith, e) }
 
 -- two words that differ in the first byte
 pub apart : (word a b : List ℕ) → word ≡ a → word ≡ b → (slice_index a 0 ≢ slice_index b 0) → ⊥
@@ -47,15 +68,24 @@ asks_data line One e h = absurd h
 asks_data line Fb e h = absurd h
 
 pub begins : (line : List ℕ) (c : Command) → IsSpelled line c → first_word line ≡ keyword c
-begins line (change (node t)) h = (head_word line _ _ _ _ (is_split line) h.0).0
+begins line (change (node t)) h = (head_word line _ _ _ _ (is_split line) h.1).0
 begins line (change (link u v)) h = (head_word line _ _ _ _ (is_split line) h.0).0
 begins line (change (unlink u v)) h = (head_word line _ _ _ _ (is_split line) h.0).0
 begins line (change (drop u)) h = (head_word line _ _ _ _ (is_split line) h.0).0
 begins line (path via e) h = (asks_data line via e h).1.0
+begins line (extents via) h = (head_word line _ _ _ _ (is_split line) h.0).0
+begins line sizes h = (head_word line _ _ _ _ (is_split line) h).0
 
 -- what follows the first word
 behind : (line w : List ℕ) (ws : List (List ℕ)) → words line ≡ w ∷ ws → words (behind_word line) ≡ ws
 behind line w ws e = (head_word line _ _ _ _ (is_split line) e).1
+
+-- the words of a line that begins with this word
+pub words_opened : (line word rest key : List ℕ) (vs : List (List ℕ)) → word ≡ first_word line → rest ≡ behind_word line → ¬ OpensNothing word
+    → word ≡ key → words rest ≡ vs → words line ≡ key ∷ vs
+words_opened line word rest key vs w r loud k v =
+    words-cons line (first_word line) (behind_word line) vs (is_split line) (opens_some _ (λ o. loud (subst OpensNothing (sym w) o))) (sym (ap words r) ∙ v)
+    ∙ ap (λ x. x ∷ vs) (sym w ∙ k)
 
 module _ (line word rest : List ℕ) (loud : ¬ OpensNothing word) (is_first : word ≡ first_word line) (is_rest : rest ≡ behind_word line) where
   not_quiet : ¬ IsQuiet line
@@ -70,65 +100,69 @@ module _ (line word rest : List ℕ) (loud : ¬ OpensNothing word) (is_first : w
   follows : (w : List ℕ) (ws : List (List ℕ)) → words line ≡ w ∷ ws → words rest ≡ ws
   follows w ws e = ap words is_rest ∙ behind line w ws e
 
-  pub none_node : word ≡ codes "node" → ((t : List ℕ) → words rest ≡ t ∷ [] → ¬ IsLabel t) → SpellsNothing line
+  pub none_node : word ≡ codes "node" → ((w : List ℕ) → words rest ≢ w ∷ []) → SpellsNothing line
   none_node e absent = (not_quiet, other)
     where
       other : (c : Command) → IsSpelled line c → ⊥
-      other (change (node t)) h = absent t (follows _ _ h.0) h.1
-      other (change (link u v)) h = clash _ e (change (link u v)) h (λ d. omega (arith, d))
-      other (change (unlink u v)) h = clash _ e (change (unlink u v)) h (λ d. omega (arith, d))
-      other (change (drop u)) h = clash _ e (change (drop u)) h (λ d. omega (arith, d))
-      other (path via x) h = clash _ e (path via x) h (λ d. omega (arith, d))
+      other (change (node t)) h = absent h.0 (follows _ _ h.1)
+      other c h = clash _ e c h (λ d. omega (arith, d))
 
   pub none_link : word ≡ codes "link" → ((u v : ℕ) → u < 2 ^ 32 → v < 2 ^ 32 → words rest ≢ node_word u ∷ node_word v ∷ []) → SpellsNothing line
   none_link e absent = (not_quiet, other)
     where
       other : (c : Command) → IsSpelled line c → ⊥
-      other (change (node t)) h = clash _ e (change (node t)) h (λ d. omega (arith, d))
       other (change (link u v)) h = absent u v h.1 h.2 (follows _ _ h.0)
-      other (change (unlink u v)) h = clash _ e (change (unlink u v)) h (λ d. omega (arith, d))
-      other (change (drop u)) h = clash _ e (change (drop u)) h (λ d. omega (arith, d))
-      other (path via x) h = clash _ e (path via x) h (λ d. omega (arith, d))
+      other c h = clash _ e c h (λ d. omega (arith, d))
 
   pub none_unlink : word ≡ codes "unlink" → ((u v : ℕ) → u < 2 ^ 32 → v < 2 ^ 32 → words rest ≢ node_word u ∷ node_word v ∷ []) → SpellsNothing line
   none_unlink e absent = (not_quiet, other)
     where
       other : (c : Command) → IsSpelled line c → ⊥
-      other (change (node t)) h = clash _ e (change (node t)) h (λ d. omega (arith, d))
-      other (change (link u v)) h = clash _ e (change (link u v)) h (λ d. omega (arith, d))
       other (change (unlink u v)) h = absent u v h.1 h.2 (follows _ _ h.0)
-      other (change (drop u)) h = clash _ e (change (drop u)) h (λ d. omega (arith, d))
-      other (path via x) h = clash _ e (path via x) h (λ d. omega (arith, d))
+      other c h = clash _ e c h (λ d. omega (arith, d))
 
   pub none_drop : word ≡ codes "drop" → ((u : ℕ) → u < 2 ^ 32 → words rest ≢ node_word u ∷ []) → SpellsNothing line
   none_drop e absent = (not_quiet, other)
     where
       other : (c : Command) → IsSpelled line c → ⊥
-      other (change (node t)) h = clash _ e (change (node t)) h (λ d. omega (arith, d))
-      other (change (link u v)) h = clash _ e (change (link u v)) h (λ d. omega (arith, d))
-      other (change (unlink u v)) h = clash _ e (change (unlink u v)) h (λ d. omega (arith, d))
       other (change (drop u)) h = absent u h.1 (follows _ _ h.0)
-      other (path via x) h = clash _ e (path via x) h (λ d. omega (arith, d))
+      other c h = clash _ e c h (λ d. omega (arith, d))
 
   pub none_path : word ≡ codes "path" → ((x : Seq) → SpellsPath line Data x → ⊥) → SpellsNothing line
   none_path e absent = (not_quiet, other)
     where
       other : (c : Command) → IsSpelled line c → ⊥
-      other (change (node t)) h = clash _ e (change (node t)) h (λ d. omega (arith, d))
-      other (change (link u v)) h = clash _ e (change (link u v)) h (λ d. omega (arith, d))
-      other (change (unlink u v)) h = clash _ e (change (unlink u v)) h (λ d. omega (arith, d))
-      other (change (drop u)) h = clash _ e (change (drop u)) h (λ d. omega (arith, d))
       other (path via x) h = absent x (asks_data line via x h).1
+      other (change d) h = clash _ e (change d) h (λ z. (no_query d).no_path (sym z))
+      other c h = clash _ e c h (λ d. omega (arith, d))
 
-  pub none_other : word ≢ codes "node" → word ≢ codes "link" → word ≢ codes "unlink" → word ≢ codes "drop" → word ≢ codes "path" → SpellsNothing line
-  none_other n l m d p = (not_quiet, other)
+  pub none_extents : word ≡ codes "extents" → ((via : Via) → IsIndex via → words rest ≢ via_word via ∷ []) → SpellsNothing line
+  none_extents e absent = (not_quiet, other)
     where
       other : (c : Command) → IsSpelled line c → ⊥
-      other (change (node t)) h = n (starts (change (node t)) h)
-      other (change (link u v)) h = l (starts (change (link u v)) h)
-      other (change (unlink u v)) h = m (starts (change (unlink u v)) h)
-      other (change (drop u)) h = d (starts (change (drop u)) h)
-      other (path via x) h = p (starts (path via x) h)
+      other (extents via) h = absent via h.1 (follows _ _ h.0)
+      other (change d) h = clash _ e (change d) h (λ z. (no_query d).no_extents (sym z))
+      other c h = clash _ e c h (λ d. omega (arith, d))
+
+  pub none_sizes : word ≡ codes "sizes" → words rest ≢ [] → SpellsNothing line
+  none_sizes e absent = (not_quiet, other)
+    where
+      other : (c : Command) → IsSpelled line c → ⊥
+      other sizes h = absent (follows _ _ h)
+      other (change d) h = clash _ e (change d) h (λ z. (no_query d).no_sizes (sym z))
+      other c h = clash _ e c h (λ d. omega (arith, d))
+
+  pub none_other : OpensOther word → word ≢ codes "path" → word ≢ codes "extents" → word ≢ codes "sizes" → SpellsNothing line
+  none_other o p x z = (not_quiet, other)
+    where
+      other : (c : Command) → IsSpelled line c → ⊥
+      other (change (node t)) h = o.no_node (starts (change (node t)) h)
+      other (change (link u v)) h = o.no_link (starts (change (link u v)) h)
+      other (change (unlink u v)) h = o.no_unlink (starts (change (unlink u v)) h)
+      other (change (drop u)) h = o.no_drop (starts (change (drop u)) h)
+      other (path via e) h = p (starts (path via e) h)
+      other (extents via) h = x (starts (extents via) h)
+      other sizes h = z (starts sizes h)
 
 -- a line that says nothing is no command
 pub silent : (line : List ℕ) → IsQuiet line → (c : Command) → IsSpelled line c → ⊥
@@ -140,12 +174,33 @@ silent line q c h = loud c (subst OpensNothing (begins line c h) (quiet_opens li
     loud (change (unlink u v)) o = omega (arith, o)
     loud (change (drop u)) o = omega (arith, o)
     loud (path via e) o = omega (arith, o)
+    loud (extents via) o = omega (arith, o)
+    loud sizes o = omega (arith, o)
+
+-- the word behind `node` spells no label
+pub node_bad : (line word : List ℕ) → SaysNode line word → ((t : List ℕ) → SpellsLabel word t → ⊥) → SpellsNothing line
+node_bad line word s absent = (quiet, other)
+  where
+    opens : first_word line ≡ codes "node"
+    opens = (head_word line _ _ _ _ (is_split line) s).0
+
+    quiet : ¬ IsQuiet line
+    quiet q = (let o : OpensNothing (codes "node") = subst OpensNothing opens (quiet_opens line _ _ (is_split line) q) in omega (arith, o))
+
+    other : (c : Command) → IsSpelled line c → ⊥
+    other (change (node t)) h = absent t (subst (λ w. SpellsLabel w t) (second_same (sym h.1 ∙ s)) h.2)
+    other c h = apart (first_word line) _ _ opens (begins line c h) (λ d. omega (arith, d))
 
 -- the line asks for what spells no expression
 pub path_bad : (line text : List ℕ) → SaysPath line text → ((e : Seq) → Spells text e → ⊥) → SpellsNothing line
 path_bad line text s absent =
     none_path line (first_word line) (behind_word line) (λ o. (let n : OpensNothing (codes "path") = subst OpensNothing s.0 o in omega (arith, n))) refl refl s.0
     (λ x h. absent x (subst (λ t. Spells t x) (sym s.2) h.2))
+
+-- what is read where the word behind `node` gave this error
+pub failed_node : (line word : List ℕ) (e : ScriptError) → SaysNode line word → (e ≡ Bad → (t : List ℕ) → SpellsLabel word t → ⊥) → Reads line (Err e)
+failed_node line word Bad s f = node_bad line word s (f refl)
+failed_node line word Memory s f = tt
 
 -- what is read where the text behind `path data` gave this error
 pub failed_path : (line text : List ℕ) (e : ScriptError) → SaysPath line text → (e ≡ Bad → (x : Seq) → Spells text x → ⊥) → Reads line (Err e)

@@ -1,22 +1,28 @@
 -- What lines spell, at worked lines and at near misses.
-use Rattle.std.proofs.Common.{◌≡◌, ℕ, ◌<◌, ◌^◌, List, [], ◌∷◌, length, drop, refl, sym, ap, ◌∙◌, arith, lit<, ◌⊎◌, inl, inr}
+use Rattle.std.proofs.Common.{◌≡◌, ℕ, ◌<◌, ◌^◌, List, [], ◌∷◌, length, drop, refl, sym, ap, ◌∙◌, subst, arith, lit<, ◌⊎◌, inl, inr}
 use Rattle.std.specs.Prelude.{codes, decimal, slice_index}
 use Rattle.std.proofs.lemmas.Fmt.{decimal_digit, first_decimal}
-use Rattle.px_spec.specs.Words.{IsLabel, node_word}
+use Rattle.px_spec.specs.Words.{node_word}
 use Rattle.px_spec.specs.Changes.{node, link, unlink, drop as drop_node}
+use Rattle.path_query.specs.Labels.{SpellsLabel}
 use Rattle.path_query.specs.Trees.{Seq, path_of}
+use Rattle.path_query.proofs.Examples.{plain_a, iri_a, iri_escaped, no_label_and}
 use Rattle.index_api.specs.declared.kinds.Via.{Via}
-use Rattle.index_api.specs.declared.kinds.Via.TheVariants.{Data}
-use Rattle.script_read.specs.Commands.{Command, change, path, IsQuiet, IsSpelled, SpellsNothing}
+use Rattle.index_api.specs.declared.kinds.Via.TheVariants.{Data, A, One, Fb}
+use Rattle.script_read.specs.Commands.{Command, change, path, extents, sizes, IsQuiet, IsSpelled, SpellsNothing}
 use Rattle.script_read.specs.Parts.{behind_word}
 use Rattle.script_read.proofs.CommandLemmas.{asks_data}
 
-label_a : IsLabel (codes "a")
-label_a = (refl, (λ e. omega (arith, ap (λ l. slice_index l 1) e)), (λ e. omega (arith, ap (λ l. slice_index l 0) e)), (λ e. omega (arith, ap (λ l. slice_index l 0) e)))
-
 -- blanks may stand at both ends and between the words
 node_spelled : IsSpelled (codes " node\ta ") (change (node (codes "a")))
-node_spelled = (refl, label_a)
+node_spelled = (codes "a", refl, inl (plain_a, refl))
+
+-- a label may be an IRI, which has one spelling
+iri_spelled : IsSpelled (codes "node <http://e/a>") (change (node (codes "<http://e/a>")))
+iri_spelled = (codes "<http://e/a>", refl, iri_a)
+
+escape_spelled : IsSpelled (codes "node <http://e/\\u0061>") (change (node (codes "<http://e/a>")))
+escape_spelled = (codes "<http://e/\\u0061>", refl, iri_escaped)
 
 abbrev second : List (List ℕ) → List ℕ
 second [] = []
@@ -54,9 +60,9 @@ no_second_node : (u : ℕ) → ¬ IsSpelled (codes "drop n0 n1") (change (drop_n
 no_second_node u h = omega (arith, ap length h.0)
 
 -- a number has no leading zero
-no_two_zeros : (n : ℕ) → n < 2 ^ 64 → decimal n ≡ 48 ∷ 48 ∷ [] → ⊥
-no_two_zeros n b e = elim (zero_or_more n) [
-  | inl z ↦ (let l : decimal 0 ≡ 48 ∷ 48 ∷ [] = ap decimal (sym z) ∙ e in let one = decimal_digit 0 (lit< tt) in omega (arith, ap length (sym one ∙ l)))
+no_two_digits : (n d : ℕ) → n < 2 ^ 64 → decimal n ≡ 48 ∷ d ∷ [] → ⊥
+no_two_digits n d b e = elim (zero_or_more n) [
+  | inl z ↦ (let l : decimal 0 ≡ 48 ∷ d ∷ [] = ap decimal (sym z) ∙ e in let one = decimal_digit 0 (lit< tt) in omega (arith, ap length (sym one ∙ l)))
   | inr p ↦ omega (arith, first_decimal n p b, ap (λ l. slice_index l 0) e)
 ]
   where
@@ -67,11 +73,14 @@ no_zero_in_front : (u v : ℕ) → ¬ IsSpelled (codes "link n00 n1") (change (l
 no_zero_in_front u v h =
     (let z : codes "link" ∷ codes "n00" ∷ codes "n1" ∷ [] ≡ codes "link" ∷ (110 ∷ decimal u) ∷ (110 ∷ decimal v) ∷ [] = h.0 in
     let d : 48 ∷ 48 ∷ [] ≡ decimal u = ap (λ ws. drop 1 (second ws)) z in
-    no_two_zeros u (let b = h.1 in omega (arith, b)) (sym d))
+    no_two_digits u 48 (let b = h.1 in omega (arith, b)) (sym d))
 
 -- one word too many
 no_third_word : (t : List ℕ) → ¬ IsSpelled (codes "node a b") (change (node t))
-no_third_word t h = (let z : codes "node" ∷ codes "a" ∷ codes "b" ∷ [] ≡ codes "node" ∷ t ∷ [] = h.0 in cc)
+no_third_word t h = omega (arith, ap length h.1)
+
+no_word_behind_iri : (t : List ℕ) → ¬ IsSpelled (codes "node <http://e/a> x") (change (node t))
+no_word_behind_iri t h = omega (arith, ap length h.1)
 
 -- a blank line and a comment are quiet
 blank_quiet : IsQuiet (codes " \t")
@@ -83,10 +92,41 @@ comment_quiet = refl
 -- what stands behind the first two words of a query
 -- an expression is asked of the graph itself; through an index no line asks yet
 path_spelled : IsSpelled (codes "path data a") (path Data (path_of (codes "a") []))
-path_spelled = (refl, refl, (codes " a", [], (codes " ", codes "a", [], refl, (label_a, refl), refl, refl), refl, refl))
+path_spelled = (refl, refl, (codes " a", [], (codes " ", codes "a", [], refl, inl (plain_a, refl), refl, refl), refl, refl))
 
 no_index : (via : Via) (e : Seq) → ¬ IsSpelled (codes "path one a") (path via e)
 no_index via e h = (let d = (asks_data (codes "path one a") via e h).1.1 in omega (arith, ap (λ l. slice_index l 0) d))
+
+-- the blocks of an index; its level has no zero in front
+extents_spelled : IsSpelled (codes " extents fb ") (extents Fb)
+extents_spelled = (refl, tt)
+
+extents_level : IsSpelled (codes "extents a2") (extents (A 2))
+extents_level = (ap (λ d. codes "extents" ∷ (97 ∷ d) ∷ []) (sym (decimal_digit 2 (lit< tt))), lit< tt)
+
+no_blocks_of_data : (via : Via) → ¬ IsSpelled (codes "extents data") (extents via)
+no_blocks_of_data Data h = h.1
+no_blocks_of_data (A level) h = (let e = ap (λ ws. slice_index (second ws) 0) h.0 in omega (arith, e))
+no_blocks_of_data One h = (let e = ap (λ ws. slice_index (second ws) 0) h.0 in omega (arith, e))
+no_blocks_of_data Fb h = (let e = ap (λ ws. slice_index (second ws) 0) h.0 in omega (arith, e))
+
+no_zero_in_level : (via : Via) → ¬ IsSpelled (codes "extents a01") (extents via)
+no_zero_in_level Data h = h.1
+no_zero_in_level (A level) h =
+    (let d : 48 ∷ 49 ∷ [] ≡ decimal level = ap (λ ws. drop 1 (second ws)) h.0 in
+    no_two_digits level 49 (let b = h.1 in omega (arith, b)) (sym d))
+no_zero_in_level One h = (let e = ap (λ ws. slice_index (second ws) 0) h.0 in omega (arith, e))
+no_zero_in_level Fb h = (let e = ap (λ ws. slice_index (second ws) 0) h.0 in omega (arith, e))
+
+no_index_named : (via : Via) → ¬ IsSpelled (codes "extents") (extents via)
+no_index_named via h = omega (arith, ap length h.0)
+
+-- `sizes` stands alone
+sizes_spelled : IsSpelled (codes "sizes") sizes
+sizes_spelled = refl
+
+no_word_behind_sizes : ¬ IsSpelled (codes "sizes x") sizes
+no_word_behind_sizes h = omega (arith, ap length h)
 
 text_of_query : behind_word (behind_word (codes "path data a / b ")) ≡ codes " a / b "
 text_of_query = refl
@@ -96,8 +136,10 @@ bad_label : SpellsNothing (codes "node and")
 bad_label = (λ q. omega (arith, q), other)
   where
     other : (c : Command) → ¬ IsSpelled (codes "node and") c
-    other (change (node t)) h = h.1.1 (sym (ap second h.0))
+    other (change (node t)) h = no_label_and t (subst (λ w. SpellsLabel w t) (sym (ap second h.1)) h.2)
     other (change (link u v)) h = omega (arith, ap length h.0)
     other (change (unlink u v)) h = omega (arith, ap length h.0)
     other (change (drop_node u)) h = omega (arith, ap (λ ws. slice_index (first ws) 0) h.0)
     other (path via e) h = omega (arith, ap (λ l. slice_index l 0) (asks_data (codes "node and") via e h).1.0)
+    other (extents via) h = omega (arith, ap (λ ws. slice_index (first ws) 0) h.0)
+    other sizes h = omega (arith, ap length h)

@@ -1,4 +1,3 @@
-pub mod AsciiLemmas
 pub mod WordLemmas
 pub mod CommandLemmas
 pub mod CommandLaws

@@ -6,7 +6,7 @@ use Rattle.std.specs.Prelude.{not, ◌==◌, IsTrue, ◌↔◌}
 use Rattle.std.specs.List.{slice_split, position_or_len, prefix_len, onto_first}
 use Rattle.std.proofs.lemmas.List.Splits.{slice_split_first, slice_split_none}
 use Rattle.std.proofs.lemmas.List.Sums.{fails_before_first, prefix_len-le-length}
-use Rattle.px_spec.specs.Words.{is_blank, words, is_name, IsLabel}
+use Rattle.px_spec.specs.Words.{is_blank, words}
 use Rattle.px_spec.specs.Words.{node_word}
 use Rattle.script_read.specs.Parts.{after_blanks, first_word, behind_word, IsSplit}
 
@@ -137,9 +137,6 @@ head_word line (b ∷ bs) rest u vs s e =
 -- what is known of the words from the first one and the rest
 pub words-cons : (line word rest : List ℕ) (vs : List (List ℕ)) → IsSplit line word rest → word ≢ [] → words rest ≡ vs → words line ≡ word ∷ vs
 words-cons line word rest vs s ne e = s.some ne ∙ ap (λ ws. word ∷ ws) e
-
-pub label_some : (w : List ℕ) → IsLabel w → w ≢ []
-label_some w l e = absurd (true≢false (sym l.0 ∙ ap is_name e))
 
 pub node_some : (w : List ℕ) (n : ℕ) → w ≡ node_word n → w ≢ []
 node_some w n e f = let z : node_word n ≡ [] = sym e ∙ f in cc

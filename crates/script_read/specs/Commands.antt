@@ -1,11 +1,13 @@
 -- What a line of a script spells.
 use Rattle.std.specs.Prelude.{ℕ, ◌≡◌, ◌<◌, ◌^◌, ◌⊎◌, List, [], ◌∷◌, codes}
-use Rattle.px_spec.specs.Words.{words, IsLabel, node_word}
+use Rattle.px_spec.specs.Words.{words, node_word}
 use Rattle.px_spec.specs.Changes.{Change, node, link, unlink, drop}
+use Rattle.path_query.specs.Labels.{SpellsLabel}
 use Rattle.path_query.specs.Trees.{Seq}
 use Rattle.path_query.specs.Spelling.{Spells}
 use Rattle.index_api.specs.declared.kinds.Via.{Via}
-use Rattle.index_api.specs.declared.kinds.Via.TheVariants.{Data}
+use Rattle.index_api.specs.declared.kinds.Via.TheVariants.{Data, A, One, Fb}
+use Rattle.index_api.specs.Spelling.{via_word}
 use Rattle.script_read.specs.Parts.{first_word, behind_word}
 
 pub data Command : Type 0 where
@@ -13,6 +15,10 @@ pub data Command : Type 0 where
   change : Change → Command
   -- the answers of a path expression, asked through this
   path : Via → Seq → Command
+  -- the blocks of this index, each with its nodes
+  extents : Via → Command
+  -- how many nodes and edges the graph and each index have
+  sizes : Command
 
 -- no words, or a first word that begins with # (35)
 abbrev pub SaysNothing : List (List ℕ) → Type 0
@@ -29,7 +35,7 @@ abbrev pub SpellsPair : List ℕ → List ℕ → ℕ → ℕ → Type 0
 SpellsPair line word u v = (words line ≡ word ∷ node_word u ∷ node_word v ∷ []) × (u < 2 ^ 32) × (v < 2 ^ 32)
 
 abbrev pub SpellsChange : List ℕ → Change → Type 0
-SpellsChange line (node t) = (words line ≡ codes "node" ∷ t ∷ []) × IsLabel t
+SpellsChange line (node t) = (word : List ℕ) × (words line ≡ codes "node" ∷ word ∷ []) × SpellsLabel word t
 SpellsChange line (link u v) = SpellsPair line (codes "link") u v
 SpellsChange line (unlink u v) = SpellsPair line (codes "unlink") u v
 SpellsChange line (drop u) = (words line ≡ codes "drop" ∷ node_word u ∷ []) × (u < 2 ^ 32)
@@ -40,10 +46,22 @@ SpellsPath line Data e =
     (first_word line ≡ codes "path") × (first_word (behind_word line) ≡ codes "data") × Spells (behind_word (behind_word line)) e
 SpellsPath line via e = ⊥
 
+-- an index, whose level has 32 bits; the graph itself is none
+abbrev pub IsIndex : Via → Type 0
+IsIndex Data = ⊥
+IsIndex (A level) = level < 2 ^ 32
+IsIndex One = Unit {0}
+IsIndex Fb = Unit {0}
+
+abbrev pub SpellsExtents : List ℕ → Via → Type 0
+SpellsExtents line via = (words line ≡ codes "extents" ∷ via_word via ∷ []) × IsIndex via
+
 -- the line is this command
 abbrev pub IsSpelled : List ℕ → Command → Type 0
 IsSpelled line (change c) = SpellsChange line c
 IsSpelled line (path via e) = SpellsPath line via e
+IsSpelled line (extents via) = SpellsExtents line via
+IsSpelled line sizes = words line ≡ codes "sizes" ∷ []
 
 -- the line is neither quiet nor a command
 abbrev pub SpellsNothing : List ℕ → Type 0
@@ -52,6 +70,14 @@ SpellsNothing line = (¬ IsQuiet line) × ((c : Command) → IsSpelled line c �
 -- the line is quiet, or it is a command
 abbrev pub SpellsSomething : List ℕ → Type 0
 SpellsSomething line = IsQuiet line ⊎ ((c : Command) × IsSpelled line c)
+
+-- the word spells at most one label
+abbrev pub LabelsOnce : List ℕ → Type 0
+LabelsOnce word = (t u : List ℕ) → SpellsLabel word t → SpellsLabel word u → t ≡ u
+
+-- the text spells at most one path expression
+abbrev pub PathsOnce : List ℕ → Type 0
+PathsOnce text = (e f : Seq) → Spells text e → Spells text f → e ≡ f
 
 -- the line spells at most one command
 abbrev pub SpellsOnce : List ℕ → Type 0

@@ -1,22 +1,37 @@
 -- What a line says, before any memory is taken.
-use Rattle.std.specs.Prelude.{ℕ, ◌≡◌, List, codes}
-use Rattle.px_spec.specs.Changes.{node, link, unlink, drop}
-use Rattle.script_read.specs.Commands.{change, IsQuiet, IsSpelled, SpellsNothing}
-use Rattle.script_read.specs.Parts.{first_word, behind_word}
+use Rattle.std.specs.Prelude.{ℕ, ◌≡◌, ◌≢◌, List, [], ◌∷◌, codes}
+use Rattle.px_spec.specs.Words.{words}
+use Rattle.px_spec.specs.Changes.{link, unlink, drop}
+use Rattle.script_read.specs.Commands.{change, extents, sizes, IsQuiet, IsSpelled, SpellsNothing}
+use Rattle.script_read.specs.Parts.{first_word, behind_word, OpensNothing}
 use Rattle.script_read.specs.declared.scan.Said.{Said}
-use Rattle.script_read.specs.declared.scan.Said.TheVariants.{Quiet, Node, Link, Unlink, Drop, Path, Bad}
+use Rattle.script_read.specs.declared.scan.Said.TheVariants.{Quiet, Node, Link, Unlink, Drop, Path, Extents, Sizes, Bad}
+
+-- the line adds a node with the label that this word spells
+abbrev pub SaysNode : List ℕ → List ℕ → Type 0
+SaysNode line word = words line ≡ codes "node" ∷ word ∷ []
 
 -- the line asks for the answers of what this text spells
 abbrev pub SaysPath : List ℕ → List ℕ → Type 0
 SaysPath line text =
     (first_word line ≡ codes "path") × (first_word (behind_word line) ≡ codes "data") × (text ≡ behind_word (behind_word line))
 
+-- a first word, but of no change
+pub record OpensOther (word : List ℕ) : Type 0 where
+  pub loud : ¬ OpensNothing word
+  pub no_node : word ≢ codes "node"
+  pub no_link : word ≢ codes "link"
+  pub no_unlink : word ≢ codes "unlink"
+  pub no_drop : word ≢ codes "drop"
+
 -- the line says this
 abbrev pub Says : List ℕ → Said → Type 0
 Says line Quiet = IsQuiet line
-Says line (Node t) = IsSpelled line (change (node t.now))
+Says line (Node word) = SaysNode line word.now
 Says line (Link u v) = IsSpelled line (change (link u v))
 Says line (Unlink u v) = IsSpelled line (change (unlink u v))
 Says line (Drop u) = IsSpelled line (change (drop u))
 Says line (Path text) = SaysPath line text.now
+Says line (Extents via) = IsSpelled line (extents via)
+Says line Sizes = IsSpelled line sizes
 Says line Bad = SpellsNothing line

@@ -1,22 +1,22 @@
 // Commands, and the lines that spell them.
-ghost use Rattle.std.specs.Prelude.{◌≡◌, ◌≢◌, ℕ, IfOk, IsErrOf, Err};
-ghost use Rattle.px_spec.specs.Words.{IsLabel};
+ghost use Rattle.std.specs.Prelude.{ℕ, List, IfOk, IsErrOf};
+ghost use Rattle.path_query.specs.Labels.{SpellsLabel};
 ghost use Rattle.path_query.specs.Trees.{Seq};
 ghost use Rattle.path_query.specs.Spelling.{Spells};
-ghost use Rattle.script_read.specs.Commands.{Command as Spelled, IsQuiet, IsSpelled, SpellsOnce};
+ghost use Rattle.script_read.specs.Commands.{Command as Spelled, IsQuiet, IsSpelled, LabelsOnce, PathsOnce, SpellsOnce};
 ghost use Rattle.script_read.specs.Reading.{Reads};
 
 use crate::scan::{Said, scan};
 use index_api::Via;
-use path_query::{ExprError, PathExpr};
-use px_base::{NodeId, Text, TextError};
+use path_query::{ExprError, PathExpr, read_label};
+use px_base::{NodeId, Text};
 use std::alloc::Global;
 use thiserror::Error;
 
 /// A command of a script.
 #[derive(Drop)]
 pub enum Command {
-    /// `node LABEL`: one more node, with this label.
+    /// `node LABEL`: one more node, with this label. An IRI is in its canonical spelling, brackets included.
     Node(Text),
     /// `link NODE NODE`: an edge from the first node to the second.
     Link(NodeId, NodeId),
@@ -27,6 +27,10 @@ pub enum Command {
     /// `path VIA EXPR`: the nodes in which the walks end that the expression matches. So far VIA is `data`, the
     /// graph itself.
     Path(Via, PathExpr),
+    /// `extents INDEX`: the blocks of this index, which isn't the graph itself, each with its nodes.
+    Extents(Via),
+    /// `sizes`: how many nodes and edges the graph and each index have.
+    Sizes,
 }
 
 /// Why a line gives no command.
@@ -40,16 +44,16 @@ pub enum ScriptError {
     Memory,
 }
 
-/// The text of a label.
-fn label_text(alloc: Global, label: &[u8]) -> Result<Text, ScriptError>
-    requires { IsLabel label.now }
-    ensures ok { IfOk result (λ t. t ≡ label.now) }
-    ensures memory { result ≢ Err ScriptError.Bad }
+/// The label that the word spells.
+fn parse_label(alloc: Global, word: &[u8]) -> Result<Text, ScriptError>
+    ensures ok { IfOk result (λ t. SpellsLabel word.now t) }
+    ensures bad { IsErrOf result ScriptError.Bad → (t : List ℕ) → SpellsLabel word.now t → ⊥ }
+    ensures once { LabelsOnce word.now }
 {
-    match Text::from_bytes(alloc, label) {
-        Ok(text) => Ok(text),
-        Err(TextError::NotUtf8) => unreachable!(),
-        Err(TextError::Memory) => Err(ScriptError::Memory),
+    match read_label(alloc, word) {
+        Ok(Some(label)) => Ok(label),
+        Ok(None) => Err(ScriptError::Bad),
+        Err(_) => Err(ScriptError::Memory),
     }
 }
 
@@ -57,6 +61,7 @@ fn label_text(alloc: Global, label: &[u8]) -> Result<Text, ScriptError>
 fn parse_path(alloc: Global, text: &[u8]) -> Result<PathExpr, ScriptError>
     ensures ok { IfOk result (Spells text.now) }
     ensures bad { IsErrOf result ScriptError.Bad → (e : Seq) → Spells text.now e → ⊥ }
+    ensures once { PathsOnce text.now }
 {
     match PathExpr::parse(alloc, text) {
         Ok(expr) => Ok(expr),
@@ -67,6 +72,7 @@ fn parse_path(alloc: Global, text: &[u8]) -> Result<PathExpr, ScriptError>
 
 /// The command that the line spells, which is one; None exactly for a blank or comment line. `Bad` comes exactly
 /// where the line is neither, `Memory` at want of memory. The line is without its end. Linear in the line.
+#[tactic(auto, using(crate::proofs::CommandLaws::reading_laws))]
 pub fn read(alloc: Global, line: &[u8]) -> Result<Option<Command>, ScriptError>
     ensures reads { Reads line.now result }
     ensures once { SpellsOnce line.now }
@@ -74,11 +80,13 @@ pub fn read(alloc: Global, line: &[u8]) -> Result<Option<Command>, ScriptError>
 {
     match scan(line) {
         Said::Quiet => Ok(None),
-        Said::Node(label) => Ok(Some(Command::Node(label_text(alloc, label)?))),
+        Said::Node(word) => Ok(Some(Command::Node(parse_label(alloc, word)?))),
         Said::Link(from, to) => Ok(Some(Command::Link(from, to))),
         Said::Unlink(from, to) => Ok(Some(Command::Unlink(from, to))),
         Said::Drop(node) => Ok(Some(Command::Drop(node))),
         Said::Path(text) => Ok(Some(Command::Path(Via::Data, parse_path(alloc, text)?))),
+        Said::Extents(via) => Ok(Some(Command::Extents(via))),
+        Said::Sizes => Ok(Some(Command::Sizes)),
         Said::Bad => Err(ScriptError::Bad),
     }
 }

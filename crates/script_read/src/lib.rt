@@ -2,6 +2,7 @@
 #![tactic(auto)]
 
 mod commands;
+mod indexes;
 mod nodes;
 mod scan;
 #[cfg(test)]

@@ -26,16 +26,24 @@ fn is_printed(number: u32, digits: &[u8]) -> bool
     Buffer::new().format(number).as_bytes() == digits
 }
 
+/// The number that is printed as these digits.
+pub(crate) fn printed_number(digits: &[u8]) -> Option<u32>
+    ensures found { IfSome result (λ n. digits.now ≡ decimal n) }
+    ensures absent { IfNone result ((n : ℕ) → n < 2 ^ 32 → digits.now ≢ decimal n) }
+{
+    match lenient_number(digits) {
+        Some(number) if is_printed(number, digits) => Some(number),
+        _ => None,
+    }
+}
+
 /// The number of a node that is written as `n7` is.
 fn node_number(word: &[u8]) -> Option<NodeId>
     ensures found { IfSome result (λ n. word.now ≡ node_word n) }
     ensures absent { IfNone result ((n : ℕ) → n < 2 ^ 32 → word.now ≢ node_word n) }
 {
     match word {
-        [b'n', digits @ ..] => match lenient_number(digits) {
-            Some(number) if is_printed(number, digits) => Some(number),
-            _ => None,
-        },
+        [b'n', digits @ ..] => printed_number(digits),
         _ => None,
     }
 }

@@ -1,39 +1,29 @@
 // What a line of a script says.
 ghost use Rattle.std.specs.Prelude.{◌≡◌, ◌≢◌, ◌↔◌, List, ℕ, IsTrue, IfSome, IfNone, [], ◌∷◌, codes};
-ghost use Rattle.px_spec.specs.Words.{words, IsLabel};
-ghost use Rattle.script_read.specs.Commands.{Command, IsQuiet, IsSpelled, SpellsOnce};
+ghost use Rattle.px_spec.specs.Words.{words};
 ghost use Rattle.script_read.specs.Parts.{first_word, behind_word, OpensNothing};
-ghost use Rattle.script_read.specs.Saying.{Says};
+ghost use Rattle.script_read.specs.Saying.{OpensOther, Says};
 
+use crate::indexes::one_index;
 use crate::nodes::{one_node, two_nodes};
-use crate::words::{is_over, is_word, split_word};
-use path_query::is_label;
+use crate::words::{is_over, is_word, one_word, split_word};
+use index_api::Via;
 use px_base::NodeId;
 
 /// What a line says. Its parts are borrowed from the line.
 #[derive(Clone, Copy)]
 pub(crate) enum Said<'a> {
     Quiet,
+    /// The text of a label.
     Node(&'a [u8]),
     Link(NodeId, NodeId),
     Unlink(NodeId, NodeId),
     Drop(NodeId),
     /// The text of a path expression, to be asked of the graph itself.
     Path(&'a [u8]),
+    Extents(Via),
+    Sizes,
     Bad,
-}
-
-/// The label that follows `node`.
-fn node_label(rest: &[u8]) -> Option<&[u8]>
-    ensures found { IfSome result (λ t. (words rest.now ≡ t.now ∷ []) × IsLabel t.now) }
-    ensures absent { IfNone result ((t : List ℕ) → words rest.now ≡ t ∷ [] → ¬ IsLabel t) }
-{
-    let (label, rest) = split_word(rest);
-    if is_label(label) && is_over(rest) {
-        Some(label)
-    } else {
-        None
-    }
 }
 
 /// The text of the expression that follows `path data`.
@@ -56,18 +46,41 @@ fn opens_nothing(word: &[u8]) -> bool
     matches!(word, [] | [b'#', ..])
 }
 
-/// What the line says, which is one thing. Takes no memory.
-#[tactic(auto, using(crate::proofs::CommandLaws::reading_laws))]
+/// What a line with these parts says, which is no change.
+fn scan_query<'a>(word: &'a [u8], rest: &'a [u8]) -> Said<'a>
+    requires { OpensOther word.now }
+    ensures { (line : List ℕ) → word.now ≡ first_word line → rest.now ≡ behind_word line → Says line result }
+{
+    if is_word(word, "path") {
+        match path_text(rest) {
+            Some(text) => Said::Path(text),
+            None => Said::Bad,
+        }
+    } else if is_word(word, "extents") {
+        match one_index(rest) {
+            Some(via) => Said::Extents(via),
+            None => Said::Bad,
+        }
+    } else if is_word(word, "sizes") {
+        if is_over(rest) {
+            Said::Sizes
+        } else {
+            Said::Bad
+        }
+    } else {
+        Said::Bad
+    }
+}
+
+/// What the line says. Takes no memory.
 pub(crate) fn scan(line: &[u8]) -> Said<'_>
-    ensures says { Says line.now result }
-    ensures once { SpellsOnce line.now }
-    ensures quiet { IsQuiet line.now → (c : Command) → IsSpelled line.now c → ⊥ }
+    ensures { Says line.now result }
 {
     let (word, rest) = split_word(line);
     if opens_nothing(word) {
         Said::Quiet
     } else if is_word(word, "node") {
-        match node_label(rest) {
+        match one_word(rest) {
             Some(label) => Said::Node(label),
             None => Said::Bad,
         }
@@ -86,12 +99,7 @@ pub(crate) fn scan(line: &[u8]) -> Said<'_>
             Some(node) => Said::Drop(node),
             None => Said::Bad,
         }
-    } else if is_word(word, "path") {
-        match path_text(rest) {
-            Some(text) => Said::Path(text),
-            None => Said::Bad,
-        }
     } else {
-        Said::Bad
+        scan_query(word, rest)
     }
 }

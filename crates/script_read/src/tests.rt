@@ -13,6 +13,8 @@ enum Short {
     Pair(char, u32, u32),
     Drop(u32),
     Path,
+    Extents(Via),
+    Sizes,
     Bad,
     Memory,
 }
@@ -25,6 +27,8 @@ fn shorten(read: Result<Option<Command>, ScriptError>) -> Short {
         Ok(Some(Command::Unlink(from, to))) => Short::Pair('u', from, to),
         Ok(Some(Command::Drop(node))) => Short::Drop(node),
         Ok(Some(Command::Path(_, _))) => Short::Path,
+        Ok(Some(Command::Extents(via))) => Short::Extents(via),
+        Ok(Some(Command::Sizes)) => Short::Sizes,
         Err(ScriptError::Bad) => Short::Bad,
         Err(ScriptError::Memory) => Short::Memory,
     }
@@ -32,15 +36,21 @@ fn shorten(read: Result<Option<Command>, ScriptError>) -> Short {
 
 #[test]
 fn lines_are_commands(rt: HostRuntime) -> Result<(), Fail> {
-    let rows: [(&[u8], Short); 8] = [
+    let rows: [(&[u8], Short); 14] = [
         (b"", Short::Quiet),
         (b" \t# node a", Short::Quiet),
         (b" node\ta ", Short::Node),
+        (b"node <http://e/p>", Short::Node),
         (b"link n0 n4294967295", Short::Pair('l', 0, 4294967295)),
         (b"unlink n10 n2", Short::Pair('u', 10, 2)),
         (b"drop n7", Short::Drop(7)),
         (b"path data a / b", Short::Path),
         (b"path one a", Short::Bad),
+        (b"extents one", Short::Extents(Via::One)),
+        (b" extents\tfb ", Short::Extents(Via::Fb)),
+        (b"extents a0", Short::Extents(Via::A(0))),
+        (b"extents a4294967295", Short::Extents(Via::A(4294967295))),
+        (b"sizes", Short::Sizes),
     ];
     for (line, short) in rows {
         assert_eq!(rt; shorten(read(rt.alloc(), line)), short);
@@ -50,10 +60,12 @@ fn lines_are_commands(rt: HostRuntime) -> Result<(), Fail> {
 
 #[test]
 fn near_misses_are_bad(rt: HostRuntime) -> Result<(), Fail> {
-    let lines: [&[u8]; 10] = [
+    let lines: [&[u8]; 18] = [
         b"node",
         b"node and",
         b"node a b",
+        b"node <http://e/p> x",
+        b"node <http://e/p",
         b"link n0 n01",
         b"link n0 n4294967296",
         b"link n0",
@@ -61,9 +73,25 @@ fn near_misses_are_bad(rt: HostRuntime) -> Result<(), Fail> {
         b"drop n0 n1",
         b"path data a b",
         b"Node a",
+        b"extents",
+        b"extents data",
+        b"extents a01",
+        b"extents a4294967296",
+        b"extents one fb",
+        b"sizes x",
     ];
     for line in lines {
         assert_eq!(rt; shorten(read(rt.alloc(), line)), Short::Bad);
+    }
+    Ok(())
+}
+
+#[test]
+fn an_iri_has_one_spelling(rt: HostRuntime) -> Result<(), Fail> {
+    let alloc = rt.alloc();
+    match read(alloc, b"node <http://e/\\u0061>") {
+        Ok(Some(Command::Node(label))) => assert_eq!(rt; label.as_str(), "<http://e/a>"),
+        _ => return Err("a command".into()),
     }
     Ok(())
 }

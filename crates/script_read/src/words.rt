@@ -1,5 +1,5 @@
 // The words of a line, one after another.
-ghost use Rattle.std.specs.Prelude.{◌≡◌, ◌↔◌, IsTrue, []};
+ghost use Rattle.std.specs.Prelude.{◌≡◌, ◌≢◌, ◌↔◌, ℕ, List, IsTrue, IfSome, IfNone, [], ◌∷◌};
 ghost use Rattle.px_spec.specs.Words.{words};
 ghost use Rattle.script_read.specs.Parts.{first_word, behind_word, IsSplit};
 
@@ -26,4 +26,17 @@ pub(crate) fn is_word(word: &[u8], text: &str) -> bool
     ensures { IsTrue result ↔ (word.now ≡ text.now) }
 {
     word == text.as_bytes()
+}
+
+/// The one word that follows.
+pub(crate) fn one_word(rest: &[u8]) -> Option<&[u8]>
+    ensures found { IfSome result (λ w. words rest.now ≡ w.now ∷ []) }
+    ensures absent { IfNone result ((w : List ℕ) → words rest.now ≢ w ∷ []) }
+{
+    let (word, rest) = split_word(rest);
+    if !word.is_empty() && is_over(rest) {
+        Some(word)
+    } else {
+        None
+    }
 }

@@ -1,0 +1,34 @@
+use Rattle.std.proofs.Common.{refl, sym, true≢false, ap, ◌∙◌, ◌∷◌, []}
+use Rattle.std.specs.Prelude.{codes}
+use Rattle.index_api.specs.Spelling.{via_word}
+use Rattle.script_read.specs.Parts.{first_word, behind_word}
+use Rattle.script_read.proofs.CommandLemmas.{words_opened, none_path, none_extents, none_sizes, none_other}
+use Rattle.script_read.proofs.scan.scan_query.Goals as goal
+
+pub returns-in-Some : goal.returns-in-Some
+returns-in-Some c line w r =
+    let f = c.in-Some.ensures.found in (sym w ∙ c.if-is_word.ensures.0 refl, ap first_word (sym r) ∙ f.0, f.1 ∙ ap behind_word r)
+
+pub returns-in-None : goal.returns-in-None
+returns-in-None c line w r =
+    none_path line _ _ c.requires.loud w r (c.if-is_word.ensures.0 refl) (λ x h. c.in-None.ensures.absent (ap first_word r ∙ h.1))
+
+pub returns-in-Some-one_index : goal.returns-in-Some-one_index
+returns-in-Some-one_index c line w r = (
+  words_opened line _ _ (codes "extents") (via_word c.in-Some-one_index.via ∷ []) w r c.requires.loud (c.if-is_word-2.ensures.0 refl) c.in-Some-one_index.ensures.found,
+  c.in-Some-one_index.ensures.index,
+)
+
+pub returns-in-None-one_index : goal.returns-in-None-one_index
+returns-in-None-one_index c line w r = none_extents line _ _ c.requires.loud w r (c.if-is_word-2.ensures.0 refl) c.in-None-one_index.ensures.absent
+
+pub returns-then-is_over : goal.returns-then-is_over
+returns-then-is_over c line w r = words_opened line _ _ (codes "sizes") [] w r c.requires.loud (c.if-is_word-3.ensures.0 refl) (c.if-is_over.ensures.0 refl)
+
+pub returns-else-is_over : goal.returns-else-is_over
+returns-else-is_over c line w r = none_sizes line _ _ c.requires.loud w r (c.if-is_word-3.ensures.0 refl) (λ e. true≢false (sym (c.if-is_over.ensures.1 e)))
+
+pub returns-else-is_word-3 : goal.returns-else-is_word-3
+returns-else-is_word-3 c line w r =
+    none_other line _ _ c.requires.loud w r c.requires
+    (λ e. true≢false (sym (c.if-is_word.ensures.1 e))) (λ e. true≢false (sym (c.if-is_word-2.ensures.1 e))) (λ e. true≢false (sym (c.if-is_word-3.ensures.1 e)))
