@@ -1,0 +1,131 @@
+-- The levels that are built so far.
+use Rattle.std.proofs.Common.{◌≡◌, ℕ, suc, ◌+◌, ◌<◌, ◌≤◌, List, [], ◌∷◌, ◌++◌, length, Option, refl, sym, ◌∙◌, ap, subst, inl, inr, Bool, arith}
+use Rattle.std.proofs.lemmas.Bool.{cases_lt}
+use Rattle.std.proofs.lemmas.List.{get_or_push, get_or_append_left, length-append}
+use Rattle.px_spec.specs.Graphs.{Graph, has_edge}
+use Rattle.px_spec.specs.Shapes.{Shape, shape_of}
+use Rattle.label_graph.specs.Views.{label_number}
+use Rattle.bisim_spec.specs.Bisimilarity.{Bis}
+use Rattle.bisim_spec.specs.Partitions.{block_at, Agrees}
+use Rattle.bisim_spec.specs.Views.{ViewFits}
+use Rattle.bisim_levels.specs.Keys.{IsKey}
+use Rattle.bisim_levels.specs.Refining.{AreNumbered}
+use Rattle.bisim_levels.specs.Sides.{view_shape, is_near, no_neighbours}
+use Rattle.bisim_levels.specs.declared.sides.Side.TheVariants.{Parents}
+use Rattle.quotient.specs.Quotients.{view_of}
+use Rattle.ak_family.specs.Families.{KeyedQuotient, no_level, level_at, blocks_at, AreLabelKeys, AreParentKeys}
+use Rattle.ak_family.specs.Layers.{AreLabelled, SameBlocks}
+use Rattle.ak_family.proofs.Filled.{IsShown, agrees_moved}
+
+-- level i is the last one, and has the blocks of the list
+pub record IsBuilt (g : Graph) (i : ℕ) (levels : List KeyedQuotient) (block : List (Option ℕ)) (labels : List ℕ) : Type 0 where
+  pub count : length levels ≡ i + 1
+  pub fits : (j : ℕ) → j ≤ i → ViewFits g (view_of (level_at levels j).quotient)
+  pub agrees : (j : ℕ) → j ≤ i → Agrees (view_shape g) (blocks_at levels j) (Bis (view_shape g) j)
+  pub label_keys : AreLabelKeys g levels
+  pub parent_keys : (j : ℕ) → j < i → AreParentKeys g levels j
+  pub top : SameBlocks (blocks_at levels i) block
+  pub labelled : AreLabelled g block labels
+
+key_moved : (own own2 : ℕ → Option ℕ) (base base2 : List (Option ℕ)) (near : ℕ → ℕ → Bool) (n : ℕ) (key : List ℕ) → ((m : ℕ) → own2 m ≡ own m) → SameBlocks base2 base
+    → IsKey own base near n key → IsKey own2 base2 near n key
+key_moved own own2 base base2 near n key owns bases k = record {
+  number = k.number;
+  around = k.around;
+  is = k.is;
+  own_is = owns n ∙ k.own_is;
+  rising = k.rising;
+  each = λ b h. let p = k.each b h in (p.0, p.1, bases p.0 ∙ p.2);
+  every = λ p b h e. k.every p b h (sym (bases p) ∙ e);
+}
+
+pub numbered_moved : (own own2 : ℕ → Option ℕ) (base base2 : List (Option ℕ)) (near : ℕ → ℕ → Bool) (next next2 : List (Option ℕ)) (keys : List (List ℕ))
+    → ((m : ℕ) → own2 m ≡ own m) → SameBlocks base2 base → SameBlocks next2 next → AreNumbered own base near next keys → AreNumbered own2 base2 near next2 keys
+numbered_moved own own2 base base2 near next next2 keys owns bases nexts w = record {
+  none = λ n e. nexts n ∙ w.none n (sym (owns n) ∙ e);
+  some = λ n b e. let f = w.some n b (sym (owns n) ∙ e) in (f.0, f.1, nexts n ∙ f.2, f.3, key_moved own own2 base base2 near n f.1 owns bases f.4);
+  inhabited = λ k h. let m = w.inhabited k h in (m.0, nexts m.0 ∙ m.1);
+}
+
+pub built_lowest : (g : Graph) (level : KeyedQuotient) (block : List (Option ℕ)) (labels : List ℕ) (keys : List (List ℕ)) (levels : List KeyedQuotient)
+    → Agrees (view_shape g) block (Bis (view_shape g) 0) → AreLabelled g block labels → AreNumbered (label_number g) [] no_neighbours block keys
+    → SameBlocks level.quotient.blocks.block_of block → ViewFits g (view_of level.quotient) → level.keys ≡ keys → levels ≡ level ∷ [] → IsBuilt g 0 levels block labels
+built_lowest g level block labels keys levels a is w same fits keys_same one =
+    let first : (j : ℕ) → j ≤ 0 → j ≡ 0 = λ j h. omega (arith, h) in
+    let here : (j : ℕ) → j ≤ 0 → level_at levels j ≡ level = λ j h. ap (level_at levels) (first j h) ∙ ap (λ ls. level_at ls 0) one in
+    let keyed : AreNumbered (label_number g) [] no_neighbours level.quotient.blocks.block_of level.keys =
+    numbered_moved (label_number g) (label_number g) [] [] no_neighbours block level.quotient.blocks.block_of level.keys (λ m. refl) (λ m. refl) same
+    (subst (λ ks. AreNumbered (label_number g) [] no_neighbours block ks) (sym keys_same) w) in
+    record {
+      count = ap length one;
+      fits = λ j h. subst (λ (l : KeyedQuotient). ViewFits g (view_of l.quotient)) (sym (here j h)) fits;
+      agrees = λ j h.
+          subst (λ (l : KeyedQuotient). Agrees (view_shape g) l.quotient.blocks.block_of (Bis (view_shape g) j)) (sym (here j h))
+          (subst (λ n. Agrees (view_shape g) level.quotient.blocks.block_of (Bis (view_shape g) n)) (sym (first j h)) (agrees_moved (view_shape g) level.quotient.blocks.block_of block (Bis (view_shape g) 0) same a));
+      label_keys = subst (λ (l : KeyedQuotient). AreNumbered (label_number g) [] no_neighbours l.quotient.blocks.block_of l.keys) (sym (here 0 (omega arith))) keyed;
+      parent_keys = λ j h. absurd (omega (arith, h));
+      top = subst (λ (l : KeyedQuotient). SameBlocks l.quotient.blocks.block_of block) (sym (here 0 (omega arith))) same;
+      labelled = is;
+    }
+
+-- the last level is one of bisimilarity
+pub built_top : (g : Graph) (i : ℕ) (levels : List KeyedQuotient) (block : List (Option ℕ)) (labels : List ℕ) → IsBuilt g i levels block labels
+    → Agrees (view_shape g) block (Bis (view_shape g) i)
+built_top g i levels block labels w = agrees_moved (view_shape g) block (blocks_at levels i) (Bis (view_shape g) i) (λ n. sym (w.top n)) (w.agrees i (omega arith))
+
+pub built_above : (g : Graph) (i : ℕ) (levels more : List KeyedQuotient) (level : KeyedQuotient) (block next : List (Option ℕ)) (labels found : List ℕ) (keys : List (List ℕ)) → IsShown g
+    → IsBuilt g i levels block labels
+    → ((j : ℕ) → Agrees (view_shape g) block (Bis (view_shape g) j) → Agrees (view_shape g) next (Bis (view_shape g) (suc j)))
+    → AreLabelled g next found → AreNumbered (block_at block) block (is_near Parents g) next keys
+    → SameBlocks level.quotient.blocks.block_of next → ViewFits g (view_of level.quotient) → level.keys ≡ keys → more ≡ levels ++ level ∷ [] → IsBuilt g (i + 1) more next found
+built_above g i levels more level block next labels found keys shown w up is numbered same fits keys_same added =
+    let s = view_shape g in
+    let count = w.count in
+    let below : (j : ℕ) → j ≤ i → level_at more j ≡ level_at levels j =
+    λ j h. ap (λ ls. level_at ls j) added ∙ get_or_append_left levels (level ∷ []) no_level j (omega (arith, h, count)) in
+    let last : (j : ℕ) → j ≡ i + 1 → level_at more j ≡ level =
+    λ j h. ap (λ ls. level_at ls j) added ∙ get_or_push levels level no_level j (omega (arith, h, count)) in
+    let a_top : Agrees s next (Bis s (suc i)) = up i (built_top g i levels block labels w) in
+    let a_next : Agrees s level.quotient.blocks.block_of (Bis s (suc i)) = agrees_moved s level.quotient.blocks.block_of next (Bis s (suc i)) same a_top in
+    let near : AreNumbered (block_at block) block (has_edge g) next level.keys =
+    subst (λ ks. AreNumbered (block_at block) block (has_edge g) next ks) (sym keys_same)
+    (subst (λ e. AreNumbered (block_at block) block e next keys) (ap (λ (x : Shape). x.edge) shown) numbered) in
+    let keyed : AreNumbered (block_at (blocks_at levels i)) (blocks_at levels i) (has_edge g) level.quotient.blocks.block_of level.keys =
+    numbered_moved (block_at block) (block_at (blocks_at levels i)) block (blocks_at levels i) (has_edge g) next level.quotient.blocks.block_of level.keys w.top w.top same near in
+    record {
+      count = ap length added ∙ length-append levels (level ∷ []) ∙ ap (λ n. n + 1) count;
+      fits = λ j h. elim (cases_lt i j) [
+        | inl past ↦ subst (λ (l : KeyedQuotient). ViewFits g (view_of l.quotient)) (sym (last j (omega (arith, h, past)))) fits
+        | inr before ↦ subst (λ (l : KeyedQuotient). ViewFits g (view_of l.quotient)) (sym (below j before)) (w.fits j before)
+      ];
+      agrees = λ j h. elim (cases_lt i j) [
+        | inl past ↦
+            (let here : suc i ≡ j = omega (arith, h, past) in
+            subst (λ (l : KeyedQuotient). Agrees s l.quotient.blocks.block_of (Bis s j)) (sym (last j (omega (arith, h, past))))
+            (subst (λ n. Agrees s level.quotient.blocks.block_of (Bis s n)) here a_next))
+        | inr before ↦ subst (λ (l : KeyedQuotient). Agrees s l.quotient.blocks.block_of (Bis s j)) (sym (below j before)) (w.agrees j before)
+      ];
+      label_keys =
+          subst (λ (l : KeyedQuotient). AreNumbered (label_number g) [] no_neighbours l.quotient.blocks.block_of l.keys) (sym (below 0 (omega arith))) w.label_keys;
+      parent_keys = λ j h. elim (cases_lt j i) [
+        | inl before ↦
+            subst (λ (l : KeyedQuotient). AreNumbered (block_at l.quotient.blocks.block_of) l.quotient.blocks.block_of (has_edge g) (blocks_at more (j + 1)) (level_at more (j + 1)).keys)
+            (sym (below j (omega (arith, before))))
+            (subst (λ (l : KeyedQuotient). AreNumbered (block_at (blocks_at levels j)) (blocks_at levels j) (has_edge g) l.quotient.blocks.block_of l.keys)
+            (sym (below (j + 1) (omega (arith, before)))) (w.parent_keys j before))
+        | inr past ↦
+            (let here : i ≡ j = omega (arith, h, past) in
+            subst (λ (l : KeyedQuotient). AreNumbered (block_at l.quotient.blocks.block_of) l.quotient.blocks.block_of (has_edge g) (blocks_at more (j + 1)) (level_at more (j + 1)).keys)
+            (sym (below j (omega (arith, past, h))))
+            (subst (λ (l : KeyedQuotient). AreNumbered (block_at (blocks_at levels j)) (blocks_at levels j) (has_edge g) l.quotient.blocks.block_of l.keys)
+            (sym (last (j + 1) (omega (arith, here))))
+            (subst (λ n. AreNumbered (block_at (blocks_at levels n)) (blocks_at levels n) (has_edge g) level.quotient.blocks.block_of level.keys) here keyed)))
+      ];
+      top = subst (λ (l : KeyedQuotient). SameBlocks l.quotient.blocks.block_of next) (sym (last (i + 1) refl)) same;
+      labelled = is;
+    }
+
+pub built_agrees : (g : Graph) (i k : ℕ) (levels : List KeyedQuotient) (block : List (Option ℕ)) (labels : List ℕ) → IsShown g → IsBuilt g i levels block labels → k ≤ i
+    → (j : ℕ) → j ≤ k → Agrees (shape_of g) (blocks_at levels j) (Bis (shape_of g) j)
+built_agrees g i k levels block labels shown w few j h =
+    subst (λ (s : Shape). Agrees s (blocks_at levels j) (Bis s j)) shown (w.agrees j (omega (arith, few, h)))

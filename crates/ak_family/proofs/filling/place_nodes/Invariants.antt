@@ -1,0 +1,10 @@
+use Rattle.std.proofs.Common.{◌≡◌, ◌+◌, ◌≤◌, length}
+use Rattle.ak_family.specs.Layers.{SameBelow}
+use Rattle.ak_family.proofs.filling.place_nodes.Given as goal
+
+abbrev pub invariant-loop-n : goal.invariant-loop-n
+invariant-loop-n l = record {
+  blocks : SameBelow l.n l.blocks.block_of l.block;
+  labels : l.blocks.labels ≡ l.fn.blocks.labels;
+  room : l.size ≤ length l.blocks.block_of + l.blocks.room.nodes;
+}

@@ -1,0 +1,52 @@
+-- The family of A(0)- to A(k)-indexes of a graph (R. Kaushik, P. Shenoy, P. Bohannon and E. Gudes, "Exploiting Local
+-- Similarity for Indexing Paths in Graph-Structured Data", ICDE 2002). The blocks of the A(i)-index are the classes of nodes
+-- that are bisimilar to level i.
+use Rattle.std.specs.Prelude.{ℕ, ◌≡◌, ◌+◌, List, [], Option, Some, refl, map, slice_get, slice_index_or}
+use Rattle.std.specs.Coded.{Coded, code_by, coded×, coded_ℕ, coded_list}
+use Rattle.std.specs.FinMap as table
+use Rattle.px_spec.specs.Graphs.{Graph, has_edge, edge_cmp}
+use Rattle.label_graph.specs.Views.{label_number}
+use Rattle.block_partition.specs.Partitions.{no_blocks}
+use Rattle.bisim_spec.specs.Partitions.{block_at}
+use Rattle.bisim_levels.specs.Sides.{no_neighbours}
+use Rattle.bisim_levels.specs.Refining.{AreNumbered}
+use Rattle.quotient.specs.Quotients.{Quotient, quotient_code}
+
+-- a quotient of the graph, and for each of its blocks the key of the members
+pub record KeyedQuotient : Type 0 where
+  pub quotient : Quotient
+  pub keys : List (List ℕ)
+
+-- it is stored as its parts
+abbrev pub keyed_code : Coded KeyedQuotient
+keyed_code =
+    code_by (Quotient × List (List ℕ)) (coded× quotient_code (coded_list (coded_list coded_ℕ)))
+    (λ k. (k.quotient, k.keys)) (λ p. record { quotient = p.0; keys = p.1 }) (λ _. refl)
+
+abbrev pub no_level : KeyedQuotient
+no_level = record { quotient = record { blocks = no_blocks; supports = table.empty {R = edge_cmp} }; keys = [] }
+
+-- a level of the family, and one without blocks past its end
+abbrev pub level_at : List KeyedQuotient → ℕ → KeyedQuotient
+level_at levels i = slice_index_or levels i no_level
+
+-- the blocks of the nodes at a level
+abbrev pub blocks_at : List KeyedQuotient → ℕ → List (Option ℕ)
+blocks_at levels i = (level_at levels i).quotient.blocks.block_of
+
+abbrev pub quotients_of : List KeyedQuotient → List Quotient
+quotients_of levels = map (λ l. l.quotient) levels
+
+-- the block has the key
+abbrev pub HasKey : KeyedQuotient → ℕ → List ℕ → Type 0
+HasKey level b key = slice_get level.keys b ≡ Some key
+
+-- The blocks of the lowest level are numbered by the labels of their members: a key is the number of a label, alone.
+abbrev pub AreLabelKeys : Graph → List KeyedQuotient → Type 0
+AreLabelKeys g levels = AreNumbered (label_number g) [] no_neighbours (blocks_at levels 0) (level_at levels 0).keys
+
+-- The blocks one level above i are numbered by the keys of their members: the blocks of a node's parents at level i,
+-- rising, each once, and then the node's own block at level i.
+abbrev pub AreParentKeys : Graph → List KeyedQuotient → ℕ → Type 0
+AreParentKeys g levels i =
+    AreNumbered (block_at (blocks_at levels i)) (blocks_at levels i) (has_edge g) (blocks_at levels (i + 1)) (level_at levels (i + 1)).keys

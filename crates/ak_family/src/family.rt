@@ -1,0 +1,113 @@
+// The family.
+ghost use Rattle.std.specs.Prelude.{◌≡◌, ◌+◌, ◌<◌, ◌≤◌, ◌↔◌, ℕ, Some, IfOk, IfSome, IsSome, IsTrue, length, slice_get};
+ghost use Rattle.px_spec.specs.Shapes.{shape_of};
+ghost use Rattle.bisim_spec.specs.Bisimilarity.{Bis};
+ghost use Rattle.bisim_spec.specs.Partitions.{block_at, Agrees, Together};
+ghost use Rattle.bisim_spec.specs.Views.{ViewFits};
+ghost use Rattle.block_partition.specs.Partitions.{IsBlock};
+ghost use Rattle.quotient.specs.Quotients.{view_of};
+ghost use Rattle.ak_family.specs.Families.{level_at, blocks_at, quotients_of, HasKey, AreLabelKeys, AreParentKeys};
+
+use crate::keyed::KeyedSummary;
+use crate::layers::{above, lowest};
+use label_graph::GraphView;
+use px_base::{Memory, NodeId};
+use quotient::Summary;
+use std::alloc::Global;
+use std::marker::Model;
+
+/// The A(0)- to A(k)-indexes of a graph, k at most 8. The blocks of level `i` are the classes of nodes that
+/// are bisimilar to level `i`: nodes of one label at level 0, and above it nodes that are together one
+/// level below, and whose parents are in the same blocks there. Each block has a key, which says this in
+/// numbers: the number of the label alone at level 0, and above it the blocks of the parents one level
+/// below, rising, each once, and then the own block one level below.
+#[derive(Drop)]
+pub struct AkFamily {
+    levels: Vec<KeyedSummary>,
+}
+
+impl Model for AkFamily {
+    ghost use Rattle.std.specs.Prelude.{◌<◌, ◌≤◌, List, length};
+    ghost use Rattle.std.specs.Coded.{coded_list};
+    ghost use Rattle.ak_family.specs.Families.{KeyedQuotient, keyed_code};
+
+    ghost Value = { List KeyedQuotient };
+
+    ghost coded = { coded_list keyed_code };
+
+    ghost view = { λ f. f.levels.items };
+
+    ghost invariant = { λ f. (0 < length f.levels.items) × (length f.levels.items ≤ 9) };
+}
+
+impl AkFamily {
+    /// The family of a graph. Each level reads each node's parents and children once, sorts the blocks of
+    /// each node's parents, and finds keys and pairs of blocks by hash.
+    pub fn build(alloc: Global, view: &GraphView<'_>, k: u32) -> Result<AkFamily, Memory>
+        requires few { k ≤ 8 }
+        ensures count { IfOk result (λ f. length f ≡ k + 1) }
+        ensures fits { IfOk result (λ f. (i : ℕ) → i ≤ k → ViewFits view.now (view_of (level_at f i).quotient)) }
+        ensures agrees { IfOk result (λ f. (i : ℕ) → i ≤ k → Agrees (shape_of view.now) (blocks_at f i) (Bis (shape_of view.now) i)) }
+        ensures label_keys { IfOk result (AreLabelKeys view.now) }
+        ensures parent_keys { IfOk result (λ f. (i : ℕ) → i < k → AreParentKeys view.now f i) }
+    {
+        // It tells that the view shows the graph itself.
+        let _ = view.edge_count();
+        let (mut layer, keys) = lowest(alloc, view)?;
+        let mut levels = Vec::with_capacity(alloc, k as usize + 1)?;
+        levels.push(KeyedSummary::of(alloc, view, &layer, keys)?)?;
+        for _ in 0..k {
+            let (next, keys) = above(alloc, view, &layer)?;
+            levels.push(KeyedSummary::of(alloc, view, &next, keys)?)?;
+            layer = next;
+        }
+        Ok(AkFamily { levels })
+    }
+
+    /// The greatest level: at most 8.
+    pub fn k(&self) -> u32
+        ensures count { length self.now ≡ result + 1 }
+        ensures few { result ≤ 8 }
+    {
+        self.levels.len() as u32 - 1
+    }
+
+    /// The A(i)-index.
+    pub fn level(&self, i: u32) -> &Summary
+        requires level { i < length self.now }
+        ensures quotient { result.now ≡ (level_at self.now i).quotient }
+        ensures listed { slice_get (quotients_of self.now) i ≡ Some result.now }
+    {
+        self.levels[i as usize].summary()
+    }
+
+    /// Whether two nodes are in one block of the A(i)-index. It takes no memory, and constant time.
+    pub fn same(&self, i: u32, u: NodeId, v: NodeId) -> bool
+        requires level { i < length self.now }
+        requires first { IsSome (block_at (blocks_at self.now i) u) }
+        requires second { IsSome (block_at (blocks_at self.now i) v) }
+        ensures { IsTrue result ↔ Together (blocks_at self.now i) u v }
+    {
+        let level = self.level(i);
+        level.block_of(u) == level.block_of(v)
+    }
+
+    /// The block of a level that has the key, and `None` exactly where no block has it. It is found by
+    /// hash.
+    pub fn find(&self, i: u32, key: &[u32]) -> Option<u32>
+        requires level { i < length self.now }
+        ensures leads { (b : ℕ) → (result ≡ Some b) ↔ HasKey (level_at self.now i) b key.now }
+        ensures block { IfSome result (IsBlock (level_at self.now i).quotient.blocks) }
+    {
+        self.levels[i as usize].find(key)
+    }
+
+    /// The key of a block of a level.
+    pub fn key(&self, i: u32, b: u32) -> &[u32]
+        requires level { i < length self.now }
+        requires block { IsBlock (level_at self.now i).quotient.blocks b }
+        ensures { HasKey (level_at self.now i) b result.now }
+    {
+        self.levels[i as usize].key(b)
+    }
+}

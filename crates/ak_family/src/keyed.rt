@@ -1,0 +1,85 @@
+// The quotient by a level of bisimilarity, with the keys of its blocks.
+ghost use Rattle.std.specs.Prelude.{◌≡◌, ◌<◌, ◌↔◌, ℕ, Some, IfOk, IfSome, length};
+ghost use Rattle.bisim_spec.specs.Partitions.{block_at, IsPartition};
+ghost use Rattle.bisim_spec.specs.Views.{ViewFits};
+ghost use Rattle.bisim_levels.specs.Sides.{view_shape};
+ghost use Rattle.block_partition.specs.Partitions.{IsBlock};
+ghost use Rattle.quotient.specs.Quotients.{view_of};
+ghost use Rattle.ak_family.specs.Families.{HasKey};
+ghost use Rattle.ak_family.specs.Layers.{AreLabelled, SameBlocks};
+
+use crate::filling::fill;
+use crate::layers::Layer;
+use key_table::KeyTable;
+use label_graph::GraphView;
+use px_base::Memory;
+use quotient::Summary;
+use std::alloc::Global;
+use std::marker::Model;
+
+/// A quotient, and the key of each of its blocks.
+#[derive(Drop)]
+pub(crate) struct KeyedSummary {
+    summary: Summary,
+    keys: KeyTable,
+}
+
+impl Model for KeyedSummary {
+    ghost use Rattle.ak_family.specs.Families.{KeyedQuotient, keyed_code};
+
+    ghost Value = { KeyedQuotient };
+
+    ghost coded = { keyed_code };
+
+    ghost use Rattle.ak_family.specs.Layers.{AreKeyed};
+
+    ghost view = { λ s. record { quotient = s.summary; keys = s.keys } };
+
+    ghost invariant = { λ s. AreKeyed s.summary.blocks.labels s.keys };
+}
+
+impl KeyedSummary {
+    /// The quotient by a level of bisimilarity, whose blocks have these keys.
+    pub(crate) fn of(
+        alloc: Global,
+        view: &GraphView<'_>,
+        layer: &Layer,
+        keys: KeyTable,
+    ) -> Result<KeyedSummary, Memory>
+        requires partition { IsPartition (view_shape view.now) layer.now.block.items }
+        requires labelled { AreLabelled view.now layer.now.block.items layer.now.labels.items }
+        requires inhabited { (b : ℕ) → b < length keys → (n : ℕ) × (block_at layer.now.block.items n ≡ Some b) }
+        requires count { length layer.now.labels.items ≡ length keys }
+        ensures blocks { IfOk result (λ s. SameBlocks s.quotient.blocks.block_of layer.now.block.items) }
+        ensures fits { IfOk result (λ s. ViewFits view.now (view_of s.quotient)) }
+        ensures keys { IfOk result (λ s. s.keys ≡ keys) }
+    {
+        // They tell that the view shows the graph itself, and that there are few keys.
+        let _ = (view.edge_count(), keys.len());
+        let blocks = fill(alloc, view.created(), &layer.block, &layer.labels)?;
+        let summary = Summary::of(alloc, blocks, view)?;
+        Ok(KeyedSummary { summary, keys })
+    }
+
+    pub(crate) fn summary(&self) -> &Summary
+        ensures { result.now ≡ self.now.quotient }
+    {
+        &self.summary
+    }
+
+    /// The block that has the key, found by hash.
+    pub(crate) fn find(&self, key: &[u32]) -> Option<u32>
+        ensures leads { (b : ℕ) → (result ≡ Some b) ↔ HasKey self.now b key.now }
+        ensures block { IfSome result (IsBlock self.now.quotient.blocks) }
+    {
+        self.keys.find(key)
+    }
+
+    /// The key of a block.
+    pub(crate) fn key(&self, b: u32) -> &[u32]
+        requires block { IsBlock self.now.quotient.blocks b }
+        ensures { HasKey self.now b result.now }
+    {
+        self.keys.key(b)
+    }
+}

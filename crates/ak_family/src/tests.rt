@@ -1,0 +1,153 @@
+// Levels of small graphs.
+ghost use Rattle.std.specs.Prelude.{◌≡◌, ◌<◌, ◌≤◌, ◌↔◌, IfOk, IsTrue, IsSome};
+ghost use Rattle.px_spec.specs.Shapes.{IsNode, shape_of};
+ghost use Rattle.bisim_spec.specs.Bisimilarity.{Bis};
+
+use super::*;
+use label_graph::{Graph, GraphView};
+use px_base::{Memory, NodeId, Steps, Text};
+use std::alloc::Global;
+use std::marker::Brand;
+use std::process::Abort;
+use std::sync::ledger::{Blank, Ledger};
+use std::test::Fail;
+
+const MOST: u32 = 1 << 30;
+
+fn put_node(rt: &impl Abort, alloc: Global, graph: &mut Graph, label: u8) -> Result<(), Fail> {
+    assert!(rt; graph.created() < MOST);
+    graph.reserve_node(alloc, &Text::from_bytes(alloc, &[label])?)?;
+    graph.add_node();
+    Ok(())
+}
+
+fn put_edge<L: Ledger>(
+    rt: &impl Abort,
+    graph: &mut Graph,
+    u: NodeId,
+    v: NodeId,
+    steps: &mut Steps<L>,
+) -> Result<(), Fail> {
+    assert!(rt; graph.is_live(u));
+    assert!(rt; graph.is_live(v));
+    assert!(rt; graph.edge_count() < MOST);
+    assert!(rt; !graph.has_edge(u, v, steps));
+    graph.reserve_edge(u, v)?;
+    graph.add_edge(u, v);
+    Ok(())
+}
+
+// A graph whose nodes have these labels, a byte each.
+fn drawn<L: Ledger>(
+    rt: &impl Abort,
+    alloc: Global,
+    labels: &[u8],
+    edges: &[(NodeId, NodeId)],
+    steps: &mut Steps<L>,
+) -> Result<Graph, Fail> {
+    let mut graph = Graph::new(alloc)?;
+    for label in labels {
+        put_node(rt, alloc, &mut graph, *label)?;
+    }
+    for (u, v) in edges {
+        put_edge(rt, &mut graph, *u, *v, steps)?;
+    }
+    Ok(graph)
+}
+
+// Whether two nodes are bisimilar to a level, by a family that is built for it.
+fn is_bisimilar(
+    alloc: Global,
+    view: &GraphView<'_>,
+    i: u32,
+    u: NodeId,
+    v: NodeId,
+) -> Result<bool, Memory>
+    requires few { i ≤ 8 }
+    requires first { IsNode (shape_of view.now) u }
+    requires second { IsNode (shape_of view.now) v }
+    ensures { IfOk result (λ same. IsTrue same ↔ Bis (shape_of view.now) i u v) }
+{
+    let family = AkFamily::build(alloc, view, i)?;
+    Ok(family.same(i, u, v))
+}
+
+// The nodes' blocks at the greatest level are these.
+fn check_blocks(rt: &impl Abort, family: &AkFamily, blocks: &[u32]) {
+    let top = family.level(family.k());
+    assert_eq!(rt; top.numbers() as usize, blocks.len());
+    for n in 0..top.numbers() {
+        assert_eq!(rt; top.block_of(n), blocks.get(n as usize).copied(), "{n}");
+    }
+}
+
+// Two chains a, b, c, and an x, which may stand in front of the second one.
+fn check_chains<L: Ledger>(rt: &impl Abort, alloc: Global, blank: Blank) -> Result<(), Fail>
+    requires name { blank.name ≡ L.name }
+    requires parts { blank.parts ≡ L.parts }
+    requires some { 0 < blank.parts }
+{
+    let mut steps = Steps::<L>::new(blank);
+    let edges = [(0, 1), (1, 2), (3, 4), (4, 5)];
+    let mut chains = drawn(rt, alloc, b"abcabcx", &edges, &mut steps)?;
+    let apart = AkFamily::build(alloc, &chains.view(&mut steps), 2)?;
+    check_blocks(rt, &apart, &[0, 1, 2, 0, 1, 2, 3]);
+    put_edge(rt, &mut chains, 6, 3, &mut steps)?;
+    let linked = AkFamily::build(alloc, &chains.view(&mut steps), 2)?;
+    check_blocks(rt, &linked, &[0, 1, 2, 3, 4, 2, 5]);
+    Ok(())
+}
+
+#[test]
+fn link_parts_chains(rt: HostRuntime) -> Result<(), Fail> {
+    check_chains::<Brand>(&rt, rt.alloc(), Blank::new(1))
+}
+
+// Two a's with links to b's: to the second b from one of them alone. What counts is the set of blocks.
+fn check_family<L: Ledger>(rt: &impl Abort, alloc: Global, blank: Blank) -> Result<(), Fail>
+    requires name { blank.name ≡ L.name }
+    requires parts { blank.parts ≡ L.parts }
+    requires some { 0 < blank.parts }
+{
+    let mut steps = Steps::<L>::new(blank);
+    let graph = drawn(rt, alloc, b"aabb", &[(0, 2), (1, 2), (0, 3)], &mut steps)?;
+    let family = AkFamily::build(alloc, &graph.view(&mut steps), 1)?;
+    check_blocks(rt, &family, &[0, 0, 1, 1]);
+    assert_eq!(rt; family.k(), 1);
+    let level = family.level(1);
+    assert!(rt; level.block_of(2).is_some());
+    assert!(rt; level.block_of(3).is_some());
+    assert!(rt; family.same(1, 2, 3));
+    assert_eq!(rt; level.support(0, 1), 3);
+    assert_eq!(rt; family.find(1, &[0, 1]), Some(1));
+    assert_eq!(rt; family.key(1, 1), &[0, 1][..]);
+    assert_eq!(rt;
+        (family.find(0, &[1]), family.find(1, &[1, 1])),
+        (Some(1), None)
+    );
+    Ok(())
+}
+
+#[test]
+fn sets_of_parents(rt: HostRuntime) -> Result<(), Fail> {
+    check_family::<Brand>(&rt, rt.alloc(), Blank::new(1))
+}
+
+// Two nodes with a loop each.
+fn check_loops<L: Ledger>(rt: &impl Abort, alloc: Global, blank: Blank) -> Result<(), Fail>
+    requires name { blank.name ≡ L.name }
+    requires parts { blank.parts ≡ L.parts }
+    requires some { 0 < blank.parts }
+{
+    let mut steps = Steps::<L>::new(blank);
+    let loops = drawn(rt, alloc, b"aa", &[(0, 0), (1, 1)], &mut steps)?;
+    assert!(rt; loops.is_live(0));
+    assert!(rt; loops.is_live(1));
+    assert!(rt; is_bisimilar(alloc, &loops.view(&mut steps), 3, 0, 1)?);
+    Ok(())
+}
+
+#[test]
+fn loops_stay_together(rt: HostRuntime) -> Result<(), Fail> {
+    check_loops::<Brand>(&rt, rt.alloc(), Blank::new(1))
+}
