@@ -1,0 +1,6 @@
+use Rattle.std.proofs.Common.{ℕ, ◌≡◌, ◌<◌, Some, length}
+use Rattle.block_partition.specs.Partitions.{at}
+use Rattle.extent_report.proofs.tests.are_labelled.Given as goal
+
+abbrev pub invariant-loop-b : goal.invariant-loop-b
+invariant-loop-b l = (b n : ℕ) → b < l.b → at l.summary.blocks.labels b ≡ Some n → n < length l.labels.texts

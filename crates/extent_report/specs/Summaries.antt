@@ -1,0 +1,23 @@
+-- What a summary alone says of the lists that are printed.
+use Rattle.std.specs.Prelude.{◌≡◌, ℕ, ◌<◌, false, List, length, Option, Some, [], if◌then◌else◌, option_and_then}
+use Rattle.px_spec.specs.Shapes.{Shape, shape_by}
+use Rattle.block_partition.specs.Partitions.{Partition, at}
+use Rattle.bisim_spec.specs.Tests.{together}
+use Rattle.extent_report.specs.Listing.{is_first, block_line}
+
+-- the number of the label of a node's block
+abbrev pub label_at : Partition → ℕ → Option ℕ
+label_at p n = option_and_then (at p.labels) (at p.block_of n)
+
+-- a partition as a graph without edges: a node's label is that of its block
+abbrev pub shape_of_blocks : List (List ℕ) → Partition → Shape
+shape_of_blocks texts p = shape_by texts (length p.block_of) (label_at p) (λ u v. false)
+
+-- each block's label has a text
+abbrev pub AreLabelled : List (List ℕ) → Partition → Type 0
+AreLabelled texts p = (b l : ℕ) → at p.labels b ≡ Some l → l < length texts
+
+-- the line of a node's block, where the node is its first
+abbrev pub line_at : List (List ℕ) → Partition → ℕ → List ℕ
+line_at texts p n =
+    if is_first (shape_of_blocks texts p) (together p.block_of) n then block_line (shape_of_blocks texts p) (together p.block_of) n else []

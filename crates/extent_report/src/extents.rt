@@ -1,0 +1,127 @@
+// The members of the blocks, as they are printed.
+ghost use Rattle.std.specs.Prelude.{◌≡◌, ◌++◌, ◌∷◌, [], ℕ, Bool, true, Some, IsSome, IsTrue, OnOk, IfOk, codes, decimal, length, string_bytes};
+ghost use Rattle.px_spec.specs.Graphs.{Graph};
+ghost use Rattle.px_spec.specs.Shapes.{shape_of};
+ghost use Rattle.px_spec.specs.Words.{node_word};
+ghost use Rattle.block_partition.specs.Partitions.{at};
+ghost use Rattle.bisim_spec.specs.Partitions.{Agrees};
+ghost use Rattle.bisim_spec.specs.Tests.{together};
+ghost use Rattle.bisim_spec.specs.Below.{count_below};
+ghost use Rattle.bisim_spec.specs.Views.{ViewFits};
+ghost use Rattle.quotient.specs.Quotients.{view_of};
+ghost use Rattle.extent_report.specs.Listing as printed;
+ghost use Rattle.extent_report.specs.Listing.{texts_below, block_line};
+ghost use Rattle.extent_report.specs.Summaries.{shape_of_blocks, AreLabelled, line_at};
+ghost use Rattle.extent_report.specs.Chains.{leads, word_with};
+
+use crate::chains::Chains;
+use crate::output::{end_line, push_number};
+use itoa::Buffer;
+use label_graph::Labels;
+use px_base::{Memory, NodeId, Text};
+use quotient::Summary;
+use std::alloc::Global;
+
+// Appends a space and how the node is written.
+fn push_node(out: &mut String, node: NodeId) -> Result<(), Memory>
+    ensures { OnOk result (string_bytes out.new ≡ string_bytes out.old ++ 32 ∷ node_word node) }
+{
+    let mut buffer = Buffer::new();
+    out.push_str(" n")?;
+    out.push_str(buffer.format(node))?;
+    Ok(())
+}
+
+// Appends the nodes of a block from its first one on.
+fn push_nodes(out: &mut String, chains: &Chains<'_>, first: NodeId) -> Result<(), Memory>
+    requires { leads chains.now first ≡ true }
+    ensures { OnOk result (string_bytes out.new ≡ string_bytes out.old ++ texts_below (length chains.now.block_of) (word_with chains.now.block_of first)) }
+{
+    push_node(out, first)?;
+    let mut last = first;
+    while let Some(node) = chains.after(last) {
+        push_node(out, node)?;
+        last = node;
+    }
+    Ok(())
+}
+
+// Appends the line of a block.
+fn push_block(
+    out: &mut String,
+    chains: &Chains<'_>,
+    labels: &Labels,
+    b: u32,
+    first: NodeId,
+) -> Result<(), Memory>
+    requires leads { leads chains.now first ≡ true }
+    requires block { at chains.now.block_of first ≡ Some b }
+    requires live { IsSome (at chains.now.labels b) }
+    requires labelled { AreLabelled labels.now.texts chains.now }
+    ensures { OnOk result (string_bytes out.new ≡ string_bytes out.old ++ block_line (shape_of_blocks labels.now.texts chains.now) (together chains.now.block_of) first) }
+{
+    let label = labels.text(chains.label(b));
+    out.push_str(label.as_str())?;
+    push_nodes(out, chains, first)?;
+    end_line(out)?;
+    Ok(())
+}
+
+// Appends the line of the node's block, where the node is its first.
+fn push_led(out: &mut String, chains: &Chains<'_>, labels: &Labels, n: NodeId) -> Result<(), Memory>
+    requires { AreLabelled labels.now.texts chains.now }
+    ensures { OnOk result (string_bytes out.new ≡ string_bytes out.old ++ line_at labels.now.texts chains.now n) }
+{
+    match chains.led(n) {
+        Some(b) => push_block(out, chains, labels, b, n),
+        None => Ok(()),
+    }
+}
+
+// Appends the lines of the blocks.
+fn push_blocks(out: &mut String, chains: &Chains<'_>, labels: &Labels) -> Result<(), Memory>
+    requires { AreLabelled labels.now.texts chains.now }
+    ensures { OnOk result (string_bytes out.new ≡ string_bytes out.old ++ texts_below (length chains.now.block_of) (line_at labels.now.texts chains.now)) }
+{
+    for n in 0..chains.numbers() {
+        push_led(out, chains, labels, n)?;
+    }
+    Ok(())
+}
+
+// How many blocks have a first node.
+fn count_led(chains: &Chains<'_>) -> u32
+    ensures { result ≡ count_below (length chains.now.block_of) (leads chains.now) }
+{
+    let mut count = 0;
+    for n in 0..chains.numbers() {
+        if chains.led(n).is_some() {
+            count += 1;
+        }
+    }
+    count
+}
+
+// Appends the line of the number of blocks.
+fn push_count(out: &mut String, blocks: u32) -> Result<(), Memory>
+    ensures { OnOk result (string_bytes out.new ≡ string_bytes out.old ++ (codes "blocks " ++ decimal blocks ++ 10 ∷ [])) }
+{
+    push_number(out, "blocks ", u64::from(blocks))?;
+    end_line(out)?;
+    Ok(())
+}
+
+/// The lists of the members of the blocks: `blocks B`, and then a line for each block, by rising least
+/// members: its label, and its members, rising, each as ` n7`. It takes the time of one pass over the
+/// numbers of nodes for each of three passes, with no sort.
+pub fn extents_text(alloc: Global, summary: &Summary, labels: &Labels) -> Result<Text, Memory>
+    requires labelled { AreLabelled labels.now.texts summary.now.blocks }
+    ensures text { IfOk result (λ t. t ≡ printed.extents_text (shape_of_blocks labels.now.texts summary.now.blocks) (together summary.now.blocks.block_of)) }
+    ensures listed { IfOk result (λ t. (g : Graph) (r : ℕ → ℕ → Bool) → ViewFits g (view_of summary.now) → g.seen ≡ labels.now.texts → Agrees (shape_of g) summary.now.blocks.block_of (λ u v. IsTrue (r u v)) → t ≡ printed.extents_text (shape_of g) r) }
+{
+    let chains = Chains::of(alloc, summary)?;
+    let mut out = String::new(alloc);
+    push_count(&mut out, count_led(&chains))?;
+    push_blocks(&mut out, &chains, labels)?;
+    Ok(Text::from_string(out))
+}

@@ -1,0 +1,23 @@
+// Pieces of what is printed.
+ghost use Rattle.std.specs.Prelude.{◌≡◌, ◌++◌, ◌∷◌, [], OnOk, decimal, string_bytes};
+
+use itoa::Buffer;
+use px_base::Memory;
+
+/// Appends a text and a number.
+pub(crate) fn push_number(out: &mut String, head: &str, number: u64) -> Result<(), Memory>
+    ensures { OnOk result (string_bytes out.new ≡ string_bytes out.old ++ (head.now ++ decimal number)) }
+{
+    let mut buffer = Buffer::new();
+    out.push_str(head)?;
+    out.push_str(buffer.format(number))?;
+    Ok(())
+}
+
+/// Ends a line.
+pub(crate) fn end_line(out: &mut String) -> Result<(), Memory>
+    ensures { OnOk result (string_bytes out.new ≡ string_bytes out.old ++ 10 ∷ []) }
+{
+    out.push('\n')?;
+    Ok(())
+}

@@ -1,0 +1,67 @@
+// The size of a graph and of an index, as it is printed.
+ghost use Rattle.std.specs.Prelude.{◌≡◌, ◌≢◌, ◌++◌, ◌∷◌, [], ℕ, Bool, IsTrue, OnOk, IfOk, codes, decimal, string_bytes};
+ghost use Rattle.index_api.specs.Spelling.{via_word};
+ghost use Rattle.index_api.specs.declared.kinds.Via.TheVariants.{Data};
+ghost use Rattle.px_spec.specs.Graphs.{Graph};
+ghost use Rattle.px_spec.specs.Shapes.{shape_of};
+ghost use Rattle.block_partition.specs.Partitions.{block_count};
+ghost use Rattle.bisim_spec.specs.Partitions.{Agrees};
+ghost use Rattle.bisim_spec.specs.Views.{ViewFits};
+ghost use Rattle.quotient.specs.Quotients.{pair_count, view_of};
+ghost use Rattle.extent_report.specs.Listing.{head_line, size_line, block_total, joined_total};
+
+use crate::output::{end_line, push_number};
+use index_api::Via;
+use px_base::{Memory, Text};
+use quotient::Summary;
+use std::alloc::Global;
+
+/// The line of a graph's size: `nodes N edges E`.
+pub fn sizes_head(alloc: Global, nodes: u32, edges: u32) -> Result<Text, Memory>
+    ensures { IfOk result (λ t. t ≡ head_line nodes edges) }
+{
+    let mut out = String::new(alloc);
+    push_number(&mut out, "nodes ", u64::from(nodes))?;
+    push_number(&mut out, " edges ", u64::from(edges))?;
+    end_line(&mut out)?;
+    Ok(Text::from_string(out))
+}
+
+// Appends through what a query is asked.
+fn push_via(out: &mut String, via: Via) -> Result<(), Memory>
+    requires { via ≢ Data }
+    ensures { OnOk result (string_bytes out.new ≡ string_bytes out.old ++ via_word via) }
+{
+    match via {
+        Via::Data => unreachable!(),
+        Via::A(level) => push_number(out, "a", u64::from(level))?,
+        Via::One => out.push_str("one")?,
+        Via::Fb => out.push_str("fb")?,
+    }
+    Ok(())
+}
+
+// The line of an index with that many blocks, of which that many pairs have support.
+fn size_text(alloc: Global, via: Via, blocks: u32, edges: u64) -> Result<Text, Memory>
+    requires { via ≢ Data }
+    ensures { IfOk result (λ t. t ≡ size_line via blocks edges) }
+{
+    let mut out = String::new(alloc);
+    push_via(&mut out, via)?;
+    push_number(&mut out, " blocks ", u64::from(blocks))?;
+    push_number(&mut out, " edges ", edges)?;
+    end_line(&mut out)?;
+    Ok(Text::from_string(out))
+}
+
+/// The line of the size of an index: `a0 blocks B edges S`, where S is the number of pairs of blocks
+/// that have support. O(1).
+pub fn sizes_line(alloc: Global, via: Via, summary: &Summary) -> Result<Text, Memory>
+    requires index { via ≢ Data }
+    ensures text { IfOk result (λ t. t ≡ size_line via (block_count summary.now.blocks) (pair_count summary.now.supports)) }
+    ensures listed { IfOk result (λ t. (g : Graph) (r : ℕ → ℕ → Bool) → ViewFits g (view_of summary.now) → Agrees (shape_of g) summary.now.blocks.block_of (λ u v. IsTrue (r u v)) → t ≡ size_line via (block_total (shape_of g) r) (joined_total (shape_of g) r)) }
+{
+    let count = summary.blocks();
+    let line = size_text(alloc, via, count, summary.pairs())?;
+    Ok(line)
+}
