@@ -4,13 +4,17 @@ use Rattle.std.specs.Prelude.{◌==◌, slice_get, if◌then◌else◌}
 use Rattle.px_base.specs.Causes.{Rose}
 use Rattle.px_base.specs.Files.{File, content_of}
 use Rattle.px_spec.specs.declared.limits.Limits.{Limits}
+use Rattle.px_spec.specs.Graphs.{Graph}
 use Rattle.px_spec.specs.ProgramLimits.{program_limits}
 use Rattle.px_spec.specs.Lines.{Line, cut, onto, ended, return_onto}
 use Rattle.script_read.specs.Commands.{SpellsSomething, SpellsNothing}
-use Rattle.pathindex_run.specs.Forms.{Form, script, none}
+use Rattle.command_line.specs.Forms.{Settings, Form, runs, neither}
+use Rattle.graph_load.specs.Loads.{Outcome, loaded, Loads}
+use Rattle.graph_load.specs.Going.{LoadsTold}
 use Rattle.pathindex_run.specs.Runs.{State, Progress, start, IsWithin, TakesLines, Ends}
 use Rattle.pathindex_run.specs.Told.{RanTold}
-use Rattle.pathindex_run.specs.Headline.{RunsScript, Meets, HasStatus, IsMissing, IsProper, NamesProper, NoFault, Completes, first_state}
+use Rattle.pathindex_run.specs.Headline.{RunsScript, HasStatus, IsMissing, Lacks, BeginsWith, IsProper, NamesProper, NoFault, Completes}
+use Rattle.pathindex_run.specs.Starting.{ScriptTold}
 
 -- the bytes of the lines with their ends
 abbrev bytes_of : List Line → ℕ
@@ -91,36 +95,57 @@ not_rose : (before now : ℕ) → NoFault before now → Rose before now → ⊥
 not_rose before now n (l, inl r) = (let e = n.0 in omega (arith, e, r))
 not_rose before now n (l, inr r) = (let e = n.1 in omega (arith, e, r))
 
-runs_few : (text : Option (List ℕ)) (t : List ℕ) (old new : Option (List ℕ)) (status : ℕ) → text ≡ Some t → IsProper t → RunsScript text old new status → (status ≤ 1) ⊎ (5 ≤ status)
-runs_few None t old new status e w r = cc
-runs_few (Some s) t old new status e w (inl r) = inl (ran_few first_state s old new status (let same : s ≡ t = cc in subst IsProper (sym same) w) r.1)
-runs_few (Some s) t old new status e w (inr r) = inr r.0
+runs_few : (first : State) (text : Option (List ℕ)) (t : List ℕ) (old new : Option (List ℕ)) (status : ℕ) → text ≡ Some t → IsProper t → RunsScript first text old new status → (status ≤ 1) ⊎ (5 ≤ status)
+runs_few first None t old new status e w r = cc
+runs_few first (Some s) t old new status e w (inl r) = inl (ran_few first s old new status (let same : s ≡ t = cc in subst IsProper (sym same) w) r.1)
+runs_few first (Some s) t old new status e w (inr r) = inr r.0
+
+-- a graph file that is there isn't missing
+not_lacking : (name : Option (List ℕ)) (files : List File) (g : Graph) → BeginsWith name files g → Lacks files name → ⊥
+not_lacking None files g b l = l
+not_lacking (Some name) files g b l = (let z : None ≡ Some b.0 = sym l ∙ b.1 in cc)
 
 no_five : (form : Form) (files : Option (List File)) (h h2 : ℕ) → NoFault h h2 → Rose h h2 ⊎ IsMissing form files → NamesProper form files → ⊥
 no_five form files h h2 f (inl r) w = not_rose h h2 f r
-no_five none files h h2 f (inr m) w = m
-no_five (script name) None h h2 f (inr m) w = w
-no_five (script name) (Some files) h h2 f (inr m) w = (let z : None ≡ Some w.0 = sym m ∙ w.1 in cc)
+no_five neither files h h2 f (inr m) w = m
+no_five (runs s) None h h2 f (inr m) w = w
+no_five (runs s) (Some files) h h2 f (inr (inl m)) w = not_lacking s.graph files w.0 w.1 m
+no_five (runs s) (Some files) h h2 f (inr (inr m)) w = (let z : None ≡ Some w.2 = sym m.2 ∙ w.3 in cc)
 
 -- a status of 5 or 6 has a cause
 seven : (form : Form) (files : Option (List File)) (h h2 k k2 status : ℕ) → HasStatus form files h h2 k k2 status → NamesProper form files → NoFault h h2 → NoFault k k2 → 5 ≤ status → status ≡ 7
-seven form files h h2 k k2 status s w f g l = elim s.is_one [
-  | inl few ↦ elim few [ inl e ↦ absurd (omega (arith, e, l)) | inr e ↦ absurd (omega (arith, e, l)) ]
-  | inr most ↦ elim (three status most.0 most.1) [
-    | inl e ↦ absurd (no_five form files h h2 f (s.missing e) w)
-    | inr o ↦ elim o [ inl e ↦ absurd (not_rose k k2 g (s.sink e)) | inr e ↦ e ]
-  ]
+seven form files h h2 k k2 status s w f g l = elim (three status l s.is_one) [
+  | inl e ↦ absurd (no_five form files h h2 f (s.missing e) w)
+  | inr o ↦ elim o [ inl e ↦ absurd (not_rose k k2 g (s.sink e)) | inr e ↦ e ]
 ]
   where
     three : (n : ℕ) → 5 ≤ n → n ≤ 7 → (n ≡ 5) ⊎ ((n ≡ 6) ⊎ (n ≡ 7))
     three n a b = grind (arith, a, b)
 
-pub completes : (form : Form) (files : Option (List File)) (old new : Option (List ℕ)) (h h2 k k2 status : ℕ)
-    → Meets form files old new status → HasStatus form files h h2 k k2 status → Completes form files h h2 k k2 status
-completes none files old new h h2 k k2 status m s w f g = absurd w
-completes (script name) None old new h h2 k k2 status m s w f g = absurd w
-completes (script name) (Some files) old new h h2 k k2 status m s w f g =
-    elim (runs_few (content_of files name) w.0 old new status w.1 w.2 m) [
+-- the run was cut short
+pub short_completes : (form : Form) (files : Option (List File)) (h h2 k k2 status : ℕ) → HasStatus form files h h2 k k2 status → 5 ≤ status → Completes form files h h2 k k2 status
+short_completes form files h h2 k k2 status s l w f g = inr (seven form files h h2 k k2 status s w f g l)
+
+-- the script ran from a first state
+pub script_completes : (s : Settings) (files : Option (List File)) (first : State) (old new : Option (List ℕ)) (h h2 k k2 status : ℕ)
+    → ScriptTold first files s.script old new status → HasStatus (runs s) files h h2 k k2 status → Completes (runs s) files h h2 k k2 status
+script_completes s None first old new h h2 k k2 status r c w f g = absurd w
+script_completes s (Some fs) first old new h h2 k k2 status r c w f g =
+    elim (runs_few first (content_of fs s.script) w.2 old new status w.3 w.4 r) [
       | inl e ↦ inl e
-      | inr e ↦ inr (seven (script name) (Some files) h h2 k k2 status s w f g e)
+      | inr e ↦ inr (seven (runs s) (Some fs) h h2 k k2 status c w f g e)
     ]
+
+named : (name : List ℕ) (graph : Option (List ℕ)) (files : List File) (g : Graph) → graph ≡ Some name → BeginsWith graph files g
+    → (text : List ℕ) × (content_of files name ≡ Some text) × Loads program_limits text (loaded g)
+named name graph files g e b = subst (λ n. BeginsWith n files g) e b
+
+-- a line of the graph file was refused, so that the words name no proper files
+pub refused_completes : (s : Settings) (name : List ℕ) (files : Option (List File)) (o : Outcome) (h h2 k k2 status : ℕ) → s.graph ≡ Some name
+    → LoadsTold program_limits files name o → ((g : Graph) → o ≡ loaded g → ⊥)
+    → ((text : List ℕ) (a b : Outcome) → Loads program_limits text a → Loads program_limits text b → a ≡ b) → Completes (runs s) files h h2 k k2 status
+refused_completes s name None o h h2 k k2 status e l other once w f g = absurd w
+refused_completes s name (Some fs) o h h2 k k2 status e l other once w f g =
+    let n = named name s.graph fs w.0 e w.1 in
+    let same : l.0 ≡ n.0 = (let z : Some l.0 ≡ Some n.0 = sym l.1 ∙ n.1 in cc) in
+    absurd (other w.0 (once n.0 o (loaded w.0) (subst (λ t. Loads program_limits t o) same l.2) n.2))

@@ -1,7 +1,8 @@
 -- The definitions at worked lines, and at near misses.
 use Rattle.std.proofs.Common.{◌≡◌, ℕ, zero, suc, ◌≤◌, List, [], ◌∷◌, ◌++◌, length, subst, true, false, refl, sym, ap, ◌∙◌, arith, append-nil, lit<, lit≤, Option, None, Some, inl, inr, Ok, Err}
 use Rattle.std.specs.Prelude.{codes, slice_get, slice_index}
-use Rattle.index_api.specs.declared.kinds.Via.TheVariants.{Data}
+use Rattle.index_api.specs.declared.kinds.Via.{Via}
+use Rattle.index_api.specs.declared.kinds.Via.TheVariants.{Data, A, One}
 use Rattle.std.proofs.lemmas.Fmt.{decimal_digit}
 use Rattle.px_spec.specs.Lines.{Line, cut}
 use Rattle.px_spec.specs.declared.refusal.Refusal.TheVariants.{InUse}
@@ -9,28 +10,27 @@ use Rattle.px_spec.specs.ProgramLimits.{program_limits}
 use Rattle.px_base.specs.declared.lines.TheConstants.{LINE_BYTES}
 use Rattle.px_spec.specs.Graphs.{Graph, empty_graph}
 use Rattle.px_spec.specs.Changes.{node, link, unlink, drop as drop_node, with_node}
-use Rattle.px_spec.specs.Words.{IsLabel, node_word}
-use Rattle.pathindex_run.specs.Texts.{reply, nodes_line, answers_text, bad_line}
-use Rattle.script_read.specs.Commands.{Command, change, path, IsSpelled, SpellsNothing, SpellsSomething}
-use Rattle.pathindex_run.specs.Forms.{form_of, script, none}
-use Rattle.pathindex_run.specs.Headline.{first_state, RunsScript, IsProper, HasStatus, Completes}
-use Rattle.pathindex_run.specs.Runs.{Progress, start, TakesLine, IsRun, Obeys, command, changes}
+use Rattle.px_spec.specs.Words.{node_word}
+use Rattle.path_query.specs.Labels.{IsPlainLabel, SpellsLabel}
+use Rattle.pathindex_run.specs.Texts.{reply, nodes_line, answers_text, bad_line, graph_line}
+use Rattle.script_read.specs.Commands.{Command, change, path, extents, sizes, IsSpelled, SpellsNothing, SpellsSomething}
+use Rattle.command_line.specs.Forms.{Settings, runs}
+use Rattle.pathindex_run.specs.Headline.{first_state as state_of, RunsScript, RunsLoaded, IsProper, HasStatus, Completes}
+use Rattle.pathindex_run.specs.Listed.{IsKept, ShowsExtents, unkept}
+use Rattle.pathindex_run.specs.Runs.{State, Progress, start, TakesLine, IsRun, Obeys, command, changes}
 
-label_a : IsLabel (codes "a")
-label_a = (refl, (λ e. omega (arith, ap (λ l. slice_index l 1) e)), (λ e. omega (arith, ap (λ l. slice_index l 0) e)), (λ e. omega (arith, ap (λ l. slice_index l 0) e)))
+plain_a : IsPlainLabel (codes "a")
+plain_a = (refl, (λ e. omega (arith, ap (λ l. slice_index l 1) e)), (λ e. omega (arith, ap (λ l. slice_index l 0) e)), (λ e. omega (arith, ap (λ l. slice_index l 0) e)))
 
--- one word names a script, but not an option
-named : form_of (codes "s" ∷ []) ≡ script (codes "s")
-named = refl
+label_a : SpellsLabel (codes "a") (codes "a")
+label_a = inl (plain_a, refl)
 
-option : form_of (codes "--k" ∷ []) ≡ none
-option = refl
+-- a run of the script s, with no graph file
+plain : Settings
+plain = record { script = codes "s"; graph = None; k = 2 }
 
-two_words : form_of (codes "s" ∷ codes "t" ∷ []) ≡ none
-two_words = refl
-
-no_words : form_of [] ≡ none
-no_words = refl
+abbrev first_state : State
+first_state = state_of empty_graph 2
 
 -- printed lines
 answers_none : answers_text [] ≡ codes "answers 0\n"
@@ -56,52 +56,53 @@ run_empty = record {
 }
 
 after_one : Progress
-after_one = record { state = record { graph = with_node empty_graph (codes "a") }; refused = false; lines = 1; bytes = 7 }
+after_one = record { state = state_of (with_node empty_graph (codes "a")) 2; refused = false; lines = 1; bytes = 7 }
 
 takes_one : TakesLine program_limits (start first_state) (record { text = codes "node a"; end = 10 ∷ [] }) (codes "added " ++ node_word 0 ++ 10 ∷ []) after_one
 unfolding after_one
 takes_one = record {
   within = (lit≤ tt, lit≤ tt);
   refuses = false;
-  does = command (change (node (codes "a"))) (refl, label_a) _ _ _ (changes (node (codes "a")));
+  does = command (change (node (codes "a"))) (codes "a", refl, label_a) _ _ _ (changes (node (codes "a")));
   refused = refl;
   lines = refl;
   bytes = refl;
 }
 
--- a label that is none makes no command of any kind
-bad_label : SpellsNothing (codes "node and")
-bad_label = (λ q. omega (arith, q), other)
+-- a line without a label is no command of any kind
+no_label : SpellsNothing (codes "node")
+no_label = (λ q. omega (arith, q), other)
   where
-    word : List (List ℕ) → ℕ → List ℕ
-    word [] n = []
-    word (w ∷ ws) zero = w
-    word (w ∷ ws) (suc n) = word ws n
+    first : List (List ℕ) → List ℕ
+    first [] = []
+    first (w ∷ ws) = w
 
-    other : (c : Command) → ¬ IsSpelled (codes "node and") c
-    other (change (node t)) h = h.1.1 (sym (ap (λ ws. word ws 1) h.0))
+    other : (c : Command) → ¬ IsSpelled (codes "node") c
+    other (change (node t)) h = omega (arith, ap length h.1)
     other (change (link u v)) h = omega (arith, ap length h.0)
     other (change (unlink u v)) h = omega (arith, ap length h.0)
-    other (change (drop_node u)) h = omega (arith, ap (λ ws. slice_index (word ws 0) 0) h.0)
+    other (change (drop_node u)) h = omega (arith, ap length h.0)
     other (path Data e) h = omega (arith, ap (λ l. slice_index l 0) h.0)
     other (path via e) h = absurd h
+    other (extents via) h = omega (arith, ap length h.0)
+    other sizes h = omega (arith, ap (λ ws. slice_index (first ws) 0) h)
 
 -- the second line is no command, so the third isn't taken
-run_bad : IsRun program_limits first_state (codes "node a\nnode and\nnode b\n") ((codes "added " ++ node_word 0 ++ 10 ∷ []) ++ bad_line 2) 4 after_one
+run_bad : IsRun program_limits first_state (codes "node a\nnode\nnode b\n") ((codes "added " ++ node_word 0 ++ 10 ∷ []) ++ bad_line 2) 4 after_one
 unfolding after_one
 run_bad = record {
   before = record { text = codes "node a"; end = 10 ∷ [] } ∷ [];
-  left = record { text = codes "node and"; end = 10 ∷ [] } ∷ record { text = codes "node b"; end = 10 ∷ [] } ∷ [];
+  left = record { text = codes "node"; end = 10 ∷ [] } ∷ record { text = codes "node b"; end = 10 ∷ [] } ∷ [];
   printed = codes "added " ++ node_word 0 ++ 10 ∷ [];
   ending = bad_line 2;
   script_is = refl;
   takes = (codes "added " ++ node_word 0 ++ 10 ∷ [], [], after_one, takes_one, (refl, refl), sym (append-nil _));
-  ends = (λ _. bad_label, refl, refl);
+  ends = (λ _. no_label, refl, refl);
   output_is = refl;
 }
 
 -- a script that isn't there is no empty one
-not_empty : (old : Option (List ℕ)) → ¬ RunsScript None old old 0
+not_empty : (old : Option (List ℕ)) → ¬ RunsScript first_state None old old 0
 not_empty old r = elim r.1 [ inl e ↦ omega (arith, e) | inr e ↦ omega (arith, e) ]
 
 -- what changes that take away print
@@ -117,23 +118,44 @@ proper_one = record { small = lit≤ tt; lines = each }
   where
     each : (i : ℕ) (l : Line) → slice_get (cut (codes "node a\n")) i ≡ Some l → (length l.text ≤ LINE_BYTES) × SpellsSomething l.text
     each zero l e = let same : record { text = codes "node a"; end = 10 ∷ [] } ≡ l = cc in
-        subst (λ k. (length k.text ≤ LINE_BYTES) × SpellsSomething k.text) same (lit≤ tt, inr (change (node (codes "a")), (refl, label_a)))
+        subst (λ k. (length k.text ≤ LINE_BYTES) × SpellsSomething k.text) same (lit≤ tt, inr (change (node (codes "a")), (codes "a", refl, label_a)))
     each (suc i) l e = cc
 
-not_proper : ¬ IsProper (codes "node and\n")
-not_proper w = elim (w.lines 0 (record { text = codes "node and"; end = 10 ∷ [] }) refl).1 [ inl q ↦ bad_label.0 q | inr c ↦ bad_label.1 c.0 c.1 ]
+not_proper : ¬ IsProper (codes "node\n")
+not_proper w = elim (w.lines 0 (record { text = codes "node"; end = 10 ∷ [] }) refl).1 [ inl q ↦ no_label.0 q | inr c ↦ no_label.1 c.0 c.1 ]
 
 -- a change that is refused prints why, and leaves the state
 obeys_refused : Obeys program_limits first_state (change (unlink 0 1)) (codes "refused no-node\n") true first_state
 obeys_refused = changes (unlink 0 1)
 
 -- a proper script that is there doesn't end at a bad line where no call fails
-not_bad : ¬ Completes (script (codes "s")) (Some (record { name = codes "s"; bytes = codes "node a\n" } ∷ [])) 0 0 0 0 4
-not_bad c = elim (c (codes "node a\n", refl, proper_one) (refl, lit< tt) (refl, lit< tt)) [ inl e ↦ omega (arith, e) | inr e ↦ omega (arith, e) ]
+not_bad : ¬ Completes (runs plain) (Some (record { name = codes "s"; bytes = codes "node a\n" } ∷ [])) 0 0 0 0 4
+unfolding plain
+not_bad c = elim (c (empty_graph, refl, codes "node a\n", refl, proper_one) (refl, lit< tt) (refl, lit< tt)) [ inl e ↦ omega (arith, e) | inr e ↦ omega (arith, e) ]
 
 -- status 5 with no risen count is none where the shelf tells the script
-not_failed : ¬ HasStatus (script (codes "s")) (Some (record { name = codes "s"; bytes = [] } ∷ [])) 0 0 0 0 5
+not_failed : ¬ HasStatus (runs plain) (Some (record { name = codes "s"; bytes = [] } ∷ [])) 0 0 0 0 5
+unfolding plain
 not_failed s = elim (s.missing refl) [
   | inl r ↦ elim r.1 [ inl e ↦ omega (arith, e) | inr e ↦ omega (arith, e) ]
-  | inr m ↦ (let z : Some [] ≡ None = m in cc)
+  | inr m ↦ elim m [ inl l ↦ l | inr l ↦ (let z : Some [] ≡ None = l.2 in cc) ]
 ]
+
+-- a line of the graph file that spells nothing
+refused_line_is : graph_line 3 (codes "syntax") ≡ codes "graph 3 syntax\n"
+refused_line_is = ap (λ d. codes "graph " ++ (d ++ codes " syntax\n")) (decimal_digit 3 (lit< tt))
+
+-- a graph file that isn't there is no empty one
+not_empty_graph : (s : Settings) (old : Option (List ℕ)) → ¬ RunsLoaded s [] None old old 0
+not_empty_graph s old r = elim r.1 [ inl e ↦ omega (arith, e) | inr e ↦ omega (arith, e) ]
+
+-- a level above the highest one that is kept is refused, and so is an index that isn't built
+level_refused : ShowsExtents empty_graph 2 (A 3) (codes "refused no-index\n") true
+level_refused = unkept (A 3) (λ h. omega (arith, h))
+
+one_refused : ShowsExtents empty_graph 8 One (codes "refused no-index\n") true
+one_refused = unkept One (λ h. h)
+
+-- no level is refused that is kept
+level_kept : (k : ℕ) (via : Via) (text : List ℕ) → ShowsExtents empty_graph k via text true → ¬ IsKept k via
+level_kept k _ _ (unkept via h) = h

@@ -5,3 +5,4 @@ pub mod TopLemmas
 pub mod ListingLemmas
 pub mod Examples
 pub mod CompleteLemmas
+pub mod LevelLemmas

@@ -5,15 +5,17 @@ use Rattle.px_spec.specs.declared.limits.Limits.{Limits}
 use Rattle.px_spec.specs.Graphs.{Graph}
 use Rattle.px_spec.specs.Changes.{Change, apply}
 use Rattle.px_spec.specs.Shapes.{shape_of}
+use Rattle.index_api.specs.declared.kinds.Via.{Via}
 use Rattle.index_api.specs.declared.kinds.Via.TheVariants.{Data, A, One, Fb}
 use Rattle.path_query.specs.Trees.{Seq}
 use Rattle.path_query.specs.Answers.{AreAnswers}
-use Rattle.script_read.specs.Commands.{Command, change, path, IsQuiet, IsSpelled}
+use Rattle.script_read.specs.Commands.{Command, change, path, extents, sizes, IsQuiet, IsSpelled}
 use Rattle.pathindex_run.specs.declared.interpreter.Outcome.TheVariants.{Done}
 use Rattle.pathindex_run.specs.Texts.{reply, answers_text}
 use Rattle.pathindex_run.specs.Kept.{Kept}
-use Rattle.pathindex_run.specs.Runs.{nothing, command, Obeys, changes, answers}
-use Rattle.pathindex_run.specs.Going.{Changes, Obeyed, AsksData, Comes, state_of}
+use Rattle.pathindex_run.specs.Runs.{nothing, command, Obeys, changes, answers, lists, measures}
+use Rattle.pathindex_run.specs.Listed.{ShowsExtents, ShowsSizes}
+use Rattle.pathindex_run.specs.Going.{Changes, Obeyed, AsksData, Comes}
 
 or_same : (b : Bool) → b ≡ (b || false)
 or_same true = refl
@@ -25,13 +27,13 @@ quiet_comes limits k line out q = ([], false, nothing q, or_same k.refused, sym 
 -- a change that was judged, and carried out where it was accepted
 pub change_obeyed : (limits : Limits) (k : Kept) (c : Change) (out : List ℕ) (refuses : Bool) (h : Graph) (gathered : List ℕ)
     → Changes limits c k.state.graph out refuses h gathered
-    → Obeyed limits k (change c) out (record { state = state_of h; refused = k.refused || refuses }) gathered
+    → Obeyed limits k (change c) out (record { state = record k.state { graph = h }; refused = k.refused || refuses }) gathered
 change_obeyed limits k c out refuses h gathered d =
     let outcome = apply c k.state.graph limits in
     record {
       printed = reply c k.state.graph outcome;
       refuses = is_err outcome;
-      obeys = subst (λ t. Obeys limits k.state (change c) (reply c k.state.graph outcome) (is_err outcome) t) (sym d.graph) (changes c);
+      obeys = subst (λ x. Obeys limits k.state (change c) (reply c k.state.graph outcome) (is_err outcome) (record k.state { graph = x })) (sym d.graph) (changes c);
       refused = ap (λ b. k.refused || b) d.refusal;
       gathered_is = d.printed;
     }
@@ -49,6 +51,29 @@ answers_obeyed limits k e out (Ok u) gathered a = record {
 }
 answers_obeyed limits k e out (Err x) gathered a = tt
 
+-- an index that was listed, or isn't kept
+pub list_obeyed : (limits : Limits) (m : Kept) (via : Via) (out text : List ℕ) (refuses : Bool) (gathered : List ℕ)
+    → ShowsExtents m.state.graph m.state.k via text refuses → gathered ≡ out ++ text
+    → Obeyed limits m (extents via) out (record { state = m.state; refused = m.refused || refuses }) gathered
+list_obeyed limits m via out text refuses gathered s e = record {
+  printed = text;
+  refuses = refuses;
+  obeys = lists via text refuses s;
+  refused = refl;
+  gathered_is = e;
+}
+
+-- sizes that were listed
+pub sizes_obeyed : (limits : Limits) (m : Kept) (out text gathered : List ℕ) → ShowsSizes m.state.graph m.state.k text → gathered ≡ out ++ text
+    → Obeyed limits m sizes out m gathered
+sizes_obeyed limits m out text gathered s e = record {
+  printed = text;
+  refuses = false;
+  obeys = measures text s;
+  refused = or_same m.refused;
+  gathered_is = e;
+}
+
 -- what a line spells asks the graph itself
 pub spelled_asks : (line : List ℕ) (c : Command) → IsSpelled line c → AsksData c
 spelled_asks line (change c) h = tt
@@ -56,6 +81,8 @@ spelled_asks line (path Data e) h = refl
 spelled_asks line (path (A level) e) h = absurd h
 spelled_asks line (path One e) h = absurd h
 spelled_asks line (path Fb e) h = absurd h
+spelled_asks line (extents via) h = tt
+spelled_asks line sizes h = tt
 
 -- a line whose command was carried out
 pub obeyed_comes : (limits : Limits) (k : Kept) (line : List ℕ) (c : Command) (out : List ℕ) (m : Kept) (gathered : List ℕ)

@@ -9,26 +9,23 @@ use Rattle.px_spec.specs.Graphs.{Graph}
 use Rattle.px_spec.specs.Changes.{Change, apply}
 use Rattle.index_api.specs.declared.kinds.Via.TheVariants.{Data}
 use Rattle.pathindex_run.specs.Texts.{reply, bad_line}
-use Rattle.script_read.specs.Commands.{Command, change, path, SpellsNothing}
+use Rattle.script_read.specs.Commands.{Command, change, path, extents, sizes, SpellsNothing}
 use Rattle.pathindex_run.specs.declared.interpreter.Outcome.{Outcome}
 use Rattle.pathindex_run.specs.declared.interpreter.Outcome.TheVariants.{Done, Bad}
 use Rattle.pathindex_run.specs.declared.script.Next.{Next}
 use Rattle.pathindex_run.specs.declared.script.Next.TheVariants.{Taken, AtBad, AtEnd}
 use Rattle.pathindex_run.specs.Kept.{Kept}
-use Rattle.pathindex_run.specs.Runs.{State, Progress, Obeys, Does, TakesLine, IsBad, moved}
+use Rattle.pathindex_run.specs.Runs.{Progress, Obeys, Does, TakesLine, IsBad, changed}
 
 -- the new text begins with the old one
 pub record Extends (old new : List ℕ) : Type 0 where
   pub rest : List ℕ
   pub new_is : new ≡ old ++ rest
 
-abbrev pub state_of : Graph → State
-state_of g = record { graph = g }
-
 -- A change was judged, and carried out where it was accepted; what it prints is gathered.
 pub record Changes (limits : Limits) (c : Change) (g : Graph) (out : List ℕ) (refuses : Bool) (h : Graph) (gathered : List ℕ) : Type 0 where
   pub refusal : refuses ≡ is_err (apply c g limits)
-  pub graph : state_of h ≡ moved (state_of g) (apply c g limits)
+  pub graph : h ≡ changed g (apply c g limits)
   pub printed : gathered ≡ out ++ reply c g (apply c g limits)
 
 -- A command was carried out, and what it prints is gathered.
@@ -43,6 +40,8 @@ pub record Obeyed (limits : Limits) (k : Kept) (c : Command) (out : List ℕ) (m
 abbrev pub AsksData : Command → Type 0
 AsksData (change c) = ⊤
 AsksData (path via e) = via ≡ Data
+AsksData (extents via) = ⊤
+AsksData sizes = ⊤
 
 -- A line was taken, and what it prints is gathered; or it is bad, and nothing is.
 abbrev pub Comes : Limits → Kept → List ℕ → List ℕ → Outcome → Kept → List ℕ → Type 0

@@ -1,9 +1,11 @@
 pub mod Texts
+pub mod Listed
 pub mod Runs
-pub mod Forms
 pub mod Kept
 pub mod Going
+pub mod Families
 pub mod Listing
 pub mod Endings
 pub mod Told
 pub mod Headline
+pub mod Starting

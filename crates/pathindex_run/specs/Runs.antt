@@ -7,20 +7,28 @@ use Rattle.px_spec.specs.Lines.{Line, cut}
 use Rattle.px_spec.specs.Graphs.{Graph}
 use Rattle.px_spec.specs.Changes.{Change, apply}
 use Rattle.px_spec.specs.Shapes.{shape_of}
+use Rattle.index_api.specs.declared.kinds.Via.{Via}
 use Rattle.index_api.specs.declared.kinds.Via.TheVariants.{Data}
 use Rattle.path_query.specs.Trees.{Seq}
 use Rattle.path_query.specs.Answers.{AreAnswers}
 use Rattle.pathindex_run.specs.Texts.{reply, answers_text, bad_line}
-use Rattle.script_read.specs.Commands.{Command, change, path, IsQuiet, IsSpelled, SpellsNothing}
+use Rattle.pathindex_run.specs.Listed.{ShowsExtents, ShowsSizes}
+use Rattle.script_read.specs.Commands.{Command, change, path, extents, sizes, IsQuiet, IsSpelled, SpellsNothing}
 
--- what commands change
+-- what commands change or ask
 pub record State : Type 0 where
   pub graph : Graph
+  -- the highest level of the A(k)-indexes that are kept
+  pub k : ℕ
 
--- the state after a change, by its outcome: a refusal leaves it
+-- the graph after a change, by its outcome: a refusal leaves it
+abbrev pub changed : Graph → Result Graph Refusal → Graph
+changed g (Ok h) = h
+changed g (Err r) = g
+
+-- so does the state
 abbrev pub moved : State → Result Graph Refusal → State
-moved s (Ok g) = record s { graph = g }
-moved s (Err r) = s
+moved s outcome = record s { graph = changed s.graph outcome }
 
 -- A command in a state may print this, tell whether it printed a refusal, and lead to that state.
 pub data Obeys (limits : Limits) (s : State) : Command → List ℕ → Bool → State → Type 0 where
@@ -28,6 +36,8 @@ pub data Obeys (limits : Limits) (s : State) : Command → List ℕ → Bool →
       → Obeys limits s (change c) (reply c s.graph (apply c s.graph limits)) (is_err (apply c s.graph limits))
       (moved s (apply c s.graph limits))
   answers : (e : Seq) (nodes : List ℕ) → AreAnswers (shape_of s.graph) e nodes → Obeys limits s (path Data e) (answers_text nodes) false s
+  lists : (via : Via) (text : List ℕ) (refuses : Bool) → ShowsExtents s.graph s.k via text refuses → Obeys limits s (extents via) text refuses s
+  measures : (text : List ℕ) → ShowsSizes s.graph s.k text → Obeys limits s sizes text false s
 
 -- so may a line
 pub data Does (limits : Limits) (s : State) (line : List ℕ) : List ℕ → Bool → State → Type 0 where

@@ -33,6 +33,10 @@ answers_text nodes = codes "answers " ++ decimal (length nodes) ++ 10 ∷ nodes_
 abbrev pub bad_line : ℕ → List ℕ
 bad_line n = codes "bad " ++ decimal n ++ 10 ∷ []
 
+-- a line of the graph file is refused
+abbrev pub graph_line : ℕ → List ℕ → List ℕ
+graph_line n reason = codes "graph " ++ decimal n ++ 32 ∷ (reason ++ 10 ∷ [])
+
 abbrev pub usage_line : List ℕ
 usage_line =
     codes "usage: pathindex SCRIPT [--graph FILE] [--k N] [--without-one] [--without-fb] | pathindex --make SEED"

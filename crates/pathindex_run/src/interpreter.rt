@@ -1,15 +1,16 @@
 // Carrying out the lines of a script.
-ghost use Rattle.std.specs.Prelude.{◌≡◌, ◌++◌, ℕ, List, IfOk, OnOk, OnErr, false};
+ghost use Rattle.std.specs.Prelude.{◌≡◌, ◌≤◌, ◌++◌, ℕ, List, IfOk, OnOk, OnErr, false};
 ghost use Rattle.px_spec.specs.Shapes.{shape_of};
 ghost use Rattle.graph_update.specs.Judging.{change_of};
 ghost use Rattle.path_query.specs.Answers.{AreAnswers};
-ghost use Rattle.script_read.specs.Commands.{change as changing};
+ghost use Rattle.px_spec.specs.declared.limits.Limits.{Limits as LimitsSeen};
+ghost use Rattle.script_read.specs.Commands.{change as changing, extents as listing, sizes as measuring};
 ghost use Rattle.script_read.specs.Reading.{command_of};
 ghost use Rattle.pathindex_run.specs.Texts.{answers_text};
 ghost use Rattle.pathindex_run.specs.Going.{Obeyed, AsksData, Comes};
-ghost use Rattle.pathindex_run.specs.Headline.{first_state};
 
 use crate::changes::make_change;
+use crate::indexes::{push_extents, push_sizes};
 use crate::queries::{answers, push_answers};
 use graph_update::Change;
 use index_api::Via;
@@ -33,28 +34,34 @@ pub(crate) enum Outcome {
 #[derive(Drop)]
 pub(crate) struct Interpreter {
     graph: Graph,
+    k: u32,
     refused: bool,
 }
 
 impl Model for Interpreter {
+    ghost use Rattle.std.specs.Prelude.{◌≤◌};
     ghost use Rattle.pathindex_run.specs.Kept.{Kept, kept_code};
 
     ghost Value = { Kept };
 
     ghost coded = { kept_code };
 
-    ghost view = { λ i. record { state = record { graph = i.graph.graph }; refused = i.refused } };
+    ghost view = { λ i. record { state = record { graph = i.graph.graph; k = i.k }; refused = i.refused } };
+
+    ghost invariant = { λ i. i.k ≤ 8 };
 }
 
 impl Interpreter {
-    /// Starts with the empty graph.
-    pub(crate) fn new(alloc: Global) -> Result<Interpreter, Memory>
-        ensures { IfOk result (λ i. i ≡ record { state = first_state; refused = false }) }
+    /// Starts with that graph, and keeps indexes up to the level `k`.
+    pub(crate) fn new(graph: Graph, k: u32) -> Interpreter
+        requires few { k ≤ 8 }
+        ensures { result ≡ record { state = record { graph = graph.graph; k = k }; refused = false } }
     {
-        Ok(Interpreter {
-            graph: Graph::new(alloc)?,
+        Interpreter {
+            graph,
+            k,
             refused: false,
-        })
+        }
     }
 
     /// Whether some line printed a refusal.
@@ -90,6 +97,25 @@ impl Interpreter {
         Ok(())
     }
 
+    /// Gathers the list of an index, or that it isn't kept.
+    fn list(&mut self, alloc: Global, via: Via, out: &mut Vec<u8>) -> Result<(), Memory>
+        ensures ok { (limits : LimitsSeen) → OnOk result (Obeyed limits self.old (listing via) out.old.items self.new out.new.items) }
+        ensures err { OnErr result (out.new.items ≡ out.old.items) }
+    {
+        let refuses = push_extents(alloc, &self.graph, self.k, via, out)?;
+        self.refused = self.refused || refuses;
+        Ok(())
+    }
+
+    /// Gathers the sizes of the graph and of the indexes that are kept.
+    fn measure(&self, alloc: Global, out: &mut Vec<u8>) -> Result<(), Memory>
+        ensures ok { (limits : LimitsSeen) → OnOk result (Obeyed limits self.now measuring out.old.items self.now out.new.items) }
+        ensures err { OnErr result (out.new.items ≡ out.old.items) }
+    {
+        push_sizes(alloc, &self.graph, self.k, out)?;
+        Ok(())
+    }
+
     /// Carries out a command, and gathers what it prints.
     fn obey(
         &mut self,
@@ -109,6 +135,8 @@ impl Interpreter {
             Command::Drop(node) => self.change(alloc, limits, &Change::Drop(node), out),
             Command::Path(Via::Data, expr) => self.ask(alloc, &expr, out),
             Command::Path(_, _) => unreachable!(),
+            Command::Extents(via) => self.list(alloc, via, out),
+            Command::Sizes => self.measure(alloc, out),
         }
     }
 

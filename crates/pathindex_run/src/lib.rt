@@ -4,6 +4,7 @@
 
 mod changes;
 mod host;
+mod indexes;
 mod interpreter;
 mod output;
 mod queries;

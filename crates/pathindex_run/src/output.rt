@@ -4,6 +4,7 @@ ghost use Rattle.std.specs.Io.KnownBytes.{Appends};
 ghost use Rattle.px_base.specs.Causes.{HasCause};
 ghost use Rattle.px_base.specs.Files.{AppendsFront};
 ghost use Rattle.pathindex_run.specs.Going.{Extends};
+ghost use Rattle.pathindex_run.specs.Texts.{graph_line};
 
 use itoa::Buffer;
 use px_base::{Failed, Memory, Sink, put_all};
@@ -41,6 +42,19 @@ pub(crate) fn push_number(out: &mut Vec<u8>, head: &[u8], number: u32) -> Result
 {
     let mut buffer = Buffer::new();
     push_line(out, head, buffer.format(number).as_bytes())
+}
+
+/// Appends which line of the graph file is refused, and why, or a front of that where memory is wanting.
+pub(crate) fn push_graph_line(out: &mut Vec<u8>, line: u32, reason: &[u8]) -> Result<(), Memory>
+    ensures { OnOk result (out.new.items ≡ out.old.items ++ graph_line line reason.now) }
+{
+    let mut buffer = Buffer::new();
+    out.extend_from_slice(b"graph ")?;
+    out.extend_from_slice(buffer.format(line).as_bytes())?;
+    out.push(b' ')?;
+    out.extend_from_slice(reason)?;
+    out.push(b'\n')?;
+    Ok(())
 }
 
 /// Writes what is gathered, and gathers from nothing.

@@ -13,6 +13,7 @@ ghost use Rattle.pathindex_run.specs.declared.script.Stop.TheVariants.{Sink as S
 
 use crate::interpreter::{Interpreter, Outcome};
 use crate::output::{flush, push_number};
+use label_graph::Graph;
 use px_base::{
     Failed, LINE_BYTES, Limits, LineFault, LineReader, Memory, SCRIPT_BYTES, Shelf, Sink,
 };
@@ -163,16 +164,20 @@ fn ending_of(refused: bool) -> Ending
     }
 }
 
-/// Runs the script that is open, to its end or to a line that is bad.
+/// Runs the script that is open from that graph on, to its end or to a line that is bad. Indexes are kept up to the
+/// level `k`.
 pub(crate) fn run_lines<H: Shelf, K: Sink>(
     alloc: Global,
     limits: &Limits,
+    graph: Graph,
+    k: u32,
     shelf: &mut H,
     sink: &mut K,
 ) -> Result<Ending, Stop>
-    requires { IsTrue (H.is_open shelf.old) }
-    ensures ran { IfOk result (λ ending. RanTold limits.now first_state (H.left shelf.old) (K.written sink.old) (K.written sink.new) (status_at ending)) }
-    ensures part { OnErr result (FrontTold limits.now first_state (H.left shelf.old) (K.written sink.old) (K.written sink.new)) }
+    requires open { IsTrue (H.is_open shelf.old) }
+    requires few { k ≤ 8 }
+    ensures ran { IfOk result (λ ending. RanTold limits.now (first_state graph.graph k) (H.left shelf.old) (K.written sink.old) (K.written sink.new) (status_at ending)) }
+    ensures part { OnErr result (FrontTold limits.now (first_state graph.graph k) (H.left shelf.old) (K.written sink.old) (K.written sink.new)) }
     ensures files { H.files shelf.new ≡ H.files shelf.old }
     ensures shelf_fault { IsErrOf result Stop.Shelf → Rose (H.faults shelf.old) (H.faults shelf.new) }
     ensures no_shelf_fault { result ≢ Err Stop.Shelf → H.faults shelf.new ≡ H.faults shelf.old }
@@ -180,7 +185,7 @@ pub(crate) fn run_lines<H: Shelf, K: Sink>(
     ensures no_sink_fault { result ≢ Err Stop.Sink → K.faults sink.new ≡ K.faults sink.old }
 {
     let mut reader = LineReader::new(alloc, LINE_BYTES, SCRIPT_BYTES)?;
-    let mut interpreter = Interpreter::new(alloc)?;
+    let mut interpreter = Interpreter::new(graph, k);
     let mut out = Vec::new(alloc);
     'lines: loop {
         make_way(&reader, &mut out, sink)?;

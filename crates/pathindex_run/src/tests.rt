@@ -6,14 +6,14 @@ use std::fs;
 use std::process::Abort;
 use std::test::Fail;
 
-/// A run under these words, where `s` is the one file if it is there. The calls on the shelf and on
-/// the sink with the numbers listed fail.
-fn run_script(
+/// A run under these words. Of the files `s` and `g` those are there that have bytes. The calls on the shelf
+/// and on the sink with the numbers listed fail.
+fn run_files(
     alloc: Global,
     words: &[&str],
     script: Option<&[u8]>,
-    shelf_failing: &[u32],
-    sink_failing: &[u32],
+    graph: Option<&[u8]>,
+    failing: (&[u32], &[u32]),
 ) -> Result<(u8, Vec<u8>), Fail> {
     let mut named = Vec::new(alloc);
     for word in words {
@@ -23,10 +23,24 @@ fn run_script(
     if let Some(script) = script {
         files.push((text(alloc, "s")?, script.to_vec(alloc)?))?;
     }
-    let mut shelf = MemShelf::new(files, 8, shelf_failing.to_vec(alloc)?);
-    let mut sink = sink_of(alloc, sink_failing)?;
+    if let Some(graph) = graph {
+        files.push((text(alloc, "g")?, graph.to_vec(alloc)?))?;
+    }
+    let mut shelf = MemShelf::new(files, 8, failing.0.to_vec(alloc)?);
+    let mut sink = sink_of(alloc, failing.1)?;
     let status = run(alloc, &named, &mut shelf, &mut sink);
     Ok((status, sink.written().to_vec(alloc)?))
+}
+
+/// The same of the file `s` alone.
+fn run_script(
+    alloc: Global,
+    words: &[&str],
+    script: Option<&[u8]>,
+    shelf_failing: &[u32],
+    sink_failing: &[u32],
+) -> Result<(u8, Vec<u8>), Fail> {
+    run_files(alloc, words, script, None, (shelf_failing, sink_failing))
 }
 
 fn text(alloc: Global, name: &str) -> Result<Text, Memory> {
@@ -41,7 +55,7 @@ fn sink_of(alloc: Global, failing: &[u32]) -> Result<MemSink, Memory> {
 fn scripts_and_what_they_write(rt: HostRuntime) -> Result<(), Fail> {
     let usage: &[u8] =
         b"usage: pathindex SCRIPT [--graph FILE] [--k N] [--without-one] [--without-fb] | pathindex --make SEED\n";
-    let rows: [(&[&str], Option<&[u8]>, &[u8], u8); 13] = [
+    let rows: [(&[&str], Option<&[u8]>, &[u8], u8); 17] = [
         (&["s"], Some(b""), b"", 0),
         (
             &["s"],
@@ -95,6 +109,10 @@ fn scripts_and_what_they_write(rt: HostRuntime) -> Result<(), Fail> {
         ),
         (&["s"], None, b"", 5),
         (&[], Some(b"node a\n"), usage, 2),
+        (&["--k", "9", "s"], Some(b"node a\n"), usage, 2),
+        (&["s", "--make", "1"], Some(b"node a\n"), usage, 2),
+        (&["--make", "x"], Some(b"node a\n"), usage, 2),
+        (&["s", "--k", "1"], Some(b"node a\n"), b"added n0\n", 0),
     ];
     for (words, script, output, status) in rows {
         let (ended, written) = run_script(rt.alloc(), words, script, &[], &[])?;
@@ -116,6 +134,104 @@ fn failing_calls_lose_no_line(rt: HostRuntime) -> Result<(), Fail> {
     let script: Option<&[u8]> = Some(b"node a\nnode b\nlink n0 n1\npath data a/b\n");
     let (write_failed, written) = run_script(rt.alloc(), &["s"], script, &[], &[1])?;
     assert_eq!(rt; (write_failed, written.is_empty()), (6, true));
+    Ok(())
+}
+
+#[test]
+fn graph_files_are_loaded(rt: HostRuntime) -> Result<(), Fail> {
+    let script: Option<&[u8]> = Some(b"path data iri\n");
+    let two: Option<&[u8]> = Some(b"<http://e/a> <http://e/p> <http://e/b> .\r\n# a note\r");
+    let cut: Option<&[u8]> = Some(b"\n<http://e/a> <http://e/p> \"x\"");
+    let rows: [(&[&str], Option<&[u8]>, Option<&[u8]>, &[u8], u8); 6] = [
+        (
+            &["s", "--graph", "g"],
+            script,
+            two,
+            b"answers 2\nn0 n2\n",
+            0,
+        ),
+        (
+            &["--graph", "g", "s"],
+            script,
+            two,
+            b"answers 2\nn0 n2\n",
+            0,
+        ),
+        (&["s"], script, two, b"answers 0\n", 0),
+        (&["s", "--graph", "g"], None, cut, b"graph 2 syntax\n", 3),
+        (&["s", "--graph", "g"], script, None, b"", 5),
+        (&["s", "--graph", "g"], None, two, b"", 5),
+    ];
+    for (words, script, graph, output, status) in rows {
+        let (ended, written) = run_files(rt.alloc(), words, script, graph, (&[], &[]))?;
+        assert_eq!(rt; (ended, written.as_slice()), (status, output));
+    }
+    Ok(())
+}
+
+/// Two chains of a, b and c, and a node above the second one: its lists before it is linked, then, and after.
+const CHAINS: &str =
+    "node a\nnode b\nnode c\nlink n0 n1\nlink n1 n2\nnode a\nnode b\nnode c\nlink n3 n4\nlink n4 n5\nnode x\nextents a2\nlink n6 n3\nextents a2\nunlink n6 n3\nextents a2\n";
+
+const CHAINS_LISTED: &str =
+    "added n0\nadded n1\nadded n2\nok\nok\nadded n3\nadded n4\nadded n5\nok\nok\nadded n6\nblocks 4\na n0 n3\nb n1 n4\nc n2 n5\nx n6\nok\nblocks 6\na n0\nb n1\nc n2 n5\na n3\nb n4\nx n6\nok\nblocks 4\na n0 n3\nb n1 n4\nc n2 n5\nx n6\n";
+
+// Sets of parents count and not their number; two loops are alike; so are two rings, at each level; children don't count.
+#[test]
+fn indexes_are_listed(rt: HostRuntime) -> Result<(), Fail> {
+    let rows: [(&[&str], &str, &str, u8); 6] = [
+        (&["s"], CHAINS, CHAINS_LISTED, 0),
+        (
+            &["s"],
+            "node a\nnode a\nnode b\nnode b\nlink n0 n2\nlink n1 n2\nlink n0 n3\nextents a1\n",
+            "added n0\nadded n1\nadded n2\nadded n3\nok\nok\nok\nblocks 2\na n0 n1\nb n2 n3\n",
+            0,
+        ),
+        (
+            &["s", "--k", "3"],
+            "node a\nnode a\nlink n0 n0\nlink n1 n1\nextents a3\n",
+            "added n0\nadded n1\nok\nok\nblocks 1\na n0 n1\n",
+            0,
+        ),
+        (
+            &["s", "--k", "8"],
+            "node a\nnode b\nnode a\nnode b\nlink n0 n1\nlink n1 n0\nlink n2 n3\nlink n3 n2\nextents a8\n",
+            "added n0\nadded n1\nadded n2\nadded n3\nok\nok\nok\nok\nblocks 2\na n0 n2\nb n1 n3\n",
+            0,
+        ),
+        (
+            &["s"],
+            "node a\nnode b\nlink n0 n1\nnode a\nextents a2\nsizes\n",
+            "added n0\nadded n1\nok\nadded n2\nblocks 2\na n0 n2\nb n1\nnodes 3 edges 1\na0 blocks 2 edges 1\na1 blocks 2 edges 1\na2 blocks 2 edges 1\n",
+            0,
+        ),
+        (
+            &["s", "--k", "0"],
+            "extents a1\nextents one\nextents fb\nextents a0\nsizes\n",
+            "refused no-index\nrefused no-index\nrefused no-index\nblocks 0\nnodes 0 edges 0\na0 blocks 0 edges 0\n",
+            1,
+        ),
+    ];
+    for (words, script, output, status) in rows {
+        let script: Option<&[u8]> = Some(script.as_bytes());
+        let (ended, written) = run_script(rt.alloc(), words, script, &[], &[])?;
+        assert_eq!(rt; (ended, written.as_slice()), (status, output.as_bytes()));
+    }
+    Ok(())
+}
+
+// Two spellings of one IRI are one node.
+#[test]
+fn a_graph_file_is_listed(rt: HostRuntime) -> Result<(), Fail> {
+    let graph: Option<&[u8]> = Some(
+        b"# two spellings\r\n<http://e/a> <http://e/p> <http://e/\\u0061> .\r\n<http://e/\\u0061> <http://e/p> <http://e/a>.",
+    );
+    let script: Option<&[u8]> = Some(b"extents a0\nsizes\npath data <http://e/\\u0070>/iri\n");
+    let words = ["s", "--graph", "g"];
+    let (status, written) = run_files(rt.alloc(), &words, script, graph, (&[], &[]))?;
+    let output =
+        "blocks 2\niri n0\n<http://e/p> n1\nnodes 2 edges 2\na0 blocks 2 edges 2\na1 blocks 2 edges 2\na2 blocks 2 edges 2\nanswers 1\nn0\n";
+    assert_eq!(rt; (status, written.as_slice()), (0, output.as_bytes()));
     Ok(())
 }
 

@@ -1,82 +1,163 @@
 // The top call.
-ghost use Rattle.std.specs.Prelude.{◌≡◌, map, string_bytes, option_copied};
+ghost use Rattle.std.specs.Prelude.{◌≡◌, ◌≢◌, ◌≤◌, ◌⊎◌, map, string_bytes, option_map, None, Some};
 ghost use Rattle.px_base.specs.Causes.{Rose};
-ghost use Rattle.pathindex_run.specs.Forms.{form_of, script_name, script, none};
-ghost use Rattle.pathindex_run.specs.Headline.{Meets, HasStatus, Completes};
+ghost use Rattle.command_line.specs.Forms.{runs, neither};
+ghost use Rattle.command_line.specs.Shown.{shown_settings};
+ghost use Rattle.command_line.specs.Words.{form_of};
+ghost use Rattle.pathindex_run.specs.Headline.{Meets, HasStatus, Completes, ShowsRefusal};
+ghost use Rattle.pathindex_run.specs.Starting.{BeginsTold};
+ghost use Rattle.pathindex_run.specs.Texts.{graph_line};
 
+use crate::output::push_graph_line;
 use crate::script::{Stop, run_lines};
+use command_line::{Form, Settings, read_words};
+use graph_load::{LoadError, load};
+use label_graph::Graph;
 use px_base::{Limits, Shelf, Sink, put_all};
 use std::alloc::Global;
 
 const USAGE: &str =
     "usage: pathindex SCRIPT [--graph FILE] [--k N] [--without-one] [--without-fb] | pathindex --make SEED\n";
 
-/// The script that the words name, where they are of its form.
-fn script_of(words: &[String]) -> Option<&str>
-    ensures { option_copied result ≡ script_name (form_of (map string_bytes words.now)) }
-{
-    match words {
-        [word] if !word.is_empty() && !word.starts_with('-') => Some(word.as_str()),
-        _ => None,
-    }
-}
+/// The status where a call of the shelf failed, or a file isn't there.
+const NO_FILE: u8 = 5;
+
+/// The status where a call of the sink failed.
+const NO_OUTPUT: u8 = 6;
+
+/// The status where memory is wanting.
+const NO_MEMORY: u8 = 7;
 
 /// Writes the usage line.
 fn show_usage<K: Sink>(sink: &mut K) -> u8
-    ensures meets { Meets none None (K.written sink.old) (K.written sink.new) result }
+    ensures meets { Meets neither None (K.written sink.old) (K.written sink.new) result }
     ensures sink { result ≡ 6 → Rose (K.faults sink.old) (K.faults sink.new) }
-    ensures kept { result ≡ 2 → K.faults sink.new ≡ K.faults sink.old }
+    ensures kept { result ≢ 6 → K.faults sink.new ≡ K.faults sink.old }
+    ensures is_one { (result ≡ 2) ⊎ (result ≡ 6) }
 {
     match put_all(sink, USAGE.as_bytes()) {
         Ok(()) => 2,
-        Err(_) => 6,
+        Err(_) => NO_OUTPUT,
+    }
+}
+
+/// Writes which line of the graph file is refused, and why.
+fn show_refusal<K: Sink>(alloc: Global, line: u32, reason: &str, sink: &mut K) -> u8
+    ensures meets { ShowsRefusal (graph_line line reason.now) (K.written sink.old) (K.written sink.new) result }
+    ensures sink { result ≡ 6 → Rose (K.faults sink.old) (K.faults sink.new) }
+    ensures kept { result ≢ 6 → K.faults sink.new ≡ K.faults sink.old }
+{
+    let mut out = Vec::new(alloc);
+    match push_graph_line(&mut out, line, reason.as_bytes()) {
+        Ok(()) => match put_all(sink, out.as_slice()) {
+            Ok(()) => 3,
+            Err(_) => NO_OUTPUT,
+        },
+        Err(_) => NO_MEMORY,
     }
 }
 
 /// Carries out what the words ask for, and answers the exit status. The words are those after the
-/// program's name: one that names a script. Its lines are read from the shelf, what they print is
-/// written to the sink.
+/// program's name: `SCRIPT [--graph FILE] [--k N]`. The graph file, where one is named, is loaded first; it is RDF
+/// 1.1 N-Triples. Then the script's lines are read from the shelf, and what they print is written to the sink.
 ///
 /// | Status | Comes |
 /// |---|---|
 /// | 0, 1 | the script was read to its end; 1 where a line printed `refused` |
 /// | 2 | the words are of no form, and the usage line is written |
+/// | 3 | a line of the graph file is refused, and `graph` with its number and the reason is written |
 /// | 4 | a line is no command or passes a limit, and `bad` with its number is written |
-/// | 5 | a call of the shelf failed, or the script isn't there |
+/// | 5 | a call of the shelf failed, or a file isn't there |
 /// | 6 | a call of the sink failed |
 /// | 7 | memory is wanting |
 ///
-/// Where the shelf tells its files, a script that is there, with no line that is bad, gives 0, 1 or 7 where no
-/// call fails and no count of faults stands at its last value. At 5, 6 and 7 a front of what the run prints is
-/// written. The cost is linear in the script's bytes but for
-/// what its commands cost.
+/// Where the shelf tells its files, a graph file that loads and a script with no line that is bad give 0, 1 or 7 where
+/// no call fails and no count of faults stands at its last value. At 5, 6 and 7 a front of what the run prints is
+/// written. The cost is linear in the bytes of both files but for what the commands cost.
 pub fn run<H: Shelf, K: Sink>(alloc: Global, words: &[String], shelf: &mut H, sink: &mut K) -> u8
     ensures meets { Meets (form_of (map string_bytes words.now)) (H.files shelf.old) (K.written sink.old) (K.written sink.new) result }
     ensures status { HasStatus (form_of (map string_bytes words.now)) (H.files shelf.old) (H.faults shelf.old) (H.faults shelf.new) (K.faults sink.old) (K.faults sink.new) result }
     ensures complete { Completes (form_of (map string_bytes words.now)) (H.files shelf.old) (H.faults shelf.old) (H.faults shelf.new) (K.faults sink.old) (K.faults sink.new) result }
     ensures files { H.files shelf.new ≡ H.files shelf.old }
-    ensures idle { form_of (map string_bytes words.now) ≡ none → shelf.new ≡ shelf.old }
+    ensures idle { form_of (map string_bytes words.now) ≡ neither → shelf.new ≡ shelf.old }
 {
-    match script_of(words) {
-        Some(name) => run_script(alloc, name, shelf, sink),
-        None => show_usage(sink),
+    match read_words(alloc, words) {
+        Ok(Form::Run(settings)) => run_settings(alloc, &settings, shelf, sink),
+        Ok(Form::Neither) => show_usage(sink),
+        Err(_) => NO_MEMORY,
     }
 }
 
-/// Runs the script of that name.
-fn run_script<H: Shelf, K: Sink>(alloc: Global, name: &str, shelf: &mut H, sink: &mut K) -> u8
-    ensures meets { Meets (script name.now) (H.files shelf.old) (K.written sink.old) (K.written sink.new) result }
-    ensures status { HasStatus (script name.now) (H.files shelf.old) (H.faults shelf.old) (H.faults shelf.new) (K.faults sink.old) (K.faults sink.new) result }
+/// Loads the graph file, if one is named, and runs the script.
+fn run_settings<H: Shelf, K: Sink>(
+    alloc: Global,
+    settings: &Settings<'_>,
+    shelf: &mut H,
+    sink: &mut K,
+) -> u8
+    requires level { settings.now.k ≤ 8 }
+    ensures meets { Meets (runs (shown_settings settings.now)) (H.files shelf.old) (K.written sink.old) (K.written sink.new) result }
+    ensures status { HasStatus (runs (shown_settings settings.now)) (H.files shelf.old) (H.faults shelf.old) (H.faults shelf.new) (K.faults sink.old) (K.faults sink.new) result }
+    ensures complete { Completes (runs (shown_settings settings.now)) (H.files shelf.old) (H.faults shelf.old) (H.faults shelf.new) (K.faults sink.old) (K.faults sink.new) result }
     ensures files { H.files shelf.new ≡ H.files shelf.old }
 {
-    match shelf.open(name) {
-        Ok(true) => match run_lines(alloc, &Limits::program(), shelf, sink) {
-            Ok(ending) => ending.status(),
-            Err(Stop::Shelf) => 5,
-            Err(Stop::Sink) => 6,
-            Err(Stop::Memory) => 7,
+    match settings.graph {
+        Some(name) => run_loaded(alloc, settings, name, shelf, sink),
+        None => match Graph::new(alloc) {
+            Ok(graph) => run_script(alloc, settings, graph, shelf, sink),
+            Err(_) => NO_MEMORY,
         },
-        Ok(false) => 5,
-        Err(_) => 5,
+    }
+}
+
+/// Loads the graph file of that name, and runs the script.
+fn run_loaded<H: Shelf, K: Sink>(
+    alloc: Global,
+    settings: &Settings<'_>,
+    name: &str,
+    shelf: &mut H,
+    sink: &mut K,
+) -> u8
+    requires named { option_map (λ t. t.now) settings.now.graph ≡ Some name.now }
+    requires level { settings.now.k ≤ 8 }
+    ensures meets { Meets (runs (shown_settings settings.now)) (H.files shelf.old) (K.written sink.old) (K.written sink.new) result }
+    ensures status { HasStatus (runs (shown_settings settings.now)) (H.files shelf.old) (H.faults shelf.old) (H.faults shelf.new) (K.faults sink.old) (K.faults sink.new) result }
+    ensures complete { Completes (runs (shown_settings settings.now)) (H.files shelf.old) (H.faults shelf.old) (H.faults shelf.new) (K.faults sink.old) (K.faults sink.new) result }
+    ensures files { H.files shelf.new ≡ H.files shelf.old }
+{
+    match load(alloc, shelf, name, &Limits::program()) {
+        Ok(graph) => run_script(alloc, settings, graph, shelf, sink),
+        Err(LoadError::Syntax(line)) => show_refusal(alloc, line, "syntax", sink),
+        Err(LoadError::Limit(line)) => show_refusal(alloc, line, "limit", sink),
+        Err(LoadError::Missing) => NO_FILE,
+        Err(LoadError::Fault) => NO_FILE,
+        Err(LoadError::Memory) => NO_MEMORY,
+    }
+}
+
+/// Runs the script from that graph on.
+fn run_script<H: Shelf, K: Sink>(
+    alloc: Global,
+    settings: &Settings<'_>,
+    graph: Graph,
+    shelf: &mut H,
+    sink: &mut K,
+) -> u8
+    requires begins { BeginsTold (shown_settings settings.now).graph (H.files shelf.old) graph.graph }
+    requires level { settings.now.k ≤ 8 }
+    ensures meets { Meets (runs (shown_settings settings.now)) (H.files shelf.old) (K.written sink.old) (K.written sink.new) result }
+    ensures status { HasStatus (runs (shown_settings settings.now)) (H.files shelf.old) (H.faults shelf.old) (H.faults shelf.new) (K.faults sink.old) (K.faults sink.new) result }
+    ensures complete { Completes (runs (shown_settings settings.now)) (H.files shelf.old) (H.faults shelf.old) (H.faults shelf.new) (K.faults sink.old) (K.faults sink.new) result }
+    ensures files { H.files shelf.new ≡ H.files shelf.old }
+{
+    match shelf.open(settings.script) {
+        Ok(true) => match run_lines(alloc, &Limits::program(), graph, settings.k, shelf, sink) {
+            Ok(ending) => ending.status(),
+            Err(Stop::Shelf) => NO_FILE,
+            Err(Stop::Sink) => NO_OUTPUT,
+            Err(Stop::Memory) => NO_MEMORY,
+        },
+        Ok(false) => NO_FILE,
+        Err(_) => NO_FILE,
     }
 }

@@ -12,16 +12,11 @@ use Rattle.pathindex_run.proofs.script.run_lines.Goals as goal
 pub returns-in_err-reader-clause-part : goal.returns-in_err-reader-clause-part
 returns-in_err-reader-clause-part g c =
     let p = err_from_is_err_and c.from_residual.result c.from_residual.ensures.1 in
-    rw p.1 (front-part _ _ (reached-start c.args.limits.now first_state (g.H.Shelf.left c.args.shelf.now) (g.K.Sink.written c.args.sink.now)) _ (nothing_written _ _))
-
-pub returns-in_err-interpreter-clause-part : goal.returns-in_err-interpreter-clause-part
-returns-in_err-interpreter-clause-part g c =
-    let p = err_from_is_err_and c.from_residual-in_err-interpreter.result c.from_residual-in_err-interpreter.ensures.1 in
-    rw p.1 (front-part _ _ (reached-start c.args.limits.now first_state (g.H.Shelf.left c.args.shelf.now) (g.K.Sink.written c.args.sink.now)) _ (nothing_written _ _))
+    rw p.1 (front-part _ _ (reached-start c.args.limits.now (first_state c.args.graph.graph c.args.k) (g.H.Shelf.left c.args.shelf.now) (g.K.Sink.written c.args.sink.now)) _ (nothing_written _ _))
 
 pub lines-init : goal.lines-init
 lines-init g c = record {
-  reached = rw (c.in_ok-reader.ensures, c.in_ok-interpreter.ensures, c.new-out.ensures.items) (reached-start c.args.limits.now first_state (g.H.Shelf.left c.args.shelf.now) (g.K.Sink.written c.args.sink.now));
+  reached = rw (c.in_ok-reader.ensures, c.new-interpreter.ensures, c.new-out.ensures.items) (reached-start c.args.limits.now (first_state c.args.graph.graph c.args.k) (g.H.Shelf.left c.args.shelf.now) (g.K.Sink.written c.args.sink.now));
   can = rw c.in_ok-reader.ensures (search rules);
   taken = rw c.in_ok-reader.ensures (search rules);
   files = search rules;

@@ -8,7 +8,7 @@ use Rattle.pathindex_run.proofs.script.run_lines.Given as goal
 
 abbrev pub invariant-lines : goal.invariant-lines
 invariant-lines g l = record {
-  reached : Reached l.limits first_state (g.H.Shelf.left l.fn.shelf) (stream l.reader (g.H.Shelf.left l.shelf)) (g.K.Sink.written l.fn.sink) (g.K.Sink.written l.sink) l.out.items (progress l.interpreter l.reader);
+  reached : Reached l.limits (first_state l.fn.graph.graph l.fn.k) (g.H.Shelf.left l.fn.shelf) (stream l.reader (g.H.Shelf.left l.shelf)) (g.K.Sink.written l.fn.sink) (g.K.Sink.written l.sink) l.out.items (progress l.interpreter l.reader);
   can : CanRead l.reader (g.H.Shelf.is_open l.shelf);
   taken : l.reader.taken ≤ SCRIPT_BYTES;
   files : g.H.Shelf.files l.shelf ≡ g.H.Shelf.files l.fn.shelf;
