@@ -9,7 +9,7 @@ COUNTER := crates/triples_count
 NEEDS_RT = command -v rt >/dev/null || { echo "make $@: the command rt of the Rattle kit isn't on the path" >&2; exit 1; }
 
 help:
-	@echo 'make run               prove and build the program, and run examples/first.script'
+	@echo 'make run               prove and build the program, and run examples/foaf.script'
 	@echo 'make test              the gate: each proof, each edit that must be refused, each test and program'
 	@echo 'make try SCRIPT=FILE   run a script without proving anything, for a first look'
 	@echo 'make bench             measure bin/pathindex on generated scripts, and triples_count beside serdi'
@@ -18,13 +18,15 @@ run:
 	@$(NEEDS_RT)
 	@echo 'Proving and building the program. The first time takes minutes.'
 	@mkdir -p bin
-	@cd $(PROGRAM) && rt run -- ../../examples/first.script >../../bin/first.out 2>../../bin/run.log \
-		|| { status=$$?; cat ../../bin/run.log ../../bin/first.out; exit $$status; }
+	@cd $(PROGRAM) && rt run -- ../../examples/foaf.script --graph ../../examples/foaf.nt >../../bin/foaf.out 2>../../bin/run.log \
+		|| { status=$$?; cat ../../bin/run.log ../../bin/foaf.out; exit $$status; }
 	@cp $(PROGRAM)/out/pathindex_main bin/pathindex
-	@echo 'bin/pathindex is built. The script examples/first.script:'
-	@sed 's/^/    /' examples/first.script
-	@echo 'What it writes:'
-	@sed 's/^/    /' bin/first.out
+	@echo 'bin/pathindex is built. The graph examples/foaf.nt:'
+	@sed 's/^/    /' examples/foaf.nt
+	@echo 'The script examples/foaf.script:'
+	@sed 's/^/    /' examples/foaf.script
+	@echo 'What bin/pathindex examples/foaf.script --graph examples/foaf.nt writes:'
+	@sed 's/^/    /' bin/foaf.out
 
 test:
 	@$(NEEDS_RT)

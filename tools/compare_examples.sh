@@ -1,6 +1,7 @@
 #!/usr/bin/env bash
-# Runs each script of examples/ on the program, and compares what it writes with NAME.out and its exit
-# status with NAME.status, which is 0 where there is no such file.
+# Runs each script of examples/ on the program, with the words of NAME.words behind its name where there is such a
+# file, one a line. Compares what it writes with NAME.out, and its exit status with NAME.status, which is 0 where
+# there is no such file.
 set -eu
 cd "$(dirname "$0")/.."
 program=${1:?usage: tools/compare_examples.sh PROGRAM}
@@ -12,8 +13,10 @@ for script in examples/*.script; do
     name=${script%.script}
     wanted=0
     [ ! -f "$name.status" ] || wanted=$(cat "$name.status")
+    words=()
+    [ ! -f "$name.words" ] || mapfile -t words <"$name.words"
     status=0
-    "$program" "$script" >"$written" || status=$?
+    "$program" "$script" "${words[@]}" >"$written" || status=$?
     if ! diff -u "$name.out" "$written"; then
         echo "FAILED $script: it writes something else"
         failed=1
