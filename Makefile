@@ -11,8 +11,8 @@ NEEDS_RT = command -v rt >/dev/null || { echo "make $@: the command rt of the Ra
 help:
 	@echo 'make run               prove and build the program, and run examples/foaf.script'
 	@echo 'make test              the gate: each proof, each edit that must be refused, each test and program'
-	@echo 'make try SCRIPT=FILE   run a script without proving anything, for a first look'
-	@echo 'make bench             measure bin/pathindex on generated scripts, and triples_count beside serdi'
+	@echo 'make try SCRIPT=FILE   run a script without proving anything, for a first look; GRAPH=FILE names a graph file'
+	@echo 'make bench             measure bin/pathindex on generated scripts and graph files, and triples_count beside serdi'
 
 run:
 	@$(NEEDS_RT)
@@ -37,7 +37,8 @@ try:
 	@test -n '$(SCRIPT)' || { echo 'make try: name a script, as in make try SCRIPT=examples/first.script' >&2; exit 1; }
 	@test -f '$(SCRIPT)' || { echo 'make try: there is no file $(SCRIPT)' >&2; exit 1; }
 	@echo 'A first look: the program is compiled, and nothing is proved.'
-	@cd $(PROGRAM) && rt try --data s='$(abspath $(SCRIPT))' -- s
+	@test -z '$(GRAPH)' || test -f '$(GRAPH)' || { echo 'make try: there is no file $(GRAPH)' >&2; exit 1; }
+	@cd $(PROGRAM) && rt try --data s='$(abspath $(SCRIPT))' $(if $(GRAPH),--data g='$(abspath $(GRAPH))') -- s $(if $(GRAPH),--graph g)
 
 bench:
 	@command -v python3 >/dev/null || { echo "make bench: python3 isn't on the path" >&2; exit 1; }

@@ -1,4 +1,4 @@
-//! The program `pathindex`: it carries out the script that its one word names.
+//! The program `pathindex`: it carries out a script over a graph, as its words ask for.
 #![tactic(auto)]
 
 use pathindex_run::{HostShelf, HostSink, run};
