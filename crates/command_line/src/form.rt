@@ -83,7 +83,7 @@ pub fn read_words<'a>(alloc: Global, words: &'a [String]) -> Result<Form<'a>, Me
     // The words of the usage line, with texts that aren't empty and don't begin with a hyphen, give those texts.
     ensures plain { (u : Usage) → map string_bytes words.entry.now ≡ words_of u → HasPlainTexts u → IfOk result (λ f. shown f ≡ form_given (given_by u)) }
     // So they do in another order.
-    ensures reordered { (u : Usage) (o : Order) → map string_bytes words.entry.now ≡ words_in o u → HasPlainTexts u → IfOk result (λ f. shown f ≡ form_of (words_of u)) }
+    ensures reordered { (u : Usage) (o : Order) → map string_bytes words.entry.now ≡ words_in o u → HasPlainTexts u → IfOk result (λ f. shown f ≡ form_given (given_by u)) }
     ensures refused { is_accepted (map string_bytes words.entry.now) ≡ false → IfOk result (λ f. shown f ≡ neither) }
     ensures level { IfOk result (λ f. HasLevel (shown f)) }
 {
