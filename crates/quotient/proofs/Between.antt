@@ -1,5 +1,5 @@
 -- How many of a graph's edges lead from one block to another, node by node.
-use Rattle.std.proofs.Common.{◌≡◌, ℕ, suc, ◌+◌, ◌-◌, ◌<◌, ◌≤◌, List, [], ◌∷◌, Option, Some, None, IsSome, refl, sym, ◌∙◌, ap, arith, inl, inr, true, false, Bool, cond, ◌&&◌, not, length, count_by, subst}
+use Rattle.std.proofs.Common.{◌≡◌, ℕ, suc, ◌+◌, ◌-◌, ◌<◌, ◌≤◌, List, [], ◌∷◌, Option, Some, None, IsSome, refl, sym, ◌∙◌, ap, arith, inl, inr, true, false, Bool, cond, ◌&&◌, not, count_by, subst}
 use Rattle.std.specs.Prelude.{nat_eq, nat_lt, ◌||◌, filter}
 use Rattle.std.specs.List.{IsDistinct, AllByRecursion, list_any}
 use Rattle.std.specs.Ordering.{eq_by_cmp}
@@ -7,7 +7,6 @@ use Rattle.std.specs.Cmp.{eq_by_cmp_equiv}
 use Rattle.std.specs.FinSet as set
 use Rattle.std.proofs.lemmas.Bool.Decides.{eqb_tells, nat_tests}
 use Rattle.std.proofs.lemmas.List.Sums.{sum_by-cons}
-use Rattle.std.proofs.lemmas.List.{length-map}
 use Rattle.std.proofs.lemmas.Map.Keys.{IsDistinct-head, IsDistinct-tail}
 use Rattle.std.proofs.lemmas.Map.Views.{any-filter_same}
 use Rattle.px_spec.specs.Graphs.{Graph, Edges, edge_cmp, has_edge}
@@ -129,15 +128,6 @@ next_or c t h m n e = elim (eqb_tells m n) [
       rw (alike, d.0) refl)
 ]
 
-now_or : (c t h : Bool) (m n : ℕ) → (m ≡ n → h ≡ c) → (c && (nat_eq m n || (nat_lt m n && t))) ≡ (((nat_eq m n && h) && true) || (c && (nat_lt m n && t)))
-now_or c t h m n e = elim (eqb_tells m n) [
-  | inl s ↦ (
-      let same_place = s.1 in
-      let after : nat_lt m n ≡ false = grind (arith, nat_tests, same_place) in
-      rw (after, s.0, e s.1, and_false c) (sym (or_false (c && true))))
-  | inr d ↦ rw d.0 refl
-]
-
 -- the edges from one node more
 pub below_step : (edges : Edges) (block : List (Option ℕ)) (n x y : ℕ) (cs : List ℕ) → Lists (λ v. set.contains edges (n, v)) cs
     → edges_below edges block (suc n) x y ≡ edges_below edges block n x y + pairs_between block n cs x y
@@ -247,30 +237,9 @@ kept_len s p =
     let most = without_len s gone in
     omega (arith, alike, most)
 
-count_true : (zs : List (ℕ × ℕ)) → count_by (λ _. true) zs ≡ length zs
-count_true [] = refl
-count_true (z ∷ zs) = let more = count_cons (λ _. true) z zs in let rest = count_true zs in omega (arith, more, rest)
-
--- the edges that are counted and those of the next node are at most all
-pub below_few : (edges : Edges) (block : List (Option ℕ)) (n x y : ℕ) (cs : List ℕ) → Lists (λ v. set.contains edges (n, v)) cs
-    → edges_below edges block n x y + length cs ≤ set.len edges
-below_few edges block n x y cs l =
-    let j = joins block x y in
-    let before : ℕ × ℕ → Bool = λ e. nat_lt e.0 n && j e in
-    let now : ℕ × ℕ → Bool = λ e. nat_eq e.0 n || (nat_lt e.0 n && j e) in
-    let pair : ℕ → ℕ × ℕ = λ c. (n, c) in
-    let all =
-    len_more (λ _. true) (set.retain edges before) (pairs_of n cs) (distinct_pairs n cs l.once)
-    (λ k h. kept edges before k ∙ at_own (set.contains edges k) (j k) k.0 n (has cs k.1) (sym (row k.0 k.1 n cs) ∙ h))
-    (set.retain edges now)
-    (λ k. kept edges now k
-    ∙ now_or (set.contains edges k) (j k) (has cs k.1) k.0 n (λ e. l.members k.1 ∙ ap (λ m. set.contains edges (m, k.1)) (sym e))
-    ∙ ap (λ b. (b && true) || (set.contains edges k && before k)) (sym (row k.0 k.1 n cs))
-    ∙ ap (λ b. (list_any (eq k) (pairs_of n cs) && true) || b) (sym (kept edges before k))) in
-    let count = count_true (pairs_of n cs) in
-    let len : length (pairs_of n cs) ≡ length cs = length-map cs pair in
-    let most = kept_len edges now in
-    omega (arith, all, count, len, most)
+-- the edges that begin before a node are at most all
+pub below_most : (edges : Edges) (block : List (Option ℕ)) (n x y : ℕ) → edges_below edges block n x y ≤ set.len edges
+below_most edges block n x y = kept_len edges (λ e. nat_lt e.0 n && joins block x y e)
 
 member_of : (s : Edges) (ks : List (ℕ × ℕ)) → set.items s ≡ ks → 0 < set.len s → (k : ℕ × ℕ) × (set.contains s k ≡ true)
 member_of s [] e h = absurd (

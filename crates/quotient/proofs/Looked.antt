@@ -107,3 +107,8 @@ positive_with t a b n h p e = elim (test_is (same p (a, b))) [
       let zero_is : n + 1 ≡ 0 = ap (λ o. unwrap_or o 0) (sym here ∙ e) in absurd (omega (arith, zero_is)))
   | inr d ↦ h p (sym (got t (a, b) (n + 1) p ∙ rw d refl) ∙ e)
 ]
+
+-- a pair in the table has edges
+pub supported_not_zero : (t : SupportTable) (a b n : ℕ) → IsPositive t → Some n ≡ map.get t (a, b) → false ≡ nat_eq (support_at t a b) 0
+supported_not_zero t a b zero h e = absurd (h (a, b) (sym e))
+supported_not_zero t a b (suc n) h e = let apart : false ≡ nat_eq (suc n) 0 = grind (arith, nat_tests) in apart ∙ ap (λ o. nat_eq (unwrap_or o 0) 0) e

@@ -3,10 +3,10 @@ use Rattle.std.proofs.Common.{◌≡◌, ℕ, zero, suc, ◌+◌, ◌<◌, List,
 use Rattle.std.proofs.Math.ListN.{replicate}
 use Rattle.std.proofs.lemmas.List.{take_more, map-append, map-set}
 use Rattle.std.proofs.lemmas.Option.{slice_get-map, slice_get-get_or, get_or_from_slice_get}
-use Rattle.std.specs.Prelude.{option_map, Some}
+use Rattle.std.specs.Prelude.{option_map, Some, None, slice_get}
 use Rattle.std.proofs.lemmas.List.Sums.{sum_by-append}
 use Rattle.bisim_spec.specs.Supports.{joins}
-use Rattle.quotient.specs.Joined.{pairs_of, pairs_between, one_if, list_at}
+use Rattle.quotient.specs.Joined.{pairs_of, pairs_between, pairs_with, AreBelow, one_if, list_at}
 
 -- the list that a value of a table of lists gives
 pub item_at : {X : Type 0} (f : X → List ℕ) (xs : List X) (n : ℕ) (v : X) → n < length xs → v ≡ get_or xs n v → list_at (map_list f xs) n ≡ f v
@@ -36,3 +36,10 @@ pub pairs_more : (block : List (Option ℕ)) (n : ℕ) (cs : List ℕ) (j x y : 
 pairs_more block n cs j x y h =
     let pair : ℕ → ℕ × ℕ = λ c. (n, c) in
     rw (take_more cs j 0 h, map-append pair (take j cs) (get_or cs j 0 ∷ []), sum_by-append (λ (e : ℕ × ℕ). cond (joins block x y e) 1 0) (pairs_of n (take j cs)) ((n, get_or cs j 0) ∷ [])) (omega arith)
+
+-- no pairs wait
+pub no_pairs : (pairs : List (ℕ × ℕ)) (x y : ℕ) → pairs ≡ [] → pairs_with pairs x y ≡ 0
+no_pairs pairs x y e = ap (λ ps. pairs_with ps x y) e
+
+pub none_below : (n : ℕ) (pairs : List (ℕ × ℕ)) → pairs ≡ [] → AreBelow n pairs
+none_below n pairs e = λ i p at. absurd (let none : slice_get pairs i ≡ None = ap (λ (ps : List (ℕ × ℕ)). slice_get ps i) e in cc)

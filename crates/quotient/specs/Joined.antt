@@ -1,5 +1,5 @@
 -- The lists of neighbours of blocks.
-use Rattle.std.specs.Prelude.{◌≡◌, ◌≢◌, ℕ, ◌+◌, ◌<◌, ◌&&◌, Bool, List, [], Option, Some, IsSome, length, cond, map, nat_lt, slice_index_or, count_by}
+use Rattle.std.specs.Prelude.{◌≡◌, ◌≢◌, ℕ, ◌+◌, ◌<◌, ◌&&◌, Bool, List, [], Option, Some, IsSome, length, cond, map, nat_eq, nat_lt, slice_get, slice_index_or, count_by}
 use Rattle.std.specs.FinMap as table
 use Rattle.std.specs.FinSet as set
 use Rattle.px_spec.specs.Graphs.{Edges}
@@ -34,6 +34,14 @@ pairs_of n children = map (λ c. (n, c)) children
 -- how many of the edges from n to each of these lead from x to y
 abbrev pub pairs_between : List (Option ℕ) → ℕ → List ℕ → ℕ → ℕ → ℕ
 pairs_between block n children x y = count_by (joins block x y) (pairs_of n children)
+
+-- how many of the pairs of blocks are x and y
+abbrev pub pairs_with : List (ℕ × ℕ) → ℕ → ℕ → ℕ
+pairs_with pairs x y = count_by (λ p. nat_eq x p.0 && nat_eq y p.1) pairs
+
+-- the pairs are of numbers below this one
+abbrev pub AreBelow : ℕ → List (ℕ × ℕ) → Type 0
+AreBelow n pairs = (i : ℕ) (p : ℕ × ℕ) → slice_get pairs i ≡ Some p → (p.0 < n) × (p.1 < n)
 
 -- how many of the edges that begin before a node lead from x to y
 abbrev pub edges_below : Edges → List (Option ℕ) → ℕ → ℕ → ℕ → ℕ

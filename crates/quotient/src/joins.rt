@@ -1,7 +1,6 @@
 // Edges between blocks: how many there are, and which blocks they join.
-ghost use Rattle.std.specs.Prelude.{◌≡◌, ◌+◌, ◌-◌, ◌<◌, ◌^◌, ◌&&◌, ℕ, IfSome, IfOk, OnOk, length};
+ghost use Rattle.std.specs.Prelude.{◌≡◌, ◌+◌, ◌-◌, ◌<◌, ◌^◌, ◌&&◌, ℕ, IfOk, OnOk, nat_eq, length};
 ghost use Rattle.std.specs.FinMap as table;
-ghost use Rattle.bisim_spec.specs.Supports.{is_block};
 ghost use Rattle.bisim_spec.specs.Views.{support_at};
 ghost use Rattle.quotient.specs.Joined.{AreNear, one_if};
 
@@ -33,19 +32,17 @@ impl Joins {
         })
     }
 
-    /// Counts an edge from one block to another. An edge with an end in no block isn't counted.
-    pub(crate) fn count(&mut self, from: Option<u32>, onto: Option<u32>) -> Result<(), Memory>
-        requires from { IfSome from (λ a. a < length self.old.children) }
-        requires onto { IfSome onto (λ b. b < length self.old.parents) }
-        requires few { (x y : ℕ) → support_at self.old.supports x y < 2 ^ 32 - 1 }
+    /// Counts an edge from one block to another.
+    pub(crate) fn count(&mut self, a: u32, b: u32) -> Result<(), Memory>
+        requires from { a < length self.old.children }
+        requires onto { b < length self.old.parents }
+        requires few { support_at self.old.supports a b < 2 ^ 32 - 1 }
         requires near { AreNear self.old.supports self.old.children self.old.parents }
-        ensures supports { OnOk result ((x y : ℕ) → support_at self.new.supports x y ≡ support_at self.old.supports x y + one_if (is_block x from && is_block y onto)) }
+        ensures supports { OnOk result ((x y : ℕ) → support_at self.new.supports x y ≡ support_at self.old.supports x y + one_if (nat_eq x a && nat_eq y b)) }
         ensures near { OnOk result (AreNear self.new.supports self.new.children self.new.parents) }
         ensures children { OnOk result (length self.new.children ≡ length self.old.children) }
         ensures parents { OnOk result (length self.new.parents ≡ length self.old.parents) }
     {
-        let Some(a) = from else { return Ok(()) };
-        let Some(b) = onto else { return Ok(()) };
         if self.supports.raise(a, b)? {
             self.children.push(a, b)?;
             self.parents.push(b, a)?;

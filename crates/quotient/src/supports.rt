@@ -64,8 +64,11 @@ impl Supports {
         ensures raised { OnOk result (self.new ≡ with_edge self.old a b) }
         ensures first { IfOk result (λ first. first ≡ nat_eq (support_at self.old a b) 0) }
     {
-        let n = self.get(a, b);
-        self.table.insert((a, b), n + 1)?;
-        Ok(n == 0)
+        if let Some(n) = self.table.get_mut(&(a, b)) {
+            *n += 1;
+            return Ok(false);
+        }
+        self.table.insert((a, b), 1)?;
+        Ok(true)
     }
 }
