@@ -1,5 +1,5 @@
 -- What a loader keeps of what is loaded.
-use Rattle.std.specs.Prelude.{◌≡◌, ℕ, ◌<◌, ◌≤◌, Bool, List, [], ◌∷◌, ◌++◌, length, Result, Ok, Err, if◌then◌else◌}
+use Rattle.std.specs.Prelude.{◌≡◌, ℕ, ◌<◌, ◌≤◌, Bool, List, [], ◌∷◌, ◌++◌, length, position, bytes_eq, Result, Ok, Err, if◌then◌else◌}
 use Rattle.std.specs.List.{list_any, AllByRecursion}
 use Rattle.px_spec.specs.declared.limits.Limits.{Limits}
 use Rattle.px_spec.specs.declared.refusal.Refusal.{Refusal}
@@ -7,6 +7,8 @@ use Rattle.label_graph.specs.Held.{no_room}
 use Rattle.triples_read.specs.declared.term.Triple.{Triple}
 use Rattle.graph_load.specs.declared.known.Key.{Key}
 use Rattle.graph_load.specs.declared.loader.Loader.{Loader}
+use Rattle.graph_load.specs.declared.loader.Places.{Places}
+use Rattle.graph_load.specs.Finding.{IsFoundAs}
 use Rattle.graph_load.specs.Loading.{Loading, same_triple, with_triple}
 use Rattle.graph_load.specs.Places.{is_key_of}
 
@@ -16,6 +18,12 @@ loading r triples = record { graph = r.graph.graph; terms = r.terms; triples = t
 
 abbrev pub is_known : Loader → Triple → Bool
 is_known r t = list_any (is_key_of r.terms r.predicates t) r.known
+
+-- where the parts of a triple stand
+pub record ArePlaces (r : Loader) (t : Triple) (p : Places) : Type 0 where
+  pub subject : IsFoundAs r.terms t.subject p.subject
+  pub predicate : p.predicate ≡ position (bytes_eq t.predicate) r.predicates
+  pub object : IsFoundAs r.terms t.object p.object
 
 -- the loader knows just these triples
 abbrev pub Holds : Loader → List Triple → Type 0

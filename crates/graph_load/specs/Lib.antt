@@ -1,6 +1,10 @@
 pub mod Loading
 pub mod Loads
 pub mod Places
+pub mod Parts
+pub mod Entries
+pub mod Chains
+pub mod Finding
 pub mod Steps
 pub mod Holding
 pub mod Going

@@ -70,7 +70,7 @@ fn take(alloc: Global, limits: &Limits, loader: &mut Loader, line: &[u8]) -> Res
     ensures syntax { IsErrOf result LineStop.Syntax → (¬ Empty line.now) × ((t : TripleSeen) → Spells line.now t → ⊥) }
 {
     match read_line(alloc, line) {
-        Ok(Some(triple)) => match loader.add(alloc, limits, triple) {
+        Ok(Some(triple)) => match loader.add(alloc, limits, &triple) {
             Ok(()) => Ok(()),
             Err(Stop::Limit) => Err(LineStop::Limit),
             Err(Stop::Memory) => Err(LineStop::Memory),

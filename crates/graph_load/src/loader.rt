@@ -1,9 +1,11 @@
 // What is loaded so far.
-ghost use Rattle.std.specs.Prelude.{◌≡◌, ℕ, List, [], length, position, bytes_eq, Some, None, Ok, OnOk, IfOk, IsErrOf, false};
+ghost use Rattle.std.specs.Prelude.{◌≡◌, ℕ, List, [], length, position, bytes_eq, Some, None, Ok, OnOk, IfOk, IfSome, IsErrOf, false};
 ghost use Rattle.px_spec.specs.Changes.{node, link};
 ghost use Rattle.graph_load.specs.Loading.{number_of, need, changed, joined, with_triple, nothing_loaded, predicate_label};
 ghost use Rattle.graph_load.specs.Places.{place_of};
-ghost use Rattle.graph_load.specs.Holding.{is_known, loading, with_new, Holds, IsSound, Steps, IsStopped, IsTaken, IsUntaken};
+ghost use Rattle.graph_load.specs.Finding.{IsFound, IsFoundAs};
+ghost use Rattle.triples_read.specs.declared.term.Triple.{Triple as TripleSeen};
+ghost use Rattle.graph_load.specs.Holding.{ArePlaces, is_known, loading, with_new, Holds, IsSound, Steps, IsStopped, IsTaken, IsUntaken};
 
 use crate::additions::{Stop, add_node, make};
 use crate::kinds::Kinds;
@@ -26,6 +28,15 @@ pub(crate) struct Loader {
     kinds: Kinds,
 }
 
+/// Where the parts of a triple stand: its subject and its object among the terms, its predicate among the
+/// predicates.
+#[derive(Clone, Copy)]
+struct Places {
+    subject: Option<Found>,
+    predicate: Option<u32>,
+    object: Option<Found>,
+}
+
 impl Loader {
     /// Nothing is loaded.
     pub(crate) fn new(alloc: Global) -> Result<Loader, Memory>
@@ -35,7 +46,7 @@ impl Loader {
     {
         Ok(Loader {
             graph: Graph::new(alloc)?,
-            terms: Terms::new(alloc),
+            terms: Terms::new(alloc)?,
             predicates: Predicates::new(alloc),
             known: Known::new(alloc),
             kinds: Kinds::new(alloc)?,
@@ -49,17 +60,29 @@ impl Loader {
         self.graph
     }
 
-    // Whether the triple is loaded.
-    fn is_known(&self, triple: &Triple) -> bool
-        ensures { result ≡ is_known self.now triple.now }
+    // Where the parts of a triple stand.
+    fn find(&self, triple: &Triple) -> Places
+        ensures { ArePlaces self.now triple.now result }
     {
-        let Some(subject) = self.terms.find(&triple.subject) else {
+        let (subject, object) = self.terms.find_both(&triple.subject, &triple.object);
+        Places {
+            subject,
+            predicate: self.predicates.find(&triple.predicate),
+            object,
+        }
+    }
+
+    // Whether the triple whose parts stand there is loaded.
+    fn is_known(&self, places: &Places) -> bool
+        ensures { (t : TripleSeen) → ArePlaces self.now t places.now → result ≡ is_known self.now t }
+    {
+        let Some(subject) = places.subject else {
             return false;
         };
-        let Some(predicate) = self.predicates.find(&triple.predicate) else {
+        let Some(predicate) = places.predicate else {
             return false;
         };
-        let Some(object) = self.terms.find(&triple.object) else {
+        let Some(object) = places.object else {
             return false;
         };
         self.known.contains(Key {
@@ -70,51 +93,71 @@ impl Loader {
     }
 
     // Makes a node of a term that is none.
-    fn add_term(&mut self, alloc: Global, limits: &Limits, term: Term) -> Result<Found, Stop>
+    fn add_term(&mut self, alloc: Global, limits: &Limits, term: &Term) -> Result<Found, Stop>
         requires sound { IsSound self.old }
-        requires absent { number_of self.old.terms term ≡ None }
-        ensures steps { OnOk result (Steps (need limits.now term) self.old self.new) }
-        ensures place { IfOk result (λ f. place_of self.new.terms term ≡ Some f.place) }
-        ensures number { IfOk result (λ f. number_of self.new.terms term ≡ Some f.number) }
-        ensures limit { IsErrOf result Stop.Limit → IsStopped (need limits.now term) self.old }
+        requires absent { number_of self.old.terms term.now ≡ None }
+        ensures steps { OnOk result (Steps (need limits.now term.now) self.old self.new) }
+        ensures place { IfOk result (λ f. place_of self.new.terms term.now ≡ Some f.place) }
+        ensures number { IfOk result (λ f. number_of self.new.terms term.now ≡ Some f.number) }
+        ensures limit { IsErrOf result Stop.Limit → IsStopped (need limits.now term.now) self.old }
     {
-        let place = self.terms.len();
-        let number = add_node(alloc, &mut self.graph, self.kinds.node(&term), limits)?;
-        self.terms.add(term, number)?;
+        let number = add_node(alloc, &mut self.graph, self.kinds.node(term), limits)?;
+        let place = self.terms.add(term, number)?;
         Ok(Found { place, number })
     }
 
-    // Where the term stands, which becomes a node where it is none.
-    fn need(&mut self, alloc: Global, limits: &Limits, term: Term) -> Result<Found, Stop>
+    // Where the term stands, which becomes a node where it is none. It was looked up, and `found` came of that.
+    fn need(
+        &mut self,
+        alloc: Global,
+        limits: &Limits,
+        term: &Term,
+        found: Option<Found>,
+    ) -> Result<Found, Stop>
         requires sound { IsSound self.old }
-        ensures steps { OnOk result (Steps (need limits.now term) self.old self.new) }
-        ensures place { IfOk result (λ f. place_of self.new.terms term ≡ Some f.place) }
-        ensures number { IfOk result (λ f. number_of self.new.terms term ≡ Some f.number) }
-        ensures limit { IsErrOf result Stop.Limit → IsStopped (need limits.now term) self.old }
+        requires found { IsFoundAs self.old.terms term.now found }
+        ensures steps { OnOk result (Steps (need limits.now term.now) self.old self.new) }
+        ensures place { IfOk result (λ f. place_of self.new.terms term.now ≡ Some f.place) }
+        ensures number { IfOk result (λ f. number_of self.new.terms term.now ≡ Some f.number) }
+        ensures limit { IsErrOf result Stop.Limit → IsStopped (need limits.now term.now) self.old }
     {
-        if let Some(found) = self.terms.find(&term) {
+        if let Some(found) = found {
             return Ok(found);
         }
         self.add_term(alloc, limits, term)
     }
 
-    // Adds the node of a triple, and gives the place of its predicate and the number of the node.
+    // Looks a term up that was looked up before more terms came: where it stood then, it still does.
+    fn find_again(&self, term: &Term, found: Option<Found>) -> Option<Found>
+        requires found { IfSome found (IsFound self.now.terms term.now) }
+        ensures { IsFoundAs self.now.terms term.now result }
+    {
+        match found {
+            Some(_) => found,
+            None => self.terms.find(term),
+        }
+    }
+
+    // Adds the node of a triple, and gives the place of its predicate and the number of the node. The place may
+    // be known.
     fn add_node(
         &mut self,
         alloc: Global,
         limits: &Limits,
-        predicate: Text,
+        predicate: &Text,
+        found: Option<u32>,
     ) -> Result<(u32, NodeId), Stop>
         requires sound { IsSound self.old }
-        ensures steps { OnOk result (Steps (changed limits.now (node (predicate_label predicate))) self.old self.new) }
-        ensures place { IfOk result (λ f. position (bytes_eq predicate) self.new.predicates ≡ Some f.0) }
+        requires found { IfSome found (λ p. position (bytes_eq predicate.now) self.old.predicates ≡ Some p) }
+        ensures steps { OnOk result (Steps (changed limits.now (node (predicate_label predicate.now))) self.old self.new) }
+        ensures place { IfOk result (λ f. position (bytes_eq predicate.now) self.new.predicates ≡ Some f.0) }
         ensures number { IfOk result (λ f. f.1 ≡ length self.old.graph.graph.given) }
-        ensures limit { IsErrOf result Stop.Limit → IsStopped (changed limits.now (node (predicate_label predicate))) self.old }
+        ensures limit { IsErrOf result Stop.Limit → IsStopped (changed limits.now (node (predicate_label predicate.now))) self.old }
     {
         if self.graph.created() >= limits.nodes {
             return Err(Stop::Limit);
         }
-        let place = self.predicates.intern(alloc, predicate)?;
+        let place = self.predicates.intern(alloc, predicate, found)?;
         let number = add_node(alloc, &mut self.graph, self.predicates.node(place), limits)?;
         Ok((place, number))
     }
@@ -137,29 +180,46 @@ impl Loader {
         limits: &Limits,
         from: NodeId,
         node: NodeId,
-        object: Term,
+        object: &Term,
+        found: Option<Found>,
     ) -> Result<u32, Stop>
         requires sound { IsSound self.old }
-        ensures steps { (x : Term) → number_of self.old.terms x ≡ Some from → OnOk result (Steps (joined limits.now x node object) self.old self.new) }
-        ensures place { IfOk result (λ p. place_of self.new.terms object ≡ Some p) }
-        ensures limit { IsErrOf result Stop.Limit → (x : Term) → number_of self.old.terms x ≡ Some from → IsStopped (joined limits.now x node object) self.old }
+        requires found { IfSome found (IsFound self.old.terms object.now) }
+        ensures steps { (x : Term) → number_of self.old.terms x ≡ Some from → OnOk result (Steps (joined limits.now x node object.now) self.old self.new) }
+        ensures place { IfOk result (λ p. place_of self.new.terms object.now ≡ Some p) }
+        ensures limit { IsErrOf result Stop.Limit → (x : Term) → number_of self.old.terms x ≡ Some from → IsStopped (joined limits.now x node object.now) self.old }
     {
-        let onto = self.need(alloc, limits, object)?;
+        let found = self.find_again(object, found);
+        let onto = self.need(alloc, limits, object, found)?;
         self.link(alloc, limits, from, node)?;
         self.link(alloc, limits, node, onto.number)?;
         Ok(onto.place)
     }
 
     // Adds the nodes and the edges of a triple that isn't loaded.
-    fn add_new(&mut self, alloc: Global, limits: &Limits, triple: Triple) -> Result<(), Stop>
+    fn add_new(
+        &mut self,
+        alloc: Global,
+        limits: &Limits,
+        triple: &Triple,
+        places: &Places,
+    ) -> Result<(), Stop>
         requires sound { IsSound self.old }
-        requires unknown { is_known self.old triple ≡ false }
-        ensures taken { OnOk result (IsTaken limits.now triple self.old self.new) }
-        ensures limit { IsErrOf result Stop.Limit → IsUntaken limits.now triple self.old }
+        requires unknown { is_known self.old triple.now ≡ false }
+        requires places { ArePlaces self.old triple.now places.now }
+        ensures taken { OnOk result (IsTaken limits.now triple.now self.old self.new) }
+        ensures limit { IsErrOf result Stop.Limit → IsUntaken limits.now triple.now self.old }
     {
-        let from = self.need(alloc, limits, triple.subject)?;
-        let (predicate, node) = self.add_node(alloc, limits, triple.predicate)?;
-        let object = self.join(alloc, limits, from.number, node, triple.object)?;
+        let from = self.need(alloc, limits, &triple.subject, places.subject)?;
+        let (predicate, node) = self.add_node(alloc, limits, &triple.predicate, places.predicate)?;
+        let object = self.join(
+            alloc,
+            limits,
+            from.number,
+            node,
+            &triple.object,
+            places.object,
+        )?;
         self.known.add(Key {
             subject: from.place,
             predicate,
@@ -170,14 +230,20 @@ impl Loader {
 
     /// Loads a triple: where it is loaded already nothing is added, else its nodes and edges are. It takes
     /// constant time, beside that of hashing the triple.
-    pub(crate) fn add(&mut self, alloc: Global, limits: &Limits, triple: Triple) -> Result<(), Stop>
+    pub(crate) fn add(
+        &mut self,
+        alloc: Global,
+        limits: &Limits,
+        triple: &Triple,
+    ) -> Result<(), Stop>
         requires sound { IsSound self.old }
-        ensures taken { OnOk result (IsTaken limits.now triple self.old self.new) }
-        ensures limit { IsErrOf result Stop.Limit → IsUntaken limits.now triple self.old }
+        ensures taken { OnOk result (IsTaken limits.now triple.now self.old self.new) }
+        ensures limit { IsErrOf result Stop.Limit → IsUntaken limits.now triple.now self.old }
     {
-        if self.is_known(&triple) {
+        let places = self.find(triple);
+        if self.is_known(&places) {
             return Ok(());
         }
-        self.add_new(alloc, limits, triple)
+        self.add_new(alloc, limits, triple, &places)
     }
 }

@@ -1,5 +1,5 @@
 // The predicates of the triples that are loaded.
-ghost use Rattle.std.specs.Prelude.{◌≡◌, ◌<◌, ◌^◌, ◌++◌, ◌∷◌, [], length, position, bytes_eq, Some, None, OnOk, IfOk, false};
+ghost use Rattle.std.specs.Prelude.{◌≡◌, ◌<◌, ◌^◌, ◌++◌, ◌∷◌, [], length, position, bytes_eq, Some, None, OnOk, IfOk, IfSome, false};
 ghost use Rattle.std.specs.List.{list_any};
 ghost use Rattle.graph_load.specs.Loading.{predicate_label};
 ghost use Rattle.graph_load.specs.Places.{predicate_at, with_predicate};
@@ -85,18 +85,27 @@ impl Predicates {
         Ok(())
     }
 
-    /// The place of the predicate, which is put in where it isn't there.
-    pub(crate) fn intern(&mut self, alloc: Global, iri: Text) -> Result<u32, Memory>
+    /// The place of the predicate, which may be known. The predicate is put in where it isn't there.
+    pub(crate) fn intern(
+        &mut self,
+        alloc: Global,
+        iri: &Text,
+        found: Option<u32>,
+    ) -> Result<u32, Memory>
         requires few { length self.old < 2 ^ 30 }
-        ensures added { OnOk result (self.new ≡ with_predicate self.old iri) }
-        ensures place { IfOk result (λ p. position (bytes_eq iri) self.new ≡ Some p) }
-        ensures at { IfOk result (λ p. predicate_at self.new p ≡ iri) }
+        requires found { IfSome found (λ p. position (bytes_eq iri.now) self.old ≡ Some p) }
+        ensures added { OnOk result (self.new ≡ with_predicate self.old iri.now) }
+        ensures place { IfOk result (λ p. position (bytes_eq iri.now) self.new ≡ Some p) }
+        ensures at { IfOk result (λ p. predicate_at self.new p ≡ iri.now) }
     {
-        if let Some(place) = self.find(&iri) {
+        if let Some(place) = found {
+            return Ok(place);
+        }
+        if let Some(place) = self.find(iri) {
             return Ok(place);
         }
         let place = self.len();
-        self.add(alloc, iri)?;
+        self.add(alloc, iri.copy(alloc)?)?;
         Ok(place)
     }
 }

@@ -1,14 +1,27 @@
 // The terms that are nodes.
-ghost use Rattle.std.specs.Prelude.{◌≡◌, ◌<◌, ◌^◌, ◌++◌, ◌∷◌, [], length, position, None, OnOk};
-ghost use Rattle.std.specs.Option.{option_map};
+ghost use Rattle.std.specs.Prelude.{◌≡◌, ◌<◌, ◌^◌, ◌++◌, ◌∷◌, [], length, None, OnOk, IfOk};
 ghost use Rattle.graph_load.specs.Loading.{number_of};
-ghost use Rattle.graph_load.specs.Places.{place_of};
+ghost use Rattle.graph_load.specs.Parts.{parts_of};
+ghost use Rattle.graph_load.specs.Entries.{IsAbsent, terms_of};
+ghost use Rattle.graph_load.specs.Chains.{IsTable};
+ghost use Rattle.graph_load.specs.Finding.{IsFoundAs};
 
-use indexmap::IndexMap;
+mod chains;
+mod entries;
+mod parts;
+mod storing;
+
+use crate::terms::chains::{begin, follow, link, make_room};
+use crate::terms::entries::Entry;
+use crate::terms::parts::{hash_parts, parts_of};
+use crate::terms::storing::store;
 use px_base::{Memory, NodeId};
 use std::alloc::Global;
 use std::marker::Model;
 use triples_read::Term;
+
+/// How many buckets an empty table has.
+const FIRST_BUCKETS: usize = 16;
 
 /// Where a term stands in the table, and the number of its node.
 #[derive(Clone, Copy)]
@@ -18,58 +31,108 @@ pub(crate) struct Found {
 }
 
 /// Each term that is a node, with the number of that node. It is found by hash.
+///
+/// The texts of all terms lie one behind the other in one arena, so that a look-up touches little memory and a
+/// new term takes no allocation of its own: it takes its bytes, 32 for its entry and 4 to 8 for its bucket.
 #[derive(Drop)]
 pub(crate) struct Terms {
-    table: IndexMap<Term, NodeId>,
+    arena: Vec<u8>,
+    entries: Vec<Entry>,
+    heads: Vec<u32>,
 }
 
 impl Model for Terms {
-    ghost use Rattle.std.specs.Prelude.{List, ℕ, ◌≤◌, ◌^◌, length};
+    ghost use Rattle.std.specs.Prelude.{List, ℕ};
     ghost use Rattle.triples_read.specs.declared.term.Term.{Term as Value_of_term};
+    ghost use Rattle.graph_load.specs.Entries.{terms_of};
+    ghost use Rattle.graph_load.specs.Chains.{IsTable};
 
     ghost Value = { List (Value_of_term × ℕ) };
 
-    ghost view = { λ t. t.table.entries };
+    ghost view = { λ t. terms_of t.arena.items t.entries.items };
 
-    ghost invariant = { λ t. length t.table.entries ≤ 2 ^ 30 };
+    ghost invariant = { λ t. IsTable t.arena.items t.entries.items t.heads.items };
 }
 
 impl Terms {
     /// No terms.
-    pub(crate) fn new(alloc: Global) -> Terms
-        ensures { result ≡ [] }
+    pub(crate) fn new(alloc: Global) -> Result<Terms, Memory>
+        ensures { IfOk result (λ t. t ≡ []) }
     {
-        Terms {
-            table: IndexMap::new(alloc),
-        }
-    }
-
-    /// How many there are.
-    pub(crate) fn len(&self) -> u32
-        ensures { result ≡ length self.now }
-    {
-        self.table.len() as u32
+        let heads = vec![in alloc; 0; FIRST_BUCKETS]?;
+        Ok(Terms {
+            arena: Vec::new(alloc),
+            entries: Vec::new(alloc),
+            heads,
+        })
     }
 
     /// Where the term stands, with its number.
     pub(crate) fn find(&self, term: &Term) -> Option<Found>
-        ensures place { option_map (λ f. f.place) result ≡ place_of self.now term.now }
-        ensures number { option_map (λ f. f.number) result ≡ number_of self.now term.now }
+        ensures { IsFoundAs self.now term.now result }
     {
-        let (place, _, number) = self.table.get_full(term)?;
-        Some(Found {
-            place: place as u32,
-            number: *number,
-        })
+        let probe = begin(&self.heads, term);
+        follow(&self.arena, &self.entries, &self.heads, &probe)
     }
 
-    /// Puts in a term that isn't there.
-    pub(crate) fn add(&mut self, term: Term, number: NodeId) -> Result<(), Memory>
-        requires few { length self.old < 2 ^ 30 }
-        requires absent { number_of self.old term ≡ None }
-        ensures { OnOk result (self.new ≡ self.old ++ (term, number) ∷ []) }
+    /// Where two terms stand. Both chains are begun before either is followed, so that the processor waits for
+    /// the memory of both at once.
+    pub(crate) fn find_both(&self, one: &Term, other: &Term) -> (Option<Found>, Option<Found>)
+        ensures one { IsFoundAs self.now one.now result.0 }
+        ensures other { IsFoundAs self.now other.now result.1 }
     {
-        self.table.insert(term, number)?;
-        Ok(())
+        let first = begin(&self.heads, one);
+        let second = begin(&self.heads, other);
+        (
+            follow(&self.arena, &self.entries, &self.heads, &first),
+            follow(&self.arena, &self.entries, &self.heads, &second),
+        )
     }
+
+    /// Puts in a term that isn't there, and gives its place.
+    pub(crate) fn add(&mut self, term: &Term, number: NodeId) -> Result<u32, Memory>
+        requires few { length self.old < 2 ^ 30 }
+        requires absent { number_of self.old term.now ≡ None }
+        ensures added { OnOk result (self.new ≡ self.old ++ (term.now, number) ∷ []) }
+        ensures place { IfOk result (λ p. p ≡ length self.old) }
+    {
+        make_room(&mut self.entries, &mut self.heads)?;
+        put(
+            &mut self.arena,
+            &mut self.entries,
+            &mut self.heads,
+            term,
+            number,
+        )
+    }
+}
+
+// Puts in a term that is absent.
+fn put(
+    arena: &mut Vec<u8>,
+    entries: &mut Vec<Entry>,
+    heads: &mut Vec<u32>,
+    term: &Term,
+    number: NodeId,
+) -> Result<u32, Memory>
+    requires table { IsTable arena.old.items entries.old.items heads.old.items }
+    requires few { length entries.old.items < 2 ^ 30 }
+    requires absent { IsAbsent arena.old.items entries.old.items (parts_of term.now) }
+    ensures table { IsTable arena.new.items entries.new.items heads.new.items }
+    ensures added { OnOk result (terms_of arena.new.items entries.new.items ≡ terms_of arena.old.items entries.old.items ++ (term.now, number) ∷ []) }
+    ensures place { IfOk result (λ p. p ≡ length entries.old.items) }
+{
+    let n = entries.len();
+    let parts = parts_of(term);
+    entries.reserve(1)?;
+    let span = store(arena, &parts)?;
+    entries.push(Entry {
+        hash: hash_parts(&parts),
+        next: 0,
+        span,
+        sort: parts.sort,
+        number,
+    })?;
+    link(entries, heads, n);
+    Ok(n as u32)
 }

@@ -4,18 +4,21 @@ use Rattle.graph_load.proofs.Knowing.{unknown_subject, unknown_predicate, unknow
 use Rattle.graph_load.proofs.loader.Loader.is_known.Goals as goal
 
 pub returns-in_default : goal.returns-in_default
-returns-in_default c = sym (unknown_subject c.args.self.now.terms c.args.self.now.predicates c.args.triple.now c.args.self.now.known (sym c.find.ensures.place ∙ ap (option_map (λ f. f.place)) c.in_default.is))
+returns-in_default c t at =
+    sym (unknown_subject c.args.self.now.terms c.args.self.now.predicates t c.args.self.now.known (sym at.subject.place ∙ ap (option_map (λ f. f.place)) c.in_default.is))
 
-pub returns-in_default-find : goal.returns-in_default-find
-returns-in_default-find c = sym (unknown_predicate c.args.self.now.terms c.args.self.now.predicates c.args.triple.now c.args.self.now.known (sym c.find-2.ensures ∙ c.in_default-find.is))
+pub returns-in_default-predicate : goal.returns-in_default-predicate
+returns-in_default-predicate c t at =
+    sym (unknown_predicate c.args.self.now.terms c.args.self.now.predicates t c.args.self.now.known (sym at.predicate ∙ c.in_default-predicate.is))
 
-pub returns-in_default-find-2 : goal.returns-in_default-find-2
-returns-in_default-find-2 c = sym (unknown_object c.args.self.now.terms c.args.self.now.predicates c.args.triple.now c.args.self.now.known (sym c.find-3.ensures.place ∙ ap (option_map (λ f. f.place)) c.in_default-find-2.is))
+pub returns-in_default-object : goal.returns-in_default-object
+returns-in_default-object c t at =
+    sym (unknown_object c.args.self.now.terms c.args.self.now.predicates t c.args.self.now.known (sym at.object.place ∙ ap (option_map (λ f. f.place)) c.in_default-object.is))
 
 pub returns : goal.returns
-returns c =
+returns c t at =
     c.contains.ensures
-    ∙ known_key c.args.self.now.terms c.args.self.now.predicates c.args.triple.now c.args.self.now.known _
-    (sym c.find.ensures.place ∙ ap (option_map (λ f. f.place)) c.in-Some.is)
-    (sym c.find-2.ensures ∙ c.in-Some-find.is)
-    (sym c.find-3.ensures.place ∙ ap (option_map (λ f. f.place)) c.in-Some-find-2.is)
+    ∙ known_key c.args.self.now.terms c.args.self.now.predicates t c.args.self.now.known _
+    (sym at.subject.place ∙ ap (option_map (λ f. f.place)) c.in-Some.is)
+    (sym at.predicate ∙ c.in-Some-predicate.is)
+    (sym at.object.place ∙ ap (option_map (λ f. f.place)) c.in-Some-object.is)

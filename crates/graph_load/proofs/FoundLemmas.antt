@@ -1,0 +1,90 @@
+-- What a walk along a chain finds is where the term stands.
+use Rattle.std.proofs.Common.{◌≡◌, ℕ, zero, suc, ◌<◌, Bool, true, false, cond, List, [], ◌∷◌, length, Some, None, option_map, map, refl, sym, ap, ◌∙◌, arith, true≢false}
+use Rattle.std.specs.Prelude.{position, is_some}
+use Rattle.std.specs.Map.{keys_of, lookup}
+use Rattle.triples_read.specs.declared.term.Term.{Term}
+use Rattle.triples_read.specs.declared.term.Term.TheVariants.{Iri, Blank, Literal}
+use Rattle.graph_load.specs.declared.terms.entries.Entry.{Entry}
+use Rattle.graph_load.specs.Loading.{same_term}
+use Rattle.graph_load.specs.Parts.{parts_of, term_of}
+use Rattle.graph_load.specs.Entries.{entry_at, parts_in, terms_of, AreSpelled, IsAbsent}
+use Rattle.graph_load.specs.Finding.{IsFoundAs}
+use Rattle.graph_load.proofs.SameTerms.{term_is, term_same}
+use Rattle.graph_load.proofs.Standing.{position-cons}
+
+pub term_again : (x : Term) → term_of (parts_of x) ≡ x
+term_again (Iri text) = refl
+term_again (Blank text) = refl
+term_again (Literal text datatype None) = refl
+term_again (Literal text datatype (Some tag)) = refl
+
+pub parts_again : (x : Term) → parts_of (term_of (parts_of x)) ≡ parts_of x
+parts_again x = ap parts_of (term_again x)
+
+not_true : (b : Bool) → (b ≡ true → ⊥) → b ≡ false
+not_true true h = absurd (h refl)
+not_true false h = refl
+
+-- ---- the first entry that passes
+
+record IsFirst (f : Entry → Term × ℕ) (p : Term → Bool) (es : List Entry) (i : ℕ) : Type 0 where
+  place : position p (keys_of (map f es)) ≡ Some i
+  number : lookup p (map f es) ≡ Some (f (entry_at es i)).1
+
+first_is : (f : Entry → Term × ℕ) (p : Term → Bool) (es : List Entry) (i : ℕ) → i < length es → p (f (entry_at es i)).0 ≡ true
+    → ((j : ℕ) → j < i → p (f (entry_at es j)).0 ≡ false) → IsFirst f p es i
+first_is f p [] i h here before = absurd (omega (arith, h))
+first_is f p (e ∷ es) zero h here before = record {
+  place = position-cons p (f e).0 (keys_of (map f es)) ∙ ap (λ b. cond b (Some 0) (option_map suc (position p (keys_of (map f es))))) here;
+  number = ap (λ b. cond b (Some (f e).1) (lookup p (map f es))) here;
+}
+first_is f p (e ∷ es) (suc i) h here before =
+    let rest = first_is f p es i (omega (arith, h)) here (λ j l. before (suc j) (omega (arith, l))) in
+    let other = before 0 (omega arith) in
+    record {
+      place = position-cons p (f e).0 (keys_of (map f es)) ∙ ap (λ b. cond b (Some 0) (option_map suc (position p (keys_of (map f es))))) other ∙ ap (option_map suc) rest.place;
+      number = ap (λ b. cond b (Some (f e).1) (lookup p (map f es))) other ∙ rest.number;
+    }
+
+record IsNone (f : Entry → Term × ℕ) (p : Term → Bool) (es : List Entry) : Type 0 where
+  place : position p (keys_of (map f es)) ≡ None
+  number : lookup p (map f es) ≡ None
+
+none_is : (f : Entry → Term × ℕ) (p : Term → Bool) (es : List Entry) → ((j : ℕ) → j < length es → p (f (entry_at es j)).0 ≡ false) → IsNone f p es
+none_is f p [] others = record { place = refl; number = refl }
+none_is f p (e ∷ es) others =
+    let rest = none_is f p es (λ j l. others (suc j) (omega (arith, l))) in
+    let other = others 0 (omega arith) in
+    record {
+      place = position-cons p (f e).0 (keys_of (map f es)) ∙ ap (λ b. cond b (Some 0) (option_map suc (position p (keys_of (map f es))))) other ∙ ap (option_map suc) rest.place;
+      number = ap (λ b. cond b (Some (f e).1) (lookup p (map f es))) other ∙ rest.number;
+    }
+
+-- ---- terms
+
+module _ (arena : List ℕ) (es : List Entry) (spelled : AreSpelled arena es) (x : Term) where
+  -- an entry of the same term has its parts
+  has_parts : (j : ℕ) → j < length es → same_term x (term_of (parts_in arena (entry_at es j))) ≡ true → parts_in arena (entry_at es j) ≡ parts_of x
+  has_parts j l same = sym (spelled.proper j l) ∙ ap parts_of (sym (term_is x _ same))
+
+  pub found_as : (i : ℕ) → i < length es → parts_in arena (entry_at es i) ≡ parts_of x
+      → IsFoundAs (terms_of arena es) x (Some (record { place = i; number = (entry_at es i).number }))
+  found_as i h parts =
+      let here : same_term x (term_of (parts_in arena (entry_at es i))) ≡ true = ap (λ p. same_term x (term_of p)) parts ∙ ap (same_term x) (term_again x) ∙ term_same x in
+      let first = first_is (λ e. (term_of (parts_in arena e), e.number)) (same_term x) es i h here
+      (λ j l. not_true _ (λ same.
+      let within : j < length es = omega (arith, l, h) in
+      let one : j ≡ i = spelled.apart j i within h (has_parts j within same ∙ sym parts) in
+      omega (arith, one, l))) in
+      record { place = sym first.place; number = sym first.number }
+
+  pub absent_as : IsAbsent arena es (parts_of x) → IsFoundAs (terms_of arena es) x None
+  absent_as none =
+      let all = none_is (λ e. (term_of (parts_in arena e), e.number)) (same_term x) es (λ j l. not_true _ (λ same. none j l (has_parts j l same))) in
+      record { place = sym all.place; number = sym all.number }
+
+  -- what isn't found is absent
+  pub absent_parts : lookup (same_term x) (terms_of arena es) ≡ None → IsAbsent arena es (parts_of x)
+  absent_parts none i h parts =
+      let f = found_as i h parts in
+      true≢false (ap is_some (f.number ∙ none))

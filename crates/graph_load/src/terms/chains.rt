@@ -1,0 +1,138 @@
+// Chains of terms whose hashes fall into one bucket.
+ghost use Rattle.std.specs.Prelude.{◌≡◌, ℕ, ◌+◌, ◌≤◌, ◌^◌, ◌<◌, length, slice_set};
+ghost use Rattle.graph_load.specs.Parts.{parts_of, shown_parts, hash_of};
+ghost use Rattle.graph_load.specs.Entries.{SameEntries, terms_of};
+ghost use Rattle.graph_load.specs.Chains.{head_at, bucket_of, AreLinked, IsTable};
+ghost use Rattle.graph_load.specs.Finding.{IsFoundAs};
+
+use crate::terms::Found;
+use crate::terms::entries::{Entry, is_term, read_entry, set_entry};
+use crate::terms::parts::{Parts, hash_parts, parts_of};
+use px_base::Memory;
+use triples_read::Term;
+
+// The number of buckets is a power of two, so that this takes no division.
+#[inline(always)]
+fn bucket(heads: &[u32], hash: u32) -> usize
+    requires { 0 < length heads.now }
+    ensures is { result ≡ bucket_of heads.now hash }
+    ensures within { result < length heads.now }
+{
+    (hash as usize) & (heads.len() - 1)
+}
+
+#[inline(always)]
+fn read_head(heads: &[u32], b: usize) -> u32
+    requires { b < length heads.now }
+    ensures { result ≡ head_at heads.now b }
+{
+    heads[b]
+}
+
+#[inline(always)]
+fn set_head(heads: &mut Vec<u32>, b: usize, head: u32)
+    requires { b < length heads.old.items }
+    ensures { heads.new.items ≡ slice_set heads.old.items b head }
+{
+    heads[b] = head;
+}
+
+/// What is looked for, and where its chain begins.
+#[derive(Clone, Copy)]
+pub(crate) struct Probe<'a> {
+    parts: Parts<'a>,
+    hash: u32,
+    first: u32,
+}
+
+/// Begins to look for a term.
+#[inline(always)]
+pub(crate) fn begin<'a>(heads: &[u32], term: &'a Term) -> Probe<'a>
+    requires some { 0 < length heads.now }
+    ensures parts { shown_parts result.parts ≡ parts_of term.entry.now }
+    ensures hash { result.hash ≡ hash_of (shown_parts result.parts) }
+    ensures first { result.first ≡ head_at heads.now (bucket_of heads.now result.hash) }
+{
+    let parts = parts_of(term);
+    let hash = hash_parts(&parts);
+    let first = read_head(heads, bucket(heads, hash));
+    Probe { parts, hash, first }
+}
+
+/// Looks along the chain. `heads` is read by the clauses alone.
+pub(crate) fn follow(
+    arena: &[u8],
+    entries: &[Entry],
+    heads: &[u32],
+    probe: &Probe<'_>,
+) -> Option<Found>
+    requires table { IsTable arena.now entries.now heads.now }
+    requires hash { probe.now.hash ≡ hash_of (shown_parts probe.now.parts) }
+    requires first { probe.now.first ≡ head_at heads.now (bucket_of heads.now probe.now.hash) }
+    ensures { (x : Term) → shown_parts probe.now.parts ≡ parts_of x → IsFoundAs (terms_of arena.now entries.now) x result }
+{
+    let mut at = probe.first;
+    while at > 0 {
+        let e = entries[at as usize - 1];
+        if is_term(arena, &e, &probe.parts, probe.hash) {
+            return Some(Found {
+                place: at - 1,
+                number: e.number,
+            });
+        }
+        at = e.next;
+    }
+    None
+}
+
+// Puts entry n in front of its chain.
+#[inline(always)]
+pub(crate) fn link(entries: &mut Vec<Entry>, heads: &mut Vec<u32>, n: usize)
+    requires linked { AreLinked n entries.old.items heads.old.items }
+    requires within { n < length entries.old.items }
+    requires few { length entries.old.items ≤ 2 ^ 30 }
+    requires some { 0 < length heads.old.items }
+    ensures same { SameEntries entries.old.items entries.new.items }
+    ensures linked { AreLinked (n + 1) entries.new.items heads.new.items }
+    ensures some { 0 < length heads.new.items }
+{
+    let e = read_entry(entries, n);
+    let b = bucket(heads, e.hash);
+    let next = read_head(heads, b);
+    set_entry(entries, n, Entry { next, ..e });
+    set_head(heads, b, n as u32 + 1);
+}
+
+// Makes twice as many buckets where there are no more of them than entries.
+pub(crate) fn make_room(entries: &mut Vec<Entry>, heads: &mut Vec<u32>) -> Result<(), Memory>
+    requires linked { AreLinked (length entries.old.items) entries.old.items heads.old.items }
+    requires few { length entries.old.items ≤ 2 ^ 30 }
+    requires some { 0 < length heads.old.items }
+    ensures same { SameEntries entries.old.items entries.new.items }
+    ensures linked { AreLinked (length entries.new.items) entries.new.items heads.new.items }
+    ensures some { 0 < length heads.new.items }
+{
+    let size = heads.len();
+    if entries.len() < size || size >= 0x8000_0000 {
+        return Ok(());
+    }
+    heads.reserve(size)?;
+    heads.clear();
+    heads.resize(2 * size, 0)?;
+    relink(entries, heads);
+    Ok(())
+}
+
+// Links all entries anew.
+fn relink(entries: &mut Vec<Entry>, heads: &mut Vec<u32>)
+    requires empty { (b : ℕ) → head_at heads.old.items b ≡ 0 }
+    requires few { length entries.old.items ≤ 2 ^ 30 }
+    requires some { 0 < length heads.old.items }
+    ensures same { SameEntries entries.old.items entries.new.items }
+    ensures linked { AreLinked (length entries.new.items) entries.new.items heads.new.items }
+    ensures some { 0 < length heads.new.items }
+{
+    for n in 0..entries.len() {
+        link(entries, heads, n);
+    }
+}
