@@ -5,7 +5,7 @@ use Rattle.std.specs.FinMap as table
 use Rattle.std.specs.Ordering.{eq_by_cmp}
 use Rattle.std.specs.List.{list_any}
 use Rattle.std.proofs.lemmas.Cmp.{eq_by_cmp_equiv}
-use Rattle.std.proofs.lemmas.Bool.{cases_lt, cases_Bool, and_parts, and_from, or_left}
+use Rattle.std.proofs.lemmas.Bool.{cases_lt, cases_Bool, and_parts, or_left}
 use Rattle.std.proofs.lemmas.Bool.Decides.{eqb_tells}
 use Rattle.std.proofs.lemmas.List.Sums.{sum_by-cons}
 use Rattle.px_spec.specs.Graphs.{edge_cmp}
@@ -18,7 +18,7 @@ use Rattle.extent_report.specs.Listing.{pairs_below}
 
 -- a number that passes is counted once
 
-abbrev pub but : (ℕ → Bool) → ℕ → ℕ → Bool
+abbrev but : (ℕ → Bool) → ℕ → ℕ → Bool
 but q y z = q z && not (nat_eq z y)
 
 and_true : (a : Bool) → (a && true) ≡ a
@@ -41,7 +41,7 @@ but_same q y z e = elim (eqb_tells z y) [
     none true = refl
     none false = refl
 
-pub count_without : (n : ℕ) (q : ℕ → Bool) (y : ℕ) → y < n → q y ≡ true → count_below n q ≡ 1 + count_below n (but q y)
+count_without : (n : ℕ) (q : ℕ → Bool) (y : ℕ) → y < n → q y ≡ true → count_below n q ≡ 1 + count_below n (but q y)
 count_without zero q y l h = absurd (omega (arith, l))
 count_without (suc n) q y l h = elim (cases_lt y n) [
   | inl below ↦ (
@@ -66,8 +66,8 @@ count_into (suc n) m p q E apart to = elim (cases_Bool (p n)) [
       let less = count_without m q y.0 y.1 y.2 in
       let one : bit_of (p n) ≡ 1 = ap bit_of on in
       let rest = count_into n m p (but q y.0) E apart (λ x l h.
-          let w = to x (omega (arith, l)) h in
-          (w.0, w.1, but_other q y.0 w.0 (λ e. absurd (let same = apart x n y.0 (subst (E x) e w.3) y.3 in omega (arith, same, l))) ∙ w.2, w.3)) in
+      let w = to x (omega (arith, l)) h in
+      (w.0, w.1, but_other q y.0 w.0 (λ e. absurd (let same = apart x n y.0 (subst (E x) e w.3) y.3 in omega (arith, same, l))) ∙ w.2, w.3)) in
       omega (arith, less, one, rest))
   | inr off ↦ (
       let none : bit_of (p n) ≡ 0 = ap bit_of off in
@@ -77,14 +77,14 @@ count_into (suc n) m p q E apart to = elim (cases_Bool (p n)) [
 
 -- the same of pairs
 
-pub pairs_same : (n m : ℕ) (p q : ℕ → ℕ → Bool) → ((u v : ℕ) → u < n → v < m → p u v ≡ q u v) → pairs_below n m p ≡ pairs_below n m q
+pairs_same : (n m : ℕ) (p q : ℕ → ℕ → Bool) → ((u v : ℕ) → u < n → v < m → p u v ≡ q u v) → pairs_below n m p ≡ pairs_below n m q
 pairs_same zero m p q h = refl
 pairs_same (suc n) m p q h =
     let row = count_same m (p n) (q n) (λ v l. h n v (omega arith) l) in
     let rest = pairs_same n m p q (λ u v l k. h u v (omega (arith, l)) k) in
     omega (arith, row, rest)
 
-abbrev pub but_pair : (ℕ → ℕ → Bool) → ℕ → ℕ → ℕ → ℕ → Bool
+abbrev but_pair : (ℕ → ℕ → Bool) → ℕ → ℕ → ℕ → ℕ → Bool
 but_pair p u v x y = p x y && not (nat_eq x u && nat_eq y v)
 
 in_row : (p : ℕ → ℕ → Bool) (u v x : ℕ) → x ≡ u → (y : ℕ) → but_pair p u v x y ≡ but (p x) v y
@@ -99,13 +99,14 @@ out_row p u v x y other = elim (eqb_tells x u) [
   | inr apart ↦ ap (λ b. p x y && not (b && nat_eq y v)) apart.0 ∙ and_true (p x y)
 ]
 
-pub other_pair : (p : ℕ → ℕ → Bool) (u v x y : ℕ) → (x ≡ u → y ≡ v → ⊥) → but_pair p u v x y ≡ p x y
-other_pair p u v x y other = elim (eqb_tells x u) [
-  | inl same ↦ in_row p u v x same.1 y ∙ but_other (p x) v y (λ e. other same.1 e)
-  | inr apart ↦ out_row p u v x y apart.1
+-- another pair that passes still does
+other_pair : (p : ℕ → ℕ → Bool) (u v x y : ℕ) → (x ≡ u → y ≡ v → ⊥) → p x y ≡ true → but_pair p u v x y ≡ true
+other_pair p u v x y other h = elim (eqb_tells x u) [
+  | inl same ↦ in_row p u v x same.1 y ∙ but_other (p x) v y (λ e. other same.1 e) ∙ h
+  | inr apart ↦ out_row p u v x y apart.1 ∙ h
 ]
 
-pub pairs_without : (n m : ℕ) (p : ℕ → ℕ → Bool) (u v : ℕ) → u < n → v < m → p u v ≡ true → pairs_below n m p ≡ 1 + pairs_below n m (but_pair p u v)
+pairs_without : (n m : ℕ) (p : ℕ → ℕ → Bool) (u v : ℕ) → u < n → v < m → p u v ≡ true → pairs_below n m p ≡ 1 + pairs_below n m (but_pair p u v)
 pairs_without zero m p u v l k h = absurd (omega (arith, l))
 pairs_without (suc n) m p u v l k h = elim (cases_lt u n) [
   | inl below ↦ (
@@ -179,10 +180,10 @@ row_into n (suc w) c p m E apart after t row rest = elim (cases_Bool (p n w)) [
       let one : bit_of (p n w) ≡ 1 = ap bit_of on in
       let less = fewer t (k.0, k.1) k.2 in
       let others = row_into n w c p m E apart after (table.remove t (k.0, k.1))
-          (λ v l h. let j = row v (omega (arith, l)) h in
-          (j.0, j.1, other_key t k.0 k.1 j.0 j.1 (λ _ e. let same = apart v w k.1 (subst (E v) e j.4) k.4 in omega (arith, same, l)) j.2, j.3, j.4))
-          (λ u v l x h. let j = rest u v l x h in
-          (j.0, j.1, other_key t k.0 k.1 j.0 j.1 (λ e _. let same = apart u n k.0 (subst (E u) e j.3) k.3 in omega (arith, same, l)) j.2, j.3, j.4)) in
+      (λ v l h. let j = row v (omega (arith, l)) h in
+      (j.0, j.1, other_key t k.0 k.1 j.0 j.1 (λ _ e. let same = apart v w k.1 (subst (E v) e j.4) k.4 in omega (arith, same, l)) j.2, j.3, j.4))
+      (λ u v l x h. let j = rest u v l x h in
+      (j.0, j.1, other_key t k.0 k.1 j.0 j.1 (λ e _. let same = apart u n k.0 (subst (E u) e j.3) k.3 in omega (arith, same, l)) j.2, j.3, j.4)) in
       omega (arith, one, less, others))
   | inr off ↦ (
       let none : bit_of (p n w) ≡ 0 = ap bit_of off in
@@ -197,6 +198,9 @@ pairs_into zero m p E apart t to = omega arith
 pairs_into (suc n) m p E apart t to =
     row_into n m (pairs_below n m p) p m E apart (pairs_into n m p E apart) t (λ v l h. to n v (omega arith) l h) (λ u v l k h. to u v (omega (arith, l)) k h)
 
+tied_to : (k : ℕ × ℕ) (a b : ℕ) → a ≡ k.0 → b ≡ k.1 → eq_by_cmp edge_cmp (a, b) k ≡ true
+tied_to k a b s r = sym (ap (eq_by_cmp edge_cmp (a, b)) (λ j. (s j, r j))) ∙ (eq_by_cmp_equiv edge_cmp_total).refl (a, b)
+
 -- Each key is tied to a pair that passes, and no two to the same
 pub pairs_over : (c n m : ℕ) (p : ℕ → ℕ → Bool) (E : ℕ → ℕ → Type 0) → ((u a b : ℕ) → E u a → E u b → a ≡ b)
     → (t : SupportTable) → table.len t ≡ c → ((a b : ℕ) → has_key t (a, b) ≡ true → (u : ℕ) × (v : ℕ) × (u < n) × (v < m) × (p u v ≡ true) × E u a × E v b)
@@ -210,12 +214,19 @@ pairs_over (suc c) n m p E apart t e to =
     let less = pairs_without n m p x.0 x.1 x.2 x.3 x.4 in
     let one = fewer t k.0 k.1 in
     let others = pairs_over c n m (but_pair p x.0 x.1) E apart (table.remove t k.0) (omega (arith, one, e)) (λ d f h.
-        let still = still_key t k.0 (d, f) h in
-        let y = to d f still.1 in
-        (y.0, y.1, y.2, y.3, other_pair p x.0 x.1 y.0 y.1 (λ g i.
-        let s = apart x.0 d a (subst (λ u. E u d) g y.5) x.5 in
-        let r = apart x.1 f b (subst (λ u. E u f) i y.6) x.6 in
-        true≢false (sym ((eq_by_cmp_equiv edge_cmp_total).refl (d, f)) ∙ ap (eq_by_cmp edge_cmp (d, f)) (λ j. (s j, r j)) ∙ still.0)) ∙ y.4, y.5, y.6)) in
+    let still = still_key t k.0 (d, f) h in
+    let y = to d f still.1 in (
+      y.0,
+      y.1,
+      y.2,
+      y.3,
+      other_pair p x.0 x.1 y.0 y.1 (λ g i.
+          let s = apart x.0 d a (subst (λ u. E u d) g y.5) x.5 in
+          let r = apart x.1 f b (subst (λ u. E u f) i y.6) x.6 in
+          true≢false (sym (tied_to k.0 d f s r) ∙ still.0)) y.4,
+      y.5,
+      y.6,
+    )) in
     omega (arith, less, others)
 
 -- the pairs with support are the keys that count

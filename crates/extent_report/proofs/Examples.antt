@@ -17,6 +17,11 @@ lone_text : extents_text lone (bis lone 2) ≡ codes "blocks 2\na n0 n2\nb n1\n"
 unfolding digits
 lone_text = refl
 
+-- numbers past the nodes change nothing
+lone_wide : extents_text (record lone { size = 5 }) (bis lone 2) ≡ extents_text lone (bis lone 2)
+unfolding digits
+lone_wide = refl
+
 -- its children tell the two a apart
 lone_both_ways : extents_text lone (fb lone) ≡ codes "blocks 3\na n0\nb n1\na n2\n"
 unfolding digits

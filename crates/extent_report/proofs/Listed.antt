@@ -14,7 +14,7 @@ use Rattle.bisim_spec.proofs.Together.{block_below}
 use Rattle.bisim_spec.proofs.StabilityTests.{together_decides}
 use Rattle.quotient.specs.Quotients.{Quotient, view_of}
 use Rattle.extent_report.specs.Listing.{extents_text}
-use Rattle.extent_report.specs.Summaries.{shape_of_blocks}
+use Rattle.extent_report.specs.Summaries.{shape_of_blocks, IsSummaryOf}
 use Rattle.extent_report.proofs.Alike.{AreAlike, extents_alike}
 
 none_not_some : {A : Type 0} (o : Option A) → o ≡ None → IsSome o → ⊥
@@ -57,8 +57,7 @@ module _ (g : Graph) (q : Quotient) (r : ℕ → ℕ → Bool) (fits : ViewFits 
   }
 
 -- the text of the members
-pub listed_extents : (g : Graph) (q : Quotient) (r : ℕ → ℕ → Bool) (texts : List (List ℕ)) → ViewFits g (view_of q) → g.seen ≡ texts
-    → Agrees (shape_of g) q.blocks.block_of (λ u v. IsTrue (r u v))
+pub listed_extents : (g : Graph) (q : Quotient) (r : ℕ → ℕ → Bool) (texts : List (List ℕ)) → IsSummaryOf g r q → g.seen ≡ texts
     → extents_text (shape_of_blocks texts q.blocks) (together q.blocks.block_of) ≡ extents_text (shape_of g) r
-listed_extents g q r texts fits seen agrees =
-    ap (λ t. extents_text (shape_of_blocks t q.blocks) (together q.blocks.block_of)) (sym seen) ∙ extents_alike (fit_alike g q r fits agrees)
+listed_extents g q r texts h seen =
+    ap (λ t. extents_text (shape_of_blocks t q.blocks) (together q.blocks.block_of)) (sym seen) ∙ extents_alike (fit_alike g q r h.fits h.agrees)

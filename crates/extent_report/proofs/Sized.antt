@@ -1,13 +1,13 @@
 -- A summary that fits a graph has as many blocks, and as many pairs with support, as the graph's own nodes and edges tell.
-use Rattle.std.proofs.Common.{◌≡◌, ℕ, suc, ◌+◌, ◌<◌, ◌≤◌, ◌≢◌, List, length, Option, Some, None, IsSome, IsTrue, is_some, refl, sym, ◌∙◌, ap, arith, subst, inl, inr, true, false, Bool, not, ◌&&◌, true≢false}
+use Rattle.std.proofs.Common.{◌≡◌, ℕ, suc, ◌<◌, length, Some, IsTrue, is_some, refl, sym, ◌∙◌, ap, arith, inl, inr, true, false, Bool, not, ◌&&◌, true≢false}
 use Rattle.std.specs.Prelude.{nat_lt}
 use Rattle.std.specs.FinMap as table
 use Rattle.std.proofs.lemmas.Bool.{cases_lt, cases_Bool, and_parts, and_from, not-true}
 use Rattle.px_spec.specs.Graphs.{Graph, label_of}
-use Rattle.px_spec.specs.Shapes.{IsNode, IsParent, shape_of}
+use Rattle.px_spec.specs.Shapes.{IsNode, shape_of}
 use Rattle.index_api.specs.declared.kinds.Via.{Via}
 use Rattle.block_partition.specs.Partitions.{at, block_count}
-use Rattle.bisim_spec.specs.Below.{any_below, count_below}
+use Rattle.bisim_spec.specs.Below.{any_below}
 use Rattle.bisim_spec.specs.Partitions.{Together, Agrees}
 use Rattle.bisim_spec.specs.Supports.{Joined}
 use Rattle.bisim_spec.specs.Views.{ViewFits, support_at}
@@ -18,9 +18,10 @@ use Rattle.bisim_spec.proofs.Moves.{block_get, block_from}
 use Rattle.bisim_spec.proofs.Supported.{support_joined, joined_support}
 use Rattle.quotient.specs.Quotients.{Quotient, view_of, pair_count}
 use Rattle.extent_report.specs.Listing.{is_related, is_first, are_joined, block_total, joined_total, size_line}
+use Rattle.extent_report.specs.Summaries.{IsSummaryOf}
 use Rattle.extent_report.specs.Chains.{is_of}
 use Rattle.extent_report.proofs.Listed.{given_below}
-use Rattle.extent_report.proofs.Counting.{count_into, taken_places, has_key, HasTied, pairs_into, pairs_over, kept_key, kept_some}
+use Rattle.extent_report.proofs.Counting.{count_into, taken_places, pairs_into, pairs_over, kept_key, kept_some}
 
 module _ (g : Graph) (q : Quotient) (r : ℕ → ℕ → Bool) (fits : ViewFits g (view_of q)) (agrees : Agrees (shape_of g) q.blocks.block_of (λ u v. IsTrue (r u v))) where
   -- n is the first node of the block a
@@ -94,13 +95,13 @@ module _ (g : Graph) (q : Quotient) (r : ℕ → ℕ → Bool) (fits : ViewFits 
   as_many_blocks =
       let live : ℕ → Bool = λ b. is_some (at q.blocks.labels b) in
       let most = count_into (length g.given) (length q.blocks.labels) (is_first (shape_of g) r) live Begins one_first (λ n l h.
-          let a = begun n h in
-          let t = fits.labelled n a.0 a.1.block_is in
-          let there = is_some_at (at q.blocks.labels a.0) t.0 t.2 in
-          (a.0, block_below q.blocks.labels a.0 there, there, a.1)) in
+      let a = begun n h in
+      let t = fits.labelled n a.0 a.1.block_is in
+      let there = is_some_at (at q.blocks.labels a.0) t.0 t.2 in
+      (a.0, block_below q.blocks.labels a.0 there, there, a.1)) in
       let least_many = count_into (length q.blocks.labels) (length g.given) live (is_first (shape_of g) r) (λ b n. Begins n b) (λ a b n x y. one_block n a b x y) (λ b l h.
-          let n = fits.inhabited b h in
-          beginning n.0 b n.1) in
+      let n = fits.inhabited b h in
+      beginning n.0 b n.1) in
       let places = taken_places q.blocks.labels in
       omega (arith, most, least_many, places)
 
@@ -118,7 +119,7 @@ module _ (g : Graph) (q : Quotient) (r : ℕ → ℕ → Bool) (fits : ViewFits 
   by_joined u v a b x y (m, k, e, em, ek) =
       let to : ℕ → Bool = λ m. any_below (length g.given) (λ k. is_related (shape_of g) r v k && (shape_of g).edge m k) in
       let inner = any_from (length g.given) (λ k. is_related (shape_of g) r v k && (shape_of g).edge m k) k (member_below k b ek)
-          (and_from (is_related (shape_of g) r v k) ((shape_of g).edge m k) (alike v k b y.block_is ek) e) in
+      (and_from (is_related (shape_of g) r v k) ((shape_of g).edge m k) (alike v k b y.block_is ek) e) in
       any_from (length g.given) (λ m. is_related (shape_of g) r u m && to m) m (member_below m a em)
       (and_from (is_related (shape_of g) r u m) (to m) (alike u m a x.block_is em) inner)
 
@@ -128,26 +129,33 @@ module _ (g : Graph) (q : Quotient) (r : ℕ → ℕ → Bool) (fits : ViewFits 
       let t = table.retain_keys q.supports (λ p. nat_lt 0 (support_at q.supports p.0 p.1)) in
       let p : ℕ → ℕ → Bool = λ u v. is_first (shape_of g) r u && (is_first (shape_of g) r v && are_joined (shape_of g) r u v) in
       let most = pairs_into n n p Begins one_first t (λ u v l k h.
-          let x = and_parts (is_first (shape_of g) r u) (is_first (shape_of g) r v && are_joined (shape_of g) r u v) h in
-          let y = and_parts (is_first (shape_of g) r v) (are_joined (shape_of g) r u v) x.1 in
-          let a = begun u x.0 in
-          let b = begun v y.0 in
-          let some = joined_support g q.blocks.block_of a.0 b.0 (joined_by u v a.0 b.0 a.1 b.1 y.1) in
-          let same = fits.supports a.0 b.0 in
-          (a.0, b.0, kept_key q.supports a.0 b.0 (omega (arith, same, some)), a.1, b.1)) in
+      let x = and_parts (is_first (shape_of g) r u) (is_first (shape_of g) r v && are_joined (shape_of g) r u v) h in
+      let y = and_parts (is_first (shape_of g) r v) (are_joined (shape_of g) r u v) x.1 in
+      let a = begun u x.0 in
+      let b = begun v y.0 in
+      let some = joined_support g q.blocks.block_of a.0 b.0 (joined_by u v a.0 b.0 a.1 b.1 y.1) in
+      let same = fits.supports a.0 b.0 in
+      (a.0, b.0, kept_key q.supports a.0 b.0 (omega (arith, same, some)), a.1, b.1)) in
       let least_many = pairs_over (table.len t) n n p Begins one_block t refl (λ a b h.
-          let some = kept_some q.supports a b h in
-          let same = fits.supports a b in
-          let j = support_joined g q.blocks.block_of a b (omega (arith, same, some)) in
-          let u = beginning j.0 a j.3 in
-          let v = beginning j.1 b j.4 in
-          (u.0, v.0, u.1, v.1, and_from (is_first (shape_of g) r u.0) (is_first (shape_of g) r v.0 && are_joined (shape_of g) r u.0 v.0) u.2
-          (and_from (is_first (shape_of g) r v.0) (are_joined (shape_of g) r u.0 v.0) v.2 (by_joined u.0 v.0 a b u.3 v.3 j)), u.3, v.3)) in
+      let some = kept_some q.supports a b h in
+      let same = fits.supports a b in
+      let j = support_joined g q.blocks.block_of a b (omega (arith, same, some)) in
+      let u = beginning j.0 a j.3 in
+      let v = beginning j.1 b j.4 in (
+        u.0,
+        v.0,
+        u.1,
+        v.1,
+        and_from (is_first (shape_of g) r u.0) (is_first (shape_of g) r v.0 && are_joined (shape_of g) r u.0 v.0) u.2
+            (and_from (is_first (shape_of g) r v.0) (are_joined (shape_of g) r u.0 v.0) v.2 (by_joined u.0 v.0 a b u.3 v.3 j)),
+        u.3,
+        v.3,
+      )) in
       omega (arith, most, least_many)
 
 -- the line of the size
-pub listed_size : (g : Graph) (q : Quotient) (r : ℕ → ℕ → Bool) (via : Via) → ViewFits g (view_of q) → Agrees (shape_of g) q.blocks.block_of (λ u v. IsTrue (r u v))
+pub listed_size : (g : Graph) (q : Quotient) (r : ℕ → ℕ → Bool) (via : Via) → IsSummaryOf g r q
     → size_line via (block_count q.blocks) (pair_count q.supports) ≡ size_line via (block_total (shape_of g) r) (joined_total (shape_of g) r)
-listed_size g q r via fits agrees =
-    ap (λ b. size_line via b (pair_count q.supports)) (sym (as_many_blocks g q r fits agrees))
-    ∙ ap (λ s. size_line via (block_total (shape_of g) r) s) (sym (as_many_pairs g q r fits agrees))
+listed_size g q r via h =
+    ap (λ b. size_line via b (pair_count q.supports)) (sym (as_many_blocks g q r h.fits h.agrees))
+    ∙ ap (λ s. size_line via (block_total (shape_of g) r) s) (sym (as_many_pairs g q r h.fits h.agrees))

@@ -1,8 +1,12 @@
 -- What a summary alone says of the lists that are printed.
-use Rattle.std.specs.Prelude.{◌≡◌, ℕ, ◌<◌, false, List, length, Option, Some, [], if◌then◌else◌, option_and_then}
-use Rattle.px_spec.specs.Shapes.{Shape, shape_by}
+use Rattle.std.specs.Prelude.{◌≡◌, ℕ, ◌<◌, Bool, false, List, length, Option, Some, IsTrue, [], if◌then◌else◌, option_and_then}
+use Rattle.px_spec.specs.Graphs.{Graph}
+use Rattle.px_spec.specs.Shapes.{Shape, shape_of, shape_by}
 use Rattle.block_partition.specs.Partitions.{Partition, at}
+use Rattle.bisim_spec.specs.Partitions.{Agrees}
 use Rattle.bisim_spec.specs.Tests.{together}
+use Rattle.bisim_spec.specs.Views.{ViewFits}
+use Rattle.quotient.specs.Quotients.{Quotient, view_of}
 use Rattle.extent_report.specs.Listing.{is_first, block_line}
 
 -- the number of the label of a node's block
@@ -21,3 +25,8 @@ AreLabelled texts p = (b l : ℕ) → at p.labels b ≡ Some l → l < length te
 abbrev pub line_at : List (List ℕ) → Partition → ℕ → List ℕ
 line_at texts p n =
     if is_first (shape_of_blocks texts p) (together p.block_of) n then block_line (shape_of_blocks texts p) (together p.block_of) n else []
+
+-- The summary is one of the graph, and its blocks are the classes of the nodes by the test.
+pub record IsSummaryOf (g : Graph) (r : ℕ → ℕ → Bool) (q : Quotient) : Type 0 where
+  pub fits : ViewFits g (view_of q)
+  pub agrees : Agrees (shape_of g) q.blocks.block_of (λ u v. IsTrue (r u v))

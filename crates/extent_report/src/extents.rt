@@ -1,17 +1,14 @@
 // The members of the blocks, as they are printed.
-ghost use Rattle.std.specs.Prelude.{◌≡◌, ◌++◌, ◌∷◌, [], ℕ, Bool, true, Some, IsSome, IsTrue, OnOk, IfOk, codes, decimal, length, string_bytes};
+ghost use Rattle.std.specs.Prelude.{◌≡◌, ◌++◌, ◌∷◌, [], ℕ, Bool, true, Some, IsSome, OnOk, IfOk, codes, decimal, length, string_bytes};
 ghost use Rattle.px_spec.specs.Graphs.{Graph};
 ghost use Rattle.px_spec.specs.Shapes.{shape_of};
 ghost use Rattle.px_spec.specs.Words.{node_word};
 ghost use Rattle.block_partition.specs.Partitions.{at};
-ghost use Rattle.bisim_spec.specs.Partitions.{Agrees};
 ghost use Rattle.bisim_spec.specs.Tests.{together};
 ghost use Rattle.bisim_spec.specs.Below.{count_below};
-ghost use Rattle.bisim_spec.specs.Views.{ViewFits};
-ghost use Rattle.quotient.specs.Quotients.{view_of};
 ghost use Rattle.extent_report.specs.Listing as printed;
 ghost use Rattle.extent_report.specs.Listing.{texts_below, block_line};
-ghost use Rattle.extent_report.specs.Summaries.{shape_of_blocks, AreLabelled, line_at};
+ghost use Rattle.extent_report.specs.Summaries.{shape_of_blocks, AreLabelled, IsSummaryOf, line_at};
 ghost use Rattle.extent_report.specs.Chains.{leads, word_with};
 
 use crate::chains::Chains;
@@ -111,13 +108,16 @@ fn push_count(out: &mut String, blocks: u32) -> Result<(), Memory>
     Ok(())
 }
 
-/// The lists of the members of the blocks: `blocks B`, and then a line for each block, by rising least
-/// members: its label, and its members, rising, each as ` n7`. It takes the time of one pass over the
-/// numbers of nodes for each of three passes, with no sort.
+/// The members of the blocks of an index: `blocks B`, and then a line for each block, by rising least
+/// members, with its label and its members, rising, as in `a n0 n2`. Each line ends with LF. A block
+/// without members has no line.
+///
+/// It takes linear time, with no sort, and 8 bytes for each node number and each block number beside
+/// the text.
 pub fn extents_text(alloc: Global, summary: &Summary, labels: &Labels) -> Result<Text, Memory>
     requires labelled { AreLabelled labels.now.texts summary.now.blocks }
     ensures text { IfOk result (λ t. t ≡ printed.extents_text (shape_of_blocks labels.now.texts summary.now.blocks) (together summary.now.blocks.block_of)) }
-    ensures listed { IfOk result (λ t. (g : Graph) (r : ℕ → ℕ → Bool) → ViewFits g (view_of summary.now) → g.seen ≡ labels.now.texts → Agrees (shape_of g) summary.now.blocks.block_of (λ u v. IsTrue (r u v)) → t ≡ printed.extents_text (shape_of g) r) }
+    ensures listed { IfOk result (λ t. (g : Graph) (r : ℕ → ℕ → Bool) → IsSummaryOf g r summary.now → g.seen ≡ labels.now.texts → t ≡ printed.extents_text (shape_of g) r) }
 {
     let chains = Chains::of(alloc, summary)?;
     let mut out = String::new(alloc);

@@ -1,14 +1,13 @@
 // The size of a graph and of an index, as it is printed.
-ghost use Rattle.std.specs.Prelude.{◌≡◌, ◌≢◌, ◌++◌, ◌∷◌, [], ℕ, Bool, IsTrue, OnOk, IfOk, codes, decimal, string_bytes};
+ghost use Rattle.std.specs.Prelude.{◌≡◌, ◌≢◌, ◌++◌, ◌∷◌, [], ℕ, Bool, OnOk, IfOk, string_bytes};
 ghost use Rattle.index_api.specs.Spelling.{via_word};
 ghost use Rattle.index_api.specs.declared.kinds.Via.TheVariants.{Data};
 ghost use Rattle.px_spec.specs.Graphs.{Graph};
 ghost use Rattle.px_spec.specs.Shapes.{shape_of};
 ghost use Rattle.block_partition.specs.Partitions.{block_count};
-ghost use Rattle.bisim_spec.specs.Partitions.{Agrees};
-ghost use Rattle.bisim_spec.specs.Views.{ViewFits};
-ghost use Rattle.quotient.specs.Quotients.{pair_count, view_of};
+ghost use Rattle.quotient.specs.Quotients.{pair_count};
 ghost use Rattle.extent_report.specs.Listing.{head_line, size_line, block_total, joined_total};
+ghost use Rattle.extent_report.specs.Summaries.{IsSummaryOf};
 
 use crate::output::{end_line, push_number};
 use index_api::Via;
@@ -16,7 +15,7 @@ use px_base::{Memory, Text};
 use quotient::Summary;
 use std::alloc::Global;
 
-/// The line of a graph's size: `nodes N edges E`.
+/// The line of the size of a graph, `nodes N edges E` and LF.
 pub fn sizes_head(alloc: Global, nodes: u32, edges: u32) -> Result<Text, Memory>
     ensures { IfOk result (λ t. t ≡ head_line nodes edges) }
 {
@@ -54,12 +53,12 @@ fn size_text(alloc: Global, via: Via, blocks: u32, edges: u64) -> Result<Text, M
     Ok(Text::from_string(out))
 }
 
-/// The line of the size of an index: `a0 blocks B edges S`, where S is the number of pairs of blocks
-/// that have support. O(1).
+/// The line of the size of an index, as `a0 blocks B edges S` and LF: through what it is asked, how
+/// many blocks it has, and how many pairs of blocks have support. Counting takes constant time.
 pub fn sizes_line(alloc: Global, via: Via, summary: &Summary) -> Result<Text, Memory>
     requires index { via ≢ Data }
     ensures text { IfOk result (λ t. t ≡ size_line via (block_count summary.now.blocks) (pair_count summary.now.supports)) }
-    ensures listed { IfOk result (λ t. (g : Graph) (r : ℕ → ℕ → Bool) → ViewFits g (view_of summary.now) → Agrees (shape_of g) summary.now.blocks.block_of (λ u v. IsTrue (r u v)) → t ≡ size_line via (block_total (shape_of g) r) (joined_total (shape_of g) r)) }
+    ensures listed { IfOk result (λ t. (g : Graph) (r : ℕ → ℕ → Bool) → IsSummaryOf g r summary.now → t ≡ size_line via (block_total (shape_of g) r) (joined_total (shape_of g) r)) }
 {
     let count = summary.blocks();
     let line = size_text(alloc, via, count, summary.pairs())?;

@@ -16,4 +16,4 @@ returns-clause-text c =
     ∙ ap (λ p. extents_text (shape_of_blocks texts p) (together p.block_of)) same
 
 pub returns-clause-listed : goal.returns-clause-listed
-returns-clause-listed c = λ g r fits seen agrees. returns-clause-text c ∙ listed_extents g c.args.summary.now r c.args.labels.now.texts fits seen agrees
+returns-clause-listed c = λ g r h seen. returns-clause-text c ∙ listed_extents g c.args.summary.now r c.args.labels.now.texts h seen

@@ -10,4 +10,4 @@ returns-clause-text c =
     ∙ ap (λ s. size_line c.args.via (block_count c.args.summary.now.blocks) s) c.pairs.ensures
 
 pub returns-clause-listed : goal.returns-clause-listed
-returns-clause-listed c = λ g r fits agrees. returns-clause-text c ∙ listed_size g c.args.summary.now r c.args.via fits agrees
+returns-clause-listed c = λ g r h. returns-clause-text c ∙ listed_size g c.args.summary.now r c.args.via h
