@@ -15,8 +15,10 @@ use Rattle.path_query.specs.Labels.{IsPlainLabel, SpellsLabel}
 use Rattle.pathindex_run.specs.Texts.{reply, nodes_line, answers_text, bad_line, graph_line}
 use Rattle.script_read.specs.Commands.{Command, change, path, extents, sizes, IsSpelled, SpellsNothing, SpellsSomething}
 use Rattle.command_line.specs.Forms.{Settings, runs}
-use Rattle.pathindex_run.specs.Headline.{first_state as state_of, RunsScript, RunsLoaded, IsProper, HasStatus, Completes}
-use Rattle.pathindex_run.specs.Listed.{IsKept, ShowsExtents, unkept}
+use Rattle.graph_load.specs.Loads.{syntax, limit}
+use Rattle.px_base.specs.Files.{File}
+use Rattle.pathindex_run.specs.Headline.{first_state as state_of, RunsScript, RunsLoaded, Follows, IsProper, HasStatus, Completes}
+use Rattle.pathindex_run.specs.Indexes.{IsKept, ShowsExtents, unkept}
 use Rattle.pathindex_run.specs.Runs.{State, Progress, start, TakesLine, IsRun, Obeys, command, changes}
 
 plain_a : IsPlainLabel (codes "a")
@@ -159,3 +161,33 @@ one_refused = unkept One (λ h. h)
 -- no level is refused that is kept
 level_kept : (k : ℕ) (via : Via) (text : List ℕ) → ShowsExtents empty_graph k via text true → ¬ IsKept k via
 level_kept k _ _ (unkept via h) = h
+
+-- a graph file
+with_graph : Settings
+with_graph = record { script = codes "s"; graph = Some (codes "g"); k = 2 }
+
+-- where its first line is refused, the run doesn't end as if there were no such line, and says which line it was
+not_done : (files : List File) (old new : Option (List ℕ)) → ¬ Follows with_graph files (syntax 1) old new 0
+unfolding with_graph
+not_done files old new (inl e) = omega (arith, e.0)
+not_done files old new (inr (inl e)) = omega (arith, e.0)
+not_done files old new (inr (inr e)) = omega (arith, e.0)
+
+says_which : (files : List File) → Follows with_graph files (syntax 1) (Some []) (Some (graph_line 1 (codes "syntax"))) 3
+unfolding with_graph
+says_which files = inl (refl, refl)
+
+-- a line past a limit isn't said to be misspelled
+not_syntax : (files : List File) → ¬ Follows with_graph files (limit 1) (Some []) (Some (codes "graph 1 syntax\n")) 3
+unfolding with_graph
+not_syntax files (inl e) = (let same = limit_is ∙ sym e.1 in omega (arith, ap (λ l. slice_index l 8) same))
+  where
+    limit_is : codes "graph 1 limit\n" ≡ graph_line 1 (codes "limit")
+    limit_is = sym (ap (λ d. codes "graph " ++ (d ++ codes " limit\n")) (decimal_digit 1 (lit< tt)))
+not_syntax files (inr (inl e)) = omega (arith, e.0)
+not_syntax files (inr (inr e)) = omega (arith, e.0)
+
+-- no run without a graph file ends with the status of a refused one
+no_graph : (files : Option (List File)) (h h2 k k2 : ℕ) → ¬ HasStatus (runs plain) files h h2 k k2 3
+unfolding plain
+no_graph files h h2 k k2 s = (let named = s.graph refl in cc)

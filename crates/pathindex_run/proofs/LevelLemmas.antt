@@ -1,20 +1,20 @@
 -- The levels of the family, as they are listed.
-use Rattle.std.proofs.Common.{◌≡◌, ℕ, zero, suc, ◌+◌, ◌<◌, ◌≤◌, ◌++◌, Bool, List, Option, None, Some, length, refl, sym, ap, ◌∙◌, subst, arith, append_assoc, rules, Result, Ok, Err}
-use Rattle.std.specs.Prelude.{IsSome, IsTrue, IfOk, slice_get}
+use Rattle.std.proofs.Common.{◌≡◌, ℕ, suc, ◌+◌, ◌<◌, ◌≤◌, ◌++◌, Bool, List, Option, Some, length, refl, sym, ap, ◌∙◌, subst, append_assoc, rules, Result, Ok, Err}
+use Rattle.std.specs.Prelude.{IsTrue, IfOk}
 use Rattle.std.proofs.lemmas.Option.{slice_get_within}
 use Rattle.px_spec.specs.Graphs.{Graph}
 use Rattle.px_spec.specs.Shapes.{Shape, IsShape, shape_of}
 use Rattle.bisim_spec.specs.Bisimilarity.{Bis}
-use Rattle.bisim_spec.specs.Partitions.{block_at, Agrees}
+use Rattle.bisim_spec.specs.Partitions.{Agrees}
 use Rattle.bisim_spec.specs.Tests.{bis}
 use Rattle.bisim_spec.specs.Views.{ViewFits}
 use Rattle.bisim_spec.proofs.BisimilarTests.{bis_decides}
 use Rattle.quotient.specs.Quotients.{Quotient, view_of}
 use Rattle.ak_family.specs.Families.{KeyedQuotient, level_at, blocks_at}
 use Rattle.index_api.specs.declared.kinds.Via.TheVariants.{A}
-use Rattle.extent_report.specs.Listing.{DecidesEach, extents_text, block_total, joined_total, head_line, size_line}
-use Rattle.extent_report.specs.Summaries.{AreLabelled}
-use Rattle.pathindex_run.specs.Listed.{TellsLevel, ListsLevel, IsLevelLine, AreLevelLines}
+use Rattle.extent_report.specs.Listing.{DecidesEach, extents_text, block_total, joined_total, size_line}
+use Rattle.extent_report.specs.Summaries.{AreLabelled, IsSummaryOf}
+use Rattle.pathindex_run.specs.Indexes.{TellsLevel, ListsLevel, IsLevelLine, AreLevelLines}
 use Rattle.pathindex_run.specs.Going.{Extends}
 use Rattle.pathindex_run.specs.Families.{IsLevelOf, AreLevelsOf, AddsLevel}
 
@@ -30,8 +30,8 @@ module _ (g : Graph) (level : ℕ) (q : Quotient) (f : IsLevelOf g level q) wher
   pub tells : TellsLevel g level (bis (shape_of g) level)
   tells = bis_decides (shape_of g) f.shape level
 
-  pub agrees_with_test : Agrees (shape_of g) q.blocks.block_of (λ u v. IsTrue (bis (shape_of g) level u v))
-  agrees_with_test = tested (bis (shape_of g) level) tells f.agrees
+  pub by_test : IsSummaryOf g (bis (shape_of g) level) q
+  by_test = record { fits = f.fits; agrees = tested (bis (shape_of g) level) tells f.agrees }
 
   -- each block's label has a text
   pub labelled : AreLabelled g.seen q.blocks
@@ -42,13 +42,13 @@ module _ (g : Graph) (level : ℕ) (q : Quotient) (f : IsLevelOf g level q) wher
       subst (λ k. k < length g.seen) (sym same) (slice_get_within g.seen t.0 t.1 t.3)
 
   -- the list of the quotient
-  pub lists_level : (text : List ℕ) → ((r : ℕ → ℕ → Bool) → Agrees (shape_of g) q.blocks.block_of (λ u v. IsTrue (r u v)) → text ≡ extents_text (shape_of g) r) → ListsLevel g level text
-  lists_level text h = (bis (shape_of g) level, tells, h (bis (shape_of g) level) agrees_with_test)
+  pub lists_level : (text : List ℕ) → ((r : ℕ → ℕ → Bool) → IsSummaryOf g r q → text ≡ extents_text (shape_of g) r) → ListsLevel g level text
+  lists_level text h = (bis (shape_of g) level, tells, h (bis (shape_of g) level) by_test)
 
   -- the line of the quotient
-  pub is_level_line : (line : List ℕ) → ((r : ℕ → ℕ → Bool) → Agrees (shape_of g) q.blocks.block_of (λ u v. IsTrue (r u v)) → line ≡ size_line (A level) (block_total (shape_of g) r) (joined_total (shape_of g) r))
+  pub is_level_line : (line : List ℕ) → ((r : ℕ → ℕ → Bool) → IsSummaryOf g r q → line ≡ size_line (A level) (block_total (shape_of g) r) (joined_total (shape_of g) r))
       → IsLevelLine g level line
-  is_level_line line h = (bis (shape_of g) level, tells, h (bis (shape_of g) level) agrees_with_test)
+  is_level_line line h = (bis (shape_of g) level, tells, h (bis (shape_of g) level) by_test)
 
 -- one more line
 pub more_lines : (g : Graph) (n m : ℕ) (first out gathered : List ℕ) → m ≡ suc n → ((lines : List ℕ) × AreLevelLines g n lines × (out ≡ first ++ lines)) → AddsLevel g n out gathered
@@ -76,7 +76,7 @@ levels_of (Err x) g v k e s count fits agrees = tt
 
 -- the text of a quotient that fits the graph
 pub listed_text : {E : Type 0} (r : Result (List ℕ) E) (g : Graph) (level : ℕ) (q : Quotient) (texts : List (List ℕ)) → IsLevelOf g level q → g.seen ≡ texts
-    → IfOk r (λ t. (h : Graph) (p : ℕ → ℕ → Bool) → ViewFits h (view_of q) → h.seen ≡ texts → Agrees (shape_of h) q.blocks.block_of (λ u v. IsTrue (p u v)) → t ≡ extents_text (shape_of h) p)
+    → IfOk r (λ t. (h : Graph) (p : ℕ → ℕ → Bool) → IsSummaryOf h p q → h.seen ≡ texts → t ≡ extents_text (shape_of h) p)
     → IfOk r (λ t. ListsLevel g level t)
-listed_text (Ok t) g level q texts f e h = lists_level g level q f t (λ p a. h g p f.fits e a)
+listed_text (Ok t) g level q texts f e h = lists_level g level q f t (λ p a. h g p a e)
 listed_text (Err x) g level q texts f e h = tt

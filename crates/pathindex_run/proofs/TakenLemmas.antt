@@ -14,7 +14,7 @@ use Rattle.pathindex_run.specs.declared.interpreter.Outcome.TheVariants.{Done}
 use Rattle.pathindex_run.specs.Texts.{reply, answers_text}
 use Rattle.pathindex_run.specs.Kept.{Kept}
 use Rattle.pathindex_run.specs.Runs.{nothing, command, Obeys, changes, answers, lists, measures}
-use Rattle.pathindex_run.specs.Listed.{ShowsExtents, ShowsSizes}
+use Rattle.pathindex_run.specs.Indexes.{ShowsExtents, ShowsSizes}
 use Rattle.pathindex_run.specs.Going.{Changes, Obeyed, AsksData, Comes}
 
 or_same : (b : Bool) → b ≡ (b || false)

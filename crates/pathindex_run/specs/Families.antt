@@ -7,7 +7,7 @@ use Rattle.bisim_spec.specs.Partitions.{Agrees}
 use Rattle.bisim_spec.specs.Views.{ViewFits}
 use Rattle.quotient.specs.Quotients.{Quotient, view_of}
 use Rattle.ak_family.specs.Families.{KeyedQuotient, level_at}
-use Rattle.pathindex_run.specs.Listed.{IsLevelLine}
+use Rattle.pathindex_run.specs.Indexes.{IsLevelLine}
 
 -- the quotient is that of the graph by bisimilarity to the level
 pub record IsLevelOf (g : Graph) (level : ℕ) (q : Quotient) : Type 0 where

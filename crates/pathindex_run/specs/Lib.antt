@@ -1,5 +1,5 @@
 pub mod Texts
-pub mod Listed
+pub mod Indexes
 pub mod Runs
 pub mod Kept
 pub mod Going

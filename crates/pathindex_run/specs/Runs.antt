@@ -12,7 +12,7 @@ use Rattle.index_api.specs.declared.kinds.Via.TheVariants.{Data}
 use Rattle.path_query.specs.Trees.{Seq}
 use Rattle.path_query.specs.Answers.{AreAnswers}
 use Rattle.pathindex_run.specs.Texts.{reply, answers_text, bad_line}
-use Rattle.pathindex_run.specs.Listed.{ShowsExtents, ShowsSizes}
+use Rattle.pathindex_run.specs.Indexes.{ShowsExtents, ShowsSizes}
 use Rattle.script_read.specs.Commands.{Command, change, path, extents, sizes, IsQuiet, IsSpelled, SpellsNothing}
 
 -- what commands change or ask

@@ -4,7 +4,7 @@ ghost use Rattle.px_spec.specs.Graphs.{Graph as GraphSeen};
 ghost use Rattle.ak_family.specs.Families.{level_at};
 ghost use Rattle.pathindex_run.specs.Families.{AreLevelsOf, IsLevelOf, AddsLevel};
 ghost use Rattle.pathindex_run.specs.Going.{Extends};
-ghost use Rattle.pathindex_run.specs.Listed.{IsKept, ListsLevel, ShowsExtents, AreLevelLines, ShowsSizes};
+ghost use Rattle.pathindex_run.specs.Indexes.{IsKept, ListsLevel, ShowsExtents, AreLevelLines, ShowsSizes};
 
 use crate::output::push_line;
 use ak_family::AkFamily;

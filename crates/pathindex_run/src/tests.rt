@@ -176,7 +176,7 @@ const CHAINS: &str =
 const CHAINS_LISTED: &str =
     "added n0\nadded n1\nadded n2\nok\nok\nadded n3\nadded n4\nadded n5\nok\nok\nadded n6\nblocks 4\na n0 n3\nb n1 n4\nc n2 n5\nx n6\nok\nblocks 6\na n0\nb n1\nc n2 n5\na n3\nb n4\nx n6\nok\nblocks 4\na n0 n3\nb n1 n4\nc n2 n5\nx n6\n";
 
-// Sets of parents count and not their number; two loops are alike; so are two rings, at each level; children don't count.
+// Sets of parents count and not their number; two loops are alike; so are two rings, at each level; children don't count, nor do gone nodes.
 #[test]
 fn indexes_are_listed(rt: HostRuntime) -> Result<(), Fail> {
     let rows: [(&[&str], &str, &str, u8); 6] = [
@@ -201,8 +201,8 @@ fn indexes_are_listed(rt: HostRuntime) -> Result<(), Fail> {
         ),
         (
             &["s"],
-            "node a\nnode b\nlink n0 n1\nnode a\nextents a2\nsizes\n",
-            "added n0\nadded n1\nok\nadded n2\nblocks 2\na n0 n2\nb n1\nnodes 3 edges 1\na0 blocks 2 edges 1\na1 blocks 2 edges 1\na2 blocks 2 edges 1\n",
+            "node a\nnode b\nlink n0 n1\nnode a\nnode x\ndrop n3\nextents a2\nsizes\n",
+            "added n0\nadded n1\nok\nadded n2\nadded n3\nok\nblocks 2\na n0 n2\nb n1\nnodes 3 edges 1\na0 blocks 2 edges 1\na1 blocks 2 edges 1\na2 blocks 2 edges 1\n",
             0,
         ),
         (

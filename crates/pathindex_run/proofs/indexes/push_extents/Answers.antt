@@ -1,7 +1,7 @@
 use Rattle.std.proofs.Common.{◌≡◌, ◌++◌, sym, subst, false, rules}
 use Rattle.px_spec.specs.declared.refusal.Refusal.TheVariants.{NoIndex}
 use Rattle.pathindex_run.specs.Texts.{refused_line}
-use Rattle.pathindex_run.specs.Listed.{ShowsExtents, listed, unkept}
+use Rattle.pathindex_run.specs.Indexes.{ShowsExtents, listed, unkept}
 use Rattle.pathindex_run.proofs.indexes.push_extents.Goals as goal
 
 pub returns-in_ok-extend_from_slice-in-Some-clause-ok : goal.returns-in_ok-extend_from_slice-in-Some-clause-ok

@@ -8,4 +8,4 @@ returns-clause-ok c g f =
     let here = subst (λ q. IsLevelOf g c.args.level q) (sym c.level.ensures.quotient) f in
     let line = c.in_ok-line.line in
     let added : c.extend_from_slice.new.self.items ≡ c.args.out.now.items ++ line = search rules in
-    (line, is_level_line g c.args.level c.level.result.now here line (λ r a. c.in_ok-line.ensures.listed g r here.fits a), added)
+    (line, is_level_line g c.args.level c.level.result.now here line (λ r a. c.in_ok-line.ensures.listed g r a), added)

@@ -1,6 +1,6 @@
 use Rattle.std.proofs.Common.{◌≡◌, suc, subst, arith}
 use Rattle.std.proofs.lemmas.Result.{err_from_is_err_and}
-use Rattle.pathindex_run.specs.Listed.{AreLevelLines}
+use Rattle.pathindex_run.specs.Indexes.{AreLevelLines}
 use Rattle.pathindex_run.proofs.LevelLemmas.{more_lines, extends_on}
 use Rattle.pathindex_run.proofs.indexes.push_levels.Goals as goal
 

@@ -1,5 +1,5 @@
 use Rattle.std.proofs.Common.{◌≡◌, ◌++◌, ℕ, List}
-use Rattle.pathindex_run.specs.Listed.{AreLevelLines}
+use Rattle.pathindex_run.specs.Indexes.{AreLevelLines}
 use Rattle.pathindex_run.proofs.indexes.push_levels.Given as goal
 
 abbrev pub invariant-loop-level : goal.invariant-loop-level
