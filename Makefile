@@ -47,3 +47,4 @@ bench:
 	@command -v serdi >/dev/null || { echo "make bench: serdi isn't on the path, so triples_count has nothing to stand beside; apt-get install serdi brings it" >&2; exit 1; }
 	@test -x $(COUNTER)/out/triples_count || { echo 'make bench: triples_count is missing; make test builds it' >&2; exit 1; }
 	@python3 tools/bench_triples.py
+	@python3 tools/bench_load.py
