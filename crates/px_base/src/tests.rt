@@ -28,6 +28,22 @@ fn texts_are_made_and_compared(rt: HostRuntime) -> Result<(), Fail> {
 }
 
 #[test]
+fn refusals_have_words_and_limits_numbers(rt: HostRuntime) {
+    let words = [
+        Refusal::NoNode.word(),
+        Refusal::NoEdge.word(),
+        Refusal::InUse.word(),
+        Refusal::Limit.word(),
+        Refusal::NoIndex.word(),
+    ];
+    assert!(rt; words == ["no-node", "no-edge", "in-use", "limit", "no-index"]);
+    let limits = Limits::program();
+    let graph = (limits.nodes, limits.edges, limits.labels);
+    assert!(rt; graph == (2097152, 4194304, 1048576));
+    assert!(rt; (limits.expr_bytes, limits.expr_depth) == (4096, 64));
+}
+
+#[test]
 fn sets_of_numbers(rt: HostRuntime) -> Result<(), Fail> {
     let mut set = Bits::new(rt.alloc(), 6)?;
     set.insert(4);
