@@ -141,8 +141,8 @@ fn load_lines<H: Shelf>(alloc: Global, limits: &Limits, shelf: &mut H) -> Result
 /// a triple its subject, the triple, its object.
 ///
 /// The first line that is refused ends the load: `Limit` and `Syntax` have its number. `Missing` comes where
-/// there is no file of that name, and `Fault` where a call on the shelf failed. The time is linear in the
-/// bytes of the file.
+/// there is no file of that name, and `Fault` where a call on the shelf failed. The time is expected to be linear in
+/// the bytes of the file: terms and triples are found by hash.
 #[tactic(auto, using(crate::proofs::OneOutcome::one_outcome))]
 pub fn load<H: Shelf>(
     alloc: Global,

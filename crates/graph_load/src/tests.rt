@@ -14,6 +14,14 @@ const FEW_NODES: Limits = Limits {
     expr_depth: 0,
 };
 
+const FOUR_NODES: Limits = Limits {
+    nodes: 4,
+    edges: 9,
+    labels: 9,
+    expr_bytes: 0,
+    expr_depth: 0,
+};
+
 const FEW_EDGES: Limits = Limits {
     nodes: 9,
     edges: 1,
@@ -65,7 +73,7 @@ fn size_of(
 #[test]
 fn texts_load_to_graphs(rt: HostRuntime) -> Result<(), Fail> {
     let all = Limits::program();
-    let rows: [(&[u8], Limits, Result<(u32, u32), LoadError>); 9] = [
+    let rows: [(&[u8], Limits, Result<(u32, u32), LoadError>); 11] = [
         (b"# nothing\n\n", all, Ok((0, 0))),
         (b"<a> <p> <b> .\n", all, Ok((3, 2))),
         (b"<a> <p> <b> .\r<\\u0061><p><b>. # again", all, Ok((3, 2))),
@@ -77,6 +85,12 @@ fn texts_load_to_graphs(rt: HostRuntime) -> Result<(), Fail> {
             Err(LoadError::Syntax(3)),
         ),
         (b"\n<a> <p> <b> .\n", FEW_NODES, Err(LoadError::Limit(2))),
+        (
+            b"<a> <p> <b> .\n<c> <p> <d> .\n",
+            FOUR_NODES,
+            Err(LoadError::Limit(2)),
+        ),
+        (b"<a> <p> <b> .\n<a> <p> <b> .\n", FOUR_NODES, Ok((3, 2))),
         (b"<a> <p> <b> .\n", FEW_EDGES, Err(LoadError::Limit(1))),
         (b"<a> <p> <b> .\n", FEW_LABELS, Err(LoadError::Limit(1))),
     ];
