@@ -13,5 +13,6 @@ mod script;
 mod tests;
 mod top;
 
+pub use graph_load::{LoadError, load};
 pub use host::{HostShelf, HostSink};
 pub use top::run;

@@ -142,7 +142,15 @@ fn graph_files_are_loaded(rt: HostRuntime) -> Result<(), Fail> {
     let script: Option<&[u8]> = Some(b"path data iri\n");
     let two: Option<&[u8]> = Some(b"<http://e/a> <http://e/p> <http://e/b> .\r\n# a note\r");
     let cut: Option<&[u8]> = Some(b"\n<http://e/a> <http://e/p> \"x\"");
-    let rows: [(&[&str], Option<&[u8]>, Option<&[u8]>, &[u8], u8); 6] = [
+    let dotless: Option<&[u8]> = Some(b"<http://e/a> <http://e/p> \"x\"");
+    let rows: [(&[&str], Option<&[u8]>, Option<&[u8]>, &[u8], u8); 7] = [
+        (
+            &["s", "--graph", "g"],
+            None,
+            dotless,
+            b"graph 1 syntax\n",
+            3,
+        ),
         (
             &["s", "--graph", "g"],
             script,
@@ -170,52 +178,55 @@ fn graph_files_are_loaded(rt: HostRuntime) -> Result<(), Fail> {
 }
 
 /// Two chains of a, b and c, and a node above the second one: its lists before it is linked, then, and after.
-const CHAINS: &str =
-    "node a\nnode b\nnode c\nlink n0 n1\nlink n1 n2\nnode a\nnode b\nnode c\nlink n3 n4\nlink n4 n5\nnode x\nextents a2\nlink n6 n3\nextents a2\nunlink n6 n3\nextents a2\n";
+const CHAINS: &[u8] =
+    b"node a\nnode b\nnode c\nlink n0 n1\nlink n1 n2\nnode a\nnode b\nnode c\nlink n3 n4\nlink n4 n5\nnode x\nextents a2\nlink n6 n3\nextents a2\nunlink n6 n3\nextents a2\n";
 
-const CHAINS_LISTED: &str =
-    "added n0\nadded n1\nadded n2\nok\nok\nadded n3\nadded n4\nadded n5\nok\nok\nadded n6\nblocks 4\na n0 n3\nb n1 n4\nc n2 n5\nx n6\nok\nblocks 6\na n0\nb n1\nc n2 n5\na n3\nb n4\nx n6\nok\nblocks 4\na n0 n3\nb n1 n4\nc n2 n5\nx n6\n";
+const CHAINS_LISTED: &[u8] =
+    b"added n0\nadded n1\nadded n2\nok\nok\nadded n3\nadded n4\nadded n5\nok\nok\nadded n6\nblocks 4\na n0 n3\nb n1 n4\nc n2 n5\nx n6\nok\nblocks 6\na n0\nb n1\nc n2 n5\na n3\nb n4\nx n6\nok\nblocks 4\na n0 n3\nb n1 n4\nc n2 n5\nx n6\n";
 
 // Sets of parents count and not their number; two loops are alike; so are two rings, at each level; children don't count, nor do gone nodes.
 #[test]
 fn indexes_are_listed(rt: HostRuntime) -> Result<(), Fail> {
-    let rows: [(&[&str], &str, &str, u8); 6] = [
-        (&["s"], CHAINS, CHAINS_LISTED, 0),
+    let rows: [(&[&str], Option<&[u8]>, &[u8], u8); 6] = [
+        (&["s"], Some(CHAINS), CHAINS_LISTED, 0),
         (
             &["s"],
-            "node a\nnode a\nnode b\nnode b\nlink n0 n2\nlink n1 n2\nlink n0 n3\nextents a1\n",
-            "added n0\nadded n1\nadded n2\nadded n3\nok\nok\nok\nblocks 2\na n0 n1\nb n2 n3\n",
+            Some(
+                b"node a\nnode a\nnode b\nnode b\nlink n0 n2\nlink n1 n2\nlink n0 n3\nextents a1\n",
+            ),
+            b"added n0\nadded n1\nadded n2\nadded n3\nok\nok\nok\nblocks 2\na n0 n1\nb n2 n3\n",
             0,
         ),
         (
             &["s", "--k", "3"],
-            "node a\nnode a\nlink n0 n0\nlink n1 n1\nextents a3\n",
-            "added n0\nadded n1\nok\nok\nblocks 1\na n0 n1\n",
+            Some(b"node a\nnode a\nlink n0 n0\nlink n1 n1\nextents a3\n"),
+            b"added n0\nadded n1\nok\nok\nblocks 1\na n0 n1\n",
             0,
         ),
         (
             &["s", "--k", "8"],
-            "node a\nnode b\nnode a\nnode b\nlink n0 n1\nlink n1 n0\nlink n2 n3\nlink n3 n2\nextents a8\n",
-            "added n0\nadded n1\nadded n2\nadded n3\nok\nok\nok\nok\nblocks 2\na n0 n2\nb n1 n3\n",
+            Some(
+                b"node a\nnode b\nnode a\nnode b\nlink n0 n1\nlink n1 n0\nlink n2 n3\nlink n3 n2\nextents a8\n",
+            ),
+            b"added n0\nadded n1\nadded n2\nadded n3\nok\nok\nok\nok\nblocks 2\na n0 n2\nb n1 n3\n",
             0,
         ),
         (
             &["s"],
-            "node a\nnode b\nlink n0 n1\nnode a\nnode x\ndrop n3\nextents a2\nsizes\n",
-            "added n0\nadded n1\nok\nadded n2\nadded n3\nok\nblocks 2\na n0 n2\nb n1\nnodes 3 edges 1\na0 blocks 2 edges 1\na1 blocks 2 edges 1\na2 blocks 2 edges 1\n",
+            Some(b"node a\nnode b\nlink n0 n1\nnode a\nnode x\ndrop n3\nextents a2\nsizes\n"),
+            b"added n0\nadded n1\nok\nadded n2\nadded n3\nok\nblocks 2\na n0 n2\nb n1\nnodes 3 edges 1\na0 blocks 2 edges 1\na1 blocks 2 edges 1\na2 blocks 2 edges 1\n",
             0,
         ),
         (
             &["s", "--k", "0"],
-            "extents a1\nextents one\nextents fb\nextents a0\nsizes\n",
-            "refused no-index\nrefused no-index\nrefused no-index\nblocks 0\nnodes 0 edges 0\na0 blocks 0 edges 0\n",
+            Some(b"extents a1\nextents one\nextents fb\nextents a0\nsizes\n"),
+            b"refused no-index\nrefused no-index\nrefused no-index\nblocks 0\nnodes 0 edges 0\na0 blocks 0 edges 0\n",
             1,
         ),
     ];
     for (words, script, output, status) in rows {
-        let script: Option<&[u8]> = Some(script.as_bytes());
         let (ended, written) = run_script(rt.alloc(), words, script, &[], &[])?;
-        assert_eq!(rt; (ended, written.as_slice()), (status, output.as_bytes()));
+        assert_eq!(rt; (ended, written.as_slice()), (status, output));
     }
     Ok(())
 }
@@ -231,6 +242,36 @@ fn a_graph_file_is_listed(rt: HostRuntime) -> Result<(), Fail> {
     let (status, written) = run_files(rt.alloc(), &words, script, graph, (&[], &[]))?;
     let output =
         "blocks 2\niri n0\n<http://e/p> n1\nnodes 2 edges 2\na0 blocks 2 edges 2\na1 blocks 2 edges 2\na2 blocks 2 edges 2\nanswers 1\nn0\n";
+    assert_eq!(rt; (status, written.as_slice()), (0, output.as_bytes()));
+    Ok(())
+}
+
+/// People who know one another, and what is asked of them.
+const PEOPLE: &str =
+    r#"<http://example.org/ana> <http://www.w3.org/1999/02/22-rdf-syntax-ns#type> <http://xmlns.com/foaf/0.1/Person> .
+<http://example.org/ana> <http://xmlns.com/foaf/0.1/name> "Ana"@en .
+<http://example.org/ana> <http://xmlns.com/foaf/0.1/knows> <http://example.org/bo> .
+<http://example.org/bo> <http://www.w3.org/1999/02/22-rdf-syntax-ns#type> <http://xmlns.com/foaf/0.1/Person> .
+<http://example.org/bo> <http://xmlns.com/foaf/0.1/name> "Bo" .
+<http://example.org/bo> <http://xmlns.com/foaf/0.1/knows> <http://example.org/ana> .
+<http://example.org/bo> <http://xmlns.com/foaf/0.1/knows> <http://example.org/cy> .
+<http://example.org/cy> <http://www.w3.org/1999/02/22-rdf-syntax-ns#type> <http://xmlns.com/foaf/0.1/Person> .
+<http://example.org/cy> <http://xmlns.com/foaf/0.1/name> "Cy"@EN-gb .
+<http://example.org/cy> <http://xmlns.com/foaf/0.1/age> "31"^^<http://www.w3.org/2001/XMLSchema#integer> .
+<http://example.org/cy> <http://xmlns.com/foaf/0.1/knows> _:b0 .
+_:b0 <http://xmlns.com/foaf/0.1/name> "Di" .
+"#;
+
+#[test]
+fn people_are_asked(rt: HostRuntime) -> Result<(), Fail> {
+    let graph: Option<&[u8]> = Some(PEOPLE.as_bytes());
+    let script: Option<&[u8]> = Some(
+        b"path data <http://xmlns.com/foaf/0.1/knows>/iri/<http://xmlns.com/foaf/0.1/name>/literal\nsizes\n",
+    );
+    let words = ["s", "--graph", "g"];
+    let (status, written) = run_files(rt.alloc(), &words, script, graph, (&[], &[]))?;
+    let output =
+        "answers 3\nn4 n9 n15\nnodes 22 edges 24\na0 blocks 7 edges 10\na1 blocks 10 edges 11\na2 blocks 11 edges 11\n";
     assert_eq!(rt; (status, written.as_slice()), (0, output.as_bytes()));
     Ok(())
 }
