@@ -1,26 +1,19 @@
 // IRIs in angle brackets.
-ghost use Rattle.std.specs.Prelude.{◌≡◌, ◌==◌, ◌++◌, ◌∷◌, [], List, ℕ, IfOk, IfSome, IsSomeAnd, encode_utf8_all};
-ghost use Rattle.std.specs.List.{position};
+ghost use Rattle.std.specs.Prelude.{◌≡◌, ◌++◌, ◌∷◌, [], List, ℕ, IfOk, IfSome, IsSomeAnd, encode_utf8_all};
 ghost use Rattle.triples_read.specs.Fronts.{Front, IsText, Lacks};
 ghost use Rattle.triples_read.specs.Lines.{IsIri, IsIriFront};
 
 use crate::quoted::{Quote, read_quoted};
+use bstr::ByteSlice;
 use px_base::{Memory, Text};
 use std::alloc::Global;
-
-// Where the first `>` stands.
-fn end_at(b: &[u8]) -> Option<usize>
-    ensures { result ≡ position (λ c. c == 62) b.now }
-{
-    b.iter().position(|c| *c == b'>')
-}
 
 // The bytes up to the first `>`, with which an IRIREF ends.
 fn up_to_end(b: &[u8]) -> Option<&[u8]>
     ensures front { IfSome result (λ front. (rest : List ℕ) × (b.now ≡ front.now ++ rest)) }
     ensures whole { (xs ys : List ℕ) → b.now ≡ xs ++ 62 ∷ ys → Lacks 62 xs → IsSomeAnd result (λ front. front.now ≡ xs ++ 62 ∷ []) }
 {
-    let Some(end) = end_at(b) else {
+    let Some(end) = b.find_byte(b'>') else {
         return None;
     };
     let (front, _) = b.split_at(end + 1);
@@ -39,7 +32,7 @@ pub fn read_iri_front(alloc: Global, b: &[u8]) -> Result<Option<(Text, usize)>, 
     let Some(front) = up_to_end(b) else {
         return Ok(None);
     };
-    let Ok(text) = str::from_utf8(front) else {
+    let Ok(text) = front.to_str() else {
         return Ok(None);
     };
     let Some((iri, rest)) = read_quoted(Quote::Angle, alloc, text)? else {

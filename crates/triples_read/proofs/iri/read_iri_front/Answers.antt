@@ -12,10 +12,10 @@ returns-in_default-clause-only c n iri front =
     let (xs, ys, v, parts, none, len, is, utf8, quoted) = front-cut c.args.b.now n iri front in
     c.in_default.ensures.whole xs ys parts none
 
-pub returns-in_default-from_utf8-clause-only : goal.returns-in_default-from_utf8-clause-only
-returns-in_default-from_utf8-clause-only c n iri front =
+pub returns-in_default-to_str-clause-only : goal.returns-in_default-to_str-clause-only
+returns-in_default-to_str-clause-only c n iri front =
     let (xs, ys, v, parts, none, len, is, utf8, quoted) = front-cut c.args.b.now n iri front in
-    c.in_default-from_utf8.ensures.cases.0 (subst IsUtf8 (sym (c.in-Some.ensures.whole xs ys parts none)) utf8)
+    c.in_default-to_str.ensures.cases.0 (subst IsUtf8 (sym (c.in-Some.ensures.whole xs ys parts none)) utf8)
 
 pub returns-in_default-2-clause-only : goal.returns-in_default-2-clause-only
 returns-in_default-2-clause-only c n iri front =

@@ -1,22 +1,16 @@
-use Rattle.std.proofs.Common.{◌∙◌, ◌+◌, sym, ap, take, drop, length, arith, ◌∷◌, ◌++◌, length-append}
-use Rattle.std.specs.Prelude.{nat_eq}
-use Rattle.std.proofs.lemmas.Bool.{ltb-true}
+use Rattle.std.proofs.Common.{◌≡◌, ◌∙◌, ◌+◌, List, ℕ, sym, ap, subst, take, drop, length, arith, ◌∷◌, ◌++◌, length-append}
 use Rattle.std.proofs.lemmas.List.{take-append-drop}
-use Rattle.triples_read.proofs.Basics.{if_some}
-use Rattle.triples_read.proofs.Pieces.{position-none}
-use Rattle.triples_read.proofs.IriFronts.{end-found, cut-there}
+use Rattle.bstr.specs.Find.{Nowhere, Passes, is_byte}
+use Rattle.triples_read.proofs.IriFronts.{end-first, end-passes, cut-there}
 use Rattle.triples_read.proofs.iri.up_to_end.Goals as goal
 
 pub returns-in_default-clause-whole : goal.returns-in_default-clause-whole
 returns-in_default-clause-whole c xs ys is none =
-    let all = position-none (λ b. nat_eq b 62) c.args.b.now c.in_default.ensures in
-    let here = end-found c.args.b.now xs ys is none in
-    omega (arith, all, here, ap length is ∙ length-append xs (62 ∷ ys))
+    let here = subst (λ (z : List ℕ). Passes (is_byte 62) z (length xs)) (sym is) (end-passes xs ys) in
+    c.in_default.ensures (length xs) (omega arith) (omega (arith, ap length is ∙ length-append xs (62 ∷ ys))) here
 
 pub split_at-requires : goal.split_at-requires
-split_at-requires c =
-    let found = if_some _ _ _ c.in-Some.ensures in
-    omega (arith, ltb-true _ _ found.0, found.1)
+split_at-requires c = omega (arith, c.in-Some.ensures.0.high)
 
 pub returns-clause-front : goal.returns-clause-front
 returns-clause-front c =
@@ -24,6 +18,7 @@ returns-clause-front c =
 
 pub returns-clause-whole : goal.returns-clause-whole
 returns-clause-whole c xs ys is none =
-    let found = if_some _ _ _ c.in-Some.ensures in
-    let here = found.1 ∙ end-found c.args.b.now xs ys is none in
-    c.split_at.ensures.front ∙ ap (λ n. take (n + 1) c.args.b.now) here ∙ cut-there c.args.b.now xs ys is
+    let end : c.in-Some.end ≡ length xs =
+    end-first xs ys _ none (subst (λ (z : List ℕ). Nowhere (Passes (is_byte 62) z) 0 c.in-Some.end) is c.in-Some.ensures.0.before)
+    (subst (λ (z : List ℕ). Passes (is_byte 62) z c.in-Some.end) is c.in-Some.ensures.1) in
+    c.split_at.ensures.front ∙ ap (λ n. take (n + 1) c.args.b.now) end ∙ cut-there c.args.b.now xs ys is
