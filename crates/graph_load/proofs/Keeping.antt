@@ -1,21 +1,22 @@
 -- What steps of a loader keep.
-use Rattle.std.proofs.Common.{◌≡◌, ℕ, ◌+◌, ◌≤◌, Bool, true, false, List, [], ◌∷◌, ◌++◌, length, Some, None, Ok, refl, sym, ap, ◌∙◌, subst, arith, append-nil}
-use Rattle.std.specs.Prelude.{is_some, if◌then◌else◌, position, bytes_eq}
+use Rattle.std.proofs.Common.{◌≡◌, ℕ, ◌+◌, ◌≤◌, Bool, true, false, List, [], ◌∷◌, ◌++◌, length, Some, None, Result, Ok, Err, refl, sym, ap, ◌∙◌, subst, arith, append-nil}
+use Rattle.std.specs.Prelude.{is_some, OnOk, if◌then◌else◌, position, bytes_eq}
 use Rattle.std.specs.List.{list_any, AllByRecursion}
 use Rattle.std.specs.Map.{keys_of}
 use Rattle.std.proofs.lemmas.List.{length-map, length_push}
 use Rattle.px_spec.specs.declared.limits.Limits.{Limits}
-use Rattle.px_spec.specs.Changes.{node, apply}
+use Rattle.px_spec.specs.Changes.{node, link, apply}
 use Rattle.label_graph.specs.Held.{Held, no_room}
 use Rattle.triples_read.specs.declared.term.Term.{Term}
 use Rattle.graph_load.specs.declared.known.Key.{Key}
 use Rattle.graph_load.specs.declared.loader.Loader.{Loader}
 use Rattle.graph_load.specs.Loading.{number_of, same_term, need, changed, with_graph, term_label, predicate_label}
 use Rattle.graph_load.specs.Places.{place_of, with_predicate}
-use Rattle.graph_load.specs.Holding.{loading, IsWithin, IsSound, Begins, Steps}
+use Rattle.graph_load.specs.Holding.{loading, IsWithin, AreLive, IsSound, Begins, Steps}
 use Rattle.graph_load.proofs.Standing.{position_push, lookup_push, keys_push, is_some-lookup}
 use Rattle.graph_load.proofs.SameTerms.{term_same}
-use Rattle.graph_load.proofs.Changing.{node_made, need_new}
+use Rattle.graph_load.proofs.Changing.{node_made, link_made, need_new}
+use Rattle.graph_load.proofs.Living.{live_more, live_new, live_linked}
 
 pub more_within : (m n p q : ℕ) → m ≤ p → n ≤ q → (ks : List Key) → AllByRecursion (IsWithin m n) ks → AllByRecursion (IsWithin p q) ks
 more_within m n p q mp nq [] h = tt
@@ -42,6 +43,7 @@ term_steps limits x old h n terms sound none made room number added =
         terms = omega (arith, given, longer, few);
         predicates = omega (arith, given, fewer);
         known = more_within (length old.terms) (length old.predicates) (length terms) (length old.predicates) (omega (arith, longer)) (omega arith) old.known sound.known;
+        live = subst (AreLive h.graph) (sym exact) (live_new (term_label x) old.graph.graph limits h.graph made old.terms x sound.live);
       };
       grows = record { terms = ((x, n) ∷ [], added); predicates = ([], sym (append-nil old.predicates)); known = refl };
     }
@@ -82,6 +84,31 @@ node_steps limits iri old h predicates sound made room added =
         terms = omega (arith, given, few);
         predicates = omega (arith, given, next, fewer);
         known = more_within (length old.terms) (length old.predicates) (length old.terms) (length predicates) (omega arith) more old.known sound.known;
+        live = live_more (predicate_label iri) old.graph.graph limits h.graph made old.terms sound.live;
       };
       grows = record { terms = ([], sym (append-nil old.terms)); predicates = is.begins; known = refl };
     }
+
+-- an edge is added
+pub link_steps : (limits : Limits) (u v : ℕ) (old : Loader) (h : Held) → IsSound old → apply (link u v) old.graph.graph limits ≡ Ok h.graph → h.room ≡ no_room
+    → Steps (changed limits (link u v)) old (record old { graph = h })
+link_steps limits u v old h sound made room =
+    let same = link_made u v old.graph.graph limits h.graph made in
+    let few = sound.terms in
+    let fewer = sound.predicates in
+    record {
+      does = λ triples. ap (with_graph (loading old triples)) made;
+      sound = record {
+        room = room;
+        terms = omega (arith, few, ap length same);
+        predicates = omega (arith, fewer, ap length same);
+        known = sound.known;
+        live = live_linked old.graph.graph h.graph same old.terms sound.live;
+      };
+      grows = record { terms = ([], sym (append-nil old.terms)); predicates = ([], sym (append-nil old.predicates)); known = refl };
+    }
+
+-- what follows from two facts that hold where there is a value
+pub on_ok_both : {T E P Q R : Type 0} (r : Result T E) → (P → Q → R) → OnOk r P → OnOk r Q → OnOk r R
+on_ok_both (Ok x) f p q = f p q
+on_ok_both (Err e) f p q = tt

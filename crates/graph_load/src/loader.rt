@@ -1,6 +1,7 @@
 // What is loaded so far.
-ghost use Rattle.std.specs.Prelude.{◌≡◌, ℕ, List, [], length, position, bytes_eq, Some, None, Ok, OnOk, IfOk, IfSome, IsErrOf, false};
+ghost use Rattle.std.specs.Prelude.{◌≡◌, ℕ, List, [], length, position, bytes_eq, Some, None, Ok, OnOk, IfOk, IfSome, IsErrOf, true, false};
 ghost use Rattle.px_spec.specs.Changes.{node, link};
+ghost use Rattle.px_spec.specs.Graphs.{is_live};
 ghost use Rattle.graph_load.specs.Loading.{number_of, need, changed, joined, with_triple, nothing_loaded, predicate_label};
 ghost use Rattle.graph_load.specs.Places.{place_of};
 ghost use Rattle.graph_load.specs.Finding.{IsFound, IsFoundAs};
@@ -64,17 +65,30 @@ impl Loader {
     fn find(&self, triple: &Triple) -> Places
         ensures { ArePlaces self.now triple.now result }
     {
+        let predicate = self.predicates.find(&triple.predicate);
         let (subject, object) = self.terms.find_both(&triple.subject, &triple.object);
         Places {
             subject,
-            predicate: self.predicates.find(&triple.predicate),
+            predicate,
             object,
         }
     }
 
+    // Whether the nodes of both terms are there, as they always are. They are read here, before the triple is looked up
+    // and its edges are added, so that the processor waits for the memory of all of them at once.
+    fn are_live(&self, subject: &Found, object: &Found) -> bool
+        requires subject { is_live self.now.graph.graph subject.now.number ≡ true }
+        requires object { is_live self.now.graph.graph object.now.number ≡ true }
+        ensures { result ≡ true }
+    {
+        self.graph.is_live(subject.number) && self.graph.is_live(object.number)
+    }
+
     // Whether the triple whose parts stand there is loaded.
-    fn is_known(&self, places: &Places) -> bool
-        ensures { (t : TripleSeen) → ArePlaces self.now t places.now → result ≡ is_known self.now t }
+    fn is_known(&self, triple: &Triple, places: &Places) -> bool
+        requires sound { IsSound self.now }
+        requires places { ArePlaces self.now triple.now places.now }
+        ensures { result ≡ is_known self.now triple.now }
     {
         let Some(subject) = places.subject else {
             return false;
@@ -85,11 +99,12 @@ impl Loader {
         let Some(object) = places.object else {
             return false;
         };
-        self.known.contains(Key {
-            subject: subject.place,
-            predicate,
-            object: object.place,
-        })
+        self.are_live(&subject, &object)
+            && self.known.contains(Key {
+                subject: subject.place,
+                predicate,
+                object: object.place,
+            })
     }
 
     // Makes a node of a term that is none.
@@ -241,7 +256,7 @@ impl Loader {
         ensures limit { IsErrOf result Stop.Limit → IsUntaken limits.now triple.now self.old }
     {
         let places = self.find(triple);
-        if self.is_known(&places) {
+        if self.is_known(triple, &places) {
             return Ok(());
         }
         self.add_new(alloc, limits, triple, &places)

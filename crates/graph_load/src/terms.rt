@@ -83,10 +83,9 @@ impl Terms {
     {
         let first = begin(&self.heads, one);
         let second = begin(&self.heads, other);
-        (
-            follow(&self.arena, &self.entries, &self.heads, &first),
-            follow(&self.arena, &self.entries, &self.heads, &second),
-        )
+        let other_found = follow(&self.arena, &self.entries, &self.heads, &second);
+        let found = follow(&self.arena, &self.entries, &self.heads, &first);
+        (found, other_found)
     }
 
     /// Puts in a term that isn't there, and gives its place.

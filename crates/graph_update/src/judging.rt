@@ -1,5 +1,5 @@
 // Whether a change is accepted.
-ghost use Rattle.std.specs.Prelude.{◌≡◌, ◌≢◌, ◌<◌, Ok, Err};
+ghost use Rattle.std.specs.Prelude.{◌≡◌, ◌≢◌, ◌<◌, ◌||◌, Ok, Err, length, nat_lt};
 ghost use Rattle.px_spec.specs.Graphs.{is_seen, has_edge};
 ghost use Rattle.px_spec.specs.Changes.{node, link, unlink, drop, node_fits};
 ghost use Rattle.graph_update.specs.NewChanges.{IsNew, AreHighest};
@@ -90,12 +90,19 @@ fn is_seen(labels: &Labels, label: &Text) -> bool
     labels.find(label).is_some()
 }
 
+/// Whether the text is a label already, or one more label is within the limits. It is looked up only where the
+/// labels have reached theirs.
+fn label_fits(labels: &Labels, limits: &Limits, label: &Text) -> bool
+    ensures { result ≡ (is_seen labels.now.texts label.now || nat_lt (length labels.now.texts) limits.now.labels) }
+{
+    labels.len() < limits.labels || is_seen(labels, label)
+}
+
 /// Whether one more node with that label is within the limits.
 fn node_fits(graph: &Graph, limits: &Limits, label: &Text) -> bool
     ensures { result ≡ node_fits graph.now.graph limits.now label.now }
 {
-    graph.created() < limits.nodes
-        && (is_seen(graph.labels(), label) || graph.labels().len() < limits.labels)
+    graph.created() < limits.nodes && label_fits(graph.labels(), limits, label)
 }
 
 fn counted_edge<L: Ledger>(graph: &Graph, from: NodeId, to: NodeId, blank: Blank) -> bool

@@ -92,7 +92,9 @@ impl Labels {
     pub(crate) fn clear(&mut self)
         ensures { self.new ≡ record self.old { ahead = None } }
     {
-        self.table.truncate(self.shown);
+        if self.table.len() > self.shown {
+            self.table.truncate(self.shown);
+        }
     }
 
     /// Makes a label of the text that is ahead.

@@ -12,12 +12,13 @@ use std::alloc::Global;
 const PIECE: usize = 256;
 
 /// One node: the number of its label in the table, or none where the node is gone, and its
-/// neighbours, each once.
+/// neighbours, each once. The children stand next to the label, since an edge is mostly added and read from where
+/// it begins.
 #[derive(Drop)]
 pub(crate) struct Node {
     pub(crate) label: Option<u32>,
-    pub(crate) parents: SmallVec<u32, 4>,
     pub(crate) children: SmallVec<u32, 4>,
+    pub(crate) parents: SmallVec<u32, 4>,
 }
 
 /// What a graph has room for: a node, by the number of its label in the table, or an edge.
@@ -106,8 +107,8 @@ pub(crate) fn push_node(nodes: &mut Vec<Node>, label: u32)
     let alloc: Global = *nodes.allocator();
     nodes.push_reserved(Node {
         label: Some(label),
-        parents: SmallVec::new(alloc),
         children: SmallVec::new(alloc),
+        parents: SmallVec::new(alloc),
     });
 }
 

@@ -1,10 +1,10 @@
 -- An IRIREF in front of any bytes ends at their first `>`.
 use Rattle.std.proofs.Common.{◌≡◌, ◌≢◌, ◌<◌, ◌+◌, ℕ, zero, suc, List, [], ◌∷◌, ◌++◌, length, take, true, refl, sym, ◌∙◌, ap, subst, arith, inl, inr, append_assoc, length-append, get_or}
-use Rattle.std.specs.Prelude.{IsUtf8}
-use Rattle.std.specs.List.{AllByRecursion}
+use Rattle.std.specs.Prelude.{nat_eq, IsUtf8}
+use Rattle.std.specs.List.{AllByRecursion, position_or_len}
 use Rattle.std.proofs.Math.Utf8.{scalars, encode, encodes}
 use Rattle.std.proofs.lemmas.Str.{inside_one, encodes-append}
-use Rattle.std.proofs.lemmas.Bool.{eqb-true}
+use Rattle.std.proofs.lemmas.Bool.{eqb-true, ne_eqb}
 use Rattle.bstr.specs.Find.{Nowhere, Passes, is_byte}
 use Rattle.std.proofs.lemmas.List.{append-nil}
 use Rattle.triples_read.specs.Characters.{is_hex, is_iri_char}
@@ -80,6 +80,13 @@ end-first (x ∷ xs) ys (suc k) none before here =
 pub end-passes : (xs ys : List ℕ) → Passes (is_byte 62) (xs ++ 62 ∷ ys) (length xs)
 end-passes [] ys = refl
 end-passes (x ∷ xs) ys = end-passes xs ys
+
+ends-at : (xs ys : List ℕ) → Lacks 62 xs → position_or_len (λ c. nat_eq c 62) (xs ++ 62 ∷ ys) ≡ length xs
+ends-at [] ys none = refl
+ends-at (x ∷ xs) ys none = rw (ne_eqb x 62 none.0, ends-at xs ys none.1) (omega arith)
+
+pub end-found : (b xs ys : List ℕ) → b ≡ xs ++ 62 ∷ ys → Lacks 62 xs → position_or_len (λ c. nat_eq c 62) b ≡ length xs
+end-found b xs ys is none = ap (position_or_len (λ c. nat_eq c 62)) is ∙ ends-at xs ys none
 
 pub cut-there : (b xs ys : List ℕ) → b ≡ xs ++ 62 ∷ ys → take (length xs + 1) b ≡ xs ++ 62 ∷ []
 cut-there b xs ys is =
