@@ -3,3 +3,4 @@ pub mod Written
 pub mod Numbering
 pub mod Views
 pub mod LevelLaws
+pub mod Recalled

@@ -18,12 +18,12 @@ pub record NumberedBelow (own : ℕ → Option ℕ) (base : List (Option ℕ)) (
       → (k : ℕ) × (key : List ℕ) × (block_at next m ≡ Some k) × (slice_get keys k ≡ Some key) × IsKey own base near m key
   pub inhabited : (k : ℕ) → k < length keys → (m : ℕ) × (block_at next m ≡ Some k)
 
-get_append : (xs ys : List (List ℕ)) (k : ℕ) (x : List ℕ) → slice_get xs k ≡ Some x → slice_get (xs ++ ys) k ≡ Some x
+pub get_append : (xs ys : List (List ℕ)) (k : ℕ) (x : List ℕ) → slice_get xs k ≡ Some x → slice_get (xs ++ ys) k ≡ Some x
 get_append [] ys k x e = absurd (cc)
 get_append (z ∷ xs) ys zero x e = e
 get_append (z ∷ xs) ys (suc k) x e = get_append xs ys k x e
 
-get_last : (xs : List (List ℕ)) (x : List ℕ) → slice_get (xs ++ x ∷ []) (length xs) ≡ Some x
+pub get_last : (xs : List (List ℕ)) (x : List ℕ) → slice_get (xs ++ x ∷ []) (length xs) ≡ Some x
 get_last [] x = refl
 get_last (z ∷ xs) x = get_last xs x
 

@@ -1,5 +1,5 @@
 // Writing the key of a node.
-ghost use Rattle.std.specs.Prelude.{◌≡◌, ◌++◌, ◌∷◌, [], filter_map, nat_eq, option_to_list, OnOk};
+ghost use Rattle.std.specs.Prelude.{◌≡◌, ◌++◌, ◌∷◌, [], ℕ, filter_map, nat_eq, option_to_list, OnOk, IfSome, Some};
 ghost use Rattle.std.specs.List.Retain.{IsFiltered, DiffersFromLast};
 ghost use Rattle.bisim_spec.specs.Partitions.{block_at};
 ghost use Rattle.bisim_levels.specs.Keys.{IsSetOf, IsWritten};
@@ -13,6 +13,18 @@ pub(crate) fn block_of(block: &[Option<u32>], n: NodeId) -> Option<u32>
 {
     if (n as usize) < block.len() {
         block[n as usize]
+    } else {
+        None
+    }
+}
+
+/// The block of the only node of a list, and `None` where there are more nodes, or none.
+#[inline(always)]
+pub(crate) fn only_block(block: &[Option<u32>], nodes: &[NodeId]) -> Option<u32>
+    ensures { IfSome result (λ b. (p : ℕ) × (nodes.now ≡ p ∷ []) × (block_at block.now p ≡ Some b)) }
+{
+    if nodes.len() == 1 {
+        block_of(block, nodes[0])
     } else {
         None
     }

@@ -7,7 +7,9 @@ ghost use Rattle.bisim_spec.specs.Partitions.{block_at, IsPartition, Agrees};
 ghost use Rattle.bisim_levels.specs.declared.sides.Side.TheVariants.{Parents};
 ghost use Rattle.bisim_levels.specs.Sides.{view_shape, is_near, no_neighbours};
 ghost use Rattle.bisim_levels.specs.Refining.{AreNumbered, Numbers};
+ghost use Rattle.bisim_levels.specs.Recent.{own_number, AreRecent};
 
+use crate::recent::{Recent, intern_recent, none_recent};
 use crate::refining::{Level, refine};
 use crate::sides::Side;
 use key_table::KeyTable;
@@ -16,13 +18,21 @@ use px_base::{Memory, NodeId};
 use std::alloc::Global;
 
 // The number of the key of a node's label alone, and `None` where the number is no node.
-fn number_label(keys: &mut KeyTable, view: &GraphView<'_>, n: NodeId) -> Result<Option<u32>, Memory>
+fn number_label(
+    keys: &mut KeyTable,
+    recent: &mut Vec<Recent>,
+    view: &GraphView<'_>,
+    n: NodeId,
+) -> Result<Option<u32>, Memory>
     requires distinct { AreDistinct keys.old }
+    requires recent { AreRecent own_number keys.old recent.old.items }
     ensures ok { IfOk result (λ number. Numbers (label_number view.now) [] no_neighbours n keys.old keys.new number) }
+    ensures recent { IfOk result (λ number. AreRecent own_number keys.new recent.new.items) }
     ensures distinct { IfOk result (λ number. AreDistinct keys.new) }
 {
     if view.is_node(n) {
-        let k = keys.intern(&[view.label(n)])?;
+        let label = view.label(n);
+        let k = intern_recent(keys, recent, 0, label, &[label])?;
         Ok(Some(k))
     } else {
         Ok(None)
@@ -36,9 +46,10 @@ pub fn label_level(alloc: Global, view: &GraphView<'_>) -> Result<Level, Memory>
     ensures distinct { IfOk result (λ l. AreDistinct l.keys) }
 {
     let mut keys = KeyTable::new(alloc)?;
+    let mut recent = none_recent(alloc)?;
     let mut block = Vec::with_capacity(alloc, view.size() as usize)?;
     for n in 0..view.size() {
-        let number = number_label(&mut keys, view, n)?;
+        let number = number_label(&mut keys, &mut recent, view, n)?;
         block.push(number)?;
     }
     Ok(Level { block, keys })

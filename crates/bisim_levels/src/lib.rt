@@ -3,6 +3,7 @@
 
 mod keys;
 mod levels;
+mod recent;
 mod refining;
 mod sides;
 #[cfg(test)]

@@ -6,8 +6,10 @@ ghost use Rattle.bisim_spec.specs.Partitions.{block_at, IsPartition};
 ghost use Rattle.bisim_levels.specs.Sides.{view_shape, is_near};
 ghost use Rattle.bisim_levels.specs.Keys.{IsWritten};
 ghost use Rattle.bisim_levels.specs.Refining.{Refines, AreNumbered, Numbers};
+ghost use Rattle.bisim_levels.specs.Recent.{two_numbers, AreRecent};
 
-use crate::keys::{block_of, write_key};
+use crate::keys::{block_of, only_block, write_key};
+use crate::recent::{Recent, intern_recent, none_recent};
 use crate::sides::Side;
 use key_table::KeyTable;
 use label_graph::{Digraph, GraphView};
@@ -38,9 +40,33 @@ fn intern_key(
     keys.intern(key)
 }
 
+// The same. Most nodes have one neighbour, and few blocks: the key of such a node is mostly at hand.
+#[inline(always)]
+fn find_key(
+    keys: &mut KeyTable,
+    recent: &mut Vec<Recent>,
+    key: &mut Vec<u32>,
+    base: &[Option<u32>],
+    nodes: &[NodeId],
+    number: u32,
+) -> Result<u32, Memory>
+    requires distinct { AreDistinct keys.old }
+    requires recent { AreRecent two_numbers keys.old recent.old.items }
+    ensures ok { IfOk result (λ k. (key : List ℕ) × IsWritten (block_at base.now) nodes.now number key × Interns keys.old keys.new key k) }
+    ensures recent { IfOk result (λ k. AreRecent two_numbers keys.new recent.new.items) }
+    ensures distinct { IfOk result (λ k. AreDistinct keys.new) }
+{
+    match only_block(base, nodes) {
+        Some(around) => intern_recent(keys, recent, around, number, &[around, number]),
+        None => intern_key(keys, key, base, nodes, number),
+    }
+}
+
 // The number of the key of a node, and `None` where it has no block.
+#[inline(always)]
 fn number_of(
     keys: &mut KeyTable,
+    recent: &mut Vec<Recent>,
     key: &mut Vec<u32>,
     view: &GraphView<'_>,
     side: Side,
@@ -49,13 +75,15 @@ fn number_of(
     n: NodeId,
 ) -> Result<Option<u32>, Memory>
     requires distinct { AreDistinct keys.old }
+    requires recent { AreRecent two_numbers keys.old recent.old.items }
     requires nodes { IsSome (block_at own.now n) → IsSome (label_number view.now n) }
     ensures ok { IfOk result (λ number. Numbers (block_at own.now) base.now (is_near side view.now) n keys.old keys.new number) }
+    ensures recent { IfOk result (λ number. AreRecent two_numbers keys.new recent.new.items) }
     ensures distinct { IfOk result (λ number. AreDistinct keys.new) }
 {
     match block_of(own, n) {
         Some(number) => {
-            let k = intern_key(keys, key, base, side.neighbours(view, n), number)?;
+            let k = find_key(keys, recent, key, base, side.neighbours(view, n), number)?;
             Ok(Some(k))
         }
         None => Ok(None),
@@ -80,10 +108,11 @@ pub fn refine(
     ensures distinct { IfOk result (λ l. AreDistinct l.keys) }
 {
     let mut keys = KeyTable::new(alloc)?;
+    let mut recent = none_recent(alloc)?;
     let mut key = Vec::new(alloc);
     let mut block = Vec::with_capacity(alloc, view.size() as usize)?;
     for n in 0..view.size() {
-        let number = number_of(&mut keys, &mut key, view, side, own, base, n)?;
+        let number = number_of(&mut keys, &mut recent, &mut key, view, side, own, base, n)?;
         block.push(number)?;
     }
     Ok(Level { block, keys })

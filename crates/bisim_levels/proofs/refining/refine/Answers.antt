@@ -7,6 +7,7 @@ use Rattle.bisim_levels.proofs.refining.refine.Goals as goal
 pub loop-n-preserved : goal.loop-n-preserved
 loop-n-preserved c = record {
   numbered = rw c.in_ok-push.ensures.items (numbered_more _ _ _ _ _ _ _ _ c.loop-n.invariant.numbered c.in_ok-number.ensures.ok);
+  recent = c.in_ok-number.ensures.recent;
   distinct = c.in_ok-number.ensures.distinct;
 }
 

@@ -1,0 +1,15 @@
+-- Keys that came lately.
+use Rattle.std.specs.Prelude.{ℕ, ◌≡◌, List, [], ◌∷◌, Some, slice_get}
+use Rattle.bisim_levels.specs.declared.recent.Recent.{Recent}
+
+-- the key of a node with one neighbour: the block of that, and its own number
+abbrev pub two_numbers : ℕ → ℕ → List ℕ
+two_numbers around own = around ∷ own ∷ []
+
+-- the key of a node without neighbours
+abbrev pub own_number : ℕ → ℕ → List ℕ
+own_number around own = own ∷ []
+
+-- each has the number of the key that it spells
+pub record AreRecent (spell : ℕ → ℕ → List ℕ) (keys : List (List ℕ)) (recent : List Recent) : Type 0 where
+  pub found : (i k : ℕ) (r : Recent) → slice_get recent i ≡ Some r → r.number ≡ Some k → slice_get keys k ≡ Some (spell r.around r.own)
