@@ -12,7 +12,7 @@ use crate::keyed::KeyedSummary;
 use crate::layers::{above, lowest};
 use label_graph::GraphView;
 use px_base::{Memory, NodeId};
-use quotient::Summary;
+use quotient::{EdgeList, Summary};
 use std::alloc::Global;
 use std::marker::Model;
 
@@ -41,8 +41,8 @@ impl Model for AkFamily {
 }
 
 impl AkFamily {
-    /// The family of a graph. Each level reads each node's parents and children once, sorts the blocks of
-    /// each node's parents, and finds keys and pairs of blocks by hash.
+    /// The family of a graph. The edges are listed once. Each level reads each node's parents and the list
+    /// of edges once, sorts the blocks of each node's parents, and finds keys and pairs of blocks by hash.
     pub fn build(alloc: Global, view: &GraphView<'_>, k: u32) -> Result<AkFamily, Memory>
         requires few { k ≤ 8 }
         ensures count { IfOk result (λ f. length f ≡ k + 1) }
@@ -53,12 +53,13 @@ impl AkFamily {
     {
         // It tells that the view shows the graph itself.
         let _ = view.edge_count();
+        let edges = EdgeList::of(alloc, view)?;
         let (mut layer, keys) = lowest(alloc, view)?;
         let mut levels = Vec::with_capacity(alloc, k as usize + 1)?;
-        levels.push(KeyedSummary::of(alloc, view, &layer, keys)?)?;
+        levels.push(KeyedSummary::of(alloc, view, &edges, &layer, keys)?)?;
         for _ in 0..k {
             let (next, keys) = above(alloc, view, &layer)?;
-            levels.push(KeyedSummary::of(alloc, view, &next, keys)?)?;
+            levels.push(KeyedSummary::of(alloc, view, &edges, &next, keys)?)?;
             layer = next;
         }
         Ok(AkFamily { levels })

@@ -5,6 +5,7 @@ ghost use Rattle.bisim_spec.specs.Views.{ViewFits};
 ghost use Rattle.bisim_levels.specs.Sides.{view_shape};
 ghost use Rattle.block_partition.specs.Partitions.{IsBlock};
 ghost use Rattle.quotient.specs.Quotients.{view_of};
+ghost use Rattle.quotient.specs.Joined.{AreListed};
 ghost use Rattle.ak_family.specs.Families.{HasKey};
 ghost use Rattle.ak_family.specs.Layers.{AreLabelled, SameBlocks};
 
@@ -13,7 +14,7 @@ use crate::layers::Layer;
 use key_table::KeyTable;
 use label_graph::GraphView;
 use px_base::Memory;
-use quotient::Summary;
+use quotient::{EdgeList, Summary};
 use std::alloc::Global;
 use std::marker::Model;
 
@@ -43,9 +44,11 @@ impl KeyedSummary {
     pub(crate) fn of(
         alloc: Global,
         view: &GraphView<'_>,
+        edges: &EdgeList,
         layer: &Layer,
         keys: KeyTable,
     ) -> Result<KeyedSummary, Memory>
+        requires listed { AreListed view.now.edges (length view.now.given) edges.now }
         requires partition { IsPartition (view_shape view.now) layer.now.block.items }
         requires labelled { AreLabelled view.now layer.now.block.items layer.now.labels.items }
         requires inhabited { (b : ℕ) → b < length keys → (n : ℕ) × (block_at layer.now.block.items n ≡ Some b) }
@@ -57,7 +60,7 @@ impl KeyedSummary {
         // They tell that the view shows the graph itself, and that there are few keys.
         let _ = (view.edge_count(), keys.len());
         let blocks = fill(alloc, view.created(), &layer.block, &layer.labels)?;
-        let summary = Summary::of(alloc, blocks, view)?;
+        let summary = Summary::of_edges(alloc, blocks, view, edges)?;
         Ok(KeyedSummary { summary, keys })
     }
 

@@ -3,3 +3,4 @@ mod Near
 mod Pairs
 mod Between
 mod Nodes
+mod Listed

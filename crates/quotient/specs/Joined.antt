@@ -5,7 +5,7 @@ use Rattle.std.specs.FinSet as set
 use Rattle.px_spec.specs.Graphs.{Edges}
 use Rattle.px_spec.specs.Members.{Lists}
 use Rattle.block_partition.specs.Partitions.{Partition, at}
-use Rattle.bisim_spec.specs.Supports.{joins}
+use Rattle.bisim_spec.specs.Supports.{joins, support}
 use Rattle.bisim_spec.specs.Views.{SupportTable, support_at}
 
 -- the list with this number, and an empty one past the end
@@ -46,6 +46,10 @@ AreBelow n pairs = (i : ℕ) (p : ℕ × ℕ) → slice_get pairs i ≡ Some p �
 -- how many of the edges that begin before a node lead from x to y
 abbrev pub edges_below : Edges → List (Option ℕ) → ℕ → ℕ → ℕ → ℕ
 edges_below edges block n x y = set.len (set.retain edges (λ e. nat_lt e.0 n && joins block x y e))
+
+-- whatever the blocks: as many edges of the list lead from one to another as of those of the set that begin before a node
+pub record AreListed (edges : Edges) (n : ℕ) (list : List (ℕ × ℕ)) : Type 0 where
+  pub same : (block : List (Option ℕ)) (x y : ℕ) → support list block x y ≡ edges_below edges block n x y
 
 -- each pair in the table has edges
 abbrev pub IsPositive : SupportTable → Type 0

@@ -1,17 +1,16 @@
 // Counting the edges of a graph between the blocks of its nodes.
-ghost use Rattle.std.specs.Prelude.{◌≡◌, ◌+◌, ◌-◌, ◌<◌, ◌≤◌, ◌^◌, ◌&&◌, [], ℕ, suc, IfOk, IfSome, OnOk, length, is_some, nat_eq};
+ghost use Rattle.std.specs.Prelude.{◌≡◌, ◌+◌, ◌-◌, ◌<◌, ◌≤◌, ◌^◌, ◌&&◌, ℕ, IfOk, IfSome, OnOk, length, is_some, nat_eq};
 ghost use Rattle.std.specs.FinSet as set;
-ghost use Rattle.px_spec.specs.Graphs.{has_edge};
-ghost use Rattle.label_graph.specs.Views.{label_number, is_linked};
+ghost use Rattle.label_graph.specs.Views.{label_number};
 ghost use Rattle.block_partition.specs.Partitions.{at};
-ghost use Rattle.bisim_spec.specs.Supports.{is_block};
+ghost use Rattle.bisim_spec.specs.Supports.{is_block, joins};
 ghost use Rattle.bisim_spec.specs.Views.{support_at};
 ghost use Rattle.quotient.specs.Quotients.{AreCounted};
-ghost use Rattle.quotient.specs.Joined.{AreNear, AreLive, AreBelow, one_if, pairs_between, pairs_with, edges_below};
+ghost use Rattle.quotient.specs.Joined.{AreNear, AreLive, AreBelow, AreListed, one_if, pairs_with};
 
 use crate::joins::Joins;
 use block_partition::Blocks;
-use label_graph::{Digraph, GraphView};
+use label_graph::GraphView;
 use px_base::{Memory, NodeId};
 use std::alloc::Global;
 
@@ -38,44 +37,20 @@ fn push_pair(
     Ok(())
 }
 
-// Gathers the blocks of the edges from a node to its children.
+// Gathers the blocks of one more edge.
 #[inline(always)]
-fn gather_children(
+fn gather_edge(
     pairs: &mut Vec<(u32, u32)>,
     blocks: &Blocks,
-    n: NodeId,
-    children: &[NodeId],
+    from: NodeId,
+    onto: NodeId,
 ) -> Result<(), Memory>
     requires below { AreBelow (length blocks.now.labels) pairs.old.items }
-    ensures pairs { OnOk result ((x y : ℕ) → pairs_with pairs.new.items x y ≡ pairs_with pairs.old.items x y + pairs_between blocks.now.block_of n children.now x y) }
+    ensures pairs { OnOk result ((x y : ℕ) → pairs_with pairs.new.items x y ≡ pairs_with pairs.old.items x y + one_if (joins blocks.now.block_of x y (from, onto))) }
     ensures below { OnOk result (AreBelow (length blocks.now.labels) pairs.new.items) }
 {
-    let from = blocks.block_of(n);
-    for child in children {
-        push_pair(pairs, from, blocks.block_of(*child), blocks.span())?;
-    }
-    Ok(())
-}
-
-// Gathers the blocks of the edges of the next node, where the number is that of a node.
-#[inline(always)]
-fn gather_node(
-    pairs: &mut Vec<(u32, u32)>,
-    blocks: &Blocks,
-    view: &GraphView<'_>,
-    n: NodeId,
-) -> Result<(), Memory>
-    requires nodes { (m : ℕ) → is_some (at blocks.now.block_of m) ≡ is_some (label_number view.now m) }
-    requires links { (u v : ℕ) → is_linked view.now u v ≡ has_edge view.now u v }
-    requires below { AreBelow (length blocks.now.labels) pairs.old.items }
-    ensures pairs { OnOk result ((x y : ℕ) → edges_below view.now.edges blocks.now.block_of n x y + pairs_with pairs.new.items x y ≡ edges_below view.now.edges blocks.now.block_of (suc n) x y + pairs_with pairs.old.items x y) }
-    ensures below { OnOk result (AreBelow (length blocks.now.labels) pairs.new.items) }
-{
-    if !view.is_node(n) {
-        return Ok(());
-    }
-    gather_children(pairs, blocks, n, view.children(n))?;
-    Ok(())
+    let (a, b) = (blocks.block_of(from), blocks.block_of(onto));
+    push_pair(pairs, a, b, blocks.span())
 }
 
 // Counts the pairs of blocks.
@@ -116,16 +91,16 @@ fn count_batch(joins: &mut Joins, pairs: &mut Vec<(u32, u32)>) -> Result<(), Mem
     Ok(())
 }
 
-/// Counts the edges of a graph between the blocks of its nodes. It reads each node's children once. The
-/// blocks of many edges are read before their pairs are counted, since reads that don't wait for one
-/// another take less time.
+/// Counts the edges of a graph between the blocks of its nodes. The blocks of many edges are read
+/// before their pairs are counted, since reads that don't wait for one another take less time.
 pub(crate) fn count_edges(
     alloc: Global,
     blocks: &Blocks,
     view: &GraphView<'_>,
+    edges: &[(NodeId, NodeId)],
 ) -> Result<Joins, Memory>
     requires nodes { (m : ℕ) → is_some (at blocks.now.block_of m) ≡ is_some (label_number view.now m) }
-    requires links { (u v : ℕ) → is_linked view.now u v ≡ has_edge view.now u v }
+    requires listed { AreListed view.now.edges (length view.now.given) edges.now }
     requires few { set.len view.now.edges ≤ 2 ^ 30 }
     ensures supports { IfOk result (λ j. AreCounted view.now.edges blocks.now.block_of j.supports) }
     ensures live { IfOk result (λ j. AreLive blocks.now j.supports) }
@@ -134,9 +109,9 @@ pub(crate) fn count_edges(
     ensures parents { IfOk result (λ j. length j.parents ≡ length blocks.now.labels) }
 {
     let mut joins = Joins::new(alloc, blocks.span() as usize)?;
-    let mut pairs = Vec::with_capacity(alloc, 2 * BATCH)?;
-    for n in 0..view.size() {
-        gather_node(&mut pairs, blocks, view, n)?;
+    let mut pairs = Vec::with_capacity(alloc, BATCH)?;
+    for (from, onto) in edges {
+        gather_edge(&mut pairs, blocks, *from, *onto)?;
         count_batch(&mut joins, &mut pairs)?;
     }
     count_pairs(&mut joins, &pairs)?;

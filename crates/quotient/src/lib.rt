@@ -2,6 +2,7 @@
 #![tactic(auto)]
 
 mod counting;
+mod edges;
 mod joins;
 mod neighbours;
 mod summary;
@@ -9,4 +10,5 @@ mod supports;
 #[cfg(test)]
 mod tests;
 
+pub use edges::EdgeList;
 pub use summary::Summary;

@@ -6,8 +6,10 @@ ghost use Rattle.block_partition.specs.Partitions.{at, is_member, block_count};
 ghost use Rattle.bisim_spec.specs.Partitions.{IsPartition};
 ghost use Rattle.bisim_spec.specs.Views.{support_at, shape_of_view};
 ghost use Rattle.quotient.specs.Quotients.{AreCounted, pair_count, is_joined, view_of};
+ghost use Rattle.quotient.specs.Joined.{AreListed};
 
 use crate::counting::count_edges;
+use crate::edges::EdgeList;
 use crate::joins::Joins;
 use block_partition::{Blocks, Members};
 use label_graph::{Digraph, GraphView};
@@ -40,16 +42,32 @@ impl Model for Summary {
 }
 
 impl Summary {
-    /// The quotient of a graph by a partition of its live nodes. It reads each node's children once, and
-    /// finds each pair by hash. On want of memory the blocks are dropped.
+    /// The quotient of a graph by a partition of its live nodes. It lists the graph's edges, and finds each
+    /// pair by hash. On want of memory the blocks are dropped.
     pub fn of(alloc: Global, blocks: Blocks, view: &GraphView<'_>) -> Result<Summary, Memory>
         requires partition { IsPartition (shape_of view.now) blocks.block_of }
         ensures blocks { IfOk result (λ s. s.blocks ≡ blocks) }
         ensures supports { IfOk result (λ s. AreCounted view.now.edges blocks.block_of s.supports) }
     {
+        let edges = EdgeList::of(alloc, view)?;
+        Summary::of_edges(alloc, blocks, view, &edges)
+    }
+
+    /// The quotient of a graph by a partition of its live nodes, from the list of its edges.
+    pub fn of_edges(
+        alloc: Global,
+        blocks: Blocks,
+        view: &GraphView<'_>,
+        edges: &EdgeList,
+    ) -> Result<Summary, Memory>
+        requires partition { IsPartition (shape_of view.now) blocks.block_of }
+        requires listed { AreListed view.now.edges (length view.now.given) edges.now }
+        ensures blocks { IfOk result (λ s. s.blocks ≡ blocks) }
+        ensures supports { IfOk result (λ s. AreCounted view.now.edges blocks.block_of s.supports) }
+    {
         // It tells that the view shows the graph itself.
         let _ = view.edge_count();
-        let joins = count_edges(alloc, &blocks, view)?;
+        let joins = count_edges(alloc, &blocks, view, edges.as_slice())?;
         Ok(Summary { blocks, joins })
     }
 

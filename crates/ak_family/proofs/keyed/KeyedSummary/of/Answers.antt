@@ -10,12 +10,10 @@ fill-requires-clause-blocks c =
     rw (c.deref.ensures.value, c.deref-2.ensures.value)
     (labelled_below c.args.view.now c.args.layer.now.block.items c.args.layer.now.labels.items c.requires.partition c.requires.labelled)
 
-pub of-requires : goal.of-requires
-of-requires c = record {
-  partition =
-      subst (λ (s : Shape). IsPartition s c.in_ok-blocks.blocks.block_of) c.edge_count.ensures.shape
-      (partition_moved _ _ _ (rw (← c.deref.ensures.value) c.in_ok-blocks.ensures.blocks) c.requires.partition);
-}
+pub of_edges-requires-clause-partition : goal.of_edges-requires-clause-partition
+of_edges-requires-clause-partition c =
+    subst (λ (s : Shape). IsPartition s c.in_ok-blocks.blocks.block_of) c.edge_count.ensures.shape
+    (partition_moved _ _ _ (rw (← c.deref.ensures.value) c.in_ok-blocks.ensures.blocks) c.requires.partition)
 
 pub invariant_of-result : goal.invariant_of-result
 invariant_of-result c =

@@ -1,0 +1,78 @@
+-- Lists of edges.
+use Rattle.std.proofs.Common.{◌≡◌, ℕ, zero, suc, ◌+◌, ◌<◌, ◌≤◌, List, [], ◌∷◌, ◌++◌, Option, length, refl, sym, ◌∙◌, ap, arith, inl, inr, false, true≢false, cond, take, get_or}
+use Rattle.std.specs.Prelude.{is_some}
+use Rattle.std.specs.FinSet as set
+use Rattle.std.specs.List.{IsDistinct}
+use Rattle.std.proofs.lemmas.Bool.{cases_Bool}
+use Rattle.std.proofs.lemmas.List.{take_more}
+use Rattle.std.proofs.lemmas.List.Sums.{sum_by-append, sum_by-cons}
+use Rattle.px_spec.specs.Graphs.{Graph, Edges, has_edge}
+use Rattle.px_spec.specs.Members.{Lists}
+use Rattle.label_graph.specs.Views.{label_number, is_linked}
+use Rattle.label_graph.specs.ViewLaws.{ends_seen}
+use Rattle.bisim_spec.specs.Supports.{joins, support}
+use Rattle.quotient.specs.Joined.{AreListed, pairs_of, pairs_between, one_if}
+use Rattle.quotient.proofs.Between.{below_zero, below_step, below_most}
+
+-- before the first node
+pub listed_none : (edges : Edges) (list : List (ℕ × ℕ)) → list ≡ [] → AreListed edges 0 list
+listed_none edges list none = record {
+  same = λ block x y. ap (λ (es : List (ℕ × ℕ)). support es block x y) none ∙ sym (below_zero edges block x y);
+}
+
+-- the edges of one node more
+pub listed_more : (edges : Edges) (n : ℕ) (cs : List ℕ) (old new : List (ℕ × ℕ)) → Lists (λ v. set.contains edges (n, v)) cs → AreListed edges n old → new ≡ old ++ pairs_of n cs
+    → AreListed edges (suc n) new
+listed_more edges n cs old new l before added = record {
+  same = λ block x y.
+      let step = below_step edges block n x y cs l in
+      let is = before.same block x y in
+      let parts : support new block x y ≡ support old block x y + pairs_between block n cs x y =
+      ap (λ (es : List (ℕ × ℕ)). support es block x y) added ∙ sum_by-append (λ (e : ℕ × ℕ). cond (joins block x y e) 1 0) old (pairs_of n cs) in
+      omega (arith, step, is, parts);
+}
+
+-- no edge begins at a number that is no node
+gone_lists : (g : Graph) (n : ℕ) → is_some (label_number g n) ≡ false → ((u v : ℕ) → is_linked g u v ≡ has_edge g u v) → Lists (λ v. set.contains g.edges (n, v)) []
+unfolding IsDistinct
+gone_lists g n gone links = record {
+  once = tt;
+  members = λ v. elim (cases_Bool (has_edge g n v)) [
+    | inl edge ↦ absurd (true≢false (sym ((ends_seen g n v (links n v ∙ edge)).0) ∙ gone))
+    | inr none ↦ sym none
+  ];
+}
+
+append_nil : (xs : List (ℕ × ℕ)) → xs ≡ xs ++ []
+append_nil [] = refl
+append_nil (x ∷ xs) = ap (λ (t : List (ℕ × ℕ)). x ∷ t) (append_nil xs)
+
+pub listed_gone : (g : Graph) (n : ℕ) (list : List (ℕ × ℕ)) → is_some (label_number g n) ≡ false → ((u v : ℕ) → is_linked g u v ≡ has_edge g u v) → AreListed g.edges n list
+    → AreListed g.edges (suc n) list
+listed_gone g n list gone links before = listed_more g.edges n [] list list (gone_lists g n gone links) before (append_nil list)
+
+-- one more edge of a list
+pub support_more : (block : List (Option ℕ)) (es : List (ℕ × ℕ)) (i x y : ℕ) (d : ℕ × ℕ) → i < length es
+    → support (take (i + 1) es) block x y ≡ support (take i es) block x y + one_if (joins block x y (get_or es i d))
+support_more block es i x y d h =
+    rw (take_more es i d h, sum_by-append (λ (e : ℕ × ℕ). cond (joins block x y e) 1 0) (take i es) (get_or es i d ∷ [])) (omega arith)
+
+support_cons : (block : List (Option ℕ)) (e : ℕ × ℕ) (es : List (ℕ × ℕ)) (x y : ℕ) → support (e ∷ es) block x y ≡ one_if (joins block x y e) + support es block x y
+support_cons block e es x y = sum_by-cons (λ (e : ℕ × ℕ). cond (joins block x y e) 1 0) e es
+
+support_take : (block : List (Option ℕ)) (i : ℕ) (es : List (ℕ × ℕ)) (x y : ℕ) → support (take i es) block x y ≤ support es block x y
+support_take block zero es x y = omega arith
+support_take block (suc i) [] x y = omega arith
+support_take block (suc i) (e ∷ es) x y =
+    let rest = support_take block i es x y in
+    let more = support_cons block e es x y in
+    let first = support_cons block e (take i es) x y in
+    omega (arith, rest, more, first)
+
+-- some of the edges are at most all
+pub support_most : (edges : Edges) (n : ℕ) (es : List (ℕ × ℕ)) (block : List (Option ℕ)) (i x y : ℕ) → AreListed edges n es → support (take i es) block x y ≤ set.len edges
+support_most edges n es block i x y l =
+    let some = support_take block i es x y in
+    let is = l.same block x y in
+    let most = below_most edges block n x y in
+    omega (arith, some, is, most)

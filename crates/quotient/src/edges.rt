@@ -1,0 +1,82 @@
+// The edges of a graph, in a list.
+ghost use Rattle.std.specs.Prelude.{◌≡◌, ◌++◌, ℕ, suc, IfOk, OnOk, length};
+ghost use Rattle.px_spec.specs.Graphs.{has_edge};
+ghost use Rattle.label_graph.specs.Views.{is_linked};
+ghost use Rattle.quotient.specs.Joined.{AreListed, pairs_of};
+
+use label_graph::{Digraph, GraphView};
+use px_base::{Memory, NodeId};
+use std::alloc::Global;
+use std::marker::Model;
+
+/// The edges of a graph one behind the other, each by the numbers of its two nodes. Whoever makes
+/// several quotients of one graph reads its nodes once.
+///
+/// It takes 8 bytes for each edge.
+#[derive(Drop)]
+pub struct EdgeList {
+    edges: Vec<(NodeId, NodeId)>,
+}
+
+impl Model for EdgeList {
+    ghost use Rattle.std.specs.Prelude.{ℕ, List};
+
+    ghost Value = { List (ℕ × ℕ) };
+
+    ghost view = { λ e. e.edges.items };
+}
+
+impl EdgeList {
+    /// The edges of a graph. It reads each node's children once.
+    pub fn of(alloc: Global, view: &GraphView<'_>) -> Result<EdgeList, Memory>
+        ensures { IfOk result (AreListed view.now.edges (length view.now.given)) }
+    {
+        // It tells that the view shows the graph itself.
+        let count = view.edge_count();
+        let mut edges = Vec::with_capacity(alloc, count as usize)?;
+        for n in 0..view.size() {
+            list_node(&mut edges, view, n)?;
+        }
+        Ok(EdgeList { edges })
+    }
+
+    /// The edges.
+    pub(crate) fn as_slice(&self) -> &[(NodeId, NodeId)]
+        ensures { result.now ≡ self.now }
+    {
+        &self.edges
+    }
+}
+
+// Puts the edges from a node to its children behind the others.
+#[inline(always)]
+fn list_children(
+    edges: &mut Vec<(NodeId, NodeId)>,
+    n: NodeId,
+    children: &[NodeId],
+) -> Result<(), Memory>
+    ensures { OnOk result (edges.new.items ≡ edges.old.items ++ pairs_of n children.now) }
+{
+    for child in children {
+        edges.push((n, *child))?;
+    }
+    Ok(())
+}
+
+// Puts the edges from the next node behind the others, where the number is that of a node.
+#[inline(always)]
+fn list_node(
+    edges: &mut Vec<(NodeId, NodeId)>,
+    view: &GraphView<'_>,
+    n: NodeId,
+) -> Result<(), Memory>
+    requires links { (u v : ℕ) → is_linked view.now u v ≡ has_edge view.now u v }
+    requires listed { AreListed view.now.edges n edges.old.items }
+    ensures { OnOk result (AreListed view.now.edges (suc n) edges.new.items) }
+{
+    if !view.is_node(n) {
+        return Ok(());
+    }
+    list_children(edges, n, view.children(n))?;
+    Ok(())
+}
