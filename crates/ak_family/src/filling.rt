@@ -1,5 +1,5 @@
 // The tables of a partition, filled from lists.
-ghost use Rattle.std.specs.Prelude.{◌≡◌, ◌+◌, ◌<◌, ◌≤◌, ◌^◌, ℕ, None, Some, IfOk, IfSome, length, nat_eq, nat_lt, is_some, if◌then◌else◌};
+ghost use Rattle.std.specs.Prelude.{◌≡◌, ◌+◌, ◌<◌, ◌≤◌, ◌^◌, ℕ, [], None, Some, IfOk, IfSome, length, nat_eq, nat_lt, is_some, if◌then◌else◌};
 ghost use Rattle.block_partition.specs.Partitions.{at, IsBlock};
 ghost use Rattle.bisim_spec.specs.Partitions.{block_at};
 ghost use Rattle.ak_family.specs.Layers.{HaveLabels, SameBlocks, SameBelow};
@@ -33,21 +33,8 @@ fn add_blocks(blocks: &mut Blocks, labels: &[u32])
     }
 }
 
-// Puts a node that has no block into one, where there is one.
-fn place(blocks: &mut Blocks, n: NodeId, block: Option<u32>)
-    requires block { IfSome block (IsBlock blocks.old) }
-    requires free { at blocks.old.block_of n ≡ None }
-    requires within { n < length blocks.old.block_of + blocks.old.room.nodes }
-    ensures blocks { (m : ℕ) → at blocks.new.block_of m ≡ (if nat_eq m n then block else at blocks.old.block_of m) }
-    ensures labels { blocks.new.labels ≡ blocks.old.labels }
-    ensures room { length blocks.old.block_of + blocks.old.room.nodes ≤ length blocks.new.block_of + blocks.new.room.nodes }
-{
-    if let Some(b) = block {
-        blocks.place(n, b);
-    }
-}
-
 // The block of a node, and none past the end of the list.
+#[inline(always)]
 fn block_of(block: &[Option<u32>], n: NodeId) -> Option<u32>
     ensures { result ≡ block_at block.now n }
 {
@@ -55,16 +42,30 @@ fn block_of(block: &[Option<u32>], n: NodeId) -> Option<u32>
     *b
 }
 
-// Puts the nodes below a number into the blocks that the list gives.
-fn place_nodes(blocks: &mut Blocks, size: u32, block: &[Option<u32>])
+// Gives the next node its block, where it has one.
+#[inline(always)]
+fn append(blocks: &mut Blocks, block: Option<u32>)
+    requires block { IfSome block (IsBlock blocks.old) }
+    requires room { 0 < blocks.old.room.nodes }
+    ensures blocks { (m : ℕ) → at blocks.new.block_of m ≡ (if nat_eq m (length blocks.old.block_of) then block else at blocks.old.block_of m) }
+    ensures count { length blocks.new.block_of ≡ length blocks.old.block_of + 1 }
+    ensures labels { blocks.new.labels ≡ blocks.old.labels }
+    ensures room { blocks.new.room.nodes + 1 ≡ blocks.old.room.nodes }
+{
+    blocks.append(block);
+}
+
+// Puts the nodes below a number, none of which has a number in the list yet, into the blocks that the
+// list gives.
+fn append_nodes(blocks: &mut Blocks, size: u32, block: &[Option<u32>])
     requires blocks { (n b : ℕ) → block_at block.now n ≡ Some b → IsBlock blocks.old b }
-    requires free { (n : ℕ) → at blocks.old.block_of n ≡ None }
-    requires room { size ≤ length blocks.old.block_of + blocks.old.room.nodes }
+    requires none { blocks.old.block_of ≡ [] }
+    requires room { size ≤ blocks.old.room.nodes }
     ensures blocks { SameBelow size blocks.new.block_of block.now }
     ensures labels { blocks.new.labels ≡ blocks.old.labels }
 {
     for n in 0..size {
-        place(blocks, n, block_of(block, n));
+        append(blocks, block_of(block, n));
     }
 }
 
@@ -86,6 +87,6 @@ pub(crate) fn fill(
     let mut blocks = Blocks::new(alloc)?;
     blocks.reserve(size, labels.len() as u32)?;
     add_blocks(&mut blocks, labels);
-    place_nodes(&mut blocks, size, block);
+    append_nodes(&mut blocks, size, block);
     Ok(blocks)
 }

@@ -5,3 +5,4 @@ mod Counts
 mod Growth
 mod FreedNumbers
 mod KeepsSound
+pub mod Appended

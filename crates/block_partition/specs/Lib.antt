@@ -2,3 +2,4 @@ pub mod Partitions
 pub mod Tables
 pub mod Soundness
 pub mod Chains
+pub mod Appending

@@ -2,6 +2,7 @@
 ghost use Rattle.std.specs.Prelude.{◌≡◌, ◌≢◌, ◌+◌, ◌-◌, ◌<◌, ◌≤◌, ◌^◌, ℕ, nat_eq, if◌then◌else◌, Some, None, IsSome, is_some, IfOk, OnOk, OnErr, IfSome, length, slice_set, slice_index, vec_len, vec_capacity};
 ghost use Rattle.px_spec.specs.Members.{Lists};
 ghost use Rattle.block_partition.specs.Partitions.{at, IsBlock, is_member, block_count, member_count, IsLeastFree, no_blocks, with_room, with_block, with_member, with_move, without_block};
+ghost use Rattle.block_partition.specs.Appending.{with_next};
 ghost use Rattle.block_partition.specs.Tables.{Keeps, head_where, with_length};
 
 use crate::freed::Freed;
@@ -195,6 +196,20 @@ impl Blocks {
         self.link(n, b);
     }
 
+    /// Puts the node with the next number past the end of the list into a block, or into none, by the
+    /// room of one number. It takes no memory, and constant time.
+    pub fn append(&mut self, block: Option<u32>)
+        requires block { IfSome block (IsBlock self.old) }
+        requires room { 0 < self.old.room.nodes }
+        ensures { self.new ≡ with_next self.old block }
+    {
+        let len = self.block.len();
+        match block {
+            Some(b) => self.append_member(b),
+            None => self.grow(len + 1),
+        }
+    }
+
     /// Moves a node to a block, from that which it has. It takes no memory, and constant time.
     pub fn move_node(&mut self, n: NodeId, b: u32)
         requires has { IsSome (at self.old.block_of n) }
@@ -246,6 +261,24 @@ impl Blocks {
         self.next.grow(len);
         self.prev.grow(len);
         self.node_room -= (self.block.len() - old) as u32;
+    }
+
+    // Puts the node with the next number in front of the members of a block.
+    #[inline(always)]
+    fn append_member(&mut self, b: u32)
+        requires block { IsBlock self.old b }
+        requires room { 0 < self.old.room.nodes }
+        ensures { self.new ≡ with_next self.old (Some b) }
+    {
+        let node = self.block.len() as u32;
+        let after = self.first.get(b);
+        self.prev.push(None);
+        self.prev.set_at(after, Some(node));
+        self.next.push(after);
+        self.first.set(b, Some(node));
+        self.block.push(Some(b));
+        self.sizes[b as usize] += 1;
+        self.node_room -= 1;
     }
 
     // Puts a node of the list that has no block in front of the members of one.

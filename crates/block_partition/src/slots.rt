@@ -78,6 +78,15 @@ impl Slots {
         Ok(())
     }
 
+    /// Appends one place.
+    pub(crate) fn push(&mut self, v: Option<u32>)
+        requires room { length self.old.places < self.old.capacity }
+        requires small { IsSmall v }
+        ensures { self.new ≡ record self.old { places = self.old.places ++ v ∷ [] } }
+    {
+        self.cells.push_reserved(cell_of(v));
+    }
+
     /// Appends one place with none.
     pub(crate) fn push_none(&mut self)
         requires { length self.old.places < self.old.capacity }

@@ -1,10 +1,11 @@
-use Rattle.std.proofs.Common.{◌≡◌, ◌+◌, ◌≤◌, length}
+use Rattle.std.proofs.Common.{◌≡◌, ◌+◌, length}
 use Rattle.ak_family.specs.Layers.{SameBelow}
-use Rattle.ak_family.proofs.filling.place_nodes.Given as goal
+use Rattle.ak_family.proofs.filling.append_nodes.Given as goal
 
 abbrev pub invariant-loop-n : goal.invariant-loop-n
 invariant-loop-n l = record {
   blocks : SameBelow l.n l.blocks.block_of l.block;
+  count : length l.blocks.block_of ≡ l.n;
   labels : l.blocks.labels ≡ l.fn.blocks.labels;
-  room : l.size ≤ length l.blocks.block_of + l.blocks.room.nodes;
+  room : l.blocks.room.nodes + l.n ≡ l.fn.blocks.room.nodes;
 }
