@@ -1,12 +1,13 @@
 -- A table of supports as its entries, which a hash finds.
-use Rattle.std.proofs.Common.{◌≡◌, ◌≢◌, ℕ, zero, suc, ◌+◌, ◌⊎◌, List, [], ◌∷◌, Option, Some, None, refl, sym, ◌∙◌, ap, arith, inl, inr, true, false, Bool, cond, ◌&&◌, unwrap_or, length}
-use Rattle.std.specs.Prelude.{nat_eq, nat_lt, is_some}
+use Rattle.std.proofs.Common.{◌≡◌, ◌≢◌, ℕ, zero, suc, ◌+◌, ◌⊎◌, List, [], ◌∷◌, Option, Some, None, refl, sym, ◌∙◌, ap, arith, inl, inr, true, false, Bool, cond, ◌&&◌, unwrap_or, length, slice_get, map as map_list}
+use Rattle.std.specs.Prelude.{nat_eq, nat_lt, is_some, option_map}
+use Rattle.std.proofs.lemmas.Option.{slice_get-map}
 use Rattle.std.specs.List.{IsDistinct, AllByRecursion}
 use Rattle.std.proofs.lemmas.Map.Keys.{IsDistinct-head, IsDistinct-tail}
 use Rattle.std.specs.Ordering.{nat_cmp, eq_by_cmp, is_eq}
 use Rattle.std.specs.Map.{lookup, keys_of}
 use Rattle.std.specs.FinMap as map
-use Rattle.std.specs.Cmp.{tied_then, unsigned_tied, eq_by_cmp_equiv}
+use Rattle.std.specs.Cmp.{tied_then, unsigned_tied, eq_by_cmp_equiv, IsEquivalence}
 use Rattle.std.proofs.lemmas.Bool.Decides.{eqb_tells, nat_tests}
 use Rattle.px_spec.specs.Graphs.{edge_cmp}
 use Rattle.px_spec.proofs.EdgeOrder.{edge_cmp_total}
@@ -42,6 +43,9 @@ edge_cmp-IsAntisymmetric x y e = same_is x y (sym (tied x y) ∙ ap is_eq e)
 same_sym : (x y : ℕ × ℕ) → same x y ≡ same y x
 same_sym x y = sym (tied x y) ∙ (eq_by_cmp_equiv edge_cmp_total).symm x y ∙ tied y x
 
+pub same_laws : IsEquivalence same
+same_laws = record { refl = same_refl; symm = same_sym; congr = λ x y z e. ap (λ p. same p z) (same_is x y e) }
+
 find_lookup : (es : List ((ℕ × ℕ) × ℕ)) (q : ℕ × ℕ) → map.find edge_cmp q es ≡ lookup (same q) es
 find_lookup [] q = refl
 find_lookup (e ∷ es) q = ap (λ b. cond b (Some e.1) (map.find edge_cmp q es)) (tied q e.0) ∙ ap (λ o. cond (same q e.0) (Some e.1) o) (find_lookup es q)
@@ -72,6 +76,13 @@ entries_len (e ∷ es) d =
     let absent : is_some (map.get {R = edge_cmp} (map.from_entries es) e.0) ≡ false = ap is_some (found es e.0) ∙ absent_key e.0 es (IsDistinct-head same e.0 (keys_of es) d) in
     let rest = entries_len es (IsDistinct-tail same e.0 (keys_of es) d) in
     map.len-insert edge_cmp_total (map.from_entries es) e.0 e.1 ∙ rw absent (omega (arith, rest))
+
+value_at : (es : List ((ℕ × ℕ) × ℕ)) (i : ℕ) (q : ℕ × ℕ) (x : ℕ) → slice_get es i ≡ Some (q, x) → slice_get (map_list (λ (e : (ℕ × ℕ) × ℕ). e.1) es) i ≡ Some x
+value_at es i q x e = slice_get-map (λ (p : (ℕ × ℕ) × ℕ). p.1) es i ∙ ap (option_map (λ (p : (ℕ × ℕ) × ℕ). p.1)) e
+
+-- the value at a pair's index is that of the pair
+pub value_is : (es : List ((ℕ × ℕ) × ℕ)) (i : ℕ) (q : ℕ × ℕ) (x n : ℕ) → slice_get es i ≡ Some (q, x) → Some n ≡ slice_get (map_list (λ (e : (ℕ × ℕ) × ℕ). e.1) es) i → x ≡ n
+value_is es i q x n at value = let same_value : Some n ≡ Some x = value ∙ value_at es i q x at in cc
 
 -- the support of each pair, once an edge from a to b is counted
 pub support_with : (t : SupportTable) (a b x y : ℕ) → support_at (with_edge t a b) x y ≡ support_at t x y + one_if (same (x, y) (a, b))

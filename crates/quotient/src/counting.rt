@@ -9,6 +9,7 @@ ghost use Rattle.quotient.specs.Quotients.{AreCounted};
 ghost use Rattle.quotient.specs.Joined.{AreNear, AreLive, AreBelow, AreListed, one_if, pairs_with};
 
 use crate::joins::Joins;
+use crate::supports::empty_hand;
 use block_partition::Blocks;
 use label_graph::GraphView;
 use px_base::{Memory, NodeId};
@@ -54,7 +55,7 @@ fn gather_edge(
 }
 
 // Counts the pairs of blocks.
-fn count_pairs(joins: &mut Joins, pairs: &[(u32, u32)]) -> Result<(), Memory>
+fn count_pairs(joins: &mut Joins, hand: &mut Vec<usize>, pairs: &[(u32, u32)]) -> Result<(), Memory>
     requires few { (x y : ℕ) → support_at joins.old.supports x y + pairs_with pairs.now x y ≤ 2 ^ 30 }
     requires below { AreBelow (length joins.old.children) pairs.now }
     requires near { AreNear joins.old.supports joins.old.children joins.old.parents }
@@ -65,14 +66,18 @@ fn count_pairs(joins: &mut Joins, pairs: &[(u32, u32)]) -> Result<(), Memory>
     ensures parents { OnOk result (length joins.new.parents ≡ length joins.old.parents) }
 {
     for (a, b) in pairs {
-        joins.count(*a, *b)?;
+        joins.count(hand, *a, *b)?;
     }
     Ok(())
 }
 
 // Counts the pairs of blocks that were gathered, once they are many.
 #[inline(always)]
-fn count_batch(joins: &mut Joins, pairs: &mut Vec<(u32, u32)>) -> Result<(), Memory>
+fn count_batch(
+    joins: &mut Joins,
+    hand: &mut Vec<usize>,
+    pairs: &mut Vec<(u32, u32)>,
+) -> Result<(), Memory>
     requires few { (x y : ℕ) → support_at joins.old.supports x y + pairs_with pairs.old.items x y ≤ 2 ^ 30 }
     requires below { AreBelow (length joins.old.children) pairs.old.items }
     requires near { AreNear joins.old.supports joins.old.children joins.old.parents }
@@ -86,7 +91,7 @@ fn count_batch(joins: &mut Joins, pairs: &mut Vec<(u32, u32)>) -> Result<(), Mem
     if pairs.len() < BATCH {
         return Ok(());
     }
-    count_pairs(joins, pairs)?;
+    count_pairs(joins, hand, pairs)?;
     pairs.clear();
     Ok(())
 }
@@ -109,11 +114,12 @@ pub(crate) fn count_edges(
     ensures parents { IfOk result (λ j. length j.parents ≡ length blocks.now.labels) }
 {
     let mut joins = Joins::new(alloc, blocks.span() as usize)?;
+    let mut hand = empty_hand(alloc)?;
     let mut pairs = Vec::with_capacity(alloc, BATCH)?;
     for (from, onto) in edges {
         gather_edge(&mut pairs, blocks, *from, *onto)?;
-        count_batch(&mut joins, &mut pairs)?;
+        count_batch(&mut joins, &mut hand, &mut pairs)?;
     }
-    count_pairs(&mut joins, &pairs)?;
+    count_pairs(&mut joins, &mut hand, &pairs)?;
     Ok(joins)
 }

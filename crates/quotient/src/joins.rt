@@ -32,8 +32,9 @@ impl Joins {
         })
     }
 
-    /// Counts an edge from one block to another.
-    pub(crate) fn count(&mut self, a: u32, b: u32) -> Result<(), Memory>
+    /// Counts an edge from one block to another, with pairs at hand.
+    #[inline(always)]
+    pub(crate) fn count(&mut self, hand: &mut Vec<usize>, a: u32, b: u32) -> Result<(), Memory>
         requires from { a < length self.old.children }
         requires onto { b < length self.old.parents }
         requires few { support_at self.old.supports a b < 2 ^ 32 - 1 }
@@ -43,7 +44,7 @@ impl Joins {
         ensures children { OnOk result (length self.new.children ≡ length self.old.children) }
         ensures parents { OnOk result (length self.new.parents ≡ length self.old.parents) }
     {
-        if self.supports.raise(a, b)? {
+        if self.supports.raise(hand, a, b)? {
             self.children.push(a, b)?;
             self.parents.push(b, a)?;
         }

@@ -1,6 +1,7 @@
 // How many edges lead from one block to another.
-ghost use Rattle.std.specs.Prelude.{◌≡◌, ◌+◌, ◌-◌, ◌<◌, ◌^◌, IfOk, OnOk, nat_eq};
+ghost use Rattle.std.specs.Prelude.{◌≡◌, ◌+◌, ◌-◌, ◌<◌, ◌^◌, ◌&&◌, ℕ, false, Some, IsTrue, IsFalse, IfOk, OnOk, nat_eq, slice_get};
 ghost use Rattle.std.specs.FinMap as map;
+ghost use Rattle.indexmap.specs.IndexMap.{get};
 ghost use Rattle.bisim_spec.specs.Views.{support_at};
 ghost use Rattle.quotient.specs.Quotients.{pair_count};
 ghost use Rattle.quotient.specs.Joined.{with_edge};
@@ -58,8 +59,50 @@ impl Supports {
         self.table.len()
     }
 
-    /// Counts one more edge, and answers whether it is the first of its pair.
-    pub(crate) fn raise(&mut self, a: u32, b: u32) -> Result<bool, Memory>
+    /// Counts one more edge, and answers whether it is the first of its pair. Where the pair stands is
+    /// taken from those at hand, if it is one of them.
+    #[inline(always)]
+    pub(crate) fn raise(&mut self, hand: &mut Vec<usize>, a: u32, b: u32) -> Result<bool, Memory>
+        requires few { support_at self.old a b < 2 ^ 32 - 1 }
+        ensures raised { OnOk result (self.new ≡ with_edge self.old a b) }
+        ensures first { IfOk result (λ first. first ≡ nat_eq (support_at self.old a b) 0) }
+    {
+        let place = place_of(a, b);
+        if !self.raise_at(read_hand(hand, place), a, b) {
+            let first = self.raise_found(a, b)?;
+            self.note(hand, place, a, b);
+            return Ok(first);
+        }
+        Ok(false)
+    }
+
+    // Counts one more edge, if the pair stands at this index.
+    #[inline(always)]
+    fn raise_at(&mut self, i: usize, a: u32, b: u32) -> bool
+        requires few { support_at self.old a b < 2 ^ 32 - 1 }
+        ensures raised { IsTrue result → self.new ≡ with_edge self.old a b }
+        ensures some { IsTrue result → false ≡ nat_eq (support_at self.old a b) 0 }
+        ensures left { IsFalse result → self.new ≡ self.old }
+    {
+        if !is_at(&self.table, i, a, b) {
+            return false;
+        }
+        if let Some(count) = self.table.get_index_mut(i) {
+            *count += 1;
+            return true;
+        }
+        false
+    }
+
+    // Has the index of a pair at hand, in place of another one.
+    fn note(&self, hand: &mut Vec<usize>, place: usize, a: u32, b: u32) {
+        if let Some(i) = self.table.get_index_of(&(a, b)) {
+            write_hand(hand, place, i);
+        }
+    }
+
+    // Counts one more edge of a pair that is found by hash.
+    fn raise_found(&mut self, a: u32, b: u32) -> Result<bool, Memory>
         requires few { support_at self.old a b < 2 ^ 32 - 1 }
         ensures raised { OnOk result (self.new ≡ with_edge self.old a b) }
         ensures first { IfOk result (λ first. first ≡ nat_eq (support_at self.old a b) 0) }
@@ -70,5 +113,44 @@ impl Supports {
         }
         self.table.insert((a, b), 1)?;
         Ok(true)
+    }
+}
+
+/// How many pairs are at hand at most.
+const HAND: usize = 4096;
+
+/// No pairs at hand: for each place the index of a pair in the table, which is looked at before it is
+/// taken.
+pub(crate) fn empty_hand(alloc: Global) -> Result<Vec<usize>, Memory> {
+    let hand = vec![in alloc; 0; HAND]?;
+    Ok(hand)
+}
+
+// Where a pair is at hand, if it is: 12 bits of both numbers.
+#[inline(always)]
+fn place_of(a: u32, b: u32) -> usize {
+    ((a.wrapping_mul(0x9E37_79B9) ^ b.wrapping_mul(0x85EB_CA6B)) >> 20) as usize
+}
+
+#[inline(always)]
+fn read_hand(hand: &[usize], place: usize) -> usize {
+    if place < hand.len() { hand[place] } else { 0 }
+}
+
+#[inline(always)]
+fn write_hand(hand: &mut Vec<usize>, place: usize, i: usize) {
+    if place < hand.len() {
+        hand[place] = i;
+    }
+}
+
+// Whether the pair stands at this index.
+#[inline(always)]
+fn is_at(table: &IndexMap<(u32, u32), u32>, i: usize, a: u32, b: u32) -> bool
+    ensures { IsTrue result → (n : ℕ) × (slice_get table.now.entries i ≡ Some ((a, b), n)) × (get (λ x y. nat_eq x.0 y.0 && nat_eq x.1 y.1) table.now (a, b) ≡ Some n) }
+{
+    match table.get_index(i) {
+        Some((pair, _)) => pair.0 == a && pair.1 == b,
+        None => false,
     }
 }

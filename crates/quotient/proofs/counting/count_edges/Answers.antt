@@ -1,3 +1,4 @@
+use Rattle.quotient.specs.Joined.{AreBelow}
 use Rattle.std.proofs.Common.{◌∙◌, ◌<◌, ap, sym, arith, length, subst, ◌+◌}
 use Rattle.std.proofs.lemmas.List.{take_all}
 use Rattle.label_graph.specs.ViewLaws.{below_span}
@@ -70,3 +71,12 @@ returns-clause-live c = λ a b h.
     ∙ below_all g.edges block (length g.given) a b (λ n h. below_span g n (sym (c.requires.nodes n) ∙ h)) in
     let m = between_members g.edges block a b (subst (λ n. 0 < n) is h) in
     (c.span.ensures.live m.0 a m.2, c.span.ensures.live m.1 b m.3)
+
+pub gather_edge-requires : goal.gather_edge-requires
+gather_edge-requires c = record { below = subst (λ n. AreBelow n c.loop-from.pairs.items) c.loop-from.invariant.children c.loop-from.invariant.below }
+
+pub count_batch-requires-clause-below : goal.count_batch-requires-clause-below
+count_batch-requires-clause-below c = subst (λ n. AreBelow n c.gather_edge.new.pairs.items) (sym c.loop-from.invariant.children) c.in_ok-gather_edge.ensures.below
+
+pub count_pairs-requires-clause-below : goal.count_pairs-requires-clause-below
+count_pairs-requires-clause-below c = rw c.deref.ensures.value c.loop-from.invariant.below

@@ -4,7 +4,7 @@ use Rattle.std.specs.FinMap as map
 use Rattle.bisim_spec.specs.Views.{support_at}
 use Rattle.quotient.specs.Joined.{IsPositive}
 use Rattle.quotient.proofs.Looked.{written, positive_with, found_in, supported_not_zero}
-use Rattle.quotient.proofs.supports.Supports.raise.Goals as goal
+use Rattle.quotient.proofs.supports.Supports.raise_found.Goals as goal
 
 pub overflow_add-n : goal.overflow_add-n
 overflow_add-n c =
