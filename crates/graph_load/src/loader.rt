@@ -74,8 +74,8 @@ impl Loader {
         }
     }
 
-    // Whether the nodes of both terms are there, as they always are. They are read here, before the triple is looked up
-    // and its edges are added, so that the processor waits for the memory of all of them at once.
+    // Whether the nodes of both terms are there, as they always are. They are read here, before the triple is looked for
+    // among those that are loaded and its edges are added, so that the processor waits for all that memory at once.
     fn are_live(&self, subject: &Found, object: &Found) -> bool
         requires subject { is_live self.now.graph.graph subject.now.number ≡ true }
         requires object { is_live self.now.graph.graph object.now.number ≡ true }

@@ -86,7 +86,7 @@ fn texts_load_to_graphs(rt: HostRuntime) -> Result<(), Fail> {
         ),
         (b"\n<a> <p> <b> .\n", FEW_NODES, Err(LoadError::Limit(2))),
         (
-            b"<a> <p> <b> .\n<c> <p> <d> .\n",
+            b"<a> <p> <b> .\n<c> <p> <d> .\n<c> .\n",
             FOUR_NODES,
             Err(LoadError::Limit(2)),
         ),

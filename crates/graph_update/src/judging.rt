@@ -90,8 +90,8 @@ fn is_seen(labels: &Labels, label: &Text) -> bool
     labels.find(label).is_some()
 }
 
-/// Whether the text is a label already, or one more label is within the limits. It is looked up only where the
-/// labels have reached theirs.
+/// Whether the text is a label already, or one more label is within the limits. The text is looked up only where
+/// there are as many labels as the limit allows.
 fn label_fits(labels: &Labels, limits: &Limits, label: &Text) -> bool
     ensures { result ≡ (is_seen labels.now.texts label.now || nat_lt (length labels.now.texts) limits.now.labels) }
 {

@@ -89,6 +89,7 @@ impl Labels {
     }
 
     /// Takes out the text that is ahead.
+    #[inline(always)]
     pub(crate) fn clear(&mut self)
         ensures { self.new ≡ record self.old { ahead = None } }
     {

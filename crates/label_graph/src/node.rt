@@ -1,6 +1,7 @@
 // The nodes of a graph, and their lists of neighbours.
-ghost use Rattle.std.specs.Prelude.{◌≡◌, ◌<◌, ◌+◌, ◌==◌, ◌++◌, ◌∷◌, [], ℕ, if◌then◌else◌, false, Some, None, OnOk, ◌≤◌, length, take, vec_len, vec_capacity, slice_set, nat_eq, position};
+ghost use Rattle.std.specs.Prelude.{◌≡◌, ◌<◌, ◌+◌, ◌==◌, ◌++◌, ◌∷◌, [], ℕ, if◌then◌else◌, false, Some, None, OnOk, OnErr, ◌≤◌, length, take, vec_len, vec_capacity, slice_set, nat_eq, position};
 ghost use Rattle.std.specs.List.{IsDistinct};
+ghost use Rattle.smallvec.specs.SmallVec.{HasRoomFor};
 ghost use Rattle.px_spec.specs.Members.{has};
 ghost use Rattle.label_graph.specs.Nodes.{labels_of, number_at, children_of, parents_of, Mirrors, SameNodes, HasRoom, IsWithout, LacksEdge};
 
@@ -12,8 +13,8 @@ use std::alloc::Global;
 const PIECE: usize = 256;
 
 /// One node: the number of its label in the table, or none where the node is gone, and its
-/// neighbours, each once. The children stand next to the label, since an edge is mostly added and read from where
-/// it begins.
+/// neighbours, each once. The children stand next to the label, so that to add an edge where it begins mostly touches
+/// one line of the cache.
 #[derive(Drop)]
 pub(crate) struct Node {
     pub(crate) label: Option<u32>,
@@ -79,8 +80,23 @@ pub(crate) fn reserve_edge(nodes: &mut Vec<Node>, u: NodeId, v: NodeId) -> Resul
     ensures capacity { vec_capacity nodes.new ≡ vec_capacity nodes.old }
     ensures room { OnOk result (HasRoom nodes.new.items u v) }
 {
-    nodes[u as usize].children.reserve(1)?;
-    nodes[v as usize].parents.reserve(1)?;
+    make_place(&mut nodes[u as usize].children)?;
+    make_place(&mut nodes[v as usize].parents)?;
+    Ok(())
+}
+
+// Makes room for one more number, where there is none.
+#[inline(always)]
+fn make_place(list: &mut SmallVec<u32, 4>) -> Result<(), Memory>
+    ensures items { list.new.items ≡ list.old.items }
+    ensures capacity { list.old.capacity ≤ list.new.capacity }
+    ensures ok { OnOk result (HasRoomFor list.new 1) }
+    ensures err { OnErr result (list.new ≡ list.old) }
+{
+    if list.len() < list.capacity() {
+        return Ok(());
+    }
+    list.reserve(1)?;
     Ok(())
 }
 
