@@ -18,8 +18,8 @@ import time
 
 ROOT = pathlib.Path(__file__).resolve().parent.parent
 MAKE = ROOT / "tools" / "make_triples.py"
-TURNS = 5
-COUNTS = 20_000, 200_000, 1_600_000
+# how often each count of triples is measured
+TURNS = {20_000: 15, 200_000: 15, 1_600_000: 5}
 LOAD_MARK = 2.5
 # megabytes, at the most triples
 MEMORY_MARK = 450
@@ -39,10 +39,10 @@ def run(command):
     return seconds, usage.ru_maxrss * 1024 / 1e6
 
 
-def best_of(commands):
+def best_of(commands, turns):
     """Of each command by its name the least seconds, and the most megabytes. They are run in turns."""
     taken = {name: [] for name in commands}
-    for _ in range(TURNS):
+    for _ in range(turns):
         for name, command in commands.items():
             taken[name].append(run(command))
     return {name: (min(s for s, _ in runs), max(m for _, m in runs)) for name, runs in taken.items()}
@@ -56,7 +56,7 @@ def measure(program, folder, count):
         "load": [program, os.path.join(folder, "empty"), "--graph", text],
         "sizes": [program, os.path.join(folder, "sizes"), "--graph", text, "--k", "2"],
         "serdi": ["serdi", "-b", text],
-    })
+    }, TURNS[count])
 
 
 def write_script(folder, name, text):
@@ -69,7 +69,7 @@ def show(count, size, taken):
     print(f"{count:>9,} triples, {size:.1f} MB; serdi -b {serdi:.3f} s, {size / serdi:.0f} MB/s")
     print(f"    load   {load:>7.3f} s, {count / load:>9,.0f} triples/s, {size / load:>5.1f} MB/s, peak {peak:.0f} MB")
     print(f"           {load / serdi:.2f} times as long as serdi -b; the mark is {LOAD_MARK}")
-    if count == COUNTS[-1]:
+    if count == max(TURNS):
         print(f"           the mark of its memory is {MEMORY_MARK} MB")
     above = sizes - load
     mark = f"; the mark is {SIZES_MARKS[count]}" if count in SIZES_MARKS else ""
@@ -88,7 +88,7 @@ def main():
     with tempfile.TemporaryDirectory() as folder:
         write_script(folder, "empty", "")
         write_script(folder, "sizes", "sizes\n")
-        for count in COUNTS:
+        for count in TURNS:
             show(count, *measure(program, folder, count))
 
 
