@@ -1,21 +1,29 @@
 -- What a walk along a chain finds is where the term stands.
 use Rattle.std.proofs.Common.{◌≡◌, ℕ, zero, suc, ◌<◌, Bool, true, false, cond, List, [], ◌∷◌, length, Some, None, option_map, map, refl, sym, ap, ◌∙◌, arith, true≢false}
-use Rattle.std.specs.Prelude.{position, is_some}
+use Rattle.std.specs.Prelude.{position, is_some, bytes_eq, if◌then◌else◌}
 use Rattle.std.specs.Map.{keys_of, lookup}
 use Rattle.triples_read.specs.declared.term.Term.{Term}
 use Rattle.triples_read.specs.declared.term.Term.TheVariants.{Iri, Blank, Literal}
+use Rattle.triples_read.specs.Lines.{xsd_string}
+use Rattle.graph_load.specs.declared.terms.parts.Sort.TheVariants as sort
 use Rattle.graph_load.specs.declared.terms.entries.Entry.{Entry}
 use Rattle.graph_load.specs.Loading.{same_term}
 use Rattle.graph_load.specs.Parts.{parts_of, term_of}
 use Rattle.graph_load.specs.Entries.{entry_at, parts_in, terms_of, AreSpelled, IsAbsent}
 use Rattle.graph_load.specs.Finding.{IsFoundAs}
-use Rattle.graph_load.proofs.SameTerms.{term_is, term_same}
+use Rattle.graph_load.proofs.SameTerms.{same_bytes, term_is, term_same}
 use Rattle.graph_load.proofs.Standing.{position-cons}
+
+-- the datatype of strings is put back
+untagged_again : (text datatype : List ℕ) (b : Bool) → bytes_eq datatype xsd_string ≡ b
+    → term_of (if b then record { sort = sort.Simple; text = text; datatype = []; tag = [] } else record { sort = sort.Plain; text = text; datatype = datatype; tag = [] }) ≡ Literal text datatype None
+untagged_again text datatype true is = ap (λ (d : List ℕ). Literal text d None) (sym (same_bytes datatype xsd_string is))
+untagged_again text datatype false is = refl
 
 pub term_again : (x : Term) → term_of (parts_of x) ≡ x
 term_again (Iri text) = refl
 term_again (Blank text) = refl
-term_again (Literal text datatype None) = refl
+term_again (Literal text datatype None) = untagged_again text datatype (bytes_eq datatype xsd_string) refl
 term_again (Literal text datatype (Some tag)) = refl
 
 pub parts_again : (x : Term) → parts_of (term_of (parts_of x)) ≡ parts_of x

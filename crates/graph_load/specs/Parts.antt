@@ -1,8 +1,9 @@
 -- The parts of a term, by which it is found, and their hash.
-use Rattle.std.specs.Prelude.{ℕ, ◌/◌, ◌^◌, List, [], Option, None, Some}
+use Rattle.std.specs.Prelude.{ℕ, ◌/◌, ◌^◌, List, [], Option, None, Some, bytes_eq, if◌then◌else◌}
 use Rattle.std.specs.Hash.FoldHasher.{initial, write, finish}
 use Rattle.triples_read.specs.declared.term.Term.{Term}
 use Rattle.triples_read.specs.declared.term.Term.TheVariants.{Iri, Blank, Literal}
+use Rattle.triples_read.specs.Lines.{xsd_string}
 use Rattle.graph_load.specs.declared.terms.parts.Sort.{Sort}
 use Rattle.graph_load.specs.declared.terms.parts.Sort.TheVariants as sort
 use Rattle.graph_load.specs.declared.terms.parts.Parts.{Parts as PartsSeen}
@@ -17,7 +18,9 @@ abbrev pub shown_parts : PartsSeen → Parts
 shown_parts p = record { sort = p.sort; text = p.text.now; datatype = p.datatype.now; tag = p.tag.now }
 
 abbrev pub literal_parts : List ℕ → List ℕ → Option (List ℕ) → Parts
-literal_parts text datatype None = record { sort = sort.Plain; text = text; datatype = datatype; tag = [] }
+literal_parts text datatype None =
+    if bytes_eq datatype xsd_string then record { sort = sort.Simple; text = text; datatype = []; tag = [] }
+    else record { sort = sort.Plain; text = text; datatype = datatype; tag = [] }
 literal_parts text datatype (Some tag) = record { sort = sort.Tagged; text = text; datatype = datatype; tag = tag }
 
 abbrev pub parts_of : Term → Parts
@@ -29,6 +32,7 @@ parts_of (Literal text datatype tag) = literal_parts text datatype tag
 abbrev pub term_by : Sort → List ℕ → List ℕ → List ℕ → Term
 term_by sort.Iri text datatype tag = Iri text
 term_by sort.Blank text datatype tag = Blank text
+term_by sort.Simple text datatype tag = Literal text xsd_string None
 term_by sort.Plain text datatype tag = Literal text datatype None
 term_by sort.Tagged text datatype tag = Literal text datatype (Some tag)
 

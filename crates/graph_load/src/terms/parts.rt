@@ -1,16 +1,23 @@
 // The parts of a term, by which it is found.
-ghost use Rattle.std.specs.Prelude.{◌≡◌, []};
-ghost use Rattle.graph_load.specs.Parts.{parts_of, shown_parts, hash_of};
+ghost use Rattle.std.specs.Prelude.{◌≡◌, [], None, bytes_eq};
+ghost use Rattle.triples_read.specs.Lines.{xsd_string};
+ghost use Rattle.graph_load.specs.Parts.{parts_of, literal_parts, shown_parts, hash_of};
 
+use px_base::Text;
 use std::hash::{FoldHasher, Hasher};
 use triples_read::Term;
+
+// The datatype of strings.
+const XSD_STRING: &str = "http://www.w3.org/2001/XMLSchema#string";
 
 /// What a term is.
 #[derive(Clone, Copy, PartialEq, Eq)]
 pub(crate) enum Sort {
     Iri,
     Blank,
-    /// A literal without a language tag.
+    /// A literal of the datatype of strings, which isn't kept.
+    Simple,
+    /// A literal of another datatype, without a language tag.
     Plain,
     /// A literal with one.
     Tagged,
@@ -37,12 +44,7 @@ pub(crate) fn parts_of(term: &Term) -> Parts<'_>
             text,
             datatype,
             tag: None,
-        } => Parts {
-            sort: Sort::Plain,
-            text: text.as_bytes(),
-            datatype: datatype.as_bytes(),
-            tag: &[],
-        },
+        } => untagged(text, datatype),
         Term::Literal {
             text,
             datatype,
@@ -53,6 +55,27 @@ pub(crate) fn parts_of(term: &Term) -> Parts<'_>
             datatype: datatype.as_bytes(),
             tag: tag.as_bytes(),
         },
+    }
+}
+
+fn is_xsd_string(datatype: &str) -> bool
+    ensures { result ≡ bytes_eq datatype.now xsd_string }
+{
+    datatype == XSD_STRING
+}
+
+#[inline(always)]
+fn untagged<'a>(text: &'a Text, datatype: &'a Text) -> Parts<'a>
+    ensures { shown_parts result ≡ literal_parts text.now datatype.now None }
+{
+    if is_xsd_string(datatype.as_str()) {
+        return alone(Sort::Simple, text.as_bytes());
+    }
+    Parts {
+        sort: Sort::Plain,
+        text: text.as_bytes(),
+        datatype: datatype.as_bytes(),
+        tag: &[],
     }
 }
 
