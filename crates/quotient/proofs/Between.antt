@@ -152,24 +152,6 @@ below_zero edges block x y =
     kept edges before k ∙ rw none (and_false (set.contains edges k)) ∙ sym (set.contains-empty edge_cmp k)))
     ∙ set.len-empty edge_cmp
 
--- no edge of a node without a block counts
-pub below_skip : (edges : Edges) (block : List (Option ℕ)) (n x y : ℕ) → at block n ≡ None → edges_below edges block (suc n) x y ≡ edges_below edges block n x y
-below_skip edges block n x y none =
-    let j = joins block x y in
-    let before : ℕ × ℕ → Bool = λ e. nat_lt e.0 n && j e in
-    let after : ℕ × ℕ → Bool = λ e. nat_lt e.0 (suc n) && j e in
-    ap set.len (set.same_set edge_cmp_total edge_cmp-IsAntisymmetric (set.retain edges after) (set.retain edges before) (λ k.
-    kept edges after k ∙ ap (λ b. set.contains edges k && b) (elim (eqb_tells k.0 n) [
-      | inl s ↦ (
-          let out : at block k.0 ≡ None = ap (at block) s.1 ∙ none in
-          let off : j k ≡ false = rw out refl in
-          rw off (and_false (nat_lt k.0 (suc n)) ∙ sym (and_false (nat_lt k.0 n))))
-      | inr d ↦ (
-          let other = d.1 in
-          let alike : nat_lt k.0 (suc n) ≡ nat_lt k.0 n = grind (arith, nat_tests, other) in
-          rw alike refl)
-    ]) ∙ sym (kept edges before k)))
-
 some_block : (x : ℕ) (o : Option ℕ) → is_block x o ≡ true → o ≡ Some x
 some_block x None h = absurd (cc)
 some_block x (Some b) h = elim (eqb_tells x b) [ inl s ↦ ap (λ c. Some c) (sym s.1) | inr d ↦ absurd (let f = d.0 in cc) ]

@@ -1,12 +1,10 @@
 -- Tables of lists, and counts of pairs.
-use Rattle.std.proofs.Common.{◌≡◌, ℕ, zero, suc, ◌+◌, ◌<◌, List, [], ◌∷◌, ◌++◌, Option, refl, sym, ◌∙◌, ap, arith, cond, length, take, get_or, slice_set, map as map_list}
+use Rattle.std.proofs.Common.{◌≡◌, ℕ, zero, suc, ◌<◌, List, [], ◌∷◌, ◌++◌, refl, sym, ◌∙◌, ap, length, get_or, slice_set, map as map_list}
 use Rattle.std.proofs.Math.ListN.{replicate}
-use Rattle.std.proofs.lemmas.List.{take_more, map-append, map-set}
+use Rattle.std.proofs.lemmas.List.{map-set}
 use Rattle.std.proofs.lemmas.Option.{slice_get-map, slice_get-get_or, get_or_from_slice_get}
 use Rattle.std.specs.Prelude.{option_map, Some, None, slice_get}
-use Rattle.std.proofs.lemmas.List.Sums.{sum_by-append}
-use Rattle.bisim_spec.specs.Supports.{joins}
-use Rattle.quotient.specs.Joined.{pairs_of, pairs_between, pairs_with, AreBelow, one_if, list_at}
+use Rattle.quotient.specs.Joined.{pairs_with, AreBelow, list_at}
 
 -- the list that a value of a table of lists gives
 pub item_at : {X : Type 0} (f : X → List ℕ) (xs : List X) (n : ℕ) (v : X) → n < length xs → v ≡ get_or xs n v → list_at (map_list f xs) n ≡ f v
@@ -29,13 +27,6 @@ replicate_more (suc len) = ap (λ (t : List (List ℕ)). none_list ∷ t) (repli
 pub pushed_at : {X : Type 0} (f : X → List ℕ) (xs : List X) (n b : ℕ) (old new : X) → n < length xs → old ≡ get_or xs n old → f new ≡ f old ++ b ∷ []
     → map_list f (slice_set xs n new) ≡ slice_set (map_list f xs) n (list_at (map_list f xs) n ++ b ∷ [])
 pushed_at f xs n b old new h e k = map-set f xs n new ∙ ap (slice_set (map_list f xs) n) (k ∙ ap (λ (l : List ℕ). l ++ b ∷ []) (sym (item_at f xs n old h e)))
-
--- one more of the edges from n
-pub pairs_more : (block : List (Option ℕ)) (n : ℕ) (cs : List ℕ) (j x y : ℕ) → j < length cs
-    → pairs_between block n (take (j + 1) cs) x y ≡ pairs_between block n (take j cs) x y + one_if (joins block x y (n, get_or cs j 0))
-pairs_more block n cs j x y h =
-    let pair : ℕ → ℕ × ℕ = λ c. (n, c) in
-    rw (take_more cs j 0 h, map-append pair (take j cs) (get_or cs j 0 ∷ []), sum_by-append (λ (e : ℕ × ℕ). cond (joins block x y e) 1 0) (pairs_of n (take j cs)) ((n, get_or cs j 0) ∷ [])) (omega arith)
 
 -- no pairs wait
 pub no_pairs : (pairs : List (ℕ × ℕ)) (x y : ℕ) → pairs ≡ [] → pairs_with pairs x y ≡ 0
