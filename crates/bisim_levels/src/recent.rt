@@ -8,7 +8,10 @@ use px_base::Memory;
 use std::alloc::Global;
 
 /// How many keys are at hand at most.
-const PLACES: usize = 4096;
+const PLACES: usize = 1 << BITS;
+
+// How many bits the number of a place has.
+const BITS: u32 = 12;
 
 /// The numbers that a key is spelled by, and its number in the table of keys, where it has one.
 #[derive(Clone, Copy)]
@@ -31,10 +34,10 @@ pub(crate) fn none_recent(alloc: Global) -> Result<Vec<Recent>, Memory>
     Ok(recent)
 }
 
-// Where a key stands, if it is at hand: 12 bits of both numbers.
+// Where a key stands, if it is at hand: some bits of both numbers.
 #[inline(always)]
 fn place_of(around: u32, own: u32) -> usize {
-    ((around.wrapping_mul(0x9E37_79B9) ^ own.wrapping_mul(0x85EB_CA6B)) >> 20) as usize
+    ((around.wrapping_mul(0x9E37_79B9) ^ own.wrapping_mul(0x85EB_CA6B)) >> (32 - BITS)) as usize
 }
 
 // The number of the key that these spell.

@@ -117,7 +117,10 @@ impl Supports {
 }
 
 /// How many pairs are at hand at most.
-const HAND: usize = 4096;
+const HAND: usize = 1 << BITS;
+
+// How many bits the number of a place has.
+const BITS: u32 = 12;
 
 /// No pairs at hand: for each place the index of a pair in the table, which is looked at before it is
 /// taken.
@@ -126,10 +129,10 @@ pub(crate) fn empty_hand(alloc: Global) -> Result<Vec<usize>, Memory> {
     Ok(hand)
 }
 
-// Where a pair is at hand, if it is: 12 bits of both numbers.
+// Where a pair is at hand, if it is: some bits of both numbers.
 #[inline(always)]
 fn place_of(a: u32, b: u32) -> usize {
-    ((a.wrapping_mul(0x9E37_79B9) ^ b.wrapping_mul(0x85EB_CA6B)) >> 20) as usize
+    ((a.wrapping_mul(0x9E37_79B9) ^ b.wrapping_mul(0x85EB_CA6B)) >> (32 - BITS)) as usize
 }
 
 #[inline(always)]
