@@ -41,8 +41,9 @@ impl Model for AkFamily {
 }
 
 impl AkFamily {
-    /// The family of a graph. The edges are listed once. Each level reads each node's parents and the list
-    /// of edges once, sorts the blocks of each node's parents, and finds keys and pairs of blocks by hash.
+    /// The family of a graph. The edges are listed once. Each level reads the list of edges once, and above
+    /// level 0 each node's parents; where there isn't exactly one parent, their blocks are sorted. Keys and
+    /// pairs of blocks that aren't at hand are found by hash.
     pub fn build(alloc: Global, view: &GraphView<'_>, k: u32) -> Result<AkFamily, Memory>
         requires few { k ≤ 8 }
         ensures count { IfOk result (λ f. length f ≡ k + 1) }

@@ -55,8 +55,8 @@ fn append(blocks: &mut Blocks, block: Option<u32>)
     blocks.append(block);
 }
 
-// Puts the nodes below a number, none of which has a number in the list yet, into the blocks that the
-// list gives.
+// Puts the nodes below a number into the blocks that the list gives. The partition's own list of blocks
+// is empty before.
 fn append_nodes(blocks: &mut Blocks, size: u32, block: &[Option<u32>])
     requires blocks { (n b : ℕ) → block_at block.now n ≡ Some b → IsBlock blocks.old b }
     requires none { blocks.old.block_of ≡ [] }

@@ -6,7 +6,7 @@ use Rattle.bisim_levels.specs.declared.recent.Recent.{Recent}
 abbrev pub two_numbers : ℕ → ℕ → List ℕ
 two_numbers around own = around ∷ own ∷ []
 
--- the key of a node without neighbours
+-- the key of a node at level 0: the number of its label alone
 abbrev pub own_number : ℕ → ℕ → List ℕ
 own_number around own = own ∷ []
 

@@ -18,7 +18,8 @@ pub(crate) fn block_of(block: &[Option<u32>], n: NodeId) -> Option<u32>
     }
 }
 
-/// The block of the only node of a list, and `None` where there are more nodes, or none.
+/// The block of the only node of a list, and `None` where there are more nodes, or none, or where that
+/// node has no block.
 #[inline(always)]
 pub(crate) fn only_block(block: &[Option<u32>], nodes: &[NodeId]) -> Option<u32>
     ensures { IfSome result (λ b. (p : ℕ) × (nodes.now ≡ p ∷ []) × (block_at block.now p ≡ Some b)) }

@@ -40,7 +40,8 @@ fn intern_key(
     keys.intern(key)
 }
 
-// The same. Most nodes have one neighbour, and few blocks: the key of such a node is mostly at hand.
+// The same. In a graph of triples the node of each triple has one parent and one child, and there are
+// few distinct keys, so that such a key is mostly at hand.
 #[inline(always)]
 fn find_key(
     keys: &mut KeyTable,

@@ -9,8 +9,8 @@ use px_base::{Memory, NodeId};
 use std::alloc::Global;
 use std::marker::Model;
 
-/// The edges of a graph one behind the other, each by the numbers of its two nodes. Whoever makes
-/// several quotients of one graph reads its nodes once.
+/// A list of edges, each a pair of numbers of nodes: those of a graph, where `EdgeList::of` made it. Whoever
+/// makes several quotients of one graph reads its nodes once.
 ///
 /// It takes 8 bytes for each edge.
 #[derive(Drop)]

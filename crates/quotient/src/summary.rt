@@ -42,8 +42,9 @@ impl Model for Summary {
 }
 
 impl Summary {
-    /// The quotient of a graph by a partition of its live nodes. It lists the graph's edges, and finds each
-    /// pair by hash. On want of memory the blocks are dropped.
+    /// The quotient of a graph by a partition of its live nodes. It lists the graph's edges, which takes 8
+    /// bytes for each of them while it runs, and finds pairs that aren't at hand by hash. On want of memory
+    /// the blocks are dropped.
     pub fn of(alloc: Global, blocks: Blocks, view: &GraphView<'_>) -> Result<Summary, Memory>
         requires partition { IsPartition (shape_of view.now) blocks.block_of }
         ensures blocks { IfOk result (λ s. s.blocks ≡ blocks) }
@@ -53,7 +54,8 @@ impl Summary {
         Summary::of_edges(alloc, blocks, view, &edges)
     }
 
-    /// The quotient of a graph by a partition of its live nodes, from the list of its edges.
+    /// The quotient of a graph by a partition of its live nodes, from a list of this graph's edges. On want
+    /// of memory the blocks are dropped.
     pub fn of_edges(
         alloc: Global,
         blocks: Blocks,
