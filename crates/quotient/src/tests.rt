@@ -152,6 +152,16 @@ fn check_graph(rt: &impl Abort, summary: &Summary) {
     assert!(rt; parents.contains(&1) && parents.contains(&3));
 }
 
+// From a list of the edges the same supports come.
+fn check_listed(rt: &impl Abort, alloc: Global, view: &GraphView<'_>) -> Result<(), Fail> {
+    let edges = EdgeList::of(alloc, view)?;
+    let blocks = by_label(rt, alloc)?;
+    assert!(rt; is_partition(view, &blocks));
+    let summary = Summary::of_edges(alloc, blocks, view, &edges)?;
+    check_supports(rt, &summary);
+    Ok(())
+}
+
 fn read_tree<L: Ledger>(rt: &impl Abort, alloc: Global, blank: Blank) -> Result<(), Fail>
     requires name { blank.name ≡ L.name }
     requires parts { blank.parts ≡ L.parts }
@@ -167,7 +177,7 @@ fn read_tree<L: Ledger>(rt: &impl Abort, alloc: Global, blank: Blank) -> Result<
     check_supports(rt, &summary);
     check_blocks(rt, &summary);
     check_graph(rt, &summary);
-    Ok(())
+    check_listed(rt, alloc, &view)
 }
 
 #[test]
