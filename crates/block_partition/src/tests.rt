@@ -69,10 +69,26 @@ fn empty_the_second(rt: &impl Abort, blocks: &mut Blocks) {
     assert!(rt; has_members(rt, blocks, 1, &[]));
 }
 
+// Nodes 6 and 7 come behind the others: the first in the second block, the other in none.
+fn append_two(rt: &impl Abort, blocks: &mut Blocks) -> Result<(), Fail> {
+    if blocks.numbers() > 6 || blocks.count() > 2 {
+        return Err("too much".into());
+    }
+    blocks.reserve(2, 0)?;
+    assert!(rt; blocks.is_block(1));
+    blocks.append(Some(1));
+    blocks.append(None);
+    assert_eq!(rt; blocks.numbers(), 8);
+    assert_eq!(rt; (blocks.block_of(6), blocks.block_of(7)), (Some(1), None));
+    assert!(rt; has_members(rt, blocks, 1, &[6]));
+    Ok(())
+}
+
 #[test]
 fn moves(rt: HostRuntime) -> Result<(), Fail> {
     let mut blocks = small(&rt, rt.alloc())?;
     empty_the_second(&rt, &mut blocks);
+    append_two(&rt, &mut blocks)?;
     Ok(())
 }
 
