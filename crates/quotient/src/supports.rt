@@ -1,5 +1,5 @@
 // How many edges lead from one block to another.
-ghost use Rattle.std.specs.Prelude.{◌≡◌, ◌+◌, ◌-◌, ◌<◌, ◌^◌, ◌&&◌, ℕ, false, Some, IsTrue, IsFalse, IfOk, OnOk, nat_eq, slice_get};
+ghost use Rattle.std.specs.Prelude.{◌≡◌, ◌+◌, ◌-◌, ◌<◌, ◌^◌, ◌&&◌, ℕ, false, Some, None, IsTrue, IsFalse, IfOk, OnOk, IfSome, IfNone, nat_eq, slice_get};
 ghost use Rattle.std.specs.FinMap as map;
 ghost use Rattle.indexmap.specs.IndexMap.{get};
 ghost use Rattle.bisim_spec.specs.Views.{support_at};
@@ -69,9 +69,7 @@ impl Supports {
     {
         let place = place_of(a, b);
         if !self.raise_at(read_hand(hand, place), a, b) {
-            let first = self.raise_found(a, b)?;
-            self.note(hand, place, a, b);
-            return Ok(first);
+            return self.raise_found(hand, place, a, b);
         }
         Ok(false)
     }
@@ -94,24 +92,29 @@ impl Supports {
         false
     }
 
-    // Has the index of a pair at hand, in place of another one.
-    fn note(&self, hand: &mut Vec<usize>, place: usize, a: u32, b: u32) {
-        if let Some(i) = self.table.get_index_of(&(a, b)) {
-            write_hand(hand, place, i);
-        }
-    }
-
-    // Counts one more edge of a pair that is found by hash.
-    fn raise_found(&mut self, a: u32, b: u32) -> Result<bool, Memory>
+    // Counts one more edge of a pair that is found by hash, and has its index at hand, in place of
+    // another one.
+    fn raise_found(
+        &mut self,
+        hand: &mut Vec<usize>,
+        place: usize,
+        a: u32,
+        b: u32,
+    ) -> Result<bool, Memory>
         requires few { support_at self.old a b < 2 ^ 32 - 1 }
         ensures raised { OnOk result (self.new ≡ with_edge self.old a b) }
         ensures first { IfOk result (λ first. first ≡ nat_eq (support_at self.old a b) 0) }
     {
-        if let Some(n) = self.table.get_mut(&(a, b)) {
+        if let Some(i) = index_of(&self.table, a, b) {
+            write_hand(hand, place, i);
+            let Some(n) = self.table.get_index_mut(i) else {
+                unreachable!()
+            };
             *n += 1;
             return Ok(false);
         }
-        self.table.insert((a, b), 1)?;
+        let (i, _) = self.table.insert_full((a, b), 1)?;
+        write_hand(hand, place, i);
         Ok(true)
     }
 }
@@ -156,4 +159,13 @@ fn is_at(table: &IndexMap<(u32, u32), u32>, i: usize, a: u32, b: u32) -> bool
         Some((pair, _)) => pair.0 == a && pair.1 == b,
         None => false,
     }
+}
+
+// The index of the pair, if it is in the table.
+#[inline(always)]
+fn index_of(table: &IndexMap<(u32, u32), u32>, a: u32, b: u32) -> Option<usize>
+    ensures found { IfSome result (λ i. (n : ℕ) × (slice_get table.now.entries i ≡ Some ((a, b), n)) × (get (λ x y. nat_eq x.0 y.0 && nat_eq x.1 y.1) table.now (a, b) ≡ Some n)) }
+    ensures absent { IfNone result (get (λ x y. nat_eq x.0 y.0 && nat_eq x.1 y.1) table.now (a, b) ≡ None) }
+{
+    table.get_index_of(&(a, b))
 }
