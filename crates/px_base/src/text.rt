@@ -55,6 +55,13 @@ impl Text {
         Text { content }
     }
 
+    /// The string, without a copy.
+    pub fn into_string(self) -> String
+        ensures { string_bytes result ≡ self }
+    {
+        self.content
+    }
+
     /// Its bytes.
     pub fn as_bytes(&self) -> &[u8]
         ensures bytes { result.now ≡ self.now }
