@@ -7,7 +7,7 @@ use std::alloc::Global;
 use std::io;
 use std::io::{BufRead, BufReader, ErrorKind};
 use std::process::ExitCode;
-use triples_read::{LineError, read_line};
+use triples_read::{LineError, SpareTexts, read_line_with};
 
 #[cfg(test)]
 mod tests;
@@ -31,10 +31,11 @@ struct Tally {
 }
 
 /// Takes one more line. False where it is bad.
-fn take_line(alloc: Global, line: &[u8], tally: &mut Tally) -> io::Result<bool> {
+fn take_line(spare: &mut SpareTexts, line: &[u8], tally: &mut Tally) -> io::Result<bool> {
     tally.lines = tally.lines.saturating_add(1);
-    match read_line(alloc, line) {
-        Ok(Some(_)) => {
+    match read_line_with(spare, line) {
+        Ok(Some(triple)) => {
+            spare.give_back(triple);
             tally.triples = tally.triples.saturating_add(1);
             Ok(true)
         }
@@ -54,9 +55,9 @@ fn without_end(bytes: &[u8]) -> &[u8] {
 }
 
 /// Takes the lines that stand before one LF, with a CR between each two. False where one is bad.
-fn take_lines(alloc: Global, lines: &[u8], tally: &mut Tally) -> io::Result<bool> {
+fn take_lines(spare: &mut SpareTexts, lines: &[u8], tally: &mut Tally) -> io::Result<bool> {
     for line in lines.split(|b| *b == b'\r') {
-        if !take_line(alloc, line, tally)? {
+        if !take_line(spare, line, tally)? {
             return Ok(false);
         }
     }
@@ -65,6 +66,7 @@ fn take_lines(alloc: Global, lines: &[u8], tally: &mut Tally) -> io::Result<bool
 
 fn count_all<R: BufRead>(alloc: Global, text: &mut R) -> io::Result<Count> {
     let mut bytes = Vec::new(alloc);
+    let mut spare = SpareTexts::new(alloc);
     let mut tally = Tally {
         lines: 0,
         triples: 0,
@@ -74,7 +76,7 @@ fn count_all<R: BufRead>(alloc: Global, text: &mut R) -> io::Result<Count> {
         if text.read_until(b'\n', &mut bytes)? == 0 {
             break;
         }
-        if !take_lines(alloc, without_end(&bytes), &mut tally)? {
+        if !take_lines(&mut spare, without_end(&bytes), &mut tally)? {
             return Ok(Count::BadLine(tally.lines));
         }
     }

@@ -75,6 +75,26 @@ pub(crate) fn is_label_first(c: char) -> bool
     is_base_or_sign(c) || is_digit(c)
 }
 
+// For each byte a bar where it doesn't stand for itself in an IRIREF, and else the byte itself, or a dot for DEL and for
+// the bytes from 128 on.
+static IRI_MAP: [u8; 256] = *b"\
+    ||||||||||||||||||||||||||||||||\
+    |!|#$%&'()*+,-./0123456789:;|=|?\
+    @ABCDEFGHIJKLMNOPQRSTUVWXYZ[|]|_\
+    |abcdefghijklmnopqrstuvwxyz|||~.\
+    ................................\
+    ................................\
+    ................................\
+    ................................";
+
+/// Whether the byte of a text stands for itself in an IRIREF, by one read.
+#[inline(always)]
+pub(crate) fn is_iri_byte(b: u8) -> bool
+    ensures { result ≡ is_iri_char b }
+{
+    IRI_MAP[b as usize] != b'|'
+}
+
 /// Whether the character stands for itself in an IRIREF.
 pub(crate) fn stands_in_iri(c: char) -> bool
     ensures { result ≡ is_iri_char c }

@@ -4,6 +4,7 @@ ghost use Rattle.triples_read.specs.Fronts.{Front, IsText, Lacks};
 ghost use Rattle.triples_read.specs.Lines.{IsIri, IsIriFront};
 
 use crate::quoted::{Quote, read_quoted};
+use crate::spare::SpareTexts;
 use bstr::ByteSlice;
 use px_base::{Memory, Text};
 use std::alloc::Global;
@@ -35,18 +36,22 @@ pub fn read_iri_front(alloc: Global, b: &[u8]) -> Result<Option<(Text, usize)>, 
     let Ok(text) = front.to_str() else {
         return Ok(None);
     };
-    let Some((iri, rest)) = read_quoted(Quote::Angle, alloc, text)? else {
+    let mut spare = SpareTexts::new(alloc);
+    let Some((iri, rest)) = read_quoted(Quote::Angle, &mut spare, text)? else {
         return Ok(None);
     };
     Ok(Some((Text::from_string(iri), front.len() - rest.len())))
 }
 
 /// The IRI whose IRIREF is at the front, and what follows it.
-pub(crate) fn read_iri(alloc: Global, text: &str) -> Result<Option<(Text, &str)>, Memory>
+pub(crate) fn read_iri<'a>(
+    spare: &mut SpareTexts,
+    text: &'a str,
+) -> Result<Option<(Text, &'a str)>, Memory>
     ensures found { (cs : List ℕ) → IsText text.now cs → IfOk result (λ r. IfSome r (λ f. Front (λ s. IsIri s f.0) cs f.1.now)) }
     ensures whole { (s r iri : List ℕ) → IsText text.now (s ++ r) → IsIri s iri → IfOk result (λ found. IsSomeAnd found (λ f. (f.0 ≡ iri) × (f.1.now ≡ encode_utf8_all r))) }
 {
-    let Some((iri, rest)) = read_quoted(Quote::Angle, alloc, text)? else {
+    let Some((iri, rest)) = read_quoted(Quote::Angle, spare, text)? else {
         return Ok(None);
     };
     Ok(Some((Text::from_string(iri), rest)))

@@ -8,8 +8,8 @@ ghost use Rattle.std.specs.Str.{chars};
 
 use crate::blanks::past_two;
 use crate::characters::{is_label_char, is_label_first};
+use crate::spare::SpareTexts;
 use px_base::{Memory, Text};
-use std::alloc::Global;
 
 /// The first character, and what follows.
 pub(crate) fn next_char(text: &str) -> Option<(char, &str)>
@@ -52,7 +52,10 @@ fn past_front(text: &str) -> Option<&str>
 }
 
 /// The longest blank node label at the front, without its `_:`, and what follows it.
-pub(crate) fn read_label(alloc: Global, text: &str) -> Result<Option<(Text, &str)>, Memory>
+pub(crate) fn read_label<'a>(
+    spare: &mut SpareTexts,
+    text: &'a str,
+) -> Result<Option<(Text, &'a str)>, Memory>
     ensures found { (cs : List ℕ) → IsText text.now cs → IfOk result (λ r. IfSome r (λ f. Front (λ s. IsBlankNode s f.0) cs f.1.now)) }
     ensures whole { (s r label : List ℕ) → IsText text.now (s ++ r) → IsBlankNode s label → EndsLabel r → IfOk result (λ found. IsSomeAnd found (λ f. (f.0 ≡ label) × (f.1.now ≡ encode_utf8_all r))) }
 {
@@ -63,7 +66,7 @@ pub(crate) fn read_label(alloc: Global, text: &str) -> Result<Option<(Text, &str
         return Ok(None);
     };
     let (label, rest) = after.split_at(after.len() - tail.len());
-    Ok(Some((Text::from_string(String::from_str(alloc, label)?), rest)))
+    Ok(Some((spare.copy(label)?, rest)))
 }
 
 /// Whether the whole text is a blank node label, without its `_:`.

@@ -9,13 +9,15 @@ mod labels;
 mod line;
 mod literal;
 mod quoted;
+mod spare;
 mod tags;
 mod term;
 mod triple_test;
 mod writing;
 
 pub use iri::read_iri_front;
-pub use line::{LineError, read_line};
+pub use line::{LineError, read_line, read_line_with};
+pub use spare::SpareTexts;
 pub use term::{Term, Triple};
 pub use triple_test::is_triple;
 pub use writing::{write_term, write_triple};

@@ -8,6 +8,7 @@ use crate::blanks::{is_over, past_byte, skip_blanks, starts_with};
 use crate::iri::read_iri;
 use crate::labels::read_label;
 use crate::literal::read_literal;
+use crate::spare::SpareTexts;
 use crate::term::{Term, Triple};
 use px_base::{Memory, Text};
 use simdutf8::basic::from_utf8;
@@ -22,46 +23,55 @@ pub enum LineError {
     Memory,
 }
 
-fn read_iri_term(alloc: Global, text: &str) -> Result<Option<(Term, &str)>, Memory>
+fn read_iri_term<'a>(
+    spare: &mut SpareTexts,
+    text: &'a str,
+) -> Result<Option<(Term, &'a str)>, Memory>
     ensures found { (cs : List ℕ) → IsText text.now cs → IfOk result (λ r. IfSome r (λ f. Front (λ s. IsSubject s f.0) cs f.1.now)) }
     ensures whole { (s r iri : List ℕ) → IsText text.now (s ++ r) → IsIri s iri → IfOk result (λ found. IsSomeAnd found (λ f. (f.0 ≡ Term.Iri iri) × (f.1.now ≡ encode_utf8_all r))) }
 {
-    let Some((iri, rest)) = read_iri(alloc, text)? else {
+    let Some((iri, rest)) = read_iri(spare, text)? else {
         return Ok(None);
     };
     Ok(Some((Term::Iri(iri), rest)))
 }
 
-fn read_blank_node(alloc: Global, text: &str) -> Result<Option<(Term, &str)>, Memory>
+fn read_blank_node<'a>(
+    spare: &mut SpareTexts,
+    text: &'a str,
+) -> Result<Option<(Term, &'a str)>, Memory>
     ensures found { (cs : List ℕ) → IsText text.now cs → IfOk result (λ r. IfSome r (λ f. Front (λ s. IsSubject s f.0) cs f.1.now)) }
     ensures whole { (s r label : List ℕ) → IsText text.now (s ++ r) → IsBlankNode s label → EndsLabel r → IfOk result (λ found. IsSomeAnd found (λ f. (f.0 ≡ Term.Blank label) × (f.1.now ≡ encode_utf8_all r))) }
 {
-    let Some((label, rest)) = read_label(alloc, text)? else {
+    let Some((label, rest)) = read_label(spare, text)? else {
         return Ok(None);
     };
     Ok(Some((Term::Blank(label), rest)))
 }
 
 // The subject at the front, and what follows it.
-fn read_subject(alloc: Global, text: &str) -> Result<Option<(Term, &str)>, Memory>
+fn read_subject<'a>(
+    spare: &mut SpareTexts,
+    text: &'a str,
+) -> Result<Option<(Term, &'a str)>, Memory>
     ensures found { (cs : List ℕ) → IsText text.now cs → IfOk result (λ r. IfSome r (λ f. Front (λ s. IsSubject s f.0) cs f.1.now)) }
     ensures whole { (s r : List ℕ) (t : Term) → IsText text.now (s ++ r) → IsSubject s t → EndsLabel r → IfOk result (λ found. IsSomeAnd found (λ f. (f.0 ≡ t) × (f.1.now ≡ encode_utf8_all r))) }
 {
     if starts_with(b'<', text) {
-        return read_iri_term(alloc, text);
+        return read_iri_term(spare, text);
     }
-    read_blank_node(alloc, text)
+    read_blank_node(spare, text)
 }
 
 // The object at the front, and what follows it.
-fn read_object(alloc: Global, text: &str) -> Result<Option<(Term, &str)>, Memory>
+fn read_object<'a>(spare: &mut SpareTexts, text: &'a str) -> Result<Option<(Term, &'a str)>, Memory>
     ensures found { (cs : List ℕ) → IsText text.now cs → IfOk result (λ r. IfSome r (λ f. Front (λ s. IsObject s f.0) cs f.1.now)) }
     ensures whole { (s r : List ℕ) (t : Term) → IsText text.now (s ++ r) → IsObject s t → AfterObject r → IfOk result (λ found. IsSomeAnd found (λ f. (f.0 ≡ t) × (f.1.now ≡ encode_utf8_all r))) }
 {
     if starts_with(b'"', text) {
-        return read_literal(alloc, text);
+        return read_literal(spare, text);
     }
-    read_subject(alloc, text)
+    read_subject(spare, text)
 }
 
 // Whether the dot of a triple comes next, and then nothing or a comment.
@@ -76,11 +86,11 @@ fn ends_triple(text: &str) -> bool
 }
 
 // The object of the triple whose predicate was read, where the rest of the line is as it must be.
-fn read_last(alloc: Global, text: &str) -> Result<Option<Term>, Memory>
+fn read_last(spare: &mut SpareTexts, text: &str) -> Result<Option<Term>, Memory>
     ensures found { (cs : List ℕ) → IsText text.now cs → IfOk result (λ r. IfSome r (λ o. AfterPredicate cs o)) }
     ensures whole { (cs : List ℕ) (object : Term) → IsText text.now cs → AfterPredicate cs object → IfOk result (λ r. IsSomeAnd r (λ o. o ≡ object)) }
 {
-    let Some((object, rest)) = read_object(alloc, skip_blanks(text))? else {
+    let Some((object, rest)) = read_object(spare, skip_blanks(text))? else {
         return Ok(None);
     };
     if !ends_triple(rest) {
@@ -90,28 +100,28 @@ fn read_last(alloc: Global, text: &str) -> Result<Option<Term>, Memory>
 }
 
 // The predicate and the object of the triple whose subject was read.
-fn read_rest(alloc: Global, text: &str) -> Result<Option<(Text, Term)>, Memory>
+fn read_rest(spare: &mut SpareTexts, text: &str) -> Result<Option<(Text, Term)>, Memory>
     ensures found { (cs : List ℕ) → IsText text.now cs → IfOk result (λ r. IfSome r (λ f. AfterSubject cs f.0 f.1)) }
     ensures whole { (cs predicate : List ℕ) (object : Term) → IsText text.now cs → AfterSubject cs predicate object → IfOk result (λ r. IsSomeAnd r (λ f. (f.0 ≡ predicate) × (f.1 ≡ object))) }
 {
-    let Some((predicate, rest)) = read_iri(alloc, skip_blanks(text))? else {
+    let Some((predicate, rest)) = read_iri(spare, skip_blanks(text))? else {
         return Ok(None);
     };
-    let Some(object) = read_last(alloc, rest)? else {
+    let Some(object) = read_last(spare, rest)? else {
         return Ok(None);
     };
     Ok(Some((predicate, object)))
 }
 
 // The triple that begins at the front and takes the whole rest of the line.
-fn read_triple(alloc: Global, text: &str) -> Result<Option<Triple>, Memory>
+fn read_triple(spare: &mut SpareTexts, text: &str) -> Result<Option<Triple>, Memory>
     ensures found { (cs : List ℕ) → IsText text.now cs → IfOk result (λ r. IfSome r (λ t. FromSubject cs t)) }
     ensures whole { (cs : List ℕ) (t : Triple) → IsText text.now cs → FromSubject cs t → IfOk result (λ r. IsSomeAnd r (λ u. u ≡ t)) }
 {
-    let Some((subject, rest)) = read_subject(alloc, text)? else {
+    let Some((subject, rest)) = read_subject(spare, text)? else {
         return Ok(None);
     };
-    let Some((predicate, object)) = read_rest(alloc, rest)? else {
+    let Some((predicate, object)) = read_rest(spare, rest)? else {
         return Ok(None);
     };
     Ok(Some(Triple {
@@ -136,6 +146,23 @@ pub fn read_line(alloc: Global, line: &[u8]) -> Result<Option<Triple>, LineError
     // Syntax comes only where the line is neither.
     ensures syntax { IsErrOf result LineError.Syntax → (¬ Empty line.now) × ((t : Triple) → Spells line.now t → ⊥) }
 {
+    let mut spare = SpareTexts::new(alloc);
+    read_line_with(&mut spare, line)
+}
+
+/// What `read_line` reads, in texts that take the memory of the spare ones where there are any.
+pub fn read_line_with(spare: &mut SpareTexts, line: &[u8]) -> Result<Option<Triple>, LineError>
+    // A triple comes only where the line spells it.
+    ensures triple { IfOk result (λ r. IfSome r (λ t. Spells line.now t)) }
+    // None comes only where the line is blank or a comment.
+    ensures none { IfOk result (λ r. IfNone r (Empty line.now)) }
+    // What the line spells is read.
+    ensures spelled { (t : Triple) → Spells line.now t → (result ≡ Ok (Some t)) ⊎ IsErrOf result LineError.Memory }
+    // A blank line or a comment is read as such.
+    ensures empty { Empty line.now → (result ≡ Ok None) ⊎ IsErrOf result LineError.Memory }
+    // Syntax comes only where the line is neither.
+    ensures syntax { IsErrOf result LineError.Syntax → (¬ Empty line.now) × ((t : Triple) → Spells line.now t → ⊥) }
+{
     let Ok(text) = from_utf8(line) else {
         return Err(LineError::Syntax);
     };
@@ -143,7 +170,7 @@ pub fn read_line(alloc: Global, line: &[u8]) -> Result<Option<Triple>, LineError
     if is_over(rest) {
         return Ok(None);
     }
-    match read_triple(alloc, rest) {
+    match read_triple(spare, rest) {
         Ok(Some(triple)) => Ok(Some(triple)),
         Ok(None) => Err(LineError::Syntax),
         Err(Memory) => Err(LineError::Memory),

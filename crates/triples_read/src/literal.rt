@@ -7,64 +7,73 @@ ghost use Rattle.triples_read.specs.Parts.{IsDatatype, AfterObject};
 use crate::blanks::{past_byte, past_two, skip_blanks, starts_with};
 use crate::iri::read_iri;
 use crate::quoted::{Quote, read_quoted};
+use crate::spare::SpareTexts;
 use crate::tags::read_tag;
 use crate::term::{LANG_STRING, Term, XSD_STRING};
 use px_base::{Memory, Text};
-use std::alloc::Global;
 
-fn xsd_string(alloc: Global) -> Result<Text, Memory>
+fn xsd_string(spare: &mut SpareTexts) -> Result<Text, Memory>
     ensures { IfOk result (λ t. t ≡ xsd_string_iri) }
 {
-    Ok(Text::from_string(String::from_str(alloc, XSD_STRING)?))
+    spare.copy(XSD_STRING)
 }
 
-fn lang_string(alloc: Global) -> Result<Text, Memory>
+fn lang_string(spare: &mut SpareTexts) -> Result<Text, Memory>
     ensures { IfOk result (λ t. t ≡ lang_string_iri) }
 {
-    Ok(Text::from_string(String::from_str(alloc, LANG_STRING)?))
+    spare.copy(LANG_STRING)
 }
 
 // The datatype whose `^^` is at the front, and what follows it.
-fn read_datatype(alloc: Global, text: &str) -> Result<Option<(Text, &str)>, Memory>
+fn read_datatype<'a>(
+    spare: &mut SpareTexts,
+    text: &'a str,
+) -> Result<Option<(Text, &'a str)>, Memory>
     ensures found { (cs : List ℕ) → IsText text.now cs → IfOk result (λ r. IfSome r (λ f. Front (λ s. IsDatatype s f.0) cs f.1.now)) }
     ensures whole { (s r datatype : List ℕ) → IsText text.now (s ++ r) → IsDatatype s datatype → IfOk result (λ found. IsSomeAnd found (λ f. (f.0 ≡ datatype) × (f.1.now ≡ encode_utf8_all r))) }
 {
     let Some(after) = past_two(b'^', b'^', text) else {
         return Ok(None);
     };
-    read_iri(alloc, skip_blanks(after))
+    read_iri(spare, skip_blanks(after))
 }
 
 // The datatype and the tag of the literal whose string was read, and what follows them.
-fn read_suffix(alloc: Global, text: &str) -> Result<Option<(Text, Option<Text>, &str)>, Memory>
+fn read_suffix<'a>(
+    spare: &mut SpareTexts,
+    text: &'a str,
+) -> Result<Option<(Text, Option<Text>, &'a str)>, Memory>
     ensures found { (cs : List ℕ) → IsText text.now cs → IfOk result (λ r. IfSome r (λ f. Front (λ s. Suffix s f.0 f.1) cs f.2.now)) }
     ensures whole { (s r datatype : List ℕ) (tag : Option (List ℕ)) → IsText text.now (s ++ r) → Suffix s datatype tag → AfterObject r → IfOk result (λ found. IsSomeAnd found (λ f. (f.0 ≡ datatype) × (f.1 ≡ tag) × (f.2.now ≡ encode_utf8_all r))) }
 {
     let after = skip_blanks(text);
     if starts_with(b'^', after) {
-        let Some((datatype, rest)) = read_datatype(alloc, after)? else {
+        let Some((datatype, rest)) = read_datatype(spare, after)? else {
             return Ok(None);
         };
         return Ok(Some((datatype, None, rest)));
     }
     let Some(behind) = past_byte(b'@', after) else {
-        return Ok(Some((xsd_string(alloc)?, None, text)));
+        return Ok(Some((xsd_string(spare)?, None, text)));
     };
-    let Some((tag, rest)) = read_tag(alloc, behind)? else {
+    let Some((tag, rest)) = read_tag(spare, behind)? else {
         return Ok(None);
     };
-    Ok(Some((lang_string(alloc)?, Some(tag), rest)))
+    Ok(Some((lang_string(spare)?, Some(tag), rest)))
 }
 
 /// The literal at the front, and what follows it.
-pub(crate) fn read_literal(alloc: Global, text: &str) -> Result<Option<(Term, &str)>, Memory>
+pub(crate) fn read_literal<'a>(
+    spare: &mut SpareTexts,
+    text: &'a str,
+) -> Result<Option<(Term, &'a str)>, Memory>
     ensures found { (cs : List ℕ) → IsText text.now cs → IfOk result (λ r. IfSome r (λ f. Front (λ s. IsObject s f.0) cs f.1.now)) }
     ensures whole { (s r string datatype : List ℕ) (tag : Option (List ℕ)) → IsText text.now (s ++ r) → IsLiteral s string datatype tag → AfterObject r → IfOk result (λ found. IsSomeAnd found (λ f. (f.0 ≡ Term.Literal string datatype tag) × (f.1.now ≡ encode_utf8_all r))) }
 {
-    let Some((string, behind)) = read_quoted(Quote::Double, alloc, text)? else {
+    let Some((string, behind)) = read_quoted(Quote::Double, spare, text)? else {
         return Ok(None);
     };
-    let Some((datatype, tag, rest)) = read_suffix(alloc, behind)? else {
+    let Some((datatype, tag, rest)) = read_suffix(spare, behind)? else {
         return Ok(None);
     };
     let text = Text::from_string(string);

@@ -6,9 +6,10 @@ ghost use Rattle.triples_read.specs.Bodies.{Body, Adds, StopsAt, IsBodyFront};
 ghost use Rattle.triples_read.specs.Quotes.{opening as opening_of, closing as closing_of, inner, escape_at, PieceIn, IsQuoted};
 
 use crate::blanks::past_byte;
-use crate::characters::{stands_in_iri, stands_in_string};
+use crate::characters::{is_iri_byte, stands_in_string};
 use crate::escapes::{string_escape, uchar};
-use std::alloc::{AllocError, Global};
+use crate::spare::SpareTexts;
+use std::alloc::AllocError;
 
 /// What quotes stand around a part.
 #[derive(Clone, Copy)]
@@ -45,7 +46,7 @@ impl Quote {
 fn iri_run_end(bytes: &[u8]) -> Option<usize>
     ensures { result ≡ position (λ b. not (inner Quote.Angle b)) bytes.now }
 {
-    bytes.iter().position(|b| !stands_in_iri(*b as char))
+    bytes.iter().position(|b| !is_iri_byte(*b))
 }
 
 // The same in a string.
@@ -152,15 +153,15 @@ fn take_piece<'a>(
 }
 
 // Reads what follows the opening quote, up to the closing one; what lies behind it is handed out.
-fn quoted_body(
+fn quoted_body<'a>(
     quote: Quote,
-    alloc: Global,
-    body: &str,
-) -> Result<Option<(String, &str)>, AllocError>
+    spare: &mut SpareTexts,
+    body: &'a str,
+) -> Result<Option<(String, &'a str)>, AllocError>
     ensures found { IfOk result (λ r. IfSome r (λ f. IsBodyFront (PieceIn quote) (closing_of quote) body.now (string_bytes f.0) f.1.now)) }
     ensures only { (v tail : List ℕ) → Body (PieceIn quote) (closing_of quote) body.now v tail → IfOk result (λ r. IsSomeAnd r (λ f. (string_bytes f.0 ≡ encode_utf8_all v) × (f.1.now ≡ tail))) }
 {
-    let mut text = String::new(alloc);
+    let mut text = spare.take();
     let mut rest = body;
     loop {
         let Some((ended, after)) = take_piece(quote, &mut text, rest)? else {
@@ -175,16 +176,16 @@ fn quoted_body(
 
 /// The text between quotes that stand at the front, and what lies behind them. None where no such
 /// quotes stand there, or what is between them spells no text.
-pub(crate) fn read_quoted(
+pub(crate) fn read_quoted<'a>(
     quote: Quote,
-    alloc: Global,
-    text: &str,
-) -> Result<Option<(String, &str)>, AllocError>
+    spare: &mut SpareTexts,
+    text: &'a str,
+) -> Result<Option<(String, &'a str)>, AllocError>
     ensures found { IfOk result (λ r. IfSome r (λ f. (v : List ℕ) × (string_bytes f.0 ≡ encode_utf8_all v) × IsQuoted quote text.now v f.1.now)) }
     ensures only { (v tail : List ℕ) → IsQuoted quote text.now v tail → IfOk result (λ r. IsSomeAnd r (λ f. (string_bytes f.0 ≡ encode_utf8_all v) × (f.1.now ≡ tail))) }
 {
     let Some(body) = past_byte(quote.opening(), text) else {
         return Ok(None);
     };
-    quoted_body(quote, alloc, body)
+    quoted_body(quote, spare, body)
 }

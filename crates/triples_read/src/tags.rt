@@ -1,5 +1,6 @@
 // Language tags.
-ghost use Rattle.std.specs.Prelude.{[], ◌↔◌, ◌≡◌, ◌∷◌, ◌++◌, List, ℕ, true, false, None, Some, MatchOption, IfOk, IfSome, IsSomeAnd, encode_utf8_all};
+ghost use Rattle.std.specs.Prelude.{[], ◌↔◌, ◌≡◌, ◌∷◌, ◌++◌, List, ℕ, true, false, None, Some, MatchOption, IfOk, IfSome, IsSomeAnd, encode_utf8_all, map};
+ghost use Rattle.std.specs.Char.{to_ascii_lowercase};
 ghost use Rattle.std.specs.List.{list_all};
 ghost use Rattle.std.proofs.Common.{not};
 ghost use Rattle.triples_read.specs.Characters.{from_to};
@@ -8,8 +9,8 @@ ghost use Rattle.triples_read.specs.Reading.{tag_part, past_tag as past};
 ghost use Rattle.triples_read.specs.Fronts.{Front, IsText, EndsTag};
 
 use crate::characters::{is_letter, is_letter_or_digit};
+use crate::spare::SpareTexts;
 use px_base::{Memory, Text};
-use std::alloc::Global;
 
 // Whether the first part of a tag, or another part, may hold the byte.
 fn is_in_part(main: bool, b: u8) -> bool
@@ -48,8 +49,21 @@ fn past_tag(bytes: &[u8]) -> Option<&[u8]>
     Some(rest)
 }
 
+// The same text with its ASCII letters in lower case.
+fn lower(spare: &mut SpareTexts, tag: &str) -> Result<Text, Memory>
+    ensures { IfOk result (λ t. t ≡ map to_ascii_lowercase tag.now) }
+{
+    let mut text = spare.take();
+    text.push_str(tag)?;
+    text.make_ascii_lowercase();
+    Ok(Text::from_string(text))
+}
+
 /// The language tag behind an `@` that was read, in lower case, and what follows it.
-pub(crate) fn read_tag(alloc: Global, text: &str) -> Result<Option<(Text, &str)>, Memory>
+pub(crate) fn read_tag<'a>(
+    spare: &mut SpareTexts,
+    text: &'a str,
+) -> Result<Option<(Text, &'a str)>, Memory>
     ensures found { (cs : List ℕ) → IsText text.now cs → IfOk result (λ r. IfSome r (λ f. Front (λ s. LANGTAG (64 ∷ s) f.0) cs f.1.now)) }
     ensures whole { (s r tag : List ℕ) → IsText text.now (s ++ r) → LANGTAG (64 ∷ s) tag → EndsTag (encode_utf8_all r) → IfOk result (λ found. IsSomeAnd found (λ f. (f.0 ≡ tag) × (f.1.now ≡ encode_utf8_all r))) }
 {
@@ -57,7 +71,7 @@ pub(crate) fn read_tag(alloc: Global, text: &str) -> Result<Option<(Text, &str)>
         return Ok(None);
     };
     let (tag, rest) = text.split_at(text.len() - behind.len());
-    Ok(Some((Text::from_string(tag.to_ascii_lowercase(alloc)?), rest)))
+    Ok(Some((lower(spare, tag)?, rest)))
 }
 
 fn is_not_upper(b: u8) -> bool

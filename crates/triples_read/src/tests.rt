@@ -64,6 +64,35 @@ fn worked_lines_are_read(rt: HostRuntime) -> Result<(), Fail> {
     Ok(())
 }
 
+// Whether a line is a triple, and the same one in spare texts as in new ones. Its texts are given back.
+fn is_read_the_same(alloc: Global, spare: &mut SpareTexts, line: &[u8]) -> bool {
+    match (read_line_with(spare, line), read_line(alloc, line)) {
+        (Ok(Some(triple)), Ok(Some(other))) => {
+            let same = triple == other;
+            spare.give_back(triple);
+            same
+        }
+        _ => false,
+    }
+}
+
+#[test]
+fn lines_are_read_with_spare_texts(rt: HostRuntime) -> Result<(), Fail> {
+    let alloc = rt.alloc();
+    let mut spare = SpareTexts::new(alloc);
+    let lines: [&[u8]; 5] = [
+        b"<http://e/a> <http://e/p> \"a long string\" .",
+        b"_:b <http://e/p> \"x\"@EN .",
+        b"<http://e/a> <http://e/\\u0061> \"\\n\"^^<http://e/t> .",
+        b"<http://e/long> <http://e/p> _:c .",
+        b"_:b <http://e/p> \"x\"@EN .",
+    ];
+    for line in lines {
+        assert!(rt; is_read_the_same(alloc, &mut spare, line));
+    }
+    Ok(())
+}
+
 #[test]
 fn an_iri_is_written(rt: HostRuntime) -> Result<(), Fail> {
     let alloc = rt.alloc();

@@ -2,7 +2,7 @@ use Rattle.std.proofs.Common.{◌≡◌, ◌∙◌, sym, ap, inl, Ok, Some, List
 use Rattle.triples_read.specs.Reading.{past_blanks}
 use Rattle.triples_read.proofs.Basics.{no_both}
 use Rattle.triples_read.proofs.LineLaws.{line-stands, line-empty, empty-found, line-found}
-use Rattle.triples_read.proofs.line.read_line.Goals as goal
+use Rattle.triples_read.proofs.line.read_line_with.Goals as goal
 
 -- the blanks of the line are those of its text
 rest_of : (line text rest : List ℕ) → text ≡ line → rest ≡ past_blanks text → rest ≡ past_blanks line

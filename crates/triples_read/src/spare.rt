@@ -1,0 +1,98 @@
+// Texts that are of no more use, and whose memory the next ones take.
+ghost use Rattle.std.specs.Prelude.{◌≡◌, [], IfOk, string_bytes};
+
+use crate::term::{Term, Triple};
+use px_base::{Memory, Text};
+use std::alloc::Global;
+use std::marker::Model;
+
+// A triple that a line spells has so many texts at most.
+const KEPT: usize = 5;
+
+/// A text with more memory isn't kept, so one long line doesn't hold it for good.
+const KEPT_BYTES: usize = 65536;
+
+/// The texts of triples that are of no more use, for `read_line_with`: the next texts that are read take
+/// their memory. It keeps at most five, each with at most 65,536 bytes of memory.
+#[derive(Drop)]
+pub struct SpareTexts {
+    alloc: Global,
+    texts: Vec<String>,
+}
+
+impl Model for SpareTexts {
+    ghost use Rattle.std.specs.Prelude.{⊤, ◌≡◌, [], All, string_bytes};
+
+    ghost Value = { ⊤ };
+
+    ghost view = { λ _. tt };
+
+    ghost invariant = { λ s. All (λ text. string_bytes text ≡ []) s.texts.items };
+}
+
+impl SpareTexts {
+    /// No texts. It takes no memory.
+    pub fn new(alloc: Global) -> SpareTexts {
+        SpareTexts {
+            alloc,
+            texts: Vec::new(alloc),
+        }
+    }
+
+    /// An empty string, with the memory of a text that was given back where there is one.
+    pub(crate) fn take(&mut self) -> String
+        ensures { string_bytes result ≡ [] }
+    {
+        match self.texts.pop() {
+            Some(text) => text,
+            None => String::new(self.alloc),
+        }
+    }
+
+    /// A text of its own with the same bytes.
+    pub(crate) fn copy(&mut self, content: &str) -> Result<Text, Memory>
+        ensures { IfOk result (λ t. t ≡ content.now) }
+    {
+        let mut text = self.take();
+        text.push_str(content)?;
+        Ok(Text::from_string(text))
+    }
+
+    /// Takes the texts of a triple, for the next ones. Where they find no room they are dropped.
+    pub fn give_back(&mut self, triple: Triple) {
+        let Triple {
+            subject,
+            predicate,
+            object,
+        } = triple;
+        // What is read first is taken from the end.
+        self.keep_term(object);
+        self.keep(predicate);
+        self.keep_term(subject);
+    }
+
+    fn keep_term(&mut self, term: Term) {
+        match term {
+            Term::Iri(text) | Term::Blank(text) => self.keep(text),
+            Term::Literal {
+                text,
+                datatype,
+                tag,
+            } => {
+                self.keep(datatype);
+                if let Some(tag) = tag {
+                    self.keep(tag);
+                }
+                self.keep(text);
+            }
+        }
+    }
+
+    fn keep(&mut self, text: Text) {
+        let mut text = text.into_string();
+        text.clear();
+        if self.texts.len() < KEPT && text.capacity() <= KEPT_BYTES {
+            let _ = self.texts.push(text);
+        }
+    }
+}
