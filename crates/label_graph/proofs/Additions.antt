@@ -5,11 +5,10 @@ use Rattle.std.proofs.lemmas.List.{length-map}
 use Rattle.px_spec.specs.Graphs.{is_live}
 use Rattle.px_spec.specs.Changes.{with_edge}
 use Rattle.px_spec.specs.Members.{has}
-use Rattle.label_graph.specs.declared.node.Node.{Node}
+use Rattle.label_graph.specs.Nodes.{Node, labels_of, number_at, texts_of, children_of, parents_of, SameNodes}
 use Rattle.label_graph.specs.declared.node.Reserved.TheVariants.{Nothing, Pair}
 use Rattle.label_graph.specs.Held.{graph_by}
 use Rattle.label_graph.specs.LabelTable.{LabelTable}
-use Rattle.label_graph.specs.Nodes.{labels_of, number_at, texts_of, children_of, parents_of, SameNodes}
 use Rattle.label_graph.specs.Soundness.{IsSound, AreLabelled, IsLive}
 use Rattle.label_graph.proofs.EdgeLists.{edges-pushed}
 use Rattle.label_graph.proofs.Readings.{label_of-number}

@@ -8,8 +8,7 @@ use Rattle.std.proofs.lemmas.Bool.{ne_eqb}
 use Rattle.std.proofs.lemmas.List.Folds.{list_any-append}
 use Rattle.px_spec.specs.Graphs.{edge_cmp}
 use Rattle.px_spec.proofs.EdgeOrder.{edge_cmp_total, edge_cmp-IsAntisymmetric, eq_pair}
-use Rattle.label_graph.specs.declared.node.Node.{Node}
-use Rattle.label_graph.specs.Nodes.{children_of, parents_of, pairs_from, edges_of, Mirrors}
+use Rattle.label_graph.specs.Nodes.{Node, children_of, parents_of, pairs_from, edges_of, Mirrors}
 use Rattle.std.proofs.Math.Bool.{and-false, or-false}
 
 and_or : (x y z : Bool) → ((x && y) || (x && z)) ≡ (x && (y || z))

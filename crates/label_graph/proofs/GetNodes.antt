@@ -1,7 +1,6 @@
 -- The lists of one node.
 use Rattle.std.proofs.Common.{◌≡◌, ℕ, zero, suc, ◌≤◌, List, [], ◌∷◌, ◌++◌, length, refl, arith}
-use Rattle.label_graph.specs.declared.node.Node.{Node}
-use Rattle.label_graph.specs.Nodes.{children_of, parents_of}
+use Rattle.label_graph.specs.Nodes.{Node, children_of, parents_of}
 
 pub children-past : (nodes : List Node) (i : ℕ) → length nodes ≤ i → children_of nodes i ≡ []
 children-past [] i h = refl

@@ -9,12 +9,11 @@ use Rattle.px_spec.specs.Graphs.{Edges, edge_cmp}
 use Rattle.px_spec.specs.Changes.{without_edge}
 use Rattle.px_spec.specs.Members.{has}
 use Rattle.px_spec.proofs.EdgeOrder.{edge_cmp_total, edge_cmp-IsAntisymmetric}
-use Rattle.label_graph.specs.declared.node.Node.{Node}
+use Rattle.label_graph.specs.Nodes.{Node, labels_of, number_at, texts_of, children_of, parents_of, edges_of, Mirrors, LacksEdge}
 use Rattle.label_graph.specs.declared.node.Reserved.{Reserved}
 use Rattle.label_graph.specs.declared.node.Reserved.TheVariants.{Nothing}
 use Rattle.label_graph.specs.Held.{graph_by}
 use Rattle.label_graph.specs.LabelTable.{LabelTable}
-use Rattle.label_graph.specs.Nodes.{labels_of, number_at, texts_of, children_of, parents_of, edges_of, Mirrors, LacksEdge}
 use Rattle.label_graph.specs.Soundness.{IsSound, AreSound, AreLabelled, IsLive}
 use Rattle.label_graph.proofs.EdgeLists.{has_edge-children, and_comm}
 use Rattle.label_graph.proofs.KeepsSound.{labels-cleared}

@@ -12,11 +12,10 @@ use Rattle.std.proofs.lemmas.Bool.{eqb-true}
 use Rattle.px_spec.specs.Graphs.{edge_cmp, is_seen}
 use Rattle.px_spec.specs.Members.{has}
 use Rattle.px_spec.proofs.EdgeOrder.{edge_cmp_total, edge_cmp-IsAntisymmetric}
-use Rattle.label_graph.specs.declared.node.Node.{Node}
+use Rattle.label_graph.specs.Nodes.{Node, labels_of, number_at, children_of, parents_of, edges_of, SameNodes, HasRoom}
 use Rattle.label_graph.specs.declared.node.Reserved.{Reserved}
 use Rattle.label_graph.specs.declared.node.Reserved.TheVariants.{Nothing, Label, Pair}
 use Rattle.label_graph.specs.LabelTable.{LabelTable, entries, with_ahead}
-use Rattle.label_graph.specs.Nodes.{labels_of, number_at, children_of, parents_of, edges_of, SameNodes, HasRoom}
 use Rattle.label_graph.specs.Soundness.{IsSound, AreSound, AreLabelled, EndsLive, IsLive, IsNext, Fits}
 use Rattle.label_graph.proofs.EdgeLists.{has_edge-children, edges-pushed, mirrors-pushed, one}
 use Rattle.label_graph.proofs.Readings.{texts-once}

@@ -6,6 +6,9 @@ pub mod Takings
 pub mod SetNodes
 pub mod GetNodes
 pub mod NodeRooms
+pub mod SegmentLemmas
+pub mod RowLemmas
+pub mod RowEdges
 pub mod Removals
 pub mod Readings
 pub mod KeepsSound

@@ -9,12 +9,11 @@ use Rattle.std.proofs.lemmas.Map.Keys.{any_passes_from_place}
 use Rattle.std.proofs.lemmas.Option.{slice_get-get_or}
 use Rattle.px_spec.specs.Graphs.{is_seen}
 use Rattle.px_spec.specs.Changes.{with_label, with_node}
-use Rattle.label_graph.specs.declared.node.Node.{Node}
+use Rattle.label_graph.specs.Nodes.{Node, labels_of, number_at, texts_of, children_of, parents_of}
 use Rattle.label_graph.specs.declared.node.Reserved.{Reserved}
 use Rattle.label_graph.specs.declared.node.Reserved.TheVariants.{Nothing, Label, Pair}
 use Rattle.label_graph.specs.Held.{graph_by, room_by, label_room, pair_room}
 use Rattle.label_graph.specs.LabelTable.{LabelTable, entries, shown}
-use Rattle.label_graph.specs.Nodes.{labels_of, number_at, texts_of, children_of, parents_of}
 use Rattle.label_graph.specs.Soundness.{IsSound, AreLabelled, IsNext}
 use Rattle.label_graph.proofs.KeepsSound.{edges-same, lists-kept}
 use Rattle.label_graph.proofs.Tables.{bytes_laws}

@@ -1,38 +1,36 @@
 -- The room of nodes of which one is written anew.
 use Rattle.std.proofs.Common.{◌≡◌, ℕ, zero, suc, ◌-◌, ◌<◌, ◌≤◌, List, [], ◌∷◌, length, refl, sym, ap, ◌∙◌, arith, get_or, set, length-set}
-use Rattle.smallvec.specs.SmallVec.{small_vec_len, HasRoomFor}
-use Rattle.label_graph.specs.declared.node.Node.{Node}
-use Rattle.label_graph.specs.Nodes.{child_room, parent_room, labels_of, SameNodes, HasRoom}
+use Rattle.label_graph.specs.Nodes.{Node, child_room, parent_room, labels_of, SameNodes, HasRoom}
 use Rattle.label_graph.proofs.SetNodes.{children-at, parents-at, children-set_kept, parents-set_kept, labels-set}
 
-pub child_room-at : (nodes : List Node) (i : ℕ) (d : Node) → i < length nodes → child_room nodes i ≡ (get_or nodes i d).children.capacity - small_vec_len (get_or nodes i d).children
+pub child_room-at : (nodes : List Node) (i : ℕ) (d : Node) → i < length nodes → child_room nodes i ≡ (get_or nodes i d).children.capacity - length (get_or nodes i d).children.items
 child_room-at [] i d h = absurd (omega arith)
 child_room-at (x ∷ xs) zero d h = refl
 child_room-at (x ∷ xs) (suc i) d h = child_room-at xs i d (omega arith)
 
-pub parent_room-at : (nodes : List Node) (i : ℕ) (d : Node) → i < length nodes → parent_room nodes i ≡ (get_or nodes i d).parents.capacity - small_vec_len (get_or nodes i d).parents
+pub parent_room-at : (nodes : List Node) (i : ℕ) (d : Node) → i < length nodes → parent_room nodes i ≡ (get_or nodes i d).parents.capacity - length (get_or nodes i d).parents.items
 parent_room-at [] i d h = absurd (omega arith)
 parent_room-at (x ∷ xs) zero d h = refl
 parent_room-at (x ∷ xs) (suc i) d h = parent_room-at xs i d (omega arith)
 
-pub child_room-set_same : (nodes : List Node) (i : ℕ) (x : Node) → i < length nodes → child_room (set nodes i x) i ≡ x.children.capacity - small_vec_len x.children
+pub child_room-set_same : (nodes : List Node) (i : ℕ) (x : Node) → i < length nodes → child_room (set nodes i x) i ≡ x.children.capacity - length x.children.items
 child_room-set_same [] i x h = absurd (omega arith)
 child_room-set_same (y ∷ ys) zero x h = refl
 child_room-set_same (y ∷ ys) (suc i) x h = child_room-set_same ys i x (omega arith)
 
-pub parent_room-set_same : (nodes : List Node) (i : ℕ) (x : Node) → i < length nodes → parent_room (set nodes i x) i ≡ x.parents.capacity - small_vec_len x.parents
+pub parent_room-set_same : (nodes : List Node) (i : ℕ) (x : Node) → i < length nodes → parent_room (set nodes i x) i ≡ x.parents.capacity - length x.parents.items
 parent_room-set_same [] i x h = absurd (omega arith)
 parent_room-set_same (y ∷ ys) zero x h = refl
 parent_room-set_same (y ∷ ys) (suc i) x h = parent_room-set_same ys i x (omega arith)
 
-pub child_room-set : (nodes : List Node) (i : ℕ) (x : Node) → child_room nodes i ≤ x.children.capacity - small_vec_len x.children → (w : ℕ) → child_room nodes w ≤ child_room (set nodes i x) w
+pub child_room-set : (nodes : List Node) (i : ℕ) (x : Node) → child_room nodes i ≤ x.children.capacity - length x.children.items → (w : ℕ) → child_room nodes w ≤ child_room (set nodes i x) w
 child_room-set [] i x h w = omega arith
 child_room-set (y ∷ ys) zero x h zero = h
 child_room-set (y ∷ ys) zero x h (suc w) = omega arith
 child_room-set (y ∷ ys) (suc i) x h zero = omega arith
 child_room-set (y ∷ ys) (suc i) x h (suc w) = child_room-set ys i x h w
 
-pub parent_room-set : (nodes : List Node) (i : ℕ) (x : Node) → parent_room nodes i ≤ x.parents.capacity - small_vec_len x.parents → (w : ℕ) → parent_room nodes w ≤ parent_room (set nodes i x) w
+pub parent_room-set : (nodes : List Node) (i : ℕ) (x : Node) → parent_room nodes i ≤ x.parents.capacity - length x.parents.items → (w : ℕ) → parent_room nodes w ≤ parent_room (set nodes i x) w
 parent_room-set [] i x h w = omega arith
 parent_room-set (y ∷ ys) zero x h zero = h
 parent_room-set (y ∷ ys) zero x h (suc w) = omega arith
@@ -60,8 +58,8 @@ same-set nodes i old new h is k =
       labels = labels-set nodes i new (k.label ∙ ap (λ n. n.label) is ∙ ap (λ n. n.label) (default nodes i old new h));
       children = children-set_kept nodes i new h (k.children ∙ ap (λ n. n.children.items) is ∙ sym (children-at nodes i old h));
       parents = parents-set_kept nodes i new h (k.parents ∙ ap (λ n. n.parents.items) is ∙ sym (parents-at nodes i old h));
-      child_rooms = child_room-set nodes i new (omega (arith, k.child_room, c, child_room-at nodes i old h, ap (λ n. n.children.capacity - small_vec_len n.children) is));
-      parent_rooms = parent_room-set nodes i new (omega (arith, k.parent_room, p, parent_room-at nodes i old h, ap (λ n. n.parents.capacity - small_vec_len n.parents) is));
+      child_rooms = child_room-set nodes i new (omega (arith, k.child_room, c, child_room-at nodes i old h, ap (λ n. n.children.capacity - length n.children.items) is));
+      parent_rooms = parent_room-set nodes i new (omega (arith, k.parent_room, p, parent_room-at nodes i old h, ap (λ n. n.parents.capacity - length n.parents.items) is));
     }
 
 pub same-then : (a b c : List Node) → SameNodes a b → SameNodes b c → SameNodes a c
@@ -73,8 +71,8 @@ same-then a b c p q = record {
   parent_rooms = λ w. omega (arith, p.parent_rooms w, q.parent_rooms w);
 }
 
-pub child-fits : (nodes : List Node) (u v : ℕ) (a : Node) → u < length nodes → a ≡ get_or nodes u a → HasRoom nodes u v → HasRoomFor a.children 1
-child-fits nodes u v a from is r = omega (arith, r.child, child_room-at nodes u a from, ap (λ n. n.children.capacity - small_vec_len n.children) is)
+pub child-fits : (nodes : List Node) (u v : ℕ) (a : Node) → u < length nodes → a ≡ get_or nodes u a → HasRoom nodes u v → length a.children.items < a.children.capacity
+child-fits nodes u v a from is r = omega (arith, r.child, child_room-at nodes u a from, ap (λ n. n.children.capacity - length n.children.items) is)
 
 -- the two writes that make room for an edge, and those that write it, find a node each
 module _ (nodes : List Node) (u v : ℕ) (first second a b : Node) (from : u < length nodes) (to : v < length nodes)
@@ -85,21 +83,21 @@ module _ (nodes : List Node) (u v : ℕ) (first second a b : Node) (from : u < l
   pub same-both : Keeps a first → Keeps b second → SameNodes nodes (set (set nodes u first) v second)
   same-both k l = same-then _ _ _ (same-set nodes u a first from is_a k) (same-set (set nodes u first) v b second within is_b l)
 
-  pub room-both : Keeps b second → HasRoomFor first.children 1 → HasRoomFor second.parents 1 → HasRoom (set (set nodes u first) v second) u v
+  pub room-both : Keeps b second → length first.children.items < first.children.capacity → length second.parents.items < second.parents.capacity → HasRoom (set (set nodes u first) v second) u v
   room-both l c p = record {
     child = omega (arith, (same-set (set nodes u first) v b second within is_b l).child_rooms u, child_room-set_same nodes u first from, c);
     parent = omega (arith, parent_room-set_same (set nodes u first) v second within, p);
   }
 
-  pub parent-fits : HasRoom nodes u v → first.parents ≡ a.parents → HasRoomFor b.parents 1
+  pub parent-fits : HasRoom nodes u v → first.parents ≡ a.parents → length b.parents.items < b.parents.capacity
   parent-fits r e =
-      let p = ap (λ n. n.capacity - small_vec_len n) e in
+      let p = ap (λ n. n.capacity - length n.items) e in
       omega (
         arith,
         r.parent,
         parent_room-at (set nodes u first) v b within,
-        ap (λ n. n.parents.capacity - small_vec_len n.parents) is_b,
-        parent_room-set nodes u first (omega (arith, p, parent_room-at nodes u a from, ap (λ n. n.parents.capacity - small_vec_len n.parents) is_a)) v,
+        ap (λ n. n.parents.capacity - length n.parents.items) is_b,
+        parent_room-set nodes u first (omega (arith, p, parent_room-at nodes u a from, ap (λ n. n.parents.capacity - length n.parents.items) is_a)) v,
       )
 
   pub labels-both : first.label ≡ a.label → second.label ≡ b.label → labels_of (set (set nodes u first) v second) ≡ labels_of nodes

@@ -1,5 +1,5 @@
 -- A list that is searched piece by piece.
-use Rattle.std.proofs.Common.{◌≡◌, ℕ, zero, suc, ◌+◌, ◌-◌, ◌<◌, ◌≤◌, ◌||◌, not, cond, Bool, true, false, List, [], ◌∷◌, length, take, drop, Option, None, Some, refl, ap, sym, ◌∙◌, subst, arith, nat_eq, nat_lt, length-drop}
+use Rattle.std.proofs.Common.{◌≡◌, ℕ, zero, suc, ◌+◌, ◌-◌, ◌≤◌, ◌||◌, not, cond, Bool, true, false, List, [], ◌∷◌, length, take, drop, None, Some, refl, ap, sym, ◌∙◌, subst, arith, nat_eq, length-drop}
 use Rattle.std.specs.Prelude.{position}
 use Rattle.std.proofs.lemmas.List.{take_all}
 use Rattle.std.specs.List.{prefix_len}

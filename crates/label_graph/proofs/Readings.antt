@@ -8,10 +8,9 @@ use Rattle.std.proofs.lemmas.Option.{slice_get-get_or}
 use Rattle.px_spec.specs.Graphs.{Graph, label_of, has_edge}
 use Rattle.px_spec.specs.Members.{Lists}
 use Rattle.px_spec.specs.Shapes.{IsNode, IsShape, shape_of, shape_by}
-use Rattle.label_graph.specs.declared.node.Node.{Node}
+use Rattle.label_graph.specs.Nodes.{Node, labels_of, number_at, texts_of, children_of, parents_of}
 use Rattle.label_graph.specs.declared.node.Reserved.{Reserved}
 use Rattle.label_graph.specs.LabelTable.{LabelTable, entries}
-use Rattle.label_graph.specs.Nodes.{labels_of, number_at, texts_of, children_of, parents_of}
 use Rattle.label_graph.specs.Held.{graph_by}
 use Rattle.label_graph.specs.Soundness.{IsSound, AreLabelled, IsLive}
 use Rattle.label_graph.specs.Views.{label_number, is_linked}

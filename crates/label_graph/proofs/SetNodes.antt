@@ -2,8 +2,7 @@
 use Rattle.std.proofs.Common.{◌≡◌, ◌≢◌, ℕ, zero, suc, ◌<◌, true, false, List, [], ◌∷◌, ◌++◌, map, length, refl, sym, ap, ◌∙◌, arith, get_or, set, append-nil, nat_eq, length-set}
 use Rattle.std.specs.Prelude.{if◌then◌else◌}
 use Rattle.std.proofs.lemmas.Bool.{eqb-true, eqb-false}
-use Rattle.label_graph.specs.declared.node.Node.{Node}
-use Rattle.label_graph.specs.Nodes.{children_of, parents_of}
+use Rattle.label_graph.specs.Nodes.{Node, children_of, parents_of}
 
 pub children-at : (nodes : List Node) (i : ℕ) (d : Node) → i < length nodes → children_of nodes i ≡ (get_or nodes i d).children.items
 children-at [] i d h = absurd (omega arith)

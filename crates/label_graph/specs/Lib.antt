@@ -1,5 +1,7 @@
 pub mod LabelTable
 pub mod Nodes
+pub mod Segments
+pub mod Rows
 pub mod Held
 pub mod Soundness
 pub mod Views

@@ -1,11 +1,40 @@
 -- What a list of nodes stands for.
-use Rattle.std.specs.Prelude.{◌≡◌, ◌≢◌, ℕ, zero, suc, ◌+◌, ◌-◌, ◌<◌, ◌≤◌, ◌&&◌, not, List, [], ◌∷◌, ◌++◌, Option, map, slice_get, option_and_then, nat_eq}
+use Rattle.std.specs.Prelude.{◌≡◌, ◌≢◌, ℕ, zero, suc, ◌+◌, ◌-◌, ◌<◌, ◌≤◌, ◌&&◌, not, List, [], ◌∷◌, ◌++◌, Option, map, length, slice_get, option_and_then, nat_eq, refl}
+use Rattle.std.specs.Coded.{Coded, code_by, coded×, coded_ℕ, coded_list, coded_option}
 use Rattle.std.specs.List.{IsDistinct}
 use Rattle.std.specs.FinSet as set
-use Rattle.smallvec.specs.SmallVec.{small_vec_len}
 use Rattle.px_spec.specs.Graphs.{Edges}
 use Rattle.px_spec.specs.Members.{has}
-use Rattle.label_graph.specs.declared.node.Node.{Node}
+
+-- a list of neighbours, and how many fit with no more memory
+pub record Neighbours : Type 0 where
+  pub items : List ℕ
+  pub capacity : ℕ
+
+-- a node: the number of its label, or none where it is gone, and its neighbours
+pub record Node : Type 0 where
+  pub label : Option ℕ
+  pub children : Neighbours
+  pub parents : Neighbours
+
+-- nodes, and how many fit with no more memory
+pub record NodeList : Type 0 where
+  pub nodes : List Node
+  pub capacity : ℕ
+
+-- they are stored as their parts
+abbrev pub neighbours_code : Coded Neighbours
+neighbours_code =
+    code_by (List ℕ × ℕ) (coded× (coded_list coded_ℕ) coded_ℕ) (λ l. (l.items, l.capacity)) (λ p. record { items = p.0; capacity = p.1 }) (λ _. refl)
+
+abbrev pub node_code : Coded Node
+node_code =
+    code_by (Option ℕ × (Neighbours × Neighbours)) (coded× (coded_option coded_ℕ) (coded× neighbours_code neighbours_code))
+    (λ n. (n.label, (n.children, n.parents))) (λ p. record { label = p.0; children = p.1.0; parents = p.1.1 }) (λ _. refl)
+
+abbrev pub node_list_code : Coded NodeList
+node_list_code =
+    code_by (List Node × ℕ) (coded× (coded_list node_code) coded_ℕ) (λ l. (l.nodes, l.capacity)) (λ p. record { nodes = p.0; capacity = p.1 }) (λ _. refl)
 
 -- for each node the number of its label, and none where it is gone
 abbrev pub labels_of : List Node → List (Option ℕ)
@@ -32,13 +61,13 @@ parents_of (x ∷ xs) (suc n) = parents_of xs n
 -- how many more children of a node fit with no more memory
 abbrev pub child_room : List Node → ℕ → ℕ
 child_room [] n = 0
-child_room (x ∷ xs) zero = x.children.capacity - small_vec_len x.children
+child_room (x ∷ xs) zero = x.children.capacity - length x.children.items
 child_room (x ∷ xs) (suc n) = child_room xs n
 
 -- how many more parents of a node fit with no more memory
 abbrev pub parent_room : List Node → ℕ → ℕ
 parent_room [] n = 0
-parent_room (x ∷ xs) zero = x.parents.capacity - small_vec_len x.parents
+parent_room (x ∷ xs) zero = x.parents.capacity - length x.parents.items
 parent_room (x ∷ xs) (suc n) = parent_room xs n
 
 -- each edge, by where it begins, from the node u on

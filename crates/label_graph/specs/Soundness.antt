@@ -4,8 +4,7 @@ use Rattle.std.specs.List.{IsDistinct, count_by}
 use Rattle.std.specs.FinSet as set
 use Rattle.px_spec.specs.Members.{has}
 use Rattle.label_graph.specs.LabelTable.{LabelTable, entries}
-use Rattle.label_graph.specs.Nodes.{labels_of, number_at, texts_of, children_of, parents_of, edges_of, Mirrors, HasRoom}
-use Rattle.label_graph.specs.declared.node.Node.{Node}
+use Rattle.label_graph.specs.Nodes.{Node, labels_of, number_at, texts_of, children_of, parents_of, edges_of, Mirrors, HasRoom}
 use Rattle.label_graph.specs.declared.node.Reserved.{Reserved}
 use Rattle.label_graph.specs.declared.node.Reserved.TheVariants.{Nothing, Label, Pair}
 

@@ -9,7 +9,7 @@ ghost use Rattle.label_graph.specs.Held.{no_room, label_room, pair_room};
 ghost use Rattle.label_graph.specs.Views.{label_number, is_linked, live_count, edge_count};
 
 use crate::labels::Labels;
-use crate::node::{self, Node, Reserved};
+use crate::node::{Nodes, Reserved};
 use crate::view::GraphView;
 use px_base::{Memory, NodeId, Steps, Text};
 use std::alloc::Global;
@@ -21,14 +21,13 @@ use std::sync::ledger::Ledger;
 #[derive(Drop)]
 pub struct Graph {
     labels: Labels,
-    nodes: Vec<Node>,
+    nodes: Nodes,
     node_count: u32,
     edge_count: u32,
     room: Reserved,
 }
 
 impl Model for Graph {
-    ghost use Rattle.std.specs.Prelude.{vec_capacity};
     ghost use Rattle.label_graph.specs.Held.{Held, held_code};
 
     ghost Value = { Held };
@@ -38,9 +37,9 @@ impl Model for Graph {
     ghost use Rattle.label_graph.specs.Held.{graph_by, room_by};
     ghost use Rattle.label_graph.specs.Soundness.{IsSound};
 
-    ghost view = { λ g. record { graph = graph_by g.labels g.nodes.items; room = room_by g.labels g.room } };
+    ghost view = { λ g. record { graph = graph_by g.labels g.nodes.nodes; room = room_by g.labels g.room } };
 
-    ghost invariant = { λ g. IsSound g.labels g.nodes.items (vec_capacity g.nodes) g.edge_count g.node_count g.room };
+    ghost invariant = { λ g. IsSound g.labels g.nodes.nodes g.nodes.capacity g.edge_count g.node_count g.room };
 }
 
 // Reading.
@@ -58,7 +57,7 @@ impl Graph {
         ensures live { result ≡ is_live self.now.graph n }
         ensures number { result ≡ is_some (label_number self.now.graph n) }
     {
-        node::label(&self.nodes, n).is_some()
+        self.nodes.label(n).is_some()
     }
 
     /// The number of a live node's label in `labels`.
@@ -67,7 +66,7 @@ impl Graph {
         ensures text { slice_get self.now.graph.seen result ≡ label_of self.now.graph n }
         ensures number { label_number self.now.graph n ≡ Some result }
     {
-        node::label(&self.nodes, n).unwrap()
+        self.nodes.label(n).unwrap()
     }
 
     /// Whether no edge begins or ends at a live node. It takes constant time, and isn't counted.
@@ -110,7 +109,7 @@ impl Graph {
         ensures cost { steps.new ≡ steps.old + 1 }
     {
         steps.tick();
-        node::is_edge(&self.nodes, u, v)
+        self.nodes.is_edge(u, v)
     }
 
     /// The nodes from which an edge leads to a live node, each once, in no stated order. It is one
@@ -160,7 +159,7 @@ impl Graph {
         ensures edges { Lists (λ u. has_edge self.now.graph u n) result.now }
         ensures links { Lists (λ u. is_linked self.now.graph u n) result.now }
     {
-        node::parents(&self.nodes, n)
+        self.nodes.parents(n)
     }
 
     // The children, with no step.
@@ -168,7 +167,7 @@ impl Graph {
         ensures edges { Lists (has_edge self.now.graph n) result.now }
         ensures links { Lists (is_linked self.now.graph n) result.now }
     {
-        node::children(&self.nodes, n)
+        self.nodes.children(n)
     }
 }
 
@@ -180,7 +179,7 @@ impl Graph {
     {
         Ok(Graph {
             labels: Labels::new(alloc),
-            nodes: Vec::new(alloc),
+            nodes: Nodes::new(alloc),
             node_count: 0,
             edge_count: 0,
             room: Reserved::Nothing,
@@ -194,7 +193,7 @@ impl Graph {
         ensures ok { OnOk result (self.new.room ≡ label_room label.now) }
         ensures err { OnErr result (self.new ≡ self.old) }
     {
-        self.nodes.reserve(1)?;
+        self.nodes.reserve_node()?;
         let number = self.labels.reserve(alloc, label)?;
         self.room = Reserved::Label(number);
         Ok(())
@@ -209,7 +208,7 @@ impl Graph {
         ensures ok { OnOk result (self.new.room ≡ pair_room u v) }
         ensures err { OnErr result (self.new ≡ self.old) }
     {
-        node::reserve_edge(&mut self.nodes, u, v)?;
+        self.nodes.reserve_edge(u, v)?;
         self.labels.clear();
         self.room = Reserved::Pair(u, v);
         Ok(())
@@ -227,7 +226,7 @@ impl Graph {
         };
         let added = self.nodes.len() as u32;
         self.labels.show();
-        node::push_node(&mut self.nodes, label);
+        self.nodes.push_node(label);
         self.node_count += 1;
         self.room = Reserved::Nothing;
         added
@@ -240,7 +239,7 @@ impl Graph {
         requires few { set.len self.old.graph.edges < 2 ^ 30 }
         ensures { self.new ≡ record { graph = with_edge self.old.graph u v; room = no_room } }
     {
-        node::push_edge(&mut self.nodes, u, v);
+        self.nodes.push_edge(u, v);
         self.edge_count += 1;
         self.room = Reserved::Nothing;
     }
@@ -254,7 +253,7 @@ impl Graph {
         requires present { has_edge self.old.graph u v ≡ true }
         ensures { self.new ≡ record { graph = without_edge self.old.graph u v; room = no_room } }
     {
-        node::remove_edge(&mut self.nodes, u, v);
+        self.nodes.remove_edge(u, v);
         self.labels.clear();
         self.edge_count -= 1;
         self.room = Reserved::Nothing;
@@ -267,7 +266,7 @@ impl Graph {
         requires unused { is_used self.old.graph u ≡ false }
         ensures { self.new ≡ record { graph = without_node self.old.graph u; room = no_room } }
     {
-        node::clear_label(&mut self.nodes, u);
+        self.nodes.clear_label(u);
         self.labels.clear();
         self.node_count -= 1;
         self.room = Reserved::Nothing;

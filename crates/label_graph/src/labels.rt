@@ -1,5 +1,5 @@
 // The table of labels.
-ghost use Rattle.std.specs.Prelude.{◌≡◌, ◌<◌, ◌≤◌, ◌+◌, ◌^◌, ◌++◌, ◌∷◌, [], ℕ, List, length, slice_get, Some, bytes_eq, position, None, false, IfOk, OnOk, OnErr};
+ghost use Rattle.std.specs.Prelude.{◌≡◌, ◌<◌, ◌≤◌, ◌+◌, ◌^◌, ◌++◌, ◌∷◌, [], ℕ, List, length, slice_get, Some, bytes_eq, position, None, false, IfOk, IfSome, OnOk, OnErr};
 ghost use Rattle.std.specs.List.{IsDistinct};
 ghost use Rattle.px_spec.specs.Graphs.{is_seen};
 ghost use Rattle.label_graph.specs.LabelTable.{entries, with_ahead, shown};
@@ -10,12 +10,20 @@ use px_base::{Memory, Text};
 use std::alloc::Global;
 use std::marker::Model;
 
+/// By how many bits of its last bytes a label has its place at hand.
+const HAND_BITS: u32 = 6;
+
+/// How many labels are at hand.
+const AT_HAND: usize = 1 << HAND_BITS;
+
 /// The labels that were seen, in the order in which they came. A text may lie ahead of them that is
-/// no label yet: room for one more.
+/// no label yet: room for one more. Numbers of labels that were asked for lately are at hand, each at one place by
+/// its text.
 #[derive(Drop)]
 pub struct Labels {
     table: IndexSet<Text>,
     shown: usize,
+    at_hand: [u32; AT_HAND],
 }
 
 impl Model for Labels {
@@ -37,6 +45,7 @@ impl Labels {
         Labels {
             table: IndexSet::new(alloc),
             shown: 0,
+            at_hand: [0; AT_HAND],
         }
     }
 
@@ -68,6 +77,34 @@ impl Labels {
         }
     }
 
+    // The number at hand, where it is that of the label.
+    fn near(&self, t: &Text) -> Option<u32>
+        ensures { IfSome result (λ l. position (bytes_eq t.now) self.now.texts ≡ Some l) }
+    {
+        let hand = self.at_hand.get(hand_place(t))?;
+        let l = *hand;
+        if (l as usize) < self.shown && self.table.as_slice()[l as usize] == *t {
+            Some(l)
+        } else {
+            None
+        }
+    }
+
+    // The number of the label, as `find` gives it. It is looked for at hand first, and is at hand then.
+    fn recall(&mut self, t: &Text) -> Option<u32>
+        ensures same { self.new ≡ self.old }
+        ensures place { result ≡ position (bytes_eq t.now) self.old.texts }
+    {
+        if let Some(l) = self.near(t) {
+            return Some(l);
+        }
+        let l = self.find(t)?;
+        if let Some(hand) = self.at_hand.get_mut(hand_place(t)) {
+            *hand = l;
+        }
+        Some(l)
+    }
+
     /// Makes room for a label, in place of the text that was ahead, and gives the number that it has
     /// or would have.
     pub(crate) fn reserve(&mut self, alloc: Global, text: &Text) -> Result<u32, Memory>
@@ -76,7 +113,7 @@ impl Labels {
         ensures next { IfOk result (λ l. IsNext self.new.ahead (length self.new.texts) l) }
         ensures err { OnErr result (self.new ≡ self.old) }
     {
-        match self.find(text) {
+        match self.recall(text) {
             Some(l) => {
                 self.clear();
                 Ok(l)
@@ -116,6 +153,18 @@ impl Labels {
         self.table.insert(key)?;
         drop_previous(&mut self.table, self.shown);
         Ok(())
+    }
+}
+
+// The place of a label at hand, by some of its last bytes. The last one of an IRI is its bracket, so it isn't read.
+fn hand_place(t: &Text) -> usize {
+    match t.as_bytes() {
+        [.., a, b, _] => {
+            let mixed = u32::from(*a).wrapping_mul(0x9E37_79B9)
+                ^ u32::from(*b).wrapping_mul(0x85EB_CA6B);
+            (mixed >> (32 - HAND_BITS)) as usize
+        }
+        _ => 0,
     }
 }
 

@@ -5,6 +5,7 @@ mod digraph;
 mod graph;
 mod labels;
 mod node;
+mod segment;
 mod view;
 
 pub use digraph::Digraph;

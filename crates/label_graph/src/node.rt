@@ -1,25 +1,21 @@
 // The nodes of a graph, and their lists of neighbours.
-ghost use Rattle.std.specs.Prelude.{◌≡◌, ◌<◌, ◌+◌, ◌==◌, ◌++◌, ◌∷◌, [], ℕ, if◌then◌else◌, false, Some, None, OnOk, OnErr, ◌≤◌, length, take, vec_len, vec_capacity, slice_set, nat_eq, position};
+ghost use Rattle.std.specs.Prelude.{◌≡◌, ◌<◌, ◌==◌, ◌++◌, ◌∷◌, [], ℕ, if◌then◌else◌, Some, None, OnOk, OnErr, length, slice_set, nat_eq, IsTrue, true};
 ghost use Rattle.std.specs.List.{IsDistinct};
-ghost use Rattle.smallvec.specs.SmallVec.{HasRoomFor};
 ghost use Rattle.px_spec.specs.Members.{has};
-ghost use Rattle.label_graph.specs.Nodes.{labels_of, number_at, children_of, parents_of, Mirrors, SameNodes, HasRoom, IsWithout, LacksEdge};
+ghost use Rattle.label_graph.specs.Nodes.{labels_of, number_at, children_of, parents_of, Mirrors, SameNodes, HasRoom, LacksEdge};
 
+use crate::segment::{EMPTY, Segment, items, make_place, push, take_out};
 use px_base::{Memory, NodeId};
-use smallvec::SmallVec;
 use std::alloc::Global;
+use std::marker::Model;
 
-/// How many numbers of a long list are searched at once.
-const PIECE: usize = 256;
-
-/// One node: the number of its label in the table, or none where the node is gone, and its
-/// neighbours, each once. The children stand next to the label, so that to add an edge where it begins mostly touches
-/// one line of the cache.
-#[derive(Drop)]
-pub(crate) struct Node {
+/// One node: its neighbours, and the number of its label in the table, or none where the node is gone. Whether it is
+/// there stands beside its children, so that to add an edge where it begins touches one line of the cache.
+#[derive(Clone, Copy)]
+pub(crate) struct Row {
+    pub(crate) children: Segment,
     pub(crate) label: Option<u32>,
-    pub(crate) children: SmallVec<u32, 4>,
-    pub(crate) parents: SmallVec<u32, 4>,
+    pub(crate) parents: Segment,
 }
 
 /// What a graph has room for: a node, by the number of its label in the table, or an edge.
@@ -30,167 +26,174 @@ pub(crate) enum Reserved {
     Pair(NodeId, NodeId),
 }
 
-/// The number of a node's label, and none where the node is gone or its number isn't given.
-pub(crate) fn label(nodes: &[Node], n: NodeId) -> Option<u32>
-    ensures { result ≡ number_at (labels_of nodes.now) n }
-{
-    let node = nodes.get(n as usize)?;
-    node.label
+/// The nodes, each with its label and with its neighbours, each once. Lists of neighbours lie in one array, so that no
+/// node takes an allocation of its own. A node takes 32 bytes. A list that never needed room for two takes no more; any
+/// other takes 4 to 16 bytes for each of the most neighbours that it ever had, and keeps them when it shrinks or its node
+/// goes.
+#[derive(Drop)]
+pub(crate) struct Nodes {
+    rows: Vec<Row>,
+    cells: Vec<u32>,
 }
 
-/// The children of a node, and none for a number that isn't given.
-pub(crate) fn children(nodes: &[Node], n: NodeId) -> &[NodeId]
-    ensures { result.now ≡ children_of nodes.now n }
-{
-    match nodes.get(n as usize) {
-        Some(node) => node.children.as_slice(),
-        None => &[],
+impl Model for Nodes {
+    ghost use Rattle.std.specs.Prelude.{vec_capacity};
+    ghost use Rattle.label_graph.specs.Nodes.{NodeList, node_list_code};
+    ghost use Rattle.label_graph.specs.Rows.{nodes_in, AreHeld};
+
+    ghost Value = { NodeList };
+
+    ghost coded = { node_list_code };
+
+    ghost view = { λ n. record { nodes = nodes_in n.cells.items n.rows.items; capacity = vec_capacity n.rows } };
+
+    ghost invariant = { λ n. AreHeld n.cells.items n.rows.items };
+}
+
+// Reading.
+impl Nodes {
+    /// How many there are, gone ones too.
+    pub(crate) fn len(&self) -> usize
+        ensures { result ≡ length self.now.nodes }
+    {
+        self.rows.len()
+    }
+
+    /// The number of a node's label, and none where the node is gone or its number isn't given.
+    pub(crate) fn label(&self, n: NodeId) -> Option<u32>
+        ensures { result ≡ number_at (labels_of self.now.nodes) n }
+    {
+        let row = self.rows.get(n as usize)?;
+        row.label
+    }
+
+    /// The children of a node, and none for a number that isn't given.
+    pub(crate) fn children(&self, n: NodeId) -> &[NodeId]
+        ensures { result.now ≡ children_of self.now.nodes n }
+    {
+        match self.rows.get(n as usize) {
+            Some(row) => items(&self.cells, &row.children),
+            None => &[],
+        }
+    }
+
+    /// The parents of a node, and none for a number that isn't given.
+    pub(crate) fn parents(&self, n: NodeId) -> &[NodeId]
+        ensures { result.now ≡ parents_of self.now.nodes n }
+    {
+        match self.rows.get(n as usize) {
+            Some(row) => items(&self.cells, &row.parents),
+            None => &[],
+        }
+    }
+
+    /// Whether an edge leads from one node to the other. It reads the ends of the two lists that tell, where an edge
+    /// that came lately stands and a new one is put, and then the shorter list.
+    pub(crate) fn is_edge(&self, u: NodeId, v: NodeId) -> bool
+        requires { Mirrors self.now.nodes }
+        ensures { result ≡ has (children_of self.now.nodes u) v }
+    {
+        let below = self.children(u);
+        let above = self.parents(v);
+        if ends_with(below, v) || ends_with(above, u) {
+            return true;
+        }
+        if below.len() <= above.len() {
+            below.contains(&v)
+        } else {
+            above.contains(&u)
+        }
     }
 }
 
-/// The parents of a node, and none for a number that isn't given.
-pub(crate) fn parents(nodes: &[Node], n: NodeId) -> &[NodeId]
-    ensures { result.now ≡ parents_of nodes.now n }
-{
-    match nodes.get(n as usize) {
-        Some(node) => node.parents.as_slice(),
-        None => &[],
+// Writing.
+impl Nodes {
+    /// No nodes.
+    pub(crate) fn new(alloc: Global) -> Nodes
+        ensures { result.nodes ≡ [] }
+    {
+        Nodes {
+            rows: Vec::new(alloc),
+            cells: Vec::new(alloc),
+        }
+    }
+
+    /// Makes room for a node.
+    pub(crate) fn reserve_node(&mut self) -> Result<(), Memory>
+        ensures same { self.new.nodes ≡ self.old.nodes }
+        ensures ok { OnOk result (length self.new.nodes < self.new.capacity) }
+        ensures err { OnErr result (self.new ≡ self.old) }
+    {
+        self.rows.reserve(1)?;
+        Ok(())
+    }
+
+    /// Appends a node with no neighbours.
+    pub(crate) fn push_node(&mut self, label: u32)
+        requires room { length self.old.nodes < self.old.capacity }
+        ensures labels { labels_of self.new.nodes ≡ labels_of self.old.nodes ++ Some label ∷ [] }
+        ensures children { (w : ℕ) → children_of self.new.nodes w ≡ children_of self.old.nodes w }
+        ensures parents { (w : ℕ) → parents_of self.new.nodes w ≡ parents_of self.old.nodes w }
+    {
+        self.rows.push_reserved(Row {
+            children: EMPTY,
+            label: Some(label),
+            parents: EMPTY,
+        });
+    }
+
+    /// Makes room for an edge.
+    pub(crate) fn reserve_edge(&mut self, u: NodeId, v: NodeId) -> Result<(), Memory>
+        requires from { u < length self.old.nodes }
+        requires onto { v < length self.old.nodes }
+        ensures same { SameNodes self.old.nodes self.new.nodes }
+        ensures capacity { self.new.capacity ≡ self.old.capacity }
+        ensures room { OnOk result (HasRoom self.new.nodes u v) }
+    {
+        make_place(&mut self.cells, &mut self.rows[u as usize].children)?;
+        make_place(&mut self.cells, &mut self.rows[v as usize].parents)?;
+        Ok(())
+    }
+
+    /// Writes an edge into both lists.
+    pub(crate) fn push_edge(&mut self, u: NodeId, v: NodeId)
+        requires from { u < length self.old.nodes }
+        requires onto { v < length self.old.nodes }
+        requires room { HasRoom self.old.nodes u v }
+        ensures children { (w : ℕ) → children_of self.new.nodes w ≡ children_of self.old.nodes w ++ (if w == u then v ∷ [] else []) }
+        ensures parents { (w : ℕ) → parents_of self.new.nodes w ≡ parents_of self.old.nodes w ++ (if w == v then u ∷ [] else []) }
+        ensures labels { labels_of self.new.nodes ≡ labels_of self.old.nodes }
+    {
+        push(&mut self.cells, &mut self.rows[u as usize].children, v);
+        push(&mut self.cells, &mut self.rows[v as usize].parents, u);
+    }
+
+    /// Takes an edge out of both lists. It scans each of them once.
+    pub(crate) fn remove_edge(&mut self, u: NodeId, v: NodeId)
+        requires from { u < length self.old.nodes }
+        requires onto { v < length self.old.nodes }
+        requires children_once { IsDistinct nat_eq (children_of self.old.nodes u) }
+        requires parents_once { IsDistinct nat_eq (parents_of self.old.nodes v) }
+        ensures { LacksEdge self.old.nodes self.new.nodes u v }
+    {
+        take_out(&mut self.cells, &mut self.rows[u as usize].children, v);
+        take_out(&mut self.cells, &mut self.rows[v as usize].parents, u);
+    }
+
+    /// Takes the label of a node away, so that the node is gone.
+    pub(crate) fn clear_label(&mut self, n: NodeId)
+        requires { n < length self.old.nodes }
+        ensures labels { labels_of self.new.nodes ≡ slice_set (labels_of self.old.nodes) n None }
+        ensures children { (w : ℕ) → children_of self.new.nodes w ≡ children_of self.old.nodes w }
+        ensures parents { (w : ℕ) → parents_of self.new.nodes w ≡ parents_of self.old.nodes w }
+    {
+        self.rows[n as usize].label = None;
     }
 }
 
-/// Whether an edge leads from one node to the other. It reads the shorter of the two lists that tell.
-pub(crate) fn is_edge(nodes: &[Node], u: NodeId, v: NodeId) -> bool
-    requires { Mirrors nodes.now }
-    ensures { result ≡ has (children_of nodes.now u) v }
+// Whether the number is the last of the list.
+fn ends_with(list: &[NodeId], n: NodeId) -> bool
+    ensures { IsTrue result → has list.now n ≡ true }
 {
-    let below = children(nodes, u);
-    let above = parents(nodes, v);
-    if below.len() <= above.len() {
-        below.contains(&v)
-    } else {
-        above.contains(&u)
-    }
-}
-
-/// Makes room for an edge.
-pub(crate) fn reserve_edge(nodes: &mut Vec<Node>, u: NodeId, v: NodeId) -> Result<(), Memory>
-    requires from { u < vec_len nodes.old }
-    requires onto { v < vec_len nodes.old }
-    ensures same { SameNodes nodes.old.items nodes.new.items }
-    ensures capacity { vec_capacity nodes.new ≡ vec_capacity nodes.old }
-    ensures room { OnOk result (HasRoom nodes.new.items u v) }
-{
-    make_place(&mut nodes[u as usize].children)?;
-    make_place(&mut nodes[v as usize].parents)?;
-    Ok(())
-}
-
-// Makes room for one more number, where there is none.
-#[inline(always)]
-fn make_place(list: &mut SmallVec<u32, 4>) -> Result<(), Memory>
-    ensures items { list.new.items ≡ list.old.items }
-    ensures capacity { list.old.capacity ≤ list.new.capacity }
-    ensures ok { OnOk result (HasRoomFor list.new 1) }
-    ensures err { OnErr result (list.new ≡ list.old) }
-{
-    if list.len() < list.capacity() {
-        return Ok(());
-    }
-    list.reserve(1)?;
-    Ok(())
-}
-
-/// Writes an edge into both lists.
-pub(crate) fn push_edge(nodes: &mut Vec<Node>, u: NodeId, v: NodeId)
-    requires from { u < vec_len nodes.old }
-    requires onto { v < vec_len nodes.old }
-    requires room { HasRoom nodes.old.items u v }
-    ensures children { (w : ℕ) → children_of nodes.new.items w ≡ children_of nodes.old.items w ++ (if w == u then v ∷ [] else []) }
-    ensures parents { (w : ℕ) → parents_of nodes.new.items w ≡ parents_of nodes.old.items w ++ (if w == v then u ∷ [] else []) }
-    ensures labels { labels_of nodes.new.items ≡ labels_of nodes.old.items }
-{
-    nodes[u as usize].children.push_reserved(v);
-    nodes[v as usize].parents.push_reserved(u);
-}
-
-/// Appends a node with no neighbours.
-pub(crate) fn push_node(nodes: &mut Vec<Node>, label: u32)
-    requires room { vec_len nodes.old < vec_capacity nodes.old }
-    ensures labels { labels_of nodes.new.items ≡ labels_of nodes.old.items ++ Some label ∷ [] }
-    ensures children { (w : ℕ) → children_of nodes.new.items w ≡ children_of nodes.old.items w }
-    ensures parents { (w : ℕ) → parents_of nodes.new.items w ≡ parents_of nodes.old.items w }
-{
-    let alloc: Global = *nodes.allocator();
-    nodes.push_reserved(Node {
-        label: Some(label),
-        children: SmallVec::new(alloc),
-        parents: SmallVec::new(alloc),
-    });
-}
-
-/// Takes an edge out of both lists. It scans each of them once.
-pub(crate) fn remove_edge(nodes: &mut Vec<Node>, u: NodeId, v: NodeId)
-    requires from { u < vec_len nodes.old }
-    requires onto { v < vec_len nodes.old }
-    requires children_once { IsDistinct nat_eq (children_of nodes.old.items u) }
-    requires parents_once { IsDistinct nat_eq (parents_of nodes.old.items v) }
-    ensures { LacksEdge nodes.old.items nodes.new.items u v }
-{
-    take_out(&mut nodes[u as usize].children, v);
-    take_out(&mut nodes[v as usize].parents, u);
-}
-
-/// Takes the label of a node away, so that the node is gone.
-pub(crate) fn clear_label(nodes: &mut Vec<Node>, n: NodeId)
-    requires { n < vec_len nodes.old }
-    ensures labels { labels_of nodes.new.items ≡ slice_set (labels_of nodes.old.items) n None }
-    ensures children { (w : ℕ) → children_of nodes.new.items w ≡ children_of nodes.old.items w }
-    ensures parents { (w : ℕ) → parents_of nodes.new.items w ≡ parents_of nodes.old.items w }
-{
-    nodes[n as usize].label = None;
-}
-
-// Takes a number out of a list that has it at most once. The last one comes into its place.
-fn take_out(list: &mut SmallVec<u32, 4>, n: u32)
-    requires { IsDistinct nat_eq list.old.items }
-    ensures { IsWithout list.old.items list.new.items n }
-{
-    if let Some(at) = place_of(list.as_slice(), n) {
-        list.swap_remove(at);
-    }
-}
-
-// The first place at which the number stands.
-fn place_of(list: &[u32], n: u32) -> Option<usize>
-    ensures { result ≡ position (nat_eq n) list.now }
-{
-    let front = front_without(list, n);
-    let at = place_near(&list[front..], n)?;
-    Some(front + at)
-}
-
-// The same, number by number.
-fn place_near(list: &[u32], n: u32) -> Option<usize>
-    ensures { result ≡ position (nat_eq n) list.now }
-{
-    list.iter().position(|m| n == *m)
-}
-
-// How many places at the front don't have the number, in whole pieces. A piece is searched as `contains` does it,
-// several numbers at a time.
-fn front_without(list: &[u32], n: u32) -> usize
-    ensures within { result ≤ length list.now }
-    ensures without { has (take result list.now) n ≡ false }
-{
-    let mut front = 0;
-    while list.len() - front >= PIECE && !is_among(&list[front..front + PIECE], n) {
-        front += PIECE;
-    }
-    front
-}
-
-fn is_among(list: &[u32], n: u32) -> bool
-    ensures { result ≡ has list.now n }
-{
-    list.contains(&n)
+    list.last() == Some(&n)
 }

@@ -1,5 +1,4 @@
 use Rattle.std.proofs.Common.{subst, sym, ap, ◌∙◌, arith, ◌<◌, ◌^◌}
-use Rattle.std.specs.Prelude.{vec_capacity}
 use Rattle.std.specs.FinSet as set
 use Rattle.px_spec.specs.Graphs.{has_edge}
 use Rattle.px_spec.specs.Changes.{with_edge}
@@ -16,10 +15,10 @@ invariant_of-self c =
     let u = c.args.u in
     let v = c.args.v in
     let is = pair-shown s.labels s.room u v (ap (λ h. h.room) c.self.view_is ∙ c.requires.room) in
-    let sound = subst (λ r. IsSound s.labels s.nodes.items (vec_capacity s.nodes) s.edge_count s.node_count r) is c.self.invariant in
-    let absent = sym (has_edge-children s.nodes.items u v) ∙ ap (λ h. has_edge h.graph u v) c.self.view_is ∙ c.requires.absent in
+    let sound = subst (λ r. IsSound s.labels s.nodes.nodes s.nodes.capacity s.edge_count s.node_count r) is c.self.invariant in
+    let absent = sym (has_edge-children s.nodes.nodes u v) ∙ ap (λ h. has_edge h.graph u v) c.self.view_is ∙ c.requires.absent in
     let few = subst (λ h. set.len h.graph.edges < 2 ^ 30) (sym c.self.view_is) c.requires.few in
-    sound-edge s.labels s.nodes.items c.push_edge.new.nodes.items (vec_capacity s.nodes) s.edge_count s.node_count u v sound
+    sound-edge s.labels s.nodes.nodes c.push_edge.new.self.nodes s.nodes.capacity s.edge_count s.node_count u v sound
     c.push_edge.ensures.labels c.push_edge.ensures.children c.push_edge.ensures.parents _ absent (omega (arith, few, c.self.invariant.lists.edge_count_is))
 
 pub returns : goal.returns
@@ -28,7 +27,7 @@ returns c =
     let u = c.args.u in
     let v = c.args.v in
     let is = pair-shown s.labels s.room u v (ap (λ h. h.room) c.self.view_is ∙ c.requires.room) in
-    let sound = subst (λ r. IsSound s.labels s.nodes.items (vec_capacity s.nodes) s.edge_count s.node_count r) is c.self.invariant in
-    ap (λ g. record { graph = g; room = no_room }) (edge-added s.labels s.nodes.items c.push_edge.new.nodes.items (vec_capacity s.nodes) s.edge_count s.node_count u v sound
+    let sound = subst (λ r. IsSound s.labels s.nodes.nodes s.nodes.capacity s.edge_count s.node_count r) is c.self.invariant in
+    ap (λ g. record { graph = g; room = no_room }) (edge-added s.labels s.nodes.nodes c.push_edge.new.self.nodes s.nodes.capacity s.edge_count s.node_count u v sound
     c.push_edge.ensures.labels c.push_edge.ensures.children c.push_edge.ensures.parents)
     ∙ ap (λ h. record { graph = with_edge h.graph u v; room = no_room }) c.self.view_is

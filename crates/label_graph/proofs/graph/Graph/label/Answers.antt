@@ -1,9 +1,8 @@
-use Rattle.std.proofs.Common.{◌∙◌, ap, sym}
-use Rattle.label_graph.specs.Nodes.{number_at, labels_of}
+use Rattle.std.proofs.Common.{◌∙◌, sym}
 use Rattle.label_graph.proofs.Readings.{number-is}
 use Rattle.label_graph.proofs.graph.Graph.label.Goals as goal
 
 pub returns-clause-number : goal.returns-clause-number
 returns-clause-number c =
     rw (← c.self.view_is)
-    (number-is c.self.inside.labels c.self.inside.nodes.items _ c.self.inside.edge_count c.self.inside.node_count c.self.inside.room c.self.invariant c.args.n ∙ sym (ap (λ l. number_at (labels_of l) c.args.n) c.deref.ensures.value) ∙ sym c.label.ensures ∙ c.unwrap.ensures)
+    (number-is c.self.inside.labels c.self.inside.nodes.nodes _ c.self.inside.edge_count c.self.inside.node_count c.self.inside.room c.self.invariant c.args.n ∙ sym c.label.ensures ∙ c.unwrap.ensures)

@@ -2,4 +2,4 @@ use Rattle.label_graph.proofs.KeepsSound.{sound-empty}
 use Rattle.label_graph.proofs.graph.Graph.new.Goals as goal
 
 pub invariant_of-result : goal.invariant_of-result
-invariant_of-result c = sound-empty c.new.result c.new-2.result.items _ c.new.ensures c.new-2.ensures.items
+invariant_of-result c = sound-empty c.new.result c.new-2.result.nodes _ c.new.ensures c.new-2.ensures

@@ -1,5 +1,4 @@
 use Rattle.std.proofs.Common.{sym, ap, ◌∙◌, arith, subst, true, ◌≡◌, ◌-◌}
-use Rattle.std.specs.Prelude.{vec_capacity}
 use Rattle.px_spec.specs.Graphs.{has_edge}
 use Rattle.px_spec.specs.Changes.{without_edge}
 use Rattle.px_spec.specs.Members.{has}
@@ -15,14 +14,14 @@ use Rattle.label_graph.proofs.graph.Graph.remove_edge.Goals as goal
 pub remove_edge-requires-clause-from : goal.remove_edge-requires-clause-from
 remove_edge-requires-clause-from c =
     let s = c.self.inside in
-    let there : has (children_of s.nodes.items c.args.u) c.args.v ≡ true = sym (has_edge-children s.nodes.items c.args.u c.args.v) ∙ ap (λ h. has_edge h.graph c.args.u c.args.v) c.self.view_is ∙ c.requires.present in
-    omega (arith, live-below s.nodes.items c.args.u (c.self.invariant.lists.ends c.args.u c.args.v there).from)
+    let there : has (children_of s.nodes.nodes c.args.u) c.args.v ≡ true = sym (has_edge-children s.nodes.nodes c.args.u c.args.v) ∙ ap (λ h. has_edge h.graph c.args.u c.args.v) c.self.view_is ∙ c.requires.present in
+    omega (arith, live-below s.nodes.nodes c.args.u (c.self.invariant.lists.ends c.args.u c.args.v there).from)
 
 pub remove_edge-requires-clause-onto : goal.remove_edge-requires-clause-onto
 remove_edge-requires-clause-onto c =
     let s = c.self.inside in
-    let there : has (children_of s.nodes.items c.args.u) c.args.v ≡ true = sym (has_edge-children s.nodes.items c.args.u c.args.v) ∙ ap (λ h. has_edge h.graph c.args.u c.args.v) c.self.view_is ∙ c.requires.present in
-    omega (arith, live-below s.nodes.items c.args.v (c.self.invariant.lists.ends c.args.u c.args.v there).onto)
+    let there : has (children_of s.nodes.nodes c.args.u) c.args.v ≡ true = sym (has_edge-children s.nodes.nodes c.args.u c.args.v) ∙ ap (λ h. has_edge h.graph c.args.u c.args.v) c.self.view_is ∙ c.requires.present in
+    omega (arith, live-below s.nodes.nodes c.args.v (c.self.invariant.lists.ends c.args.u c.args.v there).onto)
 
 pub overflow_sub-self : goal.overflow_sub-self
 overflow_sub-self c =
@@ -33,15 +32,15 @@ overflow_sub-self c =
 pub invariant_of-self : goal.invariant_of-self
 invariant_of-self c =
     let s = c.self.inside in
-    let new = c.remove_edge.new.nodes in
-    let there = sym (has_edge-children s.nodes.items c.args.u c.args.v) ∙ ap (λ h. has_edge h.graph c.args.u c.args.v) c.self.view_is ∙ c.requires.present in
-    subst (λ x. IsSound x new.items (vec_capacity new) (s.edge_count - 1) s.node_count Nothing) (sym c.clear.ensures)
-    (sound-less s.nodes.items new.items c.args.u c.args.v c.remove_edge.ensures s.labels (vec_capacity s.nodes) s.edge_count s.node_count s.room (vec_capacity new) c.self.invariant there)
+    let new = c.remove_edge.new.self in
+    let there = sym (has_edge-children s.nodes.nodes c.args.u c.args.v) ∙ ap (λ h. has_edge h.graph c.args.u c.args.v) c.self.view_is ∙ c.requires.present in
+    subst (λ x. IsSound x new.nodes new.capacity (s.edge_count - 1) s.node_count Nothing) (sym c.clear.ensures)
+    (sound-less s.nodes.nodes new.nodes c.args.u c.args.v c.remove_edge.ensures s.labels s.nodes.capacity s.edge_count s.node_count s.room new.capacity c.self.invariant there)
 
 pub returns : goal.returns
 returns c =
     let s = c.self.inside in
-    let new = c.remove_edge.new.nodes in
-    ap (λ x. record { graph = graph_by x new.items; room = no_room }) c.clear.ensures
-    ∙ ap (λ g. record { graph = g; room = no_room }) (edge-taken s.nodes.items new.items c.args.u c.args.v c.remove_edge.ensures s.labels)
+    let new = c.remove_edge.new.self in
+    ap (λ x. record { graph = graph_by x new.nodes; room = no_room }) c.clear.ensures
+    ∙ ap (λ g. record { graph = g; room = no_room }) (edge-taken s.nodes.nodes new.nodes c.args.u c.args.v c.remove_edge.ensures s.labels)
     ∙ ap (λ h. record { graph = without_edge h.graph c.args.u c.args.v; room = no_room }) c.self.view_is

@@ -1,5 +1,4 @@
 use Rattle.std.proofs.Common.{sym, ap, ◌∙◌, arith, subst, ◌-◌}
-use Rattle.std.specs.Prelude.{vec_capacity}
 use Rattle.px_spec.specs.Graphs.{is_live}
 use Rattle.px_spec.specs.Changes.{without_node, is_used}
 use Rattle.label_graph.specs.Held.{graph_by, no_room}
@@ -14,24 +13,24 @@ pub overflow_sub-self : goal.overflow_sub-self
 overflow_sub-self c =
     let s = c.self.inside in
     let live = ap (λ h. is_live h.graph c.args.u) c.self.view_is ∙ c.requires.live in
-    omega (arith, some-node s.labels (labels_of s.nodes.items) s.node_count c.args.u c.self.invariant.labels live)
+    omega (arith, some-node s.labels (labels_of s.nodes.nodes) s.node_count c.args.u c.self.invariant.labels live)
 
 pub invariant_of-self : goal.invariant_of-self
 invariant_of-self c =
     let s = c.self.inside in
-    let new = c.clear_label.new.nodes in
+    let new = c.clear_label.new.self in
     let live = ap (λ h. is_live h.graph c.args.u) c.self.view_is ∙ c.requires.live in
-    let bare = unused-bare (graph_by s.labels s.nodes.items) c.args.u (ap (λ h. is_used h.graph c.args.u) c.self.view_is ∙ c.requires.unused) in
-    subst (λ x. IsSound x new.items (vec_capacity new) s.edge_count (s.node_count - 1) Nothing) (sym c.clear.ensures)
-    (sound-gone s.labels s.nodes.items new.items c.args.u live c.clear_label.ensures.labels c.clear_label.ensures.children c.clear_label.ensures.parents bare
-    (vec_capacity s.nodes) s.edge_count s.node_count s.room (vec_capacity new) c.self.invariant)
+    let bare = unused-bare (graph_by s.labels s.nodes.nodes) c.args.u (ap (λ h. is_used h.graph c.args.u) c.self.view_is ∙ c.requires.unused) in
+    subst (λ x. IsSound x new.nodes new.capacity s.edge_count (s.node_count - 1) Nothing) (sym c.clear.ensures)
+    (sound-gone s.labels s.nodes.nodes new.nodes c.args.u live c.clear_label.ensures.labels c.clear_label.ensures.children c.clear_label.ensures.parents bare
+    s.nodes.capacity s.edge_count s.node_count s.room new.capacity c.self.invariant)
 
 pub returns : goal.returns
 returns c =
     let s = c.self.inside in
-    let new = c.clear_label.new.nodes in
+    let new = c.clear_label.new.self in
     let live = ap (λ h. is_live h.graph c.args.u) c.self.view_is ∙ c.requires.live in
-    ap (λ x. record { graph = graph_by x new.items; room = no_room }) c.clear.ensures
+    ap (λ x. record { graph = graph_by x new.nodes; room = no_room }) c.clear.ensures
     ∙ ap (λ g. record { graph = g; room = no_room })
-    (node-taken s.labels s.nodes.items new.items c.args.u live c.clear_label.ensures.labels c.clear_label.ensures.children c.clear_label.ensures.parents)
+    (node-taken s.labels s.nodes.nodes new.nodes c.args.u live c.clear_label.ensures.labels c.clear_label.ensures.children c.clear_label.ensures.parents)
     ∙ ap (λ h. record { graph = without_node h.graph c.args.u; room = no_room }) c.self.view_is

@@ -1,5 +1,5 @@
 use Rattle.std.proofs.Common.{subst, sym, ap, ◌∙◌, arith, IsTrue, ◌≤◌}
-use Rattle.std.specs.Prelude.{vec_capacity, IsSome}
+use Rattle.std.specs.Prelude.{IsSome}
 use Rattle.px_spec.specs.Graphs.{is_live}
 use Rattle.label_graph.specs.Held.{graph_by, room_by}
 use Rattle.label_graph.specs.Nodes.{number_at}
@@ -12,35 +12,35 @@ use Rattle.label_graph.proofs.graph.Graph.reserve_edge.Goals as goal
 pub invariant_of-self : goal.invariant_of-self
 invariant_of-self c =
     let s = c.self.inside in
-    let more : vec_capacity s.nodes ≤ vec_capacity c.reserve_edge.new.nodes = omega (arith, c.reserve_edge.ensures.capacity) in
-    sound-same s.labels s.edge_count s.node_count s.nodes.items c.reserve_edge.new.nodes.items _ _ s.room more c.reserve_edge.ensures.same c.self.invariant
+    let more : s.nodes.capacity ≤ c.reserve_edge.new.self.capacity = omega (arith, c.reserve_edge.ensures.capacity) in
+    sound-same s.labels s.edge_count s.node_count s.nodes.nodes c.reserve_edge.new.self.nodes _ _ s.room more c.reserve_edge.ensures.same c.self.invariant
 
 pub returns-in_err-reserve_edge-clause-graph : goal.returns-in_err-reserve_edge-clause-graph
 returns-in_err-reserve_edge-clause-graph c =
-    graph-same c.self.inside.labels c.self.inside.nodes.items c.reserve_edge.new.nodes.items c.reserve_edge.ensures.same ∙ ap (λ h. h.graph) c.self.view_is
+    graph-same c.self.inside.labels c.self.inside.nodes.nodes c.reserve_edge.new.self.nodes c.reserve_edge.ensures.same ∙ ap (λ h. h.graph) c.self.view_is
 
 pub returns-in_err-reserve_edge-clause-err : goal.returns-in_err-reserve_edge-clause-err
 returns-in_err-reserve_edge-clause-err c =
     let s = c.self.inside in
     on-err c.from_residual.result
-    (ap (λ g. record { graph = g; room = room_by s.labels s.room }) (graph-same s.labels s.nodes.items c.reserve_edge.new.nodes.items c.reserve_edge.ensures.same) ∙ c.self.view_is)
+    (ap (λ g. record { graph = g; room = room_by s.labels s.room }) (graph-same s.labels s.nodes.nodes c.reserve_edge.new.self.nodes c.reserve_edge.ensures.same) ∙ c.self.view_is)
 
 pub invariant_of-self-2 : goal.invariant_of-self-2
 invariant_of-self-2 c =
     let s = c.self.inside in
     let u = c.args.u in
     let v = c.args.v in
-    let new = c.reserve_edge.new.nodes.items in
-    let more : vec_capacity s.nodes ≤ vec_capacity c.reserve_edge.new.nodes = omega (arith, c.reserve_edge.ensures.capacity) in
+    let new = c.reserve_edge.new.self.nodes in
+    let more : s.nodes.capacity ≤ c.reserve_edge.new.self.capacity = omega (arith, c.reserve_edge.ensures.capacity) in
     let same = c.reserve_edge.ensures.same in
-    let sound = sound-same s.labels s.edge_count s.node_count s.nodes.items new _ _ s.room more same c.self.invariant in
-    let from = live-number s.labels s.nodes.items u (subst (λ h. IsTrue (is_live h.graph u)) (sym c.self.view_is) c.requires.from) in
-    let onto = live-number s.labels s.nodes.items v (subst (λ h. IsTrue (is_live h.graph v)) (sym c.self.view_is) c.requires.onto) in
-    subst (λ x. IsSound x new (vec_capacity c.reserve_edge.new.nodes) s.edge_count s.node_count (Pair u v)) (sym c.clear.ensures)
+    let sound = sound-same s.labels s.edge_count s.node_count s.nodes.nodes new _ _ s.room more same c.self.invariant in
+    let from = live-number s.labels s.nodes.nodes u (subst (λ h. IsTrue (is_live h.graph u)) (sym c.self.view_is) c.requires.from) in
+    let onto = live-number s.labels s.nodes.nodes v (subst (λ h. IsTrue (is_live h.graph v)) (sym c.self.view_is) c.requires.onto) in
+    subst (λ x. IsSound x new (c.reserve_edge.new.self.capacity) s.edge_count s.node_count (Pair u v)) (sym c.clear.ensures)
     (sound-pair s.labels s.edge_count s.node_count new _ s.room sound u v
     (subst (λ l. IsSome (number_at l u)) (sym same.labels) from) (subst (λ l. IsSome (number_at l v)) (sym same.labels) onto) c.in_ok-reserve_edge.ensures.room)
 
 pub returns-clause-graph : goal.returns-clause-graph
 returns-clause-graph c =
-    ap (λ x. graph_by x c.reserve_edge.new.nodes.items) c.clear.ensures
-    ∙ graph-same c.self.inside.labels c.self.inside.nodes.items c.reserve_edge.new.nodes.items c.reserve_edge.ensures.same ∙ ap (λ h. h.graph) c.self.view_is
+    ap (λ x. graph_by x c.reserve_edge.new.self.nodes) c.clear.ensures
+    ∙ graph-same c.self.inside.labels c.self.inside.nodes.nodes c.reserve_edge.new.self.nodes c.reserve_edge.ensures.same ∙ ap (λ h. h.graph) c.self.view_is

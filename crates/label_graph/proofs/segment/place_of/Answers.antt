@@ -1,6 +1,6 @@
 use Rattle.std.proofs.Common.{sym, ◌∙◌}
 use Rattle.label_graph.proofs.Pieces.{position-behind, position-nowhere}
-use Rattle.label_graph.proofs.node.place_of.Goals as goal
+use Rattle.label_graph.proofs.segment.place_of.Goals as goal
 
 pub returns-in_err-at : goal.returns-in_err-at
 returns-in_err-at c =

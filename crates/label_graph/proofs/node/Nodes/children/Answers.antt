@@ -1,0 +1,25 @@
+use Rattle.std.proofs.Common.{◌∙◌, sym, ap, subst, length, arith, get_or}
+use Rattle.std.proofs.lemmas.List.{length-map}
+use Rattle.label_graph.specs.Segments.{items_in, IsWithin}
+use Rattle.label_graph.specs.Rows.{node_in}
+use Rattle.label_graph.proofs.GetNodes.{children-past}
+use Rattle.label_graph.proofs.RowLemmas.{child-within, children-seen}
+use Rattle.label_graph.proofs.node.Nodes.children.Goals as goal
+
+pub items-requires : goal.items-requires
+items-requires c =
+    subst (λ l. IsWithin (length l) c.in-Some.row.now.children) (sym c.deref-in-Some.ensures.value)
+    (child-within c.self.inside.cells.items c.self.inside.rows.items c.args.n c.in-Some.row.now (omega (arith, c.in-Some.ensures.lookup.3.0, ap length c.deref.ensures.value))
+    (c.in-Some.ensures.lookup.1 ∙ ap (λ l. get_or l c.args.n c.in-Some.row.now) c.deref.ensures.value) c.self.invariant)
+
+pub returns-in-Some : goal.returns-in-Some
+returns-in-Some c =
+    rw (← c.self.view_is)
+    (c.items.ensures ∙ ap (λ l. items_in l c.in-Some.row.now.children) c.deref-in-Some.ensures.value
+    ∙ children-seen c.self.inside.cells.items c.self.inside.rows.items c.args.n c.in-Some.row.now (omega (arith, c.in-Some.ensures.lookup.3.0, ap length c.deref.ensures.value))
+    (c.in-Some.ensures.lookup.1 ∙ ap (λ l. get_or l c.args.n c.in-Some.row.now) c.deref.ensures.value))
+
+pub returns-in-None : goal.returns-in-None
+returns-in-None c =
+    rw (← c.self.view_is)
+    (sym (children-past _ c.args.n (omega (arith, c.in-None.ensures.lookup.3, ap length c.deref.ensures.value, length-map c.self.inside.rows.items (node_in c.self.inside.cells.items)))))

@@ -1,0 +1,35 @@
+-- Lists that lie among the cells of one array, or in a segment itself.
+use Rattle.std.specs.Prelude.{◌≡◌, ℕ, ◌+◌, ◌<◌, ◌≤◌, ◌⊎◌, List, [], ◌∷◌, ◌++◌, length, take, drop, nat_lt, if◌then◌else◌}
+use Rattle.label_graph.specs.declared.segment.Segment.{Segment}
+
+-- the numbers of a list: it lies among the cells, or in the segment itself where there is room for one number alone
+abbrev pub items_in : List ℕ → Segment → List ℕ
+items_in cells s = if nat_lt s.room 2 then take s.len (s.at ∷ []) else take s.len (drop s.at cells)
+
+-- a list with its room lies among that many cells
+pub record IsWithin (size : ℕ) (s : Segment) : Type 0 where
+  pub fits : s.len ≤ s.room
+  pub ends : 2 ≤ s.room → s.at + s.room ≤ size
+
+-- no cell is in the room of both
+abbrev pub IsApart : Segment → Segment → Type 0
+IsApart s t = 2 ≤ s.room → 2 ≤ t.room → (s.at + s.room ≤ t.at) ⊎ (t.at + t.room ≤ s.at)
+
+abbrev pub Begins : List ℕ → List ℕ → Type 0
+Begins old new = (more : List ℕ) × (new ≡ old ++ more)
+
+-- one list is written anew, from s to t, and each that is apart from it stays as it is
+pub record Writes (old new : List ℕ) (s t : Segment) : Type 0 where
+  pub within : IsWithin (length new) t
+  pub longer : length old ≤ length new
+  pub apart : (u : Segment) → IsWithin (length old) u → IsApart s u → IsApart t u
+  pub others : (u : Segment) → IsWithin (length old) u → IsApart s u → items_in new u ≡ items_in old u
+
+-- the list t lies behind all old cells, with the numbers of s and more room
+pub record IsMoved (old new : List ℕ) (s t : Segment) : Type 0 where
+  pub within : IsWithin (length new) t
+  pub behind : t.at ≡ length old
+  pub long : 2 ≤ t.room
+  pub items : items_in new t ≡ items_in old s
+  pub len : t.len ≡ s.len
+  pub room : s.room < t.room

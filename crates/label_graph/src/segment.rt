@@ -1,0 +1,183 @@
+// Lists of numbers that lie among the cells of one array, or in a segment itself.
+ghost use Rattle.std.specs.Prelude.{◌≡◌, ◌<◌, ◌≤◌, ◌++◌, ◌∷◌, [], length, position, nat_eq, nat_lt, take, false, IfOk, OnOk};
+ghost use Rattle.std.specs.List.{IsDistinct};
+ghost use Rattle.px_spec.specs.Members.{has};
+ghost use Rattle.label_graph.specs.Nodes.{IsWithout};
+ghost use Rattle.label_graph.specs.Segments.{items_in, IsWithin, Writes, IsMoved, Begins};
+
+use px_base::Memory;
+use std::slice::from_ref;
+
+/// How many numbers of a long list are searched at once.
+const PIECE: usize = 256;
+
+/// How many cells there are at most.
+const MOST_CELLS: usize = 0xFFFF_FFFF;
+
+/// A list: how many numbers it has, for how many it has room, and at which of the cells it begins. Where there is room
+/// for one number alone it takes no cell, and `at` is that number. So a list takes 12 bytes; by an enum it would take 16.
+#[derive(Clone, Copy)]
+pub(crate) struct Segment {
+    pub(crate) at: u32,
+    pub(crate) len: u32,
+    pub(crate) room: u32,
+}
+
+/// Whether the list takes no cell.
+#[inline(always)]
+fn is_short(segment: &Segment) -> bool
+    ensures { result ≡ nat_lt segment.now.room 2 }
+{
+    segment.room < 2
+}
+
+/// A list without numbers, and with room for one.
+pub(crate) const EMPTY: Segment = Segment {
+    at: 0,
+    len: 0,
+    room: 1,
+};
+
+/// The numbers of a list.
+#[inline(always)]
+pub(crate) fn items<'a>(cells: &'a [u32], segment: &'a Segment) -> &'a [u32]
+    requires { IsWithin (length cells.now) segment.now }
+    ensures { result.now ≡ items_in cells.now segment.now }
+{
+    let len = segment.len as usize;
+    if is_short(segment) {
+        return &from_ref(&segment.at)[..len];
+    }
+    let from = segment.at as usize;
+    &cells[from..from + len]
+}
+
+/// Makes room for one more number, where there is none. The list then lies behind all others.
+#[inline(always)]
+pub(crate) fn make_place(cells: &mut Vec<u32>, segment: &mut Segment) -> Result<(), Memory>
+    requires { IsWithin (length cells.old.items) segment.old }
+    ensures writes { Writes cells.old.items cells.new.items segment.old segment.new }
+    ensures items { items_in cells.new.items segment.new ≡ items_in cells.old.items segment.old }
+    ensures capacity { segment.old.room ≤ segment.new.room }
+    ensures ok { OnOk result (segment.new.len < segment.new.room) }
+{
+    if segment.len < segment.room {
+        return Ok(());
+    }
+    *segment = moved(cells, *segment)?;
+    Ok(())
+}
+
+// How many numbers a list of that room has room for once it is moved: twice as many, and at least four.
+fn more_room(room: u32) -> usize
+    ensures more { room < result }
+    ensures long { 2 ≤ result }
+{
+    if room < 2 { 4 } else { 2 * room as usize }
+}
+
+// Puts the numbers of a list behind all cells.
+fn put_behind(cells: &mut Vec<u32>, segment: Segment) -> Result<(), Memory>
+    requires { IsWithin (length cells.old.items) segment }
+    ensures begins { Begins cells.old.items cells.new.items }
+    ensures put { OnOk result (cells.new.items ≡ cells.old.items ++ items_in cells.old.items segment) }
+{
+    let len = segment.len as usize;
+    if is_short(&segment) {
+        cells.extend_from_slice(&from_ref(&segment.at)[..len])?;
+        return Ok(());
+    }
+    let start = segment.at as usize;
+    cells.extend_from_within(start..start + len)?;
+    Ok(())
+}
+
+// Copies a list behind all cells, with more room.
+fn moved(cells: &mut Vec<u32>, segment: Segment) -> Result<Segment, Memory>
+    requires { IsWithin (length cells.old.items) segment }
+    ensures begins { Begins cells.old.items cells.new.items }
+    ensures moved { IfOk result (IsMoved cells.old.items cells.new.items segment) }
+{
+    let at = cells.len();
+    let room = more_room(segment.room);
+    if at > MOST_CELLS || room > MOST_CELLS - at {
+        return Err(Memory);
+    }
+    cells.reserve(room)?;
+    put_behind(cells, segment)?;
+    cells.resize(at + room, 0)?;
+    Ok(Segment {
+        at: at as u32,
+        len: segment.len,
+        room: room as u32,
+    })
+}
+
+/// Puts a number behind the others of a list, where there is room.
+#[inline(always)]
+pub(crate) fn push(cells: &mut Vec<u32>, segment: &mut Segment, n: u32)
+    requires within { IsWithin (length cells.old.items) segment.old }
+    requires room { segment.old.len < segment.old.room }
+    ensures writes { Writes cells.old.items cells.new.items segment.old segment.new }
+    ensures items { items_in cells.new.items segment.new ≡ items_in cells.old.items segment.old ++ n ∷ [] }
+{
+    if is_short(segment) {
+        segment.at = n;
+    } else {
+        cells[segment.at as usize + segment.len as usize] = n;
+    }
+    segment.len += 1;
+}
+
+/// Takes a number out of a list that has it at most once. The last one comes into its place.
+pub(crate) fn take_out(cells: &mut Vec<u32>, segment: &mut Segment, n: u32)
+    requires within { IsWithin (length cells.old.items) segment.old }
+    requires once { IsDistinct nat_eq (items_in cells.old.items segment.old) }
+    ensures writes { Writes cells.old.items cells.new.items segment.old segment.new }
+    ensures without { IsWithout (items_in cells.old.items segment.old) (items_in cells.new.items segment.new) n }
+{
+    let Some(place) = place_of(items(cells, segment), n) else {
+        return;
+    };
+    segment.len -= 1;
+    if is_short(segment) {
+        return;
+    }
+    let from = segment.at as usize;
+    cells[from + place] = cells[from + segment.len as usize];
+}
+
+// The first place at which the number stands.
+fn place_of(list: &[u32], n: u32) -> Option<usize>
+    ensures { result ≡ position (nat_eq n) list.now }
+{
+    let front = front_without(list, n);
+    let at = place_near(&list[front..], n)?;
+    Some(front + at)
+}
+
+// The same, number by number.
+fn place_near(list: &[u32], n: u32) -> Option<usize>
+    ensures { result ≡ position (nat_eq n) list.now }
+{
+    list.iter().position(|m| n == *m)
+}
+
+// How many places at the front don't have the number, in whole pieces. A piece is searched as `contains` does it,
+// several numbers at a time.
+fn front_without(list: &[u32], n: u32) -> usize
+    ensures within { result ≤ length list.now }
+    ensures without { has (take result list.now) n ≡ false }
+{
+    let mut front = 0;
+    while list.len() - front >= PIECE && !is_among(&list[front..front + PIECE], n) {
+        front += PIECE;
+    }
+    front
+}
+
+fn is_among(list: &[u32], n: u32) -> bool
+    ensures { result ≡ has list.now n }
+{
+    list.contains(&n)
+}
