@@ -16,7 +16,7 @@ use label_graph::Graph;
 use px_base::{GRAPH_BYTES, LINE_BYTES, Limits, LineFault, LineReader, Memory, Shelf};
 use std::alloc::Global;
 use thiserror::Error;
-use triples_read::{LineError, read_line};
+use triples_read::{LineError, SpareTexts, read_line_with};
 
 /// Why no graph was loaded.
 #[derive(Clone, Copy, Debug, PartialEq, Eq, Error)]
@@ -62,16 +62,25 @@ pub(crate) enum Next {
     AtEnd,
 }
 
-// Loads the triple of a line, if it has one.
-fn take(alloc: Global, limits: &Limits, loader: &mut Loader, line: &[u8]) -> Result<(), LineStop>
+// Loads the triple of a line, if it has one. Its texts are spare then.
+fn take(
+    alloc: Global,
+    limits: &Limits,
+    spare: &mut SpareTexts,
+    loader: &mut Loader,
+    line: &[u8],
+) -> Result<(), LineStop>
     requires { IsSound loader.old }
     ensures taken { OnOk result (TakesText limits.now line.now loader.old loader.new) }
     ensures limit { IsErrOf result LineStop.Limit → RefusesText limits.now line.now loader.old }
     ensures syntax { IsErrOf result LineStop.Syntax → (¬ Empty line.now) × ((t : TripleSeen) → Spells line.now t → ⊥) }
 {
-    match read_line(alloc, line) {
+    match read_line_with(spare, line) {
         Ok(Some(triple)) => match loader.add(alloc, limits, &triple) {
-            Ok(()) => Ok(()),
+            Ok(()) => {
+                spare.give_back(triple);
+                Ok(())
+            }
             Err(Stop::Limit) => Err(LineStop::Limit),
             Err(Stop::Memory) => Err(LineStop::Memory),
         },
@@ -86,6 +95,7 @@ fn next_line<H: Shelf>(
     alloc: Global,
     limits: &Limits,
     reader: &mut LineReader,
+    spare: &mut SpareTexts,
     loader: &mut Loader,
     shelf: &mut H,
 ) -> Result<Next, LoadError>
@@ -100,7 +110,7 @@ fn next_line<H: Shelf>(
     ensures no_fault { result ≢ Err LoadError.Fault → H.faults shelf.new ≡ H.faults shelf.old }
 {
     match reader.next(shelf) {
-        Ok(true) => match take(alloc, limits, loader, reader.line()) {
+        Ok(true) => match take(alloc, limits, spare, loader, reader.line()) {
             Ok(()) => Ok(Next::Taken),
             Err(LineStop::Syntax) => Err(LoadError::Syntax(reader.number())),
             Err(LineStop::Limit) => Err(LoadError::Limit(reader.number())),
@@ -125,9 +135,10 @@ fn load_lines<H: Shelf>(alloc: Global, limits: &Limits, shelf: &mut H) -> Result
     ensures no_fault { result ≢ Err LoadError.Fault → H.faults shelf.new ≡ H.faults shelf.old }
 {
     let mut reader = LineReader::new(alloc, LINE_BYTES, GRAPH_BYTES)?;
+    let mut spare = SpareTexts::new(alloc);
     let mut loader = Loader::new(alloc)?;
     'lines: loop {
-        match next_line(alloc, limits, &mut reader, &mut loader, shelf) {
+        match next_line(alloc, limits, &mut reader, &mut spare, &mut loader, shelf) {
             Ok(Next::Taken) => (),
             Ok(Next::AtEnd) => return Ok(loader.into_graph()),
             Err(error) => return Err(error),

@@ -65,8 +65,7 @@ impl Loader {
     fn find(&self, triple: &Triple) -> Places
         ensures { ArePlaces self.now triple.now result }
     {
-        let predicate = self.predicates.find(&triple.predicate);
-        let (subject, object) = self.terms.find_both(&triple.subject, &triple.object);
+        let (subject, predicate, object) = self.terms.find_parts(&self.predicates, triple);
         Places {
             subject,
             predicate,

@@ -1,5 +1,5 @@
 // The terms that are nodes.
-ghost use Rattle.std.specs.Prelude.{◌≡◌, ◌<◌, ◌^◌, ◌++◌, ◌∷◌, [], length, None, OnOk, IfOk};
+ghost use Rattle.std.specs.Prelude.{◌≡◌, ◌<◌, ◌^◌, ◌++◌, ◌∷◌, [], length, position, bytes_eq, None, OnOk, IfOk};
 ghost use Rattle.graph_load.specs.Loading.{number_of};
 ghost use Rattle.graph_load.specs.Parts.{parts_of};
 ghost use Rattle.graph_load.specs.Entries.{IsAbsent, terms_of};
@@ -11,6 +11,7 @@ mod entries;
 mod parts;
 mod storing;
 
+use crate::predicates::Predicates;
 use crate::terms::chains::{begin, follow, link, make_room};
 use crate::terms::entries::Entry;
 use crate::terms::parts::{hash_parts, parts_of};
@@ -18,7 +19,7 @@ use crate::terms::storing::store;
 use px_base::{Memory, NodeId};
 use std::alloc::Global;
 use std::marker::Model;
-use triples_read::Term;
+use triples_read::{Term, Triple};
 
 /// How many buckets an empty table has.
 const FIRST_BUCKETS: usize = 16;
@@ -75,17 +76,24 @@ impl Terms {
         follow(&self.arena, &self.entries, &self.heads, &probe)
     }
 
-    /// Where two terms stand. Both chains are begun before either is followed, so that the processor waits for
-    /// the memory of both at once.
-    pub(crate) fn find_both(&self, one: &Term, other: &Term) -> (Option<Found>, Option<Found>)
-        ensures one { IsFoundAs self.now one.now result.0 }
-        ensures other { IsFoundAs self.now other.now result.1 }
+    /// Where the parts of a triple stand: its subject and its object here, its predicate among the predicates. Both
+    /// chains are begun first and followed last, so that the processor waits for the memory of both at once, and
+    /// looks the predicate up meanwhile.
+    pub(crate) fn find_parts(
+        &self,
+        predicates: &Predicates,
+        triple: &Triple,
+    ) -> (Option<Found>, Option<u32>, Option<Found>)
+        ensures subject { IsFoundAs self.now triple.now.subject result.0 }
+        ensures predicate { result.1 ≡ position (bytes_eq triple.now.predicate) predicates.now }
+        ensures object { IsFoundAs self.now triple.now.object result.2 }
     {
-        let first = begin(&self.heads, one);
-        let second = begin(&self.heads, other);
-        let other_found = follow(&self.arena, &self.entries, &self.heads, &second);
-        let found = follow(&self.arena, &self.entries, &self.heads, &first);
-        (found, other_found)
+        let first = begin(&self.heads, &triple.subject);
+        let second = begin(&self.heads, &triple.object);
+        let predicate = predicates.find(&triple.predicate);
+        let object = follow(&self.arena, &self.entries, &self.heads, &second);
+        let subject = follow(&self.arena, &self.entries, &self.heads, &first);
+        (subject, predicate, object)
     }
 
     /// Puts in a term that isn't there, and gives its place.
