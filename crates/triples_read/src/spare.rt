@@ -6,14 +6,15 @@ use px_base::{Memory, Text};
 use std::alloc::Global;
 use std::marker::Model;
 
-// A triple that a line spells has so many texts at most.
-const KEPT: usize = 5;
+// Enough for the texts of the triples that are read before the first of them is given back: a triple that a line spells
+// has five at most.
+const KEPT: usize = 128;
 
-/// A text with more memory isn't kept, so one long line doesn't hold it for good.
-const KEPT_BYTES: usize = 65536;
+/// A text with more memory isn't kept, so long lines don't hold it for good.
+const KEPT_BYTES: usize = 4096;
 
 /// The texts of triples that are of no more use, for `read_line_with`: the next texts that are read take
-/// their memory. It keeps at most five, each with at most 65,536 bytes of memory.
+/// their memory. It keeps at most 128, each with at most 4,096 bytes of memory.
 #[derive(Drop)]
 pub struct SpareTexts {
     alloc: Global,
