@@ -1,5 +1,5 @@
 // The graph.
-ghost use Rattle.std.specs.Prelude.{◌≡◌, ◌<◌, ◌≤◌, ◌+◌, ◌^◌, ◌↔◌, length, IsTrue, IfOk, OnOk, OnErr, Some, slice_get, true, false, List, ℕ, is_some};
+ghost use Rattle.std.specs.Prelude.{◌≡◌, ◌<◌, ◌≤◌, ◌+◌, ◌^◌, ◌↔◌, length, IsTrue, IfOk, OnOk, OnErr, IfSome, IfNone, Some, slice_get, true, false, List, ℕ, is_some};
 ghost use Rattle.std.specs.FinSet as set;
 ghost use Rattle.px_spec.specs.Graphs.{empty_graph, is_live, label_of, has_edge};
 ghost use Rattle.px_spec.specs.Changes.{with_node, with_edge, without_edge, without_node, is_used};
@@ -136,6 +136,24 @@ impl Graph {
         steps.tick();
         steps.tick_by(children.len());
         children
+    }
+
+    /// Some child of a live node, and `None` exactly where it has none. It takes constant time, and isn't counted.
+    pub fn any_child(&self, n: NodeId) -> Option<NodeId>
+        requires live { IsTrue (is_live self.now.graph n) }
+        ensures child { IfSome result (λ v. has_edge self.now.graph n v ≡ true) }
+        ensures none { IfNone result ((v : ℕ) → has_edge self.now.graph n v ≡ false) }
+    {
+        self.child_list(n).last().copied()
+    }
+
+    /// Some parent of a live node, and `None` exactly where it has none. It takes constant time, and isn't counted.
+    pub fn any_parent(&self, n: NodeId) -> Option<NodeId>
+        requires live { IsTrue (is_live self.now.graph n) }
+        ensures parent { IfSome result (λ u. has_edge self.now.graph u n ≡ true) }
+        ensures none { IfNone result ((u : ℕ) → has_edge self.now.graph u n ≡ false) }
+    {
+        self.parent_list(n).last().copied()
     }
 
     /// The graph as queries and indexes read it. Reads of the view aren't counted, so it costs a step,

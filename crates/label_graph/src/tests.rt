@@ -151,6 +151,8 @@ fn take_loop<L: Ledger>(rt: &impl Abort, graph: &mut Graph, steps: &mut Steps<L>
     let children = graph.children(0, steps);
     assert_eq!(rt; children.len(), 4);
     assert!(rt; [1, 2, 4, 5].iter().all(|n| children.contains(n)));
+    assert!(rt; graph.any_child(0).is_some_and(|n| children.contains(&n)));
+    assert_eq!(rt; graph.any_parent(0), None);
 }
 
 // The edges of the hub go, and then the hub. Node 2 keeps its child.
