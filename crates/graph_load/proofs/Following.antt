@@ -1,7 +1,9 @@
 -- What a line makes of what lies ahead.
-use Rattle.std.proofs.Common.{◌≡◌, ℕ, ◌+◌, ◌≤◌, List, [], length, Option, None, Some, refl, sym, ap, ◌∙◌, subst, inl, inr, arith}
-use Rattle.std.specs.Prelude.{IsSome, true}
+use Rattle.std.proofs.Common.{◌≡◌, ℕ, ◌+◌, ◌<◌, ◌≤◌, List, [], ◌∷◌, ◌++◌, length, drop, get_or, Option, None, Some, Result, Ok, Err, refl, sym, ap, ◌∙◌, subst, inl, inr, arith}
+use Rattle.std.specs.Prelude.{IsSome, true, IfOk}
 use Rattle.std.specs.Io.KnownBytes.{prepend_known}
+use Rattle.std.proofs.Math.ListN.{drop_of_length-le}
+use Rattle.std.proofs.lemmas.List.{drop_more}
 use Rattle.px_base.specs.declared.lines.TheConstants.{LINE_BYTES, GRAPH_BYTES}
 use Rattle.px_base.specs.Files.{File, Finds}
 use Rattle.px_base.specs.Reading.{Reading, ReadsLine, IsFirst, IsOver, IsPast, stream, IsWithin as MayTake}
@@ -10,12 +12,16 @@ use Rattle.px_spec.specs.declared.limits.Limits.{Limits}
 use Rattle.triples_read.specs.Lines.{Spells, Empty}
 use Rattle.triples_read.specs.declared.term.Triple.{Triple}
 use Rattle.graph_load.specs.declared.files.LoadError.{LoadError}
-use Rattle.graph_load.specs.declared.files.LoadError.TheVariants.{Syntax, Limit, Missing, Fault, Memory}
+use Rattle.graph_load.specs.declared.files.LoadError.TheVariants as error
+use Rattle.graph_load.specs.declared.batch.Next.{Next}
+use Rattle.graph_load.specs.declared.batch.Next.TheVariants.{Lines, End, Syntax, Limit}
+use Rattle.graph_load.specs.declared.batch.Waiting.{Waiting}
 use Rattle.graph_load.specs.declared.loader.Loader.{Loader}
-use Rattle.graph_load.specs.Loading.{nothing_loaded}
+use Rattle.px_spec.specs.declared.refusal.Refusal.{Refusal}
+use Rattle.graph_load.specs.Loading.{Loading, nothing_loaded, with_triple}
 use Rattle.graph_load.specs.Loads.{Outcome, loaded, syntax, limit, Place, at_start, past, IsWithin, TakesLine, empty, takes, refuses, neither, LoadsFrom}
-use Rattle.graph_load.specs.Holding.{loading, Holds, with_new, IsSound}
-use Rattle.graph_load.specs.Going.{LoadsTold, LoadsAhead, Says, place, TakesText, RefusesText, Moves}
+use Rattle.graph_load.specs.Holding.{loading, Holds, with_new, IsSound, IsTaken}
+use Rattle.graph_load.specs.Going.{LoadsTold, LoadsAhead, Says, place, OnLines, at_line, then_load, with_one, with_all, Follows, Comes, Puts, Reads, IsNearer, AreLoaded, Stops, OneStops}
 
 -- what becomes of the first line decides
 follows : (limits : Limits) (p : Place) (l : Line) (before after : Option (List ℕ)) (q : Place) (o : Outcome) → IsFirst l before after → IsWithin p l
@@ -40,100 +46,208 @@ fits r p l line text taken w = (
 place_same : (a b : Place) → a.loading ≡ b.loading → a.lines ≡ b.lines → a.bytes ≡ b.bytes → a ≡ b
 place_same a b e f g = λ i. record { loading = e i; lines = f i; bytes = g i }
 
-module _ (limits : Limits) (r q : Reading) (before after : Option (List ℕ)) (reads : ReadsLine r q before after)
-    (line_limit : r.line_limit ≡ LINE_BYTES) (text_limit : r.text_limit ≡ GRAPH_BYTES) (old : Loader) where
+-- ---- triples that wait
+
+with_last : (limits : Limits) (ws : List Waiting) (w : Waiting) (l : Loading) → with_all limits (ws ++ w ∷ []) l ≡ then_load (with_all limits ws l) (with_one limits w)
+with_last limits [] w l = alone (with_one limits w l)
+  where
+    alone : (x : Result Loading ℕ) → then_load x (λ m. Ok m) ≡ x
+    alone (Ok m) = refl
+    alone (Err n) = refl
+with_last limits (v ∷ ws) w l = behind (with_one limits v l) (with_last limits ws w)
+  where
+    behind : (x : Result Loading ℕ) → ((m : Loading) → with_all limits (ws ++ w ∷ []) m ≡ then_load (with_all limits ws m) (with_one limits w))
+        → then_load x (with_all limits (ws ++ w ∷ [])) ≡ then_load (then_load x (with_all limits ws)) (with_one limits w)
+    behind (Ok m) rest = rest m
+    behind (Err n) rest = refl
+
+-- what holds of all that may be loaded holds of what the triples load to
+each : (limits : Limits) (r : Reading) (before : Option (List ℕ)) (next : Next) (q : Reading) (after : Option (List ℕ))
+    → ((m : Loading) (o : Outcome) → Follows limits next q after m o → LoadsAhead limits before (place r m) o)
+    → (x : Result Loading ℕ) (o : Outcome) → Comes limits next q after x o → Comes limits Lines r before x o
+each limits r before next q after f (Ok m) o h = f m o h
+each limits r before next q after f (Err n) o h = h
+
+-- and of one more
+each_last : (limits : Limits) (w : Waiting) (r : Reading) (before : Option (List ℕ)) (q : Reading) (after : Option (List ℕ))
+    → ((m : Loading) (o : Outcome) → Comes limits Lines q after (with_one limits w m) o → LoadsAhead limits before (place r m) o)
+    → (x : Result Loading ℕ) (o : Outcome) → Comes limits Lines q after (then_load x (with_one limits w)) o → Comes limits Lines r before x o
+each_last limits w r before q after f (Ok m) o h = f m o h
+each_last limits w r before q after f (Err n) o h = h
+
+on_lines : (next : Next) {P : Type 0} → P → OnLines next P
+on_lines Lines p = p
+on_lines End p = tt
+on_lines (Syntax n) p = tt
+on_lines (Limit n) p = tt
+
+module _ (r q : Reading) (before after : Option (List ℕ)) (reads : ReadsLine r q before after)
+    (line_limit : r.line_limit ≡ LINE_BYTES) (text_limit : r.text_limit ≡ GRAPH_BYTES) where
   text_is : q.line ≡ reads.first.text
   text_is = ap (λ (x : Reading). x.line) reads.passed
 
   number_is : q.number ≡ r.number + 1
   number_is = ap (λ (x : Reading). x.number) reads.passed
 
-  behind : (new : Loader) (more triples : List Triple) → past (place r old triples) reads.first (loading new more) ≡ place q new more
-  behind new more triples = place_same _ _ refl (sym number_is) (sym (ap (λ (x : Reading). x.taken) reads.passed))
+  behind : (l m : Loading) → past (place r l) reads.first m ≡ place q m
+  behind l m = place_same _ _ refl (sym number_is) (sym (ap (λ (x : Reading). x.taken) reads.passed))
 
-  within : (triples : List Triple) → IsWithin (place r old triples) reads.first
-  within triples = fits r (place r old triples) reads.first line_limit text_limit refl reads.within
+  within : (l : Loading) → IsWithin (place r l) reads.first
+  within l = fits r (place r l) reads.first line_limit text_limit refl reads.within
 
-  -- a line was taken
-  pub goes_on : (new : Loader) → TakesText limits q.line old new → (triples : List Triple) → Holds old triples
-      → (more : List Triple) × Holds new more × ((o : Outcome) → LoadsAhead limits after (place q new more) o → LoadsAhead limits before (place r old triples) o)
-  goes_on new (inl (is_empty, same)) triples holds = (
-    triples,
-    subst (λ l. Holds l triples) (sym same) holds,
-    λ o.
-        follows limits (place r old triples) reads.first before after (place q new triples) o reads.told (within triples) (λ rest h.
-        empty (subst Empty text_is is_empty) o (subst (λ p. LoadsFrom limits rest p o) (ap (λ l. place q l triples) same ∙ sym (behind old triples triples)) h)),
-  )
-  goes_on new (inr (t, spells, taken)) triples holds = (
-    with_new triples t,
-    taken.holds triples holds,
-    λ o.
-        follows limits (place r old triples) reads.first before after (place q new (with_new triples t)) o reads.told (within triples) (λ rest h.
-        takes t (subst (λ l. Spells l t) text_is spells) (loading new (with_new triples t)) (taken.does triples holds) o
-        (subst (λ p. LoadsFrom limits rest p o) (sym (behind new (with_new triples t) triples)) h)),
-  )
-
-  sound_after : (new : Loader) → IsSound old → TakesText limits q.line old new → IsSound new
-  sound_after new sound (inl (is_empty, same)) = subst IsSound (sym same) sound
-  sound_after new sound (inr (t, spells, taken)) = taken.sound
-
-  pub moved : (new : Loader) → IsSound old → TakesText limits q.line old new → Moves limits r old before q new after
-  moved new sound done =
+  pub nearer : IsNearer r q
+  nearer =
       let size = reads.some in
       let most = reads.within.1 in
       let taken = ap (λ (x : Reading). x.taken) reads.passed in
-      record {
-        sound = sound_after new sound done;
-        nearer = (omega (arith, size, taken), omega (arith, most, taken, text_limit));
-        leads = goes_on new done;
-      }
+      (omega (arith, size, taken), omega (arith, most, taken, text_limit))
 
-  -- the triple of a line is refused
-  pub refused_there : RefusesText limits q.line old → (triples : List Triple) → Holds old triples → LoadsAhead limits before (place r old triples) (limit q.number)
-  refused_there (t, spells, untaken) triples holds =
-      let s = untaken triples holds in
-      subst (λ n. LoadsAhead limits before (place r old triples) (limit n)) (sym number_is)
-      (stops limits (place r old triples) reads.first before after (limit (r.number + 1)) reads.told (within triples)
-      (λ rest. refuses t (subst (λ l. Spells l t) text_is spells) s.0 s.1))
+  module _ (limits : Limits) where
+    -- a line is empty
+    past_empty : Empty q.line → (l : Loading) (o : Outcome) → LoadsAhead limits after (place q l) o → LoadsAhead limits before (place r l) o
+    past_empty is_empty l o =
+        follows limits (place r l) reads.first before after (place q l) o reads.told (within l) (λ rest h.
+        empty (subst Empty text_is is_empty) o (subst (λ p. LoadsFrom limits rest p o) (sym (behind l l)) h))
 
-  -- a line is neither
-  pub bad_there : (¬ Empty q.line) × ((t : Triple) → Spells q.line t → ⊥) → (triples : List Triple) → LoadsAhead limits before (place r old triples) (syntax q.number)
-  bad_there (none, nothing) triples =
-      subst (λ n. LoadsAhead limits before (place r old triples) (syntax n)) (sym number_is)
-      (stops limits (place r old triples) reads.first before after (syntax (r.number + 1)) reads.told (within triples)
-      (λ rest. neither (λ t s. nothing t (subst (λ l. Spells l t) (sym text_is) s)) (λ e. none (subst Empty (sym text_is) e))))
+    -- a line spells a triple
+    past_triple : (t : Triple) → Spells q.line t → (l : Loading) (o : Outcome) → Comes limits Lines q after (with_one limits (record { triple = t; line = q.number }) l) o → LoadsAhead limits before (place r l) o
+    past_triple t spells l o h = by (with_triple limits t l) refl h
+      where
+        by : (x : Result Loading Refusal) → with_triple limits t l ≡ x → Comes limits Lines q after (at_line q.number x) o → LoadsAhead limits before (place r l) o
+        by (Ok m) is h =
+            follows limits (place r l) reads.first before after (place q m) o reads.told (within l) (λ rest k.
+            takes t (subst (λ x. Spells x t) text_is spells) m is o (subst (λ p. LoadsFrom limits rest p o) (sym (behind l m)) k)) h
+        by (Err e) is h =
+            subst (LoadsAhead limits before (place r l)) (ap limit (sym number_is) ∙ sym h)
+            (stops limits (place r l) reads.first before after (limit (r.number + 1)) reads.told (within l) (λ rest. refuses t (subst (λ x. Spells x t) text_is spells) e is))
+
+    -- a line is neither
+    past_neither : (¬ Empty q.line) → ((t : Triple) → Spells q.line t → ⊥) → (l : Loading) (o : Outcome) → o ≡ syntax q.number → LoadsAhead limits before (place r l) o
+    past_neither none nothing l o is =
+        subst (LoadsAhead limits before (place r l)) (ap syntax (sym number_is) ∙ sym is)
+        (stops limits (place r l) reads.first before after (syntax (r.number + 1)) reads.told (within l)
+        (λ rest. neither (λ t s. nothing t (subst (λ x. Spells x t) (sym text_is) s)) (λ e. none (subst Empty (sym text_is) e))))
+
+  -- a line was read
+  pub reads_on : (next : Next) (waited waits : List Waiting) → Puts q.line q.number waited waits next → Reads r waited before next q waits after
+  reads_on Lines waited waits (inl (is_empty, same)) = λ limits l o h.
+      each limits r before Lines q after (past_empty limits is_empty) (with_all limits waited l) o (subst (λ ws. Comes limits Lines q after (with_all limits ws l) o) same h)
+  reads_on Lines waited waits (inr (t, spells, is)) = λ limits l o h.
+      let w : Waiting = record { triple = t; line = q.number } in
+      each_last limits w r before q after (past_triple limits t spells) (with_all limits waited l) o
+      (subst (λ x. Comes limits Lines q after x o) (ap (λ ws. with_all limits ws l) is ∙ with_last limits waited w l) h)
+  reads_on End waited waits puts = absurd puts
+  reads_on (Syntax n) waited waits (number, same, none, nothing) = λ limits l o h.
+      each limits r before (Syntax n) q after (λ m o is. past_neither limits none nothing m o (is ∙ ap syntax number)) (with_all limits waited l) o
+      (subst (λ ws. Comes limits (Syntax n) q after (with_all limits ws l) o) same h)
+  reads_on (Limit n) waited waits puts = absurd puts
+
+  pub reads_result : (result : Result Next LoadError) (waited waits : List Waiting) → IfOk result (Puts q.line q.number waited waits) → IfOk result (λ next. Reads r waited before next q waits after)
+  reads_result (Ok next) waited waits puts = reads_on next waited waits puts
+  reads_result (Err e) waited waits puts = tt
+
+  pub nearer_result : (result : Result Next LoadError) → IfOk result (λ next. OnLines next (IsNearer r q))
+  nearer_result (Ok next) = on_lines next nearer
+  nearer_result (Err e) = tt
+
+-- the text taken grows
+pub further : (next : Next) (r q p : Reading) → r.taken ≤ q.taken → OnLines next (IsNearer q p) → OnLines next (IsNearer r p)
+further Lines r q p before (less, most) = (omega (arith, before, less), most)
+further End r q p before h = tt
+further (Syntax n) r q p before h = tt
+further (Limit n) r q p before h = tt
 
 -- a line passes a limit
-pub past_there : (limits : Limits) (r : Reading) (before : Option (List ℕ)) → IsPast r before → r.line_limit ≡ LINE_BYTES → r.text_limit ≡ GRAPH_BYTES
-    → (old : Loader) (triples : List Triple) (n : ℕ) → n ≡ r.number + 1 → LoadsAhead limits before (place r old triples) (limit n)
-past_there limits r None is_past line text old triples n number = tt
-past_there limits r (Some before) (l, rest, lines, long) line text old triples n number =
-    subst (λ ls. LoadsFrom limits ls (place r old triples) (limit n)) (sym lines) (inl (
-      (λ w. long (subst (λ m. length l.text ≤ m) (sym line) w.0, subst (λ m. r.taken + length l.text + length l.end ≤ m) (sym text) w.1)),
-      ap limit number,
-    ))
+pub reads_past : (r q : Reading) (before after : Option (List ℕ)) → IsPast r before → r.line_limit ≡ LINE_BYTES → r.text_limit ≡ GRAPH_BYTES
+    → (n : ℕ) → n ≡ r.number + 1 → (waited : List Waiting) → Reads r waited before (Limit n) q waited after
+reads_past r q before after is_past line text n number waited limits l o h =
+    each limits r before (Limit n) q after (λ m o is. subst (LoadsAhead limits before (place r m)) (sym is) (past_there limits m before is_past)) (with_all limits waited l) o h
+  where
+    past_there : (limits : Limits) (m : Loading) (told : Option (List ℕ)) → IsPast r told → LoadsAhead limits told (place r m) (limit n)
+    past_there limits m None is_past = tt
+    past_there limits m (Some text_ahead) (l, rest, lines, long) =
+        subst (λ ls. LoadsFrom limits ls (place r m) (limit n)) (sym lines) (inl (
+          (λ w. long (subst (λ m. length l.text ≤ m) (sym line) w.0, subst (λ m. r.taken + length l.text + length l.end ≤ m) (sym text) w.1)),
+          ap limit number,
+        ))
 
 -- the text is over
-pub over_there : (limits : Limits) (p : Place) (before : Option (List ℕ)) → IsOver before → LoadsAhead limits before p (loaded p.loading.graph)
-over_there limits p None over = tt
-over_there limits p (Some text) over = subst (λ t. LoadsFrom limits (cut t) p (loaded p.loading.graph)) (sym over) refl
+pub reads_over : (r q : Reading) (before after : Option (List ℕ)) → IsOver before → (waited : List Waiting) → Reads r waited before End q waited after
+reads_over r q before after over waited limits l o h =
+    each limits r before End q after (λ m o is. subst (LoadsAhead limits before (place r m)) (sym is) (over_there limits m before over)) (with_all limits waited l) o h
+  where
+    over_there : (limits : Limits) (m : Loading) (told : Option (List ℕ)) → IsOver told → LoadsAhead limits told (place r m) (loaded m.graph)
+    over_there limits m None over = tt
+    over_there limits m (Some text) over = subst (λ t. LoadsFrom limits (cut t) (place r m) (loaded m.graph)) (sym over) refl
+
+-- ---- the triples are loaded
+
+-- the first ones are loaded
+pub record AreLeft (limits : Limits) (ws : List Waiting) (n : ℕ) (old new : Loader) : Type 0 where
+  pub sound : IsSound new
+  pub does : (triples : List Triple) → Holds old triples → (more : List Triple) × Holds new more × (with_all limits ws (loading old triples) ≡ with_all limits (drop n ws) (loading new more))
+
+pub left_all : (limits : Limits) (ws : List Waiting) (r : Loader) → IsSound r → AreLeft limits ws 0 r r
+left_all limits ws r sound = record { sound = sound; does = λ triples holds. (triples, holds, refl) }
+
+module _ (limits : Limits) (ws : List Waiting) (n : ℕ) (old r : Loader) (left : AreLeft limits ws n old r) where
+  pub left_none : length ws ≤ n → AreLoaded limits ws old r
+  left_none h = record {
+    sound = left.sound;
+    does = λ triples holds.
+        let d = left.does triples holds in
+        (d.0, d.1, d.2 ∙ ap (λ x. with_all limits x (loading r d.0)) (drop_of_length-le ws h));
+  }
+
+  module _ (w : Waiting) (h : n < length ws) (is : w ≡ get_or ws n w) where
+    pub left_next : (new : Loader) → IsTaken limits w.triple r new → AreLeft limits ws (n + 1) old new
+    left_next new taken = record {
+      sound = taken.sound;
+      does = λ triples holds.
+          let d = left.does triples holds in (
+            with_new d.0 w.triple,
+            taken.holds d.0 d.1,
+            d.2 ∙ ap (λ x. with_all limits x (loading r d.0)) (drop_more ws n w h ∙ ap (λ v. v ∷ drop (n + 1) ws) (sym is))
+                ∙ ap (λ x. then_load (at_line w.line x) (with_all limits (drop (n + 1) ws))) (taken.does d.0 d.1),
+          );
+    }
+
+    pub left_stops : (o : Outcome) → Stops limits w r o → OneStops limits ws old o
+    left_stops o (is_limit, untaken) triples holds =
+        let d = left.does triples holds in (
+          w.line,
+          is_limit,
+          d.2 ∙ ap (λ x. with_all limits x (loading r d.0)) (drop_more ws n w h ∙ ap (λ v. v ∷ drop (n + 1) ws) (sym is))
+              ∙ ap (λ x. then_load (at_line w.line x) (with_all limits (drop (n + 1) ws))) (untaken d.0 d.1).1,
+        )
+
+-- what comes of a batch comes of what lay ahead
+pub batch_leads : (limits : Limits) (r q : Reading) (before after : Option (List ℕ)) (waited waits : List Waiting) (next : Next) (l : Loading) (x : Result Loading ℕ) (Q : Outcome → Type 0)
+    → waited ≡ [] → Reads r waited before next q waits after → with_all limits waits l ≡ x → ((o : Outcome) → LoadsAhead limits before (place r l) o → Q o)
+    → (o : Outcome) → Comes limits next q after x o → Q o
+batch_leads limits r q before after waited waits next l x Q none reads does leads o h =
+    leads o (subst (λ ws. Comes limits Lines r before (with_all limits ws l) o) none (reads limits l o (subst (λ y. Comes limits next q after y o) (sym does) h)))
 
 pub ahead_start : (limits : Limits) (left : Option (List ℕ)) (p : Place) (o : Outcome) → LoadsAhead limits (prepend_known [] left) p o → LoadsAhead limits left p o
 ahead_start limits None p o h = tt
 ahead_start limits (Some text) p o h = h
 
 pub start_leads : (limits : Limits) (r : Reading) (l : Loader) (left : Option (List ℕ)) → r.ahead ≡ [] → r.number ≡ 0 → r.taken ≡ 0 → loading l [] ≡ nothing_loaded
-    → (o : Outcome) → LoadsAhead limits (stream r left) (place r l []) o → LoadsAhead limits left at_start o
+    → (o : Outcome) → LoadsAhead limits (stream r left) (place r (loading l [])) o → LoadsAhead limits left at_start o
 start_leads limits r l left ahead number taken nothing o h =
     ahead_start limits left at_start o (subst (λ (x : List ℕ). LoadsAhead limits (prepend_known x left) at_start o) ahead
-    (subst (λ p. LoadsAhead limits (stream r left) p o) (place_same (place r l []) at_start nothing number taken) h))
+    (subst (λ p. LoadsAhead limits (stream r left) p o) (place_same (place r (loading l [])) at_start nothing number taken) h))
 
 pub says_map : (P Q : Outcome → Type 0) → ((o : Outcome) → P o → Q o) → (e : LoadError) → Says P e → Says Q e
-says_map P Q f (Syntax l) h = f (syntax l) h
-says_map P Q f (Limit l) h = f (limit l) h
-says_map P Q f Missing h = tt
-says_map P Q f Fault h = tt
-says_map P Q f Memory h = tt
+says_map P Q f (error.Syntax l) h = f (syntax l) h
+says_map P Q f (error.Limit l) h = f (limit l) h
+says_map P Q f error.Missing h = tt
+says_map P Q f error.Fault h = tt
+says_map P Q f error.Memory h = tt
+
+-- an error that tells an outcome is one of those that a call may answer
+pub says_none : (Q : Outcome → Type 0) → (e : LoadError) → Says (λ _. ⊥) e → Says Q e
+says_none Q = says_map (λ _. ⊥) Q (λ o h. absurd h)
 
 -- what the open file loads to, its name loads to
 pub told_there : (limits : Limits) (files : Option (List File)) (name : List ℕ) (left : Option (List ℕ)) → Finds files name true left

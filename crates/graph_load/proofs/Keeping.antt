@@ -12,11 +12,10 @@ use Rattle.graph_load.specs.declared.known.Key.{Key}
 use Rattle.graph_load.specs.declared.loader.Loader.{Loader}
 use Rattle.graph_load.specs.Loading.{number_of, same_term, need, changed, with_graph, term_label, predicate_label}
 use Rattle.graph_load.specs.Places.{place_of, with_predicate}
-use Rattle.graph_load.specs.Holding.{loading, IsWithin, AreLive, IsSound, Begins, Steps}
+use Rattle.graph_load.specs.Holding.{loading, IsWithin, IsSound, Begins, Steps}
 use Rattle.graph_load.proofs.Standing.{position_push, lookup_push, keys_push, is_some-lookup}
 use Rattle.graph_load.proofs.SameTerms.{term_same}
 use Rattle.graph_load.proofs.Changing.{node_made, link_made, need_new}
-use Rattle.graph_load.proofs.Living.{live_more, live_new, live_linked}
 
 pub more_within : (m n p q : ℕ) → m ≤ p → n ≤ q → (ks : List Key) → AllByRecursion (IsWithin m n) ks → AllByRecursion (IsWithin p q) ks
 more_within m n p q mp nq [] h = tt
@@ -43,7 +42,6 @@ term_steps limits x old h n terms sound none made room number added =
         terms = omega (arith, given, longer, few);
         predicates = omega (arith, given, fewer);
         known = more_within (length old.terms) (length old.predicates) (length terms) (length old.predicates) (omega (arith, longer)) (omega arith) old.known sound.known;
-        live = subst (AreLive h.graph) (sym exact) (live_new (term_label x) old.graph.graph limits h.graph made old.terms x sound.live);
       };
       grows = record { terms = ((x, n) ∷ [], added); predicates = ([], sym (append-nil old.predicates)); known = refl };
     }
@@ -84,7 +82,6 @@ node_steps limits iri old h predicates sound made room added =
         terms = omega (arith, given, few);
         predicates = omega (arith, given, next, fewer);
         known = more_within (length old.terms) (length old.predicates) (length old.terms) (length predicates) (omega arith) more old.known sound.known;
-        live = live_more (predicate_label iri) old.graph.graph limits h.graph made old.terms sound.live;
       };
       grows = record { terms = ([], sym (append-nil old.terms)); predicates = is.begins; known = refl };
     }
@@ -103,7 +100,6 @@ link_steps limits u v old h sound made room =
         terms = omega (arith, few, ap length same);
         predicates = omega (arith, fewer, ap length same);
         known = sound.known;
-        live = live_linked old.graph.graph h.graph same old.terms sound.live;
       };
       grows = record { terms = ([], sym (append-nil old.terms)); predicates = ([], sym (append-nil old.predicates)); known = refl };
     }

@@ -5,7 +5,6 @@ pub mod Standing
 pub mod SameTerms
 pub mod FoundLemmas
 pub mod Changing
-pub mod Living
 pub mod Keeping
 pub mod Joining
 pub mod Knowing

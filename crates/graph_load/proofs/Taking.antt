@@ -86,7 +86,6 @@ module _ (limits : Limits) (t : Triple) (old : Loader) (unknown : is_known old t
             terms = joins.sound.terms;
             predicates = joins.sound.predicates;
             known = subst (AllByRecursion (IsWithin (length c.terms) (length c.predicates))) (sym added) (all_push (IsWithin (length c.terms) (length c.predicates)) c.known key joins.sound.known within);
-            live = joins.sound.live;
           };
           does = λ triples holds.
               second triples holds ∙ ap (λ r. then_do r (λ b. Ok (record b { triples = b.triples ++ t ∷ [] }))) (joins.does triples)

@@ -1,19 +1,22 @@
--- What one step of a load does, and what its answers say.
-use Rattle.std.specs.Prelude.{◌≡◌, ℕ, ◌<◌, ◌≤◌, ⊤, Bool, false, IsTrue, List, ◌⊎◌, Option, None, Some}
+-- What the steps of a load do, and what their answers say.
+use Rattle.std.specs.Prelude.{◌≡◌, ℕ, ◌<◌, ◌≤◌, ⊤, Bool, false, IsTrue, List, [], ◌∷◌, ◌++◌, ◌⊎◌, Option, None, Some, Result, Ok, Err}
 use Rattle.px_base.specs.declared.lines.TheConstants.{LINE_BYTES, GRAPH_BYTES}
 use Rattle.px_base.specs.Files.{File, content_of}
 use Rattle.px_base.specs.Reading.{Reading}
 use Rattle.px_spec.specs.Lines.{cut}
 use Rattle.px_spec.specs.declared.limits.Limits.{Limits}
+use Rattle.px_spec.specs.declared.refusal.Refusal.{Refusal}
 use Rattle.triples_read.specs.Lines.{Spells, Empty}
 use Rattle.triples_read.specs.declared.term.Triple.{Triple}
 use Rattle.graph_load.specs.declared.files.LoadError.{LoadError}
-use Rattle.graph_load.specs.declared.files.LoadError.TheVariants.{Syntax, Limit, Missing, Fault, Memory}
-use Rattle.graph_load.specs.declared.files.Next.{Next}
-use Rattle.graph_load.specs.declared.files.Next.TheVariants.{Taken, AtEnd}
+use Rattle.graph_load.specs.declared.files.LoadError.TheVariants as error
+use Rattle.graph_load.specs.declared.batch.Next.{Next}
+use Rattle.graph_load.specs.declared.batch.Next.TheVariants.{Lines, End, Syntax, Limit}
+use Rattle.graph_load.specs.declared.batch.Waiting.{Waiting}
 use Rattle.graph_load.specs.declared.loader.Loader.{Loader}
+use Rattle.graph_load.specs.Loading.{Loading, with_triple}
 use Rattle.graph_load.specs.Loads.{Outcome, loaded, syntax, limit, Place, LoadsFrom, Loads}
-use Rattle.graph_load.specs.Holding.{loading, Holds, IsSound, IsTaken, IsUntaken}
+use Rattle.graph_load.specs.Holding.{loading, Holds, IsSound, IsUntaken}
 
 -- The name is that of a told file whose text loads to this; of files that aren't told it says nothing.
 abbrev pub LoadsTold : Limits → Option (List File) → List ℕ → Outcome → Type 0
@@ -27,20 +30,20 @@ IsMissing (Some files) name = content_of files name ≡ None
 
 -- the outcome that an error tells; want of memory and a call that failed tell none
 abbrev pub Says : (Outcome → Type 0) → LoadError → Type 0
-Says P (Syntax l) = P (syntax l)
-Says P (Limit l) = P (limit l)
-Says P Missing = ⊤
-Says P Fault = ⊤
-Says P Memory = ⊤
+Says P (error.Syntax l) = P (syntax l)
+Says P (error.Limit l) = P (limit l)
+Says P error.Missing = ⊤
+Says P error.Fault = ⊤
+Says P error.Memory = ⊤
 
 -- what lies ahead loads to this, where it is told
 abbrev pub LoadsAhead : Limits → Option (List ℕ) → Place → Outcome → Type 0
 LoadsAhead limits None p o = ⊤
 LoadsAhead limits (Some text) p o = LoadsFrom limits (cut text) p o
 
--- how far a load has come, where these are the triples
-abbrev pub place : Reading → Loader → List Triple → Place
-place r l triples = record { loading = loading l triples; lines = r.number; bytes = r.taken }
+-- how far a load has come, where this is loaded
+abbrev pub place : Reading → Loading → Place
+place r l = record { loading = l; lines = r.number; bytes = r.taken }
 
 -- the reader has the limits of a graph file, and can read on
 pub record CanRead (r : Reading) (is_open : Bool) : Type 0 where
@@ -49,31 +52,70 @@ pub record CanRead (r : Reading) (is_open : Bool) : Type 0 where
   pub text_limit : r.text_limit ≡ GRAPH_BYTES
   pub opened : IsTrue is_open
 
--- a line was taken: it is empty, or its triple is loaded
-abbrev pub TakesText : Limits → List ℕ → Loader → Loader → Type 0
-TakesText limits line old new = (Empty line × (new ≡ old)) ⊎ ((t : Triple) × Spells line t × IsTaken limits t old new)
+-- a fact of the reader where there may be more lines
+abbrev pub OnLines : Next → Type 0 → Type 0
+OnLines Lines P = P
+OnLines End P = ⊤
+OnLines (Syntax n) P = ⊤
+OnLines (Limit n) P = ⊤
 
--- the triple of a line is refused
-abbrev pub RefusesText : Limits → List ℕ → Loader → Type 0
-RefusesText limits line r = (t : Triple) × Spells line t × IsUntaken limits t r
+-- ---- triples that wait
 
--- A line was taken: what loads from behind it on loads from before it on.
-pub record Moves (limits : Limits) (r : Reading) (old : Loader) (before : Option (List ℕ)) (q : Reading) (new : Loader) (after : Option (List ℕ)) : Type 0 where
+-- what is loaded then, or the number of the line that passes a limit
+abbrev pub at_line : ℕ → Result Loading Refusal → Result Loading ℕ
+at_line n (Ok l) = Ok l
+at_line n (Err r) = Err n
+
+abbrev pub then_load : Result Loading ℕ → (Loading → Result Loading ℕ) → Result Loading ℕ
+then_load (Ok l) f = f l
+then_load (Err n) f = Err n
+
+abbrev pub with_one : Limits → Waiting → Loading → Result Loading ℕ
+with_one limits w l = at_line w.line (with_triple limits w.triple l)
+
+-- one after the other; the first that is refused decides
+abbrev pub with_all : Limits → List Waiting → Loading → Result Loading ℕ
+with_all limits [] l = Ok l
+with_all limits (w ∷ ws) l = then_load (with_one limits w l) (with_all limits ws)
+
+-- what is loaded gives this outcome, by what comes behind the lines that were read
+abbrev pub Follows : Limits → Next → Reading → Option (List ℕ) → Loading → Outcome → Type 0
+Follows limits Lines r text l o = LoadsAhead limits text (place r l) o
+Follows limits End r text l o = o ≡ loaded l.graph
+Follows limits (Syntax n) r text l o = o ≡ syntax n
+Follows limits (Limit n) r text l o = o ≡ limit n
+
+-- and so does this, where one of the triples that waited may be refused
+abbrev pub Comes : Limits → Next → Reading → Option (List ℕ) → Result Loading ℕ → Outcome → Type 0
+Comes limits next r text (Ok l) o = Follows limits next r text l o
+Comes limits next r text (Err n) o = o ≡ limit n
+
+-- a line, of that number, is put behind those that wait where it spells a triple
+abbrev pub Puts : List ℕ → ℕ → List Waiting → List Waiting → Next → Type 0
+Puts text n old new Lines = (Empty text × (new ≡ old)) ⊎ ((t : Triple) × Spells text t × (new ≡ old ++ record { triple = t; line = n } ∷ []))
+Puts text n old new End = ⊥
+Puts text n old new (Syntax m) = (m ≡ n) × (new ≡ old) × (¬ Empty text) × ((t : Triple) → Spells text t → ⊥)
+Puts text n old new (Limit m) = ⊥
+
+-- Lines were read: whatever outcome follows from the triples that wait afterwards and the text that is left then, follows
+-- from those that waited before and the text that was left before.
+abbrev pub Reads : Reading → List Waiting → Option (List ℕ) → Next → Reading → List Waiting → Option (List ℕ) → Type 0
+Reads r waited before next q waits after =
+    (limits : Limits) (l : Loading) (o : Outcome) → Comes limits next q after (with_all limits waits l) o → Comes limits Lines r before (with_all limits waited l) o
+
+-- more of the text is taken
+abbrev pub IsNearer : Reading → Reading → Type 0
+IsNearer r q = (r.taken < q.taken) × (q.taken ≤ GRAPH_BYTES)
+
+-- the triples that waited are loaded
+pub record AreLoaded (limits : Limits) (waited : List Waiting) (old new : Loader) : Type 0 where
   pub sound : IsSound new
-  pub nearer : (r.taken < q.taken) × (q.taken ≤ GRAPH_BYTES)
-  pub leads : (triples : List Triple) → Holds old triples
-      → (more : List Triple) × Holds new more × ((o : Outcome) → LoadsAhead limits after (place q new more) o → LoadsAhead limits before (place r old triples) o)
+  pub does : (triples : List Triple) → Holds old triples → (more : List Triple) × Holds new more × (with_all limits waited (loading old triples) ≡ Ok (loading new more))
 
--- The text is over: the graph is what it loads to.
-pub record Ends (limits : Limits) (r : Reading) (old : Loader) (before : Option (List ℕ)) (new : Loader) : Type 0 where
-  pub kept : new ≡ old
-  pub over : (triples : List Triple) → LoadsAhead limits before (place r old triples) (loaded old.graph.graph)
+-- a triple is refused, and the number of its line decides
+abbrev pub Stops : Limits → Waiting → Loader → Outcome → Type 0
+Stops limits w r o = (o ≡ limit w.line) × IsUntaken limits w.triple r
 
-abbrev pub Goes : Limits → Reading → Loader → Option (List ℕ) → Next → Reading → Loader → Option (List ℕ) → Type 0
-Goes limits r old before Taken q new after = Moves limits r old before q new after
-Goes limits r old before AtEnd q new after = Ends limits r old before new
-
--- a fact of the reader where a line was taken
-abbrev pub OnTaken : Next → Type 0 → Type 0
-OnTaken Taken P = P
-OnTaken AtEnd P = ⊤
+-- one of the triples that waited is
+abbrev pub OneStops : Limits → List Waiting → Loader → Outcome → Type 0
+OneStops limits waited r o = (triples : List Triple) → Holds r triples → (n : ℕ) × (o ≡ limit n) × (with_all limits waited (loading r triples) ≡ Err n)

@@ -1,11 +1,9 @@
 -- What a loader keeps of what is loaded.
-use Rattle.std.specs.Prelude.{◌≡◌, ℕ, ◌<◌, ◌≤◌, Bool, true, List, [], ◌∷◌, ◌++◌, length, position, bytes_eq, Result, Ok, Err, if◌then◌else◌}
+use Rattle.std.specs.Prelude.{◌≡◌, ℕ, ◌<◌, ◌≤◌, Bool, List, [], ◌∷◌, ◌++◌, length, position, bytes_eq, Result, Ok, Err, if◌then◌else◌}
 use Rattle.std.specs.List.{list_any, AllByRecursion}
 use Rattle.px_spec.specs.declared.limits.Limits.{Limits}
 use Rattle.px_spec.specs.declared.refusal.Refusal.{Refusal}
-use Rattle.px_spec.specs.Graphs.{Graph, is_live}
 use Rattle.label_graph.specs.Held.{no_room}
-use Rattle.triples_read.specs.declared.term.Term.{Term}
 use Rattle.triples_read.specs.declared.term.Triple.{Triple}
 use Rattle.graph_load.specs.declared.known.Key.{Key}
 use Rattle.graph_load.specs.declared.loader.Loader.{Loader}
@@ -41,17 +39,12 @@ pub record IsWithin (terms predicates : ℕ) (k : Key) : Type 0 where
   pub predicate : k.predicate < predicates
   pub object : k.object < terms
 
--- the number of each term is that of a node
-abbrev pub AreLive : Graph → List (Term × ℕ) → Type 0
-AreLive g terms = AllByRecursion (λ e. is_live g e.1 ≡ true) terms
-
 -- what each loader keeps
 pub record IsSound (r : Loader) : Type 0 where
   pub room : r.graph.room ≡ no_room
   pub terms : length r.terms ≤ length r.graph.graph.given
   pub predicates : length r.predicates ≤ length r.graph.graph.given
   pub known : AllByRecursion (IsWithin (length r.terms) (length r.predicates)) r.known
-  pub live : AreLive r.graph.graph r.terms
 
 -- the second list begins with the first
 abbrev pub Begins : {X : Type 0} → List X → List X → Type 0

@@ -1,22 +1,19 @@
-// A graph file, line by line.
-ghost use Rattle.std.specs.Prelude.{◌≡◌, ◌≢◌, ⊤, ℕ, List, IfOk, IfErr, OnOk, IsErrOf, IsTrue, Err};
+// A graph file, in batches of triples.
+ghost use Rattle.std.specs.Prelude.{◌≡◌, ◌≢◌, ℕ, List, IfOk, IfErr, IsErrOf, IsTrue, Err};
 ghost use Rattle.px_base.specs.Causes.{Rose};
-ghost use Rattle.px_base.specs.Reading.{stream};
 ghost use Rattle.label_graph.specs.Held.{no_room};
-ghost use Rattle.triples_read.specs.declared.term.Triple.{Triple as TripleSeen};
-ghost use Rattle.triples_read.specs.Lines.{Spells, Empty};
 ghost use Rattle.graph_load.specs.Loads.{Outcome, Loads, loaded, at_start};
-ghost use Rattle.graph_load.specs.Holding.{Holds, IsSound};
-ghost use Rattle.graph_load.specs.Going.{LoadsTold, IsMissing, Says, LoadsAhead, place, CanRead, TakesText, RefusesText, Goes, OnTaken};
+ghost use Rattle.graph_load.specs.Going.{LoadsTold, IsMissing, Says, LoadsAhead};
 ghost use Rattle.graph_load.specs.declared.files.LoadError.TheVariants.{Memory as NoMemory};
 
-use crate::additions::Stop;
+use crate::batch::{Next, give_back, load_batch, read_batch};
 use crate::loader::Loader;
+use crate::loader::ahead::Lookahead;
 use label_graph::Graph;
-use px_base::{GRAPH_BYTES, LINE_BYTES, Limits, LineFault, LineReader, Memory, Shelf};
+use px_base::{GRAPH_BYTES, LINE_BYTES, Limits, LineReader, Memory, Shelf};
 use std::alloc::Global;
 use thiserror::Error;
-use triples_read::{LineError, SpareTexts, read_line_with};
+use triples_read::SpareTexts;
 
 /// Why no graph was loaded.
 #[derive(Clone, Copy, Debug, PartialEq, Eq, Error)]
@@ -47,82 +44,6 @@ impl From<Memory> for LoadError {
     }
 }
 
-/// Why a line wasn't taken.
-#[derive(Clone, Copy, Debug, PartialEq, Eq)]
-pub(crate) enum LineStop {
-    Syntax,
-    Limit,
-    Memory,
-}
-
-/// What a step of the load comes to.
-#[derive(Clone, Copy)]
-pub(crate) enum Next {
-    Taken,
-    AtEnd,
-}
-
-// Loads the triple of a line, if it has one. Its texts are spare then.
-fn take(
-    alloc: Global,
-    limits: &Limits,
-    spare: &mut SpareTexts,
-    loader: &mut Loader,
-    line: &[u8],
-) -> Result<(), LineStop>
-    requires { IsSound loader.old }
-    ensures taken { OnOk result (TakesText limits.now line.now loader.old loader.new) }
-    ensures limit { IsErrOf result LineStop.Limit → RefusesText limits.now line.now loader.old }
-    ensures syntax { IsErrOf result LineStop.Syntax → (¬ Empty line.now) × ((t : TripleSeen) → Spells line.now t → ⊥) }
-{
-    match read_line_with(spare, line) {
-        Ok(Some(triple)) => match loader.add(alloc, limits, &triple) {
-            Ok(()) => {
-                spare.give_back(triple);
-                Ok(())
-            }
-            Err(Stop::Limit) => Err(LineStop::Limit),
-            Err(Stop::Memory) => Err(LineStop::Memory),
-        },
-        Ok(None) => Ok(()),
-        Err(LineError::Syntax) => Err(LineStop::Syntax),
-        Err(LineError::Memory) => Err(LineStop::Memory),
-    }
-}
-
-// Reads a line, and takes it.
-fn next_line<H: Shelf>(
-    alloc: Global,
-    limits: &Limits,
-    reader: &mut LineReader,
-    spare: &mut SpareTexts,
-    loader: &mut Loader,
-    shelf: &mut H,
-) -> Result<Next, LoadError>
-    requires can { CanRead reader.old (H.is_open shelf.old) }
-    requires sound { IsSound loader.old }
-    ensures goes { IfOk result (λ next. Goes limits.now reader.old loader.old (stream reader.old (H.left shelf.old)) next reader.new loader.new (stream reader.new (H.left shelf.new))) }
-    ensures can { IfOk result (λ next. OnTaken next (CanRead reader.new (H.is_open shelf.new))) }
-    ensures refused { (triples : List TripleSeen) → Holds loader.old triples → IfErr result (Says (LoadsAhead limits.now (stream reader.old (H.left shelf.old)) (place reader.old loader.old triples))) }
-    ensures found { result ≢ Err LoadError.Missing }
-    ensures files { H.files shelf.new ≡ H.files shelf.old }
-    ensures fault { IsErrOf result LoadError.Fault → Rose (H.faults shelf.old) (H.faults shelf.new) }
-    ensures no_fault { result ≢ Err LoadError.Fault → H.faults shelf.new ≡ H.faults shelf.old }
-{
-    match reader.next(shelf) {
-        Ok(true) => match take(alloc, limits, spare, loader, reader.line()) {
-            Ok(()) => Ok(Next::Taken),
-            Err(LineStop::Syntax) => Err(LoadError::Syntax(reader.number())),
-            Err(LineStop::Limit) => Err(LoadError::Limit(reader.number())),
-            Err(LineStop::Memory) => Err(LoadError::Memory),
-        },
-        Ok(false) => Ok(Next::AtEnd),
-        Err(LineFault::Limit) => Err(LoadError::Limit(reader.number())),
-        Err(LineFault::Fault) => Err(LoadError::Fault),
-        Err(LineFault::Memory) => Err(LoadError::Memory),
-    }
-}
-
 // Loads the file that is open.
 fn load_lines<H: Shelf>(alloc: Global, limits: &Limits, shelf: &mut H) -> Result<Graph, LoadError>
     requires { IsTrue (H.is_open shelf.old) }
@@ -136,12 +57,23 @@ fn load_lines<H: Shelf>(alloc: Global, limits: &Limits, shelf: &mut H) -> Result
 {
     let mut reader = LineReader::new(alloc, LINE_BYTES, GRAPH_BYTES)?;
     let mut spare = SpareTexts::new(alloc);
+    let mut waiting = Vec::new(alloc);
+    let mut lookahead = Lookahead::new(alloc);
     let mut loader = Loader::new(alloc)?;
-    'lines: loop {
-        match next_line(alloc, limits, &mut reader, &mut spare, &mut loader, shelf) {
-            Ok(Next::Taken) => (),
-            Ok(Next::AtEnd) => return Ok(loader.into_graph()),
+    'batches: loop {
+        let next = match read_batch(&mut reader, &mut spare, &mut waiting, shelf) {
+            Ok(next) => next,
             Err(error) => return Err(error),
+        };
+        if let Err(error) = load_batch(alloc, limits, &mut loader, &mut lookahead, &waiting) {
+            return Err(error);
+        }
+        give_back(&mut spare, &mut waiting);
+        match next {
+            Next::Lines => (),
+            Next::End => return Ok(loader.into_graph()),
+            Next::Syntax(line) => return Err(LoadError::Syntax(line)),
+            Next::Limit(line) => return Err(LoadError::Limit(line)),
         }
     }
 }

@@ -2,6 +2,7 @@
 #![tactic(auto)]
 
 mod additions;
+mod batch;
 mod files;
 mod kinds;
 mod known;

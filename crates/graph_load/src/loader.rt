@@ -1,16 +1,18 @@
 // What is loaded so far.
-ghost use Rattle.std.specs.Prelude.{◌≡◌, ℕ, List, [], length, position, bytes_eq, Some, None, Ok, OnOk, IfOk, IfSome, IsErrOf, true, false};
+ghost use Rattle.std.specs.Prelude.{◌≡◌, ℕ, List, [], length, position, bytes_eq, Some, None, Ok, OnOk, IfOk, IfSome, IsErrOf, false};
 ghost use Rattle.px_spec.specs.Changes.{node, link};
-ghost use Rattle.px_spec.specs.Graphs.{is_live};
 ghost use Rattle.graph_load.specs.Loading.{number_of, need, changed, joined, with_triple, nothing_loaded, predicate_label};
 ghost use Rattle.graph_load.specs.Places.{place_of};
 ghost use Rattle.graph_load.specs.Finding.{IsFound, IsFoundAs};
 ghost use Rattle.triples_read.specs.declared.term.Triple.{Triple as TripleSeen};
 ghost use Rattle.graph_load.specs.Holding.{ArePlaces, is_known, loading, with_new, Holds, IsSound, Steps, IsStopped, IsTaken, IsUntaken};
 
+pub(crate) mod ahead;
+
 use crate::additions::{Stop, add_node, make};
 use crate::kinds::Kinds;
 use crate::known::{Key, Known};
+use crate::loader::ahead::Hints;
 use crate::predicates::Predicates;
 use crate::terms::{Found, Terms};
 use graph_update::Change;
@@ -61,26 +63,19 @@ impl Loader {
         self.graph
     }
 
-    // Where the parts of a triple stand.
-    fn find(&self, triple: &Triple) -> Places
+    // Where the parts of a triple stand. The hints are tried first.
+    fn find(&self, triple: &Triple, hints: Option<Hints>) -> Places
         ensures { ArePlaces self.now triple.now result }
     {
-        let (subject, predicate, object) = self.terms.find_parts(&self.predicates, triple);
         Places {
-            subject,
-            predicate,
-            object,
+            subject: self
+                .terms
+                .find_near(&triple.subject, hints.map(|h| h.subject)),
+            predicate: self.predicates.find(&triple.predicate),
+            object: self
+                .terms
+                .find_near(&triple.object, hints.map(|h| h.object)),
         }
-    }
-
-    // Whether the nodes of both terms are there, as they always are. They are read here, before the triple is looked for
-    // among those that are loaded and its edges are added, so that the processor waits for all that memory at once.
-    fn are_live(&self, subject: &Found, object: &Found) -> bool
-        requires subject { is_live self.now.graph.graph subject.now.number ≡ true }
-        requires object { is_live self.now.graph.graph object.now.number ≡ true }
-        ensures { result ≡ true }
-    {
-        self.graph.is_live(subject.number) && self.graph.is_live(object.number)
     }
 
     // Whether the triple whose parts stand there is loaded.
@@ -98,12 +93,11 @@ impl Loader {
         let Some(object) = places.object else {
             return false;
         };
-        self.are_live(&subject, &object)
-            && self.known.contains(Key {
-                subject: subject.place,
-                predicate,
-                object: object.place,
-            })
+        self.known.contains(Key {
+            subject: subject.place,
+            predicate,
+            object: object.place,
+        })
     }
 
     // Makes a node of a term that is none.
@@ -243,18 +237,19 @@ impl Loader {
     }
 
     /// Loads a triple: where it is loaded already nothing is added, else its nodes and edges are. It takes
-    /// constant time, beside that of hashing the triple.
+    /// constant time, beside that of hashing the triple. The hints change nothing but how fast its terms are found.
     pub(crate) fn add(
         &mut self,
         alloc: Global,
         limits: &Limits,
         triple: &Triple,
+        hints: Option<Hints>,
     ) -> Result<(), Stop>
         requires sound { IsSound self.old }
         ensures taken { OnOk result (IsTaken limits.now triple.now self.old self.new) }
         ensures limit { IsErrOf result Stop.Limit → IsUntaken limits.now triple.now self.old }
     {
-        let places = self.find(triple);
+        let places = self.find(triple, hints);
         if self.is_known(triple, &places) {
             return Ok(());
         }

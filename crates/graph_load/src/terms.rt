@@ -1,5 +1,5 @@
 // The terms that are nodes.
-ghost use Rattle.std.specs.Prelude.{◌≡◌, ◌<◌, ◌^◌, ◌++◌, ◌∷◌, [], length, position, bytes_eq, None, OnOk, IfOk};
+ghost use Rattle.std.specs.Prelude.{◌≡◌, ◌<◌, ◌^◌, ◌++◌, ◌∷◌, [], length, None, OnOk, IfOk};
 ghost use Rattle.graph_load.specs.Loading.{number_of};
 ghost use Rattle.graph_load.specs.Parts.{parts_of};
 ghost use Rattle.graph_load.specs.Entries.{IsAbsent, terms_of};
@@ -11,18 +11,42 @@ mod entries;
 mod parts;
 mod storing;
 
-use crate::predicates::Predicates;
-use crate::terms::chains::{begin, follow, link, make_room};
+use crate::terms::chains::{at_link, bucket, follow, link, make_room, read_head};
 use crate::terms::entries::Entry;
 use crate::terms::parts::{hash_parts, parts_of};
 use crate::terms::storing::store;
 use px_base::{Memory, NodeId};
 use std::alloc::Global;
 use std::marker::Model;
-use triples_read::{Term, Triple};
+use triples_read::Term;
 
 /// How many buckets an empty table has.
 const FIRST_BUCKETS: usize = 16;
+
+/// How many terms of a chain a hint passes.
+const PASSED: u32 = 3;
+
+/// Where a term may stand: its hash, and a link that leads to its place, to another one of its chain, or nowhere.
+#[derive(Clone, Copy)]
+pub(crate) struct Hint {
+    hash: u32,
+    link: u32,
+}
+
+impl Hint {
+    /// The hint of a term, which leads nowhere yet.
+    pub(crate) fn of(term: &Term) -> Hint {
+        Hint {
+            hash: hash_parts(&parts_of(term)),
+            link: 0,
+        }
+    }
+
+    /// The place in the table to which it leads.
+    pub(crate) fn place(&self) -> Option<u32> {
+        self.link.checked_sub(1)
+    }
+}
 
 /// Where a term stands in the table, and the number of its node.
 #[derive(Clone, Copy)]
@@ -72,30 +96,72 @@ impl Terms {
     pub(crate) fn find(&self, term: &Term) -> Option<Found>
         ensures { IsFoundAs self.now term.now result }
     {
-        let probe = begin(&self.heads, term);
-        follow(&self.arena, &self.entries, &self.heads, &probe)
+        let parts = parts_of(term);
+        let hash = hash_parts(&parts);
+        follow(&self.arena, &self.entries, &self.heads, &parts, hash)
     }
 
-    /// Where the parts of a triple stand: its subject and its object here, its predicate among the predicates. Both
-    /// chains are begun first and followed last, so that the processor waits for the memory of both at once, and
-    /// looks the predicate up meanwhile.
-    pub(crate) fn find_parts(
-        &self,
-        predicates: &Predicates,
-        triple: &Triple,
-    ) -> (Option<Found>, Option<u32>, Option<Found>)
-        ensures subject { IsFoundAs self.now triple.now.subject result.0 }
-        ensures predicate { result.1 ≡ position (bytes_eq triple.now.predicate) predicates.now }
-        ensures object { IsFoundAs self.now triple.now.object result.2 }
+    /// Where the term stands, with its number. The place to which the hint leads is tried first.
+    pub(crate) fn find_near(&self, term: &Term, hint: Option<Hint>) -> Option<Found>
+        ensures { IsFoundAs self.now term.now result }
     {
-        let first = begin(&self.heads, &triple.subject);
-        let second = begin(&self.heads, &triple.object);
-        let predicate = predicates.find(&triple.predicate);
-        let object = follow(&self.arena, &self.entries, &self.heads, &second);
-        let subject = follow(&self.arena, &self.entries, &self.heads, &first);
-        (subject, predicate, object)
+        let link = match hint {
+            Some(hint) => hint.link,
+            None => 0,
+        };
+        if let Some(found) = at_link(&self.arena, &self.entries, link, &parts_of(term)) {
+            return Some(found);
+        }
+        self.find(term)
+    }
+}
+
+// Hints. Nothing is said of them.
+impl Terms {
+    /// The hint that leads to the first term of its chain.
+    pub(crate) fn enter_chain(&self, hint: Hint) -> Hint {
+        let link = read_head(&self.heads, bucket(&self.heads, hint.hash));
+        Hint { link, ..hint }
     }
 
+    /// The hint that leads past terms with another hash, a few at most.
+    pub(crate) fn pass_others(&self, hint: Hint) -> Hint {
+        let mut at = hint;
+        for _ in 0..PASSED {
+            at = self.pass_other(at);
+        }
+        at
+    }
+
+    fn pass_other(&self, hint: Hint) -> Hint {
+        match self.entry(hint) {
+            Some(e) if e.hash != hint.hash => Hint {
+                link: e.next,
+                ..hint
+            },
+            _ => hint,
+        }
+    }
+
+    /// The number of the term to which the hint leads.
+    pub(crate) fn number(&self, hint: Hint) -> Option<NodeId> {
+        let e = self.entry(hint)?;
+        Some(e.number)
+    }
+
+    /// The first byte of the texts of the term to which the hint leads.
+    pub(crate) fn first_byte(&self, hint: Hint) -> Option<u8> {
+        let e = self.entry(hint)?;
+        self.arena.get(e.span.from as usize).copied()
+    }
+
+    fn entry(&self, hint: Hint) -> Option<&Entry> {
+        self.entries.get(hint.place()? as usize)
+    }
+}
+
+// Changes.
+impl Terms {
     /// Puts in a term that isn't there, and gives its place.
     pub(crate) fn add(&mut self, term: &Term, number: NodeId) -> Result<u32, Memory>
         requires few { length self.old < 2 ^ 30 }

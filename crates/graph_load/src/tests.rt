@@ -30,6 +30,14 @@ const FEW_EDGES: Limits = Limits {
     expr_depth: 0,
 };
 
+const EIGHTEEN_EDGES: Limits = Limits {
+    nodes: 99,
+    edges: 18,
+    labels: 9,
+    expr_bytes: 0,
+    expr_depth: 0,
+};
+
 const FEW_LABELS: Limits = Limits {
     nodes: 9,
     edges: 9,
@@ -43,6 +51,29 @@ const PEOPLE: &[u8] = b"<http://example.org/ana> <http://xmlns.com/foaf/0.1/name
 <http://example.org/bo> <http://xmlns.com/foaf/0.1/knows> _:b0 .
 _:b0 <http://xmlns.com/foaf/0.1/name> \"ana\" .
 <http://example.org/bo> <http://xmlns.com/foaf/0.1/knows> <http://example.org/ana> .
+";
+
+/// More triples than are loaded at once, one of them twice.
+const MANY: &[u8] = b"<a> <p> \"01\" .
+<a> <p> \"02\" .
+<a> <p> \"03\" .
+<a> <p> \"04\" .
+<a> <p> \"05\" .
+<a> <p> \"06\" .
+<a> <p> \"07\" .
+<a> <p> \"08\" .
+<a> <p> \"09\" .
+<a> <p> \"10\" .
+<a> <p> \"11\" .
+<a> <p> \"12\" .
+<a> <p> \"13\" .
+<a> <p> \"14\" .
+<a> <p> \"15\" .
+<a> <p> \"16\" .
+<a> <p> \"17\" .
+<a> <p> \"18\" .
+<a> <p> \"01\" .
+<b> <p> \"18\" .
 ";
 
 /// The load of the file of that name, where `g` is the one file. The calls with the numbers listed fail.
@@ -73,7 +104,7 @@ fn size_of(
 #[test]
 fn texts_load_to_graphs(rt: HostRuntime) -> Result<(), Fail> {
     let all = Limits::program();
-    let rows: [(&[u8], Limits, Result<(u32, u32), LoadError>); 11] = [
+    let rows: [(&[u8], Limits, Result<(u32, u32), LoadError>); 13] = [
         (b"# nothing\n\n", all, Ok((0, 0))),
         (b"<a> <p> <b> .\n", all, Ok((3, 2))),
         (b"<a> <p> <b> .\r<\\u0061><p><b>. # again", all, Ok((3, 2))),
@@ -93,6 +124,8 @@ fn texts_load_to_graphs(rt: HostRuntime) -> Result<(), Fail> {
         (b"<a> <p> <b> .\n<a> <p> <b> .\n", FOUR_NODES, Ok((3, 2))),
         (b"<a> <p> <b> .\n", FEW_EDGES, Err(LoadError::Limit(1))),
         (b"<a> <p> <b> .\n", FEW_LABELS, Err(LoadError::Limit(1))),
+        (MANY, all, Ok((39, 38))),
+        (MANY, EIGHTEEN_EDGES, Err(LoadError::Limit(10))),
     ];
     for (content, limits, size) in rows {
         assert!(rt; size_of(rt.alloc(), content, &limits)? == size);

@@ -1,19 +1,19 @@
 // Chains of terms whose hashes fall into one bucket.
-ghost use Rattle.std.specs.Prelude.{◌≡◌, ℕ, ◌+◌, ◌≤◌, ◌^◌, ◌<◌, length, slice_set};
+ghost use Rattle.std.specs.Prelude.{◌≡◌, ℕ, ◌+◌, ◌≤◌, ◌^◌, ◌<◌, length, slice_set, Some, IfSome};
+ghost use Rattle.triples_read.specs.declared.term.Term.{Term};
 ghost use Rattle.graph_load.specs.Parts.{parts_of, shown_parts, hash_of};
-ghost use Rattle.graph_load.specs.Entries.{SameEntries, terms_of};
+ghost use Rattle.graph_load.specs.Entries.{SameEntries, AreSpelled, terms_of};
 ghost use Rattle.graph_load.specs.Chains.{head_at, bucket_of, AreLinked, IsTable};
 ghost use Rattle.graph_load.specs.Finding.{IsFoundAs};
 
 use crate::terms::Found;
-use crate::terms::entries::{Entry, is_term, read_entry, set_entry};
-use crate::terms::parts::{Parts, hash_parts, parts_of};
+use crate::terms::entries::{Entry, has_parts, is_term, read_entry, set_entry};
+use crate::terms::parts::Parts;
 use px_base::Memory;
-use triples_read::Term;
 
 // The number of buckets is a power of two, so that this takes no division.
 #[inline(always)]
-fn bucket(heads: &[u32], hash: u32) -> usize
+pub(crate) fn bucket(heads: &[u32], hash: u32) -> usize
     requires { 0 < length heads.now }
     ensures is { result ≡ bucket_of heads.now hash }
     ensures within { result < length heads.now }
@@ -22,7 +22,7 @@ fn bucket(heads: &[u32], hash: u32) -> usize
 }
 
 #[inline(always)]
-fn read_head(heads: &[u32], b: usize) -> u32
+pub(crate) fn read_head(heads: &[u32], b: usize) -> u32
     requires { b < length heads.now }
     ensures { result ≡ head_at heads.now b }
 {
@@ -37,44 +37,22 @@ fn set_head(heads: &mut Vec<u32>, b: usize, head: u32)
     heads[b] = head;
 }
 
-/// What is looked for, and where its chain begins.
-#[derive(Clone, Copy)]
-pub(crate) struct Probe<'a> {
-    parts: Parts<'a>,
-    hash: u32,
-    first: u32,
-}
-
-/// Begins to look for a term.
-#[inline(always)]
-pub(crate) fn begin<'a>(heads: &[u32], term: &'a Term) -> Probe<'a>
-    requires some { 0 < length heads.now }
-    ensures parts { shown_parts result.parts ≡ parts_of term.entry.now }
-    ensures hash { result.hash ≡ hash_of (shown_parts result.parts) }
-    ensures first { result.first ≡ head_at heads.now (bucket_of heads.now result.hash) }
-{
-    let parts = parts_of(term);
-    let hash = hash_parts(&parts);
-    let first = read_head(heads, bucket(heads, hash));
-    Probe { parts, hash, first }
-}
-
-/// Looks along the chain. `heads` is read by the clauses alone.
+/// Looks along the chain of a hash for the term that has these parts.
 pub(crate) fn follow(
     arena: &[u8],
     entries: &[Entry],
     heads: &[u32],
-    probe: &Probe<'_>,
+    parts: &Parts<'_>,
+    hash: u32,
 ) -> Option<Found>
     requires table { IsTable arena.now entries.now heads.now }
-    requires hash { probe.now.hash ≡ hash_of (shown_parts probe.now.parts) }
-    requires first { probe.now.first ≡ head_at heads.now (bucket_of heads.now probe.now.hash) }
-    ensures { (x : Term) → shown_parts probe.now.parts ≡ parts_of x → IsFoundAs (terms_of arena.now entries.now) x result }
+    requires hash { hash ≡ hash_of (shown_parts parts.now) }
+    ensures { (x : Term) → shown_parts parts.now ≡ parts_of x → IsFoundAs (terms_of arena.now entries.now) x result }
 {
-    let mut at = probe.first;
+    let mut at = read_head(heads, bucket(heads, hash));
     while at > 0 {
         let e = entries[at as usize - 1];
-        if is_term(arena, &e, &probe.parts, probe.hash) {
+        if is_term(arena, &e, parts, hash) {
             return Some(Found {
                 place: at - 1,
                 number: e.number,
@@ -83,6 +61,29 @@ pub(crate) fn follow(
         at = e.next;
     }
     None
+}
+
+/// The term to which a link leads, where it has these parts.
+pub(crate) fn at_link(
+    arena: &[u8],
+    entries: &[Entry],
+    link: u32,
+    parts: &Parts<'_>,
+) -> Option<Found>
+    requires { AreSpelled arena.now entries.now }
+    ensures { (x : Term) → shown_parts parts.now ≡ parts_of x → IfSome result (λ f. IsFoundAs (terms_of arena.now entries.now) x (Some f)) }
+{
+    if link == 0 || link as usize > entries.len() {
+        return None;
+    }
+    let e = entries[link as usize - 1];
+    if !has_parts(arena, &e, parts) {
+        return None;
+    }
+    Some(Found {
+        place: link - 1,
+        number: e.number,
+    })
 }
 
 // Puts entry n in front of its chain.

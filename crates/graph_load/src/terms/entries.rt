@@ -52,7 +52,17 @@ fn same_texts(arena: &[u8], s: &Span, parts: &Parts<'_>) -> bool
         && &arena[s.datatype_end as usize..s.to as usize] == parts.tag
 }
 
-// Whether the entry's term has these parts. The hashes are compared first, since they lie nearer.
+// Whether the entry's term has these parts.
+#[inline(always)]
+pub(crate) fn has_parts(arena: &[u8], e: &Entry, parts: &Parts<'_>) -> bool
+    requires within { AreWithin (length arena.now) e.now.span }
+    ensures same { IsTrue result → parts_in arena.now e.now ≡ shown_parts parts.now }
+    ensures other { IsFalse result → parts_in arena.now e.now ≢ shown_parts parts.now }
+{
+    e.sort == parts.sort && same_texts(arena, &e.span, parts)
+}
+
+// The same. The hashes are compared first, since they lie nearer.
 #[inline(always)]
 pub(crate) fn is_term(arena: &[u8], e: &Entry, parts: &Parts<'_>, hash: u32) -> bool
     requires within { AreWithin (length arena.now) e.now.span }
@@ -61,5 +71,5 @@ pub(crate) fn is_term(arena: &[u8], e: &Entry, parts: &Parts<'_>, hash: u32) -> 
     ensures same { IsTrue result → parts_in arena.now e.now ≡ shown_parts parts.now }
     ensures other { IsFalse result → parts_in arena.now e.now ≢ shown_parts parts.now }
 {
-    e.hash == hash && e.sort == parts.sort && same_texts(arena, &e.span, parts)
+    e.hash == hash && has_parts(arena, e, parts)
 }

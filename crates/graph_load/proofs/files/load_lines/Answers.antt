@@ -1,37 +1,83 @@
-use Rattle.std.proofs.Common.{[], ap, rules}
-use Rattle.px_base.specs.Reading.{Reading}
-use Rattle.graph_load.proofs.Following.{start_leads, says_map}
+use Rattle.std.proofs.Common.{[], Ok, Err, ap, sym, refl, ◌∙◌, rules}
+use Rattle.px_base.specs.Reading.{Reading, stream}
+use Rattle.graph_load.specs.declared.batch.Next.TheVariants.{Lines, End, Syntax, Limit}
+use Rattle.graph_load.specs.Loads as outcome
+use Rattle.graph_load.specs.Holding.{loading}
+use Rattle.graph_load.specs.Going.{with_all, AreLoaded, OneStops}
+use Rattle.graph_load.proofs.Following.{start_leads, says_map, batch_leads}
 use Rattle.graph_load.proofs.files.load_lines.Goals as goal
 
-pub lines-init : goal.lines-init
-lines-init g c =
+pub batches-init : goal.batches-init
+batches-init g c =
     let reader = c.in_ok-reader.ensures in
     record {
+      none = search rules;
       triples = [];
       holds = c.in_ok-loader.ensures.nothing;
       leads = start_leads c.args.limits.now c.in_ok-reader.reader c.in_ok-loader.loader (g.H.Shelf.left c.args.shelf.now)
           (ap (λ (x : Reading). x.ahead) reader) (ap (λ (x : Reading). x.number) reader) (ap (λ (x : Reading). x.taken) reader) c.in_ok-loader.ensures.empty;
       sound = c.in_ok-loader.ensures.sound;
       can = rw reader (search rules);
-      taken = rw reader (search rules);
       files = search rules;
       faults = search rules;
     }
 
-pub lines-preserved : goal.lines-preserved
-lines-preserved g c =
-    let moves = rw c.in-Ok-Taken.field-0-is at c.in-Ok-Taken.ensures.goes in
-    let next = moves.leads c.lines.invariant.triples c.lines.invariant.holds in
+pub batches-preserved : goal.batches-preserved
+batches-preserved g c =
+    let inv = c.batches.invariant in
+    let loaded : AreLoaded c.args.limits.now c.deref.result.now c.batches.loader c.load_batch.new.loader = search rules in
+    let d = loaded.does inv.triples inv.holds in
+    let all = ap (λ ws. with_all c.args.limits.now ws (loading c.batches.loader inv.triples)) (sym c.deref.ensures.value) ∙ d.2 in
     record {
-      triples = next.0;
-      holds = next.1;
-      leads = λ o h. c.lines.invariant.leads o (next.2 o h);
-      sound = moves.sound;
-      can = rw c.in-Ok-Taken.field-0-is at c.in-Ok-Taken.ensures.can;
-      taken = moves.nearer.1;
+      none = c.give_back.ensures;
+      triples = d.0;
+      holds = d.1;
+      leads = batch_leads c.args.limits.now c.batches.reader c.read_batch.new.reader (stream c.batches.reader (g.H.Shelf.left c.batches.shelf)) (stream c.read_batch.new.reader (g.H.Shelf.left c.read_batch.new.shelf))
+          c.batches.waiting.items c.read_batch.new.waiting.items Lines (loading c.batches.loader inv.triples) (Ok (loading c.load_batch.new.loader d.0)) _
+          inv.none (rw c.in-Lines.is at c.in-Ok.ensures.reads) all inv.leads;
+      sound = loaded.sound;
+      can = rw c.in-Lines.is at c.in-Ok.ensures.can;
       files = search rules;
       faults = search rules;
     }
 
-pub returns-in-Err-clause-refused : goal.returns-in-Err-clause-refused
-returns-in-Err-clause-refused g c = says_map _ _ c.lines.invariant.leads c.in-Err.error (c.in-Err.ensures.refused c.lines.invariant.triples c.lines.invariant.holds)
+pub returns-in-End-clause-loaded : goal.returns-in-End-clause-loaded
+returns-in-End-clause-loaded g c =
+    let inv = c.batches.invariant in
+    let loaded : AreLoaded c.args.limits.now c.deref.result.now c.batches.loader c.load_batch.new.loader = search rules in
+    let d = loaded.does inv.triples inv.holds in
+    let all = ap (λ ws. with_all c.args.limits.now ws (loading c.batches.loader inv.triples)) (sym c.deref.ensures.value) ∙ d.2 in
+    rw c.into_graph.ensures (
+    batch_leads c.args.limits.now c.batches.reader c.read_batch.new.reader (stream c.batches.reader (g.H.Shelf.left c.batches.shelf)) (stream c.read_batch.new.reader (g.H.Shelf.left c.read_batch.new.shelf))
+    c.batches.waiting.items c.read_batch.new.waiting.items End (loading c.batches.loader inv.triples) (Ok (loading c.load_batch.new.loader d.0)) _
+    inv.none (rw c.in-End.is at c.in-Ok.ensures.reads) all inv.leads (outcome.loaded c.load_batch.new.loader.graph.graph) refl)
+
+pub returns-in-Syntax-clause-refused : goal.returns-in-Syntax-clause-refused
+returns-in-Syntax-clause-refused g c =
+    let inv = c.batches.invariant in
+    let loaded : AreLoaded c.args.limits.now c.deref.result.now c.batches.loader c.load_batch.new.loader = search rules in
+    let d = loaded.does inv.triples inv.holds in
+    let all = ap (λ ws. with_all c.args.limits.now ws (loading c.batches.loader inv.triples)) (sym c.deref.ensures.value) ∙ d.2 in
+    batch_leads c.args.limits.now c.batches.reader c.read_batch.new.reader (stream c.batches.reader (g.H.Shelf.left c.batches.shelf)) (stream c.read_batch.new.reader (g.H.Shelf.left c.read_batch.new.shelf))
+    c.batches.waiting.items c.read_batch.new.waiting.items (Syntax c.in-Syntax.line) (loading c.batches.loader inv.triples) (Ok (loading c.load_batch.new.loader d.0)) _
+    inv.none (rw c.in-Syntax.is at c.in-Ok.ensures.reads) all inv.leads (outcome.syntax c.in-Syntax.line) refl
+
+pub returns-in-Limit-clause-refused : goal.returns-in-Limit-clause-refused
+returns-in-Limit-clause-refused g c =
+    let inv = c.batches.invariant in
+    let loaded : AreLoaded c.args.limits.now c.deref.result.now c.batches.loader c.load_batch.new.loader = search rules in
+    let d = loaded.does inv.triples inv.holds in
+    let all = ap (λ ws. with_all c.args.limits.now ws (loading c.batches.loader inv.triples)) (sym c.deref.ensures.value) ∙ d.2 in
+    batch_leads c.args.limits.now c.batches.reader c.read_batch.new.reader (stream c.batches.reader (g.H.Shelf.left c.batches.shelf)) (stream c.read_batch.new.reader (g.H.Shelf.left c.read_batch.new.shelf))
+    c.batches.waiting.items c.read_batch.new.waiting.items (Limit c.in-Limit.line) (loading c.batches.loader inv.triples) (Ok (loading c.load_batch.new.loader d.0)) _
+    inv.none (rw c.in-Limit.is at c.in-Ok.ensures.reads) all inv.leads (outcome.limit c.in-Limit.line) refl
+
+pub returns-in-Err-load_batch-clause-refused : goal.returns-in-Err-load_batch-clause-refused
+returns-in-Err-load_batch-clause-refused g c =
+    let inv = c.batches.invariant in
+    says_map (OneStops c.args.limits.now c.deref.result.now c.batches.loader) _ (λ o stops.
+    let s = stops inv.triples inv.holds in
+    batch_leads c.args.limits.now c.batches.reader c.read_batch.new.reader (stream c.batches.reader (g.H.Shelf.left c.batches.shelf)) (stream c.read_batch.new.reader (g.H.Shelf.left c.read_batch.new.shelf))
+    c.batches.waiting.items c.read_batch.new.waiting.items c.in-Ok.next (loading c.batches.loader inv.triples) (Err s.0) _
+    inv.none c.in-Ok.ensures.reads (ap (λ ws. with_all c.args.limits.now ws (loading c.batches.loader inv.triples)) (sym c.deref.ensures.value) ∙ s.2) inv.leads o s.1)
+    c.in-Err-load_batch.error c.in-Err-load_batch.ensures.stopped

@@ -1,23 +1,23 @@
-use Rattle.std.proofs.Common.{◌≡◌, ◌-◌, ◌≤◌, List}
+use Rattle.std.proofs.Common.{◌≡◌, ◌-◌, List, []}
 use Rattle.px_base.specs.declared.lines.TheConstants.{GRAPH_BYTES}
 use Rattle.px_base.specs.Reading.{stream}
 use Rattle.triples_read.specs.declared.term.Triple.{Triple}
 use Rattle.graph_load.specs.Loads.{Outcome, at_start}
-use Rattle.graph_load.specs.Holding.{Holds, IsSound}
+use Rattle.graph_load.specs.Holding.{loading, Holds, IsSound}
 use Rattle.graph_load.specs.Going.{LoadsAhead, place, CanRead}
 use Rattle.graph_load.proofs.files.load_lines.Given as goal
 
-abbrev pub invariant-lines : goal.invariant-lines
-invariant-lines g l = record {
+abbrev pub invariant-batches : goal.invariant-batches
+invariant-batches g l = record {
+  none : l.waiting.items ≡ [];
   triples : List Triple;
   holds : Holds l.loader triples;
-  leads : (o : Outcome) → LoadsAhead l.limits (stream l.reader (g.H.Shelf.left l.shelf)) (place l.reader l.loader triples) o → LoadsAhead l.limits (g.H.Shelf.left l.fn.shelf) at_start o;
+  leads : (o : Outcome) → LoadsAhead l.limits (stream l.reader (g.H.Shelf.left l.shelf)) (place l.reader (loading l.loader triples)) o → LoadsAhead l.limits (g.H.Shelf.left l.fn.shelf) at_start o;
   sound : IsSound l.loader;
   can : CanRead l.reader (g.H.Shelf.is_open l.shelf);
-  taken : l.reader.taken ≤ GRAPH_BYTES;
   files : g.H.Shelf.files l.shelf ≡ g.H.Shelf.files l.fn.shelf;
   faults : g.H.Shelf.faults l.shelf ≡ g.H.Shelf.faults l.fn.shelf;
 }
 
-abbrev pub decreases-lines : goal.decreases-lines
-decreases-lines g l = GRAPH_BYTES - l.reader.taken
+abbrev pub decreases-batches : goal.decreases-batches
+decreases-batches g l = GRAPH_BYTES - l.reader.taken

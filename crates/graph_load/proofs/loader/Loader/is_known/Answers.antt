@@ -1,7 +1,6 @@
-use Rattle.std.proofs.Common.{◌∙◌, ap, sym, true≢false}
+use Rattle.std.proofs.Common.{◌∙◌, ap, sym}
 use Rattle.std.specs.Option.{option_map}
 use Rattle.graph_load.proofs.Knowing.{unknown_subject, unknown_predicate, unknown_object, known_key}
-use Rattle.graph_load.proofs.Living.{live_found}
 use Rattle.graph_load.proofs.loader.Loader.is_known.Goals as goal
 
 pub returns-in_default : goal.returns-in_default
@@ -16,22 +15,10 @@ pub returns-in_default-object : goal.returns-in_default-object
 returns-in_default-object c =
     sym (unknown_object c.args.self.now.terms c.args.self.now.predicates c.args.triple.now c.args.self.now.known (sym c.requires.places.object.place ∙ ap (option_map (λ f. f.place)) c.in_default-object.is))
 
-pub are_live-requires : goal.are_live-requires
-are_live-requires c =
-    record {
-      subject = live_found c.args.self.now.graph.graph c.args.self.now.terms c.requires.sound.live c.args.triple.now.subject c.in-Some.subject.number
-          (sym c.requires.places.subject.number ∙ ap (option_map (λ f. f.number)) c.in-Some.is);
-      object = live_found c.args.self.now.graph.graph c.args.self.now.terms c.requires.sound.live c.args.triple.now.object c.in-Some-object.object.number
-          (sym c.requires.places.object.number ∙ ap (option_map (λ f. f.number)) c.in-Some-object.is);
-    }
-
-pub returns-then-are_live : goal.returns-then-are_live
-returns-then-are_live c =
+pub returns : goal.returns
+returns c =
     c.contains.ensures
     ∙ known_key c.args.self.now.terms c.args.self.now.predicates c.args.triple.now c.args.self.now.known _
     (sym c.requires.places.subject.place ∙ ap (option_map (λ f. f.place)) c.in-Some.is)
     (sym c.requires.places.predicate ∙ c.in-Some-predicate.is)
     (sym c.requires.places.object.place ∙ ap (option_map (λ f. f.place)) c.in-Some-object.is)
-
-pub returns-else-are_live : goal.returns-else-are_live
-returns-else-are_live c = absurd (true≢false (sym c.are_live.ensures ∙ c.if-are_live.false))

@@ -5,7 +5,7 @@ use Rattle.graph_load.proofs.Spelled.{walk_start, walk_on, walk_end}
 use Rattle.graph_load.proofs.terms.chains.follow.Goals as goal
 
 pub loop-at-init : goal.loop-at-init
-loop-at-init c = rw (c.requires.first, c.requires.hash) (walk_start _ _ _ _ c.requires.table)
+loop-at-init c = rw (c.read_head-at.ensures, c.bucket.ensures.is, c.requires.hash) (walk_start _ _ _ _ c.requires.table)
 
 pub loop-at-preserved : goal.loop-at-preserved
 loop-at-preserved c = walk_on _ _ _ _ _ c.requires.table c.loop-at-test.true c.loop-at.invariant (c.if-is_term.ensures.other refl)

@@ -1,0 +1,166 @@
+// Triples are read in batches, looked up ahead together, and loaded.
+ghost use Rattle.std.specs.Prelude.{◌≡◌, ◌≢◌, ◌++◌, ◌∷◌, [], IfOk, IfErr, OnOk, IsErrOf, Err};
+ghost use Rattle.px_base.specs.Causes.{Rose};
+ghost use Rattle.px_base.specs.Reading.{stream};
+ghost use Rattle.graph_load.specs.Holding.{IsSound, IsTaken};
+ghost use Rattle.graph_load.specs.Going.{Says, CanRead, OnLines, Puts, Reads, IsNearer, AreLoaded, Stops, OneStops};
+
+use crate::additions::Stop;
+use crate::files::LoadError;
+use crate::loader::Loader;
+use crate::loader::ahead::{Hints, Lookahead};
+use px_base::{Limits, LineFault, LineReader, Memory, Shelf};
+use std::alloc::Global;
+use triples_read::{LineError, SpareTexts, Triple, read_line_with};
+
+/// How many triples are read before they are loaded: so few that there is room for all their texts among the spare ones.
+const BATCH: usize = 16;
+
+/// A triple that was read and isn't loaded yet, and the number of its line.
+#[derive(Drop)]
+pub(crate) struct Waiting {
+    pub(crate) triple: Triple,
+    pub(crate) line: u32,
+}
+
+/// What comes behind the lines that were read.
+#[derive(Clone, Copy)]
+pub(crate) enum Next {
+    /// There may be more of them.
+    Lines,
+    End,
+    /// The line of that number is neither a triple, nor blank, nor a comment.
+    Syntax(u32),
+    /// The line of that number passes a limit on lines.
+    Limit(u32),
+}
+
+fn put(waiting: &mut Vec<Waiting>, triple: Triple, line: u32) -> Result<(), Memory>
+    ensures { OnOk result (waiting.new.items ≡ waiting.old.items ++ record { triple = triple; line = line } ∷ []) }
+{
+    waiting.push(Waiting { triple, line })?;
+    Ok(())
+}
+
+// Reads the triple of a line, if it has one.
+fn take(
+    spare: &mut SpareTexts,
+    waiting: &mut Vec<Waiting>,
+    text: &[u8],
+    line: u32,
+) -> Result<Next, LoadError>
+    ensures puts { IfOk result (Puts text.now line waiting.old.items waiting.new.items) }
+    ensures memory { IfErr result (λ e. e ≡ LoadError.Memory) }
+{
+    match read_line_with(spare, text) {
+        Ok(Some(triple)) => {
+            put(waiting, triple, line)?;
+            Ok(Next::Lines)
+        }
+        Ok(None) => Ok(Next::Lines),
+        Err(LineError::Syntax) => Ok(Next::Syntax(line)),
+        Err(LineError::Memory) => Err(LoadError::Memory),
+    }
+}
+
+// Reads a line.
+fn read_next<H: Shelf>(
+    reader: &mut LineReader,
+    spare: &mut SpareTexts,
+    waiting: &mut Vec<Waiting>,
+    shelf: &mut H,
+) -> Result<Next, LoadError>
+    requires can { CanRead reader.old (H.is_open shelf.old) }
+    ensures reads { IfOk result (λ next. Reads reader.old waiting.old.items (stream reader.old (H.left shelf.old)) next reader.new waiting.new.items (stream reader.new (H.left shelf.new))) }
+    ensures can { IfOk result (λ next. OnLines next (CanRead reader.new (H.is_open shelf.new))) }
+    ensures nearer { IfOk result (λ next. OnLines next (IsNearer reader.old reader.new)) }
+    ensures none { IfErr result (Says (λ _. ⊥)) }
+    ensures found { result ≢ Err LoadError.Missing }
+    ensures files { H.files shelf.new ≡ H.files shelf.old }
+    ensures fault { IsErrOf result LoadError.Fault → Rose (H.faults shelf.old) (H.faults shelf.new) }
+    ensures no_fault { result ≢ Err LoadError.Fault → H.faults shelf.new ≡ H.faults shelf.old }
+{
+    match reader.next(shelf) {
+        Ok(true) => take(spare, waiting, reader.line(), reader.number()),
+        Ok(false) => Ok(Next::End),
+        Err(LineFault::Limit) => Ok(Next::Limit(reader.number())),
+        Err(LineFault::Fault) => Err(LoadError::Fault),
+        Err(LineFault::Memory) => Err(LoadError::Memory),
+    }
+}
+
+/// Reads lines until there is a whole batch of triples, or no line is left to be read.
+pub(crate) fn read_batch<H: Shelf>(
+    reader: &mut LineReader,
+    spare: &mut SpareTexts,
+    waiting: &mut Vec<Waiting>,
+    shelf: &mut H,
+) -> Result<Next, LoadError>
+    requires can { CanRead reader.old (H.is_open shelf.old) }
+    ensures reads { IfOk result (λ next. Reads reader.old waiting.old.items (stream reader.old (H.left shelf.old)) next reader.new waiting.new.items (stream reader.new (H.left shelf.new))) }
+    ensures can { IfOk result (λ next. OnLines next (CanRead reader.new (H.is_open shelf.new))) }
+    ensures nearer { IfOk result (λ next. OnLines next (IsNearer reader.old reader.new)) }
+    ensures none { IfErr result (Says (λ _. ⊥)) }
+    ensures found { result ≢ Err LoadError.Missing }
+    ensures files { H.files shelf.new ≡ H.files shelf.old }
+    ensures fault { IsErrOf result LoadError.Fault → Rose (H.faults shelf.old) (H.faults shelf.new) }
+    ensures no_fault { result ≢ Err LoadError.Fault → H.faults shelf.new ≡ H.faults shelf.old }
+{
+    'lines: loop {
+        match read_next(reader, spare, waiting, shelf) {
+            Ok(Next::Lines) if waiting.len() < BATCH => (),
+            result => return result,
+        }
+    }
+}
+
+// Loads a triple.
+fn load_next(
+    alloc: Global,
+    limits: &Limits,
+    loader: &mut Loader,
+    waiting: &Waiting,
+    hints: Option<Hints>,
+) -> Result<(), LoadError>
+    requires { IsSound loader.old }
+    ensures taken { OnOk result (IsTaken limits.now waiting.now.triple loader.old loader.new) }
+    ensures stopped { IfErr result (Says (Stops limits.now waiting.now loader.old)) }
+    ensures found { result ≢ Err LoadError.Missing }
+    ensures no_fault { result ≢ Err LoadError.Fault }
+{
+    match loader.add(alloc, limits, &waiting.triple, hints) {
+        Ok(()) => Ok(()),
+        Err(Stop::Limit) => Err(LoadError::Limit(waiting.line)),
+        Err(Stop::Memory) => Err(LoadError::Memory),
+    }
+}
+
+/// Loads a batch of triples, one after the other.
+pub(crate) fn load_batch(
+    alloc: Global,
+    limits: &Limits,
+    loader: &mut Loader,
+    lookahead: &mut Lookahead,
+    waiting: &[Waiting],
+) -> Result<(), LoadError>
+    requires { IsSound loader.old }
+    ensures loaded { OnOk result (AreLoaded limits.now waiting.now loader.old loader.new) }
+    ensures stopped { IfErr result (Says (OneStops limits.now waiting.now loader.old)) }
+    ensures found { result ≢ Err LoadError.Missing }
+    ensures no_fault { result ≢ Err LoadError.Fault }
+{
+    lookahead.look_up(loader, waiting)?;
+    for n in 0..waiting.len() {
+        load_next(alloc, limits, loader, &waiting[n], lookahead.hints(n))?;
+    }
+    Ok(())
+}
+
+/// Gives the texts of a batch back.
+pub(crate) fn give_back(spare: &mut SpareTexts, waiting: &mut Vec<Waiting>)
+    ensures { waiting.new.items ≡ [] }
+{
+    while let Some(w) = waiting.pop() {
+        spare.give_back(w.triple);
+    }
+}
