@@ -6,7 +6,8 @@ use Rattle.px_spec.specs.Graphs.{Graph, has_edge}
 use Rattle.px_spec.specs.Shapes.{Shape, shape_of}
 use Rattle.label_graph.specs.Views.{label_number}
 use Rattle.bisim_spec.specs.Bisimilarity.{Bis}
-use Rattle.bisim_spec.specs.Partitions.{block_at, Agrees}
+use Rattle.px_spec.specs.Members.{at}
+use Rattle.bisim_spec.specs.Partitions.{Agrees}
 use Rattle.bisim_spec.specs.Views.{ViewFits}
 use Rattle.bisim_levels.specs.Keys.{IsKey}
 use Rattle.bisim_levels.specs.Refining.{AreNumbered}
@@ -14,7 +15,7 @@ use Rattle.bisim_levels.specs.Sides.{view_shape, is_near, no_neighbours}
 use Rattle.bisim_levels.specs.declared.sides.Side.TheVariants.{Parents}
 use Rattle.quotient.specs.Quotients.{view_of}
 use Rattle.ak_family.specs.Families.{KeyedQuotient, no_level, level_at, blocks_at, AreLabelKeys, AreParentKeys}
-use Rattle.ak_family.specs.Layers.{AreLabelled, SameBlocks}
+use Rattle.ak_family.specs.Layers.{BlocksHaveLabels, SameBlocks}
 use Rattle.ak_family.proofs.Filled.{IsShown, agrees_moved}
 
 -- level i is the last one, and has the blocks of the list
@@ -25,7 +26,7 @@ pub record IsBuilt (g : Graph) (i : ℕ) (levels : List KeyedQuotient) (block : 
   pub label_keys : AreLabelKeys g levels
   pub parent_keys : (j : ℕ) → j < i → AreParentKeys g levels j
   pub top : SameBlocks (blocks_at levels i) block
-  pub labelled : AreLabelled g block labels
+  pub labelled : BlocksHaveLabels g block labels
 
 key_moved : (own own2 : ℕ → Option ℕ) (base base2 : List (Option ℕ)) (near : ℕ → ℕ → Bool) (n : ℕ) (key : List ℕ) → ((m : ℕ) → own2 m ≡ own m) → SameBlocks base2 base
     → IsKey own base near n key → IsKey own2 base2 near n key
@@ -48,7 +49,7 @@ numbered_moved own own2 base base2 near next next2 keys owns bases nexts w = rec
 }
 
 pub built_lowest : (g : Graph) (level : KeyedQuotient) (block : List (Option ℕ)) (labels : List ℕ) (keys : List (List ℕ)) (levels : List KeyedQuotient)
-    → Agrees (view_shape g) block (Bis (view_shape g) 0) → AreLabelled g block labels → AreNumbered (label_number g) [] no_neighbours block keys
+    → Agrees (view_shape g) block (Bis (view_shape g) 0) → BlocksHaveLabels g block labels → AreNumbered (label_number g) [] no_neighbours block keys
     → SameBlocks level.quotient.blocks.block_of block → ViewFits g (view_of level.quotient) → level.keys ≡ keys → levels ≡ level ∷ [] → IsBuilt g 0 levels block labels
 built_lowest g level block labels keys levels a is w same fits keys_same one =
     let first : (j : ℕ) → j ≤ 0 → j ≡ 0 = λ j h. omega (arith, h) in
@@ -76,7 +77,7 @@ built_top g i levels block labels w = agrees_moved (view_shape g) block (blocks_
 pub built_above : (g : Graph) (i : ℕ) (levels more : List KeyedQuotient) (level : KeyedQuotient) (block next : List (Option ℕ)) (labels found : List ℕ) (keys : List (List ℕ)) → IsShown g
     → IsBuilt g i levels block labels
     → ((j : ℕ) → Agrees (view_shape g) block (Bis (view_shape g) j) → Agrees (view_shape g) next (Bis (view_shape g) (suc j)))
-    → AreLabelled g next found → AreNumbered (block_at block) block (is_near Parents g) next keys
+    → BlocksHaveLabels g next found → AreNumbered (at block) block (is_near Parents g) next keys
     → SameBlocks level.quotient.blocks.block_of next → ViewFits g (view_of level.quotient) → level.keys ≡ keys → more ≡ levels ++ level ∷ [] → IsBuilt g (i + 1) more next found
 built_above g i levels more level block next labels found keys shown w up is numbered same fits keys_same added =
     let s = view_shape g in
@@ -87,11 +88,11 @@ built_above g i levels more level block next labels found keys shown w up is num
     λ j h. ap (λ ls. level_at ls j) added ∙ get_or_push levels level no_level j (omega (arith, h, count)) in
     let a_top : Agrees s next (Bis s (suc i)) = up i (built_top g i levels block labels w) in
     let a_next : Agrees s level.quotient.blocks.block_of (Bis s (suc i)) = agrees_moved s level.quotient.blocks.block_of next (Bis s (suc i)) same a_top in
-    let near : AreNumbered (block_at block) block (has_edge g) next level.keys =
-    subst (λ ks. AreNumbered (block_at block) block (has_edge g) next ks) (sym keys_same)
-    (subst (λ e. AreNumbered (block_at block) block e next keys) (ap (λ (x : Shape). x.edge) shown) numbered) in
-    let keyed : AreNumbered (block_at (blocks_at levels i)) (blocks_at levels i) (has_edge g) level.quotient.blocks.block_of level.keys =
-    numbered_moved (block_at block) (block_at (blocks_at levels i)) block (blocks_at levels i) (has_edge g) next level.quotient.blocks.block_of level.keys w.top w.top same near in
+    let near : AreNumbered (at block) block (has_edge g) next level.keys =
+    subst (λ ks. AreNumbered (at block) block (has_edge g) next ks) (sym keys_same)
+    (subst (λ e. AreNumbered (at block) block e next keys) (ap (λ (x : Shape). x.edge) shown) numbered) in
+    let keyed : AreNumbered (at (blocks_at levels i)) (blocks_at levels i) (has_edge g) level.quotient.blocks.block_of level.keys =
+    numbered_moved (at block) (at (blocks_at levels i)) block (blocks_at levels i) (has_edge g) next level.quotient.blocks.block_of level.keys w.top w.top same near in
     record {
       count = ap length added ∙ length-append levels (level ∷ []) ∙ ap (λ n. n + 1) count;
       fits = λ j h. elim (cases_lt i j) [
@@ -109,17 +110,17 @@ built_above g i levels more level block next labels found keys shown w up is num
           subst (λ (l : KeyedQuotient). AreNumbered (label_number g) [] no_neighbours l.quotient.blocks.block_of l.keys) (sym (below 0 (omega arith))) w.label_keys;
       parent_keys = λ j h. elim (cases_lt j i) [
         | inl before ↦
-            subst (λ (l : KeyedQuotient). AreNumbered (block_at l.quotient.blocks.block_of) l.quotient.blocks.block_of (has_edge g) (blocks_at more (j + 1)) (level_at more (j + 1)).keys)
+            subst (λ (l : KeyedQuotient). AreNumbered (at l.quotient.blocks.block_of) l.quotient.blocks.block_of (has_edge g) (blocks_at more (j + 1)) (level_at more (j + 1)).keys)
             (sym (below j (omega (arith, before))))
-            (subst (λ (l : KeyedQuotient). AreNumbered (block_at (blocks_at levels j)) (blocks_at levels j) (has_edge g) l.quotient.blocks.block_of l.keys)
+            (subst (λ (l : KeyedQuotient). AreNumbered (at (blocks_at levels j)) (blocks_at levels j) (has_edge g) l.quotient.blocks.block_of l.keys)
             (sym (below (j + 1) (omega (arith, before)))) (w.parent_keys j before))
         | inr past ↦
             (let here : i ≡ j = omega (arith, h, past) in
-            subst (λ (l : KeyedQuotient). AreNumbered (block_at l.quotient.blocks.block_of) l.quotient.blocks.block_of (has_edge g) (blocks_at more (j + 1)) (level_at more (j + 1)).keys)
+            subst (λ (l : KeyedQuotient). AreNumbered (at l.quotient.blocks.block_of) l.quotient.blocks.block_of (has_edge g) (blocks_at more (j + 1)) (level_at more (j + 1)).keys)
             (sym (below j (omega (arith, past, h))))
-            (subst (λ (l : KeyedQuotient). AreNumbered (block_at (blocks_at levels j)) (blocks_at levels j) (has_edge g) l.quotient.blocks.block_of l.keys)
+            (subst (λ (l : KeyedQuotient). AreNumbered (at (blocks_at levels j)) (blocks_at levels j) (has_edge g) l.quotient.blocks.block_of l.keys)
             (sym (last (j + 1) (omega (arith, here))))
-            (subst (λ n. AreNumbered (block_at (blocks_at levels n)) (blocks_at levels n) (has_edge g) level.quotient.blocks.block_of level.keys) here keyed)))
+            (subst (λ n. AreNumbered (at (blocks_at levels n)) (blocks_at levels n) (has_edge g) level.quotient.blocks.block_of level.keys) here keyed)))
       ];
       top = subst (λ (l : KeyedQuotient). SameBlocks l.quotient.blocks.block_of next) (sym (last (i + 1) refl)) same;
       labelled = is;

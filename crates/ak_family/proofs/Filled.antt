@@ -7,13 +7,14 @@ use Rattle.std.proofs.lemmas.Option.{slice_get_within, slice_get_past, slice_get
 use Rattle.px_spec.specs.Graphs.{Graph}
 use Rattle.px_spec.specs.Shapes.{Shape, shape_of}
 use Rattle.label_graph.specs.Views.{label_number}
-use Rattle.block_partition.specs.Partitions.{Partition, at}
-use Rattle.bisim_spec.specs.Partitions.{block_at, IsPartition, Agrees}
+use Rattle.px_spec.specs.Members.{at}
+use Rattle.block_partition.specs.Partitions.{Partition}
+use Rattle.bisim_spec.specs.Partitions.{IsPartition, Agrees}
 use Rattle.bisim_spec.specs.Views.{ViewFits}
 use Rattle.bisim_spec.proofs.Bisimilar.{some_of, is_some_at}
 use Rattle.bisim_levels.specs.Sides.{view_shape}
 use Rattle.quotient.specs.Quotients.{AreCounted, Quotient, view_of}
-use Rattle.ak_family.specs.Layers.{AreLabelled, HaveLabels, SameBlocks}
+use Rattle.ak_family.specs.Layers.{BlocksHaveLabels, HaveLabels, SameBlocks}
 use Rattle.ak_family.proofs.Labelled.{number_of_node}
 
 pub partition_moved : (s : Shape) (xs ys : List (Option ℕ)) → SameBlocks xs ys → IsPartition s ys → IsPartition s xs
@@ -43,8 +44,8 @@ blocks_counted p labels n have count b = ap is_some (have b) ∙ is_some_get lab
 abbrev pub IsShown : Graph → Type 0
 IsShown g = view_shape g ≡ shape_of g
 
-pub filled_fits : (g : Graph) (block : List (Option ℕ)) (labels : List ℕ) (q : Quotient) → IsShown g → IsPartition (view_shape g) block → AreLabelled g block labels
-    → ((b : ℕ) → b < length labels → (n : ℕ) × (block_at block n ≡ Some b)) → SameBlocks q.blocks.block_of block → HaveLabels q.blocks labels
+pub filled_fits : (g : Graph) (block : List (Option ℕ)) (labels : List ℕ) (q : Quotient) → IsShown g → IsPartition (view_shape g) block → BlocksHaveLabels g block labels
+    → ((b : ℕ) → b < length labels → (n : ℕ) × (at block n ≡ Some b)) → SameBlocks q.blocks.block_of block → HaveLabels q.blocks labels
     → AreCounted g.edges q.blocks.block_of q.supports → ViewFits g (view_of q)
 filled_fits g block labels q shown p is inhabited same have counted = record {
   inhabited = λ b h.
@@ -52,8 +53,8 @@ filled_fits g block labels q shown p is inhabited same have counted = record {
       let n = inhabited b (slice_get_within labels b l.0 l.1) in
       (n.0, same n.0 ∙ n.1);
   labelled = λ n b e.
-      let here : block_at block n ≡ Some b = sym (same n) ∙ e in
-      let node = p.only n (is_some_at (block_at block n) b here) in
+      let here : at block n ≡ Some b = sym (same n) ∙ e in
+      let node = p.only n (is_some_at (at block n) b here) in
       let l = some_of (label_number g n) (number_of_node g n node) in
       let t = some_of ((view_shape g).label n) node in
       (l.0, t.0, have b ∙ is n b here ∙ l.1, sym (ap (option_and_then (λ x. slice_get g.seen x)) l.1) ∙ t.1, sym (ap (λ (s : Shape). s.label n) shown) ∙ t.1);

@@ -6,12 +6,13 @@ use Rattle.std.proofs.lemmas.Option.{slice_get_within}
 use Rattle.px_spec.specs.Graphs.{Graph}
 use Rattle.px_spec.specs.Shapes.{IsNode}
 use Rattle.label_graph.specs.Views.{label_number}
-use Rattle.bisim_spec.specs.Partitions.{block_at, IsPartition}
+use Rattle.px_spec.specs.Members.{at}
+use Rattle.bisim_spec.specs.Partitions.{IsPartition}
 use Rattle.bisim_spec.proofs.Bisimilar.{some_of, none_or_some, is_some_at}
 use Rattle.bisim_levels.specs.Sides.{view_shape, no_neighbours}
 use Rattle.bisim_levels.specs.Keys.{IsKey}
 use Rattle.bisim_levels.specs.Refining.{AreNumbered}
-use Rattle.ak_family.specs.Layers.{EndsIn, AreLabelled}
+use Rattle.ak_family.specs.Layers.{EndsIn, BlocksHaveLabels}
 
 get_before : (xs : List ℕ) (x j n : ℕ) → slice_get xs j ≡ Some n → slice_get (xs ++ x ∷ []) j ≡ Some n
 get_before [] x j n e = absurd (cc)
@@ -40,7 +41,7 @@ pub record MemberKey (own : ℕ → Option ℕ) (base : List (Option ℕ)) (near
   pub is : IsKey own base near m key
 
 pub member_key : (own : ℕ → Option ℕ) (base : List (Option ℕ)) (near : ℕ → ℕ → Bool) (next : List (Option ℕ)) (keys : List (List ℕ)) → AreNumbered own base near next keys
-    → (m b : ℕ) → block_at next m ≡ Some b → MemberKey own base near keys m b
+    → (m b : ℕ) → at next m ≡ Some b → MemberKey own base near keys m b
 member_key own base near next keys w m b e = elim (none_or_some (own m)) [
   | inl none ↦ absurd (let z = w.none m none in cc)
   | inr (c, some) ↦
@@ -66,36 +67,36 @@ abbrev pub AreLast : List (List ℕ) → List ℕ → Type 0
 AreLast keys own = (b n : ℕ) (key : List ℕ) → slice_get keys b ≡ Some key → EndsIn key n → slice_get own b ≡ Some n
 
 -- a block that a node has, has a label
-pub labelled_below : (g : Graph) (block : List (Option ℕ)) (labels : List ℕ) → IsPartition (view_shape g) block → AreLabelled g block labels
-    → (n b : ℕ) → block_at block n ≡ Some b → b < length labels
+pub labelled_below : (g : Graph) (block : List (Option ℕ)) (labels : List ℕ) → IsPartition (view_shape g) block → BlocksHaveLabels g block labels
+    → (n b : ℕ) → at block n ≡ Some b → b < length labels
 labelled_below g block labels p is n b e =
-    let l = some_of (label_number g n) (number_of_node g n (p.only n (is_some_at (block_at block n) b e))) in
+    let l = some_of (label_number g n) (number_of_node g n (p.only n (is_some_at (at block n) b e))) in
     slice_get_within labels b l.0 (is n b e ∙ l.1)
 
 -- the last number of a key of the lowest level is its members' label
 pub labelled_lowest : (g : Graph) (next : List (Option ℕ)) (keys : List (List ℕ)) (labels : List ℕ) → AreNumbered (label_number g) [] no_neighbours next keys → AreLast keys labels
-    → AreLabelled g next labels
+    → BlocksHaveLabels g next labels
 labelled_lowest g next keys labels w last m b e =
     let k = member_key (label_number g) [] no_neighbours next keys w m b e in
     last b k.is.number k.key k.at (key_end (label_number g) [] no_neighbours m k.key k.is) ∙ sym k.is.own_is
 
 -- above it, it is a block of the level below, in which the members are
 pub labelled_above : (g : Graph) (block : List (Option ℕ)) (labels : List ℕ) (near : ℕ → ℕ → Bool) (next : List (Option ℕ)) (keys : List (List ℕ)) (own found : List ℕ)
-    → AreLabelled g block labels → AreNumbered (block_at block) block near next keys → AreLast keys own
-    → ((b n : ℕ) → slice_get own b ≡ Some n → slice_get found b ≡ slice_get labels n) → AreLabelled g next found
+    → BlocksHaveLabels g block labels → AreNumbered (at block) block near next keys → AreLast keys own
+    → ((b n : ℕ) → slice_get own b ≡ Some n → slice_get found b ≡ slice_get labels n) → BlocksHaveLabels g next found
 labelled_above g block labels near next keys own found is w last looked m b e =
-    let k = member_key (block_at block) block near next keys w m b e in
-    looked b k.is.number (last b k.is.number k.key k.at (key_end (block_at block) block near m k.key k.is)) ∙ is m k.is.number k.is.own_is
+    let k = member_key (at block) block near next keys w m b e in
+    looked b k.is.number (last b k.is.number k.key k.at (key_end (at block) block near m k.key k.is)) ∙ is m k.is.number k.is.own_is
 
 -- and that block has a label
 pub own_below : (g : Graph) (block : List (Option ℕ)) (labels : List ℕ) (near : ℕ → ℕ → Bool) (next : List (Option ℕ)) (keys : List (List ℕ)) (own : List ℕ)
-    → IsPartition (view_shape g) block → AreLabelled g block labels → AreNumbered (block_at block) block near next keys → AreLast keys own → length own ≡ length keys
+    → IsPartition (view_shape g) block → BlocksHaveLabels g block labels → AreNumbered (at block) block near next keys → AreLast keys own → length own ≡ length keys
     → (b n : ℕ) → slice_get own b ≡ Some n → n < length labels
 own_below g block labels near next keys own p is w last count b n e =
     let within = slice_get_within own b n e in
     let m = w.inhabited b (omega (arith, within, count)) in
-    let k = member_key (block_at block) block near next keys w m.0 b m.1 in
-    let there = last b k.is.number k.key k.at (key_end (block_at block) block near m.0 k.key k.is) in
+    let k = member_key (at block) block near next keys w m.0 b m.1 in
+    let there = last b k.is.number k.key k.at (key_end (at block) block near m.0 k.key k.is) in
     let same : k.is.number ≡ n = cc in
     subst (λ x. x < length labels) same (labelled_below g block labels p is m.0 k.is.number k.is.own_is)
 

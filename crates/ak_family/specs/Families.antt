@@ -7,7 +7,7 @@ use Rattle.std.specs.FinMap as table
 use Rattle.px_spec.specs.Graphs.{Graph, has_edge, edge_cmp}
 use Rattle.label_graph.specs.Views.{label_number}
 use Rattle.block_partition.specs.Partitions.{no_blocks}
-use Rattle.bisim_spec.specs.Partitions.{block_at}
+use Rattle.px_spec.specs.Members.{at}
 use Rattle.bisim_levels.specs.Sides.{no_neighbours}
 use Rattle.bisim_levels.specs.Refining.{AreNumbered}
 use Rattle.quotient.specs.Quotients.{Quotient, quotient_code}
@@ -49,4 +49,4 @@ AreLabelKeys g levels = AreNumbered (label_number g) [] no_neighbours (blocks_at
 -- rising, each once, and then the node's own block at level i.
 abbrev pub AreParentKeys : Graph → List KeyedQuotient → ℕ → Type 0
 AreParentKeys g levels i =
-    AreNumbered (block_at (blocks_at levels i)) (blocks_at levels i) (has_edge g) (blocks_at levels (i + 1)) (level_at levels (i + 1)).keys
+    AreNumbered (at (blocks_at levels i)) (blocks_at levels i) (has_edge g) (blocks_at levels (i + 1)) (level_at levels (i + 1)).keys

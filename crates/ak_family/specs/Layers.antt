@@ -2,8 +2,8 @@
 use Rattle.std.specs.Prelude.{ℕ, ◌≡◌, ◌++◌, ◌∷◌, List, [], length, Option, None, Some, is_some, nat_lt, slice_get, if◌then◌else◌}
 use Rattle.px_spec.specs.Graphs.{Graph}
 use Rattle.label_graph.specs.Views.{label_number}
-use Rattle.block_partition.specs.Partitions.{Partition, at}
-use Rattle.bisim_spec.specs.Partitions.{block_at}
+use Rattle.px_spec.specs.Members.{at}
+use Rattle.block_partition.specs.Partitions.{Partition}
 
 -- the last number of the key
 pub record EndsIn (key : List ℕ) (number : ℕ) : Type 0 where
@@ -11,8 +11,8 @@ pub record EndsIn (key : List ℕ) (number : ℕ) : Type 0 where
   pub is : key ≡ around ++ number ∷ []
 
 -- each block has a label, which is that of its members
-abbrev pub AreLabelled : Graph → List (Option ℕ) → List ℕ → Type 0
-AreLabelled g block labels = (n b : ℕ) → block_at block n ≡ Some b → slice_get labels b ≡ label_number g n
+abbrev pub BlocksHaveLabels : Graph → List (Option ℕ) → List ℕ → Type 0
+BlocksHaveLabels g block labels = (n b : ℕ) → at block n ≡ Some b → slice_get labels b ≡ label_number g n
 
 -- the blocks of a partition have these labels
 abbrev pub HaveLabels : Partition → List ℕ → Type 0
@@ -20,11 +20,11 @@ HaveLabels p labels = (b : ℕ) → at p.labels b ≡ slice_get labels b
 
 -- each node's block is that which the list gives
 abbrev pub SameBlocks : List (Option ℕ) → List (Option ℕ) → Type 0
-SameBlocks xs ys = (n : ℕ) → at xs n ≡ block_at ys n
+SameBlocks xs ys = (n : ℕ) → at xs n ≡ at ys n
 
 -- the same for the nodes below a number, and the others have none
 abbrev pub SameBelow : ℕ → List (Option ℕ) → List (Option ℕ) → Type 0
-SameBelow n xs ys = (m : ℕ) → at xs m ≡ (if nat_lt m n then block_at ys m else None)
+SameBelow n xs ys = (m : ℕ) → at xs m ≡ (if nat_lt m n then at ys m else None)
 
 -- exactly the blocks have keys
 abbrev pub AreKeyed : List (Option ℕ) → List (List ℕ) → Type 0

@@ -2,7 +2,8 @@
 ghost use Rattle.std.specs.Prelude.{◌≡◌, ◌+◌, ◌<◌, ◌≤◌, ◌↔◌, ℕ, Some, IfOk, IfSome, IsSome, IsTrue, length, slice_get};
 ghost use Rattle.px_spec.specs.Shapes.{shape_of};
 ghost use Rattle.bisim_spec.specs.Bisimilarity.{Bis};
-ghost use Rattle.bisim_spec.specs.Partitions.{block_at, Agrees, Together};
+ghost use Rattle.px_spec.specs.Members.{at};
+ghost use Rattle.bisim_spec.specs.Partitions.{Agrees, Together};
 ghost use Rattle.bisim_spec.specs.Views.{ViewFits};
 ghost use Rattle.block_partition.specs.Partitions.{IsBlock};
 ghost use Rattle.quotient.specs.Quotients.{view_of};
@@ -86,8 +87,8 @@ impl AkFamily {
     /// Whether two nodes are in one block of the A(i)-index. It takes no memory, and constant time.
     pub fn same(&self, i: u32, u: NodeId, v: NodeId) -> bool
         requires level { i < length self.now }
-        requires first { IsSome (block_at (blocks_at self.now i) u) }
-        requires second { IsSome (block_at (blocks_at self.now i) v) }
+        requires first { IsSome (at (blocks_at self.now i) u) }
+        requires second { IsSome (at (blocks_at self.now i) v) }
         ensures { IsTrue result ↔ Together (blocks_at self.now i) u v }
     {
         let level = self.level(i);

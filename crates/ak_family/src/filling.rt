@@ -1,7 +1,7 @@
 // The tables of a partition, filled from lists.
 ghost use Rattle.std.specs.Prelude.{◌≡◌, ◌+◌, ◌<◌, ◌≤◌, ◌^◌, ℕ, [], None, Some, IfOk, IfSome, length, nat_eq, nat_lt, is_some, if◌then◌else◌};
-ghost use Rattle.block_partition.specs.Partitions.{at, IsBlock};
-ghost use Rattle.bisim_spec.specs.Partitions.{block_at};
+ghost use Rattle.px_spec.specs.Members.{at};
+ghost use Rattle.block_partition.specs.Partitions.{IsBlock};
 ghost use Rattle.ak_family.specs.Layers.{HaveLabels, SameBlocks, SameBelow};
 
 use block_partition::Blocks;
@@ -36,7 +36,7 @@ fn add_blocks(blocks: &mut Blocks, labels: &[u32])
 // The block of a node, and none past the end of the list.
 #[inline(always)]
 fn block_of(block: &[Option<u32>], n: NodeId) -> Option<u32>
-    ensures { result ≡ block_at block.now n }
+    ensures { result ≡ at block.now n }
 {
     let b = block.get(n as usize)?;
     *b
@@ -58,7 +58,7 @@ fn append(blocks: &mut Blocks, block: Option<u32>)
 // Puts the nodes below a number into the blocks that the list gives. The partition's own list of blocks
 // is empty before.
 fn append_nodes(blocks: &mut Blocks, size: u32, block: &[Option<u32>])
-    requires blocks { (n b : ℕ) → block_at block.now n ≡ Some b → IsBlock blocks.old b }
+    requires blocks { (n b : ℕ) → at block.now n ≡ Some b → IsBlock blocks.old b }
     requires none { blocks.old.block_of ≡ [] }
     requires room { size ≤ blocks.old.room.nodes }
     ensures blocks { SameBelow size blocks.new.block_of block.now }
@@ -79,8 +79,8 @@ pub(crate) fn fill(
 ) -> Result<Blocks, Memory>
     requires few_nodes { size ≤ 2 ^ 31 }
     requires few_blocks { length labels.now ≤ 2 ^ 31 }
-    requires nodes { (n b : ℕ) → block_at block.now n ≡ Some b → n < size }
-    requires blocks { (n b : ℕ) → block_at block.now n ≡ Some b → b < length labels.now }
+    requires nodes { (n b : ℕ) → at block.now n ≡ Some b → n < size }
+    requires blocks { (n b : ℕ) → at block.now n ≡ Some b → b < length labels.now }
     ensures blocks { IfOk result (λ p. SameBlocks p.block_of block.now) }
     ensures labels { IfOk result (λ p. HaveLabels p labels.now) }
 {

@@ -1,13 +1,14 @@
 // The quotient by a level of bisimilarity, with the keys of its blocks.
 ghost use Rattle.std.specs.Prelude.{◌≡◌, ◌<◌, ◌↔◌, ℕ, Some, IfOk, IfSome, length};
-ghost use Rattle.bisim_spec.specs.Partitions.{block_at, IsPartition};
+ghost use Rattle.px_spec.specs.Members.{at};
+ghost use Rattle.bisim_spec.specs.Partitions.{IsPartition};
 ghost use Rattle.bisim_spec.specs.Views.{ViewFits};
 ghost use Rattle.bisim_levels.specs.Sides.{view_shape};
 ghost use Rattle.block_partition.specs.Partitions.{IsBlock};
 ghost use Rattle.quotient.specs.Quotients.{view_of};
 ghost use Rattle.quotient.specs.Joined.{AreListed};
 ghost use Rattle.ak_family.specs.Families.{HasKey};
-ghost use Rattle.ak_family.specs.Layers.{AreLabelled, SameBlocks};
+ghost use Rattle.ak_family.specs.Layers.{BlocksHaveLabels, SameBlocks};
 
 use crate::filling::fill;
 use crate::layers::Layer;
@@ -50,8 +51,8 @@ impl KeyedSummary {
     ) -> Result<KeyedSummary, Memory>
         requires listed { AreListed view.now.edges (length view.now.given) edges.now }
         requires partition { IsPartition (view_shape view.now) layer.now.block.items }
-        requires labelled { AreLabelled view.now layer.now.block.items layer.now.labels.items }
-        requires inhabited { (b : ℕ) → b < length keys → (n : ℕ) × (block_at layer.now.block.items n ≡ Some b) }
+        requires labelled { BlocksHaveLabels view.now layer.now.block.items layer.now.labels.items }
+        requires inhabited { (b : ℕ) → b < length keys → (n : ℕ) × (at layer.now.block.items n ≡ Some b) }
         requires count { length layer.now.labels.items ≡ length keys }
         ensures blocks { IfOk result (λ s. SameBlocks s.quotient.blocks.block_of layer.now.block.items) }
         ensures fits { IfOk result (λ s. ViewFits view.now (view_of s.quotient)) }

@@ -3,11 +3,12 @@ ghost use Rattle.std.specs.Prelude.{◌≡◌, [], ℕ, suc, IfOk, length};
 ghost use Rattle.px_spec.specs.Shapes.{shape_of};
 ghost use Rattle.label_graph.specs.Views.{label_number};
 ghost use Rattle.bisim_spec.specs.Bisimilarity.{Bis};
-ghost use Rattle.bisim_spec.specs.Partitions.{block_at, Agrees, IsPartition};
+ghost use Rattle.px_spec.specs.Members.{at};
+ghost use Rattle.bisim_spec.specs.Partitions.{Agrees, IsPartition};
 ghost use Rattle.bisim_levels.specs.declared.sides.Side.TheVariants.{Parents};
 ghost use Rattle.bisim_levels.specs.Sides.{view_shape, is_near, no_neighbours};
 ghost use Rattle.bisim_levels.specs.Refining.{AreNumbered};
-ghost use Rattle.ak_family.specs.Layers.{AreLabelled};
+ghost use Rattle.ak_family.specs.Layers.{BlocksHaveLabels};
 
 use crate::labels::{look_up, own_numbers};
 use bisim_levels::{label_level, next_level};
@@ -28,7 +29,7 @@ pub(crate) struct Layer {
 /// Level 0, and the keys of its blocks.
 pub(crate) fn lowest(alloc: Global, view: &GraphView<'_>) -> Result<(Layer, KeyTable), Memory>
     ensures agrees { IfOk result (λ l. Agrees (view_shape view.now) l.0.block.items (Bis (view_shape view.now) 0)) }
-    ensures labelled { IfOk result (λ l. AreLabelled view.now l.0.block.items l.0.labels.items) }
+    ensures labelled { IfOk result (λ l. BlocksHaveLabels view.now l.0.block.items l.0.labels.items) }
     ensures numbered { IfOk result (λ l. AreNumbered (label_number view.now) [] no_neighbours l.0.block.items l.1) }
     ensures count { IfOk result (λ l. length l.0.labels.items ≡ length l.1) }
 {
@@ -48,10 +49,10 @@ pub(crate) fn above(
     layer: &Layer,
 ) -> Result<(Layer, KeyTable), Memory>
     requires partition { IsPartition (view_shape view.now) layer.now.block.items }
-    requires labelled { AreLabelled view.now layer.now.block.items layer.now.labels.items }
+    requires labelled { BlocksHaveLabels view.now layer.now.block.items layer.now.labels.items }
     ensures agrees { IfOk result (λ l. (i : ℕ) → Agrees (view_shape view.now) layer.now.block.items (Bis (view_shape view.now) i) → Agrees (view_shape view.now) l.0.block.items (Bis (view_shape view.now) (suc i))) }
-    ensures labelled { IfOk result (λ l. AreLabelled view.now l.0.block.items l.0.labels.items) }
-    ensures numbered { IfOk result (λ l. AreNumbered (block_at layer.now.block.items) layer.now.block.items (is_near Parents view.now) l.0.block.items l.1) }
+    ensures labelled { IfOk result (λ l. BlocksHaveLabels view.now l.0.block.items l.0.labels.items) }
+    ensures numbered { IfOk result (λ l. AreNumbered (at layer.now.block.items) layer.now.block.items (is_near Parents view.now) l.0.block.items l.1) }
     ensures count { IfOk result (λ l. length l.0.labels.items ≡ length l.1) }
 {
     let level = next_level(alloc, view, &layer.block)?;

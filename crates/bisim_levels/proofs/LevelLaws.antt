@@ -6,7 +6,8 @@ use Rattle.px_spec.specs.Graphs.{Graph, label_of}
 use Rattle.px_spec.specs.Shapes.{Shape}
 use Rattle.label_graph.specs.Views.{label_number}
 use Rattle.bisim_spec.specs.Bisimilarity.{SameLabel, Bis, Both}
-use Rattle.bisim_spec.specs.Partitions.{block_at, IsPartition, Agrees}
+use Rattle.px_spec.specs.Members.{at}
+use Rattle.bisim_spec.specs.Partitions.{IsPartition, Agrees}
 use Rattle.bisim_spec.proofs.Keys.{bis_from_key, key_from_bis, both_from_key, key_from_both}
 use Rattle.bisim_levels.specs.declared.sides.Side.TheVariants.{Parents, Children}
 use Rattle.bisim_levels.specs.Sides.{view_shape, is_near, no_neighbours}
@@ -14,13 +15,13 @@ use Rattle.bisim_levels.specs.Refining.{Share, Refines}
 use Rattle.bisim_levels.proofs.Views.{seen_at, label_at, node_number, number_node, view_is_shape}
 
 -- a partition that is refined is one still
-pub refined_partition : (s : Shape) (own base next : List (Option ℕ)) (near : ℕ → ℕ → Bool) → IsPartition s own → Refines (block_at own) base near next → IsPartition s next
+pub refined_partition : (s : Shape) (own base next : List (Option ℕ)) (near : ℕ → ℕ → Bool) → IsPartition s own → Refines (at own) base near next → IsPartition s next
 refined_partition s own base next near p r = record {
   live = λ n h. r.kept n (p.live n h);
   only = λ n h. p.only n (r.only n h);
 }
 
-pub bis_up : (g : Graph) (block next : List (Option ℕ)) → Refines (block_at block) block (is_near Parents g) next
+pub bis_up : (g : Graph) (block next : List (Option ℕ)) → Refines (at block) block (is_near Parents g) next
     → (i : ℕ) → Agrees (view_shape g) block (Bis (view_shape g) i) → Agrees (view_shape g) next (Bis (view_shape g) (suc i))
 bis_up g block next r i a = record {
   partition = refined_partition (view_shape g) block block next (is_near Parents g) a.partition r;
@@ -32,7 +33,7 @@ bis_up g block next r i a = record {
       r.grouped u v (record { one_number = k.own; neighbours = k.parents });
 }
 
-pub both_up : (g : Graph) (block mid next : List (Option ℕ)) → Refines (block_at block) block (is_near Parents g) mid → Refines (block_at mid) block (is_near Children g) next
+pub both_up : (g : Graph) (block mid next : List (Option ℕ)) → Refines (at block) block (is_near Parents g) mid → Refines (at mid) block (is_near Children g) next
     → (i : ℕ) → Agrees (view_shape g) block (Both (view_shape g) i) → Agrees (view_shape g) next (Both (view_shape g) (suc i))
 both_up g block mid next r q i a = record {
   partition =

@@ -3,7 +3,7 @@ use Rattle.std.proofs.Common.{◌≡◌, ℕ, zero, suc, ◌+◌, ◌<◌, List,
 use Rattle.std.proofs.lemmas.Bool.{cases_lt}
 use Rattle.std.proofs.lemmas.List.{get_or_push, get_or_append_left, get_or_past, length-append}
 use Rattle.key_table.specs.Interning.{AreDistinct, Interns}
-use Rattle.bisim_spec.specs.Partitions.{block_at}
+use Rattle.px_spec.specs.Members.{at}
 use Rattle.bisim_spec.proofs.Bisimilar.{some_of, none_or_some, is_some_at}
 use Rattle.bisim_spec.proofs.Together.{block_below}
 use Rattle.bisim_levels.specs.Keys.{IsKey}
@@ -13,10 +13,10 @@ use Rattle.bisim_levels.proofs.Written.{together_from_key, key_from_together}
 -- the nodes below n are numbered
 pub record NumberedBelow (own : ℕ → Option ℕ) (base : List (Option ℕ)) (near : ℕ → ℕ → Bool) (n : ℕ) (keys : List (List ℕ)) (next : List (Option ℕ)) : Type 0 where
   pub length_is : length next ≡ n
-  pub none : (m : ℕ) → m < n → own m ≡ None → block_at next m ≡ None
+  pub none : (m : ℕ) → m < n → own m ≡ None → at next m ≡ None
   pub some : (m b : ℕ) → m < n → own m ≡ Some b
-      → (k : ℕ) × (key : List ℕ) × (block_at next m ≡ Some k) × (slice_get keys k ≡ Some key) × IsKey own base near m key
-  pub inhabited : (k : ℕ) → k < length keys → (m : ℕ) × (block_at next m ≡ Some k)
+      → (k : ℕ) × (key : List ℕ) × (at next m ≡ Some k) × (slice_get keys k ≡ Some key) × IsKey own base near m key
+  pub inhabited : (k : ℕ) → k < length keys → (m : ℕ) × (at next m ≡ Some k)
 
 pub get_append : (xs ys : List (List ℕ)) (k : ℕ) (x : List ℕ) → slice_get xs k ≡ Some x → slice_get (xs ++ ys) k ≡ Some x
 get_append [] ys k x e = absurd (cc)
@@ -64,18 +64,18 @@ numbered_start own base near = record {
   inhabited = λ k h. absurd (omega (arith, h));
 }
 
-at_before : (next : List (Option ℕ)) (o : Option ℕ) (m : ℕ) → m < length next → block_at (next ++ o ∷ []) m ≡ block_at next m
+at_before : (next : List (Option ℕ)) (o : Option ℕ) (m : ℕ) → m < length next → at (next ++ o ∷ []) m ≡ at next m
 at_before next o m h = get_or_append_left next (o ∷ []) None m h
 
-at_last : (next : List (Option ℕ)) (o : Option ℕ) (n : ℕ) → length next ≡ n → block_at (next ++ o ∷ []) n ≡ o
+at_last : (next : List (Option ℕ)) (o : Option ℕ) (n : ℕ) → length next ≡ n → at (next ++ o ∷ []) n ≡ o
 at_last next o n h = get_or_push next o None n h
 
 pub numbered_more : (own : ℕ → Option ℕ) (base : List (Option ℕ)) (near : ℕ → ℕ → Bool) (n : ℕ) (keys keys2 : List (List ℕ)) (next : List (Option ℕ)) (o : Option ℕ)
     → NumberedBelow own base near n keys next → Numbers own base near n keys keys2 o → NumberedBelow own base near (n + 1) keys2 (next ++ o ∷ [])
 numbered_more own base near n keys keys2 next o w s =
     let long = w.length_is in
-    let below : (m : ℕ) → m < n → block_at (next ++ o ∷ []) m ≡ block_at next m = λ m h. at_before next o m (omega (arith, long, h)) in
-    let last : (m : ℕ) → m ≡ n → block_at (next ++ o ∷ []) m ≡ o = λ m e. ap (block_at (next ++ o ∷ [])) e ∙ at_last next o n long in
+    let below : (m : ℕ) → m < n → at (next ++ o ∷ []) m ≡ at next m = λ m h. at_before next o m (omega (arith, long, h)) in
+    let last : (m : ℕ) → m ≡ n → at (next ++ o ∷ []) m ≡ o = λ m e. ap (at (next ++ o ∷ [])) e ∙ at_last next o n long in
     record {
       length_is = length-append next (o ∷ []) ∙ ap (λ k. k + 1) long;
       none = λ m h e. elim (cases_lt m n) [
@@ -90,7 +90,7 @@ numbered_more own base near n keys keys2 next o w s =
             (f.0, f.1, last m here ∙ f.2, f.3, subst (λ k. IsKey own base near k f.1) (sym here) f.4))
       ];
       inhabited = λ k h. elim (cases_lt k (length keys)) [
-        | inl before ↦ (let f = w.inhabited k before in (f.0, below f.0 (let l = block_below next f.0 (is_some_at (block_at next f.0) k f.1) in omega (arith, l, long)) ∙ f.1))
+        | inl before ↦ (let f = w.inhabited k before in (f.0, below f.0 (let l = block_below next f.0 (is_some_at (at next f.0) k f.1) in omega (arith, l, long)) ∙ f.1))
         | inr past ↦ (n, last n refl ∙ s.fresh k past h)
       ];
     }
@@ -115,7 +115,7 @@ record KeyAt (own : ℕ → Option ℕ) (base : List (Option ℕ)) (near : ℕ �
   is : IsKey own base near m key
 
 key_at : (own : ℕ → Option ℕ) (base : List (Option ℕ)) (near : ℕ → ℕ → Bool) (keys : List (List ℕ)) (next : List (Option ℕ)) → AreNumbered own base near next keys
-    → (m k : ℕ) → block_at next m ≡ Some k → KeyAt own base near keys m k
+    → (m k : ℕ) → at next m ≡ Some k → KeyAt own base near keys m k
 key_at own base near keys next w m k e = elim (none_or_some (own m)) [
   | inl none ↦ absurd (let z = w.none m none in cc)
   | inr (b, some) ↦
@@ -131,10 +131,10 @@ key_at own base near keys next w m k e = elim (none_or_some (own m)) [
 
 -- numbers by distinct keys refine the partition
 pub numbered_refines : (own : ℕ → Option ℕ) (base : List (Option ℕ)) (near : ℕ → ℕ → Bool) (keys : List (List ℕ)) (next : List (Option ℕ))
-    → ((p n : ℕ) → IsTrue (near p n) → (b : ℕ) × (block_at base p ≡ Some b)) → AreDistinct keys → AreNumbered own base near next keys → Refines own base near next
+    → ((p n : ℕ) → IsTrue (near p n) → (b : ℕ) × (at base p ≡ Some b)) → AreDistinct keys → AreNumbered own base near next keys → Refines own base near next
 numbered_refines own base near keys next blocks distinct w = record {
-  kept = λ m h. let b = some_of (own m) h in let f = w.some m b.0 b.1 in is_some_at (block_at next m) f.0 f.2;
-  only = λ m h. let k = some_of (block_at next m) h in (key_at own base near keys next w m k.0 k.1).own_some;
+  kept = λ m h. let b = some_of (own m) h in let f = w.some m b.0 b.1 in is_some_at (at next m) f.0 f.2;
+  only = λ m h. let k = some_of (at next m) h in (key_at own base near keys next w m k.0 k.1).own_some;
   parted = λ u v t.
       let a = key_at own base near keys next w u t.0 t.1 in
       let b = key_at own base near keys next w v t.0 t.2 in

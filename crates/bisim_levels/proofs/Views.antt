@@ -9,7 +9,8 @@ use Rattle.px_spec.specs.Graphs.{Graph, label_of}
 use Rattle.px_spec.specs.Shapes.{IsNode, IsShape}
 use Rattle.label_graph.specs.Views.{label_number}
 use Rattle.label_graph.specs.ViewLaws.{below_span, ends_seen}
-use Rattle.bisim_spec.specs.Partitions.{block_at, IsPartition}
+use Rattle.px_spec.specs.Members.{at}
+use Rattle.bisim_spec.specs.Partitions.{IsPartition}
 use Rattle.bisim_spec.proofs.Bisimilar.{some_of, none_or_some, is_some_at}
 use Rattle.bisim_levels.specs.declared.sides.Side.{Side}
 use Rattle.bisim_levels.specs.declared.sides.Side.TheVariants.{Parents, Children}
@@ -61,6 +62,6 @@ view_is_shape g = record {
 
 -- neighbours are nodes, and so have blocks in a partition
 pub near_block : (g : Graph) (side : Side) (block : List (Option ℕ)) → IsPartition (view_shape g) block → (p n : ℕ) → IsTrue (is_near side g p n)
-    → (b : ℕ) × (block_at block p ≡ Some b)
-near_block g Parents block partition p n e = some_of (block_at block p) (partition.live p ((view_is_shape g).from p n e))
-near_block g Children block partition p n e = some_of (block_at block p) (partition.live p ((view_is_shape g).onto n p e))
+    → (b : ℕ) × (at block p ≡ Some b)
+near_block g Parents block partition p n e = some_of (at block p) (partition.live p ((view_is_shape g).from p n e))
+near_block g Children block partition p n e = some_of (at block p) (partition.live p ((view_is_shape g).onto n p e))

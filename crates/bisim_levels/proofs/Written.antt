@@ -3,8 +3,8 @@ use Rattle.std.proofs.Common.{◌≡◌, ℕ, ◌+◌, ◌<◌, List, [], ◌∷
 use Rattle.std.specs.List.{cons_option}
 use Rattle.std.proofs.lemmas.List.{take_more, length-append}
 use Rattle.std.proofs.lemmas.List.Elements.{filter_map-append}
-use Rattle.px_spec.specs.Members.{has, Lists}
-use Rattle.bisim_spec.specs.Partitions.{block_at, Together}
+use Rattle.px_spec.specs.Members.{has, Lists, at}
+use Rattle.bisim_spec.specs.Partitions.{Together}
 use Rattle.bisim_levels.specs.Keys.{IsSetOf, IsWritten, IsKey}
 use Rattle.bisim_levels.specs.Refining.{StayTogether}
 use Rattle.bisim_levels.proofs.Rising.{images_set, rising_unique}
@@ -33,7 +33,7 @@ written f nodes empty numbers set key number none e s is = record {
 }
 
 pub key_of : (own : ℕ → Option ℕ) (base : List (Option ℕ)) (near : ℕ → ℕ → Bool) (n number : ℕ) (nodes key : List ℕ) → Lists (λ p. near p n) nodes → own n ≡ Some number
-    → IsWritten (block_at base) nodes number key → IsKey own base near n key
+    → IsWritten (at base) nodes number key → IsKey own base near n key
 key_of own base near n number nodes key l own_is w = record {
   number = number;
   around = w.around;
@@ -56,7 +56,7 @@ last_same (a ∷ xs) (b ∷ ys) x y e =
     ((let t = r.0 in cc), r.1)
 
 -- nodes of one key stay together, where neighbours have blocks
-pub together_from_key : (own : ℕ → Option ℕ) (base : List (Option ℕ)) (near : ℕ → ℕ → Bool) (u v : ℕ) (key : List ℕ) → ((p n : ℕ) → IsTrue (near p n) → (b : ℕ) × (block_at base p ≡ Some b))
+pub together_from_key : (own : ℕ → Option ℕ) (base : List (Option ℕ)) (near : ℕ → ℕ → Bool) (u v : ℕ) (key : List ℕ) → ((p n : ℕ) → IsTrue (near p n) → (b : ℕ) × (at base p ≡ Some b))
     → IsKey own base near u key → IsKey own base near v key → StayTogether own base near u v
 together_from_key own base near u v key blocks k l =
     let same = last_same k.around l.around k.number l.number (sym k.is ∙ l.is) in
@@ -79,7 +79,7 @@ pub key_from_together : (own : ℕ → Option ℕ) (base : List (Option ℕ)) (n
     → IsKey own base near u ku → IsKey own base near v kv → ku ≡ kv
 key_from_together own base near u v ku kv same k l =
     let number : k.number ≡ l.number = (let a = same.one_number.1 in let b = same.one_number.2 in let c = k.own_is in let d = l.own_is in cc) in
-    let moved : (b : ℕ) (p q : ℕ) → block_at base p ≡ Some b → Together base p q → block_at base q ≡ Some b = λ b p q e t. let f = t.1 in let g = t.2 in cc in
+    let moved : (b : ℕ) (p q : ℕ) → at base p ≡ Some b → Together base p q → at base q ≡ Some b = λ b p q e t. let f = t.1 in let g = t.2 in cc in
     let around : k.around ≡ l.around =
     rising_unique k.around l.around k.rising l.rising
     (λ b h. let p = k.each b h in let q = same.neighbours.there p.0 p.1 in l.every q.0 b q.1 (moved b p.0 q.0 p.2 q.2))

@@ -1,8 +1,7 @@
 -- The key of a node: the blocks of its neighbours, and a number of its own.
 use Rattle.std.specs.Prelude.{ℕ, ◌≡◌, Bool, List, [], ◌∷◌, ◌++◌, Option, Some, IsTrue}
 use Rattle.std.specs.List.Sorted.{IsStrictlyIncreasing}
-use Rattle.px_spec.specs.Members.{has}
-use Rattle.bisim_spec.specs.Partitions.{block_at}
+use Rattle.px_spec.specs.Members.{has, at}
 
 -- the same numbers, rising, each once
 pub record IsSetOf (numbers set : List ℕ) : Type 0 where
@@ -28,5 +27,5 @@ pub record IsKey (own : ℕ → Option ℕ) (base : List (Option ℕ)) (near : �
   pub is : key ≡ around ++ number ∷ []
   pub own_is : own n ≡ Some number
   pub rising : IsStrictlyIncreasing around
-  pub each : (b : ℕ) → IsTrue (has around b) → (p : ℕ) × IsTrue (near p n) × (block_at base p ≡ Some b)
-  pub every : (p b : ℕ) → IsTrue (near p n) → block_at base p ≡ Some b → IsTrue (has around b)
+  pub each : (b : ℕ) → IsTrue (has around b) → (p : ℕ) × IsTrue (near p n) × (at base p ≡ Some b)
+  pub every : (p b : ℕ) → IsTrue (near p n) → at base p ≡ Some b → IsTrue (has around b)

@@ -2,7 +2,8 @@
 -- Algorithms", SIAM Journal on Computing 16, 1987, done for all blocks at once).
 use Rattle.std.specs.Prelude.{ℕ, ◌≡◌, ◌<◌, ◌≤◌, Bool, List, length, Option, None, Some, IsSome, IsTrue, slice_get}
 use Rattle.bisim_spec.specs.Bisimilarity.{Matched}
-use Rattle.bisim_spec.specs.Partitions.{block_at, Together}
+use Rattle.px_spec.specs.Members.{at}
+use Rattle.bisim_spec.specs.Partitions.{Together}
 use Rattle.bisim_levels.specs.Keys.{IsKey}
 
 -- the function gives both the same number
@@ -16,17 +17,17 @@ pub record StayTogether (own : ℕ → Option ℕ) (base : List (Option ℕ)) (n
 
 -- those have a block that have a number, and two are together exactly where they stay together
 pub record Refines (own : ℕ → Option ℕ) (base : List (Option ℕ)) (near : ℕ → ℕ → Bool) (next : List (Option ℕ)) : Type 0 where
-  pub kept : (n : ℕ) → IsSome (own n) → IsSome (block_at next n)
-  pub only : (n : ℕ) → IsSome (block_at next n) → IsSome (own n)
+  pub kept : (n : ℕ) → IsSome (own n) → IsSome (at next n)
+  pub only : (n : ℕ) → IsSome (at next n) → IsSome (own n)
   pub parted : (u v : ℕ) → Together next u v → StayTogether own base near u v
   pub grouped : (u v : ℕ) → StayTogether own base near u v → Together next u v
 
 -- the blocks of next are numbered by the keys of their members, and each has one
 pub record AreNumbered (own : ℕ → Option ℕ) (base : List (Option ℕ)) (near : ℕ → ℕ → Bool) (next : List (Option ℕ)) (keys : List (List ℕ)) : Type 0 where
-  pub none : (n : ℕ) → own n ≡ None → block_at next n ≡ None
+  pub none : (n : ℕ) → own n ≡ None → at next n ≡ None
   pub some : (n b : ℕ) → own n ≡ Some b
-      → (k : ℕ) × (key : List ℕ) × (block_at next n ≡ Some k) × (slice_get keys k ≡ Some key) × IsKey own base near n key
-  pub inhabited : (k : ℕ) → k < length keys → (n : ℕ) × (block_at next n ≡ Some k)
+      → (k : ℕ) × (key : List ℕ) × (at next n ≡ Some k) × (slice_get keys k ≡ Some key) × IsKey own base near n key
+  pub inhabited : (k : ℕ) → k < length keys → (n : ℕ) × (at next n ≡ Some k)
 
 -- One more node is numbered: keys that were there stay; the number is that of the node's key, and none where the node has
 -- no block; a key that is new is that of the node.

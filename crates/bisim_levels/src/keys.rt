@@ -1,7 +1,7 @@
 // Writing the key of a node.
 ghost use Rattle.std.specs.Prelude.{◌≡◌, ◌++◌, ◌∷◌, [], ℕ, filter_map, nat_eq, option_to_list, OnOk, IfSome, Some};
 ghost use Rattle.std.specs.List.Retain.{IsFiltered, DiffersFromLast};
-ghost use Rattle.bisim_spec.specs.Partitions.{block_at};
+ghost use Rattle.px_spec.specs.Members.{at};
 ghost use Rattle.bisim_levels.specs.Keys.{IsSetOf, IsWritten};
 
 use px_base::{Memory, NodeId};
@@ -9,7 +9,7 @@ use px_base::{Memory, NodeId};
 /// The block of a node, and `None` past the end of the list.
 #[inline(always)]
 pub(crate) fn block_of(block: &[Option<u32>], n: NodeId) -> Option<u32>
-    ensures { result ≡ block_at block.now n }
+    ensures { result ≡ at block.now n }
 {
     if (n as usize) < block.len() {
         block[n as usize]
@@ -22,7 +22,7 @@ pub(crate) fn block_of(block: &[Option<u32>], n: NodeId) -> Option<u32>
 /// node has no block.
 #[inline(always)]
 pub(crate) fn only_block(block: &[Option<u32>], nodes: &[NodeId]) -> Option<u32>
-    ensures { IfSome result (λ b. (p : ℕ) × (nodes.now ≡ p ∷ []) × (block_at block.now p ≡ Some b)) }
+    ensures { IfSome result (λ b. (p : ℕ) × (nodes.now ≡ p ∷ []) × (at block.now p ≡ Some b)) }
 {
     if nodes.len() == 1 {
         block_of(block, nodes[0])
@@ -48,7 +48,7 @@ fn push_blocks(
     block: &[Option<u32>],
     nodes: &[NodeId],
 ) -> Result<(), Memory>
-    ensures { OnOk result (numbers.new.items ≡ numbers.old.items ++ filter_map (block_at block.now) nodes.now) }
+    ensures { OnOk result (numbers.new.items ≡ numbers.old.items ++ filter_map (at block.now) nodes.now) }
 {
     for n in nodes {
         push_block(numbers, block_of(block, *n))?;
@@ -78,7 +78,7 @@ pub(crate) fn write_key(
     nodes: &[NodeId],
     number: u32,
 ) -> Result<(), Memory>
-    ensures { OnOk result (IsWritten (block_at block.now) nodes.now number key.new.items) }
+    ensures { OnOk result (IsWritten (at block.now) nodes.now number key.new.items) }
 {
     key.clear();
     push_blocks(key, block, nodes)?;

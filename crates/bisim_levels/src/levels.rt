@@ -3,7 +3,8 @@ ghost use Rattle.std.specs.Prelude.{◌≡◌, ℕ, suc, [], IsSome, IfOk};
 ghost use Rattle.label_graph.specs.Views.{label_number};
 ghost use Rattle.key_table.specs.Interning.{AreDistinct};
 ghost use Rattle.bisim_spec.specs.Bisimilarity.{Bis, Both, SameLabel};
-ghost use Rattle.bisim_spec.specs.Partitions.{block_at, IsPartition, Agrees};
+ghost use Rattle.px_spec.specs.Members.{at};
+ghost use Rattle.bisim_spec.specs.Partitions.{IsPartition, Agrees};
 ghost use Rattle.bisim_levels.specs.declared.sides.Side.TheVariants.{Parents};
 ghost use Rattle.bisim_levels.specs.Sides.{view_shape, is_near, no_neighbours};
 ghost use Rattle.bisim_levels.specs.Refining.{AreNumbered, Numbers};
@@ -65,7 +66,7 @@ pub fn next_level(
     requires partition { IsPartition (view_shape view.now) block.now }
     ensures agrees { IfOk result (λ l. (i : ℕ) → Agrees (view_shape view.now) block.now (Bis (view_shape view.now) i) → Agrees (view_shape view.now) l.block.items (Bis (view_shape view.now) (suc i))) }
     ensures partition { IfOk result (λ l. IsPartition (view_shape view.now) l.block.items) }
-    ensures numbered { IfOk result (λ l. AreNumbered (block_at block.now) block.now (is_near Parents view.now) l.block.items l.keys) }
+    ensures numbered { IfOk result (λ l. AreNumbered (at block.now) block.now (is_near Parents view.now) l.block.items l.keys) }
     ensures distinct { IfOk result (λ l. AreDistinct l.keys) }
 {
     refine(alloc, view, Side::Parents, block, block)

@@ -2,7 +2,8 @@
 ghost use Rattle.std.specs.Prelude.{◌≡◌, ℕ, List, IsSome, IfOk};
 ghost use Rattle.label_graph.specs.Views.{label_number};
 ghost use Rattle.key_table.specs.Interning.{AreDistinct, Interns};
-ghost use Rattle.bisim_spec.specs.Partitions.{block_at, IsPartition};
+ghost use Rattle.px_spec.specs.Members.{at};
+ghost use Rattle.bisim_spec.specs.Partitions.{IsPartition};
 ghost use Rattle.bisim_levels.specs.Sides.{view_shape, is_near};
 ghost use Rattle.bisim_levels.specs.Keys.{IsWritten};
 ghost use Rattle.bisim_levels.specs.Refining.{Refines, AreNumbered, Numbers};
@@ -33,7 +34,7 @@ fn intern_key(
     nodes: &[NodeId],
     number: u32,
 ) -> Result<u32, Memory>
-    ensures ok { IfOk result (λ k. (key : List ℕ) × IsWritten (block_at base.now) nodes.now number key × Interns keys.old keys.new key k) }
+    ensures ok { IfOk result (λ k. (key : List ℕ) × IsWritten (at base.now) nodes.now number key × Interns keys.old keys.new key k) }
     ensures distinct { IfOk result (λ k. AreDistinct keys.new) }
 {
     write_key(key, base, nodes, number)?;
@@ -53,7 +54,7 @@ fn find_key(
 ) -> Result<u32, Memory>
     requires distinct { AreDistinct keys.old }
     requires recent { AreRecent two_numbers keys.old recent.old.items }
-    ensures ok { IfOk result (λ k. (key : List ℕ) × IsWritten (block_at base.now) nodes.now number key × Interns keys.old keys.new key k) }
+    ensures ok { IfOk result (λ k. (key : List ℕ) × IsWritten (at base.now) nodes.now number key × Interns keys.old keys.new key k) }
     ensures recent { IfOk result (λ k. AreRecent two_numbers keys.new recent.new.items) }
     ensures distinct { IfOk result (λ k. AreDistinct keys.new) }
 {
@@ -77,8 +78,8 @@ fn number_of(
 ) -> Result<Option<u32>, Memory>
     requires distinct { AreDistinct keys.old }
     requires recent { AreRecent two_numbers keys.old recent.old.items }
-    requires nodes { IsSome (block_at own.now n) → IsSome (label_number view.now n) }
-    ensures ok { IfOk result (λ number. Numbers (block_at own.now) base.now (is_near side view.now) n keys.old keys.new number) }
+    requires nodes { IsSome (at own.now n) → IsSome (label_number view.now n) }
+    ensures ok { IfOk result (λ number. Numbers (at own.now) base.now (is_near side view.now) n keys.old keys.new number) }
     ensures recent { IfOk result (λ number. AreRecent two_numbers keys.new recent.new.items) }
     ensures distinct { IfOk result (λ number. AreDistinct keys.new) }
 {
@@ -104,8 +105,8 @@ pub fn refine(
 ) -> Result<Level, Memory>
     requires own { IsPartition (view_shape view.now) own.now }
     requires base { IsPartition (view_shape view.now) base.now }
-    ensures refines { IfOk result (λ l. Refines (block_at own.now) base.now (is_near side view.now) l.block.items) }
-    ensures numbered { IfOk result (λ l. AreNumbered (block_at own.now) base.now (is_near side view.now) l.block.items l.keys) }
+    ensures refines { IfOk result (λ l. Refines (at own.now) base.now (is_near side view.now) l.block.items) }
+    ensures numbered { IfOk result (λ l. AreNumbered (at own.now) base.now (is_near side view.now) l.block.items l.keys) }
     ensures distinct { IfOk result (λ l. AreDistinct l.keys) }
 {
     let mut keys = KeyTable::new(alloc)?;

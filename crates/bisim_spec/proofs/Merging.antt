@@ -2,7 +2,8 @@
 use Rattle.std.proofs.Common.{◌≡◌, ℕ, zero, suc, ◌<◌, List, Option, Some, sym, ◌∙◌, arith, inl, inr, ◌↔◌}
 use Rattle.px_spec.specs.Shapes.{Shape, IsParent, IsShape}
 use Rattle.bisim_spec.specs.Bisimilarity.{Covers, Matched, IsBisimulation}
-use Rattle.bisim_spec.specs.Partitions.{block_at, Together}
+use Rattle.px_spec.specs.Members.{at}
+use Rattle.bisim_spec.specs.Partitions.{Together}
 use Rattle.bisim_spec.specs.Stability.{Stable, Mergeable, Minimal, merged}
 use Rattle.bisim_spec.proofs.Bisimilar.{some_of, label_node, label_same, label_sym}
 use Rattle.bisim_spec.proofs.Stable.{stable_label, stable_parents}
@@ -30,7 +31,7 @@ carry s block a b u x y v st ux xy yv p e =
     )
 
 -- In a stable partition two blocks can be merged where a member of the one merges with a member of the other,
-pub mergeable_from : (s : Shape) (block : List (Option ℕ)) (a b x y : ℕ) → Stable s block → block_at block x ≡ Some a → block_at block y ≡ Some b
+pub mergeable_from : (s : Shape) (block : List (Option ℕ)) (a b x y : ℕ) → Stable s block → at block x ≡ Some a → at block y ≡ Some b
     → Merges s block a b x y → Mergeable s block a b
 mergeable_from s block a b x y st hx hy m = record {
   partition = merged_partition s a b block st.partition;
@@ -47,7 +48,7 @@ mergeable_from s block a b x y st hx hy m = record {
 }
 
 -- and only where all members do
-pub merges_from : (s : Shape) (block : List (Option ℕ)) (a b x y : ℕ) → Mergeable s block a b → block_at block x ≡ Some a → block_at block y ≡ Some b
+pub merges_from : (s : Shape) (block : List (Option ℕ)) (a b x y : ℕ) → Mergeable s block a b → at block x ≡ Some a → at block y ≡ Some b
     → Merges s block a b x y
 merges_from s block a b x y can hx hy =
     let m = merged a b block in
@@ -83,32 +84,32 @@ related_together s block R rank st min sim rises (suc k) u v few r =
 
 -- x is, once a and b are counted as one, the block of a parent of some member of c
 abbrev pub IsParentBlock : Shape → List (Option ℕ) → ℕ → ℕ → ℕ → ℕ → Type 0
-IsParentBlock s block a b c x = (p : ℕ) × (n : ℕ) × IsParent s p n × (block_at block n ≡ Some c) × (block_at (merged a b block) p ≡ Some x)
+IsParentBlock s block a b c x = (p : ℕ) × (n : ℕ) × IsParent s p n × (at block n ≡ Some c) × (at (merged a b block) p ≡ Some x)
 
 -- Two blocks have one label, and the same parent blocks once they are counted as one.
 pub record MergeAsBlocks (s : Shape) (block : List (Option ℕ)) (a b : ℕ) : Type 0 where
-  pub label : (u v : ℕ) → block_at block u ≡ Some a → block_at block v ≡ Some b → s.label u ≡ s.label v
+  pub label : (u v : ℕ) → at block u ≡ Some a → at block v ≡ Some b → s.label u ≡ s.label v
   pub there : (x : ℕ) → IsParentBlock s block a b a x → IsParentBlock s block a b b x
   pub back : (x : ℕ) → IsParentBlock s block a b b x → IsParentBlock s block a b a x
 
 -- the parents of one member are in the parent blocks of another block, where the blocks have the same
-parents_among : (s : Shape) (block : List (Option ℕ)) (a b c d u v : ℕ) → IsShape s → Stable s block → block_at block u ≡ Some c → block_at block v ≡ Some d
+parents_among : (s : Shape) (block : List (Option ℕ)) (a b c d u v : ℕ) → IsShape s → Stable s block → at block u ≡ Some c → at block v ≡ Some d
     → ((x : ℕ) → IsParentBlock s block a b c x → IsParentBlock s block a b d x) → Covers (IsParent s) (Together (merged a b block)) u v
 parents_among s block a b c d u v shape st hu hv same p e =
     let m = merged a b block in
-    let x = some_of (block_at m p) ((merged_partition s a b block st.partition).live p (shape.from p u e)) in
+    let x = some_of (at m p) ((merged_partition s a b block st.partition).live p (shape.from p u e)) in
     let q = same x.0 (p, u, e, hu, x.1) in
     let r = stable_parents s block st q.1 v (d, q.3, hv) q.0 q.2 in
     (r.0, r.1, (x.0, x.1, together_at m q.0 r.0 x.0 (merged_keeps a b block q.0 r.0 r.2) q.4))
 
-parent_blocks : (s : Shape) (block : List (Option ℕ)) (a b c d v : ℕ) → block_at block v ≡ Some d
-    → ((u : ℕ) → block_at block u ≡ Some c → Covers (IsParent s) (Together (merged a b block)) u v) → (x : ℕ) → IsParentBlock s block a b c x → IsParentBlock s block a b d x
+parent_blocks : (s : Shape) (block : List (Option ℕ)) (a b c d v : ℕ) → at block v ≡ Some d
+    → ((u : ℕ) → at block u ≡ Some c → Covers (IsParent s) (Together (merged a b block)) u v) → (x : ℕ) → IsParentBlock s block a b c x → IsParentBlock s block a b d x
 parent_blocks s block a b c d v hv covers x (p, n, e, hn, hx) =
     let q = covers n hn p e in
     (q.0, v, q.1, hv, together_at (merged a b block) p q.0 x q.2 hx)
 
 -- In a stable partition two blocks with members can be merged exactly so.
-pub mergeable_blocks : (s : Shape) (block : List (Option ℕ)) (a b u v : ℕ) → IsShape s → Stable s block → block_at block u ≡ Some a → block_at block v ≡ Some b
+pub mergeable_blocks : (s : Shape) (block : List (Option ℕ)) (a b u v : ℕ) → IsShape s → Stable s block → at block u ≡ Some a → at block v ≡ Some b
     → Mergeable s block a b ↔ MergeAsBlocks s block a b
 mergeable_blocks s block a b u v shape st hu hv = (
   λ can. record {

@@ -5,13 +5,14 @@ use Rattle.std.proofs.lemmas.Bool.{cases_Bool, or_parts}
 use Rattle.std.proofs.lemmas.Bool.Decides.{eqb_tells, Decides-eqb}
 use Rattle.std.proofs.lemmas.List.{get_or-set_other}
 use Rattle.std.proofs.lemmas.List.Sums.{sum_by-cons}
-use Rattle.bisim_spec.specs.Supports.{is_block, joins, support}
+use Rattle.px_spec.specs.Members.{is_this}
+use Rattle.bisim_spec.specs.Supports.{joins, support}
 
-pub block_get : (a : ℕ) (o : Option ℕ) → is_block a o ≡ true → o ≡ Some a
+pub block_get : (a : ℕ) (o : Option ℕ) → is_this a o ≡ true → o ≡ Some a
 block_get a None h = absurd (cc)
 block_get a (Some b) h = ap Some (sym ((Decides-eqb a b).0 h))
 
-pub block_from : (a : ℕ) (o : Option ℕ) → o ≡ Some a → is_block a o ≡ true
+pub block_from : (a : ℕ) (o : Option ℕ) → o ≡ Some a → is_this a o ≡ true
 block_from a o e = rw e ((Decides-eqb a a).1 refl)
 
 pub count_cons : (p : ℕ × ℕ → Bool) (e : ℕ × ℕ) (es : List (ℕ × ℕ)) → count_by p (e ∷ es) ≡ cond (p e) 1 0 + count_by p es

@@ -3,7 +3,8 @@ use Rattle.std.proofs.Common.{◌≡◌, ◌≢◌, ◌↔◌, ℕ, zero, suc, L
 use Rattle.std.proofs.lemmas.Bool.{false_from_ne_true, both_ways}
 use Rattle.px_spec.specs.Shapes.{Shape, IsParent, IsShape}
 use Rattle.bisim_spec.specs.Bisimilarity.{Covers, Bis}
-use Rattle.bisim_spec.specs.Partitions.{block_at, Together, IsPartition}
+use Rattle.px_spec.specs.Members.{at}
+use Rattle.bisim_spec.specs.Partitions.{Together, IsPartition}
 use Rattle.bisim_spec.specs.Stability.{StableBut, Stable, Mergeable, Minimal, merged}
 use Rattle.bisim_spec.specs.Reach.{near, reach}
 use Rattle.bisim_spec.proofs.Stable.{stable_label, stable_parents}
@@ -105,7 +106,7 @@ pub record SameOutside (p p2 : List (Option ℕ)) (Out : ℕ → Type 0) : Type 
 
 -- nodes of the two blocks are together once the blocks are one, after the change and so before it
 outside_merged : (p p2 : List (Option ℕ)) (Out : ℕ → Type 0) → SameOutside p p2 Out → (x y a b a0 b0 : ℕ) → Out x → Out y
-    → block_at p2 x ≡ Some a → block_at p2 y ≡ Some b → block_at p x ≡ Some a0 → block_at p y ≡ Some b0
+    → at p2 x ≡ Some a → at p2 y ≡ Some b → at p x ≡ Some a0 → at p y ≡ Some b0
     → (u v : ℕ) → Out u → Out v → Together (merged a b p2) u v → Together (merged a0 b0 p) u v
 outside_merged p p2 Out same x y a b a0 b0 ox oy hx hy kx ky u v ou ov t = elim (merged_cases a b p2 u v t) [
   | inl near ↦ merged_keeps a0 b0 p u v (same.back u v ou ov near)
@@ -121,7 +122,7 @@ outside_merged p p2 Out same x y a b a0 b0 ox oy hx hy kx ky u v ou ov t = elim 
 
 -- Two blocks with members outside can't be merged after the change, where no two blocks could before.
 pub none_outside : (s s2 : Shape) (Out : ℕ → Type 0) (p p2 : List (Option ℕ)) → IsOutside s s2 Out → SameOutside p p2 Out → Stable s p → Minimal s p
-    → (x y a b : ℕ) → Out x → Out y → block_at p2 x ≡ Some a → block_at p2 y ≡ Some b → a ≢ b → Mergeable s2 p2 a b → ⊥
+    → (x y a b : ℕ) → Out x → Out y → at p2 x ≡ Some a → at p2 y ≡ Some b → a ≢ b → Mergeable s2 p2 a b → ⊥
 none_outside s s2 Out p p2 out same st min x y a b ox oy hx hy apart can =
     let tx = same.back x x ox ox (a, hx, hx) in
     let ty = same.back y y oy oy (b, hy, hy) in

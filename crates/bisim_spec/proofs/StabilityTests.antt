@@ -8,7 +8,8 @@ use Rattle.px_spec.specs.Shapes.{Shape, IsNode, IsParent, IsShape}
 use Rattle.px_spec.specs.Walks.{Leads}
 use Rattle.bisim_spec.specs.Below.{all_below}
 use Rattle.bisim_spec.specs.Bisimilarity.{Covers}
-use Rattle.bisim_spec.specs.Partitions.{block_at, Together, IsPartition, Agrees}
+use Rattle.px_spec.specs.Members.{at}
+use Rattle.bisim_spec.specs.Partitions.{Together, IsPartition, Agrees}
 use Rattle.bisim_spec.specs.Stability.{StableBut, Stable, StableBoth, Mergeable, Minimal, merged}
 use Rattle.bisim_spec.specs.Reach.{reach, Acyclic}
 use Rattle.bisim_spec.specs.Tests.{same_label, covers, is_child, same_block, together, all_pairs, is_partition, agrees, alike, stable_but, stable, stable_both, mergeable, can_merge, minimal, acyclic}
@@ -45,17 +46,17 @@ blocks_from : (a b : Option ℕ) (c : ℕ) → a ≡ Some c → b ≡ Some c →
 blocks_from a b c e f = rw e (block_from c b f)
 
 pub together_decides : (block : List (Option ℕ)) (u v : ℕ) → Decides (together block u v) (Together block u v)
-together_decides block u v = (blocks_get (block_at block u) (block_at block v), λ t. blocks_from (block_at block u) (block_at block v) t.0 t.1 t.2)
+together_decides block u v = (blocks_get (at block u) (at block v), λ t. blocks_from (at block u) (at block v) t.0 t.1 t.2)
 
 pub partition_decides : (s : Shape) → IsShape s → (block : List (Option ℕ)) → Decides (is_partition s block) (IsPartition s block)
 partition_decides s shape block =
-    let p : ℕ → Bool = λ n. beq (is_some (block_at block n)) (is_some (s.label n)) in
+    let p : ℕ → Bool = λ n. beq (is_some (at block n)) (is_some (s.label n)) in
     let n : ℕ = max s.size (length block) in (
       λ h. record {
-        live = λ m node. let below = shape.below m node in same_get (is_some (block_at block m)) (is_some (s.label m)) (all_get n p h m (omega (arith, below))) ∙ node;
-        only = λ m some. let below = block_below block m some in sym (same_get (is_some (block_at block m)) (is_some (s.label m)) (all_get n p h m (omega (arith, below)))) ∙ some;
+        live = λ m node. let below = shape.below m node in same_get (is_some (at block m)) (is_some (s.label m)) (all_get n p h m (omega (arith, below))) ∙ node;
+        only = λ m some. let below = block_below block m some in sym (same_get (is_some (at block m)) (is_some (s.label m)) (all_get n p h m (omega (arith, below)))) ∙ some;
       },
-      λ h. all_from n p (λ m l. same_from (is_some (block_at block m)) (is_some (s.label m)) (h.only m) (h.live m)),
+      λ h. all_from n p (λ m l. same_from (is_some (at block m)) (is_some (s.label m)) (h.only m) (h.live m)),
     )
 
 -- nodes in one block are below the size
@@ -153,16 +154,16 @@ unmerged_from s shape block (Some a) (Some b) h = false_from_ne_true (not (nat_e
 
 pub minimal_decides : (s : Shape) → IsShape s → (block : List (Option ℕ)) → IsPartition s block → Decides (minimal s block) (Minimal s block)
 minimal_decides s shape block p =
-    let pair : ℕ → ℕ → Bool = λ u v. not (can_merge s block (block_at block u) (block_at block v)) in (
+    let pair : ℕ → ℕ → Bool = λ u v. not (can_merge s block (at block u) (at block v)) in (
       λ h. record {
         apart = λ u v a b eu ev.
-            let below : (n c : ℕ) → block_at block n ≡ Some c → n < s.size = λ n c e. shape.below n (p.only n (is_some_at (block_at block n) c e)) in
-            unmerged_get s shape block (block_at block u) (block_at block v)
-            (not-true (can_merge s block (block_at block u) (block_at block v)) (pairs_get s.size pair h u v (below u a eu) (below v b ev))) a b eu ev;
+            let below : (n c : ℕ) → at block n ≡ Some c → n < s.size = λ n c e. shape.below n (p.only n (is_some_at (at block n) c e)) in
+            unmerged_get s shape block (at block u) (at block v)
+            (not-true (can_merge s block (at block u) (at block v)) (pairs_get s.size pair h u v (below u a eu) (below v b ev))) a b eu ev;
       },
       λ h. pairs_from s.size pair (λ u v hu hv.
-          not_from_false (can_merge s block (block_at block u) (block_at block v))
-          (unmerged_from s shape block (block_at block u) (block_at block v) (λ a b eu ev. h.apart u v a b eu ev))),
+          not_from_false (can_merge s block (at block u) (at block v))
+          (unmerged_from s shape block (at block u) (at block v) (λ a b eu ev. h.apart u v a b eu ev))),
     )
 
 -- for a relation of nodes that is decided by the test

@@ -9,8 +9,8 @@ use Rattle.std.proofs.lemmas.Bool.{and_parts, and_from, or_left}
 use Rattle.px_spec.specs.Graphs.{Graph, Edges, edge_cmp}
 use Rattle.px_spec.specs.Shapes.{IsNode, IsShape, shape_of}
 use Rattle.px_spec.proofs.EdgeOrder.{edge_cmp_total, edge_cmp-IsAntisymmetric}
-use Rattle.bisim_spec.specs.Partitions.{block_at}
-use Rattle.bisim_spec.specs.Supports.{Joined, is_block, joins, edges_between}
+use Rattle.px_spec.specs.Members.{at, is_this}
+use Rattle.bisim_spec.specs.Supports.{Joined, joins, edges_between}
 use Rattle.bisim_spec.specs.Views.{View, ViewFits, support_at, shape_of_view}
 use Rattle.bisim_spec.proofs.Bisimilar.{none_or_some, is_some_at}
 use Rattle.bisim_spec.proofs.Together.{block_below}
@@ -55,13 +55,13 @@ counted_from p edges e h k = some (set.len (set.retain edges p)) refl
 pub support_joined : (g : Graph) (block : List (Option ℕ)) (a b : ℕ) → 0 < edges_between g.edges block a b → Joined (shape_of g) block a b
 support_joined g block a b h =
     let e = counted_get (joins block a b) g.edges h in
-    let p = and_parts (is_block a (block_at block e.0.0)) (is_block b (block_at block e.0.1)) e.2 in
-    (e.0.0, e.0.1, e.1, block_get a (block_at block e.0.0) p.0, block_get b (block_at block e.0.1) p.1)
+    let p = and_parts (is_this a (at block e.0.0)) (is_this b (at block e.0.1)) e.2 in
+    (e.0.0, e.0.1, e.1, block_get a (at block e.0.0) p.0, block_get b (at block e.0.1) p.1)
 
 pub joined_support : (g : Graph) (block : List (Option ℕ)) (a b : ℕ) → Joined (shape_of g) block a b → 0 < edges_between g.edges block a b
 joined_support g block a b (u, v, e, hu, hv) =
     counted_from (joins block a b) g.edges (u, v) e
-    (and_from (is_block a (block_at block u)) (is_block b (block_at block v)) (block_from a (block_at block u) hu) (block_from b (block_at block v) hv))
+    (and_from (is_this a (at block u)) (is_this b (at block v)) (block_from a (at block u) hu) (block_from b (at block v) hv))
 
 pub view_edges : (texts : List (List ℕ)) (g : Graph) (v : View) → ViewFits g v → (a b : ℕ) → IsTrue ((shape_of_view texts v).edge a b) ↔ Joined (shape_of g) v.block_of a b
 view_edges texts g v fits a b =
@@ -80,13 +80,13 @@ view_shape g v fits = record {
   onto = λ a b e. let j = (view_edges g.seen g v fits a b).0 e in member j.1 b j.4;
 }
   where
-    labelled : (b : ℕ) → IsNode (shape_of_view g.seen v) b → IsSome (block_at v.labels b)
-    labelled b h = elim (none_or_some (block_at v.labels b)) [
+    labelled : (b : ℕ) → IsNode (shape_of_view g.seen v) b → IsSome (at v.labels b)
+    labelled b h = elim (none_or_some (at v.labels b)) [
       | inl e ↦ absurd (true≢false (sym h ∙ ap (λ o. is_some (option_and_then (λ l. slice_get g.seen l) o)) e))
-      | inr (l, e) ↦ is_some_at (block_at v.labels b) l e
+      | inr (l, e) ↦ is_some_at (at v.labels b) l e
     ]
 
-    member : (n b : ℕ) → block_at v.block_of n ≡ Some b → IsNode (shape_of_view g.seen v) b
+    member : (n b : ℕ) → at v.block_of n ≡ Some b → IsNode (shape_of_view g.seen v) b
     member n b e =
         let l = fits.labelled n b e in
         is_some_at ((shape_of_view g.seen v).label b) l.1 (ap (option_and_then (λ l. slice_get g.seen l)) l.2 ∙ l.3)

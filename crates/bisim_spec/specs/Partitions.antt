@@ -1,19 +1,16 @@
 -- Partitions of the nodes into numbered blocks. A partition is a list: at each number the block of that node, or none.
 use Rattle.std.specs.Prelude.{ℕ, ◌≡◌, List, Option, None, Some, IsSome, slice_index_or}
+use Rattle.px_spec.specs.Members.{at}
 use Rattle.px_spec.specs.Shapes.{Shape, IsNode}
-
--- the block of a node; a number past the end has none
-abbrev pub block_at : List (Option ℕ) → ℕ → Option ℕ
-block_at block n = slice_index_or block n None
 
 -- two nodes are in one block
 abbrev pub Together : List (Option ℕ) → ℕ → ℕ → Type 0
-Together block u v = (b : ℕ) × (block_at block u ≡ Some b) × (block_at block v ≡ Some b)
+Together block u v = (b : ℕ) × (at block u ≡ Some b) × (at block v ≡ Some b)
 
 -- exactly the nodes have a block
 pub record IsPartition (s : Shape) (block : List (Option ℕ)) : Type 0 where
-  pub live : (n : ℕ) → IsNode s n → IsSome (block_at block n)
-  pub only : (n : ℕ) → IsSome (block_at block n) → IsNode s n
+  pub live : (n : ℕ) → IsNode s n → IsSome (at block n)
+  pub only : (n : ℕ) → IsSome (at block n) → IsNode s n
 
 -- the blocks are the classes of the relation: two nodes are in one block exactly where they are related
 pub record Agrees (s : Shape) (block : List (Option ℕ)) (R : ℕ → ℕ → Type 0) : Type 0 where

@@ -4,7 +4,8 @@
 use Rattle.std.specs.Prelude.{ℕ, ◌≡◌, ◌≢◌, Bool, false, List, Option, None, Some, IsFalse, map, nat_eq, if◌then◌else◌}
 use Rattle.px_spec.specs.Shapes.{Shape, IsParent, IsChild}
 use Rattle.bisim_spec.specs.Bisimilarity.{Covers}
-use Rattle.bisim_spec.specs.Partitions.{block_at, Together, IsPartition}
+use Rattle.px_spec.specs.Members.{at}
+use Rattle.bisim_spec.specs.Partitions.{Together, IsPartition}
 
 -- Stable, but maybe at some nodes: exactly the nodes have a block, and of any two others in one block the labels are
 -- equal, and each parent of the one is in one block with some parent of the other.
@@ -37,4 +38,4 @@ Mergeable s block a b = Stable s (merged a b block)
 
 -- No two distinct blocks can be merged. That the partition is stable is not said here.
 pub record Minimal (s : Shape) (block : List (Option ℕ)) : Type 0 where
-  pub apart : (u v a b : ℕ) → block_at block u ≡ Some a → block_at block v ≡ Some b → a ≢ b → Mergeable s block a b → ⊥
+  pub apart : (u v a b : ℕ) → at block u ≡ Some a → at block v ≡ Some b → a ≢ b → Mergeable s block a b → ⊥

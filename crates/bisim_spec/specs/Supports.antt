@@ -3,20 +3,15 @@ use Rattle.std.specs.Prelude.{ℕ, ◌≡◌, ◌&&◌, Bool, false, List, Optio
 use Rattle.std.specs.FinSet as set
 use Rattle.px_spec.specs.Graphs.{Edges}
 use Rattle.px_spec.specs.Shapes.{Shape, IsParent}
-use Rattle.bisim_spec.specs.Partitions.{block_at}
+use Rattle.px_spec.specs.Members.{at, is_this}
 
 -- some edge leads from a member of a to a member of b
 abbrev pub Joined : Shape → List (Option ℕ) → ℕ → ℕ → Type 0
-Joined s block a b = (u : ℕ) × (v : ℕ) × IsParent s u v × (block_at block u ≡ Some a) × (block_at block v ≡ Some b)
-
--- whether this is the block
-abbrev pub is_block : ℕ → Option ℕ → Bool
-is_block a None = false
-is_block a (Some b) = nat_eq a b
+Joined s block a b = (u : ℕ) × (v : ℕ) × IsParent s u v × (at block u ≡ Some a) × (at block v ≡ Some b)
 
 -- whether the edge leads from a member of a to a member of b
 abbrev pub joins : List (Option ℕ) → ℕ → ℕ → ℕ × ℕ → Bool
-joins block a b e = is_block a (block_at block e.0) && is_block b (block_at block e.1)
+joins block a b e = is_this a (at block e.0) && is_this b (at block e.1)
 
 -- how many edges of a list lead from a member of a to a member of b
 abbrev pub support : List (ℕ × ℕ) → List (Option ℕ) → ℕ → ℕ → ℕ

@@ -4,9 +4,8 @@ use mathlib.Core.Bool.{beq}
 use Rattle.px_spec.specs.Shapes.{Shape}
 use Rattle.bisim_spec.specs.Below.{any_below, all_below}
 use Rattle.bisim_spec.specs.Bisimilarity.{node_count}
-use Rattle.bisim_spec.specs.Partitions.{block_at}
+use Rattle.px_spec.specs.Members.{at, is_this}
 use Rattle.bisim_spec.specs.Stability.{merged}
-use Rattle.bisim_spec.specs.Supports.{is_block}
 use Rattle.bisim_spec.specs.Reach.{reach}
 
 -- whether both are labels, and the same
@@ -45,17 +44,17 @@ fb s u v = both s (node_count s) u v
 -- whether both are blocks, and the same
 abbrev pub same_block : Option ℕ → Option ℕ → Bool
 same_block None o = false
-same_block (Some a) o = is_block a o
+same_block (Some a) o = is_this a o
 
 abbrev pub together : List (Option ℕ) → ℕ → ℕ → Bool
-together block u v = same_block (block_at block u) (block_at block v)
+together block u v = same_block (at block u) (at block v)
 
 -- each pair of numbers below the bound passes
 abbrev pub all_pairs : ℕ → (ℕ → ℕ → Bool) → Bool
 all_pairs n p = all_below n (λ u. all_below n (p u))
 
 abbrev pub is_partition : Shape → List (Option ℕ) → Bool
-is_partition s block = all_below (max s.size (length block)) (λ n. beq (is_some (block_at block n)) (is_some (s.label n)))
+is_partition s block = all_below (max s.size (length block)) (λ n. beq (is_some (at block n)) (is_some (s.label n)))
 
 abbrev pub agrees : Shape → List (Option ℕ) → (ℕ → ℕ → Bool) → Bool
 agrees s block r = is_partition s block && all_pairs s.size (λ u v. beq (together block u v) (r u v))
@@ -83,7 +82,7 @@ can_merge s block (Some a) None = false
 can_merge s block (Some a) (Some b) = not (nat_eq a b) && mergeable s block a b
 
 abbrev pub minimal : Shape → List (Option ℕ) → Bool
-minimal s block = all_pairs s.size (λ u v. not (can_merge s block (block_at block u) (block_at block v)))
+minimal s block = all_pairs s.size (λ u v. not (can_merge s block (at block u) (at block v)))
 
 -- whether no edge's beginning is reached from its end
 abbrev pub acyclic : Shape → Bool

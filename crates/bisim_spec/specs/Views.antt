@@ -4,7 +4,7 @@ use Rattle.std.specs.Coded.{Coded, code_by, coded×, coded_ℕ, coded_list, code
 use Rattle.std.specs.FinMap as table
 use Rattle.px_spec.specs.Graphs.{Graph, edge_cmp, label_of}
 use Rattle.px_spec.specs.Shapes.{Shape, shape_by}
-use Rattle.bisim_spec.specs.Partitions.{block_at}
+use Rattle.px_spec.specs.Members.{at}
 use Rattle.bisim_spec.specs.Supports.{edges_between}
 
 -- numbers of edges, by the block where they begin and the block where they end
@@ -33,12 +33,12 @@ view_code =
 
 -- the index graph as a graph: its nodes are the blocks, and edges join the pairs that have support
 abbrev pub shape_of_view : List (List ℕ) → View → Shape
-shape_of_view texts v = shape_by texts (length v.labels) (block_at v.labels) (λ a b. nat_lt 0 (support_at v.supports a b))
+shape_of_view texts v = shape_by texts (length v.labels) (at v.labels) (λ a b. nat_lt 0 (support_at v.supports a b))
 
 -- The view is one of the graph: each block has a member, members have their block's label, and supports are the numbers of
 -- edges.
 pub record ViewFits (g : Graph) (v : View) : Type 0 where
-  pub inhabited : (b : ℕ) → IsSome (block_at v.labels b) → (n : ℕ) × (block_at v.block_of n ≡ Some b)
-  pub labelled : (n b : ℕ) → block_at v.block_of n ≡ Some b
-      → (l : ℕ) × (t : List ℕ) × (block_at v.labels b ≡ Some l) × (slice_get g.seen l ≡ Some t) × (label_of g n ≡ Some t)
+  pub inhabited : (b : ℕ) → IsSome (at v.labels b) → (n : ℕ) × (at v.block_of n ≡ Some b)
+  pub labelled : (n b : ℕ) → at v.block_of n ≡ Some b
+      → (l : ℕ) × (t : List ℕ) × (at v.labels b ≡ Some l) × (slice_get g.seen l ≡ Some t) × (label_of g n ≡ Some t)
   pub supports : (a b : ℕ) → support_at v.supports a b ≡ edges_between g.edges v.block_of a b

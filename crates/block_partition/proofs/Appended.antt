@@ -2,9 +2,9 @@
 use Rattle.std.proofs.Common.{◌≡◌, ℕ, ◌+◌, ◌-◌, ◌<◌, List, [], ◌∷◌, ◌++◌, length, Option, Some, None, IsSome, refl, sym, ◌∙◌, ap, arith, slice_set, slice_index}
 use Rattle.std.proofs.Math.ListN.{replicate}
 use Rattle.std.proofs.lemmas.List.{length-append, get_or_past}
-use Rattle.block_partition.specs.Partitions.{at}
+use Rattle.px_spec.specs.Members.{at}
 use Rattle.block_partition.specs.Tables.{Table, Heap, set_at, grown, IsIn}
-use Rattle.block_partition.specs.Soundness.{IsSound}
+use Rattle.block_partition.specs.Soundness.{IsSoundPartition}
 use Rattle.block_partition.proofs.Growth.{length_grown}
 use Rattle.block_partition.proofs.Mirrors.{at_grown}
 use Rattle.block_partition.proofs.KeepsSound.{put_in, sound_grown, sound_in}
@@ -26,8 +26,8 @@ in_longer None xs ys h = tt
 in_longer (Some i) xs ys h = let l = length-append xs ys in omega (arith, l, h)
 
 pub sound_appended : (bl nx pv fs : Table) (lb : List (Option ℕ)) (lc : ℕ) (sz : List ℕ) (sc : ℕ) (fr : Heap) (count nr br b : ℕ)
-    → IsSound bl nx pv fs lb lc sz sc fr count nr br → 0 < nr → IsSome (at lb b)
-    → IsSound (put_in bl (bl.places ++ Some b ∷ [])) (put_in nx (nx.places ++ at fs.places b ∷ []))
+    → IsSoundPartition bl nx pv fs lb lc sz sc fr count nr br → 0 < nr → IsSome (at lb b)
+    → IsSoundPartition (put_in bl (bl.places ++ Some b ∷ [])) (put_in nx (nx.places ++ at fs.places b ∷ []))
     (put_in pv (set_at (pv.places ++ None ∷ []) (at fs.places b) (Some (length bl.places)))) (put_in fs (slice_set fs.places b (Some (length bl.places))))
     lb lc (slice_set sz b (slice_index sz b + 1)) sc fr count (nr - 1) br
 sound_appended bl nx pv fs lb lc sz sc fr count nr br b s room is_block =

@@ -4,8 +4,7 @@ use Rattle.std.specs.List.{IsDistinct, AllByRecursion}
 use Rattle.std.specs.Prelude.{nat_eq}
 use Rattle.std.proofs.lemmas.Bool.Decides.{eqb_tells}
 use Rattle.std.proofs.lemmas.Map.Steps.{length-le_from_distinct_below}
-use Rattle.px_spec.specs.Members.{has, Lists}
-use Rattle.block_partition.specs.Partitions.{at, is_this}
+use Rattle.px_spec.specs.Members.{has, Lists, at, is_this}
 use Rattle.block_partition.specs.Chains.{chain}
 use Rattle.block_partition.specs.Soundness.{AreLinked, AreMirrored}
 use Rattle.block_partition.proofs.Links.{none_or_some}

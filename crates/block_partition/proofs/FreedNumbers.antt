@@ -14,8 +14,8 @@ use Rattle.std.proofs.lemmas.Map.Keys.{IsDistinct-IsPermutation}
 use Rattle.std.proofs.lemmas.Map.Steps.{length-le_from_distinct_below}
 use Rattle.std.proofs.lemmas.Bool.Decides.{eqb_tells, nat_tests}
 use Rattle.std.proofs.lemmas.List.Sums.{sum_by-cons}
-use Rattle.px_spec.specs.Members.{has, Lists}
-use Rattle.block_partition.specs.Partitions.{at, IsLeastFree}
+use Rattle.px_spec.specs.Members.{has, Lists, at}
+use Rattle.block_partition.specs.Partitions.{IsLeastFree}
 use Rattle.block_partition.specs.Soundness.{is_freed}
 use Rattle.block_partition.proofs.Chains.{member_cons, member_head}
 use Rattle.block_partition.proofs.Counts.{some_within}

@@ -4,7 +4,8 @@ use Rattle.std.specs.Prelude.{nat_eq, if◌then◌else◌}
 use Rattle.std.proofs.lemmas.Bool.Decides.{eqb_tells}
 use Rattle.std.proofs.Math.ListN.{replicate}
 use Rattle.std.proofs.lemmas.List.{append-nil, length-append, length-replicate, length-set}
-use Rattle.block_partition.specs.Partitions.{at, Partition, put, with_member, with_move}
+use Rattle.px_spec.specs.Members.{at}
+use Rattle.block_partition.specs.Partitions.{Partition, put, with_member, with_move}
 use Rattle.block_partition.specs.Tables.{grown, with_length}
 
 -- one none at a time

@@ -3,9 +3,9 @@ use Rattle.std.proofs.Common.{◌≡◌, ◌≢◌, ℕ, ◌+◌, ◌-◌, ◌<�
 use Rattle.std.specs.Prelude.{is_some}
 use Rattle.std.specs.List.Sorted.{IsPermutation}
 use Rattle.std.proofs.lemmas.List.{length-set, length-append}
-use Rattle.block_partition.specs.Partitions.{at, is_this}
+use Rattle.px_spec.specs.Members.{at, is_this}
 use Rattle.block_partition.specs.Tables.{Table, Heap, set_at, head_where, grown}
-use Rattle.block_partition.specs.Soundness.{IsSound}
+use Rattle.block_partition.specs.Soundness.{IsSoundPartition}
 use Rattle.block_partition.proofs.Mirrors.{length-set_at, mirrored_out, mirrored_in, mirrored_same, at_grown}
 use Rattle.block_partition.proofs.Counts.{some_within, counted_out, counted_in, counted_grown, counted_again, counted_next, counted_retired}
 use Rattle.block_partition.proofs.Growth.{length_grown}
@@ -15,8 +15,8 @@ abbrev pub put_in : Table → List (Option ℕ) → Table
 put_in t places = record { places = places; capacity = t.capacity }
 
 pub sound_out : (bl nx pv fs : Table) (lb : List (Option ℕ)) (lc : ℕ) (sz : List ℕ) (sc : ℕ) (fr : Heap) (count nr br n b : ℕ)
-    → IsSound bl nx pv fs lb lc sz sc fr count nr br → at bl.places n ≡ Some b
-    → IsSound (put_in bl (slice_set bl.places n None)) (put_in nx (slice_set (set_at nx.places (at pv.places n) (at nx.places n)) n None))
+    → IsSoundPartition bl nx pv fs lb lc sz sc fr count nr br → at bl.places n ≡ Some b
+    → IsSoundPartition (put_in bl (slice_set bl.places n None)) (put_in nx (slice_set (set_at nx.places (at pv.places n) (at nx.places n)) n None))
     (put_in pv (slice_set (set_at pv.places (at nx.places n) (at pv.places n)) n None)) (put_in fs (set_at fs.places (head_where b (at pv.places n)) (at nx.places n)))
     lb lc (slice_set sz b (slice_index sz b - 1)) sc fr count nr br
 sound_out bl nx pv fs lb lc sz sc fr count nr br n b s has =
@@ -41,8 +41,8 @@ sound_out bl nx pv fs lb lc sz sc fr count nr br n b s has =
     }
 
 pub sound_in : (bl nx pv fs : Table) (lb : List (Option ℕ)) (lc : ℕ) (sz : List ℕ) (sc : ℕ) (fr : Heap) (count nr br n b : ℕ)
-    → IsSound bl nx pv fs lb lc sz sc fr count nr br → at bl.places n ≡ None → n < length bl.places → IsSome (at lb b)
-    → IsSound (put_in bl (slice_set bl.places n (Some b))) (put_in nx (slice_set nx.places n (at fs.places b)))
+    → IsSoundPartition bl nx pv fs lb lc sz sc fr count nr br → at bl.places n ≡ None → n < length bl.places → IsSome (at lb b)
+    → IsSoundPartition (put_in bl (slice_set bl.places n (Some b))) (put_in nx (slice_set nx.places n (at fs.places b)))
     (put_in pv (set_at pv.places (at fs.places b) (Some n))) (put_in fs (slice_set fs.places b (Some n)))
     lb lc (slice_set sz b (slice_index sz b + 1)) sc fr count nr br
 sound_in bl nx pv fs lb lc sz sc fr count nr br n b s none in_bl is_block =
@@ -68,8 +68,8 @@ sound_in bl nx pv fs lb lc sz sc fr count nr br n b s none in_bl is_block =
 
 -- the list grows by its room
 pub sound_grown : (bl nx pv fs : Table) (lb : List (Option ℕ)) (lc : ℕ) (sz : List ℕ) (sc : ℕ) (fr : Heap) (count nr br len : ℕ)
-    → IsSound bl nx pv fs lb lc sz sc fr count nr br → len ≤ length bl.places + nr
-    → IsSound (put_in bl (grown bl.places len)) (put_in nx (grown nx.places len)) (put_in pv (grown pv.places len)) fs
+    → IsSoundPartition bl nx pv fs lb lc sz sc fr count nr br → len ≤ length bl.places + nr
+    → IsSoundPartition (put_in bl (grown bl.places len)) (put_in nx (grown nx.places len)) (put_in pv (grown pv.places len)) fs
     lb lc sz sc fr count (nr - (length (grown bl.places len) - length bl.places)) br
 sound_grown bl nx pv fs lb lc sz sc fr count nr br len s h =
     let f = s.nodes_fit in
@@ -93,9 +93,9 @@ sound_grown bl nx pv fs lb lc sz sc fr count nr br len s h =
 
 -- a block without members is no block any more
 pub sound_retired : (bl nx pv fs : Table) (lb : List (Option ℕ)) (lc : ℕ) (sz : List ℕ) (sc : ℕ) (fr fr' : Heap) (count nr br b l : ℕ)
-    → IsSound bl nx pv fs lb lc sz sc fr count nr br → at lb b ≡ Some l → ((n : ℕ) → at bl.places n ≢ Some b)
+    → IsSoundPartition bl nx pv fs lb lc sz sc fr count nr br → at lb b ≡ Some l → ((n : ℕ) → at bl.places n ≢ Some b)
     → IsPermutation (b ∷ fr.numbers) fr'.numbers → fr.capacity ≤ fr'.capacity
-    → IsSound bl nx pv fs (slice_set lb b None) lc sz sc fr' (count - 1) nr br
+    → IsSoundPartition bl nx pv fs (slice_set lb b None) lc sz sc fr' (count - 1) nr br
 sound_retired bl nx pv fs lb lc sz sc fr fr' count nr br b l s is_block empty p more =
     let k = counted_retired bl.places lb sz count b s.counted (subst IsSome (sym is_block) refl) empty in
     let some = k.0 in
@@ -131,9 +131,9 @@ sound_retired bl nx pv fs lb lc sz sc fr fr' count nr br b l s is_block empty p 
 
 -- a number that was freed is a block again
 pub sound_again : (bl nx pv fs : Table) (lb : List (Option ℕ)) (lc : ℕ) (sz : List ℕ) (sc : ℕ) (fr fr' : Heap) (count nr br b label : ℕ)
-    → IsSound bl nx pv fs lb lc sz sc fr count nr br → 0 < br
+    → IsSoundPartition bl nx pv fs lb lc sz sc fr count nr br → 0 < br
     → IsPermutation fr.numbers (b ∷ fr'.numbers) → fr'.capacity ≡ fr.capacity
-    → IsSound bl nx pv fs (slice_set lb b (Some label)) lc sz sc fr' (count + 1) nr (br - 1)
+    → IsSoundPartition bl nx pv fs (slice_set lb b (Some label)) lc sz sc fr' (count + 1) nr (br - 1)
 sound_again bl nx pv fs lb lc sz sc fr fr' count nr br b label s room p same =
     let t = s.tables in
     let is = freed_within lb fr.numbers fr'.numbers b t.freed_are p in
@@ -168,14 +168,14 @@ sound_again bl nx pv fs lb lc sz sc fr fr' count nr br b label s room p same =
 
 -- where no number is free, there are as many blocks as numbers
 pub count_full : (bl nx pv fs : Table) (lb : List (Option ℕ)) (lc : ℕ) (sz : List ℕ) (sc : ℕ) (fr : Heap) (count nr br : ℕ)
-    → IsSound bl nx pv fs lb lc sz sc fr count nr br → fr.numbers ≡ [] → count ≡ length lb
+    → IsSoundPartition bl nx pv fs lb lc sz sc fr count nr br → fr.numbers ≡ [] → count ≡ length lb
 count_full bl nx pv fs lb lc sz sc fr count nr br s none = s.counted.count_is ∙ count_all lb (all_blocks lb fr.numbers s.tables.freed_are none)
 
 -- the next number is a block
 pub sound_next : (bl nx pv fs : Table) (lb : List (Option ℕ)) (lc : ℕ) (sz : List ℕ) (sc : ℕ) (fr fr' : Heap) (count nr br label : ℕ)
-    → IsSound bl nx pv fs lb lc sz sc fr count nr br → 0 < br
+    → IsSoundPartition bl nx pv fs lb lc sz sc fr count nr br → 0 < br
     → fr.numbers ≡ [] → fr'.numbers ≡ [] → fr'.capacity ≡ fr.capacity
-    → IsSound bl nx pv (put_in fs (fs.places ++ None ∷ [])) (lb ++ Some label ∷ []) lc (sz ++ 0 ∷ []) sc fr' (count + 1) nr (br - 1)
+    → IsSoundPartition bl nx pv (put_in fs (fs.places ++ None ∷ [])) (lb ++ Some label ∷ []) lc (sz ++ 0 ∷ []) sc fr' (count + 1) nr (br - 1)
 sound_next bl nx pv fs lb lc sz sc fr fr' count nr br label s room none none' same =
     let t = s.tables in
     let full = count_full bl nx pv fs lb lc sz sc fr count nr br s none in
@@ -220,7 +220,7 @@ nowhere xs n v e h = let none : at xs n ≡ None = ap (λ ys. at ys n) e in cc
 -- tables that are empty
 pub sound_none : (bl nx pv fs : Table) (lb : List (Option ℕ)) (lc : ℕ) (sz : List ℕ) (sc : ℕ) (fr : Heap)
     → bl.places ≡ [] → nx.places ≡ [] → pv.places ≡ [] → fs.places ≡ [] → lb ≡ [] → sz ≡ [] → fr.numbers ≡ []
-    → IsSound bl nx pv fs lb lc sz sc fr 0 0 0
+    → IsSoundPartition bl nx pv fs lb lc sz sc fr 0 0 0
 sound_none bl nx pv fs lb lc sz sc fr eb en ep ef el es er =
     let b0 : length bl.places ≡ 0 = ap length eb in
     let n0 : length nx.places ≡ 0 = ap length en in

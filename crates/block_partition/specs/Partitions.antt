@@ -1,6 +1,7 @@
 -- A partition of nodes into blocks.
 use Rattle.std.specs.Prelude.{◌≡◌, ℕ, zero, suc, ◌+◌, ◌-◌, ◌<◌, Bool, false, List, [], ◌∷◌, length, Option, None, Some, IsSome, is_some, nat_eq, slice_index_or, slice_set}
 use Rattle.std.specs.List.{count_by}
+use Rattle.px_spec.specs.Members.{at, is_this}
 
 -- for how many more numbers past the end of the list, and for how many more blocks, there is room
 pub record Room : Type 0 where
@@ -13,15 +14,6 @@ pub record Partition : Type 0 where
   -- for each number the label of that block, or none where the number is no block
   pub labels : List (Option ℕ)
   pub room : Room
-
--- what a list has at a place, and none past its end
-abbrev pub at : List (Option ℕ) → ℕ → Option ℕ
-at xs n = slice_index_or xs n None
-
--- whether this is the number b
-abbrev pub is_this : ℕ → Option ℕ → Bool
-is_this b None = false
-is_this b (Some c) = nat_eq b c
 
 abbrev pub IsBlock : Partition → ℕ → Type 0
 IsBlock p b = IsSome (at p.labels b)

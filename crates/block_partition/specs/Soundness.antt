@@ -1,8 +1,7 @@
 -- What holds of the tables of each partition.
 use Rattle.std.specs.Prelude.{◌≡◌, ℕ, ◌+◌, ◌<◌, ◌≤◌, ◌^◌, ◌&&◌, not, Bool, List, length, Option, None, Some, IsSome, is_some, nat_lt, slice_index}
 use Rattle.std.specs.List.{count_by}
-use Rattle.px_spec.specs.Members.{Lists}
-use Rattle.block_partition.specs.Partitions.{at, is_this}
+use Rattle.px_spec.specs.Members.{Lists, at, is_this}
 use Rattle.block_partition.specs.Tables.{Table, Heap}
 
 -- The members of a block form a doubly linked list: the block of a node, the next member and the one before it, and the
@@ -60,7 +59,7 @@ pub record BlocksFit (count first labels sizes freed more : ℕ) : Type 0 where
   pub sizes_fit : count + more ≤ sizes
   pub freed_fit : count + more ≤ freed
 
-pub record IsSound (block next prev first : Table) (labels : List (Option ℕ)) (labels_capacity : ℕ) (sizes : List ℕ)
+pub record IsSoundPartition (block next prev first : Table) (labels : List (Option ℕ)) (labels_capacity : ℕ) (sizes : List ℕ)
     (sizes_capacity : ℕ) (freed : Heap) (count node_room block_room : ℕ) : Type 0 where
   pub mirrored : AreMirrored block.places next.places prev.places first.places
   pub counted : AreCounted block.places labels sizes count

@@ -14,8 +14,8 @@ pub record Heap : Type 0 where
   pub capacity : ℕ
 
 -- the greatest value of 32 bits stands for none
-abbrev pub shown : ℕ → Option ℕ
-shown v = if nat_eq v 4294967295 then None else Some v
+abbrev pub slot_value : ℕ → Option ℕ
+slot_value v = if nat_eq v 4294967295 then None else Some v
 
 -- the number can be kept, since it doesn't stand for none
 abbrev pub IsSmall : Option ℕ → Type 0

@@ -1,7 +1,7 @@
 // The tables of a partition.
 ghost use Rattle.std.specs.Prelude.{◌≡◌, ◌≢◌, ◌+◌, ◌-◌, ◌<◌, ◌≤◌, ◌^◌, ℕ, nat_eq, if◌then◌else◌, Some, None, IsSome, is_some, IfOk, OnOk, OnErr, IfSome, length, slice_set, slice_index, vec_len, vec_capacity};
-ghost use Rattle.px_spec.specs.Members.{Lists};
-ghost use Rattle.block_partition.specs.Partitions.{at, IsBlock, is_member, block_count, member_count, IsLeastFree, no_blocks, with_room, with_block, with_member, with_move, without_block};
+ghost use Rattle.px_spec.specs.Members.{Lists, at};
+ghost use Rattle.block_partition.specs.Partitions.{IsBlock, is_member, block_count, member_count, IsLeastFree, no_blocks, with_room, with_block, with_member, with_move, without_block};
 ghost use Rattle.block_partition.specs.Appending.{with_next};
 ghost use Rattle.block_partition.specs.Tables.{Keeps, head_where, with_length};
 
@@ -33,13 +33,13 @@ pub struct Blocks {
 impl Model for Blocks {
     ghost use Rattle.std.specs.Prelude.{vec_capacity};
     ghost use Rattle.block_partition.specs.Partitions.{Partition};
-    ghost use Rattle.block_partition.specs.Soundness.{IsSound};
+    ghost use Rattle.block_partition.specs.Soundness.{IsSoundPartition};
 
     ghost Value = { Partition };
 
     ghost view = { λ b. record { block_of = b.block.places; labels = b.labels.items; room = record { nodes = b.node_room; blocks = b.block_room } } };
 
-    ghost invariant = { λ b. IsSound b.block b.next b.prev b.first b.labels.items (vec_capacity b.labels) b.sizes.items (vec_capacity b.sizes) b.freed b.count b.node_room b.block_room };
+    ghost invariant = { λ b. IsSoundPartition b.block b.next b.prev b.first b.labels.items (vec_capacity b.labels) b.sizes.items (vec_capacity b.sizes) b.freed b.count b.node_room b.block_room };
 }
 
 // Reading.

@@ -1,6 +1,6 @@
 // The members of a block.
 ghost use Rattle.std.specs.Prelude.{◌≡◌};
-ghost use Rattle.block_partition.specs.Partitions.{at};
+ghost use Rattle.px_spec.specs.Members.{at};
 ghost use Rattle.block_partition.specs.Chains.{chain};
 ghost use Rattle.std.specs.Iterator.{YieldsFirst, item_count};
 
@@ -18,7 +18,7 @@ pub struct Members<'a> {
 
 impl<'a> Model for Members<'a> {
     ghost use Rattle.std.specs.Prelude.{ℕ, List};
-    ghost use Rattle.block_partition.specs.Partitions.{at};
+    ghost use Rattle.px_spec.specs.Members.{at};
     ghost use Rattle.block_partition.specs.Chains.{chain};
 
     ghost Value = { List ℕ };

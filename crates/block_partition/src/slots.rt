@@ -1,7 +1,7 @@
 // A table of small numbers.
 ghost use Rattle.std.specs.Prelude.{◌≡◌, ◌<◌, ◌≤◌, ◌+◌, ◌++◌, ◌∷◌, [], None, length, OnOk, slice_set};
-ghost use Rattle.block_partition.specs.Partitions.{at};
-ghost use Rattle.block_partition.specs.Tables.{shown, IsSmall, IsIn, set_at, grown, Keeps};
+ghost use Rattle.px_spec.specs.Members.{at};
+ghost use Rattle.block_partition.specs.Tables.{slot_value, IsSmall, IsIn, set_at, grown, Keeps};
 
 use px_base::Memory;
 use std::alloc::Global;
@@ -18,11 +18,11 @@ pub(crate) struct Slots {
 
 impl Model for Slots {
     ghost use Rattle.std.specs.Prelude.{map, vec_capacity};
-    ghost use Rattle.block_partition.specs.Tables.{Table, shown};
+    ghost use Rattle.block_partition.specs.Tables.{Table, slot_value};
 
     ghost Value = { Table };
 
-    ghost view = { λ s. record { places = map shown s.cells.items; capacity = vec_capacity s.cells } };
+    ghost view = { λ s. record { places = map slot_value s.cells.items; capacity = vec_capacity s.cells } };
 }
 
 impl Slots {
@@ -107,7 +107,7 @@ impl Slots {
 }
 
 fn number_of(cell: u32) -> Option<u32>
-    ensures number { result ≡ shown cell }
+    ensures number { result ≡ slot_value cell }
     ensures small { IsSmall result }
 {
     if cell == NONE { None } else { Some(cell) }
@@ -115,7 +115,7 @@ fn number_of(cell: u32) -> Option<u32>
 
 fn cell_of(v: Option<u32>) -> u32
     requires { IsSmall v }
-    ensures { shown result ≡ v }
+    ensures { slot_value result ≡ v }
 {
     match v {
         Some(n) => n,

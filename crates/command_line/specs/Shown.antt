@@ -13,9 +13,9 @@ use Rattle.command_line.specs.declared.given.Given.{Given as GivenSeen}
 abbrev pub shown_settings : SettingsSeen → Settings
 shown_settings s = record { script = s.script.now; graph = option_map (λ t. t.now) s.graph; k = s.k }
 
-abbrev pub shown : FormSeen → Form
-shown (Run s) = runs (shown_settings s)
-shown Neither = neither
+abbrev pub shown_form : FormSeen → Form
+shown_form (Run s) = runs (shown_settings s)
+shown_form Neither = neither
 
 abbrev pub shown_given : GivenSeen → Given
 shown_given g = record {

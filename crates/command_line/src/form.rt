@@ -3,7 +3,7 @@ ghost use Rattle.std.specs.Prelude.{◌≡◌, IfOk, false, map, option_map, str
 ghost use Rattle.command_line.specs.Forms.{neither, HasLevel};
 ghost use Rattle.command_line.specs.Givens.{form_given, level_or_default as level_given, level_of as level_in};
 ghost use Rattle.command_line.specs.Words.{form_of, form_read, is_accepted};
-ghost use Rattle.command_line.specs.Shown.{shown, shown_given};
+ghost use Rattle.command_line.specs.Shown.{shown_form, shown_given};
 ghost use Rattle.command_line.specs.Usage.{HasPlainTexts, Order, Usage, given_by, words_in, words_of};
 
 use crate::given::{Given, read_given};
@@ -51,7 +51,7 @@ fn level_or_default(text: Option<&str>) -> Option<u32>
 }
 
 fn run_with<'a>(given: &Given<'a>) -> Form<'a>
-    ensures { shown result ≡ form_given (shown_given given.now) }
+    ensures { shown_form result ≡ form_given (shown_given given.now) }
 {
     let Some(script) = given.script else {
         return Form::Neither;
@@ -67,7 +67,7 @@ fn run_with<'a>(given: &Given<'a>) -> Form<'a>
 }
 
 fn judge<'a>(given: Option<Given<'a>>) -> Form<'a>
-    ensures { shown result ≡ form_read (option_map shown_given given.entry) }
+    ensures { shown_form result ≡ form_read (option_map shown_given given.entry) }
 {
     match given {
         Some(given) => run_with(&given),
@@ -79,13 +79,13 @@ fn judge<'a>(given: Option<Given<'a>>) -> Form<'a>
 /// words `0` to `8`, and 2 where the option isn't there. The words are those that `clap` reads for this
 /// command. All that it refuses are of no form, a call for help too. The time is linear in the words.
 pub fn read_words<'a>(alloc: Global, words: &'a [String]) -> Result<Form<'a>, Memory>
-    ensures exact { IfOk result (λ f. shown f ≡ form_of (map string_bytes words.entry.now)) }
+    ensures exact { IfOk result (λ f. shown_form f ≡ form_of (map string_bytes words.entry.now)) }
     // The words of the usage line, with texts that aren't empty and don't begin with a hyphen, give those texts.
-    ensures plain { (u : Usage) → map string_bytes words.entry.now ≡ words_of u → HasPlainTexts u → IfOk result (λ f. shown f ≡ form_given (given_by u)) }
+    ensures plain { (u : Usage) → map string_bytes words.entry.now ≡ words_of u → HasPlainTexts u → IfOk result (λ f. shown_form f ≡ form_given (given_by u)) }
     // So they do in another order.
-    ensures reordered { (u : Usage) (o : Order) → map string_bytes words.entry.now ≡ words_in o u → HasPlainTexts u → IfOk result (λ f. shown f ≡ form_given (given_by u)) }
-    ensures refused { is_accepted (map string_bytes words.entry.now) ≡ false → IfOk result (λ f. shown f ≡ neither) }
-    ensures level { IfOk result (λ f. HasLevel (shown f)) }
+    ensures reordered { (u : Usage) (o : Order) → map string_bytes words.entry.now ≡ words_in o u → HasPlainTexts u → IfOk result (λ f. shown_form f ≡ form_given (given_by u)) }
+    ensures refused { is_accepted (map string_bytes words.entry.now) ≡ false → IfOk result (λ f. shown_form f ≡ neither) }
+    ensures level { IfOk result (λ f. HasLevel (shown_form f)) }
 {
     let given = read_given(alloc, words)?;
     Ok(judge(given))

@@ -10,7 +10,7 @@ use Rattle.std.proofs.lemmas.Bool.Decides.{eqb_tells}
 use Rattle.std.proofs.lemmas.List.Sums.{sum_by-cons}
 use Rattle.px_spec.specs.Graphs.{edge_cmp}
 use Rattle.px_spec.proofs.EdgeOrder.{edge_cmp_total, edge_cmp-IsAntisymmetric, eq_pair}
-use Rattle.block_partition.specs.Partitions.{at}
+use Rattle.px_spec.specs.Members.{at}
 use Rattle.bisim_spec.specs.Below.{count_below}
 use Rattle.bisim_spec.specs.Views.{SupportTable, support_at}
 use Rattle.bisim_spec.proofs.BelowLaws.{bit_of, count_same}

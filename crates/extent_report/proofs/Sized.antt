@@ -6,7 +6,8 @@ use Rattle.std.proofs.lemmas.Bool.{cases_lt, cases_Bool, and_parts, and_from, no
 use Rattle.px_spec.specs.Graphs.{Graph, label_of}
 use Rattle.px_spec.specs.Shapes.{IsNode, shape_of}
 use Rattle.index_api.specs.declared.kinds.Via.{Via}
-use Rattle.block_partition.specs.Partitions.{at, block_count}
+use Rattle.px_spec.specs.Members.{at}
+use Rattle.block_partition.specs.Partitions.{block_count}
 use Rattle.bisim_spec.specs.Below.{any_below}
 use Rattle.bisim_spec.specs.Partitions.{Together, Agrees}
 use Rattle.bisim_spec.specs.Supports.{Joined}

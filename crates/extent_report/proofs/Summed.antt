@@ -3,12 +3,13 @@ use Rattle.std.proofs.Common.{◌≡◌, ℕ, zero, suc, ◌<◌, List, [], ◌�
 use Rattle.std.specs.Prelude.{codes, decimal, option_and_then, slice_get}
 use Rattle.std.proofs.lemmas.Bool.{and_parts}
 use Rattle.px_spec.specs.Words.{node_word}
-use Rattle.block_partition.specs.Partitions.{Partition, at}
+use Rattle.px_spec.specs.Members.{at}
+use Rattle.block_partition.specs.Partitions.{Partition}
 use Rattle.bisim_spec.specs.Below.{any_below, count_below}
 use Rattle.bisim_spec.specs.Tests.{together}
 use Rattle.bisim_spec.proofs.BelowLaws.{count_same}
 use Rattle.extent_report.specs.Listing.{texts_below, is_related, is_first, block_line, block_total, extents_text}
-use Rattle.extent_report.specs.Summaries.{label_at, shape_of_blocks, AreLabelled, line_at}
+use Rattle.extent_report.specs.Summaries.{label_at, shape_of_blocks, LabelsHaveTexts, line_at}
 use Rattle.extent_report.specs.Chains.{leads, word_with}
 use Rattle.extent_report.proofs.Texts.{texts_same, any_same}
 use Rattle.extent_report.proofs.Wording.{in_one}
@@ -19,7 +20,7 @@ there (t ∷ texts) zero h = refl
 there (t ∷ texts) (suc l) h = there texts l (omega (arith, h))
 
 -- a block's label has a text
-texted : (texts : List (List ℕ)) (p : Partition) → AreLabelled texts p → (n : ℕ) → is_some ((shape_of_blocks texts p).label n) ≡ is_some (label_at p n)
+texted : (texts : List (List ℕ)) (p : Partition) → LabelsHaveTexts texts p → (n : ℕ) → is_some ((shape_of_blocks texts p).label n) ≡ is_some (label_at p n)
 texted texts p h n = by (at p.block_of n)
   where
     label : (o : Option ℕ) → ((l : ℕ) → o ≡ Some l → l < length texts) → is_some (option_and_then (slice_get texts) o) ≡ is_some o
@@ -41,13 +42,13 @@ guarded true false false h = refl
 guarded false true false h = refl
 guarded false false false h = refl
 
-related_is : (texts : List (List ℕ)) (p : Partition) → AreLabelled texts p → (n m : ℕ)
+related_is : (texts : List (List ℕ)) (p : Partition) → LabelsHaveTexts texts p → (n m : ℕ)
     → is_related (shape_of_blocks texts p) (together p.block_of) n m ≡ (is_some (label_at p n) && together p.block_of n m)
 related_is texts p h n m =
     guarded (is_some ((shape_of_blocks texts p).label m)) (is_some (label_at p n)) (together p.block_of n m) (λ t. texted texts p h m ∙ label_with p n m t)
 
 -- the first node of a block leads it
-pub first_leads : (texts : List (List ℕ)) (p : Partition) → AreLabelled texts p → (n : ℕ) → is_first (shape_of_blocks texts p) (together p.block_of) n ≡ leads p n
+pub first_leads : (texts : List (List ℕ)) (p : Partition) → LabelsHaveTexts texts p → (n : ℕ) → is_first (shape_of_blocks texts p) (together p.block_of) n ≡ leads p n
 first_leads texts p h n =
     ap (λ b. b && not (any_below n (is_related (shape_of_blocks texts p) (together p.block_of) n))) (texted texts p h n)
     ∙ ap (λ b. is_some (label_at p n) && not b) (any_same n (is_related (shape_of_blocks texts p) (together p.block_of) n) (λ m. is_some (label_at p n) && together p.block_of n m) (λ m _. related_is texts p h n m))
@@ -57,11 +58,11 @@ first_leads texts p h n =
     by true = refl
     by false = refl
 
-pub total_led : (texts : List (List ℕ)) (p : Partition) → AreLabelled texts p → block_total (shape_of_blocks texts p) (together p.block_of) ≡ count_below (length p.block_of) (leads p)
+pub total_led : (texts : List (List ℕ)) (p : Partition) → LabelsHaveTexts texts p → block_total (shape_of_blocks texts p) (together p.block_of) ≡ count_below (length p.block_of) (leads p)
 total_led texts p h = count_same (length p.block_of) (is_first (shape_of_blocks texts p) (together p.block_of)) (leads p) (λ n _. first_leads texts p h n)
 
 -- the line of a block that is led
-pub line_led : (texts : List (List ℕ)) (p : Partition) → AreLabelled texts p → (n b l : ℕ) (t : List ℕ) → leads p n ≡ true → at p.block_of n ≡ Some b → at p.labels b ≡ Some l → slice_get texts l ≡ Some t
+pub line_led : (texts : List (List ℕ)) (p : Partition) → LabelsHaveTexts texts p → (n b l : ℕ) (t : List ℕ) → leads p n ≡ true → at p.block_of n ≡ Some b → at p.labels b ≡ Some l → slice_get texts l ≡ Some t
     → block_line (shape_of_blocks texts p) (together p.block_of) n ≡ t ++ texts_below (length p.block_of) (word_with p.block_of n) ++ 10 ∷ []
 line_led texts p h n b l t led e f g =
     let s = shape_of_blocks texts p in
@@ -72,20 +73,20 @@ line_led texts p h n b l t led e f g =
     ∙ ap (λ w. t ++ w ++ 10 ∷ []) (texts_same (length p.block_of) word (word_with p.block_of n) (λ m _.
     ap (λ c. cond c (32 ∷ node_word m) []) (related_is texts p h n m ∙ ap (λ c. c && together p.block_of n m) some)))
 
-pub line_at_led : (texts : List (List ℕ)) (p : Partition) → AreLabelled texts p → (n : ℕ) → leads p n ≡ true → line_at texts p n ≡ block_line (shape_of_blocks texts p) (together p.block_of) n
+pub line_at_led : (texts : List (List ℕ)) (p : Partition) → LabelsHaveTexts texts p → (n : ℕ) → leads p n ≡ true → line_at texts p n ≡ block_line (shape_of_blocks texts p) (together p.block_of) n
 line_at_led texts p h n led = rw (first_leads texts p h n ∙ led) refl
 
-pub line_at_other : (texts : List (List ℕ)) (p : Partition) → AreLabelled texts p → (n : ℕ) → leads p n ≡ false → line_at texts p n ≡ []
+pub line_at_other : (texts : List (List ℕ)) (p : Partition) → LabelsHaveTexts texts p → (n : ℕ) → leads p n ≡ false → line_at texts p n ≡ []
 line_at_other texts p h n led = rw (first_leads texts p h n ∙ led) refl
 
 -- the text, written by blocks that are led
-pub text_led : (texts : List (List ℕ)) (p : Partition) → AreLabelled texts p
+pub text_led : (texts : List (List ℕ)) (p : Partition) → LabelsHaveTexts texts p
     → extents_text (shape_of_blocks texts p) (together p.block_of)
     ≡ codes "blocks " ++ decimal (count_below (length p.block_of) (leads p)) ++ 10 ∷ texts_below (length p.block_of) (line_at texts p)
 text_led texts p h = ap (λ n. codes "blocks " ++ decimal n ++ 10 ∷ texts_below (length p.block_of) (line_at texts p)) (total_led texts p h)
 
 -- what was written, first the number of blocks and then their lines
-pub gathered : (texts : List (List ℕ)) (p : Partition) → AreLabelled texts p → (n : ℕ) (a b z : List ℕ) → n ≡ count_below (length p.block_of) (leads p)
+pub gathered : (texts : List (List ℕ)) (p : Partition) → LabelsHaveTexts texts p → (n : ℕ) (a b z : List ℕ) → n ≡ count_below (length p.block_of) (leads p)
     → a ≡ [] → b ≡ a ++ (codes "blocks " ++ decimal n ++ 10 ∷ []) → z ≡ b ++ texts_below (length p.block_of) (line_at texts p)
     → z ≡ extents_text (shape_of_blocks texts p) (together p.block_of)
 gathered texts p h n a b z count empty first rest =

@@ -3,7 +3,8 @@ use Rattle.std.proofs.Common.{◌≡◌, ℕ, ◌+◌, ◌<◌, List, [], ◌∷
 use Rattle.std.specs.Prelude.{option_and_then}
 use Rattle.std.proofs.lemmas.Bool.{and_parts, not-true}
 use Rattle.px_spec.specs.Words.{node_word}
-use Rattle.block_partition.specs.Partitions.{Partition, at}
+use Rattle.px_spec.specs.Members.{at}
+use Rattle.block_partition.specs.Partitions.{Partition}
 use Rattle.bisim_spec.specs.Below.{any_below}
 use Rattle.bisim_spec.specs.Partitions.{Together}
 use Rattle.bisim_spec.specs.Tests.{same_block, together}

@@ -2,7 +2,8 @@
 use Rattle.std.specs.Prelude.{◌≡◌, ℕ, ◌<◌, Bool, false, List, length, Option, Some, IsTrue, [], if◌then◌else◌, option_and_then}
 use Rattle.px_spec.specs.Graphs.{Graph}
 use Rattle.px_spec.specs.Shapes.{Shape, shape_of, shape_by}
-use Rattle.block_partition.specs.Partitions.{Partition, at}
+use Rattle.px_spec.specs.Members.{at}
+use Rattle.block_partition.specs.Partitions.{Partition}
 use Rattle.bisim_spec.specs.Partitions.{Agrees}
 use Rattle.bisim_spec.specs.Tests.{together}
 use Rattle.bisim_spec.specs.Views.{ViewFits}
@@ -18,8 +19,8 @@ abbrev pub shape_of_blocks : List (List ℕ) → Partition → Shape
 shape_of_blocks texts p = shape_by texts (length p.block_of) (label_at p) (λ u v. false)
 
 -- each block's label has a text
-abbrev pub AreLabelled : List (List ℕ) → Partition → Type 0
-AreLabelled texts p = (b l : ℕ) → at p.labels b ≡ Some l → l < length texts
+abbrev pub LabelsHaveTexts : List (List ℕ) → Partition → Type 0
+LabelsHaveTexts texts p = (b l : ℕ) → at p.labels b ≡ Some l → l < length texts
 
 -- the line of a node's block, where the node is its first
 abbrev pub line_at : List (List ℕ) → Partition → ℕ → List ℕ

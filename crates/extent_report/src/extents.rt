@@ -3,12 +3,12 @@ ghost use Rattle.std.specs.Prelude.{◌≡◌, ◌++◌, ◌∷◌, [], ℕ, Boo
 ghost use Rattle.px_spec.specs.Graphs.{Graph};
 ghost use Rattle.px_spec.specs.Shapes.{shape_of};
 ghost use Rattle.px_spec.specs.Words.{node_word};
-ghost use Rattle.block_partition.specs.Partitions.{at};
+ghost use Rattle.px_spec.specs.Members.{at};
 ghost use Rattle.bisim_spec.specs.Tests.{together};
 ghost use Rattle.bisim_spec.specs.Below.{count_below};
 ghost use Rattle.extent_report.specs.Listing as printed;
 ghost use Rattle.extent_report.specs.Listing.{texts_below, block_line};
-ghost use Rattle.extent_report.specs.Summaries.{shape_of_blocks, AreLabelled, IsSummaryOf, line_at};
+ghost use Rattle.extent_report.specs.Summaries.{shape_of_blocks, LabelsHaveTexts, IsSummaryOf, line_at};
 ghost use Rattle.extent_report.specs.Chains.{leads, word_with};
 
 use crate::chains::Chains;
@@ -54,7 +54,7 @@ fn push_block(
     requires leads { leads chains.now first ≡ true }
     requires block { at chains.now.block_of first ≡ Some b }
     requires live { IsSome (at chains.now.labels b) }
-    requires labelled { AreLabelled labels.now.texts chains.now }
+    requires labelled { LabelsHaveTexts labels.now.texts chains.now }
     ensures { OnOk result (string_bytes out.new ≡ string_bytes out.old ++ block_line (shape_of_blocks labels.now.texts chains.now) (together chains.now.block_of) first) }
 {
     let label = labels.text(chains.label(b));
@@ -66,7 +66,7 @@ fn push_block(
 
 // Appends the line of the node's block, where the node is its first.
 fn push_led(out: &mut String, chains: &Chains<'_>, labels: &Labels, n: NodeId) -> Result<(), Memory>
-    requires { AreLabelled labels.now.texts chains.now }
+    requires { LabelsHaveTexts labels.now.texts chains.now }
     ensures { OnOk result (string_bytes out.new ≡ string_bytes out.old ++ line_at labels.now.texts chains.now n) }
 {
     match chains.led(n) {
@@ -77,7 +77,7 @@ fn push_led(out: &mut String, chains: &Chains<'_>, labels: &Labels, n: NodeId) -
 
 // Appends the lines of the blocks.
 fn push_blocks(out: &mut String, chains: &Chains<'_>, labels: &Labels) -> Result<(), Memory>
-    requires { AreLabelled labels.now.texts chains.now }
+    requires { LabelsHaveTexts labels.now.texts chains.now }
     ensures { OnOk result (string_bytes out.new ≡ string_bytes out.old ++ texts_below (length chains.now.block_of) (line_at labels.now.texts chains.now)) }
 {
     for n in 0..chains.numbers() {
@@ -115,7 +115,7 @@ fn push_count(out: &mut String, blocks: u32) -> Result<(), Memory>
 /// It takes linear time, with no sort, and 8 bytes for each node number and each block number beside
 /// the text.
 pub fn extents_text(alloc: Global, summary: &Summary, labels: &Labels) -> Result<Text, Memory>
-    requires labelled { AreLabelled labels.now.texts summary.now.blocks }
+    requires labelled { LabelsHaveTexts labels.now.texts summary.now.blocks }
     ensures text { IfOk result (λ t. t ≡ printed.extents_text (shape_of_blocks labels.now.texts summary.now.blocks) (together summary.now.blocks.block_of)) }
     ensures listed { IfOk result (λ t. (g : Graph) (r : ℕ → ℕ → Bool) → IsSummaryOf g r summary.now → g.seen ≡ labels.now.texts → t ≡ printed.extents_text (shape_of g) r) }
 {

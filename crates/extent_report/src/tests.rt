@@ -2,7 +2,7 @@
 ghost use Rattle.std.specs.Prelude.{◌≡◌, ◌<◌, IsTrue};
 ghost use Rattle.px_spec.specs.Shapes.{shape_of};
 ghost use Rattle.bisim_spec.specs.Partitions.{IsPartition};
-ghost use Rattle.extent_report.specs.Summaries.{AreLabelled};
+ghost use Rattle.extent_report.specs.Summaries.{LabelsHaveTexts};
 
 use super::*;
 use block_partition::Blocks;
@@ -107,7 +107,7 @@ fn is_partition(view: &GraphView<'_>, blocks: &Blocks) -> bool
 
 // Whether each block's label has a text.
 fn are_labelled(summary: &Summary, labels: &Labels) -> bool
-    ensures { IsTrue result → AreLabelled labels.now.texts summary.now.blocks }
+    ensures { IsTrue result → LabelsHaveTexts labels.now.texts summary.now.blocks }
 {
     for b in 0..summary.size() {
         if summary.is_node(b) && summary.label(b) >= labels.len() {

@@ -6,7 +6,7 @@ use Rattle.std.proofs.Math.ListN.{drop_of_length-le}
 use Rattle.std.proofs.lemmas.List.{drop_more}
 use Rattle.px_base.specs.declared.lines.TheConstants.{LINE_BYTES, GRAPH_BYTES}
 use Rattle.px_base.specs.Files.{File, Finds}
-use Rattle.px_base.specs.Reading.{Reading, ReadsLine, IsFirst, IsOver, IsPast, stream, IsWithin as MayTake}
+use Rattle.px_base.specs.Reading.{Reading, ReadsLine, IsFirst, IsOver, IsPast, stream, IsReadable as MayTake}
 use Rattle.px_spec.specs.Lines.{Line, cut}
 use Rattle.px_spec.specs.declared.limits.Limits.{Limits}
 use Rattle.triples_read.specs.Lines.{Spells, Empty}
@@ -19,25 +19,25 @@ use Rattle.graph_load.specs.declared.batch.Waiting.{Waiting}
 use Rattle.graph_load.specs.declared.loader.Loader.{Loader}
 use Rattle.px_spec.specs.declared.refusal.Refusal.{Refusal}
 use Rattle.graph_load.specs.Loading.{Loading, nothing_loaded, with_triple}
-use Rattle.graph_load.specs.Loads.{Outcome, loaded, syntax, limit, Place, at_start, past, IsWithin, TakesLine, empty, takes, refuses, neither, LoadsFrom}
-use Rattle.graph_load.specs.Holding.{loading, Holds, with_new, IsSound, IsTaken}
-use Rattle.graph_load.specs.Going.{LoadsTold, LoadsAhead, Says, place, OnLines, at_line, then_load, with_one, with_all, Follows, Comes, Puts, Reads, IsNearer, AreLoaded, Stops, OneStops}
+use Rattle.graph_load.specs.Loads.{Outcome, loaded, syntax, limit, Place, at_start, past, IsWithinFile, LoadsLine, empty, takes, refuses, neither, LoadsFrom}
+use Rattle.graph_load.specs.Holding.{loading, Holds, with_new, IsSoundLoader, IsTaken}
+use Rattle.graph_load.specs.Going.{LoadsTold, LoadsAhead, Says, place, OnLines, at_line, then_load, with_one, with_all, LoadsBehind, LoadsThen, Puts, Reads, IsNearer, AreLoaded, Stops, OneStops}
 
 -- what becomes of the first line decides
-follows : (limits : Limits) (p : Place) (l : Line) (before after : Option (List ℕ)) (q : Place) (o : Outcome) → IsFirst l before after → IsWithin p l
-    → ((rest : List Line) → LoadsFrom limits rest q o → TakesLine limits p l (LoadsFrom limits rest) o) → LoadsAhead limits after q o → LoadsAhead limits before p o
+follows : (limits : Limits) (p : Place) (l : Line) (before after : Option (List ℕ)) (q : Place) (o : Outcome) → IsFirst l before after → IsWithinFile p l
+    → ((rest : List Line) → LoadsFrom limits rest q o → LoadsLine limits p l (LoadsFrom limits rest) o) → LoadsAhead limits after q o → LoadsAhead limits before p o
 follows limits p l None after q o first within step ahead = tt
 follows limits p l (Some text) None q o first within step ahead = absurd first
 follows limits p l (Some text) (Some rest) q o first within step ahead = subst (λ ls. LoadsFrom limits ls p o) (sym first) (inr (within, step (cut rest) ahead))
 
-stops : (limits : Limits) (p : Place) (l : Line) (before after : Option (List ℕ)) (o : Outcome) → IsFirst l before after → IsWithin p l
-    → ((rest : List Line) → TakesLine limits p l (LoadsFrom limits rest) o) → LoadsAhead limits before p o
+stops : (limits : Limits) (p : Place) (l : Line) (before after : Option (List ℕ)) (o : Outcome) → IsFirst l before after → IsWithinFile p l
+    → ((rest : List Line) → LoadsLine limits p l (LoadsFrom limits rest) o) → LoadsAhead limits before p o
 stops limits p l None after o first within step = tt
 stops limits p l (Some text) None o first within step = absurd first
 stops limits p l (Some text) (Some rest) o first within step = subst (λ ls. LoadsFrom limits ls p o) (sym first) (inr (within, step (cut rest)))
 
 -- a line within the reader's limits is within those of a graph file
-fits : (r : Reading) (p : Place) (l : Line) → r.line_limit ≡ LINE_BYTES → r.text_limit ≡ GRAPH_BYTES → r.taken ≡ p.bytes → MayTake r l → IsWithin p l
+fits : (r : Reading) (p : Place) (l : Line) → r.line_limit ≡ LINE_BYTES → r.text_limit ≡ GRAPH_BYTES → r.taken ≡ p.bytes → MayTake r l → IsWithinFile p l
 fits r p l line text taken w = (
   subst (λ n. length l.text ≤ n) line w.0,
   subst (λ n. n + length l.text + length l.end ≤ GRAPH_BYTES) taken (subst (λ n. r.taken + length l.text + length l.end ≤ n) text w.1),
@@ -63,15 +63,15 @@ with_last limits (v ∷ ws) w l = behind (with_one limits v l) (with_last limits
 
 -- what holds of all that may be loaded holds of what the triples load to
 each : (limits : Limits) (r : Reading) (before : Option (List ℕ)) (next : Next) (q : Reading) (after : Option (List ℕ))
-    → ((m : Loading) (o : Outcome) → Follows limits next q after m o → LoadsAhead limits before (place r m) o)
-    → (x : Result Loading ℕ) (o : Outcome) → Comes limits next q after x o → Comes limits Lines r before x o
+    → ((m : Loading) (o : Outcome) → LoadsBehind limits next q after m o → LoadsAhead limits before (place r m) o)
+    → (x : Result Loading ℕ) (o : Outcome) → LoadsThen limits next q after x o → LoadsThen limits Lines r before x o
 each limits r before next q after f (Ok m) o h = f m o h
 each limits r before next q after f (Err n) o h = h
 
 -- and of one more
 each_last : (limits : Limits) (w : Waiting) (r : Reading) (before : Option (List ℕ)) (q : Reading) (after : Option (List ℕ))
-    → ((m : Loading) (o : Outcome) → Comes limits Lines q after (with_one limits w m) o → LoadsAhead limits before (place r m) o)
-    → (x : Result Loading ℕ) (o : Outcome) → Comes limits Lines q after (then_load x (with_one limits w)) o → Comes limits Lines r before x o
+    → ((m : Loading) (o : Outcome) → LoadsThen limits Lines q after (with_one limits w m) o → LoadsAhead limits before (place r m) o)
+    → (x : Result Loading ℕ) (o : Outcome) → LoadsThen limits Lines q after (then_load x (with_one limits w)) o → LoadsThen limits Lines r before x o
 each_last limits w r before q after f (Ok m) o h = f m o h
 each_last limits w r before q after f (Err n) o h = h
 
@@ -92,7 +92,7 @@ module _ (r q : Reading) (before after : Option (List ℕ)) (reads : ReadsLine r
   behind : (l m : Loading) → past (place r l) reads.first m ≡ place q m
   behind l m = place_same _ _ refl (sym number_is) (sym (ap (λ (x : Reading). x.taken) reads.passed))
 
-  within : (l : Loading) → IsWithin (place r l) reads.first
+  within : (l : Loading) → IsWithinFile (place r l) reads.first
   within l = fits r (place r l) reads.first line_limit text_limit refl reads.within
 
   pub nearer : IsNearer r q
@@ -110,10 +110,10 @@ module _ (r q : Reading) (before after : Option (List ℕ)) (reads : ReadsLine r
         empty (subst Empty text_is is_empty) o (subst (λ p. LoadsFrom limits rest p o) (sym (behind l l)) h))
 
     -- a line spells a triple
-    past_triple : (t : Triple) → Spells q.line t → (l : Loading) (o : Outcome) → Comes limits Lines q after (with_one limits (record { triple = t; line = q.number }) l) o → LoadsAhead limits before (place r l) o
+    past_triple : (t : Triple) → Spells q.line t → (l : Loading) (o : Outcome) → LoadsThen limits Lines q after (with_one limits (record { triple = t; line = q.number }) l) o → LoadsAhead limits before (place r l) o
     past_triple t spells l o h = by (with_triple limits t l) refl h
       where
-        by : (x : Result Loading Refusal) → with_triple limits t l ≡ x → Comes limits Lines q after (at_line q.number x) o → LoadsAhead limits before (place r l) o
+        by : (x : Result Loading Refusal) → with_triple limits t l ≡ x → LoadsThen limits Lines q after (at_line q.number x) o → LoadsAhead limits before (place r l) o
         by (Ok m) is h =
             follows limits (place r l) reads.first before after (place q m) o reads.told (within l) (λ rest k.
             takes t (subst (λ x. Spells x t) text_is spells) m is o (subst (λ p. LoadsFrom limits rest p o) (sym (behind l m)) k)) h
@@ -131,15 +131,15 @@ module _ (r q : Reading) (before after : Option (List ℕ)) (reads : ReadsLine r
   -- a line was read
   pub reads_on : (next : Next) (waited waits : List Waiting) → Puts q.line q.number waited waits next → Reads r waited before next q waits after
   reads_on Lines waited waits (inl (is_empty, same)) = λ limits l o h.
-      each limits r before Lines q after (past_empty limits is_empty) (with_all limits waited l) o (subst (λ ws. Comes limits Lines q after (with_all limits ws l) o) same h)
+      each limits r before Lines q after (past_empty limits is_empty) (with_all limits waited l) o (subst (λ ws. LoadsThen limits Lines q after (with_all limits ws l) o) same h)
   reads_on Lines waited waits (inr (t, spells, is)) = λ limits l o h.
       let w : Waiting = record { triple = t; line = q.number } in
       each_last limits w r before q after (past_triple limits t spells) (with_all limits waited l) o
-      (subst (λ x. Comes limits Lines q after x o) (ap (λ ws. with_all limits ws l) is ∙ with_last limits waited w l) h)
+      (subst (λ x. LoadsThen limits Lines q after x o) (ap (λ ws. with_all limits ws l) is ∙ with_last limits waited w l) h)
   reads_on End waited waits puts = absurd puts
   reads_on (Syntax n) waited waits (number, same, none, nothing) = λ limits l o h.
       each limits r before (Syntax n) q after (λ m o is. past_neither limits none nothing m o (is ∙ ap syntax number)) (with_all limits waited l) o
-      (subst (λ ws. Comes limits (Syntax n) q after (with_all limits ws l) o) same h)
+      (subst (λ ws. LoadsThen limits (Syntax n) q after (with_all limits ws l) o) same h)
   reads_on (Limit n) waited waits puts = absurd puts
 
   pub reads_result : (result : Result Next LoadError) (waited waits : List Waiting) → IfOk result (Puts q.line q.number waited waits) → IfOk result (λ next. Reads r waited before next q waits after)
@@ -184,10 +184,10 @@ reads_over r q before after over waited limits l o h =
 
 -- the first ones are loaded
 pub record AreLeft (limits : Limits) (ws : List Waiting) (n : ℕ) (old new : Loader) : Type 0 where
-  pub sound : IsSound new
+  pub sound : IsSoundLoader new
   pub does : (triples : List Triple) → Holds old triples → (more : List Triple) × Holds new more × (with_all limits ws (loading old triples) ≡ with_all limits (drop n ws) (loading new more))
 
-pub left_all : (limits : Limits) (ws : List Waiting) (r : Loader) → IsSound r → AreLeft limits ws 0 r r
+pub left_all : (limits : Limits) (ws : List Waiting) (r : Loader) → IsSoundLoader r → AreLeft limits ws 0 r r
 left_all limits ws r sound = record { sound = sound; does = λ triples holds. (triples, holds, refl) }
 
 module _ (limits : Limits) (ws : List Waiting) (n : ℕ) (old r : Loader) (left : AreLeft limits ws n old r) where
@@ -224,9 +224,9 @@ module _ (limits : Limits) (ws : List Waiting) (n : ℕ) (old r : Loader) (left 
 -- what comes of a batch comes of what lay ahead
 pub batch_leads : (limits : Limits) (r q : Reading) (before after : Option (List ℕ)) (waited waits : List Waiting) (next : Next) (l : Loading) (x : Result Loading ℕ) (Q : Outcome → Type 0)
     → waited ≡ [] → Reads r waited before next q waits after → with_all limits waits l ≡ x → ((o : Outcome) → LoadsAhead limits before (place r l) o → Q o)
-    → (o : Outcome) → Comes limits next q after x o → Q o
+    → (o : Outcome) → LoadsThen limits next q after x o → Q o
 batch_leads limits r q before after waited waits next l x Q none reads does leads o h =
-    leads o (subst (λ ws. Comes limits Lines r before (with_all limits ws l) o) none (reads limits l o (subst (λ y. Comes limits next q after y o) (sym does) h)))
+    leads o (subst (λ ws. LoadsThen limits Lines r before (with_all limits ws l) o) none (reads limits l o (subst (λ y. LoadsThen limits next q after y o) (sym does) h)))
 
 pub ahead_start : (limits : Limits) (left : Option (List ℕ)) (p : Place) (o : Outcome) → LoadsAhead limits (prepend_known [] left) p o → LoadsAhead limits left p o
 ahead_start limits None p o h = tt

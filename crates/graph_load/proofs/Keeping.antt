@@ -12,12 +12,12 @@ use Rattle.graph_load.specs.declared.known.Key.{Key}
 use Rattle.graph_load.specs.declared.loader.Loader.{Loader}
 use Rattle.graph_load.specs.Loading.{number_of, same_term, need, changed, with_graph, term_label, predicate_label}
 use Rattle.graph_load.specs.Places.{place_of, with_predicate}
-use Rattle.graph_load.specs.Holding.{loading, IsWithin, IsSound, Begins, Steps}
+use Rattle.graph_load.specs.Holding.{loading, PointsInto, IsSoundLoader, Begins, Steps}
 use Rattle.graph_load.proofs.Standing.{position_push, lookup_push, keys_push, is_some-lookup}
 use Rattle.graph_load.proofs.SameTerms.{term_same}
 use Rattle.graph_load.proofs.Changing.{node_made, link_made, need_new}
 
-pub more_within : (m n p q : ℕ) → m ≤ p → n ≤ q → (ks : List Key) → AllByRecursion (IsWithin m n) ks → AllByRecursion (IsWithin p q) ks
+pub more_within : (m n p q : ℕ) → m ≤ p → n ≤ q → (ks : List Key) → AllByRecursion (PointsInto m n) ks → AllByRecursion (PointsInto p q) ks
 more_within m n p q mp nq [] h = tt
 more_within m n p q mp nq (k ∷ ks) h = (
   (let s = h.0.subject in let r = h.0.predicate in let o = h.0.object in
@@ -26,7 +26,7 @@ more_within m n p q mp nq (k ∷ ks) h = (
 )
 
 -- a term becomes a node
-pub term_steps : (limits : Limits) (x : Term) (old : Loader) (h : Held) (n : ℕ) (terms : List (Term × ℕ)) → IsSound old → number_of old.terms x ≡ None
+pub term_steps : (limits : Limits) (x : Term) (old : Loader) (h : Held) (n : ℕ) (terms : List (Term × ℕ)) → IsSoundLoader old → number_of old.terms x ≡ None
     → apply (node (term_label x)) old.graph.graph limits ≡ Ok h.graph → h.room ≡ no_room → n ≡ length old.graph.graph.given → terms ≡ old.terms ++ (x, n) ∷ []
     → Steps (need limits x) old (record old { graph = h; terms = terms })
 term_steps limits x old h n terms sound none made room number added =
@@ -65,7 +65,7 @@ interned true xs x = record { begins = ([], sym (append-nil xs)); more = omega a
 interned false xs x = let longer = length_push xs x in record { begins = (x ∷ [], refl); more = omega (arith, longer); few = omega (arith, longer) }
 
 -- the node of a triple is added
-pub node_steps : (limits : Limits) (iri : List ℕ) (old : Loader) (h : Held) (predicates : List (List ℕ)) → IsSound old
+pub node_steps : (limits : Limits) (iri : List ℕ) (old : Loader) (h : Held) (predicates : List (List ℕ)) → IsSoundLoader old
     → apply (node (predicate_label iri)) old.graph.graph limits ≡ Ok h.graph → h.room ≡ no_room → predicates ≡ with_predicate old.predicates iri
     → Steps (changed limits (node (predicate_label iri))) old (record old { graph = h; predicates = predicates })
 node_steps limits iri old h predicates sound made room added =
@@ -87,7 +87,7 @@ node_steps limits iri old h predicates sound made room added =
     }
 
 -- an edge is added
-pub link_steps : (limits : Limits) (u v : ℕ) (old : Loader) (h : Held) → IsSound old → apply (link u v) old.graph.graph limits ≡ Ok h.graph → h.room ≡ no_room
+pub link_steps : (limits : Limits) (u v : ℕ) (old : Loader) (h : Held) → IsSoundLoader old → apply (link u v) old.graph.graph limits ≡ Ok h.graph → h.room ≡ no_room
     → Steps (changed limits (link u v)) old (record old { graph = h })
 link_steps limits u v old h sound made room =
     let same = link_made u v old.graph.graph limits h.graph made in

@@ -11,7 +11,7 @@ use Rattle.graph_load.specs.declared.known.Key.{Key}
 use Rattle.graph_load.specs.declared.loader.Loader.{Loader}
 use Rattle.graph_load.specs.Loading.{same_term, same_triple}
 use Rattle.graph_load.specs.Places.{place_of, stands, is_key_of, same_key}
-use Rattle.graph_load.specs.Holding.{is_known, IsWithin, IsSound, Grows}
+use Rattle.graph_load.specs.Holding.{is_known, PointsInto, IsSoundLoader, Grows}
 use Rattle.graph_load.proofs.Standing.{is_at, stands_at, stands_append, stands_same}
 use Rattle.graph_load.proofs.SameTerms.{term_is, same_bytes}
 
@@ -58,7 +58,7 @@ module _ (terms : List (Term × ℕ)) (predicates : List (List ℕ)) (t : Triple
       (λ i. term_at terms t.subject (Some key.subject) k.subject s i && (predicate_found predicates t.predicate (Some key.predicate) k.predicate p i && term_at terms t.object (Some key.object) k.object o i))))
 
   module _ (more : List (Term × ℕ)) (more_predicates : List (List ℕ)) where
-    key_stays : (k : Key) → IsWithin (length terms) (length predicates) k → is_key_of (terms ++ more) (predicates ++ more_predicates) t k ≡ is_key_of terms predicates t k
+    key_stays : (k : Key) → PointsInto (length terms) (length predicates) k → is_key_of (terms ++ more) (predicates ++ more_predicates) t k ≡ is_key_of terms predicates t k
     key_stays k w =
         let size = length-map terms (λ e. e.0) in
         let s = w.subject in
@@ -68,13 +68,13 @@ module _ (terms : List (Term × ℕ)) (predicates : List (List ℕ)) (t : Triple
         && (stands_append (bytes_eq t.predicate) predicates more_predicates k.predicate w.predicate i
         && (ap (λ xs. stands (same_term t.object) xs k.object) keys ∙ stands_append (same_term t.object) (keys_of terms) (keys_of more) k.object (omega (arith, size, o))) i))
 
-    any_stays : (ks : List Key) → AllByRecursion (IsWithin (length terms) (length predicates)) ks
+    any_stays : (ks : List Key) → AllByRecursion (PointsInto (length terms) (length predicates)) ks
         → list_any (is_key_of (terms ++ more) (predicates ++ more_predicates) t) ks ≡ list_any (is_key_of terms predicates t) ks
     any_stays [] h = refl
     any_stays (k ∷ ks) h = λ i. key_stays k h.0 i || any_stays ks h.1 i
 
 -- what is known stays
-pub known_stays : (old new : Loader) → Grows old new → IsSound old → (t : Triple) → is_known new t ≡ is_known old t
+pub known_stays : (old new : Loader) → Grows old new → IsSoundLoader old → (t : Triple) → is_known new t ≡ is_known old t
 known_stays old new grows sound t =
     (λ i. list_any (is_key_of (grows.terms.1 i) (grows.predicates.1 i) t) (grows.known i))
     ∙ any_stays old.terms old.predicates t grows.terms.0 grows.predicates.0 old.known sound.known

@@ -14,13 +14,13 @@ use Rattle.graph_load.specs.declared.known.Key.{Key}
 use Rattle.graph_load.specs.declared.loader.Loader.{Loader}
 use Rattle.graph_load.specs.Loading.{same_term, same_triple, need, changed, then_do, joined, placed, predicate_label, with_triple}
 use Rattle.graph_load.specs.Places.{place_of, is_key_of, same_key}
-use Rattle.graph_load.specs.Holding.{loading, is_known, Holds, with_new, IsWithin, IsSound, Grows, Steps, IsStopped, IsTaken, IsUntaken}
+use Rattle.graph_load.specs.Holding.{loading, is_known, Holds, with_new, PointsInto, IsSoundLoader, Grows, Steps, IsStopped, IsTaken, IsUntaken}
 use Rattle.graph_load.proofs.Standing.{position_append}
 use Rattle.graph_load.proofs.Joining.{grows_trans}
 use Rattle.graph_load.proofs.Knowing.{known_stays, known_key, key_of_same}
 
 -- a triple that is known stays
-pub taken_known : (limits : Limits) (t : Triple) (r : Loader) → IsSound r → is_known r t ≡ true → IsTaken limits t r r
+pub taken_known : (limits : Limits) (t : Triple) (r : Loader) → IsSoundLoader r → is_known r t ≡ true → IsTaken limits t r r
 taken_known limits t r sound known = record {
   sound = sound;
   does = λ triples holds.
@@ -70,7 +70,7 @@ module _ (limits : Limits) (t : Triple) (old : Loader) (unknown : is_known old t
           let s = stop triples in
           (s.0, second triples holds ∙ ap (λ r. then_do r (λ b. Ok (record b { triples = b.triples ++ t ∷ [] }))) s.1)
 
-      module _ (c : Loader) (joins : Steps (joined limits t.subject n t.object) b c) (sound : IsSound old) where
+      module _ (c : Loader) (joins : Steps (joined limits t.subject n t.object) b c) (sound : IsSoundLoader old) where
         grown : Grows old c
         grown = grows_trans old b c (grows_trans old a b needs.grows adds.grows) joins.grows
 
@@ -85,7 +85,7 @@ module _ (limits : Limits) (t : Triple) (old : Loader) (unknown : is_known old t
             room = joins.sound.room;
             terms = joins.sound.terms;
             predicates = joins.sound.predicates;
-            known = subst (AllByRecursion (IsWithin (length c.terms) (length c.predicates))) (sym added) (all_push (IsWithin (length c.terms) (length c.predicates)) c.known key joins.sound.known within);
+            known = subst (AllByRecursion (PointsInto (length c.terms) (length c.predicates))) (sym added) (all_push (PointsInto (length c.terms) (length c.predicates)) c.known key joins.sound.known within);
           };
           does = λ triples holds.
               second triples holds ∙ ap (λ r. then_do r (λ b. Ok (record b { triples = b.triples ++ t ∷ [] }))) (joins.does triples)
@@ -97,7 +97,7 @@ module _ (limits : Limits) (t : Triple) (old : Loader) (unknown : is_known old t
               ∙ ap (list_any (is_key_of c.terms c.predicates u)) (sym added));
         }
           where
-            within : IsWithin (length c.terms) (length c.predicates) key
+            within : PointsInto (length c.terms) (length c.predicates) key
             within =
                 let size = length-map c.terms (λ e. e.0) in
                 let i = (position-Some (same_term t.subject) (keys_of c.terms) key.subject t.subject s).0 in

@@ -16,7 +16,7 @@ use Rattle.graph_load.specs.declared.batch.Waiting.{Waiting}
 use Rattle.graph_load.specs.declared.loader.Loader.{Loader}
 use Rattle.graph_load.specs.Loading.{Loading, with_triple}
 use Rattle.graph_load.specs.Loads.{Outcome, loaded, syntax, limit, Place, LoadsFrom, Loads}
-use Rattle.graph_load.specs.Holding.{loading, Holds, IsSound, IsUntaken}
+use Rattle.graph_load.specs.Holding.{loading, Holds, IsSoundLoader, IsUntaken}
 
 -- The name is that of a told file whose text loads to this; of files that aren't told it says nothing.
 abbrev pub LoadsTold : Limits → Option (List File) → List ℕ → Outcome → Type 0
@@ -24,9 +24,9 @@ LoadsTold limits None name o = ⊤
 LoadsTold limits (Some files) name o = (text : List ℕ) × (content_of files name ≡ Some text) × Loads limits text o
 
 -- told files lack the name
-abbrev pub IsMissing : Option (List File) → List ℕ → Type 0
-IsMissing None name = ⊤
-IsMissing (Some files) name = content_of files name ≡ None
+abbrev pub LacksFile : Option (List File) → List ℕ → Type 0
+LacksFile None name = ⊤
+LacksFile (Some files) name = content_of files name ≡ None
 
 -- the outcome that an error tells; want of memory and a call that failed tell none
 abbrev pub Says : (Outcome → Type 0) → LoadError → Type 0
@@ -79,16 +79,16 @@ with_all limits [] l = Ok l
 with_all limits (w ∷ ws) l = then_load (with_one limits w l) (with_all limits ws)
 
 -- what is loaded gives this outcome, by what comes behind the lines that were read
-abbrev pub Follows : Limits → Next → Reading → Option (List ℕ) → Loading → Outcome → Type 0
-Follows limits Lines r text l o = LoadsAhead limits text (place r l) o
-Follows limits End r text l o = o ≡ loaded l.graph
-Follows limits (Syntax n) r text l o = o ≡ syntax n
-Follows limits (Limit n) r text l o = o ≡ limit n
+abbrev pub LoadsBehind : Limits → Next → Reading → Option (List ℕ) → Loading → Outcome → Type 0
+LoadsBehind limits Lines r text l o = LoadsAhead limits text (place r l) o
+LoadsBehind limits End r text l o = o ≡ loaded l.graph
+LoadsBehind limits (Syntax n) r text l o = o ≡ syntax n
+LoadsBehind limits (Limit n) r text l o = o ≡ limit n
 
 -- and so does this, where one of the triples that waited may be refused
-abbrev pub Comes : Limits → Next → Reading → Option (List ℕ) → Result Loading ℕ → Outcome → Type 0
-Comes limits next r text (Ok l) o = Follows limits next r text l o
-Comes limits next r text (Err n) o = o ≡ limit n
+abbrev pub LoadsThen : Limits → Next → Reading → Option (List ℕ) → Result Loading ℕ → Outcome → Type 0
+LoadsThen limits next r text (Ok l) o = LoadsBehind limits next r text l o
+LoadsThen limits next r text (Err n) o = o ≡ limit n
 
 -- a line, of that number, is put behind those that wait where it spells a triple
 abbrev pub Puts : List ℕ → ℕ → List Waiting → List Waiting → Next → Type 0
@@ -101,7 +101,7 @@ Puts text n old new (Limit m) = ⊥
 -- from those that waited before and the text that was left before.
 abbrev pub Reads : Reading → List Waiting → Option (List ℕ) → Next → Reading → List Waiting → Option (List ℕ) → Type 0
 Reads r waited before next q waits after =
-    (limits : Limits) (l : Loading) (o : Outcome) → Comes limits next q after (with_all limits waits l) o → Comes limits Lines r before (with_all limits waited l) o
+    (limits : Limits) (l : Loading) (o : Outcome) → LoadsThen limits next q after (with_all limits waits l) o → LoadsThen limits Lines r before (with_all limits waited l) o
 
 -- more of the text is taken
 abbrev pub IsNearer : Reading → Reading → Type 0
@@ -109,7 +109,7 @@ IsNearer r q = (r.taken < q.taken) × (q.taken ≤ GRAPH_BYTES)
 
 -- the triples that waited are loaded
 pub record AreLoaded (limits : Limits) (waited : List Waiting) (old new : Loader) : Type 0 where
-  pub sound : IsSound new
+  pub sound : IsSoundLoader new
   pub does : (triples : List Triple) → Holds old triples → (more : List Triple) × Holds new more × (with_all limits waited (loading old triples) ≡ Ok (loading new more))
 
 -- a triple is refused, and the number of its line decides

@@ -34,17 +34,17 @@ abbrev pub with_new : List Triple → Triple → List Triple
 with_new triples t = if list_any (same_triple t) triples then triples else triples ++ t ∷ []
 
 -- its places are in tables of these sizes
-pub record IsWithin (terms predicates : ℕ) (k : Key) : Type 0 where
+pub record PointsInto (terms predicates : ℕ) (k : Key) : Type 0 where
   pub subject : k.subject < terms
   pub predicate : k.predicate < predicates
   pub object : k.object < terms
 
 -- what each loader keeps
-pub record IsSound (r : Loader) : Type 0 where
+pub record IsSoundLoader (r : Loader) : Type 0 where
   pub room : r.graph.room ≡ no_room
   pub terms : length r.terms ≤ length r.graph.graph.given
   pub predicates : length r.predicates ≤ length r.graph.graph.given
-  pub known : AllByRecursion (IsWithin (length r.terms) (length r.predicates)) r.known
+  pub known : AllByRecursion (PointsInto (length r.terms) (length r.predicates)) r.known
 
 -- the second list begins with the first
 abbrev pub Begins : {X : Type 0} → List X → List X → Type 0
@@ -59,7 +59,7 @@ pub record Grows (old new : Loader) : Type 0 where
 -- a step leads from the one loader to the other
 pub record Steps (step : Loading → Result Loading Refusal) (old new : Loader) : Type 0 where
   pub does : (triples : List Triple) → step (loading old triples) ≡ Ok (loading new triples)
-  pub sound : IsSound new
+  pub sound : IsSoundLoader new
   pub grows : Grows old new
 
 -- a step is refused
@@ -68,7 +68,7 @@ IsStopped step r = (triples : List Triple) → (refusal : Refusal) × (step (loa
 
 -- the triple is loaded: it was, or its nodes and edges are added
 pub record IsTaken (limits : Limits) (t : Triple) (old new : Loader) : Type 0 where
-  pub sound : IsSound new
+  pub sound : IsSoundLoader new
   pub does : (triples : List Triple) → Holds old triples → with_triple limits t (loading old triples) ≡ Ok (loading new (with_new triples t))
   pub holds : (triples : List Triple) → Holds old triples → Holds new (with_new triples t)
 

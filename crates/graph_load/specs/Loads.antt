@@ -31,24 +31,24 @@ at_start = record { loading = nothing_loaded; lines = 0; bytes = 0 }
 abbrev pub past : Place → Line → Loading → Place
 past p l loading = record { loading = loading; lines = p.lines + 1; bytes = p.bytes + length l.text + length l.end }
 
-abbrev pub IsWithin : Place → Line → Type 0
-IsWithin p l = (length l.text ≤ LINE_BYTES) × (p.bytes + length l.text + length l.end ≤ GRAPH_BYTES)
+abbrev pub IsWithinFile : Place → Line → Type 0
+IsWithinFile p l = (length l.text ≤ LINE_BYTES) × (p.bytes + length l.text + length l.end ≤ GRAPH_BYTES)
 
 -- What becomes of a line that is within the limits on lines: it is empty, or spells a triple, which is loaded or refused,
 -- or neither. What follows is said of the place behind it.
-pub data TakesLine (limits : Limits) (p : Place) (l : Line) (rest : Place → Outcome → Type 0) : Outcome → Type 0 where
-  empty : Empty l.text → (o : Outcome) → rest (past p l p.loading) o → TakesLine limits p l rest o
+pub data LoadsLine (limits : Limits) (p : Place) (l : Line) (rest : Place → Outcome → Type 0) : Outcome → Type 0 where
+  empty : Empty l.text → (o : Outcome) → rest (past p l p.loading) o → LoadsLine limits p l rest o
   takes : (t : Triple) → Spells l.text t → (m : Loading) → with_triple limits t p.loading ≡ Ok m
-      → (o : Outcome) → rest (past p l m) o → TakesLine limits p l rest o
-  refuses : (t : Triple) → Spells l.text t → (r : Refusal) → with_triple limits t p.loading ≡ Err r → TakesLine limits p l rest (limit (p.lines + 1))
-  neither : ((t : Triple) → Spells l.text t → ⊥) → (Empty l.text → ⊥) → TakesLine limits p l rest (syntax (p.lines + 1))
+      → (o : Outcome) → rest (past p l m) o → LoadsLine limits p l rest o
+  refuses : (t : Triple) → Spells l.text t → (r : Refusal) → with_triple limits t p.loading ≡ Err r → LoadsLine limits p l rest (limit (p.lines + 1))
+  neither : ((t : Triple) → Spells l.text t → ⊥) → (Empty l.text → ⊥) → LoadsLine limits p l rest (syntax (p.lines + 1))
 
 -- The lines from the place on load to this. The first line that is refused decides.
 abbrev pub LoadsFrom : Limits → List Line → Place → Outcome → Type 0
 LoadsFrom limits [] p o = o ≡ loaded p.loading.graph
 LoadsFrom limits (l ∷ ls) p o =
-    ((¬ IsWithin p l) × (o ≡ limit (p.lines + 1)))
-    ⊎ (IsWithin p l × TakesLine limits p l (LoadsFrom limits ls) o)
+    ((¬ IsWithinFile p l) × (o ≡ limit (p.lines + 1)))
+    ⊎ (IsWithinFile p l × LoadsLine limits p l (LoadsFrom limits ls) o)
 
 -- the text loads to this
 abbrev pub Loads : Limits → List ℕ → Outcome → Type 0

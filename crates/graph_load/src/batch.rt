@@ -2,7 +2,7 @@
 ghost use Rattle.std.specs.Prelude.{◌≡◌, ◌≢◌, ◌++◌, ◌∷◌, [], IfOk, IfErr, OnOk, IsErrOf, Err};
 ghost use Rattle.px_base.specs.Causes.{Rose};
 ghost use Rattle.px_base.specs.Reading.{stream};
-ghost use Rattle.graph_load.specs.Holding.{IsSound, IsTaken};
+ghost use Rattle.graph_load.specs.Holding.{IsSoundLoader, IsTaken};
 ghost use Rattle.graph_load.specs.Going.{Says, CanRead, OnLines, Puts, Reads, IsNearer, AreLoaded, Stops, OneStops};
 
 use crate::additions::Stop;
@@ -122,7 +122,7 @@ fn load_next(
     waiting: &Waiting,
     hints: Option<Hints>,
 ) -> Result<(), LoadError>
-    requires { IsSound loader.old }
+    requires { IsSoundLoader loader.old }
     ensures taken { OnOk result (IsTaken limits.now waiting.now.triple loader.old loader.new) }
     ensures stopped { IfErr result (Says (Stops limits.now waiting.now loader.old)) }
     ensures found { result ≢ Err LoadError.Missing }
@@ -143,7 +143,7 @@ pub(crate) fn load_batch(
     lookahead: &mut Lookahead,
     waiting: &[Waiting],
 ) -> Result<(), LoadError>
-    requires { IsSound loader.old }
+    requires { IsSoundLoader loader.old }
     ensures loaded { OnOk result (AreLoaded limits.now waiting.now loader.old loader.new) }
     ensures stopped { IfErr result (Says (OneStops limits.now waiting.now loader.old)) }
     ensures found { result ≢ Err LoadError.Missing }

@@ -3,7 +3,7 @@ ghost use Rattle.std.specs.Prelude.{◌≡◌, ◌≢◌, ℕ, List, IfOk, IfErr
 ghost use Rattle.px_base.specs.Causes.{Rose};
 ghost use Rattle.label_graph.specs.Held.{no_room};
 ghost use Rattle.graph_load.specs.Loads.{Outcome, Loads, loaded, at_start};
-ghost use Rattle.graph_load.specs.Going.{LoadsTold, IsMissing, Says, LoadsAhead};
+ghost use Rattle.graph_load.specs.Going.{LoadsTold, LacksFile, Says, LoadsAhead};
 ghost use Rattle.graph_load.specs.declared.files.LoadError.TheVariants.{Memory as NoMemory};
 
 use crate::batch::{Next, give_back, load_batch, read_batch};
@@ -101,7 +101,7 @@ pub fn load<H: Shelf>(
     ensures refused { IfErr result (Says (LoadsTold limits.now (H.files shelf.old) name.now)) }
     // A text loads to one outcome at most.
     ensures once { (text : List ℕ) (a b : Outcome) → Loads limits.now text a → Loads limits.now text b → a ≡ b }
-    ensures missing { IsErrOf result LoadError.Missing → IsMissing (H.files shelf.old) name.now }
+    ensures missing { IsErrOf result LoadError.Missing → LacksFile (H.files shelf.old) name.now }
     ensures files { H.files shelf.new ≡ H.files shelf.old }
     ensures fault { IsErrOf result LoadError.Fault → Rose (H.faults shelf.old) (H.faults shelf.new) }
     ensures no_fault { result ≢ Err LoadError.Fault → H.faults shelf.new ≡ H.faults shelf.old }

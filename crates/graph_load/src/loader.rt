@@ -5,7 +5,7 @@ ghost use Rattle.graph_load.specs.Loading.{number_of, need, changed, joined, wit
 ghost use Rattle.graph_load.specs.Places.{place_of};
 ghost use Rattle.graph_load.specs.Finding.{IsFound, IsFoundAs};
 ghost use Rattle.triples_read.specs.declared.term.Triple.{Triple as TripleSeen};
-ghost use Rattle.graph_load.specs.Holding.{ArePlaces, is_known, loading, with_new, Holds, IsSound, Steps, IsStopped, IsTaken, IsUntaken};
+ghost use Rattle.graph_load.specs.Holding.{ArePlaces, is_known, loading, with_new, Holds, IsSoundLoader, Steps, IsStopped, IsTaken, IsUntaken};
 
 pub(crate) mod ahead;
 
@@ -43,7 +43,7 @@ struct Places {
 impl Loader {
     /// Nothing is loaded.
     pub(crate) fn new(alloc: Global) -> Result<Loader, Memory>
-        ensures sound { IfOk result IsSound }
+        ensures sound { IfOk result IsSoundLoader }
         ensures nothing { IfOk result (λ r. Holds r []) }
         ensures empty { IfOk result (λ r. loading r [] ≡ nothing_loaded) }
     {
@@ -80,7 +80,7 @@ impl Loader {
 
     // Whether the triple whose parts stand there is loaded.
     fn is_known(&self, triple: &Triple, places: &Places) -> bool
-        requires sound { IsSound self.now }
+        requires sound { IsSoundLoader self.now }
         requires places { ArePlaces self.now triple.now places.now }
         ensures { result ≡ is_known self.now triple.now }
     {
@@ -102,7 +102,7 @@ impl Loader {
 
     // Makes a node of a term that is none.
     fn add_term(&mut self, alloc: Global, limits: &Limits, term: &Term) -> Result<Found, Stop>
-        requires sound { IsSound self.old }
+        requires sound { IsSoundLoader self.old }
         requires absent { number_of self.old.terms term.now ≡ None }
         ensures steps { OnOk result (Steps (need limits.now term.now) self.old self.new) }
         ensures place { IfOk result (λ f. place_of self.new.terms term.now ≡ Some f.place) }
@@ -122,7 +122,7 @@ impl Loader {
         term: &Term,
         found: Option<Found>,
     ) -> Result<Found, Stop>
-        requires sound { IsSound self.old }
+        requires sound { IsSoundLoader self.old }
         requires found { IsFoundAs self.old.terms term.now found }
         ensures steps { OnOk result (Steps (need limits.now term.now) self.old self.new) }
         ensures place { IfOk result (λ f. place_of self.new.terms term.now ≡ Some f.place) }
@@ -155,7 +155,7 @@ impl Loader {
         predicate: &Text,
         found: Option<u32>,
     ) -> Result<(u32, NodeId), Stop>
-        requires sound { IsSound self.old }
+        requires sound { IsSoundLoader self.old }
         requires found { IfSome found (λ p. position (bytes_eq predicate.now) self.old.predicates ≡ Some p) }
         ensures steps { OnOk result (Steps (changed limits.now (node (predicate_label predicate.now))) self.old self.new) }
         ensures place { IfOk result (λ f. position (bytes_eq predicate.now) self.new.predicates ≡ Some f.0) }
@@ -172,7 +172,7 @@ impl Loader {
 
     // Adds an edge.
     fn link(&mut self, alloc: Global, limits: &Limits, from: NodeId, to: NodeId) -> Result<(), Stop>
-        requires sound { IsSound self.old }
+        requires sound { IsSoundLoader self.old }
         ensures steps { OnOk result (Steps (changed limits.now (link from to)) self.old self.new) }
         ensures terms { OnOk result (self.new.terms ≡ self.old.terms) }
         ensures limit { IsErrOf result Stop.Limit → IsStopped (changed limits.now (link from to)) self.old }
@@ -191,7 +191,7 @@ impl Loader {
         object: &Term,
         found: Option<Found>,
     ) -> Result<u32, Stop>
-        requires sound { IsSound self.old }
+        requires sound { IsSoundLoader self.old }
         requires found { IfSome found (IsFound self.old.terms object.now) }
         ensures steps { (x : Term) → number_of self.old.terms x ≡ Some from → OnOk result (Steps (joined limits.now x node object.now) self.old self.new) }
         ensures place { IfOk result (λ p. place_of self.new.terms object.now ≡ Some p) }
@@ -212,7 +212,7 @@ impl Loader {
         triple: &Triple,
         places: &Places,
     ) -> Result<(), Stop>
-        requires sound { IsSound self.old }
+        requires sound { IsSoundLoader self.old }
         requires unknown { is_known self.old triple.now ≡ false }
         requires places { ArePlaces self.old triple.now places.now }
         ensures taken { OnOk result (IsTaken limits.now triple.now self.old self.new) }
@@ -245,7 +245,7 @@ impl Loader {
         triple: &Triple,
         hints: Option<Hints>,
     ) -> Result<(), Stop>
-        requires sound { IsSound self.old }
+        requires sound { IsSoundLoader self.old }
         ensures taken { OnOk result (IsTaken limits.now triple.now self.old self.new) }
         ensures limit { IsErrOf result Stop.Limit → IsUntaken limits.now triple.now self.old }
     {

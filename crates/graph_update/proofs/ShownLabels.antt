@@ -7,9 +7,8 @@ use Rattle.std.proofs.lemmas.List.Quantifiers.{position-Some}
 use Rattle.std.proofs.lemmas.Option.{slice_get_within, slice_get-get_or, slice_get_past}
 use Rattle.std.proofs.lemmas.Slice.Eq.{bytes_eq-Decides}
 use Rattle.px_spec.specs.Graphs.{Graph, is_live, label_of, is_seen}
-use Rattle.px_spec.specs.Changes.{with_node, with_label}
+use Rattle.px_spec.specs.Changes.{with_node, with_label, after}
 use Rattle.label_graph.specs.Views.{label_number}
-use Rattle.graph_update.specs.NewChanges.{after}
 use Rattle.graph_update.specs.Judging.{change_of}
 use Rattle.graph_update.specs.declared.changes.Change.{Change as Asked}
 use Rattle.graph_update.specs.declared.changes.Change.TheVariants.{Node, Link, Unlink, Drop}

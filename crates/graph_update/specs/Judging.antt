@@ -3,8 +3,8 @@ use Rattle.std.specs.Prelude.{◌≡◌, false, IsTrue, Result, Ok, Err}
 use Rattle.px_spec.specs.declared.limits.Limits.{Limits}
 use Rattle.px_spec.specs.declared.refusal.Refusal.{Refusal}
 use Rattle.px_spec.specs.Graphs.{Graph}
-use Rattle.px_spec.specs.Changes.{Change, node, link, unlink, drop, apply}
-use Rattle.graph_update.specs.NewChanges.{after, is_same}
+use Rattle.px_spec.specs.Changes.{Change, node, link, unlink, drop, apply, after}
+use Rattle.graph_update.specs.NewChanges.{is_same}
 use Rattle.graph_update.specs.declared.changes.Change.{Change as Asked}
 use Rattle.graph_update.specs.declared.changes.Change.TheVariants.{Node, Link, Unlink, Drop}
 use Rattle.graph_update.specs.declared.changes.Verdict.{Verdict}

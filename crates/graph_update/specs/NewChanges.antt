@@ -5,13 +5,6 @@ use Rattle.px_spec.specs.declared.limits.Limits.{Limits}
 use Rattle.px_spec.specs.Graphs.{Graph, is_live, has_edge, is_seen}
 use Rattle.px_spec.specs.Changes.{Change, node, link, unlink, drop, with_node, with_edge, without_edge, without_node, is_used}
 
--- the graph that the change leaves where it is made
-abbrev pub after : Change → Graph → Graph
-after (node t) g = with_node g t
-after (link u v) g = with_edge g u v
-after (unlink u v) g = without_edge g u v
-after (drop u) g = without_node g u
-
 -- the change is a link of an edge that is there already, between live nodes
 abbrev pub is_same : Change → Graph → Bool
 is_same (node t) g = false

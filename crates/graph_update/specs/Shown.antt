@@ -2,8 +2,7 @@
 use Rattle.std.specs.Prelude.{ℕ, nat_eq, if◌then◌else◌, Option, Some, None, refl}
 use Rattle.std.specs.Coded.{Coded, code_by, coded×, coded_ℕ, coded_option}
 use Rattle.px_spec.specs.Graphs.{Graph, graph_code}
-use Rattle.px_spec.specs.Changes.{Change, node, link, unlink, drop}
-use Rattle.graph_update.specs.NewChanges.{after}
+use Rattle.px_spec.specs.Changes.{Change, node, link, unlink, drop, after}
 
 pub record Shown : Type 0 where
   pub graph : Graph

@@ -1,8 +1,9 @@
 // Making a change in two steps.
 ghost use Rattle.std.specs.Prelude.{◌≡◌, OnErr, IfOk};
+ghost use Rattle.px_spec.specs.Changes.{after};
 ghost use Rattle.px_spec.specs.Changes as change;
 ghost use Rattle.label_graph.specs.Held.{no_room};
-ghost use Rattle.graph_update.specs.NewChanges.{after, IsNew};
+ghost use Rattle.graph_update.specs.NewChanges.{IsNew};
 ghost use Rattle.graph_update.specs.Judging.{change_of};
 ghost use Rattle.graph_update.specs.Staging.{IsStaged, applied_of};
 

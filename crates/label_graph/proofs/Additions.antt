@@ -9,7 +9,7 @@ use Rattle.label_graph.specs.Nodes.{Node, labels_of, number_at, texts_of, childr
 use Rattle.label_graph.specs.declared.node.Reserved.TheVariants.{Nothing, Pair}
 use Rattle.label_graph.specs.Held.{graph_by}
 use Rattle.label_graph.specs.LabelTable.{LabelTable}
-use Rattle.label_graph.specs.Soundness.{IsSound, AreLabelled, IsLive}
+use Rattle.label_graph.specs.Soundness.{IsSoundGraph, HaveLabelNumbers, IsLive}
 use Rattle.label_graph.proofs.EdgeLists.{edges-pushed}
 use Rattle.label_graph.proofs.Readings.{label_of-number}
 use Rattle.label_graph.proofs.KeepsSound.{edges-same, lists-pushed}
@@ -34,14 +34,14 @@ live-number table nodes n h =
 pub graph-same : (table : LabelTable) (old new : List Node) → SameNodes old new → graph_by table new ≡ graph_by table old
 graph-same table old new s i = record { given = texts_of table.texts (s.labels i); edges = edges-same old new s.children i; seen = table.texts }
 
-module _ (table : LabelTable) (old new : List Node) (capacity edges count u v : ℕ) (o : IsSound table old capacity edges count (Pair u v))
+module _ (table : LabelTable) (old new : List Node) (capacity edges count u v : ℕ) (o : IsSoundGraph table old capacity edges count (Pair u v))
     (labels : labels_of new ≡ labels_of old)
     (children : (w : ℕ) → children_of new w ≡ children_of old w ++ (if nat_eq w u then v ∷ [] else []))
     (parents : (w : ℕ) → parents_of new w ≡ parents_of old w ++ (if nat_eq w v then u ∷ [] else [])) where
-  pub sound-edge : (more : ℕ) → has (children_of old u) v ≡ false → edges < 2 ^ 30 → IsSound table new more (edges + 1) count Nothing
+  pub sound-edge : (more : ℕ) → has (children_of old u) v ≡ false → edges < 2 ^ 30 → IsSoundGraph table new more (edges + 1) count Nothing
   sound-edge more absent few = record {
     lists = lists-pushed old new edges u v o.lists absent few o.room.from o.room.onto labels children parents;
-    labels = subst (λ l. AreLabelled table l count) (sym labels) o.labels;
+    labels = subst (λ l. HaveLabelNumbers table l count) (sym labels) o.labels;
     room = o.room.none_ahead;
   }
 

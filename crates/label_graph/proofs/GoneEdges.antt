@@ -14,7 +14,7 @@ use Rattle.label_graph.specs.declared.node.Reserved.{Reserved}
 use Rattle.label_graph.specs.declared.node.Reserved.TheVariants.{Nothing}
 use Rattle.label_graph.specs.Held.{graph_by}
 use Rattle.label_graph.specs.LabelTable.{LabelTable}
-use Rattle.label_graph.specs.Soundness.{IsSound, AreSound, AreLabelled, IsLive}
+use Rattle.label_graph.specs.Soundness.{IsSoundGraph, AreSound, HaveLabelNumbers, IsLive}
 use Rattle.label_graph.proofs.EdgeLists.{has_edge-children, and_comm}
 use Rattle.label_graph.proofs.KeepsSound.{labels-cleared}
 use Rattle.px_spec.proofs.EdgeOrder.{eq_pair}
@@ -95,11 +95,11 @@ module _ (old new : List Node) (u v : ℕ) (l : LacksEdge old new u v) where
   }
 
   module _ (table : LabelTable) where
-    pub sound-less : (capacity edges count : ℕ) (r : Reserved) (more : ℕ) → IsSound table old capacity edges count r → has (children_of old u) v ≡ true
-        → IsSound (record { texts = table.texts; ahead = None }) new more (edges - 1) count Nothing
+    pub sound-less : (capacity edges count : ℕ) (r : Reserved) (more : ℕ) → IsSoundGraph table old capacity edges count r → has (children_of old u) v ≡ true
+        → IsSoundGraph (record { texts = table.texts; ahead = None }) new more (edges - 1) count Nothing
     sound-less capacity edges count r more o there = record {
       lists = lists-taken edges o.lists there;
-      labels = subst (λ ls. AreLabelled (record { texts = table.texts; ahead = None }) ls count) (sym l.labels) (labels-cleared table (labels_of old) count o.labels);
+      labels = subst (λ ls. HaveLabelNumbers (record { texts = table.texts; ahead = None }) ls count) (sym l.labels) (labels-cleared table (labels_of old) count o.labels);
       room = refl;
     }
 

@@ -12,7 +12,7 @@ use Rattle.label_graph.specs.declared.node.Reserved.{Reserved}
 use Rattle.label_graph.specs.declared.node.Reserved.TheVariants.{Nothing}
 use Rattle.label_graph.specs.Held.{graph_by}
 use Rattle.label_graph.specs.LabelTable.{LabelTable}
-use Rattle.label_graph.specs.Soundness.{IsSound, AreLabelled, IsLive}
+use Rattle.label_graph.specs.Soundness.{IsSoundGraph, HaveLabelNumbers, IsLive}
 use Rattle.label_graph.proofs.EdgeLists.{has_edge-children}
 use Rattle.label_graph.proofs.KeepsSound.{edges-same, lists-as, labels-cleared}
 use Rattle.label_graph.proofs.Uses.{IsBare}
@@ -43,7 +43,7 @@ live-below [] n h = absurd (true≢false (sym h))
 live-below (x ∷ xs) zero h = omega arith
 live-below (x ∷ xs) (suc n) h = omega (arith, live-below xs n h)
 
-module _ (table : LabelTable) (numbers : List (Option ℕ)) (count u : ℕ) (a : AreLabelled table numbers count)
+module _ (table : LabelTable) (numbers : List (Option ℕ)) (count u : ℕ) (a : HaveLabelNumbers table numbers count)
     (live : is_some (option_and_then (λ l. l) (slice_get (texts_of table.texts numbers) u)) ≡ true) where
   texts-less : texts_of table.texts (slice_set numbers u None) ≡ slice_set (texts_of table.texts numbers) u None
   texts-less = map-set (option_and_then (slice_get table.texts)) numbers u None
@@ -51,7 +51,7 @@ module _ (table : LabelTable) (numbers : List (Option ℕ)) (count u : ℕ) (a :
   pub some-node : 0 < count
   some-node = omega (arith, a.node_count_is, count-less (texts_of table.texts numbers) u live)
 
-  labels-less : AreLabelled table (slice_set numbers u None) (count - 1)
+  labels-less : HaveLabelNumbers table (slice_set numbers u None) (count - 1)
   labels-less =
       let none : Option ℕ = None in
       record {
@@ -69,8 +69,8 @@ module _ (table : LabelTable) (old new : List Node) (u : ℕ) (live : IsTrue (is
   still-live w h l = ap is_some (ap (λ ls. number_at ls w) labels ∙ number-other (labels_of old) u w h) ∙ l
 
   module _ (bare : IsBare (graph_by table old) u) where
-    pub sound-gone : (capacity edges count : ℕ) (r : Reserved) (more : ℕ) → IsSound table old capacity edges count r
-        → IsSound (record { texts = table.texts; ahead = None }) new more edges (count - 1) Nothing
+    pub sound-gone : (capacity edges count : ℕ) (r : Reserved) (more : ℕ) → IsSoundGraph table old capacity edges count r
+        → IsSoundGraph (record { texts = table.texts; ahead = None }) new more edges (count - 1) Nothing
     sound-gone capacity edges count r more o = record {
       lists = lists-as old new edges children parents (λ a b h.
           let e = o.lists.ends a b h in
@@ -79,7 +79,7 @@ module _ (table : LabelTable) (old new : List Node) (u : ℕ) (live : IsTrue (is
             from = still-live a (λ s. true≢false (sym (ap (λ k. has (children_of old k) b) (sym s) ∙ h) ∙ sym (has_edge-children old u b) ∙ bare.from b)) e.from;
             onto = still-live b (λ s. true≢false (sym (ap (has (children_of old a)) (sym s) ∙ h) ∙ sym (has_edge-children old a u) ∙ bare.onto a)) e.onto;
           }) o.lists;
-      labels = subst (λ ls. AreLabelled (record { texts = table.texts; ahead = None }) ls (count - 1)) (sym labels)
+      labels = subst (λ ls. HaveLabelNumbers (record { texts = table.texts; ahead = None }) ls (count - 1)) (sym labels)
           (labels-cleared table (slice_set (labels_of old) u None) (count - 1) (labels-less table (labels_of old) count u o.labels live));
       room = refl;
     }

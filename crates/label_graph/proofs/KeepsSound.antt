@@ -16,7 +16,7 @@ use Rattle.label_graph.specs.Nodes.{Node, labels_of, number_at, children_of, par
 use Rattle.label_graph.specs.declared.node.Reserved.{Reserved}
 use Rattle.label_graph.specs.declared.node.Reserved.TheVariants.{Nothing, Label, Pair}
 use Rattle.label_graph.specs.LabelTable.{LabelTable, entries, with_ahead}
-use Rattle.label_graph.specs.Soundness.{IsSound, AreSound, AreLabelled, EndsLive, IsLive, IsNext, Fits}
+use Rattle.label_graph.specs.Soundness.{IsSoundGraph, AreSound, HaveLabelNumbers, EndsLive, IsLive, IsNext, ReservedFits}
 use Rattle.label_graph.proofs.EdgeLists.{has_edge-children, edges-pushed, mirrors-pushed, one}
 use Rattle.label_graph.proofs.Readings.{texts-once}
 use Rattle.label_graph.proofs.Tables.{bytes_laws}
@@ -46,7 +46,7 @@ lists-kept old new edges c p live s =
 count-of : (nodes : List Node) → length (labels_of nodes) ≡ length nodes
 count-of nodes = length-map nodes (λ n. n.label)
 
-fits-same : (table : LabelTable) (old new : List Node) (capacity more : ℕ) (r : Reserved) → capacity ≤ more → SameNodes old new → Fits table old capacity r → Fits table new more r
+fits-same : (table : LabelTable) (old new : List Node) (capacity more : ℕ) (r : Reserved) → capacity ≤ more → SameNodes old new → ReservedFits table old capacity r → ReservedFits table new more r
 fits-same table old new capacity more Nothing h s f = f
 fits-same table old new capacity more (Label l) h s f = record {
   next = f.next;
@@ -60,7 +60,7 @@ fits-same table old new capacity more (Pair u v) h s f = record {
 }
 
 -- nothing lies ahead of the labels
-pub labels-cleared : (table : LabelTable) (numbers : List (Option ℕ)) (count : ℕ) → AreLabelled table numbers count → AreLabelled (record { texts = table.texts; ahead = None }) numbers count
+pub labels-cleared : (table : LabelTable) (numbers : List (Option ℕ)) (count : ℕ) → HaveLabelNumbers table numbers count → HaveLabelNumbers (record { texts = table.texts; ahead = None }) numbers count
 labels-cleared table numbers count a = record {
   few_nodes = a.few_nodes;
   few_labels = a.few_labels;
@@ -71,16 +71,16 @@ labels-cleared table numbers count a = record {
 
 module _ (table : LabelTable) (edges count : ℕ) where
   -- the same nodes, with no less room
-  pub sound-same : (old new : List Node) (capacity more : ℕ) (r : Reserved) → capacity ≤ more → SameNodes old new → IsSound table old capacity edges count r → IsSound table new more edges count r
+  pub sound-same : (old new : List Node) (capacity more : ℕ) (r : Reserved) → capacity ≤ more → SameNodes old new → IsSoundGraph table old capacity edges count r → IsSoundGraph table new more edges count r
   sound-same old new capacity more r h s o = record {
     lists = lists-kept old new edges s.children s.parents (λ w l. subst (λ ls. IsSome (number_at ls w)) (sym s.labels) l) o.lists;
-    labels = subst (λ ls. AreLabelled table ls count) (sym s.labels) o.labels;
+    labels = subst (λ ls. HaveLabelNumbers table ls count) (sym s.labels) o.labels;
     room = fits-same table old new capacity more r h s o.room;
   }
 
-  module _ (nodes : List Node) (capacity : ℕ) (r : Reserved) (o : IsSound table nodes capacity edges count r) where
+  module _ (nodes : List Node) (capacity : ℕ) (r : Reserved) (o : IsSoundGraph table nodes capacity edges count r) where
     -- an edge has the room
-    pub sound-pair : (u v : ℕ) → IsLive nodes u → IsLive nodes v → HasRoom nodes u v → IsSound (record { texts = table.texts; ahead = None }) nodes capacity edges count (Pair u v)
+    pub sound-pair : (u v : ℕ) → IsLive nodes u → IsLive nodes v → HasRoom nodes u v → IsSoundGraph (record { texts = table.texts; ahead = None }) nodes capacity edges count (Pair u v)
     sound-pair u v from onto room = record {
       lists = o.lists;
       labels = labels-cleared table (labels_of nodes) count o.labels;
@@ -93,7 +93,7 @@ module _ (table : LabelTable) (edges count : ℕ) where
 
     -- a label has the room
     pub sound-label : (t : List ℕ) (more l : ℕ) → length nodes < more → IsNext (with_ahead table t).ahead (length table.texts) l
-        → IsSound (with_ahead table t) nodes more edges count (Label l)
+        → IsSoundGraph (with_ahead table t) nodes more edges count (Label l)
     sound-label t more l h n = record {
       lists = o.lists;
       labels = record {
@@ -158,7 +158,7 @@ module _ (old new : List Node) (edges u v : ℕ) (s : AreSound old edges) (absen
     few_edges = omega arith;
   }
 
-empty : (capacity : ℕ) → IsSound (record { texts = []; ahead = None }) [] capacity 0 0 Nothing
+empty : (capacity : ℕ) → IsSoundGraph (record { texts = []; ahead = None }) [] capacity 0 0 Nothing
 unfolding IsDistinct
 empty capacity = record {
   lists = record {
@@ -179,6 +179,6 @@ empty capacity = record {
   room = refl;
 }
 
-pub sound-empty : (table : LabelTable) (nodes : List Node) (capacity : ℕ) → table ≡ record { texts = []; ahead = None } → nodes ≡ [] → IsSound table nodes capacity 0 0 Nothing
+pub sound-empty : (table : LabelTable) (nodes : List Node) (capacity : ℕ) → table ≡ record { texts = []; ahead = None } → nodes ≡ [] → IsSoundGraph table nodes capacity 0 0 Nothing
 sound-empty table nodes capacity t n =
-    subst (λ x. IsSound x nodes capacity 0 0 Nothing) (sym t) (subst (λ x. IsSound (record { texts = []; ahead = None }) x capacity 0 0 Nothing) (sym n) (empty capacity))
+    subst (λ x. IsSoundGraph x nodes capacity 0 0 Nothing) (sym t) (subst (λ x. IsSoundGraph (record { texts = []; ahead = None }) x capacity 0 0 Nothing) (sym n) (empty capacity))

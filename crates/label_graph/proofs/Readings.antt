@@ -12,7 +12,7 @@ use Rattle.label_graph.specs.Nodes.{Node, labels_of, number_at, texts_of, childr
 use Rattle.label_graph.specs.declared.node.Reserved.{Reserved}
 use Rattle.label_graph.specs.LabelTable.{LabelTable, entries}
 use Rattle.label_graph.specs.Held.{graph_by}
-use Rattle.label_graph.specs.Soundness.{IsSound, AreLabelled, IsLive}
+use Rattle.label_graph.specs.Soundness.{IsSoundGraph, HaveLabelNumbers, IsLive}
 use Rattle.label_graph.specs.Views.{label_number, is_linked}
 use Rattle.label_graph.proofs.EdgeLists.{has_edge-children}
 use Rattle.label_graph.proofs.Positions.{position-at}
@@ -31,7 +31,7 @@ and_all : (a b c : Bool) → (a ≡ true → (b ≡ true) × (c ≡ true)) → (
 and_all false b c h = refl
 and_all true b c h = let p = h refl in ap (λ x. x && c) p.0 ∙ p.1
 
-module _ (table : LabelTable) (numbers : List (Option ℕ)) (count : ℕ) (a : AreLabelled table numbers count) (n : ℕ) where
+module _ (table : LabelTable) (numbers : List (Option ℕ)) (count : ℕ) (a : HaveLabelNumbers table numbers count) (n : ℕ) where
   number_back : (o : Option ℕ) → number_at numbers n ≡ o → option_and_then (λ t. position (bytes_eq t) table.texts) (option_and_then (slice_get table.texts) o) ≡ o
   number_back None e = refl
   number_back (Some l) e =
@@ -53,7 +53,7 @@ some-first : {X Y : Type 0} (f : X → Option Y) (o : Option X) → IsSome (opti
 some-first f None h = h
 some-first f (Some x) h = refl
 
-module _ (table : LabelTable) (nodes : List Node) (capacity edges count : ℕ) (reserved : Reserved) (s : IsSound table nodes capacity edges count reserved) where
+module _ (table : LabelTable) (nodes : List Node) (capacity edges count : ℕ) (reserved : Reserved) (s : IsSoundGraph table nodes capacity edges count reserved) where
   g : Graph
   g = graph_by table nodes
 

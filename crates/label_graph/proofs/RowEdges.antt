@@ -6,7 +6,7 @@ use Rattle.std.proofs.lemmas.List.{length-map}
 use Rattle.label_graph.specs.declared.segment.Segment.{Segment}
 use Rattle.label_graph.specs.declared.node.Row.{Row}
 use Rattle.label_graph.specs.Nodes.{Node, labels_of, children_of, parents_of, SameNodes, HasRoom, IsWithout, LacksEdge}
-use Rattle.label_graph.specs.Segments.{items_in, IsWithin, Writes}
+use Rattle.label_graph.specs.Segments.{items_in, LiesWithin, Writes}
 use Rattle.label_graph.specs.Rows.{AreHeld, list_in, node_in, nodes_in}
 use Rattle.label_graph.proofs.SetNodes.{edge-children, edge-parents}
 use Rattle.label_graph.proofs.NodeRooms.{Keeps, same-set, same-both, room-both, child-fits, parent-fits, labels-both}
@@ -58,7 +58,7 @@ module _ (cells : List ℕ) (rows : List Row) (u : ℕ) (a : Row) (from : u < le
       node_b : node_in one b ≡ get_or (set (nodes_in cells rows) u first) v (node_in one b)
       node_b = row-seen one once v b within_b is_b ∙ ap (λ l. get_or l v (node_in one b)) seen_once
 
-      pub second-within : IsWithin (length one) b.parents
+      pub second-within : LiesWithin (length one) b.parents
       second-within = parent-within one once v b within_b is_b held-once
 
       pub parent-room : HasRoom (nodes_in cells rows) u v → b.parents.len < b.parents.room

@@ -6,7 +6,7 @@ use Rattle.std.proofs.lemmas.Option.{slice_get-get_or}
 use Rattle.label_graph.specs.declared.segment.Segment.{Segment}
 use Rattle.label_graph.specs.declared.node.Row.{Row}
 use Rattle.label_graph.specs.Nodes.{Node, labels_of, number_at, children_of, parents_of}
-use Rattle.label_graph.specs.Segments.{items_in, IsWithin, IsApart, Writes}
+use Rattle.label_graph.specs.Segments.{items_in, LiesWithin, IsApart, Writes}
 use Rattle.label_graph.specs.Rows.{segments_of, AreHeld, list_in, node_in, nodes_in}
 use Rattle.label_graph.proofs.SetNodes.{children-at, parents-at}
 
@@ -68,8 +68,8 @@ turned s t h a b = elim (h b a) [
 ]
 
 module _ (cells more : List ℕ) (old new : List Row) (k : ℕ) (s t : Segment) (is : IsSetAt old new k s t) (w : Writes cells more s t) (h : AreHeld cells old) where
-  within-new : (i : ℕ) (u : Segment) → ((i ≡ k) × (u ≡ t)) ⊎ ((i ≢ k) × (slice_get (segments_of old) i ≡ Some u)) → IsWithin (length more) u
-  within-new i u (inl (e, f)) = subst (IsWithin (length more)) (sym f) w.within
+  within-new : (i : ℕ) (u : Segment) → ((i ≡ k) × (u ≡ t)) ⊎ ((i ≢ k) × (slice_get (segments_of old) i ≡ Some u)) → LiesWithin (length more) u
+  within-new i u (inl (e, f)) = subst (LiesWithin (length more)) (sym f) w.within
   within-new i u (inr (e, f)) = let o = h.within i u f in record { fits = o.fits; ends = λ l. omega (arith, o.ends l, w.longer) }
 
   apart-new : (i j : ℕ) (u v : Segment) → i ≢ j
@@ -163,10 +163,10 @@ module _ (cells : List ℕ) (rows : List Row) (n : ℕ) (r : Row) (below : n < l
   pub below-seen : n < length (nodes_in cells rows)
   below-seen = omega (arith, below, length-map rows (node_in cells))
 
-  pub child-within : AreHeld cells rows → IsWithin (length cells) r.children
+  pub child-within : AreHeld cells rows → LiesWithin (length cells) r.children
   child-within h = h.within (twice n) r.children (children-list rows n r below ∙ ap (λ x. Some x.children) (sym is))
 
-  pub parent-within : AreHeld cells rows → IsWithin (length cells) r.parents
+  pub parent-within : AreHeld cells rows → LiesWithin (length cells) r.parents
   parent-within h = h.within (suc (twice n)) r.parents (parents-list rows n r below ∙ ap (λ x. Some x.parents) (sym is))
 
   pub children-seen : items_in cells r.children ≡ children_of (nodes_in cells rows) n
@@ -212,7 +212,7 @@ segments-push (x ∷ xs) r (suc zero) s c p e = inl e
 segments-push (x ∷ xs) r (suc (suc i)) s c p e = segments-push xs r i s c p e
 
 module _ (cells : List ℕ) (rows : List Row) (r : Row) (children : IsNowhere r.children) (parents : IsNowhere r.parents) (h : AreHeld cells rows) where
-  within-push : (i : ℕ) (s : Segment) → (slice_get (segments_of rows) i ≡ Some s) ⊎ IsNowhere s → IsWithin (length cells) s
+  within-push : (i : ℕ) (s : Segment) → (slice_get (segments_of rows) i ≡ Some s) ⊎ IsNowhere s → LiesWithin (length cells) s
   within-push i s (inl e) = h.within i s e
   within-push i s (inr n) = record { fits = omega (arith, n.len); ends = λ l. absurd (omega (arith, n.room, l)) }
 

@@ -7,7 +7,7 @@ use Rattle.std.proofs.lemmas.List.Quantifiers.{position-Some}
 use Rattle.std.proofs.lemmas.Bool.Decides.{nat_tests}
 use Rattle.label_graph.specs.declared.segment.Segment.{Segment}
 use Rattle.label_graph.specs.Nodes.{IsWithout}
-use Rattle.label_graph.specs.Segments.{items_in, IsWithin, IsApart, Begins, Writes, IsMoved}
+use Rattle.label_graph.specs.Segments.{items_in, LiesWithin, IsApart, Begins, Writes, IsMoved}
 use Rattle.label_graph.proofs.Takings.{taken}
 
 -- cells behind others
@@ -83,14 +83,14 @@ long-items cells s h =
     ap (λ b. if b then take s.len (s.at ∷ []) else take s.len (drop s.at cells)) e
 
 -- the length of a list
-pub items-length : (cells : List ℕ) (s : Segment) → IsWithin (length cells) s → length (items_in cells s) ≡ s.len
+pub items-length : (cells : List ℕ) (s : Segment) → LiesWithin (length cells) s → length (items_in cells s) ≡ s.len
 items-length cells s w = elim (room-cases s.room) [
   | inl h ↦ omega (arith, ap length (short-items cells s h), length-take s.len (s.at ∷ []), w.fits)
   | inr h ↦ omega (arith, ap length (long-items cells s h), length-take s.len (drop s.at cells), length-drop s.at cells, w.fits, w.ends h)
 ]
 
 -- lists before cells that are put behind
-pub items-more : (cells new : List ℕ) (s : Segment) → Begins cells new → IsWithin (length cells) s → items_in new s ≡ items_in cells s
+pub items-more : (cells new : List ℕ) (s : Segment) → Begins cells new → LiesWithin (length cells) s → items_in new s ≡ items_in cells s
 items-more cells new s (more, is) w = elim (room-cases s.room) [
   | inl h ↦ short-items new s h ∙ sym (short-items cells s h)
   | inr h ↦ long-items new s h ∙ ap (λ l. take s.len (drop s.at l)) is ∙ part-more s.at s.len cells more (omega (arith, w.fits, w.ends h)) ∙ sym (long-items cells s h)
@@ -99,11 +99,11 @@ items-more cells new s (more, is) w = elim (room-cases s.room) [
 pub longer : (cells new : List ℕ) → Begins cells new → length cells ≤ length new
 longer cells new (more, is) = omega (arith, ap length is, length-append cells more)
 
-within-longer : (a b : ℕ) (s : Segment) → a ≤ b → IsWithin a s → IsWithin b s
+within-longer : (a b : ℕ) (s : Segment) → a ≤ b → LiesWithin a s → LiesWithin b s
 within-longer a b s h w = record { fits = w.fits; ends = λ l. omega (arith, w.ends l) }
 
 -- nothing is written of the list
-pub writes-nothing : (old new : List ℕ) (s : Segment) → Begins old new → IsWithin (length old) s → Writes old new s s
+pub writes-nothing : (old new : List ℕ) (s : Segment) → Begins old new → LiesWithin (length old) s → Writes old new s s
 writes-nothing old new s b w = record {
   within = within-longer _ _ s (longer old new b) w;
   longer = longer old new b;
@@ -129,7 +129,7 @@ writes-short cells s t h fits = record {
 }
 
 -- a list apart from the room in which a cell is written
-set-apart : (cells : List ℕ) (s u : Segment) (k v : ℕ) → IsWithin (length cells) u → IsApart s u → 2 ≤ s.room → s.at ≤ k → k < s.at + s.room → items_in (set cells k v) u ≡ items_in cells u
+set-apart : (cells : List ℕ) (s u : Segment) (k v : ℕ) → LiesWithin (length cells) u → IsApart s u → 2 ≤ s.room → s.at ≤ k → k < s.at + s.room → items_in (set cells k v) u ≡ items_in cells u
 set-apart cells s u k v w a long low high = elim (room-cases u.room) [
   | inl h ↦ short-items (set cells k v) u h ∙ sym (short-items cells u h)
   | inr h ↦ long-items (set cells k v) u h ∙ elim (a long h) [
@@ -139,7 +139,7 @@ set-apart cells s u k v w a long low high = elim (room-cases u.room) [
 ]
 
 -- a cell of the room of a list is written, which then has another length
-pub writes-set : (cells : List ℕ) (s t : Segment) (k v : ℕ) → IsWithin (length cells) s → 2 ≤ s.room → s.at ≤ k → k < s.at + s.room
+pub writes-set : (cells : List ℕ) (s t : Segment) (k v : ℕ) → LiesWithin (length cells) s → 2 ≤ s.room → s.at ≤ k → k < s.at + s.room
     → t.at ≡ s.at → t.room ≡ s.room → t.len ≤ s.room → Writes cells (set cells k v) s t
 writes-set cells s t k v w long low high at room len = record {
   within = record { fits = omega (arith, len, room); ends = λ l. omega (arith, w.ends long, at, room, length-set cells k v) };
@@ -157,7 +157,7 @@ short-pushed cells s t v h none room at len =
     short-items cells t (omega (arith, h, room)) ∙ ap (λ n. take n (t.at ∷ [])) len ∙ ap (λ n. n ∷ []) at
     ∙ ap (λ l. l ++ v ∷ []) (sym (short-items cells s h ∙ ap (λ n. take n (s.at ∷ [])) none))
 
-pub items-pushed : (cells : List ℕ) (s t : Segment) (v : ℕ) → IsWithin (length cells) s → 2 ≤ s.room → s.len < s.room → t.at ≡ s.at → t.room ≡ s.room → t.len ≡ s.len + 1
+pub items-pushed : (cells : List ℕ) (s t : Segment) (v : ℕ) → LiesWithin (length cells) s → 2 ≤ s.room → s.len < s.room → t.at ≡ s.at → t.room ≡ s.room → t.len ≡ s.len + 1
     → items_in (set cells (s.at + s.len) v) t ≡ items_in cells s ++ v ∷ []
 items-pushed cells s t v w long h at room len =
     long-items (set cells (s.at + s.len) v) t (omega (arith, long, room))
@@ -188,7 +188,7 @@ take-less (suc m) (suc n) [] h = refl
 take-less (suc m) (suc n) (x ∷ xs) h = ap (λ l. x ∷ l) (take-less m n xs (omega arith))
 
 -- the last number comes to another's place
-items-taken : (cells : List ℕ) (s t : Segment) (k d x : ℕ) → IsWithin (length cells) s → 2 ≤ s.room → k < s.len → t.at ≡ s.at → t.room ≡ s.room → t.len ≡ s.len - 1
+items-taken : (cells : List ℕ) (s t : Segment) (k d x : ℕ) → LiesWithin (length cells) s → 2 ≤ s.room → k < s.len → t.at ≡ s.at → t.room ≡ s.room → t.len ≡ s.len - 1
     → x ≡ get_or cells (s.at + (s.len - 1)) d → items_in (set cells (s.at + k) x) t ≡ swap_remove (items_in cells s) k d
 items-taken cells s t k d x w long h at room len is =
     let n = items-length cells s w in
@@ -207,7 +207,7 @@ items-taken cells s t k d x w long h at room len is =
     ∙ ap (λ y. take (length (items_in cells s) - 1) (set (items_in cells s) k y)) (sym last)
 
 -- that leaves the list without the other
-module _ (cells : List ℕ) (s : Segment) (k n : ℕ) (w : IsWithin (length cells) s) (at : position (nat_eq n) (items_in cells s) ≡ Some k) where
+module _ (cells : List ℕ) (s : Segment) (k n : ℕ) (w : LiesWithin (length cells) s) (at : position (nat_eq n) (items_in cells s) ≡ Some k) where
   pub place-within : k < s.len
   place-within = omega (arith, (position-Some (nat_eq n) (items_in cells s) k 0 at).0, items-length cells s w)
 

@@ -17,5 +17,5 @@ abbrev pub with_ahead : LabelTable → List ℕ → LabelTable
 with_ahead t text = record { texts = t.texts; ahead = if is_seen t.texts text then None else Some text }
 
 -- what lies ahead is a label
-abbrev pub shown : LabelTable → LabelTable
-shown t = record { texts = entries t; ahead = None }
+abbrev pub with_ahead_shown : LabelTable → LabelTable
+with_ahead_shown t = record { texts = entries t; ahead = None }

@@ -3,7 +3,7 @@ use Rattle.std.specs.Prelude.{◌≡◌, ◌≢◌, ℕ, List, [], ◌∷◌, So
 use Rattle.label_graph.specs.declared.segment.Segment.{Segment}
 use Rattle.label_graph.specs.declared.node.Row.{Row}
 use Rattle.label_graph.specs.Nodes.{Node, Neighbours}
-use Rattle.label_graph.specs.Segments.{items_in, IsWithin, IsApart}
+use Rattle.label_graph.specs.Segments.{items_in, LiesWithin, IsApart}
 
 -- all lists, each node's children and then its parents
 abbrev pub segments_of : List Row → List Segment
@@ -12,7 +12,7 @@ segments_of (r ∷ rs) = r.children ∷ r.parents ∷ segments_of rs
 
 -- each list that takes cells lies among them, apart from the others
 pub record AreHeld (cells : List ℕ) (rows : List Row) : Type 0 where
-  pub within : (i : ℕ) (s : Segment) → slice_get (segments_of rows) i ≡ Some s → IsWithin (length cells) s
+  pub within : (i : ℕ) (s : Segment) → slice_get (segments_of rows) i ≡ Some s → LiesWithin (length cells) s
   pub apart : (i j : ℕ) (s t : Segment) → i ≢ j → slice_get (segments_of rows) i ≡ Some s → slice_get (segments_of rows) j ≡ Some t → IsApart s t
 
 abbrev pub list_in : List ℕ → Segment → Neighbours

@@ -7,7 +7,7 @@ abbrev pub items_in : List ℕ → Segment → List ℕ
 items_in cells s = if nat_lt s.room 2 then take s.len (s.at ∷ []) else take s.len (drop s.at cells)
 
 -- a list with its room lies among that many cells
-pub record IsWithin (size : ℕ) (s : Segment) : Type 0 where
+pub record LiesWithin (size : ℕ) (s : Segment) : Type 0 where
   pub fits : s.len ≤ s.room
   pub ends : 2 ≤ s.room → s.at + s.room ≤ size
 
@@ -20,14 +20,14 @@ Begins old new = (more : List ℕ) × (new ≡ old ++ more)
 
 -- one list is written anew, from s to t, and each that is apart from it stays as it is
 pub record Writes (old new : List ℕ) (s t : Segment) : Type 0 where
-  pub within : IsWithin (length new) t
+  pub within : LiesWithin (length new) t
   pub longer : length old ≤ length new
-  pub apart : (u : Segment) → IsWithin (length old) u → IsApart s u → IsApart t u
-  pub others : (u : Segment) → IsWithin (length old) u → IsApart s u → items_in new u ≡ items_in old u
+  pub apart : (u : Segment) → LiesWithin (length old) u → IsApart s u → IsApart t u
+  pub others : (u : Segment) → LiesWithin (length old) u → IsApart s u → items_in new u ≡ items_in old u
 
 -- the list t lies behind all old cells, with the numbers of s and more room
 pub record IsMoved (old new : List ℕ) (s t : Segment) : Type 0 where
-  pub within : IsWithin (length new) t
+  pub within : LiesWithin (length new) t
   pub behind : t.at ≡ length old
   pub long : 2 ≤ t.room
   pub items : items_in new t ≡ items_in old s

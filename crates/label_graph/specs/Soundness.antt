@@ -28,10 +28,10 @@ pub record PairFits (table : LabelTable) (nodes : List Node) (u v : ℕ) : Type 
   pub onto : IsLive nodes v
   pub room : HasRoom nodes u v
 
-abbrev pub Fits : LabelTable → List Node → ℕ → Reserved → Type 0
-Fits table nodes capacity Nothing = table.ahead ≡ None
-Fits table nodes capacity (Label l) = LabelFits table nodes capacity l
-Fits table nodes capacity (Pair u v) = PairFits table nodes u v
+abbrev pub ReservedFits : LabelTable → List Node → ℕ → Reserved → Type 0
+ReservedFits table nodes capacity Nothing = table.ahead ≡ None
+ReservedFits table nodes capacity (Label l) = LabelFits table nodes capacity l
+ReservedFits table nodes capacity (Pair u v) = PairFits table nodes u v
 
 -- edges lead from live nodes to live nodes
 pub record EndsLive (nodes : List Node) (u v : ℕ) : Type 0 where
@@ -48,14 +48,14 @@ pub record AreSound (nodes : List Node) (edge_count : ℕ) : Type 0 where
   pub few_edges : edge_count ≤ 2 ^ 30
 
 -- the table of labels, and the numbers of the nodes' labels
-pub record AreLabelled (table : LabelTable) (numbers : List (Option ℕ)) (node_count : ℕ) : Type 0 where
+pub record HaveLabelNumbers (table : LabelTable) (numbers : List (Option ℕ)) (node_count : ℕ) : Type 0 where
   pub few_nodes : length numbers ≤ 2 ^ 30
   pub few_labels : length table.texts ≤ length numbers
   pub once : IsDistinct bytes_eq (entries table)
   pub below : (n l : ℕ) → number_at numbers n ≡ Some l → l < length table.texts
   pub node_count_is : node_count ≡ count_by is_some (texts_of table.texts numbers)
 
-pub record IsSound (table : LabelTable) (nodes : List Node) (capacity edge_count node_count : ℕ) (reserved : Reserved) : Type 0 where
+pub record IsSoundGraph (table : LabelTable) (nodes : List Node) (capacity edge_count node_count : ℕ) (reserved : Reserved) : Type 0 where
   pub lists : AreSound nodes edge_count
-  pub labels : AreLabelled table (labels_of nodes) node_count
-  pub room : Fits table nodes capacity reserved
+  pub labels : HaveLabelNumbers table (labels_of nodes) node_count
+  pub room : ReservedFits table nodes capacity reserved

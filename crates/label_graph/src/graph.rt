@@ -35,11 +35,11 @@ impl Model for Graph {
     ghost coded = { held_code };
 
     ghost use Rattle.label_graph.specs.Held.{graph_by, room_by};
-    ghost use Rattle.label_graph.specs.Soundness.{IsSound};
+    ghost use Rattle.label_graph.specs.Soundness.{IsSoundGraph};
 
     ghost view = { λ g. record { graph = graph_by g.labels g.nodes.nodes; room = room_by g.labels g.room } };
 
-    ghost invariant = { λ g. IsSound g.labels g.nodes.nodes g.nodes.capacity g.edge_count g.node_count g.room };
+    ghost invariant = { λ g. IsSoundGraph g.labels g.nodes.nodes g.nodes.capacity g.edge_count g.node_count g.room };
 }
 
 // Reading.

@@ -2,7 +2,7 @@
 ghost use Rattle.std.specs.Prelude.{◌≡◌, ◌<◌, ◌≤◌, ◌+◌, ◌^◌, ◌++◌, ◌∷◌, [], ℕ, List, length, slice_get, Some, bytes_eq, position, None, false, IfOk, IfSome, OnOk, OnErr};
 ghost use Rattle.std.specs.List.{IsDistinct};
 ghost use Rattle.px_spec.specs.Graphs.{is_seen};
-ghost use Rattle.label_graph.specs.LabelTable.{entries, with_ahead, shown};
+ghost use Rattle.label_graph.specs.LabelTable.{entries, with_ahead, with_ahead_shown};
 ghost use Rattle.label_graph.specs.Soundness.{IsNext};
 
 use indexmap::IndexSet;
@@ -22,7 +22,7 @@ const AT_HAND: usize = 1 << HAND_BITS;
 #[derive(Drop)]
 pub struct Labels {
     table: IndexSet<Text>,
-    shown: usize,
+    with_ahead_shown: usize,
     at_hand: [u32; AT_HAND],
 }
 
@@ -44,7 +44,7 @@ impl Labels {
     {
         Labels {
             table: IndexSet::new(alloc),
-            shown: 0,
+            with_ahead_shown: 0,
             at_hand: [0; AT_HAND],
         }
     }
@@ -138,7 +138,7 @@ impl Labels {
     /// Makes a label of the text that is ahead.
     pub(crate) fn show(&mut self)
         requires few { length self.old.texts < 2 ^ 30 }
-        ensures { self.new ≡ shown self.old }
+        ensures { self.new ≡ with_ahead_shown self.old }
     {
         self.shown = self.table.len();
     }
@@ -169,13 +169,13 @@ fn hand_place(t: &Text) -> usize {
 }
 
 // Where two entries stand behind the first ones, only the last of them stays.
-fn drop_previous(table: &mut IndexSet<Text>, shown: usize)
-    requires { shown ≤ length table.old.keys }
-    ensures dropped { (front : List (List ℕ)) (old new : List ℕ) → table.old.keys ≡ front ++ old ∷ new ∷ [] → length front ≡ shown → table.new.keys ≡ front ++ new ∷ [] }
-    ensures kept { length table.old.keys ≤ shown + 1 → table.new.keys ≡ table.old.keys }
+fn drop_previous(table: &mut IndexSet<Text>, with_ahead_shown: usize)
+    requires { with_ahead_shown ≤ length table.old.keys }
+    ensures dropped { (front : List (List ℕ)) (old new : List ℕ) → table.old.keys ≡ front ++ old ∷ new ∷ [] → length front ≡ with_ahead_shown → table.new.keys ≡ front ++ new ∷ [] }
+    ensures kept { length table.old.keys ≤ with_ahead_shown + 1 → table.new.keys ≡ table.old.keys }
     ensures once { IsDistinct bytes_eq table.new.keys }
 {
-    if table.len() > shown + 1 {
-        table.swap_remove_index(shown);
+    if table.len() > with_ahead_shown + 1 {
+        table.swap_remove_index(with_ahead_shown);
     }
 }

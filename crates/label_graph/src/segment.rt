@@ -3,7 +3,7 @@ ghost use Rattle.std.specs.Prelude.{◌≡◌, ◌<◌, ◌≤◌, ◌++◌, ◌
 ghost use Rattle.std.specs.List.{IsDistinct};
 ghost use Rattle.px_spec.specs.Members.{has};
 ghost use Rattle.label_graph.specs.Nodes.{IsWithout};
-ghost use Rattle.label_graph.specs.Segments.{items_in, IsWithin, Writes, IsMoved, Begins};
+ghost use Rattle.label_graph.specs.Segments.{items_in, LiesWithin, Writes, IsMoved, Begins};
 
 use px_base::Memory;
 use std::slice::from_ref;
@@ -41,7 +41,7 @@ pub(crate) const EMPTY: Segment = Segment {
 /// The numbers of a list.
 #[inline(always)]
 pub(crate) fn items<'a>(cells: &'a [u32], segment: &'a Segment) -> &'a [u32]
-    requires { IsWithin (length cells.now) segment.now }
+    requires { LiesWithin (length cells.now) segment.now }
     ensures { result.now ≡ items_in cells.now segment.now }
 {
     let len = segment.len as usize;
@@ -55,7 +55,7 @@ pub(crate) fn items<'a>(cells: &'a [u32], segment: &'a Segment) -> &'a [u32]
 /// Makes room for one more number, where there is none. The list then lies behind all others.
 #[inline(always)]
 pub(crate) fn make_place(cells: &mut Vec<u32>, segment: &mut Segment) -> Result<(), Memory>
-    requires { IsWithin (length cells.old.items) segment.old }
+    requires { LiesWithin (length cells.old.items) segment.old }
     ensures writes { Writes cells.old.items cells.new.items segment.old segment.new }
     ensures items { items_in cells.new.items segment.new ≡ items_in cells.old.items segment.old }
     ensures capacity { segment.old.room ≤ segment.new.room }
@@ -78,7 +78,7 @@ fn more_room(room: u32) -> usize
 
 // Puts the numbers of a list behind all cells.
 fn put_behind(cells: &mut Vec<u32>, segment: Segment) -> Result<(), Memory>
-    requires { IsWithin (length cells.old.items) segment }
+    requires { LiesWithin (length cells.old.items) segment }
     ensures begins { Begins cells.old.items cells.new.items }
     ensures put { OnOk result (cells.new.items ≡ cells.old.items ++ items_in cells.old.items segment) }
 {
@@ -94,7 +94,7 @@ fn put_behind(cells: &mut Vec<u32>, segment: Segment) -> Result<(), Memory>
 
 // Copies a list behind all cells, with more room.
 fn moved(cells: &mut Vec<u32>, segment: Segment) -> Result<Segment, Memory>
-    requires { IsWithin (length cells.old.items) segment }
+    requires { LiesWithin (length cells.old.items) segment }
     ensures begins { Begins cells.old.items cells.new.items }
     ensures moved { IfOk result (IsMoved cells.old.items cells.new.items segment) }
 {
@@ -116,7 +116,7 @@ fn moved(cells: &mut Vec<u32>, segment: Segment) -> Result<Segment, Memory>
 /// Puts a number behind the others of a list, where there is room.
 #[inline(always)]
 pub(crate) fn push(cells: &mut Vec<u32>, segment: &mut Segment, n: u32)
-    requires within { IsWithin (length cells.old.items) segment.old }
+    requires within { LiesWithin (length cells.old.items) segment.old }
     requires room { segment.old.len < segment.old.room }
     ensures writes { Writes cells.old.items cells.new.items segment.old segment.new }
     ensures items { items_in cells.new.items segment.new ≡ items_in cells.old.items segment.old ++ n ∷ [] }
@@ -131,7 +131,7 @@ pub(crate) fn push(cells: &mut Vec<u32>, segment: &mut Segment, n: u32)
 
 /// Takes a number out of a list that has it at most once. The last one comes into its place.
 pub(crate) fn take_out(cells: &mut Vec<u32>, segment: &mut Segment, n: u32)
-    requires within { IsWithin (length cells.old.items) segment.old }
+    requires within { LiesWithin (length cells.old.items) segment.old }
     requires once { IsDistinct nat_eq (items_in cells.old.items segment.old) }
     ensures writes { Writes cells.old.items cells.new.items segment.old segment.new }
     ensures without { IsWithout (items_in cells.old.items segment.old) (items_in cells.new.items segment.new) n }

@@ -7,7 +7,7 @@ use Rattle.std.proofs.lemmas.Bool.Decides.{nat_tests}
 use Rattle.std.proofs.lemmas.List.Quantifiers.{position-Some}
 use Rattle.std.proofs.lemmas.Option.{slice_get-get_or}
 use Rattle.std.proofs.lemmas.Slice.Eq.{bytes_eq-Decides}
-use Rattle.path_query.specs.Marking.{same_label}
+use Rattle.path_query.specs.Marking.{same_number}
 
 all_at : (P : List ℕ → Type 0) (xs : List (List ℕ)) (k : ℕ) (y : List ℕ) → AllByRecursion P xs → slice_get xs k ≡ Some y → P y
 all_at P [] k y a e = cc
@@ -47,24 +47,24 @@ text_is t texts k e =
     slice_get-get_or texts k t p.0 ∙ ap Some (sym ((bytes_eq-Decides t (get_or texts k t)).0 p.1))
 
 same_number : (t : List ℕ) (texts : List (List ℕ)) (label at : Option ℕ) → label ≡ position (bytes_eq t) texts
-    → IsTrue (same_label label at) → option_and_then (λ l. slice_get texts l) at ≡ Some t
+    → IsTrue (same_number label at) → option_and_then (λ l. slice_get texts l) at ≡ Some t
 same_number t texts None at e h = absurd (true≢false (sym h))
 same_number t texts (Some l) None e h = absurd (true≢false (sym h))
 same_number t texts (Some l) (Some m) e h = ap (λ n. slice_get texts n) (eqb-true m l h) ∙ text_is t texts l (sym e)
 
 number_same : (t : List ℕ) (texts : List (List ℕ)) (label at : Option ℕ) → label ≡ position (bytes_eq t) texts → IsDistinct bytes_eq texts
-    → option_and_then (λ l. slice_get texts l) at ≡ Some t → IsTrue (same_label label at)
+    → option_and_then (λ l. slice_get texts l) at ≡ Some t → IsTrue (same_number label at)
 number_same t texts label None e d h = cc
 number_same t texts label (Some m) e d h =
-    subst (λ l. IsTrue (same_label l (Some m))) (sym (e ∙ number_is t texts m d h)) (itself m)
+    subst (λ l. IsTrue (same_number l (Some m))) (sym (e ∙ number_is t texts m d h)) (itself m)
   where
     itself : (m : ℕ) → nat_eq m m ≡ true
     itself m = search rules
 
 -- the number stands for the text
 pub record Names (texts : List (List ℕ)) (label : Option ℕ) (t : List ℕ) : Type 0 where
-  pub to_text : (at : Option ℕ) → IsTrue (same_label label at) → option_and_then (λ l. slice_get texts l) at ≡ Some t
-  pub to_number : (at : Option ℕ) → option_and_then (λ l. slice_get texts l) at ≡ Some t → IsTrue (same_label label at)
+  pub to_text : (at : Option ℕ) → IsTrue (same_number label at) → option_and_then (λ l. slice_get texts l) at ≡ Some t
+  pub to_number : (at : Option ℕ) → option_and_then (λ l. slice_get texts l) at ≡ Some t → IsTrue (same_number label at)
 
 pub names : (texts : List (List ℕ)) (label : Option ℕ) (t : List ℕ) → label ≡ position (bytes_eq t) texts → IsDistinct bytes_eq texts → Names texts label t
 names texts label t e d = record { to_text = λ at h. same_number t texts label at e h; to_number = λ at h. number_same t texts label at e d h }

@@ -4,7 +4,7 @@ use Rattle.std.specs.List.{list_any}
 use Rattle.std.proofs.lemmas.Bool.{eqb-true}
 use Rattle.px_spec.specs.Members.{has, Lists}
 use Rattle.px_spec.specs.Shapes.{shape_by}
-use Rattle.path_query.specs.Marking.{Marks, IsReached, same_label}
+use Rattle.path_query.specs.Marking.{Marks, IsReached, same_number}
 use Rattle.path_query.proofs.LabelNumbers.{Names}
 use Rattle.path_query.proofs.Paths.{Follows}
 
@@ -42,7 +42,7 @@ none_member p (x ∷ xs) u h k =
 
 -- a node with the label is reached where one of its parents is marked
 pub reached : (label_at : ℕ → Option ℕ) (edge : ℕ → ℕ → Bool) (label : Option ℕ) (marked : List ℕ) (n : ℕ) (parents : List ℕ) (b : Bool)
-    → IsTrue (same_label label (label_at n)) → Lists (λ u. edge u n) parents → b ≡ list_any (has marked) parents
+    → IsTrue (same_number label (label_at n)) → Lists (λ u. edge u n) parents → b ≡ list_any (has marked) parents
     → (IsTrue b → IsReached label_at edge label marked n) × (IsReached label_at edge label marked n → IsTrue b)
 reached label_at edge label marked n parents true h l e =
     let r = any_member (has marked) parents (sym e) in
@@ -54,9 +54,9 @@ reached label_at edge label marked n parents false h l e = (
 
 -- by its number or by its text, the label is the same
 pub marks_first : (texts : List (List ℕ)) (size : ℕ) (label_at : ℕ → Option ℕ) (edge : ℕ → ℕ → Bool) (label : Option ℕ) (t : List ℕ) (nodes : List ℕ)
-    → Names texts label t → Marks (λ n. IsTrue (same_label label (label_at n))) nodes → Marks (λ n. (shape_by texts size label_at edge).label n ≡ Some t) nodes
+    → Names texts label t → Marks (λ n. IsTrue (same_number label (label_at n))) nodes → Marks (λ n. (shape_by texts size label_at edge).label n ≡ Some t) nodes
 marks_first texts size label_at edge label t nodes k m =
-    marks_as (λ n. IsTrue (same_label label (label_at n))) (λ n. (shape_by texts size label_at edge).label n ≡ Some t) nodes
+    marks_as (λ n. IsTrue (same_number label (label_at n))) (λ n. (shape_by texts size label_at edge).label n ≡ Some t) nodes
     (λ n h. k.to_text (label_at n) h) (λ n h. k.to_number (label_at n) h) m
 
 pub marks_next : (texts : List (List ℕ)) (size : ℕ) (label_at : ℕ → Option ℕ) (edge : ℕ → ℕ → Bool) (label : Option ℕ) (t : List ℕ) (before nodes : List ℕ)

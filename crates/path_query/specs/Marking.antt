@@ -10,14 +10,14 @@ pub record Marks (P : ℕ → Type 0) (nodes : List ℕ) : Type 0 where
   pub complete : (n : ℕ) → P n → IsTrue (has nodes n)
 
 -- whether both are numbers of one label
-abbrev pub same_label : Option ℕ → Option ℕ → Bool
-same_label None m = false
-same_label (Some l) None = false
-same_label (Some l) (Some m) = nat_eq m l
+abbrev pub same_number : Option ℕ → Option ℕ → Bool
+same_number None m = false
+same_number (Some l) None = false
+same_number (Some l) (Some m) = nat_eq m l
 
 -- the node has the label, and a parent that is marked
 pub record IsReached (label_at : ℕ → Option ℕ) (edge : ℕ → ℕ → Bool) (label : Option ℕ) (marked : List ℕ) (n : ℕ) : Type 0 where
-  pub labelled : IsTrue (same_label label (label_at n))
+  pub labelled : IsTrue (same_number label (label_at n))
   pub parent : ℕ
   pub parent_marked : IsTrue (has marked parent)
   pub parent_edge : IsTrue (edge parent n)

@@ -5,7 +5,7 @@ ghost use Rattle.std.specs.List.Sorted.{IsStrictlyIncreasing};
 ghost use Rattle.px_spec.specs.Members.{has};
 ghost use Rattle.px_spec.specs.Shapes.{shape_by};
 ghost use Rattle.path_query.specs.Answers.{AreAnswers};
-ghost use Rattle.path_query.specs.Marking.{Marks, IsReached, same_label};
+ghost use Rattle.path_query.specs.Marking.{Marks, IsReached, same_number};
 
 use crate::PathExpr;
 use label_graph::{Digraph, Labels};
@@ -14,7 +14,7 @@ use std::alloc::Global;
 
 /// Whether the number is a node with the label. No node has the label `None`.
 fn has_label<G: Digraph>(g: &G, n: NodeId, label: Option<u32>) -> bool
-    ensures { result ≡ same_label label (G.label_at g.now n) }
+    ensures { result ≡ same_number label (G.label_at g.now n) }
 {
     g.is_node(n) && label == Some(g.label(n))
 }
@@ -49,7 +49,7 @@ fn mark_if(marked: &mut Bits, n: NodeId, holds: bool)
 /// The nodes with the label.
 fn first<G: Digraph>(alloc: Global, g: &G, label: Option<u32>) -> Result<Bits, Memory>
     ensures size { IfOk result (λ b. b.size ≡ G.span g.now) }
-    ensures marks { IfOk result (λ b. Marks (λ n. IsTrue (same_label label (G.label_at g.now n))) b.members) }
+    ensures marks { IfOk result (λ b. Marks (λ n. IsTrue (same_number label (G.label_at g.now n))) b.members) }
 {
     let mut marked = Bits::new(alloc, g.size())?;
     for n in 0..g.size() {

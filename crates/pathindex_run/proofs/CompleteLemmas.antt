@@ -11,9 +11,9 @@ use Rattle.script_read.specs.Commands.{SpellsSomething, SpellsNothing}
 use Rattle.command_line.specs.Forms.{Settings, Form, runs, neither}
 use Rattle.graph_load.specs.Loads.{Outcome, loaded, Loads}
 use Rattle.graph_load.specs.Going.{LoadsTold}
-use Rattle.pathindex_run.specs.Runs.{State, Progress, start, IsWithin, TakesLines, Ends}
+use Rattle.pathindex_run.specs.Runs.{State, Progress, start, IsWithinScript, TakesLines, Ends}
 use Rattle.pathindex_run.specs.Told.{RanTold}
-use Rattle.pathindex_run.specs.Headline.{RunsScript, HasStatus, IsMissing, Lacks, BeginsWith, IsProper, NamesProper, NoFault, Completes}
+use Rattle.pathindex_run.specs.Headline.{RunsScript, HasStatus, LacksDueFile, Lacks, BeginsWith, IsProper, NamesProper, NoFault, Completes}
 use Rattle.pathindex_run.specs.Starting.{ScriptTold}
 
 -- the bytes of the lines with their ends
@@ -85,7 +85,7 @@ none_bad limits first text before (l ∷ ls) printed ending last status w cuts t
     let whole : bytes_of before + (length l.text + length l.end + bytes_of ls) ≡ length text = sym (bytes-append before (l ∷ ls)) ∙ ap bytes_of (sym cuts) ∙ (cut_whole text).0 in
     let taken = taken-bytes limits (start first) before printed last takes in
     let small = w.small in
-    let within : IsWithin last l = (here.0, omega (arith, whole, taken, small)) in
+    let within : IsWithinScript last l = (here.0, omega (arith, whole, taken, small)) in
     absurd (not_both l.text here.1 (ends.0 within))
 
 ran_few : (first : State) (text : List ℕ) (old new : Option (List ℕ)) (status : ℕ) → IsProper text → RanTold program_limits first (Some text) old new status → status ≤ 1
@@ -105,7 +105,7 @@ not_lacking : (name : Option (List ℕ)) (files : List File) (g : Graph) → Beg
 not_lacking None files g b l = l
 not_lacking (Some name) files g b l = (let z : None ≡ Some b.0 = sym l ∙ b.1 in cc)
 
-no_five : (form : Form) (files : Option (List File)) (h h2 : ℕ) → NoFault h h2 → Rose h h2 ⊎ IsMissing form files → NamesProper form files → ⊥
+no_five : (form : Form) (files : Option (List File)) (h h2 : ℕ) → NoFault h h2 → Rose h h2 ⊎ LacksDueFile form files → NamesProper form files → ⊥
 no_five form files h h2 f (inl r) w = not_rose h h2 f r
 no_five neither files h h2 f (inr m) w = m
 no_five (runs s) None h h2 f (inr m) w = w

@@ -17,7 +17,7 @@ use Rattle.script_read.specs.Commands.{Command, change, path, extents, sizes, Is
 use Rattle.command_line.specs.Forms.{Settings, runs}
 use Rattle.graph_load.specs.Loads.{syntax, limit}
 use Rattle.px_base.specs.Files.{File}
-use Rattle.pathindex_run.specs.Headline.{first_state as state_of, RunsScript, RunsLoaded, Follows, IsProper, HasStatus, Completes}
+use Rattle.pathindex_run.specs.Headline.{first_state as state_of, RunsScript, RunsLoaded, RunsOutcome, IsProper, HasStatus, Completes}
 use Rattle.pathindex_run.specs.Indexes.{IsKept, ShowsExtents, unkept}
 use Rattle.pathindex_run.specs.Runs.{State, Progress, start, TakesLine, IsRun, Obeys, command, changes}
 
@@ -167,18 +167,18 @@ with_graph : Settings
 with_graph = record { script = codes "s"; graph = Some (codes "g"); k = 2 }
 
 -- where its first line is refused, the run doesn't end as if there were no such line, and says which line it was
-not_done : (files : List File) (old new : Option (List ℕ)) → ¬ Follows with_graph files (syntax 1) old new 0
+not_done : (files : List File) (old new : Option (List ℕ)) → ¬ RunsOutcome with_graph files (syntax 1) old new 0
 unfolding with_graph
 not_done files old new (inl e) = omega (arith, e.0)
 not_done files old new (inr (inl e)) = omega (arith, e.0)
 not_done files old new (inr (inr e)) = omega (arith, e.0)
 
-says_which : (files : List File) → Follows with_graph files (syntax 1) (Some []) (Some (graph_line 1 (codes "syntax"))) 3
+says_which : (files : List File) → RunsOutcome with_graph files (syntax 1) (Some []) (Some (graph_line 1 (codes "syntax"))) 3
 unfolding with_graph
 says_which files = inl (refl, refl)
 
 -- a line past a limit isn't said to be misspelled
-not_syntax : (files : List File) → ¬ Follows with_graph files (limit 1) (Some []) (Some (codes "graph 1 syntax\n")) 3
+not_syntax : (files : List File) → ¬ RunsOutcome with_graph files (limit 1) (Some []) (Some (codes "graph 1 syntax\n")) 3
 unfolding with_graph
 not_syntax files (inl e) = (let same = limit_is ∙ sym e.1 in omega (arith, ap (λ l. slice_index l 8) same))
   where

@@ -13,7 +13,7 @@ use Rattle.quotient.specs.Quotients.{Quotient, view_of}
 use Rattle.ak_family.specs.Families.{KeyedQuotient, level_at, blocks_at}
 use Rattle.index_api.specs.declared.kinds.Via.TheVariants.{A}
 use Rattle.extent_report.specs.Listing.{DecidesEach, extents_text, block_total, joined_total, size_line}
-use Rattle.extent_report.specs.Summaries.{AreLabelled, IsSummaryOf}
+use Rattle.extent_report.specs.Summaries.{LabelsHaveTexts, IsSummaryOf}
 use Rattle.pathindex_run.specs.Indexes.{TellsLevel, ListsLevel, IsLevelLine, AreLevelLines}
 use Rattle.pathindex_run.specs.Going.{Extends}
 use Rattle.pathindex_run.specs.Families.{IsLevelOf, AreLevelsOf, AddsLevel}
@@ -34,7 +34,7 @@ module _ (g : Graph) (level : ℕ) (q : Quotient) (f : IsLevelOf g level q) wher
   by_test = record { fits = f.fits; agrees = tested (bis (shape_of g) level) tells f.agrees }
 
   -- each block's label has a text
-  pub labelled : AreLabelled g.seen q.blocks
+  pub labelled : LabelsHaveTexts g.seen q.blocks
   labelled b l e =
       let n = f.fits.inhabited b (rw e (search rules)) in
       let t = f.fits.labelled n.0 b n.1 in

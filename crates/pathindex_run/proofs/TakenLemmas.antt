@@ -15,13 +15,13 @@ use Rattle.pathindex_run.specs.Texts.{reply, answers_text}
 use Rattle.pathindex_run.specs.Kept.{Kept}
 use Rattle.pathindex_run.specs.Runs.{nothing, command, Obeys, changes, answers, lists, measures}
 use Rattle.pathindex_run.specs.Indexes.{ShowsExtents, ShowsSizes}
-use Rattle.pathindex_run.specs.Going.{Changes, Obeyed, AsksData, Comes}
+use Rattle.pathindex_run.specs.Going.{Changes, Obeyed, AsksData, LineIsTaken}
 
 or_same : (b : Bool) → b ≡ (b || false)
 or_same true = refl
 or_same false = refl
 
-pub quiet_comes : (limits : Limits) (k : Kept) (line out : List ℕ) → IsQuiet line → Comes limits k line out Done k out
+pub quiet_comes : (limits : Limits) (k : Kept) (line out : List ℕ) → IsQuiet line → LineIsTaken limits k line out Done k out
 quiet_comes limits k line out q = ([], false, nothing q, or_same k.refused, sym (append-nil out))
 
 -- a change that was judged, and carried out where it was accepted
@@ -86,5 +86,5 @@ spelled_asks line sizes h = tt
 
 -- a line whose command was carried out
 pub obeyed_comes : (limits : Limits) (k : Kept) (line : List ℕ) (c : Command) (out : List ℕ) (m : Kept) (gathered : List ℕ)
-    → IsSpelled line c → Obeyed limits k c out m gathered → Comes limits k line out Done m gathered
+    → IsSpelled line c → Obeyed limits k c out m gathered → LineIsTaken limits k line out Done m gathered
 obeyed_comes limits k line c out m gathered s o = (o.printed, o.refuses, command c s _ _ _ o.obeys, o.refused, o.gathered_is)

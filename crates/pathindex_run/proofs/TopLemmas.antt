@@ -6,7 +6,7 @@ use Rattle.px_spec.specs.Graphs.{Graph, empty_graph}
 use Rattle.px_spec.specs.ProgramLimits.{program_limits}
 use Rattle.px_base.specs.Files.{File, Finds, content_of}
 use Rattle.graph_load.specs.Loads.{Outcome, loaded, Loads}
-use Rattle.graph_load.specs.Going.{LoadsTold, IsMissing as IsAbsent}
+use Rattle.graph_load.specs.Going.{LoadsTold, LacksFile as IsAbsent}
 use Rattle.command_line.specs.Forms.{Settings, Form, runs, neither}
 use Rattle.pathindex_run.specs.declared.script.Ending.{Ending}
 use Rattle.pathindex_run.specs.declared.script.Ending.TheVariants.{Done, Refused, Bad}
@@ -14,7 +14,7 @@ use Rattle.pathindex_run.specs.Endings.{status_at}
 use Rattle.pathindex_run.specs.Runs.{State}
 use Rattle.pathindex_run.specs.Told.{RanTold, FrontTold}
 use Rattle.pathindex_run.specs.Starting.{BeginsTold, ScriptTold}
-use Rattle.pathindex_run.specs.Headline.{RunsScript, Follows, RunsLoaded, RunsFiles, Meets, BeginsWith, Lacks, IsMissing, first_state}
+use Rattle.pathindex_run.specs.Headline.{RunsScript, RunsOutcome, RunsLoaded, RunsFiles, Meets, BeginsWith, Lacks, LacksDueFile, first_state}
 use Rattle.pathindex_run.proofs.ReachedLemmas.{reached-start, front-part, nothing_written}
 
 high : (status : ℕ) → (status ≡ 5) ⊎ (status ≡ 7) → 5 ≤ status
@@ -83,10 +83,10 @@ script_meets s None g old new status b r = tt
 script_meets s (Some fs) g old new status b r = script_files s s.graph fs g old new status b r
 
 -- a script that isn't there
-lacks_script : (s : Settings) (files : List File) (g : Graph) → BeginsWith s.graph files g → content_of files s.script ≡ None → IsMissing (runs s) (Some files)
+lacks_script : (s : Settings) (files : List File) (g : Graph) → BeginsWith s.graph files g → content_of files s.script ≡ None → LacksDueFile (runs s) (Some files)
 lacks_script s files g b l = inr (g, b, l)
 
-pub script_missing : (s : Settings) (files : Option (List File)) (g : Graph) (left : Option (List ℕ)) → BeginsTold s.graph files g → Finds files s.script false left → IsMissing (runs s) files
+pub script_missing : (s : Settings) (files : Option (List File)) (g : Graph) (left : Option (List ℕ)) → BeginsTold s.graph files g → Finds files s.script false left → LacksDueFile (runs s) files
 script_missing s None g left b f = tt
 script_missing s (Some fs) g left b f = lacks_script s fs g b f
 
@@ -94,17 +94,17 @@ script_missing s (Some fs) g left b f = lacks_script s fs g b f
 lacks_graph : (name : List ℕ) (graph : Option (List ℕ)) (files : List File) → graph ≡ Some name → content_of files name ≡ None → Lacks files graph
 lacks_graph name graph files e l = subst (λ n. Lacks files n) (sym e) l
 
-pub graph_missing : (s : Settings) (name : List ℕ) (files : Option (List File)) → s.graph ≡ Some name → IsAbsent files name → IsMissing (runs s) files
+pub graph_missing : (s : Settings) (name : List ℕ) (files : Option (List File)) → s.graph ≡ Some name → IsAbsent files name → LacksDueFile (runs s) files
 graph_missing s name None e l = tt
 graph_missing s name (Some fs) e l = inl (lacks_graph name s.graph fs e l)
 
 -- a line of the graph file was refused
 refused_files : (s : Settings) (name : List ℕ) (files : List File) (o : Outcome) (old new : Option (List ℕ)) (status : ℕ)
-    → (text : List ℕ) × (content_of files name ≡ Some text) × Loads program_limits text o → Follows s files o old new status → RunsFiles s (Some name) files old new status
+    → (text : List ℕ) × (content_of files name ≡ Some text) × Loads program_limits text o → RunsOutcome s files o old new status → RunsFiles s (Some name) files old new status
 refused_files s name files o old new status l f = subst (λ t. RunsLoaded s files t old new status) (sym l.1) (inl (o, l.2, f))
 
 pub refused_meets : (s : Settings) (name : List ℕ) (files : Option (List File)) (o : Outcome) (old new : Option (List ℕ)) (status : ℕ) → s.graph ≡ Some name
-    → LoadsTold program_limits files name o → ((fs : List File) → Follows s fs o old new status) → Meets (runs s) files old new status
+    → LoadsTold program_limits files name o → ((fs : List File) → RunsOutcome s fs o old new status) → Meets (runs s) files old new status
 refused_meets s name None o old new status e l f = tt
 refused_meets s name (Some fs) o old new status e l f = subst (λ n. RunsFiles s n fs old new status) (sym e) (refused_files s name fs o old new status l (f fs))
 

@@ -44,10 +44,10 @@ AsksData (extents via) = ⊤
 AsksData sizes = ⊤
 
 -- A line was taken, and what it prints is gathered; or it is bad, and nothing is.
-abbrev pub Comes : Limits → Kept → List ℕ → List ℕ → Outcome → Kept → List ℕ → Type 0
-Comes limits k line out Done m gathered = (printed : List ℕ) × (refuses : Bool)
+abbrev pub LineIsTaken : Limits → Kept → List ℕ → List ℕ → Outcome → Kept → List ℕ → Type 0
+LineIsTaken limits k line out Done m gathered = (printed : List ℕ) × (refuses : Bool)
     × Does limits k.state line printed refuses m.state × (m.refused ≡ (k.refused || refuses)) × (gathered ≡ out ++ printed)
-Comes limits k line out Bad m gathered = SpellsNothing line × (gathered ≡ out)
+LineIsTaken limits k line out Bad m gathered = SpellsNothing line × (gathered ≡ out)
 
 abbrev pub progress : Kept → Reading → Progress
 progress k r = record { state = k.state; refused = k.refused; lines = r.number; bytes = r.taken }

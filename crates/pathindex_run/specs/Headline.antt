@@ -36,16 +36,16 @@ ShowsRefusal line old new status =
     ⊎ (((status ≡ 6) × AppendsFront old new line) ⊎ ((status ≡ 7) × Keeps old new))
 
 -- what follows, by what the graph file loads to
-abbrev pub Follows : Settings → List File → Outcome → Option (List ℕ) → Option (List ℕ) → ℕ → Type 0
-Follows s files (loaded g) old new status = RunsScript (first_state g s.k) (content_of files s.script) old new status
-Follows s files (syntax l) old new status = ShowsRefusal (graph_line l (codes "syntax")) old new status
-Follows s files (limit l) old new status = ShowsRefusal (graph_line l (codes "limit")) old new status
+abbrev pub RunsOutcome : Settings → List File → Outcome → Option (List ℕ) → Option (List ℕ) → ℕ → Type 0
+RunsOutcome s files (loaded g) old new status = RunsScript (first_state g s.k) (content_of files s.script) old new status
+RunsOutcome s files (syntax l) old new status = ShowsRefusal (graph_line l (codes "syntax")) old new status
+RunsOutcome s files (limit l) old new status = ShowsRefusal (graph_line l (codes "limit")) old new status
 
 -- `text` is what the graph file holds, if it is there: it is loaded first
 abbrev pub RunsLoaded : Settings → List File → Option (List ℕ) → Option (List ℕ) → Option (List ℕ) → ℕ → Type 0
 RunsLoaded s files None old new status = StopsAtOnce old new status
 RunsLoaded s files (Some text) old new status =
-    ((o : Outcome) × Loads program_limits text o × Follows s files o old new status)
+    ((o : Outcome) × Loads program_limits text o × RunsOutcome s files o old new status)
     ⊎ StopsAtOnce old new status
 
 -- the run begins with the empty graph, or with that of the file that is named
@@ -74,10 +74,10 @@ Lacks files (Some name) = content_of files name ≡ None
 
 -- A file that is to be read isn't there, or the shelf doesn't tell. The script is to be read where the run begins with a
 -- graph.
-abbrev pub IsMissing : Form → Option (List File) → Type 0
-IsMissing neither files = ⊥
-IsMissing (runs s) None = ⊤
-IsMissing (runs s) (Some files) = Lacks files s.graph ⊎ ((g : Graph) × BeginsWith s.graph files g × Lacks files (Some s.script))
+abbrev pub LacksDueFile : Form → Option (List File) → Type 0
+LacksDueFile neither files = ⊥
+LacksDueFile (runs s) None = ⊤
+LacksDueFile (runs s) (Some files) = Lacks files s.graph ⊎ ((g : Graph) × BeginsWith s.graph files g × Lacks files (Some s.script))
 
 abbrev pub NamesGraph : Form → Type 0
 NamesGraph neither = ⊥
@@ -88,7 +88,7 @@ pub record HasStatus (form : Form) (files : Option (List File)) (shelf_before sh
   pub is_one : status ≤ 7
   pub usage : status ≡ 2 → form ≡ neither
   pub graph : status ≡ 3 → NamesGraph form
-  pub missing : status ≡ 5 → Rose shelf_before shelf_after ⊎ IsMissing form files
+  pub missing : status ≡ 5 → Rose shelf_before shelf_after ⊎ LacksDueFile form files
   pub sink : status ≡ 6 → Rose sink_before sink_after
   pub shelf_rose : shelf_before < shelf_after → status ≡ 5
   pub sink_rose : sink_before < sink_after → status ≡ 6

@@ -62,12 +62,12 @@ abbrev pub bytes_with : Progress → Line → ℕ
 bytes_with p l = p.bytes + length l.text + length l.end
 
 -- the line passes neither the limit on a line nor the limit on a script
-abbrev pub IsWithin : Progress → Line → Type 0
-IsWithin p l = (length l.text ≤ LINE_BYTES) × (bytes_with p l ≤ SCRIPT_BYTES)
+abbrev pub IsWithinScript : Progress → Line → Type 0
+IsWithinScript p l = (length l.text ≤ LINE_BYTES) × (bytes_with p l ≤ SCRIPT_BYTES)
 
 -- From here the line may print this and lead there.
 pub record TakesLine (limits : Limits) (p : Progress) (l : Line) (printed : List ℕ) (q : Progress) : Type 0 where
-  pub within : IsWithin p l
+  pub within : IsWithinScript p l
   pub refuses : Bool
   pub does : Does limits p.state l.text printed refuses q.state
   pub refused : q.refused ≡ (p.refused || refuses)
@@ -76,7 +76,7 @@ pub record TakesLine (limits : Limits) (p : Progress) (l : Line) (printed : List
 
 -- The line ends the run: it passes a limit, or it is within them and spells nothing.
 abbrev pub IsBad : Progress → Line → Type 0
-IsBad p l = IsWithin p l → SpellsNothing l.text
+IsBad p l = IsWithinScript p l → SpellsNothing l.text
 
 -- so may these lines, one after another
 abbrev pub TakesLines : Limits → Progress → List Line → List ℕ → Progress → Type 0

@@ -1,7 +1,7 @@
 // Making changes of the graph, and what they print.
 ghost use Rattle.std.specs.Prelude.{◌≡◌, ◌++◌, Ok, IfOk, OnOk, OnErr};
+ghost use Rattle.px_spec.specs.Changes.{after};
 ghost use Rattle.graph_update.specs.Judging.{change_of};
-ghost use Rattle.graph_update.specs.NewChanges.{after};
 ghost use Rattle.pathindex_run.specs.Going.{Changes};
 ghost use Rattle.pathindex_run.specs.Texts.{reply};
 

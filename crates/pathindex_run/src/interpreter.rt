@@ -7,7 +7,7 @@ ghost use Rattle.px_spec.specs.declared.limits.Limits.{Limits as LimitsSeen};
 ghost use Rattle.script_read.specs.Commands.{change as changing, extents as listing, sizes as measuring};
 ghost use Rattle.script_read.specs.Reading.{command_of};
 ghost use Rattle.pathindex_run.specs.Texts.{answers_text};
-ghost use Rattle.pathindex_run.specs.Going.{Obeyed, AsksData, Comes};
+ghost use Rattle.pathindex_run.specs.Going.{Obeyed, AsksData, LineIsTaken};
 
 use crate::changes::make_change;
 use crate::indexes::{push_extents, push_sizes};
@@ -148,7 +148,7 @@ impl Interpreter {
         line: &[u8],
         out: &mut Vec<u8>,
     ) -> Result<Outcome, Memory>
-        ensures ok { IfOk result (λ outcome. Comes limits.now self.old line.now out.old.items outcome self.new out.new.items) }
+        ensures ok { IfOk result (λ outcome. LineIsTaken limits.now self.old line.now out.old.items outcome self.new out.new.items) }
         ensures err { OnErr result (out.new.items ≡ out.old.items) }
     {
         match read(alloc, line) {

@@ -8,7 +8,7 @@ use Rattle.px_spec.proofs.LineLemmas.{cut-feed, cut-return-feed, cut-return, cut
 use Rattle.px_base.specs.declared.line_end.LineEnd.{LineEnd}
 use Rattle.px_base.specs.declared.line_end.LineEnd.TheVariants.{Feed, Return, ReturnFeed, Over}
 use Rattle.px_base.specs.LineEnds.{end_bytes, IsWhole, TakesEnd, EndPasses}
-use Rattle.px_base.specs.Gathering.{Gathers, IsTooLong, TakesLine, IsLong}
+use Rattle.px_base.specs.Gathering.{Gathers, IsTooLong, GathersLine, IsLong}
 use Rattle.px_base.specs.Reading.{Reading, IsFirst, IsPast, IsOver}
 
 -- a text up to its first end is its first line
@@ -46,7 +46,7 @@ told-both room room2 line end a b c g t =
 -- what was put together, and its end, are a line
 takes-line : (line_limit room : ℕ) (line : List ℕ) (end : LineEnd) (window : List ℕ) (a b c : Option (List ℕ))
     → Gathers (min line_limit room) [] line a b → TakesEnd (room - length line) end b c → (end ≡ Over → window ≡ [])
-    → TakesLine line_limit room line end window a c
+    → GathersLine line_limit room line end window a c
 takes-line line_limit room line end window a b c g t over =
     let short = g.short in
     let fits = t.fits in
@@ -62,7 +62,7 @@ takes-line line_limit room line end window a b c g t over =
 
 pub took-line : {E : Type 0} (line_limit room : ℕ) (line window : List ℕ) (a b c : Option (List ℕ)) (r : Result LineEnd E)
     → Gathers (min line_limit room) [] line a b → IfOk r (λ end. TakesEnd (room - length line) end b c) → (r ≡ Ok Over → window ≡ [])
-    → IfOk r (λ end. TakesLine line_limit room line end window a c)
+    → IfOk r (λ end. GathersLine line_limit room line end window a c)
 took-line line_limit room line window a b c (Ok end) g t over = takes-line line_limit room line end window a b c g t (λ e. over (ap Ok e))
 took-line line_limit room line window a b c (Err e) g t over = tt
 

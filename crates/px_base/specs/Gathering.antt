@@ -47,7 +47,7 @@ pub record IsDone (line window : List ℕ) (before after : Option (List ℕ)) : 
   pub over_after : IsOver after
 
 -- a line was taken with its end, both within the limits, or nothing where the text is over
-pub record TakesLine (line_limit room : ℕ) (line : List ℕ) (end : LineEnd) (window : List ℕ) (before after : Option (List ℕ)) : Type 0 where
+pub record GathersLine (line_limit room : ℕ) (line : List ℕ) (end : LineEnd) (window : List ℕ) (before after : Option (List ℕ)) : Type 0 where
   pub short : length line ≤ line_limit
   pub fits : length line + length (end_bytes end) ≤ room
   pub first : 0 < length line + length (end_bytes end) → IsFirst (record { text = line; end = end_bytes end }) before after

@@ -22,8 +22,8 @@ abbrev pub stream : Reading → Option (List ℕ) → Option (List ℕ)
 stream r left = prepend_known r.ahead left
 
 -- the reader may take the line
-abbrev pub IsWithin : Reading → Line → Type 0
-IsWithin r l = (length l.text ≤ r.line_limit) × (r.taken + length l.text + length l.end ≤ r.text_limit)
+abbrev pub IsReadable : Reading → Line → Type 0
+IsReadable r l = (length l.text ≤ r.line_limit) × (r.taken + length l.text + length l.end ≤ r.text_limit)
 
 -- the line is the first of a told text, and the others are those of what is ahead after it
 abbrev pub IsFirst : Line → Option (List ℕ) → Option (List ℕ) → Type 0
@@ -35,7 +35,7 @@ IsFirst l (Some text) (Some rest) = cut text ≡ l ∷ cut rest
 pub record ReadsLine (old new : Reading) (before after : Option (List ℕ)) : Type 0 where
   pub first : Line
   pub some : 0 < length first.text + length first.end
-  pub within : IsWithin old first
+  pub within : IsReadable old first
   pub told : IsFirst first before after
   pub passed : new ≡ record old {
     ahead = new.ahead;
@@ -58,4 +58,4 @@ pub record Finishes (old new : Reading) (before after : Option (List ℕ)) : Typ
 -- a line passes a limit, the first of the text where that is told
 abbrev pub IsPast : Reading → Option (List ℕ) → Type 0
 IsPast r None = ⊤
-IsPast r (Some text) = (l : Line) × (rest : List Line) × (cut text ≡ l ∷ rest) × ¬ IsWithin r l
+IsPast r (Some text) = (l : Line) × (rest : List Line) × (cut text ≡ l ∷ rest) × ¬ IsReadable r l

@@ -4,7 +4,7 @@ ghost use Rattle.std.specs.Io.KnownBytes.{prepend_known};
 ghost use Rattle.px_base.specs.Causes.{Rose};
 ghost use Rattle.px_base.specs.declared.lines.LineFault.TheVariants.{Fault, Memory as NoMemory};
 ghost use Rattle.px_base.specs.LineEnds.{has_end, IsAtStop};
-ghost use Rattle.px_base.specs.Gathering.{TakesPart, Overfills, Gathers, IsTooLong, TakesLine, IsLong};
+ghost use Rattle.px_base.specs.Gathering.{TakesPart, Overfills, Gathers, IsTooLong, GathersLine, IsLong};
 ghost use Rattle.px_base.specs.Reading.{Reading, stream, ReadsLine, Finishes, IsPast};
 
 use crate::line_end::{LineEnd, take_end};
@@ -138,7 +138,7 @@ fn take_line<H: Shelf>(
 ) -> Result<LineEnd, LineFault>
     requires limit { line_limit ≤ 2 ^ 30 }
     requires open { IsTrue (H.is_open shelf.old) }
-    ensures ok { IfOk result (λ end. TakesLine line_limit room line.new.items end window.new (prepend_known window.old (H.left shelf.old)) (prepend_known window.new (H.left shelf.new))) }
+    ensures ok { IfOk result (λ end. GathersLine line_limit room line.new.items end window.new (prepend_known window.old (H.left shelf.old)) (prepend_known window.new (H.left shelf.new))) }
     ensures limit { IsErrOf result LineFault.Limit → IsLong line_limit room (prepend_known window.old (H.left shelf.old)) }
     ensures unread { IsTrue (has_end window.old) → shelf.new ≡ shelf.old }
     ensures files { H.files shelf.new ≡ H.files shelf.old }

@@ -2,4 +2,5 @@ pub mod EdgeOrder
 pub mod ListLemmas
 pub mod LineLemmas
 pub mod WalkLemmas
+pub mod GraphLaws
 pub mod Examples

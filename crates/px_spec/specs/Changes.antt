@@ -33,6 +33,13 @@ without_edge g u v = record g { edges = set.remove g.edges (u, v) }
 abbrev pub without_node : Graph → ℕ → Graph
 without_node g u = record g { given = slice_set g.given u None }
 
+-- the graph that the change leaves where it is made
+abbrev pub after : Change → Graph → Graph
+after (node t) g = with_node g t
+after (link u v) g = with_edge g u v
+after (unlink u v) g = without_edge g u v
+after (drop u) g = without_node g u
+
 -- an edge begins or ends at the node, its own loop included
 abbrev pub is_used : Graph → ℕ → Bool
 is_used g u = list_any (λ e. nat_eq e.0 u || nat_eq e.1 u) (set.items g.edges)

@@ -1,6 +1,6 @@
 -- A directed graph with one label on each node.
-use Rattle.std.specs.Prelude.{ℕ, Bool, List, [], slice_get, option_and_then, is_some, bytes_eq, Option, refl}
-use Rattle.std.specs.List.{list_any}
+use Rattle.std.specs.Prelude.{ℕ, ◌≡◌, Bool, List, [], slice_get, option_and_then, is_some, bytes_eq, Option, Some, IsTrue, refl}
+use Rattle.std.specs.List.{list_any, IsDistinct}
 use Rattle.std.specs.declared.cmp.Ordering.{Ordering}
 use Rattle.std.specs.FinSet as set
 use Rattle.std.specs.Coded.{Coded, code_by, coded×, coded_ℕ, coded_list, coded_option}
@@ -37,6 +37,14 @@ has_edge g u v = set.contains g.edges (u, v)
 -- whether the label was seen
 abbrev pub is_seen : List (List ℕ) → List ℕ → Bool
 is_seen seen t = list_any (bytes_eq t) seen
+
+-- What holds of the empty graph, and of each that changes lead to: the labels seen are distinct, each live node's label is one
+-- of them, and edges lead from live nodes to live nodes.
+pub record IsGraph (g : Graph) : Type 0 where
+  pub distinct : IsDistinct bytes_eq g.seen
+  pub labelled : (n : ℕ) (t : List ℕ) → label_of g n ≡ Some t → IsTrue (is_seen g.seen t)
+  pub from : (u v : ℕ) → IsTrue (has_edge g u v) → IsTrue (is_live g u)
+  pub onto : (u v : ℕ) → IsTrue (has_edge g u v) → IsTrue (is_live g v)
 
 -- a graph is stored as its three parts
 abbrev pub graph_code : Coded Graph

@@ -11,10 +11,9 @@ use Rattle.std.proofs.lemmas.Map.Keys.{IsDistinct-head, IsDistinct-tail}
 use Rattle.std.proofs.lemmas.Map.Views.{any-filter_same}
 use Rattle.px_spec.specs.Graphs.{Graph, Edges, edge_cmp, has_edge}
 use Rattle.label_graph.specs.Views.{is_linked}
-use Rattle.px_spec.specs.Members.{has, Lists}
+use Rattle.px_spec.specs.Members.{has, Lists, at, is_this}
 use Rattle.px_spec.proofs.EdgeOrder.{edge_cmp_total}
-use Rattle.block_partition.specs.Partitions.{at}
-use Rattle.bisim_spec.specs.Supports.{is_block, joins, edges_between}
+use Rattle.bisim_spec.specs.Supports.{joins, edges_between}
 use Rattle.quotient.specs.Joined.{pairs_of, pairs_between, edges_below}
 use Rattle.quotient.proofs.Looked.{same_is, tied, test_is, edge_cmp-IsAntisymmetric}
 
@@ -152,7 +151,7 @@ below_zero edges block x y =
     kept edges before k ∙ rw none (and_false (set.contains edges k)) ∙ sym (set.contains-empty edge_cmp k)))
     ∙ set.len-empty edge_cmp
 
-some_block : (x : ℕ) (o : Option ℕ) → is_block x o ≡ true → o ≡ Some x
+some_block : (x : ℕ) (o : Option ℕ) → is_this x o ≡ true → o ≡ Some x
 some_block x None h = absurd (cc)
 some_block x (Some b) h = elim (eqb_tells x b) [ inl s ↦ ap (λ c. Some c) (sym s.1) | inr d ↦ absurd (let f = d.0 in cc) ]
 
@@ -168,7 +167,7 @@ below_all edges block size x y within =
     ap set.len (set.same_set edge_cmp_total edge_cmp-IsAntisymmetric (set.retain edges before) (set.retain edges j) (λ k.
     kept edges before k ∙ ap (λ b. set.contains edges k && b) (elim (test_is (j k)) [
       | inl t ↦ (
-          let from = some_block x (at block k.0) (both_true (is_block x (at block k.0)) (is_block y (at block k.1)) t).0 in
+          let from = some_block x (at block k.0) (both_true (is_this x (at block k.0)) (is_this y (at block k.1)) t).0 in
           let h = within k.0 (subst IsSome (sym from) refl) in
           let below : nat_lt k.0 size ≡ true = grind (arith, nat_tests, h) in
           rw below refl)
@@ -236,7 +235,7 @@ between_members edges block a b h =
     let j = joins block a b in
     let m = member_of (set.retain edges j) (set.items (set.retain edges j)) refl h in
     let passed = (both_true (set.contains edges m.0) (j m.0) (sym (kept edges j m.0) ∙ m.1)).1 in
-    let ends = both_true (is_block a (at block m.0.0)) (is_block b (at block m.0.1)) passed in
+    let ends = both_true (is_this a (at block m.0.0)) (is_this b (at block m.0.1)) passed in
     (m.0.0, m.0.1, some_block a (at block m.0.0) ends.0, some_block b (at block m.0.1) ends.1)
 
 -- the children that a view lists are those to which edges lead

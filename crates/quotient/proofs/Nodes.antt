@@ -7,7 +7,7 @@ use Rattle.std.specs.Prelude.{is_some, option_and_then, slice_get, position, byt
 use Rattle.px_spec.specs.Graphs.{Graph, label_of, has_edge}
 use Rattle.px_spec.specs.Shapes.{Shape, shape_of, shape_by}
 use Rattle.label_graph.specs.Views.{label_number, is_linked}
-use Rattle.block_partition.specs.Partitions.{at}
+use Rattle.px_spec.specs.Members.{at}
 use Rattle.bisim_spec.specs.Partitions.{IsPartition}
 
 abbrev pub IsShown : Graph → Type 0

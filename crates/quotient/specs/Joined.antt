@@ -3,8 +3,8 @@ use Rattle.std.specs.Prelude.{◌≡◌, ◌≢◌, ℕ, ◌+◌, ◌<◌, ◌&&
 use Rattle.std.specs.FinMap as table
 use Rattle.std.specs.FinSet as set
 use Rattle.px_spec.specs.Graphs.{Edges}
-use Rattle.px_spec.specs.Members.{Lists}
-use Rattle.block_partition.specs.Partitions.{Partition, at}
+use Rattle.px_spec.specs.Members.{Lists, at}
+use Rattle.block_partition.specs.Partitions.{Partition}
 use Rattle.bisim_spec.specs.Supports.{joins, support}
 use Rattle.bisim_spec.specs.Views.{SupportTable, support_at}
 
@@ -60,7 +60,7 @@ abbrev pub AreLive : Partition → SupportTable → Type 0
 AreLive p t = (a b : ℕ) → 0 < support_at t a b → IsSome (at p.labels a) × IsSome (at p.labels b)
 
 -- what holds of each quotient and its lists of neighbours
-pub record IsSound (p : Partition) (t : SupportTable) (children parents : List (List ℕ)) : Type 0 where
+pub record IsSoundQuotient (p : Partition) (t : SupportTable) (children parents : List (List ℕ)) : Type 0 where
   pub near : AreNear t children parents
   pub live : AreLive p t
   pub length_children : length children ≡ length p.labels

@@ -3,7 +3,7 @@ use Rattle.std.specs.Prelude.{ℕ, ◌<◌, ◌&&◌, Bool, true, false, List, l
 use Rattle.std.proofs.Common.{sym, ap, ◌∙◌, inl, inr, None, true≢false}
 use Rattle.std.proofs.lemmas.Bool.{cases_lt}
 use Rattle.std.proofs.lemmas.List.{get_or_past}
-use Rattle.block_partition.specs.Partitions.{at}
+use Rattle.px_spec.specs.Members.{at}
 use Rattle.bisim_spec.specs.Views.{support_at}
 use Rattle.quotient.specs.Quotients.{Quotient, is_joined}
 

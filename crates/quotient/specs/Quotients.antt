@@ -4,7 +4,8 @@ use Rattle.std.specs.Prelude.{ℕ, ◌≡◌, ◌&&◌, Bool, List, Option, is_s
 use Rattle.std.specs.Coded.{Coded, code_by, coded×, coded_ℕ, coded_list, coded_option}
 use Rattle.std.specs.FinMap as table
 use Rattle.px_spec.specs.Graphs.{Edges, edge_cmp}
-use Rattle.block_partition.specs.Partitions.{Partition, at}
+use Rattle.px_spec.specs.Members.{at}
+use Rattle.block_partition.specs.Partitions.{Partition}
 use Rattle.bisim_spec.specs.Supports.{edges_between}
 use Rattle.bisim_spec.specs.Views.{View, SupportTable, support_at}
 

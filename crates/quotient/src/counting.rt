@@ -2,8 +2,8 @@
 ghost use Rattle.std.specs.Prelude.{◌≡◌, ◌+◌, ◌-◌, ◌<◌, ◌≤◌, ◌^◌, ◌&&◌, ℕ, IfOk, IfSome, OnOk, length, is_some, nat_eq};
 ghost use Rattle.std.specs.FinSet as set;
 ghost use Rattle.label_graph.specs.Views.{label_number};
-ghost use Rattle.block_partition.specs.Partitions.{at};
-ghost use Rattle.bisim_spec.specs.Supports.{is_block, joins};
+ghost use Rattle.px_spec.specs.Members.{at, is_this};
+ghost use Rattle.bisim_spec.specs.Supports.{joins};
 ghost use Rattle.bisim_spec.specs.Views.{support_at};
 ghost use Rattle.quotient.specs.Quotients.{AreCounted};
 ghost use Rattle.quotient.specs.Joined.{AreNear, AreLive, AreBelow, AreListed, one_if, pairs_with};
@@ -29,7 +29,7 @@ fn push_pair(
     requires from { IfSome from (λ a. a < span) }
     requires onto { IfSome onto (λ b. b < span) }
     requires below { AreBelow span pairs.old.items }
-    ensures pairs { OnOk result ((x y : ℕ) → pairs_with pairs.new.items x y ≡ pairs_with pairs.old.items x y + one_if (is_block x from && is_block y onto)) }
+    ensures pairs { OnOk result ((x y : ℕ) → pairs_with pairs.new.items x y ≡ pairs_with pairs.old.items x y + one_if (is_this x from && is_this y onto)) }
     ensures below { OnOk result (AreBelow span pairs.new.items) }
 {
     let Some(a) = from else { return Ok(()) };

@@ -1,8 +1,8 @@
 // The index graph of a partition.
 ghost use Rattle.std.specs.Prelude.{◌≡◌, ◌<◌, ◌≤◌, ◌^◌, ℕ, List, is_some, IsSome, IfOk, IfSome, length};
-ghost use Rattle.px_spec.specs.Members.{Lists};
+ghost use Rattle.px_spec.specs.Members.{Lists, at};
 ghost use Rattle.px_spec.specs.Shapes.{shape_of, shape_by};
-ghost use Rattle.block_partition.specs.Partitions.{at, is_member, block_count};
+ghost use Rattle.block_partition.specs.Partitions.{is_member, block_count};
 ghost use Rattle.bisim_spec.specs.Partitions.{IsPartition};
 ghost use Rattle.bisim_spec.specs.Views.{support_at, shape_of_view};
 ghost use Rattle.quotient.specs.Quotients.{AreCounted, pair_count, is_joined, view_of};
@@ -34,11 +34,11 @@ impl Model for Summary {
 
     ghost coded = { quotient_code };
 
-    ghost use Rattle.quotient.specs.Joined.{IsSound};
+    ghost use Rattle.quotient.specs.Joined.{IsSoundQuotient};
 
     ghost view = { λ s. record { blocks = s.blocks; supports = s.joins.supports } };
 
-    ghost invariant = { λ s. IsSound s.blocks s.joins.supports s.joins.children s.joins.parents };
+    ghost invariant = { λ s. IsSoundQuotient s.blocks s.joins.supports s.joins.children s.joins.parents };
 }
 
 impl Summary {
@@ -124,7 +124,7 @@ impl Summary {
 
 impl Digraph for Summary {
     ghost use Rattle.std.specs.Prelude.{length};
-    ghost use Rattle.block_partition.specs.Partitions.{at};
+    ghost use Rattle.px_spec.specs.Members.{at};
     ghost use Rattle.quotient.specs.Quotients.{is_joined};
     ghost use Rattle.quotient.specs.Laws.{below_span, ends_live};
 

@@ -1,6 +1,6 @@
 // Each public call once, on a small graph.
 ghost use Rattle.std.specs.Prelude.{◌≡◌, ◌<◌, ◌≤◌, ◌+◌, IsTrue, IsSome, length};
-ghost use Rattle.block_partition.specs.Partitions.{at};
+ghost use Rattle.px_spec.specs.Members.{at};
 ghost use Rattle.px_spec.specs.Shapes.{shape_of};
 ghost use Rattle.bisim_spec.specs.Partitions.{IsPartition};
 

@@ -1,5 +1,5 @@
 use Rattle.std.proofs.Common.{◌≡◌, ◌+◌, ℕ, None, nat_lt, if◌then◌else◌, slice_get}
-use Rattle.block_partition.specs.Partitions.{at}
+use Rattle.px_spec.specs.Members.{at}
 use Rattle.ak_family.proofs.filling.add_blocks.Given as goal
 
 abbrev pub invariant-loop-count : goal.invariant-loop-count

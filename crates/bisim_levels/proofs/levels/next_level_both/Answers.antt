@@ -1,5 +1,5 @@
 use Rattle.std.proofs.lemmas.Result.{IfOk-weaker}
-use Rattle.bisim_spec.specs.Partitions.{block_at}
+use Rattle.px_spec.specs.Members.{at}
 use Rattle.bisim_levels.specs.declared.refining.Level.{Level}
 use Rattle.bisim_levels.specs.declared.sides.Side.TheVariants.{Children}
 use Rattle.bisim_levels.specs.Sides.{is_near}
@@ -9,5 +9,5 @@ use Rattle.bisim_levels.proofs.levels.next_level_both.Goals as goal
 
 pub returns-clause-agrees : goal.returns-clause-agrees
 returns-clause-agrees c =
-    IfOk-weaker c.refine-2.result (λ (l : Level). Refines (block_at c.deref.result.now) c.args.block.now (is_near Children c.args.view.now) l.block.items) _
+    IfOk-weaker c.refine-2.result (λ (l : Level). Refines (at c.deref.result.now) c.args.block.now (is_near Children c.args.view.now) l.block.items) _
     (λ l r. both_up c.args.view.now c.args.block.now c.deref.result.now l.block.items (rw c.deref.ensures.value c.in_ok-by_parents.ensures.refines) r) c.refine-2.ensures.refines

@@ -1,7 +1,7 @@
 use Rattle.std.proofs.Common.{◌∷◌, [], ℕ, List, refl}
 use Rattle.std.proofs.lemmas.Result.{IfOk-weaker}
 use Rattle.key_table.specs.Interning.{Interns}
-use Rattle.bisim_spec.specs.Partitions.{block_at}
+use Rattle.px_spec.specs.Members.{at}
 use Rattle.bisim_levels.specs.Keys.{IsWritten}
 use Rattle.bisim_levels.specs.Recent.{two_numbers}
 use Rattle.bisim_levels.proofs.Recalled.{recent_stays, written_one}
@@ -17,5 +17,5 @@ returns-in-Some-clause-ok c =
 pub returns-in-None-clause-recent : goal.returns-in-None-clause-recent
 returns-in-None-clause-recent c =
     IfOk-weaker c.intern_key.result
-    (λ (k : ℕ). (key : List ℕ) × IsWritten (block_at c.args.base.now) c.args.nodes.now c.args.number key × Interns c.args.keys.now c.intern_key.new.keys key k) _
+    (λ (k : ℕ). (key : List ℕ) × IsWritten (at c.args.base.now) c.args.nodes.now c.args.number key × Interns c.args.keys.now c.intern_key.new.keys key k) _
     (λ k w. recent_stays two_numbers _ _ _ w.0 k w.2 c.requires.recent) c.intern_key.ensures.ok

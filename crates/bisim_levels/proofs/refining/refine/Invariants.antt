@@ -1,5 +1,5 @@
 use Rattle.key_table.specs.Interning.{AreDistinct}
-use Rattle.bisim_spec.specs.Partitions.{block_at}
+use Rattle.px_spec.specs.Members.{at}
 use Rattle.bisim_levels.specs.Sides.{is_near}
 use Rattle.bisim_levels.specs.Recent.{two_numbers, AreRecent}
 use Rattle.bisim_levels.proofs.Numbering.{NumberedBelow}
@@ -7,7 +7,7 @@ use Rattle.bisim_levels.proofs.refining.refine.Given as goal
 
 abbrev pub invariant-loop-n : goal.invariant-loop-n
 invariant-loop-n l = record {
-  numbered : NumberedBelow (block_at l.own) l.base (is_near l.side l.view) l.n l.keys l.block.items;
+  numbered : NumberedBelow (at l.own) l.base (is_near l.side l.view) l.n l.keys l.block.items;
   recent : AreRecent two_numbers l.keys l.recent.items;
   distinct : AreDistinct l.keys;
 }

@@ -1,5 +1,5 @@
 use Rattle.std.proofs.Common.{ℕ, ◌≡◌, ◌<◌, Some, length}
-use Rattle.block_partition.specs.Partitions.{at}
+use Rattle.px_spec.specs.Members.{at}
 use Rattle.extent_report.proofs.tests.are_labelled.Given as goal
 
 abbrev pub invariant-loop-b : goal.invariant-loop-b

@@ -3,7 +3,7 @@ use Rattle.std.specs.Prelude.{option_and_then, position, bytes_eq}
 use Rattle.px_spec.specs.Graphs.{Graph, label_of}
 use Rattle.px_spec.specs.Shapes.{shape_of}
 use Rattle.label_graph.specs.Views.{label_number}
-use Rattle.block_partition.specs.Partitions.{at}
+use Rattle.px_spec.specs.Members.{at}
 use Rattle.bisim_spec.specs.Partitions.{IsPartition}
 use Rattle.bisim_spec.proofs.Together.{block_below}
 use Rattle.extent_report.proofs.Listed.{given_below}

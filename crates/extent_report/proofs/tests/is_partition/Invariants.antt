@@ -1,5 +1,5 @@
 use Rattle.std.proofs.Common.{ℕ, ◌<◌, IsSome}
-use Rattle.block_partition.specs.Partitions.{at}
+use Rattle.px_spec.specs.Members.{at}
 use Rattle.label_graph.specs.Views.{label_number}
 use Rattle.extent_report.proofs.tests.is_partition.Given as goal
 

@@ -3,7 +3,7 @@ use Rattle.px_base.specs.declared.lines.TheConstants.{GRAPH_BYTES}
 use Rattle.px_base.specs.Reading.{stream}
 use Rattle.triples_read.specs.declared.term.Triple.{Triple}
 use Rattle.graph_load.specs.Loads.{Outcome, at_start}
-use Rattle.graph_load.specs.Holding.{loading, Holds, IsSound}
+use Rattle.graph_load.specs.Holding.{loading, Holds, IsSoundLoader}
 use Rattle.graph_load.specs.Going.{LoadsAhead, place, CanRead}
 use Rattle.graph_load.proofs.files.load_lines.Given as goal
 
@@ -13,7 +13,7 @@ invariant-batches g l = record {
   triples : List Triple;
   holds : Holds l.loader triples;
   leads : (o : Outcome) → LoadsAhead l.limits (stream l.reader (g.H.Shelf.left l.shelf)) (place l.reader (loading l.loader triples)) o → LoadsAhead l.limits (g.H.Shelf.left l.fn.shelf) at_start o;
-  sound : IsSound l.loader;
+  sound : IsSoundLoader l.loader;
   can : CanRead l.reader (g.H.Shelf.is_open l.shelf);
   files : g.H.Shelf.files l.shelf ≡ g.H.Shelf.files l.fn.shelf;
   faults : g.H.Shelf.faults l.shelf ≡ g.H.Shelf.faults l.fn.shelf;

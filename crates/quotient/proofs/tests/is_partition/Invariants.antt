@@ -1,6 +1,6 @@
 use Rattle.std.proofs.Common.{ℕ, ◌≡◌, ◌<◌}
 use Rattle.std.specs.Prelude.{is_some}
-use Rattle.block_partition.specs.Partitions.{at}
+use Rattle.px_spec.specs.Members.{at}
 use Rattle.label_graph.specs.Views.{label_number}
 use Rattle.quotient.proofs.tests.is_partition.Given as goal
 

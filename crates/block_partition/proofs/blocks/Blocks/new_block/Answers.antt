@@ -1,5 +1,6 @@
 use Rattle.std.proofs.Common.{◌≡◌, ◌∙◌, ◌-◌, sym, ap, arith, length}
-use Rattle.block_partition.specs.Partitions.{at, put}
+use Rattle.px_spec.specs.Members.{at}
+use Rattle.block_partition.specs.Partitions.{put}
 use Rattle.block_partition.proofs.Growth.{put_within, put_next, at_put}
 use Rattle.block_partition.proofs.FreedNumbers.{freed_within, least_freed}
 use Rattle.block_partition.proofs.KeepsSound.{sound_again, sound_next, count_full}

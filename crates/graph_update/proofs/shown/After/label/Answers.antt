@@ -1,8 +1,7 @@
 use Rattle.std.proofs.Common.{◌≡◌, ◌∙◌, ap, sym, subst, length}
 use Rattle.std.specs.Prelude.{IsTrue, slice_get, bytes_eq, position, option_and_then}
 use Rattle.px_spec.specs.Graphs.{is_live}
-use Rattle.px_spec.specs.Changes.{with_label}
-use Rattle.graph_update.specs.NewChanges.{after}
+use Rattle.px_spec.specs.Changes.{with_label, after}
 use Rattle.graph_update.specs.Judging.{change_of}
 use Rattle.graph_update.proofs.ShownLabels.{live-old, live-kept, text-old, text-kept, number-old, number-kept, label-new}
 use Rattle.graph_update.proofs.shown.After.label.Goals.{in_default-via-in-Node+else-n-created, in_default-via-in_default}

@@ -3,7 +3,7 @@ use Rattle.std.specs.FinSet as set
 use Rattle.px_spec.specs.Graphs.{has_edge}
 use Rattle.px_spec.specs.Changes.{with_edge}
 use Rattle.label_graph.specs.Held.{no_room}
-use Rattle.label_graph.specs.Soundness.{IsSound}
+use Rattle.label_graph.specs.Soundness.{IsSoundGraph}
 use Rattle.label_graph.proofs.Additions.{sound-edge, edge-added}
 use Rattle.label_graph.proofs.EdgeLists.{has_edge-children}
 use Rattle.label_graph.proofs.NewNodes.{pair-shown}
@@ -15,7 +15,7 @@ invariant_of-self c =
     let u = c.args.u in
     let v = c.args.v in
     let is = pair-shown s.labels s.room u v (ap (λ h. h.room) c.self.view_is ∙ c.requires.room) in
-    let sound = subst (λ r. IsSound s.labels s.nodes.nodes s.nodes.capacity s.edge_count s.node_count r) is c.self.invariant in
+    let sound = subst (λ r. IsSoundGraph s.labels s.nodes.nodes s.nodes.capacity s.edge_count s.node_count r) is c.self.invariant in
     let absent = sym (has_edge-children s.nodes.nodes u v) ∙ ap (λ h. has_edge h.graph u v) c.self.view_is ∙ c.requires.absent in
     let few = subst (λ h. set.len h.graph.edges < 2 ^ 30) (sym c.self.view_is) c.requires.few in
     sound-edge s.labels s.nodes.nodes c.push_edge.new.self.nodes s.nodes.capacity s.edge_count s.node_count u v sound
@@ -27,7 +27,7 @@ returns c =
     let u = c.args.u in
     let v = c.args.v in
     let is = pair-shown s.labels s.room u v (ap (λ h. h.room) c.self.view_is ∙ c.requires.room) in
-    let sound = subst (λ r. IsSound s.labels s.nodes.nodes s.nodes.capacity s.edge_count s.node_count r) is c.self.invariant in
+    let sound = subst (λ r. IsSoundGraph s.labels s.nodes.nodes s.nodes.capacity s.edge_count s.node_count r) is c.self.invariant in
     ap (λ g. record { graph = g; room = no_room }) (edge-added s.labels s.nodes.nodes c.push_edge.new.self.nodes s.nodes.capacity s.edge_count s.node_count u v sound
     c.push_edge.ensures.labels c.push_edge.ensures.children c.push_edge.ensures.parents)
     ∙ ap (λ h. record { graph = with_edge h.graph u v; room = no_room }) c.self.view_is

@@ -5,7 +5,7 @@ use Rattle.px_spec.specs.Members.{has}
 use Rattle.label_graph.specs.Held.{graph_by, no_room}
 use Rattle.label_graph.specs.Nodes.{children_of}
 use Rattle.label_graph.specs.declared.node.Reserved.TheVariants.{Nothing}
-use Rattle.label_graph.specs.Soundness.{IsSound}
+use Rattle.label_graph.specs.Soundness.{IsSoundGraph}
 use Rattle.label_graph.proofs.EdgeLists.{has_edge-children}
 use Rattle.label_graph.proofs.GoneEdges.{sound-less, edge-taken, some-edge}
 use Rattle.label_graph.proofs.GoneNodes.{live-below}
@@ -34,7 +34,7 @@ invariant_of-self c =
     let s = c.self.inside in
     let new = c.remove_edge.new.self in
     let there = sym (has_edge-children s.nodes.nodes c.args.u c.args.v) ∙ ap (λ h. has_edge h.graph c.args.u c.args.v) c.self.view_is ∙ c.requires.present in
-    subst (λ x. IsSound x new.nodes new.capacity (s.edge_count - 1) s.node_count Nothing) (sym c.clear.ensures)
+    subst (λ x. IsSoundGraph x new.nodes new.capacity (s.edge_count - 1) s.node_count Nothing) (sym c.clear.ensures)
     (sound-less s.nodes.nodes new.nodes c.args.u c.args.v c.remove_edge.ensures s.labels s.nodes.capacity s.edge_count s.node_count s.room new.capacity c.self.invariant there)
 
 pub returns : goal.returns

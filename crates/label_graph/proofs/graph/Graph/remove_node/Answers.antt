@@ -4,7 +4,7 @@ use Rattle.px_spec.specs.Changes.{without_node, is_used}
 use Rattle.label_graph.specs.Held.{graph_by, no_room}
 use Rattle.label_graph.specs.Nodes.{labels_of}
 use Rattle.label_graph.specs.declared.node.Reserved.TheVariants.{Nothing}
-use Rattle.label_graph.specs.Soundness.{IsSound}
+use Rattle.label_graph.specs.Soundness.{IsSoundGraph}
 use Rattle.label_graph.proofs.GoneNodes.{some-node, sound-gone, node-taken}
 use Rattle.label_graph.proofs.Uses.{unused-bare}
 use Rattle.label_graph.proofs.graph.Graph.remove_node.Goals as goal
@@ -21,7 +21,7 @@ invariant_of-self c =
     let new = c.clear_label.new.self in
     let live = ap (λ h. is_live h.graph c.args.u) c.self.view_is ∙ c.requires.live in
     let bare = unused-bare (graph_by s.labels s.nodes.nodes) c.args.u (ap (λ h. is_used h.graph c.args.u) c.self.view_is ∙ c.requires.unused) in
-    subst (λ x. IsSound x new.nodes new.capacity s.edge_count (s.node_count - 1) Nothing) (sym c.clear.ensures)
+    subst (λ x. IsSoundGraph x new.nodes new.capacity s.edge_count (s.node_count - 1) Nothing) (sym c.clear.ensures)
     (sound-gone s.labels s.nodes.nodes new.nodes c.args.u live c.clear_label.ensures.labels c.clear_label.ensures.children c.clear_label.ensures.parents bare
     s.nodes.capacity s.edge_count s.node_count s.room new.capacity c.self.invariant)
 

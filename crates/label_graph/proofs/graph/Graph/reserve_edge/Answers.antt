@@ -4,7 +4,7 @@ use Rattle.px_spec.specs.Graphs.{is_live}
 use Rattle.label_graph.specs.Held.{graph_by, room_by}
 use Rattle.label_graph.specs.Nodes.{number_at}
 use Rattle.label_graph.specs.declared.node.Reserved.TheVariants.{Pair}
-use Rattle.label_graph.specs.Soundness.{IsSound}
+use Rattle.label_graph.specs.Soundness.{IsSoundGraph}
 use Rattle.label_graph.proofs.Additions.{on-err, graph-same, live-number}
 use Rattle.label_graph.proofs.KeepsSound.{sound-same, sound-pair}
 use Rattle.label_graph.proofs.graph.Graph.reserve_edge.Goals as goal
@@ -36,7 +36,7 @@ invariant_of-self-2 c =
     let sound = sound-same s.labels s.edge_count s.node_count s.nodes.nodes new _ _ s.room more same c.self.invariant in
     let from = live-number s.labels s.nodes.nodes u (subst (λ h. IsTrue (is_live h.graph u)) (sym c.self.view_is) c.requires.from) in
     let onto = live-number s.labels s.nodes.nodes v (subst (λ h. IsTrue (is_live h.graph v)) (sym c.self.view_is) c.requires.onto) in
-    subst (λ x. IsSound x new (c.reserve_edge.new.self.capacity) s.edge_count s.node_count (Pair u v)) (sym c.clear.ensures)
+    subst (λ x. IsSoundGraph x new (c.reserve_edge.new.self.capacity) s.edge_count s.node_count (Pair u v)) (sym c.clear.ensures)
     (sound-pair s.labels s.edge_count s.node_count new _ s.room sound u v
     (subst (λ l. IsSome (number_at l u)) (sym same.labels) from) (subst (λ l. IsSome (number_at l v)) (sym same.labels) onto) c.in_ok-reserve_edge.ensures.room)
 

@@ -1,6 +1,6 @@
 use Rattle.std.proofs.Common.{◌∙◌, sym, ap, subst, length, arith, get_or}
 use Rattle.std.proofs.lemmas.List.{length-map}
-use Rattle.label_graph.specs.Segments.{items_in, IsWithin}
+use Rattle.label_graph.specs.Segments.{items_in, LiesWithin}
 use Rattle.label_graph.specs.Rows.{node_in}
 use Rattle.label_graph.proofs.GetNodes.{parents-past}
 use Rattle.label_graph.proofs.RowLemmas.{parent-within, parents-seen}
@@ -8,7 +8,7 @@ use Rattle.label_graph.proofs.node.Nodes.parents.Goals as goal
 
 pub items-requires : goal.items-requires
 items-requires c =
-    subst (λ l. IsWithin (length l) c.in-Some.row.now.parents) (sym c.deref-in-Some.ensures.value)
+    subst (λ l. LiesWithin (length l) c.in-Some.row.now.parents) (sym c.deref-in-Some.ensures.value)
     (parent-within c.self.inside.cells.items c.self.inside.rows.items c.args.n c.in-Some.row.now (omega (arith, c.in-Some.ensures.lookup.3.0, ap length c.deref.ensures.value))
     (c.in-Some.ensures.lookup.1 ∙ ap (λ l. get_or l c.args.n c.in-Some.row.now) c.deref.ensures.value) c.self.invariant)
 
