@@ -10,6 +10,7 @@ pub mod SegmentLemmas
 pub mod RowLemmas
 pub mod RowEdges
 pub mod Removals
+pub mod Viewed
 pub mod Readings
 pub mod KeepsSound
 pub mod GoneEdges

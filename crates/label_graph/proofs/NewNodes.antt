@@ -133,13 +133,13 @@ only None t e = cc
 only (Some x) t e = let same : x ≡ t = cc in ap Some same
 
 -- which room a graph shows
-pub label-with_ahead_shown : (table : LabelTable) (l : ℕ) (t : List ℕ) → room_by table (Label l) ≡ label_room t → slice_get (entries table) l ≡ Some t
-label-with_ahead_shown table l t e = only (slice_get (entries table) l) t (ap (λ r. r.labels) e)
+pub label-shown : (table : LabelTable) (l : ℕ) (t : List ℕ) → room_by table (Label l) ≡ label_room t → slice_get (entries table) l ≡ Some t
+label-shown table l t e = only (slice_get (entries table) l) t (ap (λ r. r.labels) e)
 
-pub pair-with_ahead_shown : (table : LabelTable) (r : Reserved) (u v : ℕ) → room_by table r ≡ pair_room u v → r ≡ Pair u v
-pair-with_ahead_shown table Nothing u v e = let p = ap (λ r. r.pairs) e in cc
-pair-with_ahead_shown table (Label l) u v e = let p = ap (λ r. r.pairs) e in cc
-pair-with_ahead_shown table (Pair a b) u v e =
+pub pair-shown : (table : LabelTable) (r : Reserved) (u v : ℕ) → room_by table r ≡ pair_room u v → r ≡ Pair u v
+pair-shown table Nothing u v e = let p = ap (λ r. r.pairs) e in cc
+pair-shown table (Label l) u v e = let p = ap (λ r. r.pairs) e in cc
+pair-shown table (Pair a b) u v e =
     let p = ap (λ r. r.pairs) e in
     let first : a ≡ u = ap (λ (l : List (ℕ × ℕ)). (get_or l 0 (0, 0)).0) p in
     let second : b ≡ v = ap (λ (l : List (ℕ × ℕ)). (get_or l 0 (0, 0)).1) p in

@@ -1,13 +1,14 @@
 -- What sound nodes stand for.
-use Rattle.std.proofs.Common.{◌≡◌, ℕ, zero, suc, ◌<◌, Bool, true, false, List, [], ◌∷◌, length, Option, None, Some, refl, sym, ap, ◌∙◌, subst, get_or, arith, true≢false}
-use Rattle.std.specs.Prelude.{IsSome, slice_get, is_some, option_and_then, position, bytes_eq, ◌&&◌}
+use Rattle.std.proofs.Common.{◌≡◌, ℕ, zero, suc, Bool, true, false, List, [], ◌∷◌, length, Option, None, Some, refl, sym, ap, ◌∙◌, subst, get_or, true≢false}
+use Rattle.std.specs.Prelude.{IsSome, IsTrue, slice_get, is_some, option_and_then, position, bytes_eq, ◌&&◌}
 use Rattle.std.specs.List.{IsDistinct}
 use Rattle.std.specs.Option.{option_to_list}
 use Rattle.std.proofs.Math.Seq.{take-append_seam}
-use Rattle.std.proofs.lemmas.Option.{slice_get-get_or}
-use Rattle.px_spec.specs.Graphs.{Graph, label_of, has_edge}
+use Rattle.std.proofs.lemmas.Option.{slice_get-get_or, get_or_from_slice_get}
+use Rattle.std.proofs.lemmas.List.Folds.{list_any_at}
+use Rattle.px_spec.specs.Graphs.{Graph, IsGraph, label_of, has_edge, is_seen}
 use Rattle.px_spec.specs.Members.{Lists}
-use Rattle.px_spec.specs.Shapes.{IsNode, IsShape, shape_of, shape_by}
+use Rattle.px_spec.specs.Shapes.{IsNode, shape_of}
 use Rattle.label_graph.specs.Nodes.{Node, labels_of, number_at, texts_of, children_of, parents_of}
 use Rattle.label_graph.specs.declared.node.Reserved.{Reserved}
 use Rattle.label_graph.specs.LabelTable.{LabelTable, entries}
@@ -16,7 +17,7 @@ use Rattle.label_graph.specs.Soundness.{IsSoundGraph, HaveLabelNumbers, IsLive}
 use Rattle.label_graph.specs.Views.{label_number, is_linked}
 use Rattle.label_graph.proofs.EdgeLists.{has_edge-children}
 use Rattle.label_graph.proofs.Positions.{position-at}
-use Rattle.label_graph.proofs.Tables.{texts-distinct}
+use Rattle.label_graph.proofs.Tables.{texts-distinct, bytes_laws}
 
 pub texts-once : (table : LabelTable) → IsDistinct bytes_eq (entries table) → IsDistinct bytes_eq table.texts
 texts-once table d = subst (IsDistinct bytes_eq) (take-append_seam table.texts (option_to_list table.ahead)) (texts-distinct (length table.texts) (entries table) d)
@@ -43,11 +44,6 @@ module _ (table : LabelTable) (numbers : List (Option ℕ)) (count : ℕ) (a : H
   pub label_number-is : option_and_then (λ t. position (bytes_eq t) table.texts) (option_and_then (λ l. l) (slice_get (texts_of table.texts numbers) n)) ≡ number_at numbers n
   label_number-is =
       ap (option_and_then (λ t. position (bytes_eq t) table.texts)) (label_of-number table.texts numbers n) ∙ number_back (number_at numbers n) refl
-
-given-below : (given : List (Option (List ℕ))) (n : ℕ) → IsSome (option_and_then (λ l. l) (slice_get given n)) → n < length given
-given-below [] n h = absurd (true≢false (sym h))
-given-below (x ∷ xs) zero h = omega arith
-given-below (x ∷ xs) (suc n) h = omega (arith, given-below xs n h)
 
 some-first : {X Y : Type 0} (f : X → Option Y) (o : Option X) → IsSome (option_and_then f o) → IsSome o
 some-first f None h = h
@@ -78,21 +74,22 @@ module _ (table : LabelTable) (nodes : List Node) (capacity edges count : ℕ) (
   pub parent-links : (n : ℕ) → Lists (λ u. is_linked (graph_by table nodes) u n) (parents_of nodes n)
   parent-links n = record { once = s.lists.parents_once n; members = λ m. (parent-list n).members m ∙ sym (linked-is m n) }
 
-  text-is : (n : ℕ) → option_and_then (λ l. slice_get table.texts l) (label_number (graph_by table nodes) n) ≡ label_of (graph_by table nodes) n
-  text-is n = ap (option_and_then (slice_get table.texts)) (number-is n) ∙ sym (label_of-number table.texts (labels_of nodes) n)
-
-  pub shape-is : shape_by table.texts (length (texts_of table.texts (labels_of nodes))) (label_number (graph_by table nodes)) (has_edge (graph_by table nodes)) ≡ shape_of (graph_by table nodes)
-  shape-is i = record { size = length (texts_of table.texts (labels_of nodes)); label = λ n. text-is n i; edge = has_edge (graph_by table nodes) }
-
-  pub links-shape : shape_by table.texts (length (texts_of table.texts (labels_of nodes))) (label_number (graph_by table nodes)) (is_linked (graph_by table nodes)) ≡ shape_of (graph_by table nodes)
-  links-shape i = record { size = length (texts_of table.texts (labels_of nodes)); label = λ n. text-is n i; edge = λ u v. linked-is u v i }
-
   node-is : (n : ℕ) → IsLive nodes n → IsNode (shape_of (graph_by table nodes)) n
   node-is n h = some-first (λ t. position (bytes_eq t) table.texts) (label_of (graph_by table nodes) n) (ap is_some (number-is n) ∙ h)
 
-  pub is_shape : IsShape (shape_of (graph_by table nodes))
-  is_shape = record {
-    below = λ n h. given-below (graph_by table nodes).given n h;
+  labelled-seen : (n : ℕ) (t : List ℕ) (o : Option ℕ) → number_at (labels_of nodes) n ≡ o → label_of (graph_by table nodes) n ≡ Some t → IsTrue (is_seen table.texts t)
+  labelled-seen n t None e h =
+      absurd (true≢false (sym (ap is_some h) ∙ ap is_some (label_of-number table.texts (labels_of nodes) n ∙ ap (option_and_then (slice_get table.texts)) e)))
+  labelled-seen n t (Some l) e h =
+      let at = sym (label_of-number table.texts (labels_of nodes) n ∙ ap (option_and_then (slice_get table.texts)) e) ∙ h in
+      let text = get_or_from_slice_get table.texts l t [] at in
+      list_any_at (bytes_eq t) table.texts l [] (s.labels.below n l e) (ap (bytes_eq t) text ∙ bytes_laws.refl t)
+
+  -- the labels seen are distinct, each live node's label is one of them, and edges join live nodes
+  pub is_graph : IsGraph (graph_by table nodes)
+  is_graph = record {
+    distinct = texts-once table s.labels.once;
+    labelled = λ n t h. labelled-seen n t (number_at (labels_of nodes) n) refl h;
     from = λ u v h. node-is u (s.lists.ends u v (sym (has_edge-children nodes u v) ∙ h)).from;
     onto = λ u v h. node-is v (s.lists.ends u v (sym (has_edge-children nodes u v) ∙ h)).onto;
   }

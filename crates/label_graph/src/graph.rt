@@ -1,10 +1,10 @@
 // The graph.
 ghost use Rattle.std.specs.Prelude.{◌≡◌, ◌<◌, ◌≤◌, ◌+◌, ◌^◌, ◌↔◌, length, IsTrue, IfOk, OnOk, OnErr, IfSome, IfNone, Some, slice_get, true, false, List, ℕ, is_some};
 ghost use Rattle.std.specs.FinSet as set;
-ghost use Rattle.px_spec.specs.Graphs.{empty_graph, is_live, label_of, has_edge};
+ghost use Rattle.px_spec.specs.Graphs.{IsGraph, empty_graph, is_live, label_of, has_edge};
 ghost use Rattle.px_spec.specs.Changes.{with_node, with_edge, without_edge, without_node, is_used};
 ghost use Rattle.px_spec.specs.Members.{Lists};
-ghost use Rattle.px_spec.specs.Shapes.{IsShape, shape_of, shape_by};
+ghost use Rattle.px_spec.specs.Shapes.{shape_of, shape_by};
 ghost use Rattle.label_graph.specs.Held.{no_room, label_room, pair_room};
 ghost use Rattle.label_graph.specs.Views.{label_number, is_linked, live_count, edge_count};
 
@@ -47,7 +47,7 @@ impl Graph {
     /// The labels that were ever seen, those of gone nodes too.
     pub fn labels(&self) -> &Labels
         ensures seen { result.now.texts ≡ self.now.graph.seen }
-        ensures sound { IsShape (shape_of self.now.graph) }
+        ensures graph { IsGraph self.now.graph }
     {
         &self.labels
     }
@@ -56,6 +56,7 @@ impl Graph {
     pub fn is_live(&self, n: NodeId) -> bool
         ensures live { result ≡ is_live self.now.graph n }
         ensures number { result ≡ is_some (label_number self.now.graph n) }
+        ensures graph { IsGraph self.now.graph }
     {
         self.nodes.label(n).is_some()
     }
@@ -69,18 +70,11 @@ impl Graph {
         self.nodes.label(n).unwrap()
     }
 
-    /// Whether no edge begins or ends at a live node. It takes constant time, and isn't counted.
-    pub fn is_isolated(&self, n: NodeId) -> bool
-        requires live { IsTrue (is_live self.now.graph n) }
-        ensures { IsTrue result ↔ (is_used self.now.graph n ≡ false) }
-    {
-        self.child_list(n).is_empty() && self.parent_list(n).is_empty()
-    }
-
     /// How many node numbers were given, those of gone nodes too: at most 2^30.
     pub fn created(&self) -> u32
         ensures count { result ≡ length self.now.graph.given }
         ensures few { result ≤ 2 ^ 30 }
+        ensures graph { IsGraph self.now.graph }
     {
         self.nodes.len() as u32
     }
@@ -93,11 +87,11 @@ impl Graph {
         self.node_count
     }
 
-    /// How many edges there are: at most 2^30. Each leads between nodes whose labels were seen.
+    /// How many edges there are: at most 2^30.
     pub fn edge_count(&self) -> u32
         ensures count { result ≡ edge_count self.now.graph }
         ensures few { result ≤ 2 ^ 30 }
-        ensures shape { shape_by self.now.graph.seen (length self.now.graph.given) (label_number self.now.graph) (is_linked self.now.graph) ≡ shape_of self.now.graph }
+        ensures graph { IsGraph self.now.graph }
     {
         self.edge_count
     }
@@ -112,10 +106,9 @@ impl Graph {
         self.nodes.is_edge(u, v)
     }
 
-    /// The nodes from which an edge leads to a live node, each once, in no stated order. It is one
-    /// step, and one for each of them.
+    /// The nodes from which an edge leads to this one, each once, in no stated order; none where the number
+    /// isn't that of a live node. It is one step, and one for each of them.
     pub fn parents<L: Ledger>(&self, n: NodeId, steps: &mut Steps<L>) -> &[NodeId]
-        requires live { IsTrue (is_live self.now.graph n) }
         ensures parents { Lists (λ u. has_edge self.now.graph u n) result.now }
         ensures cost { steps.new ≡ steps.old + 1 + length result.now }
     {
@@ -125,10 +118,9 @@ impl Graph {
         parents
     }
 
-    /// The nodes to which an edge leads from a live node, each once, in no stated order. It is one
-    /// step, and one for each of them.
+    /// The nodes to which an edge leads from this one, each once, in no stated order; none where the number
+    /// isn't that of a live node. It is one step, and one for each of them.
     pub fn children<L: Ledger>(&self, n: NodeId, steps: &mut Steps<L>) -> &[NodeId]
-        requires live { IsTrue (is_live self.now.graph n) }
         ensures children { Lists (has_edge self.now.graph n) result.now }
         ensures cost { steps.new ≡ steps.old + 1 + length result.now }
     {
@@ -138,32 +130,44 @@ impl Graph {
         children
     }
 
-    /// Some child of a live node, and `None` exactly where it has none. It takes constant time, and isn't counted.
-    pub fn any_child(&self, n: NodeId) -> Option<NodeId>
-        requires live { IsTrue (is_live self.now.graph n) }
+    /// Whether no edge begins or ends at a node; numbers that aren't given have none. It is one step, and
+    /// takes constant time.
+    pub fn is_isolated<L: Ledger>(&self, n: NodeId, steps: &mut Steps<L>) -> bool
+        ensures isolated { IsTrue result ↔ (is_used self.now.graph n ≡ false) }
+        ensures cost { steps.new ≡ steps.old + 1 }
+    {
+        steps.tick();
+        self.child_list(n).is_empty() && self.parent_list(n).is_empty()
+    }
+
+    /// Some child of a node, and `None` exactly where it has none. It is one step, and takes constant time.
+    pub fn any_child<L: Ledger>(&self, n: NodeId, steps: &mut Steps<L>) -> Option<NodeId>
         ensures child { IfSome result (λ v. has_edge self.now.graph n v ≡ true) }
         ensures none { IfNone result ((v : ℕ) → has_edge self.now.graph n v ≡ false) }
+        ensures cost { steps.new ≡ steps.old + 1 }
     {
+        steps.tick();
         self.child_list(n).last().copied()
     }
 
-    /// Some parent of a live node, and `None` exactly where it has none. It takes constant time, and isn't counted.
-    pub fn any_parent(&self, n: NodeId) -> Option<NodeId>
-        requires live { IsTrue (is_live self.now.graph n) }
+    /// Some parent of a node, and `None` exactly where it has none. It is one step, and takes constant time.
+    pub fn any_parent<L: Ledger>(&self, n: NodeId, steps: &mut Steps<L>) -> Option<NodeId>
         ensures parent { IfSome result (λ u. has_edge self.now.graph u n ≡ true) }
         ensures none { IfNone result ((u : ℕ) → has_edge self.now.graph u n ≡ false) }
+        ensures cost { steps.new ≡ steps.old + 1 }
     {
+        steps.tick();
         self.parent_list(n).last().copied()
     }
 
     /// The graph as queries and indexes read it. Reads of the view aren't counted, so it costs a step,
     /// one for each live node and one for each edge. The label numbers of the view are those of
-    /// `labels`, and its edges are those of the graph.
+    /// `labels`, and it shows the graph's shape.
     pub fn view<L: Ledger>(&self, steps: &mut Steps<L>) -> GraphView<'_>
         ensures view { result ≡ self.now.graph }
         ensures cost { steps.new ≡ steps.old + 1 + live_count self.now.graph + edge_count self.now.graph }
-        ensures shape { shape_by self.now.graph.seen (length self.now.graph.given) (label_number self.now.graph) (has_edge self.now.graph) ≡ shape_of self.now.graph }
-        ensures seen_shape { shape_by self.now.graph.seen (length self.now.graph.given) (label_number self.now.graph) (is_linked self.now.graph) ≡ shape_of self.now.graph }
+        ensures graph { IsGraph self.now.graph }
+        ensures shape { shape_by self.now.graph.seen (length self.now.graph.given) (label_number self.now.graph) (is_linked self.now.graph) ≡ shape_of self.now.graph }
         ensures labelled { (n l : ℕ) → label_number self.now.graph n ≡ Some l → l < length self.now.graph.seen }
     {
         steps.tick();

@@ -22,7 +22,7 @@ const AT_HAND: usize = 1 << HAND_BITS;
 #[derive(Drop)]
 pub struct Labels {
     table: IndexSet<Text>,
-    with_ahead_shown: usize,
+    shown: usize,
     at_hand: [u32; AT_HAND],
 }
 
@@ -44,7 +44,7 @@ impl Labels {
     {
         Labels {
             table: IndexSet::new(alloc),
-            with_ahead_shown: 0,
+            shown: 0,
             at_hand: [0; AT_HAND],
         }
     }
@@ -169,13 +169,13 @@ fn hand_place(t: &Text) -> usize {
 }
 
 // Where two entries stand behind the first ones, only the last of them stays.
-fn drop_previous(table: &mut IndexSet<Text>, with_ahead_shown: usize)
-    requires { with_ahead_shown ≤ length table.old.keys }
-    ensures dropped { (front : List (List ℕ)) (old new : List ℕ) → table.old.keys ≡ front ++ old ∷ new ∷ [] → length front ≡ with_ahead_shown → table.new.keys ≡ front ++ new ∷ [] }
-    ensures kept { length table.old.keys ≤ with_ahead_shown + 1 → table.new.keys ≡ table.old.keys }
+fn drop_previous(table: &mut IndexSet<Text>, shown: usize)
+    requires { shown ≤ length table.old.keys }
+    ensures dropped { (front : List (List ℕ)) (old new : List ℕ) → table.old.keys ≡ front ++ old ∷ new ∷ [] → length front ≡ shown → table.new.keys ≡ front ++ new ∷ [] }
+    ensures kept { length table.old.keys ≤ shown + 1 → table.new.keys ≡ table.old.keys }
     ensures once { IsDistinct bytes_eq table.new.keys }
 {
-    if table.len() > with_ahead_shown + 1 {
-        table.swap_remove_index(with_ahead_shown);
+    if table.len() > shown + 1 {
+        table.swap_remove_index(shown);
     }
 }

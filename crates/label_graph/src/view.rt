@@ -1,7 +1,7 @@
 // A graph as queries and indexes read it.
 ghost use Rattle.std.specs.Prelude.{◌≡◌, ◌≤◌, ◌^◌, length};
-ghost use Rattle.px_spec.specs.Shapes.{shape_of, shape_by};
-ghost use Rattle.label_graph.specs.Views.{label_number, is_linked, edge_count};
+ghost use Rattle.px_spec.specs.Graphs.{IsGraph};
+ghost use Rattle.label_graph.specs.Views.{edge_count};
 
 use crate::digraph::Digraph;
 use crate::graph::Graph;
@@ -35,15 +35,16 @@ impl<'a> GraphView<'a> {
     pub fn created(&self) -> u32
         ensures count { result ≡ length self.now.given }
         ensures few { result ≤ 2 ^ 30 }
+        ensures graph { IsGraph self.now }
     {
         self.graph.created()
     }
 
-    /// How many edges there are: at most 2^30. What is read of the view is the graph itself.
+    /// How many edges there are: at most 2^30.
     pub fn edge_count(&self) -> u32
         ensures count { result ≡ edge_count self.now }
         ensures few { result ≤ 2 ^ 30 }
-        ensures shape { shape_by self.now.seen (length self.now.given) (label_number self.now) (is_linked self.now) ≡ shape_of self.now }
+        ensures graph { IsGraph self.now }
     {
         self.graph.edge_count()
     }
@@ -60,7 +61,11 @@ impl<'a> Digraph for GraphView<'a> {
 
     ghost edge = { is_linked };
 
-    fn size(&self) -> u32 {
+    fn size(&self) -> u32
+        ensures size { result ≡ length self.now.given }
+        ensures few { result ≤ 2 ^ 30 }
+        ensures graph { IsGraph self.now }
+    {
         self.created()
     }
 
