@@ -15,7 +15,7 @@ use Rattle.label_graph.specs.LabelTable.{LabelTable}
 use Rattle.label_graph.specs.Soundness.{IsSoundGraph, HaveLabelNumbers, IsLive}
 use Rattle.label_graph.proofs.EdgeLists.{has_edge-children}
 use Rattle.label_graph.proofs.KeepsSound.{edges-same, lists-as, labels-cleared}
-use Rattle.label_graph.proofs.Uses.{IsBare}
+use Rattle.px_spec.proofs.Uses.{IsBare}
 
 -- the other numbers stay
 number-other : (numbers : List (Option ℕ)) (i n : ℕ) → n ≢ i → number_at (slice_set numbers i None) n ≡ number_at numbers n

@@ -11,11 +11,13 @@ use Rattle.px_spec.specs.declared.refusal.Refusal.TheVariants.{NoNode, NoEdge, I
 use Rattle.px_spec.specs.ProgramLimits.{program_limits}
 use Rattle.px_spec.specs.Lines.{cut}
 use Rattle.px_spec.specs.Words.{words, is_name}
-use Rattle.px_spec.specs.Graphs.{Graph, empty_graph, edge_cmp, has_edge}
+use Rattle.px_spec.specs.Graphs.{Graph, IsGraph, empty_graph, edge_cmp, has_edge}
 use Rattle.px_spec.specs.Changes.{node, link, unlink, drop, apply, with_node, with_edge, without_edge, without_node}
 use Rattle.px_spec.specs.Shapes.{Shape}
 use Rattle.px_spec.specs.Walks.{Leads}
 use Rattle.px_spec.proofs.EdgeOrder.{edge_cmp_total, eq_pair}
+use Rattle.px_spec.proofs.GraphLaws.{graph_empty, graph_with_node, graph_with_edge}
+use Rattle.std.specs.List.{IsDistinct}
 
 -- a text's last line needs no end, and after the last end there is no line
 cut_ended : cut (codes "a\n\nb\n") ≡ record { text = codes "a"; end = 10 ∷ [] } ∷ record { text = []; end = 10 ∷ [] } ∷ record { text = codes "b"; end = 10 ∷ [] } ∷ []
@@ -135,3 +137,23 @@ walk = (refl, 2, refl, (refl, refl))
 
 no_walk : Leads chain 0 (codes "a" ∷ codes "c" ∷ []) 1 → ⊥
 no_walk h = (let z : codes "b" ≡ codes "c" = (let s : Some (codes "b") ≡ Some (codes "c") = subst (λ w. chain_label w ≡ Some (codes "c")) h.3.1 h.3.0 in cc) in omega (arith, ap (λ l. slice_index l 0) z))
+
+-- two nodes with one label, the second a child of the first, and what is seen
+abbrev twins : List (List ℕ) → Graph
+twins seen = record { given = Some (codes "a") ∷ Some (codes "a") ∷ []; edges = set.insert set.empty (0, 1); seen = seen }
+
+twins_are_one : IsGraph (twins (codes "a" ∷ []))
+twins_are_one = graph_with_edge (with_node (with_node empty_graph (codes "a")) (codes "a")) 0 1 (graph_with_node (with_node empty_graph (codes "a")) (codes "a") (graph_with_node empty_graph (codes "a") graph_empty)) refl refl
+
+-- no graph has seen a label twice
+seen_twice : IsGraph (twins (codes "a" ∷ codes "a" ∷ [])) → ⊥
+unfolding IsDistinct
+seen_twice s = true≢false s.distinct.0.0
+
+-- nor has a label that wasn't seen
+unseen_label : IsGraph (twins (codes "b" ∷ [])) → ⊥
+unseen_label s = true≢false (sym (s.labelled 0 (codes "a") refl))
+
+-- nor an edge to a node that is gone
+gone_end : IsGraph (without_node (twins (codes "a" ∷ [])) 1) → ⊥
+gone_end s = true≢false (sym (s.onto 0 1 (set.contains-insert edge_cmp_total set.empty (0, 1) (0, 1))))

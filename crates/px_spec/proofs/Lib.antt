@@ -2,5 +2,6 @@ pub mod EdgeOrder
 pub mod ListLemmas
 pub mod LineLemmas
 pub mod WalkLemmas
+pub mod Uses
 pub mod GraphLaws
 pub mod Examples

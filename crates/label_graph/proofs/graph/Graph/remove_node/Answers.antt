@@ -6,7 +6,7 @@ use Rattle.label_graph.specs.Nodes.{labels_of}
 use Rattle.label_graph.specs.declared.node.Reserved.TheVariants.{Nothing}
 use Rattle.label_graph.specs.Soundness.{IsSoundGraph}
 use Rattle.label_graph.proofs.GoneNodes.{some-node, sound-gone, node-taken}
-use Rattle.label_graph.proofs.Uses.{unused-bare}
+use Rattle.px_spec.proofs.Uses.{unused_bare}
 use Rattle.label_graph.proofs.graph.Graph.remove_node.Goals as goal
 
 pub overflow_sub-self : goal.overflow_sub-self
@@ -20,7 +20,7 @@ invariant_of-self c =
     let s = c.self.inside in
     let new = c.clear_label.new.self in
     let live = ap (λ h. is_live h.graph c.args.u) c.self.view_is ∙ c.requires.live in
-    let bare = unused-bare (graph_by s.labels s.nodes.nodes) c.args.u (ap (λ h. is_used h.graph c.args.u) c.self.view_is ∙ c.requires.unused) in
+    let bare = unused_bare (graph_by s.labels s.nodes.nodes) c.args.u (ap (λ h. is_used h.graph c.args.u) c.self.view_is ∙ c.requires.unused) in
     subst (λ x. IsSoundGraph x new.nodes new.capacity s.edge_count (s.node_count - 1) Nothing) (sym c.clear.ensures)
     (sound-gone s.labels s.nodes.nodes new.nodes c.args.u live c.clear_label.ensures.labels c.clear_label.ensures.children c.clear_label.ensures.parents bare
     s.nodes.capacity s.edge_count s.node_count s.room new.capacity c.self.invariant)
