@@ -1,12 +1,13 @@
 -- The definitions at worked graphs, and at near misses.
 use Rattle.std.proofs.Common.{◌≡◌, ℕ, true, false, Bool, List, [], ◌∷◌, refl, Option, None, Some}
-use Rattle.std.specs.Prelude.{codes, nat_eq, Decides}
+use Rattle.std.specs.Prelude.{codes, nat_eq, slice_get, Decides}
 use Rattle.std.proofs.lemmas.Bool.{both_ways}
 use Rattle.px_spec.specs.Shapes.{Shape, IsShape}
 use Rattle.bisim_spec.specs.Bisimilarity.{node_count, Bis, Bisim, Both, FB}
 use Rattle.bisim_spec.specs.Partitions.{IsPartition, Agrees}
 use Rattle.bisim_spec.specs.Stability.{StableBut, Stable, StableBoth, Mergeable, Minimal}
 use Rattle.bisim_spec.specs.Reach.{near, reach, Acyclic}
+use Rattle.bisim_spec.specs.Weights.{weight, size_of}
 use Rattle.bisim_spec.specs.Supports.{support}
 use Rattle.bisim_spec.specs.Tests.{bis, bisim, both, fb, agrees}
 use Rattle.bisim_spec.proofs.Bisimilar.{bis_sym, bis_node, both_sym, both_node}
@@ -139,6 +140,32 @@ reach_gone = refl
 
 reach_gone_none : reach hung (nat_eq 9) 0 ≡ false
 reach_gone_none = refl
+
+-- the second a has a parent and a child, its b too, and its c a parent alone
+weight_two : weight hung (near hung (nat_eq 3) 2) ≡ 8
+weight_two = refl
+
+weight_one : weight hung (near hung (nat_eq 3) 1) ≡ 6
+weight_one = refl
+
+weight_none : weight hung (near hung (nat_eq 3) 0) ≡ 3
+weight_none = refl
+
+weight_reach : weight hung (reach hung (nat_eq 3)) ≡ 8
+weight_reach = refl
+
+size_reach : size_of hung (reach hung (nat_eq 3)) ≡ 3
+size_reach = refl
+
+-- a node alone weighs one, and so does a number whose node is gone; one past the end isn't counted
+weight_alone : weight chains (reach chains (nat_eq 6)) ≡ 1
+weight_alone = refl
+
+weight_gone : weight (record { size = 2; label = slice_get (codes "a" ∷ []); edge = λ u v. false }) (nat_eq 1) ≡ 1
+weight_gone = refl
+
+weight_past : weight chains (reach chains (nat_eq 9)) ≡ 0
+weight_past = refl
 
 -- two a, two b, and three edges: sets of parents count, and not how many there are
 

@@ -16,3 +16,4 @@ pub mod Supported
 pub mod StabilityTests
 pub mod Drawn
 pub mod Examples
+pub mod FitExamples

@@ -15,3 +15,8 @@ all_below (suc n) p = p n && all_below n p
 abbrev pub count_below : ℕ → (ℕ → Bool) → ℕ
 count_below zero p = 0
 count_below (suc n) p = (if p n then 1 else 0) + count_below n p
+
+-- the sum over the numbers below the bound
+abbrev pub sum_below : ℕ → (ℕ → ℕ) → ℕ
+sum_below zero f = 0
+sum_below (suc n) f = f n + sum_below n f

@@ -6,3 +6,7 @@ pub mod Reach
 pub mod Supports
 pub mod Views
 pub mod Tests
+pub mod Weights
+pub mod Targets
+pub mod OneStep
+pub mod Fits

@@ -1,5 +1,5 @@
 -- Partitions of the nodes into numbered blocks. A partition is a list: at each number the block of that node, or none.
-use Rattle.std.specs.Prelude.{ℕ, ◌≡◌, List, Option, None, Some, IsSome, slice_index_or}
+use Rattle.std.specs.Prelude.{ℕ, ◌≡◌, List, Option, Some, IsSome}
 use Rattle.px_spec.specs.Members.{at}
 use Rattle.px_spec.specs.Shapes.{Shape, IsNode}
 

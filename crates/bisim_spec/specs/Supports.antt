@@ -1,5 +1,5 @@
 -- Edges between blocks, and how many there are (support counts: K. Yi, H. He, I. Stanoi and J. Yang, SIGMOD 2004).
-use Rattle.std.specs.Prelude.{ℕ, ◌≡◌, ◌&&◌, Bool, false, List, Option, None, Some, nat_eq, count_by}
+use Rattle.std.specs.Prelude.{ℕ, ◌≡◌, ◌&&◌, Bool, List, Option, Some, count_by}
 use Rattle.std.specs.FinSet as set
 use Rattle.px_spec.specs.Graphs.{Edges}
 use Rattle.px_spec.specs.Shapes.{Shape, IsParent}

@@ -1,7 +1,7 @@
 -- Which index a query is asked through.
 use Rattle.std.specs.Prelude.{ℕ, Option, Some, None}
-use Rattle.index_api.specs.declared.kinds.Kind.{Kind}
-use Rattle.index_api.specs.declared.kinds.Kind.TheVariants as kind
+use Rattle.bisim_spec.specs.declared.kind.Kind.{Kind}
+use Rattle.bisim_spec.specs.declared.kind.Kind.TheVariants as kind
 use Rattle.index_api.specs.declared.kinds.Via.{Via}
 use Rattle.index_api.specs.declared.kinds.Via.TheVariants.{Data, A, One, Fb}
 

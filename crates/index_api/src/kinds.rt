@@ -1,20 +1,8 @@
-// The kinds of indexes, and their levels.
+// Which index a query is asked through, and its level.
 ghost use Rattle.std.specs.Prelude.{◌≡◌};
 ghost use Rattle.index_api.specs.Places.{place_of};
 
-/// A kind of index.
-#[derive(Clone, Copy, Debug, PartialEq, Eq)]
-pub enum Kind {
-    /// The family of A(i)-indexes: two nodes are in one block where they are bisimilar, by their parents, up to
-    /// depth i (Kaushik et al., ICDE 2002).
-    A,
-    /// The 1-index: the partition is stable under parents, and no two of its blocks can be merged (Milo and
-    /// Suciu, ICDT 1999).
-    One,
-    /// The forward and backward index: the coarsest partition that is stable under parents and children (Kaushik
-    /// et al., SIGMOD 2002).
-    Fb,
-}
+use bisim_spec::Kind;
 
 /// Through what a query is answered.
 #[derive(Clone, Copy, Debug, PartialEq, Eq)]

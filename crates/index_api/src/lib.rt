@@ -5,4 +5,5 @@ mod kinds;
 #[cfg(test)]
 mod tests;
 
-pub use kinds::{Kind, Via};
+pub use bisim_spec::Kind;
+pub use kinds::Via;
