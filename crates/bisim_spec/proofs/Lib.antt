@@ -12,6 +12,8 @@ pub mod Reached
 pub mod Ranks
 pub mod Outside
 pub mod Moves
+pub mod Differs
+pub mod Changed
 pub mod Supported
 pub mod StabilityTests
 pub mod Drawn

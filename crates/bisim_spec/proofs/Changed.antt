@@ -1,0 +1,57 @@
+-- What a change makes of a stable partition.
+use Rattle.std.proofs.Common.{◌≡◌, ℕ, List, Option, Ok, IsFalse, sym, ◌∙◌, ap}
+use Rattle.std.specs.Prelude.{Bool, is_some}
+use Rattle.px_spec.specs.declared.limits.Limits.{Limits}
+use Rattle.px_spec.specs.Graphs.{Graph, IsGraph}
+use Rattle.px_spec.specs.Changes.{Change, apply}
+use Rattle.px_spec.specs.Shapes.{Shape, IsNode, IsParent, IsShape, shape_of}
+use Rattle.px_spec.specs.Members.{at}
+use Rattle.px_spec.proofs.GraphLaws.{is_shape}
+use Rattle.bisim_spec.specs.Partitions.{Together, IsPartition}
+use Rattle.bisim_spec.specs.Stability.{StableBut, Stable}
+use Rattle.bisim_spec.specs.Targets.{KeepsBlocks, target}
+use Rattle.bisim_spec.proofs.Stable.{stable_label, stable_parents}
+use Rattle.bisim_spec.proofs.Together.{together_sym, together_some}
+use Rattle.bisim_spec.proofs.Outside.{DiffersAt}
+use Rattle.bisim_spec.proofs.Differs.{differs_applied}
+
+-- what is no target and a node after is a node before
+pub live_before : (target : ℕ → Bool) (s s2 : Shape) → DiffersAt target s s2 → (n : ℕ) → IsFalse (target n) → IsNode s2 n → IsNode s n
+live_before target s s2 d n off h = ap is_some (d.label n off) ∙ h
+
+-- Nodes keep their blocks, a new node gets any, and one that goes loses its: what was a stable partition is stable after the
+-- change, but maybe at the targets.
+pub stable_but_changed : (target : ℕ → Bool) (s s2 : Shape) (block block2 : List (Option ℕ)) → IsShape s → IsShape s2 → DiffersAt target s s2
+    → KeepsBlocks s s2 block block2 → Stable s block → IsPartition s2 block2 → StableBut s2 block2 target
+stable_but_changed target s s2 block block2 shape shape2 d keeps st partition = record {
+  partition = partition;
+  label = λ u v nu nv t. sym (d.label u nu) ∙ stable_label s block st u v (before u v nu nv t) ∙ d.label v nv;
+  parents = λ u v nu nv t q e.
+      let e0 : IsParent s q u = d.edge q u nu ∙ e in
+      let r = stable_parents s block st u v (before u v nu nv t) q e0 in
+      let e2 : IsParent s2 r.0 v = sym (d.edge r.0 v nv) ∙ r.1 in (
+        r.0,
+        e2,
+        (
+          r.2.0,
+          keeps.kept q (shape.from q u e0) (shape2.from q u e) ∙ r.2.1,
+          keeps.kept r.0 (shape.from r.0 v r.1) (shape2.from r.0 v e2) ∙ r.2.2,
+        ),
+      );
+}
+  where
+    same : (n : ℕ) → IsFalse (target n) → IsNode s2 n → at block2 n ≡ at block n
+    same n off h = keeps.kept n (live_before target s s2 d n off h) h
+
+    before : (u v : ℕ) → IsFalse (target u) → IsFalse (target v) → Together block2 u v → Together block u v
+    before u v nu nv t = (
+      t.0,
+      sym (same u nu (partition.only u (together_some block2 u v t))) ∙ t.1,
+      sym (same v nv (partition.only v (together_some block2 v u (together_sym block2 u v t)))) ∙ t.2,
+    )
+
+-- the same for a change that is accepted
+pub stable_but_applied : (c : Change) (g : Graph) (limits : Limits) (g2 : Graph) (block block2 : List (Option ℕ)) → IsGraph g → IsGraph g2 → apply c g limits ≡ Ok g2
+    → KeepsBlocks (shape_of g) (shape_of g2) block block2 → Stable (shape_of g) block → IsPartition (shape_of g2) block2 → StableBut (shape_of g2) block2 (target c g)
+stable_but_applied c g limits g2 block block2 sound sound2 h =
+    stable_but_changed (target c g) (shape_of g) (shape_of g2) block block2 (is_shape g sound) (is_shape g2 sound2) (differs_applied c g limits g2 h)

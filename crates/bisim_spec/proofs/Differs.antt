@@ -1,0 +1,100 @@
+-- A change alters a graph at its target alone.
+use Rattle.std.proofs.Common.{◌≡◌, ◌≢◌, ℕ, zero, suc, ◌<◌, ◌≤◌, Bool, true, false, List, [], ◌∷◌, ◌++◌, length, Option, Some, None, Ok, Err, refl, sym, ◌∙◌, ap, arith, inl, inr, nat_eq, length-append}
+use Rattle.std.specs.Prelude.{◌&&◌, ◌||◌, not, Result, option_and_then, slice_get, slice_set, if◌then◌else◌}
+use Rattle.std.specs.FinSet as set
+use Rattle.std.proofs.Math.Bool.{and-false}
+use Rattle.std.proofs.lemmas.Bool.{cases_lt, cases_Bool}
+use Rattle.std.proofs.lemmas.Bool.Decides.{eqb_tells}
+use Rattle.std.proofs.lemmas.Option.{slice_get_past}
+use Rattle.px_spec.specs.declared.limits.Limits.{Limits}
+use Rattle.px_spec.specs.declared.refusal.Refusal.{Refusal}
+use Rattle.px_spec.specs.Graphs.{Graph, has_edge, is_live}
+use Rattle.px_spec.specs.Changes.{Change, node, link, unlink, drop, after, apply, with_node, with_edge, without_edge, without_node, is_used, node_fits, edge_fits}
+use Rattle.px_spec.specs.Shapes.{shape_of}
+use Rattle.px_spec.proofs.EdgeOrder.{edge_cmp_total, eq_pair}
+use Rattle.bisim_spec.specs.Targets.{target}
+use Rattle.bisim_spec.proofs.Outside.{DiffersAt}
+
+apart_of : (n m : ℕ) → nat_eq n m ≡ false → n ≢ m
+apart_of n m h = elim (eqb_tells n m) [ inl t ↦ (let u = t.0 in λ _. cc) | inr d ↦ d.1 ]
+
+-- the edges, once one is put in or taken out
+pub edge_with : (g : Graph) (u v x y : ℕ) → has_edge (with_edge g u v) x y ≡ ((nat_eq x u && nat_eq y v) || has_edge g x y)
+edge_with g u v x y = set.contains-insert edge_cmp_total g.edges (u, v) (x, y) ∙ ap (λ b. b || has_edge g x y) (eq_pair x y u v)
+
+pub edge_without : (g : Graph) (u v x y : ℕ) → has_edge (without_edge g u v) x y ≡ (not (nat_eq x u && nat_eq y v) && has_edge g x y)
+edge_without g u v x y = set.contains-remove edge_cmp_total g.edges (u, v) (x, y) ∙ ap (λ b. not b && has_edge g x y) (eq_pair x y u v)
+
+off_end : (x y : Bool) → y ≡ false → (x && y) ≡ false
+off_end x y h = ap (λ b. x && b) h ∙ and-false x
+
+pub differs_link : (g : Graph) (u v : ℕ) → DiffersAt (λ n. nat_eq n v) (shape_of g) (shape_of (with_edge g u v))
+differs_link g u v = record {
+  label = λ n h. refl;
+  edge = λ p n h. sym (edge_with g u v p n ∙ ap (λ b. b || has_edge g p n) (off_end (nat_eq p u) (nat_eq n v) h));
+}
+
+pub differs_unlink : (g : Graph) (u v : ℕ) → DiffersAt (λ n. nat_eq n v) (shape_of g) (shape_of (without_edge g u v))
+differs_unlink g u v = record {
+  label = λ n h. refl;
+  edge = λ p n h. sym (edge_without g u v p n ∙ ap (λ b. not b && has_edge g p n) (off_end (nat_eq p u) (nat_eq n v) h));
+}
+
+get_front : {X : Type 0} (front : List X) (x : X) (i : ℕ) → i < length front → slice_get (front ++ x ∷ []) i ≡ slice_get front i
+get_front [] x i h = absurd (omega (arith, h))
+get_front (y ∷ ys) x zero h = refl
+get_front (y ∷ ys) x (suc i) h = get_front ys x i (omega (arith, h))
+
+-- a number that isn't the next one has what it had
+get_other : (given : List (Option (List ℕ))) (t : List ℕ) (n : ℕ) → n ≢ length given → slice_get (given ++ Some t ∷ []) n ≡ slice_get given n
+get_other given t n apart = elim (cases_lt n (length given)) [
+  | inl below ↦ get_front given (Some t) n below
+  | inr past ↦
+      slice_get_past (given ++ Some t ∷ []) n (let l = length-append given (Some t ∷ []) in omega (arith, apart, past, l))
+      ∙ sym (slice_get_past given n past)
+]
+
+pub differs_node : (g : Graph) (t : List ℕ) → DiffersAt (λ n. nat_eq n (length g.given)) (shape_of g) (shape_of (with_node g t))
+differs_node g t = record {
+  label = λ n h. sym (ap (λ o. option_and_then (λ l. l) o) (get_other g.given t n (apart_of n (length g.given) h)));
+  edge = λ p n h. refl;
+}
+
+get_unset : (xs : List (Option (List ℕ))) (u n : ℕ) → n ≢ u → slice_get (slice_set xs u None) n ≡ slice_get xs n
+get_unset [] u n h = refl
+get_unset (x ∷ xs) zero zero h = absurd (h refl)
+get_unset (x ∷ xs) zero (suc n) h = refl
+get_unset (x ∷ xs) (suc u) zero h = refl
+get_unset (x ∷ xs) (suc u) (suc n) h = get_unset xs u n (λ e. h (ap suc e))
+
+pub differs_drop : (g : Graph) (u : ℕ) → DiffersAt (λ n. nat_eq n u) (shape_of g) (shape_of (without_node g u))
+differs_drop g u = record {
+  label = λ n h. sym (ap (λ o. option_and_then (λ l. l) o) (get_unset g.given u n (apart_of n u h)));
+  edge = λ p n h. refl;
+}
+
+-- the graph that a change leaves differs from the one before at the target alone
+pub differs_after : (c : Change) (g : Graph) → DiffersAt (target c g) (shape_of g) (shape_of (after c g))
+differs_after (node t) g = differs_node g t
+differs_after (link u v) g = differs_link g u v
+differs_after (unlink u v) g = differs_unlink g u v
+differs_after (drop u) g = differs_drop g u
+
+-- where a change is accepted, the graph is the one that it leaves
+pub applied_after : (c : Change) (g : Graph) (limits : Limits) (g2 : Graph) → apply c g limits ≡ Ok g2 → g2 ≡ after c g
+applied_after (node t) g limits g2 h = elim (cases_Bool (node_fits g limits t)) [ inl a ↦ cc | inr a ↦ cc ]
+applied_after (link u v) g limits g2 h = elim (cases_Bool (is_live g u && is_live g v)) [
+  | inl a ↦ elim (cases_Bool (edge_fits g limits u v)) [ inl b ↦ cc | inr b ↦ cc ]
+  | inr a ↦ cc
+]
+applied_after (unlink u v) g limits g2 h = elim (cases_Bool (is_live g u && is_live g v)) [
+  | inl a ↦ elim (cases_Bool (has_edge g u v)) [ inl b ↦ cc | inr b ↦ cc ]
+  | inr a ↦ cc
+]
+applied_after (drop u) g limits g2 h = elim (cases_Bool (is_live g u)) [
+  | inl a ↦ elim (cases_Bool (is_used g u)) [ inl b ↦ cc | inr b ↦ cc ]
+  | inr a ↦ cc
+]
+
+pub differs_applied : (c : Change) (g : Graph) (limits : Limits) (g2 : Graph) → apply c g limits ≡ Ok g2 → DiffersAt (target c g) (shape_of g) (shape_of g2)
+differs_applied c g limits g2 h = rw (applied_after c g limits g2 h) (differs_after c g)
