@@ -11,6 +11,7 @@ pub mod Rising
 pub mod Reached
 pub mod Ranks
 pub mod Outside
+pub mod EdgeSets
 pub mod Moves
 pub mod Differs
 pub mod Changed

@@ -1,56 +1,27 @@
 -- A pair of blocks has support exactly where an edge joins them, and so an index graph has an edge exactly there.
-use Rattle.std.proofs.Common.{◌≡◌, ℕ, zero, suc, ◌<◌, ◌↔◌, refl, List, [], ◌∷◌, Option, Some, IsTrue, IsSome, sym, ◌∙◌, ap, arith, inl, inr, true, Bool, true≢false, ltb-true, lt-ltb}
-use Rattle.std.specs.Prelude.{◌&&◌, is_some, option_and_then, slice_get}
+use Rattle.std.proofs.Common.{◌≡◌, ℕ, ◌<◌, ◌↔◌, List, Option, Some, IsTrue, IsSome, sym, ◌∙◌, ap, arith, inl, inr, true, Bool, true≢false, ltb-true, lt-ltb}
+use Rattle.std.specs.Prelude.{is_some, option_and_then, slice_get}
 use Rattle.std.specs.FinSet as set
-use Rattle.std.specs.List.{list_any}
-use Rattle.std.specs.Ordering.{eq_by_cmp}
-use Rattle.std.proofs.lemmas.Cmp.{eq_by_cmp_equiv}
-use Rattle.std.proofs.lemmas.Bool.{and_parts, and_from, or_left}
-use Rattle.px_spec.specs.Graphs.{Graph, Edges, edge_cmp}
+use Rattle.std.proofs.lemmas.Bool.{and_parts, and_from}
+use Rattle.px_spec.specs.Graphs.{Graph, Edges}
 use Rattle.px_spec.specs.Shapes.{IsNode, IsShape, shape_of}
-use Rattle.px_spec.proofs.EdgeOrder.{edge_cmp_total, edge_cmp-IsAntisymmetric}
 use Rattle.px_spec.specs.Members.{at, is_this}
 use Rattle.bisim_spec.specs.Supports.{Joined, joins, edges_between}
 use Rattle.bisim_spec.specs.Views.{View, ViewFits, support_at, shape_of_view}
 use Rattle.bisim_spec.proofs.Bisimilar.{none_or_some, is_some_at}
 use Rattle.bisim_spec.proofs.Together.{block_below}
+use Rattle.bisim_spec.proofs.EdgeSets.{kept, member_of, some_len}
 use Rattle.bisim_spec.proofs.Moves.{block_get, block_from}
-
--- whether the edge is among these
-abbrev is_among : List (ℕ × ℕ) → ℕ × ℕ → Bool
-is_among edges e = list_any (eq_by_cmp edge_cmp e) edges
-
--- those of a set of edges that pass
-kept_is : (p : ℕ × ℕ → Bool) (edges : Edges) (e : ℕ × ℕ) → set.contains (set.retain edges p) e ≡ (set.contains edges e && p e)
-kept_is p edges e = set.contains-retain edges p e (λ f h. ap p (sym (edge_cmp-IsAntisymmetric e f h)))
-
-first_of : (edges : Edges) (es : List (ℕ × ℕ)) → set.items edges ≡ es → 0 < set.len edges → (e : ℕ × ℕ) × (set.contains edges e ≡ true)
-first_of edges [] h some =
-    let none : edges ≡ set.empty = set.same_set edge_cmp_total edge_cmp-IsAntisymmetric edges set.empty
-    (λ q. set.contains-items edges q ∙ ap (list_any (eq_by_cmp edge_cmp q)) h ∙ sym (set.contains-empty edge_cmp q)) in
-    let zero_len : set.len edges ≡ 0 = ap set.len none ∙ set.len-empty edge_cmp in
-    absurd (omega (arith, some, zero_len))
-first_of edges (e ∷ es) h some = (
-  e,
-  set.contains-items edges e ∙ ap (list_any (eq_by_cmp edge_cmp e)) h
-      ∙ or_left (eq_by_cmp edge_cmp e e) (is_among es e) ((eq_by_cmp_equiv edge_cmp_total).refl e),
-)
 
 -- an edge that passes, where some are counted
 counted_get : (p : ℕ × ℕ → Bool) (edges : Edges) → 0 < set.len (set.retain edges p) → (e : ℕ × ℕ) × (set.contains edges e ≡ true) × (p e ≡ true)
 counted_get p edges h =
-    let e = first_of (set.retain edges p) (set.items (set.retain edges p)) refl h in
-    let both = and_parts (set.contains edges e.0) (p e.0) (sym (kept_is p edges e.0) ∙ e.1) in
+    let e = member_of (set.retain edges p) h in
+    let both = and_parts (set.contains edges e.0) (p e.0) (sym (kept edges p e.0) ∙ e.1) in
     (e.0, both.0, both.1)
 
 counted_from : (p : ℕ × ℕ → Bool) (edges : Edges) (e : ℕ × ℕ) → set.contains edges e ≡ true → p e ≡ true → 0 < set.len (set.retain edges p)
-counted_from p edges e h k = some (set.len (set.retain edges p)) refl
-  where
-    some : (n : ℕ) → n ≡ set.len (set.retain edges p) → 0 < n
-    some zero z =
-        let none = set.empty_of_len (set.retain edges p) (sym z) in
-        absurd (true≢false (sym (kept_is p edges e ∙ and_from (set.contains edges e) (p e) h k) ∙ ap (λ s. set.contains s e) none ∙ set.contains-empty edge_cmp e))
-    some (suc n) z = omega arith
+counted_from p edges e h k = some_len (set.retain edges p) e (kept edges p e ∙ and_from (set.contains edges e) (p e) h k)
 
 pub support_joined : (g : Graph) (block : List (Option ℕ)) (a b : ℕ) → 0 < edges_between g.edges block a b → Joined (shape_of g) block a b
 support_joined g block a b h =

@@ -10,3 +10,4 @@ pub mod Weights
 pub mod Targets
 pub mod OneStep
 pub mod Fits
+pub mod Touching
