@@ -1,5 +1,6 @@
 pub mod Links
 pub mod Verdicts
 pub mod NeighbourLists
-pub mod ShownEdges
-pub mod ShownLabels
+pub mod ChangedEdges
+pub mod ChangedLabels
+pub mod ChangedGraphs

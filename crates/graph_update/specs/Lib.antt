@@ -1,4 +1,4 @@
 pub mod NewChanges
 pub mod Judging
 pub mod Staging
-pub mod Shown
+pub mod Pending

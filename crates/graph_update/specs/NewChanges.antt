@@ -3,7 +3,7 @@ use Rattle.std.specs.Prelude.{◌≡◌, ℕ, ◌<◌, ◌^◌, Bool, true, fals
 use Rattle.std.specs.FinSet as set
 use Rattle.px_spec.specs.declared.limits.Limits.{Limits}
 use Rattle.px_spec.specs.Graphs.{Graph, is_live, has_edge, is_seen}
-use Rattle.px_spec.specs.Changes.{Change, node, link, unlink, drop, with_node, with_edge, without_edge, without_node, is_used}
+use Rattle.px_spec.specs.Changes.{Change, node, link, unlink, drop, is_used}
 
 -- the change is a link of an edge that is there already, between live nodes
 abbrev pub is_same : Change → Graph → Bool

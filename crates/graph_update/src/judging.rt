@@ -1,7 +1,7 @@
 // Whether a change is accepted.
-ghost use Rattle.std.specs.Prelude.{◌≡◌, ◌≢◌, ◌<◌, ◌||◌, Ok, Err, length, nat_lt};
+ghost use Rattle.std.specs.Prelude.{◌≡◌, ◌≢◌, ◌<◌, ◌||◌, ◌↔◌, Ok, Err, IsTrue, false, length, nat_lt};
 ghost use Rattle.px_spec.specs.Graphs.{is_seen, has_edge};
-ghost use Rattle.px_spec.specs.Changes.{node, link, unlink, drop, node_fits};
+ghost use Rattle.px_spec.specs.Changes.{node, link, unlink, drop, node_fits, is_used};
 ghost use Rattle.graph_update.specs.NewChanges.{IsNew, AreHighest};
 ghost use Rattle.graph_update.specs.Judging.{change_of, Judges};
 
@@ -76,7 +76,7 @@ fn judge_drop(graph: &Graph, node: NodeId) -> Result<Verdict, Refusal>
     if !graph.is_live(node) {
         return Err(Refusal::NoNode);
     }
-    if graph.is_isolated(node) {
+    if is_isolated(graph, node) {
         Ok(Verdict::New)
     } else {
         Err(Refusal::InUse)
@@ -120,4 +120,21 @@ fn has_edge(graph: &Graph, from: NodeId, to: NodeId) -> bool
     ensures { result ≡ has_edge graph.now.graph from to }
 {
     counted_edge::<Brand>(graph, from, to, Blank::new(1))
+}
+
+fn counted_isolation<L: Ledger>(graph: &Graph, node: NodeId, blank: Blank) -> bool
+    requires name { blank.name ≡ L.name }
+    requires parts { blank.parts ≡ L.parts }
+    requires some { 0 < blank.parts }
+    ensures { IsTrue result ↔ (is_used graph.now.graph node ≡ false) }
+{
+    let mut steps = Steps::<L>::new(blank);
+    graph.is_isolated(node, &mut steps)
+}
+
+/// Whether no edge begins or ends at the node.
+fn is_isolated(graph: &Graph, node: NodeId) -> bool
+    ensures { IsTrue result ↔ (is_used graph.now.graph node ≡ false) }
+{
+    counted_isolation::<Brand>(graph, node, Blank::new(1))
 }

@@ -5,7 +5,7 @@
 mod changes;
 mod judging;
 mod neighbours;
-mod shown;
+mod pending;
 mod staging;
 #[cfg(test)]
 mod tests;
@@ -13,5 +13,5 @@ mod tests;
 pub use changes::{Applied, Change, Verdict};
 pub use judging::judge;
 pub use neighbours::Neighbours;
-pub use shown::After;
+pub use pending::After;
 pub use staging::{Staged, commit, stage};

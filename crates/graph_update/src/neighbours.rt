@@ -25,17 +25,6 @@ impl<'a> Model for Neighbours<'a> {
 }
 
 impl<'a> Neighbours<'a> {
-    // No nodes.
-    pub(crate) fn none() -> Neighbours<'a>
-        ensures { result ≡ [] }
-    {
-        Neighbours {
-            first: &[],
-            second: &[],
-            added: None,
-        }
-    }
-
     // The nodes of a list.
     pub(crate) fn of(nodes: &'a [NodeId]) -> Neighbours<'a>
         ensures { result ≡ nodes.now }

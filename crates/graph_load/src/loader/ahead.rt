@@ -1,14 +1,16 @@
 // Triples are looked up ahead, a batch at once, so that the processor waits for the memory of all of them together. What
 // comes of it is hints, and no contract speaks of them.
-ghost use Rattle.std.specs.Prelude.{IfSome, IsTrue};
-ghost use Rattle.px_spec.specs.Graphs.{is_live};
+ghost use Rattle.std.specs.Prelude.{◌≡◌, ◌<◌};
 
 use crate::batch::Waiting;
 use crate::known::Key;
 use crate::loader::Loader;
 use crate::terms::Hint;
-use px_base::{Memory, NodeId};
+use label_graph::Graph;
+use px_base::{Memory, NodeId, Steps};
 use std::alloc::Global;
+use std::marker::Brand;
+use std::sync::ledger::{Blank, Ledger};
 use triples_read::Triple;
 
 /// Where the terms of a triple may stand, and where its predicate does.
@@ -152,9 +154,7 @@ impl Loader {
         )
     }
 
-    fn live_node(&self, hint: Hint) -> Option<NodeId>
-        ensures { IfSome result (λ n. IsTrue (is_live self.now.graph.graph n)) }
-    {
+    fn live_node(&self, hint: Hint) -> Option<NodeId> {
         let node = self.terms.number(hint)?;
         if self.graph.is_live(node) {
             Some(node)
@@ -164,10 +164,28 @@ impl Loader {
     }
 
     fn child(&self, hint: Hint) -> Option<NodeId> {
-        self.graph.any_child(self.live_node(hint)?)
+        counted_child::<Brand>(&self.graph, self.terms.number(hint)?, Blank::new(1))
     }
 
     fn parent(&self, hint: Hint) -> Option<NodeId> {
-        self.graph.any_parent(self.live_node(hint)?)
+        counted_parent::<Brand>(&self.graph, self.terms.number(hint)?, Blank::new(1))
     }
+}
+
+fn counted_child<L: Ledger>(graph: &Graph, n: NodeId, blank: Blank) -> Option<NodeId>
+    requires name { blank.name ≡ L.name }
+    requires parts { blank.parts ≡ L.parts }
+    requires some { 0 < blank.parts }
+{
+    let mut steps = Steps::<L>::new(blank);
+    graph.any_child(n, &mut steps)
+}
+
+fn counted_parent<L: Ledger>(graph: &Graph, n: NodeId, blank: Blank) -> Option<NodeId>
+    requires name { blank.name ≡ L.name }
+    requires parts { blank.parts ≡ L.parts }
+    requires some { 0 < blank.parts }
+{
+    let mut steps = Steps::<L>::new(blank);
+    graph.any_parent(n, &mut steps)
 }

@@ -1,8 +1,8 @@
 use Rattle.std.proofs.Common.{◌∙◌, ap, sym}
 use Rattle.std.specs.Prelude.{slice_get}
 use Rattle.px_spec.specs.Changes.{with_label}
-use Rattle.graph_update.proofs.ShownLabels.{seen-text, unseen-text, unseen-number}
-use Rattle.graph_update.proofs.shown.label_number.Goals as goal
+use Rattle.graph_update.proofs.ChangedLabels.{seen-text, unseen-text, unseen-number}
+use Rattle.graph_update.proofs.pending.label_number.Goals as goal
 
 pub returns-in-Some-clause-text : goal.returns-in-Some-clause-text
 returns-in-Some-clause-text c = seen-text c.args.labels.now.texts c.args.label.now c.in-Some.number (sym c.find.ensures.place ∙ c.in-Some.is)

@@ -1,14 +1,12 @@
-use Rattle.std.proofs.Common.{◌∙◌, subst}
+use Rattle.std.proofs.Common.{sym, subst}
+use Rattle.px_spec.specs.Graphs.{has_edge}
+use Rattle.px_spec.specs.Changes.{after}
 use Rattle.std.proofs.lemmas.Bool.{ne_eqb}
 use Rattle.graph_update.specs.NewChanges.{IsNew, IsNewLink}
 use Rattle.graph_update.specs.Judging.{change_of}
-use Rattle.graph_update.proofs.ShownEdges.{new-children, link-children, link-children_other, unlink-children, unlink-children_other}
-use Rattle.graph_update.proofs.shown.After.children.Goals.{in_default-via-in-Node+else-n-created, in_default-via-in-Link+else-n-from, in_default-via-in-Unlink+else-n-from-2, in_default-via-in_default}
-use Rattle.graph_update.proofs.shown.After.children.Goals as goal
-
-pub returns-in-Node-clause-children : goal.returns-in-Node-clause-children
-returns-in-Node-clause-children g c =
-    rw (← c.self.view_is) (rw c.in-Node.is (rw c.none.ensures (new-children c.self.inside.graph.now.graph c.args.n c.self.invariant.sound (c.if-n-created.true ∙ c.created.ensures.count))))
+use Rattle.graph_update.proofs.ChangedEdges.{relist, edges-kept, link-children, link-children_other, unlink-children, unlink-children_other}
+use Rattle.graph_update.proofs.pending.After.children.Goals.{in_default-via-in-Link+else-n-from, in_default-via-in-Unlink+else-n-from-2, in_default-via-in_default}
+use Rattle.graph_update.proofs.pending.After.children.Goals as goal
 
 pub returns-in-Link-clause-children : goal.returns-in-Link-clause-children
 returns-in-Link-clause-children g c =
@@ -23,8 +21,9 @@ returns-in-Unlink-clause-children g c =
 pub returns-in_default-clause-children : goal.returns-in_default-clause-children
 returns-in_default-clause-children g c =
     rw c.of.ensures (rw (← c.self.view_is) (elim c.in_default.branch [
-      | in_default-via-in-Node+else-n-created w ↦ rw w.in-Node.is c.children-in_default.ensures.children
       | in_default-via-in-Link+else-n-from w ↦ rw w.in-Link.is (link-children_other c.self.inside.graph.now.graph w.in-Link.from w.in-Link.to c.args.n c.children-in_default.result.now (ne_eqb c.args.n w.in-Link.from w.if-n-from.false) c.children-in_default.ensures.children)
       | in_default-via-in-Unlink+else-n-from-2 w ↦ rw w.in-Unlink.is (unlink-children_other c.self.inside.graph.now.graph w.in-Unlink.from w.in-Unlink.to c.args.n c.children-in_default.result.now (ne_eqb c.args.n w.in-Unlink.from w.if-n-from-2.false) c.children-in_default.ensures.children)
-      | in_default-via-in_default w ↦ rw w.in_default.is c.children-in_default.ensures.children
+      | in_default-via-in_default w ↦
+          relist (has_edge c.self.inside.graph.now.graph c.args.n) (has_edge (after (change_of c.self.inside.change.now) c.self.inside.graph.now.graph) c.args.n) c.children-in_default.result.now
+          (λ m. sym (edges-kept c.self.inside.change.now c.self.inside.graph.now.graph c.args.n m w.in_default.not-Link w.in_default.not-Unlink)) c.children-in_default.ensures.children
     ]))

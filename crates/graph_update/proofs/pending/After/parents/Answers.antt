@@ -1,14 +1,12 @@
-use Rattle.std.proofs.Common.{◌∙◌, subst}
+use Rattle.std.proofs.Common.{sym, subst}
+use Rattle.px_spec.specs.Graphs.{has_edge}
+use Rattle.px_spec.specs.Changes.{after}
 use Rattle.std.proofs.lemmas.Bool.{ne_eqb}
 use Rattle.graph_update.specs.NewChanges.{IsNew, IsNewLink}
 use Rattle.graph_update.specs.Judging.{change_of}
-use Rattle.graph_update.proofs.ShownEdges.{new-parents, link-parents, link-parents_other, unlink-parents, unlink-parents_other}
-use Rattle.graph_update.proofs.shown.After.parents.Goals.{in_default-via-in-Node+else-n-created, in_default-via-in-Link+else-n-to, in_default-via-in-Unlink+else-n-to-2, in_default-via-in_default}
-use Rattle.graph_update.proofs.shown.After.parents.Goals as goal
-
-pub returns-in-Node-clause-parents : goal.returns-in-Node-clause-parents
-returns-in-Node-clause-parents g c =
-    rw (← c.self.view_is) (rw c.in-Node.is (rw c.none.ensures (new-parents c.self.inside.graph.now.graph c.args.n c.self.invariant.sound (c.if-n-created.true ∙ c.created.ensures.count))))
+use Rattle.graph_update.proofs.ChangedEdges.{relist, edges-kept, link-parents, link-parents_other, unlink-parents, unlink-parents_other}
+use Rattle.graph_update.proofs.pending.After.parents.Goals.{in_default-via-in-Link+else-n-to, in_default-via-in-Unlink+else-n-to-2, in_default-via-in_default}
+use Rattle.graph_update.proofs.pending.After.parents.Goals as goal
 
 pub returns-in-Link-clause-parents : goal.returns-in-Link-clause-parents
 returns-in-Link-clause-parents g c =
@@ -23,8 +21,9 @@ returns-in-Unlink-clause-parents g c =
 pub returns-in_default-clause-parents : goal.returns-in_default-clause-parents
 returns-in_default-clause-parents g c =
     rw c.of.ensures (rw (← c.self.view_is) (elim c.in_default.branch [
-      | in_default-via-in-Node+else-n-created w ↦ rw w.in-Node.is c.parents-in_default.ensures.parents
       | in_default-via-in-Link+else-n-to w ↦ rw w.in-Link.is (link-parents_other c.self.inside.graph.now.graph w.in-Link.from w.in-Link.to c.args.n c.parents-in_default.result.now (ne_eqb c.args.n w.in-Link.to w.if-n-to.false) c.parents-in_default.ensures.parents)
       | in_default-via-in-Unlink+else-n-to-2 w ↦ rw w.in-Unlink.is (unlink-parents_other c.self.inside.graph.now.graph w.in-Unlink.from w.in-Unlink.to c.args.n c.parents-in_default.result.now (ne_eqb c.args.n w.in-Unlink.to w.if-n-to-2.false) c.parents-in_default.ensures.parents)
-      | in_default-via-in_default w ↦ rw w.in_default.is c.parents-in_default.ensures.parents
+      | in_default-via-in_default w ↦
+          relist (λ m. has_edge c.self.inside.graph.now.graph m c.args.n) (λ m. has_edge (after (change_of c.self.inside.change.now) c.self.inside.graph.now.graph) m c.args.n) c.parents-in_default.result.now
+          (λ m. sym (edges-kept c.self.inside.change.now c.self.inside.graph.now.graph m c.args.n w.in_default.not-Link w.in_default.not-Unlink)) c.parents-in_default.ensures.parents
     ]))

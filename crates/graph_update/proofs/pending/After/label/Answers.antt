@@ -3,14 +3,15 @@ use Rattle.std.specs.Prelude.{IsTrue, slice_get, bytes_eq, position, option_and_
 use Rattle.px_spec.specs.Graphs.{is_live}
 use Rattle.px_spec.specs.Changes.{with_label, after}
 use Rattle.graph_update.specs.Judging.{change_of}
-use Rattle.graph_update.proofs.ShownLabels.{live-old, live-kept, text-old, text-kept, number-old, number-kept, label-new}
-use Rattle.graph_update.proofs.shown.After.label.Goals.{in_default-via-in-Node+else-n-created, in_default-via-in_default}
-use Rattle.graph_update.proofs.shown.After.label.Goals as goal
+use Rattle.graph_update.specs.Pending.{graph_after}
+use Rattle.graph_update.proofs.ChangedLabels.{live-old, live-kept, text-old, text-kept, number-old, number-kept, label-new}
+use Rattle.graph_update.proofs.pending.After.label.Goals.{in_default-via-in-Node+else-n-created, in_default-via-in_default}
+use Rattle.graph_update.proofs.pending.After.label.Goals as goal
 
 pub label-requires : goal.label-requires
 label-requires c =
     let graph = c.self.inside.graph.now.graph in
-    let live : IsTrue (is_live (after (change_of c.self.inside.change.now) graph) c.args.n) = subst (λ s. IsTrue (is_live s.graph c.args.n)) (sym c.self.view_is) c.requires.live in
+    let live : IsTrue (is_live (after (change_of c.self.inside.change.now) graph) c.args.n) = subst (λ s. IsTrue (is_live (graph_after s) c.args.n)) (sym c.self.view_is) c.requires.live in
     record {
       live = elim c.in_default.branch [
         | in_default-via-in-Node+else-n-created w ↦
@@ -38,7 +39,7 @@ returns-in-Node-clause-number c =
 pub returns-in_default-clause-text : goal.returns-in_default-clause-text
 returns-in_default-clause-text c =
     let graph = c.self.inside.graph.now.graph in
-    let live : IsTrue (is_live (after (change_of c.self.inside.change.now) graph) c.args.n) = subst (λ s. IsTrue (is_live s.graph c.args.n)) (sym c.self.view_is) c.requires.live in
+    let live : IsTrue (is_live (after (change_of c.self.inside.change.now) graph) c.args.n) = subst (λ s. IsTrue (is_live (graph_after s) c.args.n)) (sym c.self.view_is) c.requires.live in
     rw (← c.self.view_is) (elim c.in_default.branch [
       | in_default-via-in-Node+else-n-created w ↦
           rw w.in-Node.is (text-old graph w.in-Node.label c.args.n (λ e. w.if-n-created.false (e ∙ sym w.created.ensures.count))
@@ -49,7 +50,7 @@ returns-in_default-clause-text c =
 pub returns-in_default-clause-number : goal.returns-in_default-clause-number
 returns-in_default-clause-number c =
     let graph = c.self.inside.graph.now.graph in
-    let live : IsTrue (is_live (after (change_of c.self.inside.change.now) graph) c.args.n) = subst (λ s. IsTrue (is_live s.graph c.args.n)) (sym c.self.view_is) c.requires.live in
+    let live : IsTrue (is_live (after (change_of c.self.inside.change.now) graph) c.args.n) = subst (λ s. IsTrue (is_live (graph_after s) c.args.n)) (sym c.self.view_is) c.requires.live in
     rw (← c.self.view_is) (elim c.in_default.branch [
       | in_default-via-in-Node+else-n-created w ↦
           rw w.in-Node.is (number-old graph w.in-Node.label c.args.n (λ e. w.if-n-created.false (e ∙ sym w.created.ensures.count)) c.label.result c.label.ensures.number)

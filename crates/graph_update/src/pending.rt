@@ -1,12 +1,12 @@
 // A graph as a change will leave it.
 ghost use Rattle.std.specs.Prelude.{◌≡◌, ◌≤◌, ◌+◌, ◌^◌, length, IsTrue, Some, slice_get, position, bytes_eq};
-ghost use Rattle.px_spec.specs.Graphs.{is_live, label_of, has_edge};
+ghost use Rattle.px_spec.specs.Graphs.{IsGraph, is_live, label_of, has_edge};
 ghost use Rattle.px_spec.specs.Changes.{with_label};
 ghost use Rattle.px_spec.specs.Members.{Lists};
 ghost use Rattle.label_graph.specs.Views.{label_number};
 ghost use Rattle.graph_update.specs.NewChanges.{IsNew};
 ghost use Rattle.graph_update.specs.Judging.{change_of};
-ghost use Rattle.graph_update.specs.Shown.{shown_of, lost_from, lost_onto};
+ghost use Rattle.graph_update.specs.Pending.{graph_after, lost_edge, lost_from, lost_onto};
 
 use crate::changes::Change;
 use crate::neighbours::Neighbours;
@@ -15,7 +15,8 @@ use px_base::{NodeId, Steps, Text};
 use std::marker::Model;
 use std::sync::ledger::Ledger;
 
-/// A graph as a change will leave it. It is read from the graph as it is, and nothing is copied.
+/// A graph as a change will leave it. It is read from the graph as it is, and nothing is copied. It is seen as
+/// the graph before and the change; the graph after is a function of the two.
 #[derive(Drop)]
 pub struct After<'a> {
     graph: &'a Graph,
@@ -24,28 +25,29 @@ pub struct After<'a> {
 }
 
 impl<'a> Model for After<'a> {
-    ghost use Rattle.graph_update.specs.Shown.{Shown, shown_code};
+    ghost use Rattle.graph_update.specs.Pending.{Pending, pending_code};
 
-    ghost Value = { Shown };
+    ghost Value = { Pending };
 
-    ghost coded = { shown_code };
+    ghost coded = { pending_code };
 
+    ghost use Rattle.std.specs.Prelude.{◌≡◌};
+    ghost use Rattle.px_spec.specs.Graphs.{IsGraph};
     ghost use Rattle.graph_update.specs.NewChanges.{IsNew};
     ghost use Rattle.graph_update.specs.Judging.{change_of};
-    ghost use Rattle.graph_update.specs.Shown.{shown_of};
-    ghost use Rattle.std.specs.Prelude.{◌≡◌};
-    ghost use Rattle.px_spec.specs.Shapes.{IsShape, shape_of};
 
-    ghost view = { λ a. shown_of (change_of a.change.now) a.graph.now.graph };
+    ghost view = { λ a. record { before = a.graph.now.graph; change = change_of a.change.now } };
 
-    ghost invariant = { λ a. record { new : IsNew (change_of a.change.now) a.graph.now.graph; seen : a.labels.now.texts ≡ a.graph.now.graph.seen; sound : IsShape (shape_of a.graph.now.graph) } };
+    ghost invariant = { λ a. record { new : IsNew (change_of a.change.now) a.graph.now.graph; seen : a.labels.now.texts ≡ a.graph.now.graph.seen; sound : IsGraph a.graph.now.graph } };
 }
 
 impl<'a> After<'a> {
     /// The graph after a change that `judge` accepts as new within some limits.
     pub fn new(graph: &'a Graph, change: &'a Change) -> After<'a>
         requires new { IsNew (change_of change.now) graph.now.graph }
-        ensures { result ≡ shown_of (change_of change.now) graph.now.graph }
+        ensures pending { result ≡ record { before = graph.now.graph; change = change_of change.now } }
+        ensures before { IsGraph result.before }
+        ensures after { IsGraph (graph_after result) }
     {
         After {
             graph,
@@ -56,7 +58,7 @@ impl<'a> After<'a> {
 
     /// Whether the number is that of a live node.
     pub fn is_live(&self, n: NodeId) -> bool
-        ensures { result ≡ is_live self.now.graph n }
+        ensures { result ≡ is_live (graph_after self.now) n }
     {
         match self.change {
             Change::Node(_) => n == self.graph.created() || self.graph.is_live(n),
@@ -68,9 +70,9 @@ impl<'a> After<'a> {
     /// The number of a live node's label. A label that is not seen yet has the next number, the count
     /// of the labels.
     pub fn label(&self, n: NodeId) -> u32
-        requires live { IsTrue (is_live self.now.graph n) }
-        ensures text { slice_get self.now.graph.seen result ≡ label_of self.now.graph n }
-        ensures number { label_number self.now.graph n ≡ Some result }
+        requires live { IsTrue (is_live (graph_after self.now) n) }
+        ensures text { slice_get (graph_after self.now).seen result ≡ label_of (graph_after self.now) n }
+        ensures number { label_number (graph_after self.now) n ≡ Some result }
     {
         match self.change {
             Change::Node(label) if n == self.graph.created() => label_number(self.labels, label),
@@ -78,10 +80,12 @@ impl<'a> After<'a> {
         }
     }
 
-    /// How many node numbers will have been given: at most 2^30.
+    /// How many node numbers will have been given: at most 2^30. Both graphs are graphs.
     pub fn created(&self) -> u32
-        ensures count { result ≡ length self.now.graph.given }
+        ensures count { result ≡ length (graph_after self.now).given }
         ensures few { result ≤ 2 ^ 30 }
+        ensures before { IsGraph self.now.before }
+        ensures after { IsGraph (graph_after self.now) }
     {
         match self.change {
             Change::Node(_) => self.graph.created() + 1,
@@ -89,18 +93,14 @@ impl<'a> After<'a> {
         }
     }
 
-    /// The nodes from which an edge leads to a live node, each once, in no stated order. It is one
-    /// step, one for each of them, and one for the edge to the node that the change takes away.
+    /// The nodes from which an edge leads to this one, each once, in no stated order; none where the number
+    /// isn't that of a live node. It is one step, one for each of them, and one for the edge to the node that
+    /// the change takes away.
     pub fn parents<L: Ledger>(&self, n: NodeId, steps: &mut Steps<L>) -> Neighbours<'_>
-        requires live { IsTrue (is_live self.now.graph n) }
-        ensures parents { Lists (λ u. has_edge self.now.graph u n) result }
-        ensures cost { steps.new ≡ steps.old + 1 + length result + lost_onto self.now.lost n }
+        ensures parents { Lists (λ u. has_edge (graph_after self.now) u n) result }
+        ensures cost { steps.new ≡ steps.old + 1 + length result + lost_onto (lost_edge self.now.change) n }
     {
         match self.change {
-            Change::Node(_) if n == self.graph.created() => {
-                steps.tick();
-                Neighbours::none()
-            }
             Change::Link(from, to) if n == *to => {
                 steps.tick();
                 Neighbours::with(self.graph.parents(n, steps), *from)
@@ -112,18 +112,14 @@ impl<'a> After<'a> {
         }
     }
 
-    /// The nodes to which an edge leads from a live node, each once, in no stated order. It is one
-    /// step, one for each of them, and one for the edge from the node that the change takes away.
+    /// The nodes to which an edge leads from this one, each once, in no stated order; none where the number
+    /// isn't that of a live node. It is one step, one for each of them, and one for the edge from the node that
+    /// the change takes away.
     pub fn children<L: Ledger>(&self, n: NodeId, steps: &mut Steps<L>) -> Neighbours<'_>
-        requires live { IsTrue (is_live self.now.graph n) }
-        ensures children { Lists (has_edge self.now.graph n) result }
-        ensures cost { steps.new ≡ steps.old + 1 + length result + lost_from self.now.lost n }
+        ensures children { Lists (has_edge (graph_after self.now) n) result }
+        ensures cost { steps.new ≡ steps.old + 1 + length result + lost_from (lost_edge self.now.change) n }
     {
         match self.change {
-            Change::Node(_) if n == self.graph.created() => {
-                steps.tick();
-                Neighbours::none()
-            }
             Change::Link(from, to) if n == *from => {
                 steps.tick();
                 Neighbours::with(self.graph.children(n, steps), *to)
