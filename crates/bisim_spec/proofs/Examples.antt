@@ -9,6 +9,7 @@ use Rattle.bisim_spec.specs.Stability.{StableBut, Stable, StableBoth, Mergeable,
 use Rattle.bisim_spec.specs.Reach.{near, reach, Acyclic}
 use Rattle.bisim_spec.specs.Weights.{weight, size_of}
 use Rattle.bisim_spec.specs.Supports.{support}
+use Rattle.bisim_spec.specs.Touching.{touching_count}
 use Rattle.bisim_spec.specs.Tests.{bis, bisim, both, fb, agrees}
 use Rattle.bisim_spec.proofs.Bisimilar.{bis_sym, bis_node, both_sym, both_node}
 use Rattle.bisim_spec.proofs.BisimilarTests.{bis_decides, both_decides}
@@ -19,7 +20,7 @@ use Rattle.bisim_spec.proofs.Drawn.{drawn, drawn_shape}
 refuted : {r : Bool} {P : Type 0} → Decides r P → r ≡ false → P → ⊥
 refuted {r = r} decides fails p = both_ways r fails (decides.1 p)
 
-level_decides : (s : Shape) → IsShape s → (block : List (Option ℕ)) (i : ℕ) → Decides (agrees s block (bis s i)) (Agrees s block (Bis s i))
+pub level_decides : (s : Shape) → IsShape s → (block : List (Option ℕ)) (i : ℕ) → Decides (agrees s block (bis s i)) (Agrees s block (Bis s i))
 level_decides s shape block i =
     agrees_decides s shape block (bis s i) (Bis s i) (bis_decides s shape i) (λ u v h. (bis_node s i u v h, bis_node s i v u (bis_sym s i u v h)))
 
@@ -198,6 +199,14 @@ fan_support = refl
 
 fan_support_back : support fan_edges two_pairs 1 0 ≡ 0
 fan_support_back = refl
+
+-- the edges at a b that lead from the block of the a to its own
+touching_fan : touching_count 2 (0 ∷ 1 ∷ []) [] two_pairs 0 1 ≡ 2
+touching_fan = refl
+
+-- a loop is counted once
+touching_loop : touching_count 0 (0 ∷ []) (0 ∷ []) (Some 0 ∷ Some 1 ∷ []) 0 0 ≡ 1
+touching_loop = refl
 
 -- two nodes with a loop each: their blocks have different parent blocks until the two are counted as one
 

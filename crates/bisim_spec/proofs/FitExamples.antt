@@ -1,12 +1,24 @@
 -- Targets, and what fits, at small graphs and near misses.
-use Rattle.std.proofs.Common.{◌≡◌, ℕ, ◌<◌, zero, suc, true, false, List, [], ◌∷◌, Option, Some, None, refl, arith}
+use Rattle.std.proofs.Common.{◌≡◌, ℕ, ◌<◌, zero, suc, true, false, List, [], ◌∷◌, Option, Some, None, IsSome, refl, sym, ◌∙◌, ap, arith, true≢false, unwrap_or, slice_get}
 use Rattle.std.specs.Prelude.{codes}
 use Rattle.std.specs.FinSet as set
-use Rattle.px_spec.specs.Graphs.{Graph}
+use Rattle.std.specs.FinMap as table
+use Rattle.px_spec.specs.Graphs.{Graph, edge_cmp, label_of}
 use Rattle.px_spec.specs.Changes.{node, link, unlink, drop}
+use Rattle.px_spec.specs.Members.{at}
+use Rattle.px_spec.specs.Shapes.{IsNode, IsParent, IsShape, shape_of}
+use Rattle.px_spec.proofs.EdgeOrder.{edge_cmp_total}
 use Rattle.bisim_spec.specs.declared.kind.Kind.TheVariants.{A, One, Fb}
+use Rattle.bisim_spec.specs.Partitions.{Together}
+use Rattle.bisim_spec.specs.Stability.{Stable, Minimal}
+use Rattle.bisim_spec.specs.Supports.{joins, edges_between}
 use Rattle.bisim_spec.specs.Targets.{target, KeepsParents}
+use Rattle.bisim_spec.specs.Views.{View, ViewFits, support_at}
 use Rattle.bisim_spec.specs.Fits.{Fits, FitsAt, view_at, view_count}
+use Rattle.bisim_spec.proofs.EdgeSets.{kept, same_len}
+use Rattle.bisim_spec.proofs.Ranks.{acyclic_full}
+use Rattle.bisim_spec.proofs.StabilityTests.{partition_decides}
+use Rattle.bisim_spec.proofs.Examples.{level_decides}
 
 -- nodes n0 and n1 were given, and n1 is gone
 abbrev one_left : Graph
@@ -65,3 +77,100 @@ three_levels = refl
 
 one_view : view_count One 2 ≡ 1
 one_view = refl
+
+-- a view of one block, of the one node that is left
+
+abbrev one_block : View
+one_block = record { block_of = Some 0 ∷ []; labels = Some 0 ∷ []; supports = table.empty }
+
+no_edge : (p n : ℕ) → IsParent (shape_of one_left) p n → ⊥
+no_edge p n e = true≢false (sym e ∙ set.contains-empty edge_cmp (p, n))
+
+left_shape : IsShape (shape_of one_left)
+left_shape = record { below = below; from = λ u v e. absurd (no_edge u v e); onto = λ u v e. absurd (no_edge u v e) }
+  where
+    below : (n : ℕ) → IsNode (shape_of one_left) n → n < 2
+    below zero h = omega arith
+    below (suc zero) h = omega arith
+    below (suc (suc n)) h = absurd (true≢false (sym h))
+
+-- two nodes in one block are the node that is left
+only_one : (u v : ℕ) → Together one_block.block_of u v → (u ≡ 0) × (v ≡ 0)
+only_one zero zero t = (refl, refl)
+only_one zero (suc v) (b, hu, hv) = absurd (cc)
+only_one (suc u) v (b, hu, hv) = absurd (cc)
+
+one_counts : (a b : ℕ) → support_at one_block.supports a b ≡ edges_between one_left.edges one_block.block_of a b
+one_counts a b =
+    ap (λ o. unwrap_or o 0) (table.get-empty edge_cmp (a, b))
+    ∙ sym (same_len (set.retain set.empty (joins one_block.block_of a b)) set.empty (λ k.
+    kept set.empty (joins one_block.block_of a b) k ∙ rw (set.contains-empty edge_cmp k) refl) ∙ set.len-empty edge_cmp)
+
+one_fits : ViewFits one_left one_block
+one_fits = record { inhabited = inhabited; labelled = labelled; supports = one_counts }
+  where
+    inhabited : (b : ℕ) → IsSome (at one_block.labels b) → (n : ℕ) × (at one_block.block_of n ≡ Some b)
+    inhabited zero h = (0, refl)
+    inhabited (suc b) h = absurd (true≢false (sym h))
+
+    labelled : (n b : ℕ) → at one_block.block_of n ≡ Some b
+        → (l : ℕ) × (t : List ℕ) × (at one_block.labels b ≡ Some l) × (slice_get one_left.seen l ≡ Some t) × (label_of one_left n ≡ Some t)
+    labelled zero zero h = (0, codes "a", refl, refl, refl)
+    labelled zero (suc b) h = absurd (cc)
+    labelled (suc n) b h = absurd (cc)
+
+one_level : Fits A (Some one_block ∷ []) one_left
+one_level = record { count = omega arith; each = at_each }
+  where
+    at_each : (i : ℕ) → i < 1 → FitsAt A one_left i (view_at (Some one_block ∷ []) i)
+    at_each zero h = record { view = one_fits; agrees = (level_decides (shape_of one_left) left_shape one_block.block_of 0).0 refl }
+    at_each (suc i) h = absurd (omega (arith, h))
+
+one_stable : Stable (shape_of one_left) one_block.block_of
+one_stable = record {
+  partition = (partition_decides (shape_of one_left) left_shape one_block.block_of).0 refl;
+  label = λ u v nu nv t. let same = only_one u v t in ap (label_of one_left) (same.0 ∙ sym same.1);
+  parents = λ u v nu nv t p e. absurd (no_edge p u e);
+}
+
+one_minimal : Minimal (shape_of one_left) one_block.block_of
+one_minimal = record { apart = λ u v a b hu hv ne can. ne (only u a hu ∙ sym (only v b hv)) }
+  where
+    only : (n b : ℕ) → at one_block.block_of n ≡ Some b → b ≡ 0
+    only zero b h = cc
+    only (suc n) b h = absurd (cc)
+
+one_index : Fits One (Some one_block ∷ []) one_left
+one_index = record { count = refl; each = at_each }
+  where
+    at_each : (i : ℕ) → i < 1 → FitsAt One one_left i (view_at (Some one_block ∷ []) i)
+    at_each zero h = record {
+      view = one_fits;
+      stable = one_stable;
+      minimal = one_minimal;
+      whole = λ acyclic. acyclic_full (shape_of one_left) one_block.block_of left_shape acyclic one_stable one_minimal;
+    }
+    at_each (suc i) h = absurd (omega (arith, h))
+
+-- a block without a member, a node that is gone in a block, and support without an edge are refused
+
+no_member : ViewFits one_left (record one_block { labels = Some 0 ∷ Some 0 ∷ [] }) → ⊥
+no_member h = let m = h.inhabited 1 refl in none m.0 m.1
+  where
+    none : (n : ℕ) → at one_block.block_of n ≡ Some 1 → ⊥
+    none zero e = absurd (cc)
+    none (suc n) e = absurd (cc)
+
+gone_member : ViewFits one_left (record one_block { block_of = Some 0 ∷ Some 0 ∷ [] }) → ⊥
+gone_member h = let l = h.labelled 1 0 refl in let e = l.4 in absurd (cc)
+
+support_alone : ViewFits one_left (record one_block { supports = table.insert table.empty (0, 0) 1 }) → ⊥
+support_alone h =
+    let claimed : support_at (table.insert table.empty (0, 0) 1) 0 0 ≡ 1 = ap (λ o. unwrap_or o 0) (table.get-insert edge_cmp_total table.empty (0, 0) 1 (0, 0)) in
+    let none = sym (one_counts 0 0) ∙ ap (λ o. unwrap_or o 0) (table.get-empty edge_cmp (0, 0)) in
+    let same = h.supports 0 0 in
+    omega (arith, claimed, none, same)
+
+-- a live node without a block is refused
+without_block : Fits A (Some (record one_block { block_of = [] }) ∷ []) one_left → ⊥
+without_block h = let p = (h.each 0 (omega arith)).agrees.partition.live 0 refl in true≢false (sym p)
