@@ -6,7 +6,7 @@ use Rattle.px_spec.specs.Graphs.{Graph, IsGraph}
 use Rattle.px_spec.specs.Changes.{Change, apply}
 use Rattle.px_spec.specs.Shapes.{Shape, IsNode, IsParent, IsShape, shape_of}
 use Rattle.px_spec.specs.Members.{at}
-use Rattle.px_spec.proofs.GraphLaws.{is_shape}
+use Rattle.px_spec.proofs.GraphLaws.{is_shape, graph_applied}
 use Rattle.bisim_spec.specs.Partitions.{Together, IsPartition}
 use Rattle.bisim_spec.specs.Stability.{StableBut, Stable}
 use Rattle.bisim_spec.specs.Targets.{KeepsBlocks, target}
@@ -51,7 +51,7 @@ stable_but_changed target s s2 block block2 shape shape2 d keeps st partition = 
     )
 
 -- the same for a change that is accepted
-pub stable_but_applied : (c : Change) (g : Graph) (limits : Limits) (g2 : Graph) (block block2 : List (Option ℕ)) → IsGraph g → IsGraph g2 → apply c g limits ≡ Ok g2
+pub stable_but_applied : (c : Change) (g : Graph) (limits : Limits) (g2 : Graph) (block block2 : List (Option ℕ)) → IsGraph g → apply c g limits ≡ Ok g2
     → KeepsBlocks (shape_of g) (shape_of g2) block block2 → Stable (shape_of g) block → IsPartition (shape_of g2) block2 → StableBut (shape_of g2) block2 (target c g)
-stable_but_applied c g limits g2 block block2 sound sound2 h =
-    stable_but_changed (target c g) (shape_of g) (shape_of g2) block block2 (is_shape g sound) (is_shape g2 sound2) (differs_applied c g limits g2 h)
+stable_but_applied c g limits g2 block block2 graph h =
+    stable_but_changed (target c g) (shape_of g) (shape_of g2) block block2 (is_shape g graph) (is_shape g2 (graph_applied c g g2 limits graph h)) (differs_applied c g limits g2 h)

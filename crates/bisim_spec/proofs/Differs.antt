@@ -1,7 +1,6 @@
 -- A change alters a graph at its target alone.
 use Rattle.std.proofs.Common.{◌≡◌, ◌≢◌, ℕ, zero, suc, ◌<◌, Bool, false, List, [], ◌∷◌, ◌++◌, length, Option, Some, None, Ok, refl, sym, ◌∙◌, ap, arith, inl, inr, nat_eq, length-append}
 use Rattle.std.specs.Prelude.{◌&&◌, ◌||◌, not, option_and_then, slice_get, slice_set}
-use Rattle.std.specs.FinSet as set
 use Rattle.std.proofs.Math.Bool.{and-false}
 use Rattle.std.proofs.lemmas.Bool.{cases_lt, cases_Bool}
 use Rattle.std.proofs.lemmas.Bool.Decides.{eqb_tells}
@@ -10,19 +9,12 @@ use Rattle.px_spec.specs.declared.limits.Limits.{Limits}
 use Rattle.px_spec.specs.Graphs.{Graph, has_edge, is_live}
 use Rattle.px_spec.specs.Changes.{Change, node, link, unlink, drop, after, apply, with_node, with_edge, without_edge, without_node, is_used, node_fits, edge_fits}
 use Rattle.px_spec.specs.Shapes.{shape_of}
-use Rattle.px_spec.proofs.EdgeOrder.{edge_cmp_total, eq_pair}
+use Rattle.px_spec.proofs.GraphLaws.{edge_with, edge_without}
 use Rattle.bisim_spec.specs.Targets.{target}
 use Rattle.bisim_spec.proofs.Outside.{DiffersAt}
 
 apart_of : (n m : ℕ) → nat_eq n m ≡ false → n ≢ m
 apart_of n m h = elim (eqb_tells n m) [ inl t ↦ (let u = t.0 in λ _. cc) | inr d ↦ d.1 ]
-
--- the edges, once one is put in or taken out
-pub edge_with : (g : Graph) (u v x y : ℕ) → has_edge (with_edge g u v) x y ≡ ((nat_eq x u && nat_eq y v) || has_edge g x y)
-edge_with g u v x y = set.contains-insert edge_cmp_total g.edges (u, v) (x, y) ∙ ap (λ b. b || has_edge g x y) (eq_pair x y u v)
-
-pub edge_without : (g : Graph) (u v x y : ℕ) → has_edge (without_edge g u v) x y ≡ (not (nat_eq x u && nat_eq y v) && has_edge g x y)
-edge_without g u v x y = set.contains-remove edge_cmp_total g.edges (u, v) (x, y) ∙ ap (λ b. not b && has_edge g x y) (eq_pair x y u v)
 
 off_end : (x y : Bool) → y ≡ false → (x && y) ≡ false
 off_end x y h = ap (λ b. x && b) h ∙ and-false x

@@ -16,6 +16,7 @@ pub mod Moves
 pub mod Differs
 pub mod Changed
 pub mod Supported
+pub mod Fitting
 pub mod StabilityTests
 pub mod Drawn
 pub mod Examples

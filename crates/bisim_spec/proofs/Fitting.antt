@@ -1,0 +1,40 @@
+-- What makes a view fit.
+use Rattle.std.proofs.Common.{ℕ, List, Option, refl, arith}
+use Rattle.px_spec.specs.Graphs.{Graph, IsGraph}
+use Rattle.px_spec.specs.Changes.{Change}
+use Rattle.px_spec.specs.Shapes.{shape_of}
+use Rattle.px_spec.proofs.GraphLaws.{is_shape}
+use Rattle.bisim_spec.specs.declared.kind.Kind.{Kind}
+use Rattle.bisim_spec.specs.declared.kind.Kind.TheVariants.{A, One, Fb}
+use Rattle.bisim_spec.specs.Bisimilarity.{Bisim}
+use Rattle.bisim_spec.specs.Partitions.{Agrees}
+use Rattle.bisim_spec.specs.Stability.{Stable, Minimal}
+use Rattle.bisim_spec.specs.OneStep.{OneStep}
+use Rattle.bisim_spec.specs.Views.{View, ViewFits}
+use Rattle.bisim_spec.specs.Fits.{FitsOne, HasCount, view_count}
+use Rattle.bisim_spec.proofs.Stable.{bisim_stable, bisim_minimal}
+use Rattle.bisim_spec.proofs.Ranks.{acyclic_full}
+
+-- as many views as are kept up to a level are as many as there may be
+pub count_lawful : (kind : Kind) (k : ℕ) → HasCount kind (view_count kind k)
+count_lawful A k = omega arith
+count_lawful One k = refl
+count_lawful Fb k = refl
+
+-- a view whose partition is stable, and of which no two blocks can be merged, is one of the 1-index
+pub fits_one : (g : Graph) (v : View) → IsGraph g → ViewFits g v → Stable (shape_of g) v.block_of → Minimal (shape_of g) v.block_of → FitsOne g v
+fits_one g v graph view stable minimal = record {
+  view = view;
+  stable = stable;
+  minimal = minimal;
+  whole = λ acyclic. acyclic_full (shape_of g) v.block_of (is_shape g graph) acyclic stable minimal;
+}
+
+-- so is full bisimilarity
+pub fits_full : (g : Graph) (v : View) → IsGraph g → ViewFits g v → Agrees (shape_of g) v.block_of (Bisim (shape_of g)) → FitsOne g v
+fits_full g v graph view agrees =
+    fits_one g v graph view (bisim_stable (shape_of g) v.block_of (is_shape g graph) agrees) (bisim_minimal (shape_of g) v.block_of (is_shape g graph) agrees)
+
+-- and what a partition moves to with a change
+pub fits_moved : (g : Graph) (p : List (Option ℕ)) (c : Change) (g2 : Graph) (v : View) → ViewFits g2 v → OneStep g p c g2 v.block_of → FitsOne g2 v
+fits_moved g p c g2 v view step = record { view = view; stable = step.stable; minimal = step.minimal; whole = step.whole }
