@@ -1,19 +1,22 @@
 -- The definitions at worked graphs, and at near misses.
-use Rattle.std.proofs.Common.{◌≡◌, ℕ, true, false, Bool, List, [], ◌∷◌, refl, Option, None, Some}
-use Rattle.std.specs.Prelude.{codes, nat_eq, slice_get, Decides}
-use Rattle.std.proofs.lemmas.Bool.{both_ways}
+use Rattle.std.proofs.Common.{◌≡◌, ℕ, arith, inl, inr, true, false, Bool, List, [], ◌∷◌, refl, Option, None, Some}
+use Rattle.std.specs.Prelude.{◌||◌, not, codes, nat_eq, slice_get, Decides}
+use Rattle.std.proofs.lemmas.Bool.{both_ways, or_cases, not-true}
+use Rattle.std.proofs.lemmas.Bool.Decides.{Decides-eqb}
 use Rattle.px_spec.specs.Shapes.{Shape, IsShape}
 use Rattle.bisim_spec.specs.Bisimilarity.{node_count, Bis, Bisim, Both, FB}
 use Rattle.bisim_spec.specs.Partitions.{IsPartition, Agrees}
 use Rattle.bisim_spec.specs.Stability.{StableBut, Stable, StableBoth, Mergeable, Minimal}
 use Rattle.bisim_spec.specs.Reach.{near, reach, Acyclic}
+use Rattle.bisim_spec.specs.Targets.{HasOther}
 use Rattle.bisim_spec.specs.Weights.{weight, size_of}
 use Rattle.bisim_spec.specs.Supports.{support}
 use Rattle.bisim_spec.specs.Touching.{touching_count}
-use Rattle.bisim_spec.specs.Tests.{bis, bisim, both, fb, agrees}
+use Rattle.bisim_spec.specs.Tests.{bis, bisim, both, fb, agrees, together}
+use Rattle.bisim_spec.proofs.BelowLaws.{all_get}
 use Rattle.bisim_spec.proofs.Bisimilar.{bis_sym, bis_node, both_sym, both_node}
 use Rattle.bisim_spec.proofs.BisimilarTests.{bis_decides, both_decides}
-use Rattle.bisim_spec.proofs.StabilityTests.{partition_decides, stable_decides, stable_but_decides, stable_both_decides, mergeable_decides, minimal_decides, agrees_decides, acyclic_decides}
+use Rattle.bisim_spec.proofs.StabilityTests.{together_decides, partition_decides, stable_decides, stable_but_decides, stable_both_decides, mergeable_decides, minimal_decides, agrees_decides, acyclic_decides}
 use Rattle.bisim_spec.proofs.Drawn.{drawn, drawn_shape}
 
 -- what a test that fails refutes
@@ -119,6 +122,15 @@ hung_but_target = (stable_but_decides hung hung_shape by_label (nat_eq 3)).0 ref
 hung_not_but_other : StableBut hung by_label (nat_eq 4) → ⊥
 hung_not_but_other = refuted (stable_but_decides hung hung_shape by_label (nat_eq 4)) refl
 
+-- the second a has no parent but x, so the edge adds a parent block
+hung_other : HasOther hung by_label 6 3 → ⊥
+hung_other h =
+    let alone : ℕ → Bool = λ p. nat_eq p 6 || not (together by_label p 6) in
+    elim (or_cases (nat_eq h.parent 6) (not (together by_label h.parent 6)) (all_get 7 alone refl h.parent (hung_shape.below h.parent (hung_shape.from h.parent 3 h.is_parent)))) [
+      | inl same ↦ h.other ((Decides-eqb h.parent 6).0 same)
+      | inr apart ↦ both_ways (together by_label h.parent 6) (not-true (together by_label h.parent 6) apart) ((together_decides by_label h.parent 6).1 h.together)
+    ]
+
 -- from the second a one edge leads to its b, and all in all its b and c
 near_none : near hung (nat_eq 3) 0 4 ≡ false
 near_none = refl
@@ -199,6 +211,10 @@ fan_support = refl
 
 fan_support_back : support fan_edges two_pairs 1 0 ≡ 0
 fan_support_back = refl
+
+-- the second b has another parent in the block of the a's, so an edge from the second a to it adds no parent block
+fan_other : HasOther fan two_pairs 1 3
+fan_other = record { parent = 0; other = λ e. absurd (omega (arith, e)); is_parent = refl; together = (0, refl, refl) }
 
 -- the edges at a b that lead from the block of the a to its own
 touching_fan : touching_count 2 (0 ∷ 1 ∷ []) [] two_pairs 0 1 ≡ 2
