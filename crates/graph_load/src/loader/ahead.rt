@@ -164,11 +164,11 @@ impl Loader {
     }
 
     fn child(&self, hint: Hint) -> Option<NodeId> {
-        counted_child::<Brand>(&self.graph, self.terms.number(hint)?, Blank::new(1))
+        some_child(&self.graph, self.terms.number(hint)?)
     }
 
     fn parent(&self, hint: Hint) -> Option<NodeId> {
-        counted_parent::<Brand>(&self.graph, self.terms.number(hint)?, Blank::new(1))
+        some_parent(&self.graph, self.terms.number(hint)?)
     }
 }
 
@@ -188,4 +188,12 @@ fn counted_parent<L: Ledger>(graph: &Graph, n: NodeId, blank: Blank) -> Option<N
 {
     let mut steps = Steps::<L>::new(blank);
     graph.any_parent(n, &mut steps)
+}
+
+fn some_child(graph: &Graph, n: NodeId) -> Option<NodeId> {
+    counted_child::<Brand>(graph, n, Blank::new(1))
+}
+
+fn some_parent(graph: &Graph, n: NodeId) -> Option<NodeId> {
+    counted_parent::<Brand>(graph, n, Blank::new(1))
 }
