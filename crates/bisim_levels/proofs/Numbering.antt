@@ -1,13 +1,14 @@
 -- Nodes that are numbered by their keys, one after another.
-use Rattle.std.proofs.Common.{◌≡◌, ℕ, zero, suc, ◌+◌, ◌<◌, List, [], ◌∷◌, ◌++◌, length, Option, Some, None, IsSome, IsTrue, refl, sym, ◌∙◌, ap, subst, arith, inl, inr, Bool, slice_get}
+use Rattle.std.proofs.Common.{◌≡◌, ℕ, zero, suc, ◌+◌, ◌<◌, List, [], ◌∷◌, ◌++◌, length, Option, Some, None, IsSome, IsTrue, refl, sym, ◌∙◌, ap, subst, arith, inl, inr, Bool, slice_get, get_or}
 use Rattle.std.proofs.lemmas.Bool.{cases_lt}
+use Rattle.std.proofs.lemmas.Option.{slice_get_within, slice_get-get_or}
 use Rattle.std.proofs.lemmas.List.{get_or_push, get_or_append_left, get_or_past, length-append}
 use Rattle.key_table.specs.Interning.{AreDistinct, Interns}
 use Rattle.px_spec.specs.Members.{at}
 use Rattle.bisim_spec.proofs.Bisimilar.{some_of, none_or_some, is_some_at}
 use Rattle.bisim_spec.proofs.Together.{block_below}
 use Rattle.bisim_levels.specs.Keys.{IsKey}
-use Rattle.bisim_levels.specs.Refining.{Refines, AreNumbered, Numbers}
+use Rattle.bisim_levels.specs.Refining.{Refines, AreNumbered, AreBlocksBelow, Numbers}
 use Rattle.bisim_levels.proofs.Written.{together_from_key, key_from_together}
 
 -- the nodes below n are numbered
@@ -97,53 +98,62 @@ numbered_more own base near n keys keys2 next o w s =
 
 -- when all nodes with a block are numbered
 pub numbered_all : (own : ℕ → Option ℕ) (base : List (Option ℕ)) (near : ℕ → ℕ → Bool) (n : ℕ) (keys : List (List ℕ)) (next : List (Option ℕ))
-    → NumberedBelow own base near n keys next → ((m : ℕ) → IsSome (own m) → m < n) → AreNumbered own base near next keys
+    → NumberedBelow own base near n keys next → ((m : ℕ) → IsSome (own m) → m < n) → AreNumbered own base near next (slice_get keys)
 numbered_all own base near n keys next w within = record {
   none = λ m e. elim (cases_lt m n) [
     | inl before ↦ w.none m before e
     | inr past ↦ get_or_past next m None (let l = w.length_is in omega (arith, l, past))
   ];
   some = λ m b e. w.some m b (within m (is_some_at (own m) b e)) e;
-  inhabited = w.inhabited;
+  inhabited = λ k h. let key = some_of (slice_get keys k) h in w.inhabited k (slice_get_within keys k key.0 key.1);
 }
 
 -- a numbered node has a block, and that is the number of its key
-record KeyAt (own : ℕ → Option ℕ) (base : List (Option ℕ)) (near : ℕ → ℕ → Bool) (keys : List (List ℕ)) (m k : ℕ) : Type 0 where
+record KeyAt (own : ℕ → Option ℕ) (base : List (Option ℕ)) (near : ℕ → ℕ → Bool) (key : ℕ → Option (List ℕ)) (m k : ℕ) : Type 0 where
   own_some : IsSome (own m)
-  key : List ℕ
-  at : slice_get keys k ≡ Some key
-  is : IsKey own base near m key
+  numbers : List ℕ
+  at : key k ≡ Some numbers
+  is : IsKey own base near m numbers
 
-key_at : (own : ℕ → Option ℕ) (base : List (Option ℕ)) (near : ℕ → ℕ → Bool) (keys : List (List ℕ)) (next : List (Option ℕ)) → AreNumbered own base near next keys
-    → (m k : ℕ) → at next m ≡ Some k → KeyAt own base near keys m k
-key_at own base near keys next w m k e = elim (none_or_some (own m)) [
+key_of_block : (own : ℕ → Option ℕ) (base : List (Option ℕ)) (near : ℕ → ℕ → Bool) (key : ℕ → Option (List ℕ)) (next : List (Option ℕ)) → AreNumbered own base near next key
+    → (m k : ℕ) → at next m ≡ Some k → KeyAt own base near key m k
+key_of_block own base near key next w m k e = elim (none_or_some (own m)) [
   | inl none ↦ absurd (let z = w.none m none in cc)
   | inr (b, some) ↦
       (let f = w.some m b some in
       let same : f.0 ≡ k = (let z = f.2 in cc) in
       record {
         own_some = is_some_at (own m) b some;
-        key = f.1;
-        at = ap (slice_get keys) (sym same) ∙ f.3;
+        numbers = f.1;
+        at = ap key (sym same) ∙ f.3;
         is = f.4;
       })
 ]
 
 -- numbers by distinct keys refine the partition
-pub numbered_refines : (own : ℕ → Option ℕ) (base : List (Option ℕ)) (near : ℕ → ℕ → Bool) (keys : List (List ℕ)) (next : List (Option ℕ))
-    → ((p n : ℕ) → IsTrue (near p n) → (b : ℕ) × (at base p ≡ Some b)) → AreDistinct keys → AreNumbered own base near next keys → Refines own base near next
-numbered_refines own base near keys next blocks distinct w = record {
+pub numbered_refines : (own : ℕ → Option ℕ) (base : List (Option ℕ)) (near : ℕ → ℕ → Bool) (key : ℕ → Option (List ℕ)) (next : List (Option ℕ))
+    → ((p n : ℕ) → IsTrue (near p n) → (b : ℕ) × (at base p ≡ Some b)) → ((i j : ℕ) (k : List ℕ) → key i ≡ Some k → key j ≡ Some k → i ≡ j)
+    → AreNumbered own base near next key → Refines own base near next
+numbered_refines own base near key next blocks apart w = record {
   kept = λ m h. let b = some_of (own m) h in let f = w.some m b.0 b.1 in is_some_at (at next m) f.0 f.2;
-  only = λ m h. let k = some_of (at next m) h in (key_at own base near keys next w m k.0 k.1).own_some;
+  only = λ m h. let k = some_of (at next m) h in (key_of_block own base near key next w m k.0 k.1).own_some;
   parted = λ u v t.
-      let a = key_at own base near keys next w u t.0 t.1 in
-      let b = key_at own base near keys next w v t.0 t.2 in
-      let same : b.key ≡ a.key = (let x = a.at in let y = b.at in cc) in
-      together_from_key own base near u v a.key blocks a.is (subst (IsKey own base near v) same b.is);
+      let a = key_of_block own base near key next w u t.0 t.1 in
+      let b = key_of_block own base near key next w v t.0 t.2 in
+      let same : b.numbers ≡ a.numbers = (let x = a.at in let y = b.at in cc) in
+      together_from_key own base near u v a.numbers blocks a.is (subst (IsKey own base near v) same b.is);
   grouped = λ u v same.
       let f = w.some u same.one_number.0 same.one_number.1 in
       let g = w.some v same.one_number.0 same.one_number.2 in
       let keys_same = key_from_together own base near u v f.1 g.1 same f.4 g.4 in
-      let numbers : f.0 ≡ g.0 = distinct.apart f.0 g.0 g.1 (f.3 ∙ ap Some keys_same) g.3 in
+      let numbers : f.0 ≡ g.0 = apart f.0 g.0 g.1 (f.3 ∙ ap Some keys_same) g.3 in
       (f.0, f.2, g.2 ∙ ap Some (sym numbers));
+}
+
+-- the blocks are the numbers of the keys
+pub numbered_below : (own : ℕ → Option ℕ) (base : List (Option ℕ)) (near : ℕ → ℕ → Bool) (keys : List (List ℕ)) (next : List (Option ℕ)) → AreNumbered own base near next (slice_get keys)
+    → AreBlocksBelow next (length keys)
+numbered_below own base near keys next w = record {
+  below = λ n b e. let k = key_of_block own base near (slice_get keys) next w n b e in slice_get_within keys b k.numbers k.at;
+  inhabited = λ b h. w.inhabited b (is_some_at (slice_get keys b) (get_or keys b []) (slice_get-get_or keys b [] h));
 }

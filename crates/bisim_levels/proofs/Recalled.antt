@@ -44,7 +44,7 @@ none_at recent n x same none spell keys = record {
 }
 
 -- one node with a block
-pub written_one : (f : ℕ → Option ℕ) (nodes : List ℕ) (p b number : ℕ) → nodes ≡ p ∷ [] → f p ≡ Some b → IsWritten f nodes number (b ∷ number ∷ [])
+pub written_one : (f : ℕ → Option ℕ) (nodes : List ℕ) (p b number : ℕ) → nodes ≡ p ∷ [] → f p ≡ Some b → IsWritten f nodes number (number ∷ b ∷ [])
 written_one f nodes p b number only block = record {
   around = b ∷ [];
   is = refl;

@@ -1,7 +1,7 @@
 -- What a key that was written says of its node.
-use Rattle.std.proofs.Common.{◌≡◌, ℕ, ◌+◌, ◌<◌, List, [], ◌∷◌, ◌++◌, length, Option, Some, None, IsTrue, refl, sym, ◌∙◌, ap, subst, arith, Bool, get_or, filter_map, option_to_list, take, append_assoc}
-use Rattle.std.specs.List.{cons_option}
-use Rattle.std.proofs.lemmas.List.{take_more, length-append}
+use Rattle.std.proofs.Common.{◌≡◌, ℕ, ◌+◌, ◌<◌, List, [], ◌∷◌, ◌++◌, length, Option, Some, None, IsTrue, refl, sym, ◌∙◌, ap, subst, Bool, get_or, filter_map, option_to_list, take, append_assoc}
+use Rattle.std.specs.List.{cons_option, insert}
+use Rattle.std.proofs.lemmas.List.{take_more}
 use Rattle.std.proofs.lemmas.List.Elements.{filter_map-append}
 use Rattle.px_spec.specs.Members.{has, Lists, at}
 use Rattle.bisim_spec.specs.Partitions.{Together}
@@ -25,7 +25,7 @@ blocks_more f nodes numbers before now i d o within e is added =
 
 -- a key that is written into an empty list
 pub written : (f : ℕ → Option ℕ) (nodes empty numbers set key : List ℕ) (number : ℕ) → empty ≡ [] → numbers ≡ empty ++ filter_map f nodes → IsSetOf numbers set
-    → key ≡ set ++ number ∷ [] → IsWritten f nodes number key
+    → key ≡ insert set 0 number → IsWritten f nodes number key
 written f nodes empty numbers set key number none e s is = record {
   around = set;
   is = is;
@@ -44,22 +44,15 @@ key_of own base near n number nodes key l own_is w = record {
   every = λ p b h e. w.images.every p b (l.members p ∙ h) e;
 }
 
--- keys with one last number apart from it
-last_same : (xs ys : List ℕ) (x y : ℕ) → xs ++ x ∷ [] ≡ ys ++ y ∷ [] → (xs ≡ ys) × (x ≡ y)
-last_same [] [] x y e = (refl, (cc))
-last_same [] (b ∷ ys) x y e = absurd (let l = ap length e in let m = length-append ys (y ∷ []) in omega (arith, l, m))
-last_same (a ∷ xs) [] x y e = absurd (let l = ap length e in let m = length-append xs (x ∷ []) in omega (arith, l, m))
-last_same (a ∷ xs) (b ∷ ys) x y e =
-    let tail : xs ++ x ∷ [] ≡ ys ++ y ∷ [] = cc in
-    let head : a ≡ b = cc in
-    let r = last_same xs ys x y tail in
-    ((let t = r.0 in cc), r.1)
+-- one key is that of one number, and of the same blocks
+parts_same : (xs ys : List ℕ) (x y : ℕ) → x ∷ xs ≡ y ∷ ys → (xs ≡ ys) × (x ≡ y)
+parts_same xs ys x y e = (cc, cc)
 
 -- nodes of one key stay together, where neighbours have blocks
 pub together_from_key : (own : ℕ → Option ℕ) (base : List (Option ℕ)) (near : ℕ → ℕ → Bool) (u v : ℕ) (key : List ℕ) → ((p n : ℕ) → IsTrue (near p n) → (b : ℕ) × (at base p ≡ Some b))
     → IsKey own base near u key → IsKey own base near v key → StayTogether own base near u v
 together_from_key own base near u v key blocks k l =
-    let same = last_same k.around l.around k.number l.number (sym k.is ∙ l.is) in
+    let same = parts_same k.around l.around k.number l.number (sym k.is ∙ l.is) in
     record {
       one_number = (k.number, k.own_is, l.own_is ∙ ap Some (sym same.1));
       neighbours = record {
@@ -85,4 +78,4 @@ key_from_together own base near u v ku kv same k l =
     (λ b h. let p = k.each b h in let q = same.neighbours.there p.0 p.1 in l.every q.0 b q.1 (moved b p.0 q.0 p.2 q.2))
     (λ b h. let p = l.each b h in let q = same.neighbours.back p.0 p.1 in k.every q.0 b q.1 (moved b p.0 q.0 p.2 q.2))
     in
-    k.is ∙ ap (λ xs. xs ++ k.number ∷ []) around ∙ ap (λ x. l.around ++ x ∷ []) number ∙ sym l.is
+    k.is ∙ ap (λ xs. k.number ∷ xs) around ∙ ap (λ x. x ∷ l.around) number ∙ sym l.is

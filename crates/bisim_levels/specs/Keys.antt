@@ -1,5 +1,5 @@
--- The key of a node: the blocks of its neighbours, and a number of its own.
-use Rattle.std.specs.Prelude.{ℕ, ◌≡◌, Bool, List, [], ◌∷◌, ◌++◌, Option, Some, IsTrue}
+-- The key of a node: a number of its own, and the blocks of its neighbours.
+use Rattle.std.specs.Prelude.{ℕ, ◌≡◌, Bool, List, ◌∷◌, Option, Some, IsTrue}
 use Rattle.std.specs.List.Sorted.{IsStrictlyIncreasing}
 use Rattle.px_spec.specs.Members.{has, at}
 
@@ -17,14 +17,14 @@ pub record AreImages (f : ℕ → Option ℕ) (nodes images : List ℕ) : Type 0
 -- the key is that of a node with these neighbours, whose own block has this number
 pub record IsWritten (f : ℕ → Option ℕ) (nodes : List ℕ) (number : ℕ) (key : List ℕ) : Type 0 where
   pub around : List ℕ
-  pub is : key ≡ around ++ number ∷ []
+  pub is : key ≡ number ∷ around
   pub images : AreImages f nodes around
 
--- the key is that of the node: the blocks of its neighbours in the partition base, rising, each once, and its own number
+-- the key is that of the node: its own number, and then the blocks of its neighbours in the partition base, rising, each once
 pub record IsKey (own : ℕ → Option ℕ) (base : List (Option ℕ)) (near : ℕ → ℕ → Bool) (n : ℕ) (key : List ℕ) : Type 0 where
   pub number : ℕ
   pub around : List ℕ
-  pub is : key ≡ around ++ number ∷ []
+  pub is : key ≡ number ∷ around
   pub own_is : own n ≡ Some number
   pub rising : IsStrictlyIncreasing around
   pub each : (b : ℕ) → IsTrue (has around b) → (p : ℕ) × IsTrue (near p n) × (at base p ≡ Some b)

@@ -2,9 +2,9 @@
 use Rattle.std.specs.Prelude.{ℕ, ◌≡◌, List, [], ◌∷◌, Some, slice_get}
 use Rattle.bisim_levels.specs.declared.recent.Recent.{Recent}
 
--- the key of a node with one neighbour: the block of that, and its own number
+-- the key of a node with one neighbour: its own number, and the block of that
 abbrev pub two_numbers : ℕ → ℕ → List ℕ
-two_numbers around own = around ∷ own ∷ []
+two_numbers around own = own ∷ around ∷ []
 
 -- the key of a node at level 0: the number of its label alone
 abbrev pub own_number : ℕ → ℕ → List ℕ

@@ -22,12 +22,25 @@ pub record Refines (own : ℕ → Option ℕ) (base : List (Option ℕ)) (near :
   pub parted : (u v : ℕ) → Together next u v → StayTogether own base near u v
   pub grouped : (u v : ℕ) → StayTogether own base near u v → Together next u v
 
--- the blocks of next are numbered by the keys of their members, and each has one
-pub record AreNumbered (own : ℕ → Option ℕ) (base : List (Option ℕ)) (near : ℕ → ℕ → Bool) (next : List (Option ℕ)) (keys : List (List ℕ)) : Type 0 where
+-- The blocks of next are numbered by the keys of their members, where key gives the key of a number, or none: a node's block
+-- has the node's key, and each number with a key is the block of some node.
+pub record AreNumbered (own : ℕ → Option ℕ) (base : List (Option ℕ)) (near : ℕ → ℕ → Bool) (next : List (Option ℕ)) (key : ℕ → Option (List ℕ)) : Type 0 where
   pub none : (n : ℕ) → own n ≡ None → at next n ≡ None
   pub some : (n b : ℕ) → own n ≡ Some b
-      → (k : ℕ) × (key : List ℕ) × (at next n ≡ Some k) × (slice_get keys k ≡ Some key) × IsKey own base near n key
-  pub inhabited : (k : ℕ) → k < length keys → (n : ℕ) × (at next n ≡ Some k)
+      → (k : ℕ) × (numbers : List ℕ) × (at next n ≡ Some k) × (key k ≡ Some numbers) × IsKey own base near n numbers
+  pub inhabited : (k : ℕ) → IsSome (key k) → (n : ℕ) × (at next n ≡ Some k)
+
+-- The blocks of next are numbered by keys over both sides: nodes are parted by their parents, what comes of that by their
+-- children, both times with the blocks of one partition, and a block's key is that of the second step.
+pub record AreNumberedTwice (block : List (Option ℕ)) (parents children : ℕ → ℕ → Bool) (next : List (Option ℕ)) (key : ℕ → Option (List ℕ)) : Type 0 where
+  pub parted : List (Option ℕ)
+  pub by_parents : Refines (at block) block parents parted
+  pub by_children : AreNumbered (at parted) block children next key
+
+-- the blocks are the numbers below the count, each with a member
+pub record AreBlocksBelow (next : List (Option ℕ)) (count : ℕ) : Type 0 where
+  pub below : (n b : ℕ) → at next n ≡ Some b → b < count
+  pub inhabited : (b : ℕ) → b < count → (n : ℕ) × (at next n ≡ Some b)
 
 -- One more node is numbered: keys that were there stay; the number is that of the node's key, and none where the node has
 -- no block; a key that is new is that of the node.

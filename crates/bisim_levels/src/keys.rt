@@ -83,6 +83,6 @@ pub(crate) fn write_key(
     key.clear();
     push_blocks(key, block, nodes)?;
     sort_once(key);
-    key.push(number)?;
+    key.insert(0, number)?;
     Ok(())
 }

@@ -1,13 +1,13 @@
 // Levels of bisimilarity, each from the one below.
-ghost use Rattle.std.specs.Prelude.{◌≡◌, ℕ, suc, [], IsSome, IfOk};
+ghost use Rattle.std.specs.Prelude.{◌≡◌, ℕ, suc, [], IsSome, IfOk, length, slice_get};
 ghost use Rattle.label_graph.specs.Views.{label_number};
 ghost use Rattle.key_table.specs.Interning.{AreDistinct};
 ghost use Rattle.bisim_spec.specs.Bisimilarity.{Bis, Both, SameLabel};
 ghost use Rattle.px_spec.specs.Members.{at};
 ghost use Rattle.bisim_spec.specs.Partitions.{IsPartition, Agrees};
-ghost use Rattle.bisim_levels.specs.declared.sides.Side.TheVariants.{Parents};
+ghost use Rattle.bisim_levels.specs.declared.sides.Side.TheVariants.{Parents, Children};
 ghost use Rattle.bisim_levels.specs.Sides.{view_shape, is_near, no_neighbours};
-ghost use Rattle.bisim_levels.specs.Refining.{AreNumbered, Numbers};
+ghost use Rattle.bisim_levels.specs.Refining.{AreNumbered, AreNumberedTwice, AreBlocksBelow, Numbers};
 ghost use Rattle.bisim_levels.specs.Recent.{own_number, AreRecent};
 
 use crate::recent::{Recent, intern_recent, none_recent};
@@ -43,7 +43,8 @@ fn number_label(
 /// Level 0: nodes of one label together. The key of a block is the number of its label.
 pub fn label_level(alloc: Global, view: &GraphView<'_>) -> Result<Level, Memory>
     ensures agrees { IfOk result (λ l. Agrees (view_shape view.now) l.block.items (SameLabel (view_shape view.now))) }
-    ensures numbered { IfOk result (λ l. AreNumbered (label_number view.now) [] no_neighbours l.block.items l.keys) }
+    ensures numbered { IfOk result (λ l. AreNumbered (label_number view.now) [] no_neighbours l.block.items (slice_get l.keys)) }
+    ensures blocks { IfOk result (λ l. AreBlocksBelow l.block.items (length l.keys)) }
     ensures distinct { IfOk result (λ l. AreDistinct l.keys) }
 {
     let mut keys = KeyTable::new(alloc)?;
@@ -56,8 +57,8 @@ pub fn label_level(alloc: Global, view: &GraphView<'_>) -> Result<Level, Memory>
     Ok(Level { block, keys })
 }
 
-/// The level above a level of bisimilarity. The key of a block is the blocks of its members' parents,
-/// rising, each once, and then their own block, all of the level below.
+/// The level above a level of bisimilarity. The key of a block is its members' own block, and then the
+/// blocks of their parents, rising, each once, all of the level below.
 pub fn next_level(
     alloc: Global,
     view: &GraphView<'_>,
@@ -66,13 +67,16 @@ pub fn next_level(
     requires partition { IsPartition (view_shape view.now) block.now }
     ensures agrees { IfOk result (λ l. (i : ℕ) → Agrees (view_shape view.now) block.now (Bis (view_shape view.now) i) → Agrees (view_shape view.now) l.block.items (Bis (view_shape view.now) (suc i))) }
     ensures partition { IfOk result (λ l. IsPartition (view_shape view.now) l.block.items) }
-    ensures numbered { IfOk result (λ l. AreNumbered (at block.now) block.now (is_near Parents view.now) l.block.items l.keys) }
+    ensures numbered { IfOk result (λ l. AreNumbered (at block.now) block.now (is_near Parents view.now) l.block.items (slice_get l.keys)) }
+    ensures blocks { IfOk result (λ l. AreBlocksBelow l.block.items (length l.keys)) }
     ensures distinct { IfOk result (λ l. AreDistinct l.keys) }
 {
     refine(alloc, view, Side::Parents, block, block)
 }
 
-/// The level above a level of bisimilarity over parents and children.
+/// The level above a level of bisimilarity over parents and children. The key of a block is its members'
+/// block once nodes are parted by their parents, and then the blocks of their children, rising, each once,
+/// of the level below.
 pub fn next_level_both(
     alloc: Global,
     view: &GraphView<'_>,
@@ -81,6 +85,9 @@ pub fn next_level_both(
     requires partition { IsPartition (view_shape view.now) block.now }
     ensures agrees { IfOk result (λ l. (i : ℕ) → Agrees (view_shape view.now) block.now (Both (view_shape view.now) i) → Agrees (view_shape view.now) l.block.items (Both (view_shape view.now) (suc i))) }
     ensures partition { IfOk result (λ l. IsPartition (view_shape view.now) l.block.items) }
+    ensures numbered { IfOk result (λ l. AreNumberedTwice block.now (is_near Parents view.now) (is_near Children view.now) l.block.items (slice_get l.keys)) }
+    ensures blocks { IfOk result (λ l. AreBlocksBelow l.block.items (length l.keys)) }
+    ensures distinct { IfOk result (λ l. AreDistinct l.keys) }
 {
     let by_parents = refine(alloc, view, Side::Parents, block, block)?;
     refine(alloc, view, Side::Children, &by_parents.block, block)

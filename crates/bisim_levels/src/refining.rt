@@ -1,12 +1,12 @@
 // A partition that is refined by the blocks of neighbours.
-ghost use Rattle.std.specs.Prelude.{◌≡◌, ℕ, List, IsSome, IfOk};
+ghost use Rattle.std.specs.Prelude.{◌≡◌, ℕ, List, IsSome, IfOk, length, slice_get};
 ghost use Rattle.label_graph.specs.Views.{label_number};
 ghost use Rattle.key_table.specs.Interning.{AreDistinct, Interns};
 ghost use Rattle.px_spec.specs.Members.{at};
 ghost use Rattle.bisim_spec.specs.Partitions.{IsPartition};
 ghost use Rattle.bisim_levels.specs.Sides.{view_shape, is_near};
 ghost use Rattle.bisim_levels.specs.Keys.{IsWritten};
-ghost use Rattle.bisim_levels.specs.Refining.{Refines, AreNumbered, Numbers};
+ghost use Rattle.bisim_levels.specs.Refining.{Refines, AreNumbered, AreBlocksBelow, Numbers};
 ghost use Rattle.bisim_levels.specs.Recent.{two_numbers, AreRecent};
 
 use crate::keys::{block_of, only_block, write_key};
@@ -59,7 +59,7 @@ fn find_key(
     ensures distinct { IfOk result (λ k. AreDistinct keys.new) }
 {
     match only_block(base, nodes) {
-        Some(around) => intern_recent(keys, recent, around, number, &[around, number]),
+        Some(around) => intern_recent(keys, recent, around, number, &[number, around]),
         None => intern_key(keys, key, base, nodes, number),
     }
 }
@@ -106,7 +106,8 @@ pub fn refine(
     requires own { IsPartition (view_shape view.now) own.now }
     requires base { IsPartition (view_shape view.now) base.now }
     ensures refines { IfOk result (λ l. Refines (at own.now) base.now (is_near side view.now) l.block.items) }
-    ensures numbered { IfOk result (λ l. AreNumbered (at own.now) base.now (is_near side view.now) l.block.items l.keys) }
+    ensures numbered { IfOk result (λ l. AreNumbered (at own.now) base.now (is_near side view.now) l.block.items (slice_get l.keys)) }
+    ensures blocks { IfOk result (λ l. AreBlocksBelow l.block.items (length l.keys)) }
     ensures distinct { IfOk result (λ l. AreDistinct l.keys) }
 {
     let mut keys = KeyTable::new(alloc)?;

@@ -95,7 +95,7 @@ fn check_children<L: Ledger>(rt: &impl Abort, alloc: Global, blank: Blank) -> Re
     let parents = next_level(alloc, &view, &labels.block)?;
     assert!(rt; is_parted(&parents.block, &[0, 1, 0]));
     assert_eq!(rt; parents.keys.len(), 2);
-    assert_eq!(rt; parents.keys.find(&[0, 1]), Some(1));
+    assert_eq!(rt; parents.keys.find(&[1, 0]), Some(1));
     let both = next_level_both(alloc, &view, &labels.block)?;
     assert!(rt; is_parted(&both.block, &[0, 1, 2]));
     Ok(())

@@ -1,6 +1,6 @@
 use Rattle.std.proofs.Common.{arith, sym, true≢false}
 use Rattle.label_graph.specs.ViewLaws.{below_span}
-use Rattle.bisim_levels.proofs.Numbering.{numbered_more, numbered_all, numbered_refines}
+use Rattle.bisim_levels.proofs.Numbering.{numbered_more, numbered_all, numbered_refines, numbered_below}
 use Rattle.bisim_levels.proofs.LevelLaws.{labels_agree}
 use Rattle.bisim_levels.proofs.levels.label_level.Goals as goal
 
@@ -13,7 +13,7 @@ loop-n-preserved c = record {
 
 pub returns-clause-agrees : goal.returns-clause-agrees
 returns-clause-agrees c =
-    labels_agree c.args.view.now _ (numbered_refines _ _ _ _ _ (λ p n e. absurd (true≢false (sym e))) c.loop-n.invariant.distinct
+    labels_agree c.args.view.now _ (numbered_refines _ _ _ _ _ (λ p n e. absurd (true≢false (sym e))) c.loop-n.invariant.distinct.apart
     (numbered_all _ _ _ _ _ _ c.loop-n.invariant.numbered (λ m h.
     let below = below_span c.args.view.now m h in
     let end = c.loop-n-test.false in
@@ -27,3 +27,6 @@ returns-clause-numbered c =
     let end = c.loop-n-test.false in
     let size = c.size-n-end.ensures in
     omega (arith, below, end, size))
+
+pub returns-clause-blocks : goal.returns-clause-blocks
+returns-clause-blocks c = numbered_below _ _ _ _ _ (returns-clause-numbered c)

@@ -10,7 +10,7 @@ use Rattle.bisim_levels.proofs.refining.find_key.Goals as goal
 pub returns-in-Some-clause-ok : goal.returns-in-Some-clause-ok
 returns-in-Some-clause-ok c =
     let only = c.in-Some.ensures in
-    let key : List ℕ = c.in-Some.around ∷ c.args.number ∷ [] in
+    let key : List ℕ = c.args.number ∷ c.in-Some.around ∷ [] in
     IfOk-weaker c.intern_recent.result (Interns c.args.keys.now c.intern_recent.new.keys key) _
     (λ k interned. (key, written_one _ _ only.0 _ _ only.1 only.2, interned)) (c.intern_recent.ensures.ok two_numbers c.requires.recent refl)
 

@@ -1,6 +1,6 @@
 use Rattle.std.proofs.Common.{arith}
 use Rattle.label_graph.specs.ViewLaws.{below_span}
-use Rattle.bisim_levels.proofs.Numbering.{numbered_more, numbered_all, numbered_refines}
+use Rattle.bisim_levels.proofs.Numbering.{numbered_more, numbered_all, numbered_refines, numbered_below}
 use Rattle.bisim_levels.proofs.Views.{node_number, near_block}
 use Rattle.bisim_levels.proofs.refining.refine.Goals as goal
 
@@ -13,7 +13,7 @@ loop-n-preserved c = record {
 
 pub returns-clause-refines : goal.returns-clause-refines
 returns-clause-refines c =
-    numbered_refines _ _ _ _ _ (near_block c.args.view.now c.args.side c.args.base.now c.requires.base) c.loop-n.invariant.distinct
+    numbered_refines _ _ _ _ _ (near_block c.args.view.now c.args.side c.args.base.now c.requires.base) c.loop-n.invariant.distinct.apart
     (numbered_all _ _ _ _ _ _ c.loop-n.invariant.numbered (λ m h.
     let below = below_span c.args.view.now m (node_number c.args.view.now m (c.requires.own.only m h)) in
     let end = c.loop-n-test.false in
@@ -27,3 +27,6 @@ returns-clause-numbered c =
     let end = c.loop-n-test.false in
     let size = c.size-n-end.ensures in
     omega (arith, below, end, size))
+
+pub returns-clause-blocks : goal.returns-clause-blocks
+returns-clause-blocks c = numbered_below _ _ _ _ _ (returns-clause-numbered c)
