@@ -1,9 +1,9 @@
 -- What a quotient says whose tables were filled from a level.
-use Rattle.std.proofs.Common.{◌≡◌, ℕ, ◌+◌, ◌<◌, ◌≤◌, List, length, Option, Some, None, is_some, sym, ◌∙◌, ap, inl, inr, slice_get, arith, nat_lt, nat_eq, if◌then◌else◌, true, false}
+use Rattle.std.proofs.Common.{◌≡◌, ℕ, zero, suc, ◌+◌, ◌<◌, ◌≤◌, List, [], ◌∷◌, map, refl, length, Option, Some, None, is_some, sym, ◌∙◌, ap, inl, inr, slice_get, arith, nat_lt, nat_eq, if◌then◌else◌, true, false}
 use Rattle.std.specs.Prelude.{option_and_then}
 use Rattle.std.proofs.lemmas.Bool.{cases_Bool, cases_lt, lt-ltb, le-ltb}
 use Rattle.std.proofs.lemmas.Bool.Decides.{Decides-eqb}
-use Rattle.std.proofs.lemmas.Option.{slice_get_within, slice_get_past, slice_get-get_or}
+use Rattle.std.proofs.lemmas.Option.{slice_get_within, slice_get_past, slice_get_cases}
 use Rattle.px_spec.specs.Graphs.{Graph}
 use Rattle.px_spec.specs.Shapes.{Shape, shape_of}
 use Rattle.label_graph.specs.Views.{label_number}
@@ -14,6 +14,8 @@ use Rattle.bisim_spec.specs.Views.{ViewFits}
 use Rattle.bisim_spec.proofs.Bisimilar.{some_of, is_some_at}
 use Rattle.bisim_levels.specs.Sides.{view_shape}
 use Rattle.quotient.specs.Quotients.{AreCounted, Quotient, view_of}
+use Rattle.key_table.specs.Interning.{AreDistinct}
+use Rattle.ak_family.specs.Families.{key_at, AreKeyed}
 use Rattle.ak_family.specs.Layers.{BlocksHaveLabels, HaveLabels, SameBlocks}
 use Rattle.ak_family.proofs.Labelled.{number_of_node}
 
@@ -30,15 +32,24 @@ agrees_moved s xs ys R same a = record {
   grouped = λ u v nu nv h. let t = a.grouped u v nu nv h in (t.0, same u ∙ t.1, same v ∙ t.2);
 }
 
-is_some_get : (xs : List ℕ) (b : ℕ) → is_some (slice_get xs b) ≡ nat_lt b (length xs)
-is_some_get xs b = elim (cases_lt b (length xs)) [
-  | inl within ↦ ap is_some (slice_get-get_or xs b 0 within) ∙ sym (lt-ltb b (length xs) within)
-  | inr past ↦ ap is_some (slice_get_past xs b past) ∙ sym (le-ltb b (length xs) past)
+is_some_get : {X : Type 0} (xs : List X) (b : ℕ) → is_some (slice_get xs b) ≡ nat_lt b (length xs)
+is_some_get xs b = elim (slice_get_cases xs b).1 [
+  | inl (x, within, at, read) ↦ ap is_some at ∙ sym (lt-ltb b (length xs) within)
+  | inr (past, none) ↦ ap is_some none ∙ sym (le-ltb b (length xs) past)
 ]
 
--- the blocks are numbered from 0 on
-pub blocks_counted : (p : Partition) (labels : List ℕ) (n : ℕ) → HaveLabels p labels → length labels ≡ n → (b : ℕ) → is_some (at p.labels b) ≡ nat_lt b n
-blocks_counted p labels n have count b = ap is_some (have b) ∙ is_some_get labels b ∙ ap (nat_lt b) count
+-- where all numbers have keys, from 0 on
+pub shown_at : (keys : List (List ℕ)) (b : ℕ) → key_at (map Some keys) b ≡ slice_get keys b
+shown_at [] b = refl
+shown_at (k ∷ keys) zero = refl
+shown_at (k ∷ keys) (suc b) = shown_at keys b
+
+-- the blocks are numbered as the keys are
+pub filled_keyed : (p : Partition) (labels : List ℕ) (keys : List (List ℕ)) → HaveLabels p labels → length labels ≡ length keys → AreDistinct keys → AreKeyed p.labels (map Some keys)
+filled_keyed p labels keys have count distinct = record {
+  exactly = λ b. ap is_some (shown_at keys b) ∙ is_some_get keys b ∙ ap (nat_lt b) (sym count) ∙ sym (is_some_get labels b) ∙ sym (ap is_some (have b));
+  apart = λ b c key e f. distinct.apart b c key (sym (shown_at keys b) ∙ e) (sym (shown_at keys c) ∙ f);
+}
 
 -- a view shows the graph itself
 abbrev pub IsShown : Graph → Type 0

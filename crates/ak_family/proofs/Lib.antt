@@ -1,3 +1,4 @@
 pub mod Labelled
 pub mod Filled
+pub mod Found
 pub mod Built

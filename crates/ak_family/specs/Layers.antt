@@ -1,14 +1,9 @@
 -- What holds while the family is built.
-use Rattle.std.specs.Prelude.{ℕ, ◌≡◌, ◌++◌, ◌∷◌, List, [], length, Option, None, Some, is_some, nat_lt, slice_get, if◌then◌else◌}
+use Rattle.std.specs.Prelude.{ℕ, ◌≡◌, List, Option, None, Some, nat_lt, slice_get, if◌then◌else◌}
 use Rattle.px_spec.specs.Graphs.{Graph}
 use Rattle.label_graph.specs.Views.{label_number}
 use Rattle.px_spec.specs.Members.{at}
 use Rattle.block_partition.specs.Partitions.{Partition}
-
--- the last number of the key
-pub record EndsIn (key : List ℕ) (number : ℕ) : Type 0 where
-  pub around : List ℕ
-  pub is : key ≡ around ++ number ∷ []
 
 -- each block has a label, which is that of its members
 abbrev pub BlocksHaveLabels : Graph → List (Option ℕ) → List ℕ → Type 0
@@ -25,7 +20,3 @@ SameBlocks xs ys = (n : ℕ) → at xs n ≡ at ys n
 -- the same for the nodes below a number, and the others have none
 abbrev pub SameBelow : ℕ → List (Option ℕ) → List (Option ℕ) → Type 0
 SameBelow n xs ys = (m : ℕ) → at xs m ≡ (if nat_lt m n then at ys m else None)
-
--- exactly the blocks have keys
-abbrev pub AreKeyed : List (Option ℕ) → List (List ℕ) → Type 0
-AreKeyed labels keys = (b : ℕ) → is_some (at labels b) ≡ nat_lt b (length keys)

@@ -7,7 +7,7 @@ ghost use Rattle.bisim_spec.specs.Partitions.{Agrees, Together};
 ghost use Rattle.bisim_spec.specs.Views.{ViewFits};
 ghost use Rattle.block_partition.specs.Partitions.{IsBlock};
 ghost use Rattle.quotient.specs.Quotients.{view_of};
-ghost use Rattle.ak_family.specs.Families.{level_at, blocks_at, quotients_of, HasKey, AreLabelKeys, AreParentKeys};
+ghost use Rattle.ak_family.specs.Families.{level_at, blocks_at, quotients_of, HasKey, AreKeyed, AreLabelKeys, AreParentKeys};
 
 use crate::keyed::KeyedSummary;
 use crate::layers::{above, lowest};
@@ -20,8 +20,8 @@ use std::marker::Model;
 /// The A(0)- to A(k)-indexes of a graph, k at most 8. The blocks of level `i` are the classes of nodes that
 /// are bisimilar to level `i`: nodes of one label at level 0, and above it nodes that are together one
 /// level below, and whose parents are in the same blocks there. Each block has a key, which says this in
-/// numbers: the number of the label alone at level 0, and above it the blocks of the parents one level
-/// below, rising, each once, and then the own block one level below.
+/// numbers: the number of the label alone at level 0, and above it the own block one level below, and
+/// then the blocks of the parents one level below, rising, each once.
 #[derive(Drop)]
 pub struct AkFamily {
     levels: Vec<KeyedSummary>,
@@ -80,6 +80,7 @@ impl AkFamily {
         requires level { i < length self.now }
         ensures quotient { result.now ≡ (level_at self.now i).quotient }
         ensures listed { slice_get (quotients_of self.now) i ≡ Some result.now }
+        ensures keyed { AreKeyed result.now.blocks.labels (level_at self.now i).keys }
     {
         self.levels[i as usize].summary()
     }

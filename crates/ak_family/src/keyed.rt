@@ -1,13 +1,14 @@
 // The quotient by a level of bisimilarity, with the keys of its blocks.
-ghost use Rattle.std.specs.Prelude.{◌≡◌, ◌<◌, ◌↔◌, ℕ, Some, IfOk, IfSome, length};
-ghost use Rattle.px_spec.specs.Members.{at};
+ghost use Rattle.std.specs.Prelude.{◌≡◌, ◌≤◌, ◌^◌, ◌↔◌, ℕ, Some, IfOk, IfSome, length, map};
 ghost use Rattle.bisim_spec.specs.Partitions.{IsPartition};
 ghost use Rattle.bisim_spec.specs.Views.{ViewFits};
 ghost use Rattle.bisim_levels.specs.Sides.{view_shape};
+ghost use Rattle.bisim_levels.specs.Refining.{AreBlocksBelow};
+ghost use Rattle.key_table.specs.Interning.{AreDistinct};
 ghost use Rattle.block_partition.specs.Partitions.{IsBlock};
 ghost use Rattle.quotient.specs.Quotients.{view_of};
 ghost use Rattle.quotient.specs.Joined.{AreListed};
-ghost use Rattle.ak_family.specs.Families.{HasKey};
+ghost use Rattle.ak_family.specs.Families.{HasKey, AreKeyed};
 ghost use Rattle.ak_family.specs.Layers.{BlocksHaveLabels, SameBlocks};
 
 use crate::filling::fill;
@@ -33,11 +34,12 @@ impl Model for KeyedSummary {
 
     ghost coded = { keyed_code };
 
-    ghost use Rattle.ak_family.specs.Layers.{AreKeyed};
+    ghost use Rattle.std.specs.Prelude.{Some, map};
+    ghost use Rattle.ak_family.specs.Families.{AreKeyed};
 
-    ghost view = { λ s. record { quotient = s.summary; keys = s.keys } };
+    ghost view = { λ s. record { quotient = s.summary; keys = map Some s.keys } };
 
-    ghost invariant = { λ s. AreKeyed s.summary.blocks.labels s.keys };
+    ghost invariant = { λ s. AreKeyed s.summary.blocks.labels (map Some s.keys) };
 }
 
 impl KeyedSummary {
@@ -52,21 +54,24 @@ impl KeyedSummary {
         requires listed { AreListed view.now.edges (length view.now.given) edges.now }
         requires partition { IsPartition (view_shape view.now) layer.now.block.items }
         requires labelled { BlocksHaveLabels view.now layer.now.block.items layer.now.labels.items }
-        requires inhabited { (b : ℕ) → b < length keys → (n : ℕ) × (at layer.now.block.items n ≡ Some b) }
+        requires span { AreBlocksBelow layer.now.block.items (length keys) }
+        requires distinct { AreDistinct keys }
         requires count { length layer.now.labels.items ≡ length keys }
+        requires few { length layer.now.labels.items ≤ 2 ^ 31 }
         ensures blocks { IfOk result (λ s. SameBlocks s.quotient.blocks.block_of layer.now.block.items) }
         ensures fits { IfOk result (λ s. ViewFits view.now (view_of s.quotient)) }
-        ensures keys { IfOk result (λ s. s.keys ≡ keys) }
+        ensures keys { IfOk result (λ s. s.keys ≡ map Some keys) }
     {
-        // They tell that the view shows the graph itself, and that there are few keys.
-        let _ = (view.edge_count(), keys.len());
+        // It tells that the view shows the graph itself.
+        let _ = view.edge_count();
         let blocks = fill(alloc, view.created(), &layer.block, &layer.labels)?;
         let summary = Summary::of_edges(alloc, blocks, view, edges)?;
         Ok(KeyedSummary { summary, keys })
     }
 
     pub(crate) fn summary(&self) -> &Summary
-        ensures { result.now ≡ self.now.quotient }
+        ensures quotient { result.now ≡ self.now.quotient }
+        ensures keyed { AreKeyed self.now.quotient.blocks.labels self.now.keys }
     {
         &self.summary
     }

@@ -1,5 +1,5 @@
 // Levels of bisimilarity, with the labels of their blocks.
-ghost use Rattle.std.specs.Prelude.{◌≡◌, [], ℕ, suc, IfOk, length};
+ghost use Rattle.std.specs.Prelude.{◌≡◌, ◌≤◌, ◌^◌, [], ℕ, suc, IfOk, length, slice_get};
 ghost use Rattle.px_spec.specs.Shapes.{shape_of};
 ghost use Rattle.label_graph.specs.Views.{label_number};
 ghost use Rattle.bisim_spec.specs.Bisimilarity.{Bis};
@@ -7,7 +7,8 @@ ghost use Rattle.px_spec.specs.Members.{at};
 ghost use Rattle.bisim_spec.specs.Partitions.{Agrees, IsPartition};
 ghost use Rattle.bisim_levels.specs.declared.sides.Side.TheVariants.{Parents};
 ghost use Rattle.bisim_levels.specs.Sides.{view_shape, is_near, no_neighbours};
-ghost use Rattle.bisim_levels.specs.Refining.{AreNumbered};
+ghost use Rattle.bisim_levels.specs.Refining.{AreNumbered, AreBlocksBelow};
+ghost use Rattle.key_table.specs.Interning.{AreDistinct};
 ghost use Rattle.ak_family.specs.Layers.{BlocksHaveLabels};
 
 use crate::labels::{look_up, own_numbers};
@@ -30,8 +31,11 @@ pub(crate) struct Layer {
 pub(crate) fn lowest(alloc: Global, view: &GraphView<'_>) -> Result<(Layer, KeyTable), Memory>
     ensures agrees { IfOk result (λ l. Agrees (view_shape view.now) l.0.block.items (Bis (view_shape view.now) 0)) }
     ensures labelled { IfOk result (λ l. BlocksHaveLabels view.now l.0.block.items l.0.labels.items) }
-    ensures numbered { IfOk result (λ l. AreNumbered (label_number view.now) [] no_neighbours l.0.block.items l.1) }
+    ensures numbered { IfOk result (λ l. AreNumbered (label_number view.now) [] no_neighbours l.0.block.items (slice_get l.1)) }
+    ensures span { IfOk result (λ l. AreBlocksBelow l.0.block.items (length l.1)) }
+    ensures distinct { IfOk result (λ l. AreDistinct l.1) }
     ensures count { IfOk result (λ l. length l.0.labels.items ≡ length l.1) }
+    ensures few { IfOk result (λ l. length l.0.labels.items ≤ 2 ^ 31) }
 {
     let level = label_level(alloc, view)?;
     let labels = own_numbers(alloc, &level.keys)?;
@@ -52,8 +56,11 @@ pub(crate) fn above(
     requires labelled { BlocksHaveLabels view.now layer.now.block.items layer.now.labels.items }
     ensures agrees { IfOk result (λ l. (i : ℕ) → Agrees (view_shape view.now) layer.now.block.items (Bis (view_shape view.now) i) → Agrees (view_shape view.now) l.0.block.items (Bis (view_shape view.now) (suc i))) }
     ensures labelled { IfOk result (λ l. BlocksHaveLabels view.now l.0.block.items l.0.labels.items) }
-    ensures numbered { IfOk result (λ l. AreNumbered (at layer.now.block.items) layer.now.block.items (is_near Parents view.now) l.0.block.items l.1) }
+    ensures numbered { IfOk result (λ l. AreNumbered (at layer.now.block.items) layer.now.block.items (is_near Parents view.now) l.0.block.items (slice_get l.1)) }
+    ensures span { IfOk result (λ l. AreBlocksBelow l.0.block.items (length l.1)) }
+    ensures distinct { IfOk result (λ l. AreDistinct l.1) }
     ensures count { IfOk result (λ l. length l.0.labels.items ≡ length l.1) }
+    ensures few { IfOk result (λ l. length l.0.labels.items ≤ 2 ^ 31) }
 {
     let level = next_level(alloc, view, &layer.block)?;
     let own = own_numbers(alloc, &level.keys)?;

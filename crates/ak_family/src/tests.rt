@@ -119,8 +119,8 @@ fn check_family<L: Ledger>(rt: &impl Abort, alloc: Global, blank: Blank) -> Resu
     assert!(rt; level.block_of(3).is_some());
     assert!(rt; family.same(1, 2, 3));
     assert_eq!(rt; level.support(0, 1), 3);
-    assert_eq!(rt; family.find(1, &[0, 1]), Some(1));
-    assert_eq!(rt; family.key(1, 1), &[0, 1][..]);
+    assert_eq!(rt; family.find(1, &[1, 0]), Some(1));
+    assert_eq!(rt; family.key(1, 1), &[1, 0][..]);
     assert_eq!(rt;
         (family.find(0, &[1]), family.find(1, &[1, 1])),
         (Some(1), None)

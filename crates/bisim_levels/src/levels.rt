@@ -44,7 +44,7 @@ fn number_label(
 pub fn label_level(alloc: Global, view: &GraphView<'_>) -> Result<Level, Memory>
     ensures agrees { IfOk result (λ l. Agrees (view_shape view.now) l.block.items (SameLabel (view_shape view.now))) }
     ensures numbered { IfOk result (λ l. AreNumbered (label_number view.now) [] no_neighbours l.block.items (slice_get l.keys)) }
-    ensures blocks { IfOk result (λ l. AreBlocksBelow l.block.items (length l.keys)) }
+    ensures span { IfOk result (λ l. AreBlocksBelow l.block.items (length l.keys)) }
     ensures distinct { IfOk result (λ l. AreDistinct l.keys) }
 {
     let mut keys = KeyTable::new(alloc)?;
@@ -68,7 +68,7 @@ pub fn next_level(
     ensures agrees { IfOk result (λ l. (i : ℕ) → Agrees (view_shape view.now) block.now (Bis (view_shape view.now) i) → Agrees (view_shape view.now) l.block.items (Bis (view_shape view.now) (suc i))) }
     ensures partition { IfOk result (λ l. IsPartition (view_shape view.now) l.block.items) }
     ensures numbered { IfOk result (λ l. AreNumbered (at block.now) block.now (is_near Parents view.now) l.block.items (slice_get l.keys)) }
-    ensures blocks { IfOk result (λ l. AreBlocksBelow l.block.items (length l.keys)) }
+    ensures span { IfOk result (λ l. AreBlocksBelow l.block.items (length l.keys)) }
     ensures distinct { IfOk result (λ l. AreDistinct l.keys) }
 {
     refine(alloc, view, Side::Parents, block, block)
@@ -86,7 +86,7 @@ pub fn next_level_both(
     ensures agrees { IfOk result (λ l. (i : ℕ) → Agrees (view_shape view.now) block.now (Both (view_shape view.now) i) → Agrees (view_shape view.now) l.block.items (Both (view_shape view.now) (suc i))) }
     ensures partition { IfOk result (λ l. IsPartition (view_shape view.now) l.block.items) }
     ensures numbered { IfOk result (λ l. AreNumberedTwice block.now (is_near Parents view.now) (is_near Children view.now) l.block.items (slice_get l.keys)) }
-    ensures blocks { IfOk result (λ l. AreBlocksBelow l.block.items (length l.keys)) }
+    ensures span { IfOk result (λ l. AreBlocksBelow l.block.items (length l.keys)) }
     ensures distinct { IfOk result (λ l. AreDistinct l.keys) }
 {
     let by_parents = refine(alloc, view, Side::Parents, block, block)?;

@@ -107,7 +107,7 @@ pub fn refine(
     requires base { IsPartition (view_shape view.now) base.now }
     ensures refines { IfOk result (λ l. Refines (at own.now) base.now (is_near side view.now) l.block.items) }
     ensures numbered { IfOk result (λ l. AreNumbered (at own.now) base.now (is_near side view.now) l.block.items (slice_get l.keys)) }
-    ensures blocks { IfOk result (λ l. AreBlocksBelow l.block.items (length l.keys)) }
+    ensures span { IfOk result (λ l. AreBlocksBelow l.block.items (length l.keys)) }
     ensures distinct { IfOk result (λ l. AreDistinct l.keys) }
 {
     let mut keys = KeyTable::new(alloc)?;

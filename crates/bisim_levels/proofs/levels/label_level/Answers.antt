@@ -28,5 +28,5 @@ returns-clause-numbered c =
     let size = c.size-n-end.ensures in
     omega (arith, below, end, size))
 
-pub returns-clause-blocks : goal.returns-clause-blocks
-returns-clause-blocks c = numbered_below _ _ _ _ _ (returns-clause-numbered c)
+pub returns-clause-span : goal.returns-clause-span
+returns-clause-span c = numbered_below _ _ _ _ _ (returns-clause-numbered c)
