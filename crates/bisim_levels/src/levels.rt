@@ -1,12 +1,13 @@
 // Levels of bisimilarity, each from the one below.
 ghost use Rattle.std.specs.Prelude.{◌≡◌, ℕ, suc, [], IsSome, IfOk, length, slice_get};
+ghost use Rattle.px_spec.specs.Shapes.{shape_of};
 ghost use Rattle.label_graph.specs.Views.{label_number};
 ghost use Rattle.key_table.specs.Interning.{AreDistinct};
 ghost use Rattle.bisim_spec.specs.Bisimilarity.{Bis, Both, SameLabel};
 ghost use Rattle.px_spec.specs.Members.{at};
 ghost use Rattle.bisim_spec.specs.Partitions.{IsPartition, Agrees};
 ghost use Rattle.bisim_levels.specs.declared.sides.Side.TheVariants.{Parents, Children};
-ghost use Rattle.bisim_levels.specs.Sides.{view_shape, is_near, no_neighbours};
+ghost use Rattle.bisim_levels.specs.Sides.{is_near, no_neighbours};
 ghost use Rattle.bisim_levels.specs.Refining.{AreNumbered, AreNumberedTwice, AreBlocksBelow, Numbers};
 ghost use Rattle.bisim_levels.specs.Recent.{own_number, AreRecent};
 
@@ -42,7 +43,7 @@ fn number_label(
 
 /// Level 0: nodes of one label together. The key of a block is the number of its label.
 pub fn label_level(alloc: Global, view: &GraphView<'_>) -> Result<Level, Memory>
-    ensures agrees { IfOk result (λ l. Agrees (view_shape view.now) l.block.items (SameLabel (view_shape view.now))) }
+    ensures agrees { IfOk result (λ l. Agrees (shape_of view.now) l.block.items (SameLabel (shape_of view.now))) }
     ensures numbered { IfOk result (λ l. AreNumbered (label_number view.now) [] no_neighbours l.block.items (slice_get l.keys)) }
     ensures span { IfOk result (λ l. AreBlocksBelow l.block.items (length l.keys)) }
     ensures distinct { IfOk result (λ l. AreDistinct l.keys) }
@@ -64,9 +65,9 @@ pub fn next_level(
     view: &GraphView<'_>,
     block: &[Option<u32>],
 ) -> Result<Level, Memory>
-    requires partition { IsPartition (view_shape view.now) block.now }
-    ensures agrees { IfOk result (λ l. (i : ℕ) → Agrees (view_shape view.now) block.now (Bis (view_shape view.now) i) → Agrees (view_shape view.now) l.block.items (Bis (view_shape view.now) (suc i))) }
-    ensures partition { IfOk result (λ l. IsPartition (view_shape view.now) l.block.items) }
+    requires partition { IsPartition (shape_of view.now) block.now }
+    ensures agrees { IfOk result (λ l. (i : ℕ) → Agrees (shape_of view.now) block.now (Bis (shape_of view.now) i) → Agrees (shape_of view.now) l.block.items (Bis (shape_of view.now) (suc i))) }
+    ensures partition { IfOk result (λ l. IsPartition (shape_of view.now) l.block.items) }
     ensures numbered { IfOk result (λ l. AreNumbered (at block.now) block.now (is_near Parents view.now) l.block.items (slice_get l.keys)) }
     ensures span { IfOk result (λ l. AreBlocksBelow l.block.items (length l.keys)) }
     ensures distinct { IfOk result (λ l. AreDistinct l.keys) }
@@ -82,9 +83,9 @@ pub fn next_level_both(
     view: &GraphView<'_>,
     block: &[Option<u32>],
 ) -> Result<Level, Memory>
-    requires partition { IsPartition (view_shape view.now) block.now }
-    ensures agrees { IfOk result (λ l. (i : ℕ) → Agrees (view_shape view.now) block.now (Both (view_shape view.now) i) → Agrees (view_shape view.now) l.block.items (Both (view_shape view.now) (suc i))) }
-    ensures partition { IfOk result (λ l. IsPartition (view_shape view.now) l.block.items) }
+    requires partition { IsPartition (shape_of view.now) block.now }
+    ensures agrees { IfOk result (λ l. (i : ℕ) → Agrees (shape_of view.now) block.now (Both (shape_of view.now) i) → Agrees (shape_of view.now) l.block.items (Both (shape_of view.now) (suc i))) }
+    ensures partition { IfOk result (λ l. IsPartition (shape_of view.now) l.block.items) }
     ensures numbered { IfOk result (λ l. AreNumberedTwice block.now (is_near Parents view.now) (is_near Children view.now) l.block.items (slice_get l.keys)) }
     ensures span { IfOk result (λ l. AreBlocksBelow l.block.items (length l.keys)) }
     ensures distinct { IfOk result (λ l. AreDistinct l.keys) }

@@ -1,10 +1,12 @@
 // A partition that is refined by the blocks of neighbours.
 ghost use Rattle.std.specs.Prelude.{◌≡◌, ℕ, List, IsSome, IfOk, length, slice_get};
+ghost use Rattle.px_spec.specs.Graphs.{IsGraph};
+ghost use Rattle.px_spec.specs.Shapes.{shape_of};
 ghost use Rattle.label_graph.specs.Views.{label_number};
 ghost use Rattle.key_table.specs.Interning.{AreDistinct, Interns};
 ghost use Rattle.px_spec.specs.Members.{at};
 ghost use Rattle.bisim_spec.specs.Partitions.{IsPartition};
-ghost use Rattle.bisim_levels.specs.Sides.{view_shape, is_near};
+ghost use Rattle.bisim_levels.specs.Sides.{is_near};
 ghost use Rattle.bisim_levels.specs.Keys.{IsWritten};
 ghost use Rattle.bisim_levels.specs.Refining.{Refines, AreNumbered, AreBlocksBelow, Numbers};
 ghost use Rattle.bisim_levels.specs.Recent.{two_numbers, AreRecent};
@@ -78,6 +80,7 @@ fn number_of(
 ) -> Result<Option<u32>, Memory>
     requires distinct { AreDistinct keys.old }
     requires recent { AreRecent two_numbers keys.old recent.old.items }
+    requires graph { IsGraph view.now }
     requires nodes { IsSome (at own.now n) → IsSome (label_number view.now n) }
     ensures ok { IfOk result (λ number. Numbers (at own.now) base.now (is_near side view.now) n keys.old keys.new number) }
     ensures recent { IfOk result (λ number. AreRecent two_numbers keys.new recent.new.items) }
@@ -103,8 +106,8 @@ pub fn refine(
     own: &[Option<u32>],
     base: &[Option<u32>],
 ) -> Result<Level, Memory>
-    requires own { IsPartition (view_shape view.now) own.now }
-    requires base { IsPartition (view_shape view.now) base.now }
+    requires own { IsPartition (shape_of view.now) own.now }
+    requires base { IsPartition (shape_of view.now) base.now }
     ensures refines { IfOk result (λ l. Refines (at own.now) base.now (is_near side view.now) l.block.items) }
     ensures numbered { IfOk result (λ l. AreNumbered (at own.now) base.now (is_near side view.now) l.block.items (slice_get l.keys)) }
     ensures span { IfOk result (λ l. AreBlocksBelow l.block.items (length l.keys)) }

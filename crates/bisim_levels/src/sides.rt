@@ -1,5 +1,6 @@
 // The two sides of a node.
 ghost use Rattle.std.specs.Prelude.{IsSome};
+ghost use Rattle.px_spec.specs.Graphs.{IsGraph};
 ghost use Rattle.px_spec.specs.Members.{Lists};
 ghost use Rattle.label_graph.specs.Views.{label_number};
 ghost use Rattle.bisim_levels.specs.Sides.{is_near};
@@ -19,7 +20,8 @@ pub enum Side {
 impl Side {
     /// The neighbours of the node, each once.
     pub(crate) fn neighbours<'a>(self, view: &'a GraphView<'_>, n: NodeId) -> &'a [NodeId]
-        requires { IsSome (label_number view.now n) }
+        requires graph { IsGraph view.now }
+        requires node { IsSome (label_number view.now n) }
         ensures { Lists (λ p. is_near self view.now p n) result.now }
     {
         match self {

@@ -1,8 +1,9 @@
 -- One level from the one below: nodes stay together where their blocks and their parents' blocks are the same.
 use Rattle.std.proofs.Common.{ℕ, suc, List, Option}
-use Rattle.px_spec.specs.Shapes.{Shape, IsNode, IsParent, IsChild, IsShape}
+use Rattle.px_spec.specs.Shapes.{Shape, IsNode, IsParent, IsChild}
 use Rattle.bisim_spec.specs.Bisimilarity.{Matched, Bis, Both}
 use Rattle.bisim_spec.specs.Partitions.{Together, Agrees}
+use Rattle.bisim_spec.proofs.Bisimilar.{bis_sym, bis_node, both_sym, both_node}
 
 -- two nodes are in one block, and so are their parents, in some order
 pub record SameKey (s : Shape) (block : List (Option ℕ)) (u v : ℕ) : Type 0 where
@@ -18,12 +19,12 @@ bis_from_key s block i u v a k = (
   },
 )
 
-pub key_from_bis : (s : Shape) (block : List (Option ℕ)) (i u v : ℕ) → IsShape s → Agrees s block (Bis s i) → IsNode s u → IsNode s v → Bis s (suc i) u v → SameKey s block u v
-key_from_bis s block i u v shape a nu nv h = record {
+pub key_from_bis : (s : Shape) (block : List (Option ℕ)) (i u v : ℕ) → Agrees s block (Bis s i) → IsNode s u → IsNode s v → Bis s (suc i) u v → SameKey s block u v
+key_from_bis s block i u v a nu nv h = record {
   own = a.grouped u v nu nv h.0;
   parents = record {
-    there = λ p e. let q = h.1.there p e in (q.0, q.1, a.grouped p q.0 (shape.from p u e) (shape.from q.0 v q.1) q.2);
-    back = λ p e. let q = h.1.back p e in (q.0, q.1, a.grouped p q.0 (shape.from p v e) (shape.from q.0 u q.1) q.2);
+    there = λ p e. let q = h.1.there p e in (q.0, q.1, a.grouped p q.0 (bis_node s i p q.0 q.2) (bis_node s i q.0 p (bis_sym s i p q.0 q.2)) q.2);
+    back = λ p e. let q = h.1.back p e in (q.0, q.1, a.grouped p q.0 (bis_node s i p q.0 q.2) (bis_node s i q.0 p (bis_sym s i p q.0 q.2)) q.2);
   };
 }
 
@@ -46,15 +47,15 @@ both_from_key s block i u v a k = (
   },
 )
 
-pub key_from_both : (s : Shape) (block : List (Option ℕ)) (i u v : ℕ) → IsShape s → Agrees s block (Both s i) → IsNode s u → IsNode s v → Both s (suc i) u v → SameKeyBoth s block u v
-key_from_both s block i u v shape a nu nv h = record {
+pub key_from_both : (s : Shape) (block : List (Option ℕ)) (i u v : ℕ) → Agrees s block (Both s i) → IsNode s u → IsNode s v → Both s (suc i) u v → SameKeyBoth s block u v
+key_from_both s block i u v a nu nv h = record {
   own = a.grouped u v nu nv h.0;
   parents = record {
-    there = λ p e. let q = h.1.there p e in (q.0, q.1, a.grouped p q.0 (shape.from p u e) (shape.from q.0 v q.1) q.2);
-    back = λ p e. let q = h.1.back p e in (q.0, q.1, a.grouped p q.0 (shape.from p v e) (shape.from q.0 u q.1) q.2);
+    there = λ p e. let q = h.1.there p e in (q.0, q.1, a.grouped p q.0 (both_node s i p q.0 q.2) (both_node s i q.0 p (both_sym s i p q.0 q.2)) q.2);
+    back = λ p e. let q = h.1.back p e in (q.0, q.1, a.grouped p q.0 (both_node s i p q.0 q.2) (both_node s i q.0 p (both_sym s i p q.0 q.2)) q.2);
   };
   children = record {
-    there = λ c e. let d = h.2.there c e in (d.0, d.1, a.grouped c d.0 (shape.onto u c e) (shape.onto v d.0 d.1) d.2);
-    back = λ c e. let d = h.2.back c e in (d.0, d.1, a.grouped c d.0 (shape.onto v c e) (shape.onto u d.0 d.1) d.2);
+    there = λ c e. let d = h.2.there c e in (d.0, d.1, a.grouped c d.0 (both_node s i c d.0 d.2) (both_node s i d.0 c (both_sym s i c d.0 d.2)) d.2);
+    back = λ c e. let d = h.2.back c e in (d.0, d.1, a.grouped c d.0 (both_node s i c d.0 d.2) (both_node s i d.0 c (both_sym s i c d.0 d.2)) d.2);
   };
 }

@@ -13,11 +13,11 @@ loop-n-preserved c = record {
 
 pub returns-clause-agrees : goal.returns-clause-agrees
 returns-clause-agrees c =
-    labels_agree c.args.view.now _ (numbered_refines _ _ _ _ _ (λ p n e. absurd (true≢false (sym e))) c.loop-n.invariant.distinct.apart
+    labels_agree c.args.view.now c.size-n-end.ensures.graph _ (numbered_refines _ _ _ _ _ (λ p n e. absurd (true≢false (sym e))) c.loop-n.invariant.distinct.apart
     (numbered_all _ _ _ _ _ _ c.loop-n.invariant.numbered (λ m h.
     let below = below_span c.args.view.now m h in
     let end = c.loop-n-test.false in
-    let size = c.size-n-end.ensures in
+    let size = c.size-n-end.ensures.size in
     omega (arith, below, end, size))))
 
 pub returns-clause-numbered : goal.returns-clause-numbered
@@ -25,7 +25,7 @@ returns-clause-numbered c =
     numbered_all _ _ _ _ _ _ c.loop-n.invariant.numbered (λ m h.
     let below = below_span c.args.view.now m h in
     let end = c.loop-n-test.false in
-    let size = c.size-n-end.ensures in
+    let size = c.size-n-end.ensures.size in
     omega (arith, below, end, size))
 
 pub returns-clause-span : goal.returns-clause-span

@@ -13,20 +13,23 @@ loop-n-preserved c = record {
 
 pub returns-clause-refines : goal.returns-clause-refines
 returns-clause-refines c =
-    numbered_refines _ _ _ _ _ (near_block c.args.view.now c.args.side c.args.base.now c.requires.base) c.loop-n.invariant.distinct.apart
+    numbered_refines _ _ _ _ _ (near_block c.args.view.now c.size-n-end.ensures.graph c.args.side c.args.base.now c.requires.base) c.loop-n.invariant.distinct.apart
     (numbered_all _ _ _ _ _ _ c.loop-n.invariant.numbered (λ m h.
-    let below = below_span c.args.view.now m (node_number c.args.view.now m (c.requires.own.only m h)) in
+    let below = below_span c.args.view.now m (node_number c.args.view.now c.size-n-end.ensures.graph m (c.requires.own.only m h)) in
     let end = c.loop-n-test.false in
-    let size = c.size-n-end.ensures in
+    let size = c.size-n-end.ensures.size in
     omega (arith, below, end, size)))
 
 pub returns-clause-numbered : goal.returns-clause-numbered
 returns-clause-numbered c =
     numbered_all _ _ _ _ _ _ c.loop-n.invariant.numbered (λ m h.
-    let below = below_span c.args.view.now m (node_number c.args.view.now m (c.requires.own.only m h)) in
+    let below = below_span c.args.view.now m (node_number c.args.view.now c.size-n-end.ensures.graph m (c.requires.own.only m h)) in
     let end = c.loop-n-test.false in
-    let size = c.size-n-end.ensures in
+    let size = c.size-n-end.ensures.size in
     omega (arith, below, end, size))
 
 pub returns-clause-span : goal.returns-clause-span
 returns-clause-span c = numbered_below _ _ _ _ _ (returns-clause-numbered c)
+
+pub number_of-requires-clause-nodes : goal.number_of-requires-clause-nodes
+number_of-requires-clause-nodes c = λ h. node_number c.args.view.now c.size-n-end.ensures.graph c.loop-n.n (c.requires.own.only c.loop-n.n h)
