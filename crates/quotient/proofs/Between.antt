@@ -1,17 +1,18 @@
 -- How many of a graph's edges lead from one block to another, node by node.
-use Rattle.std.proofs.Common.{◌≡◌, ℕ, suc, ◌+◌, ◌<◌, ◌≤◌, List, Option, Some, IsSome, refl, sym, ◌∙◌, ap, arith, inl, inr, true, false, Bool, ◌&&◌, subst}
+use Rattle.std.proofs.Common.{◌≡◌, ℕ, suc, ◌+◌, ◌<◌, ◌≤◌, List, Option, refl, sym, ◌∙◌, ap, arith, inl, inr, true, false, Bool, ◌&&◌}
 use Rattle.std.specs.Prelude.{nat_eq, nat_lt, ◌||◌}
 use Rattle.std.specs.List.{list_any}
 use Rattle.std.specs.FinSet as set
 use Rattle.std.proofs.Math.Bool.{and-false, or-false}
-use Rattle.std.proofs.lemmas.Bool.{cases_Bool, and_parts}
+use Rattle.std.proofs.lemmas.Bool.{cases_Bool}
 use Rattle.std.proofs.lemmas.Bool.Decides.{eqb_tells, nat_tests}
-use Rattle.px_spec.specs.Graphs.{Graph, Edges, edge_cmp, has_edge}
+use Rattle.px_spec.specs.Graphs.{Graph, IsGraph, Edges, edge_cmp}
 use Rattle.label_graph.specs.Views.{is_linked}
-use Rattle.px_spec.specs.Members.{has, Lists, at, is_this}
+use Rattle.label_graph.proofs.Viewed.{linked_is}
+use Rattle.px_spec.specs.Members.{has, Lists}
 use Rattle.bisim_spec.specs.Supports.{joins, edges_between}
-use Rattle.bisim_spec.proofs.EdgeSets.{eq, kept, same_len, kept_len, member_of, len_more}
-use Rattle.bisim_spec.proofs.Moves.{block_get, from_has, from_distinct}
+use Rattle.bisim_spec.proofs.EdgeSets.{eq, kept, same_len, kept_len, len_more}
+use Rattle.bisim_spec.proofs.Moves.{from_has, from_distinct}
 use Rattle.quotient.specs.Joined.{pairs_of, pairs_between, edges_below}
 
 -- a node is at no place before its own
@@ -60,33 +61,24 @@ below_zero edges block x y =
     ∙ set.len-empty edge_cmp
 
 -- the edges before the end are all
-pub below_all : (edges : Edges) (block : List (Option ℕ)) (size x y : ℕ) → ((n : ℕ) → IsSome (at block n) → n < size) → edges_below edges block size x y ≡ edges_between edges block x y
+pub below_all : (edges : Edges) (block : List (Option ℕ)) (size x y : ℕ) → ((u v : ℕ) → set.contains edges (u, v) ≡ true → u < size)
+    → edges_below edges block size x y ≡ edges_between edges block x y
 below_all edges block size x y within =
     let j = joins block x y in
     let before : ℕ × ℕ → Bool = λ e. nat_lt e.0 size && j e in
     same_len (set.retain edges before) (set.retain edges j) (λ k.
-    kept edges before k ∙ ap (λ b. set.contains edges k && b) (elim (cases_Bool (j k)) [
+    kept edges before k ∙ elim (cases_Bool (set.contains edges k)) [
       | inl t ↦ (
-          let from = block_get x (at block k.0) (and_parts (is_this x (at block k.0)) (is_this y (at block k.1)) t).0 in
-          let h = within k.0 (subst IsSome (sym from) refl) in
+          let h = within k.0 k.1 t in
           let below : nat_lt k.0 size ≡ true = grind (arith, nat_tests, h) in
           rw below refl)
-      | inr f ↦ rw f (and-false (nat_lt k.0 size))
-    ]) ∙ sym (kept edges j k))
+      | inr f ↦ rw f refl
+    ] ∙ sym (kept edges j k))
 
 -- the edges that begin before a node are at most all
 pub below_most : (edges : Edges) (block : List (Option ℕ)) (n x y : ℕ) → edges_below edges block n x y ≤ set.len edges
 below_most edges block n x y = kept_len edges (λ e. nat_lt e.0 n && joins block x y e)
 
--- where edges lead from one block to another, both have members
-pub between_members : (edges : Edges) (block : List (Option ℕ)) (a b : ℕ) → 0 < edges_between edges block a b → (u : ℕ) × (v : ℕ) × (at block u ≡ Some a) × (at block v ≡ Some b)
-between_members edges block a b h =
-    let j = joins block a b in
-    let m = member_of (set.retain edges j) h in
-    let passed = (and_parts (set.contains edges m.0) (j m.0) (sym (kept edges j m.0) ∙ m.1)).1 in
-    let ends = and_parts (is_this a (at block m.0.0)) (is_this b (at block m.0.1)) passed in
-    (m.0.0, m.0.1, block_get a (at block m.0.0) ends.0, block_get b (at block m.0.1) ends.1)
-
 -- the children that a view lists are those to which edges lead
-pub links_listed : (g : Graph) (n : ℕ) (cs : List ℕ) → Lists (is_linked g n) cs → ((u v : ℕ) → is_linked g u v ≡ has_edge g u v) → Lists (λ v. set.contains g.edges (n, v)) cs
-links_listed g n cs l e = record { once = l.once; members = λ v. l.members v ∙ e n v }
+pub links_listed : (g : Graph) (n : ℕ) (cs : List ℕ) → Lists (is_linked g n) cs → IsGraph g → Lists (λ v. set.contains g.edges (n, v)) cs
+links_listed g n cs l s = record { once = l.once; members = λ v. l.members v ∙ linked_is g s n v }

@@ -2,5 +2,4 @@ mod Looked
 mod Near
 mod Pairs
 mod Between
-mod Nodes
 mod Listed

@@ -14,7 +14,7 @@ use Rattle.px_spec.specs.Graphs.{edge_cmp}
 use Rattle.px_spec.proofs.EdgeOrder.{edge_cmp_total}
 use Rattle.bisim_spec.specs.Views.{SupportTable, support_at}
 use Rattle.quotient.specs.Quotients.{pair_count}
-use Rattle.quotient.specs.Joined.{with_edge, one_if, IsPositive}
+use Rattle.quotient.specs.Joined.{with_one_more, one_if, IsPositive}
 
 abbrev pub same : ℕ × ℕ → ℕ × ℕ → Bool
 same x y = nat_eq x.0 y.0 && nat_eq x.1 y.1
@@ -125,7 +125,7 @@ found_at es q None e = tt
 found_at es q (Some i) e = at_position es q i e
 
 -- the support of each pair, once an edge from a to b is counted
-pub support_with : (t : SupportTable) (a b x y : ℕ) → support_at (with_edge t a b) x y ≡ support_at t x y + one_if (same (x, y) (a, b))
+pub support_with : (t : SupportTable) (a b x y : ℕ) → support_at (with_one_more t a b) x y ≡ support_at t x y + one_if (same (x, y) (a, b))
 support_with t a b x y =
     ap (λ o. unwrap_or o 0) (got t (a, b) (support_at t a b + 1) (x, y)) ∙ elim (test_is (same (x, y) (a, b))) [
       | inl s ↦ (

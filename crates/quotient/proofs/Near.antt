@@ -11,25 +11,25 @@ use Rattle.std.specs.List.{IsDistinct}
 use Rattle.px_spec.specs.Graphs.{edge_cmp}
 use Rattle.px_spec.specs.Members.{has, Lists}
 use Rattle.bisim_spec.specs.Views.{SupportTable, support_at}
-use Rattle.quotient.specs.Joined.{AreNear, list_at, is_supported, with_edge, one_if}
+use Rattle.quotient.specs.Joined.{AreNear, list_at, is_supported, with_one_more, one_if}
 use Rattle.quotient.proofs.Looked.{same, same_is, same_refl, test_is, support_with}
 
 lists_same : (p q : ℕ → Bool) (xs : List ℕ) → ((m : ℕ) → q m ≡ p m) → Lists p xs → Lists q xs
 lists_same p q xs e l = record { once = l.once; members = λ m. l.members m ∙ sym (e m) }
 
 -- pairs other than this one have the support that they had
-other_same : (t : SupportTable) (a b x y : ℕ) → same (x, y) (a, b) ≡ false → is_supported (with_edge t a b) x y ≡ is_supported t x y
+other_same : (t : SupportTable) (a b x y : ℕ) → same (x, y) (a, b) ≡ false → is_supported (with_one_more t a b) x y ≡ is_supported t x y
 other_same t a b x y d =
     let s = support_with t a b x y in
     let zero : one_if (same (x, y) (a, b)) ≡ 0 = rw d refl in
-    let e : support_at (with_edge t a b) x y ≡ support_at t x y = omega (arith, s, zero) in
+    let e : support_at (with_one_more t a b) x y ≡ support_at t x y = omega (arith, s, zero) in
     ap (nat_lt 0) e
 
-this_supported : (t : SupportTable) (a b : ℕ) → is_supported (with_edge t a b) a b ≡ true
+this_supported : (t : SupportTable) (a b : ℕ) → is_supported (with_one_more t a b) a b ≡ true
 this_supported t a b =
     let s = support_with t a b a b in
     let one : one_if (same (a, b) (a, b)) ≡ 1 = ap one_if (same_refl (a, b)) in
-    let some : 0 < support_at (with_edge t a b) a b = omega (arith, s, one) in
+    let some : 0 < support_at (with_one_more t a b) a b = omega (arith, s, one) in
     grind (arith, nat_tests, some)
 
 and_false : (t : Bool) → (t && false) ≡ false
@@ -57,9 +57,9 @@ lists_pushed p q xs b l out here other = record {
 }
 
 -- an edge of a pair that has edges already
-pub near_more : (t : SupportTable) (cs ps : List (List ℕ)) (a b : ℕ) → support_at t a b ≢ 0 → AreNear t cs ps → AreNear (with_edge t a b) cs ps
+pub near_more : (t : SupportTable) (cs ps : List (List ℕ)) (a b : ℕ) → support_at t a b ≢ 0 → AreNear t cs ps → AreNear (with_one_more t a b) cs ps
 near_more t cs ps a b some n =
-    let still : (x y : ℕ) → is_supported (with_edge t a b) x y ≡ is_supported t x y = λ x y. elim (test_is (same (x, y) (a, b))) [
+    let still : (x y : ℕ) → is_supported (with_one_more t a b) x y ≡ is_supported t x y = λ x y. elim (test_is (same (x, y) (a, b))) [
       | inl s ↦ (
           let p = same_is (x, y) (a, b) s in
           let xa : x ≡ a = ap (λ (q : ℕ × ℕ). q.0) p in
@@ -69,25 +69,25 @@ near_more t cs ps a b some n =
       | inr d ↦ other_same t a b x y d
     ] in
     record {
-      children_are = λ x. lists_same (is_supported t x) (is_supported (with_edge t a b) x) (list_at cs x) (still x) (n.children_are x);
-      parents_are = λ y. lists_same (λ x. is_supported t x y) (λ x. is_supported (with_edge t a b) x y) (list_at ps y) (λ x. still x y) (n.parents_are y);
+      children_are = λ x. lists_same (is_supported t x) (is_supported (with_one_more t a b) x) (list_at cs x) (still x) (n.children_are x);
+      parents_are = λ y. lists_same (λ x. is_supported t x y) (λ x. is_supported (with_one_more t a b) x y) (list_at ps y) (λ x. still x y) (n.parents_are y);
     }
 
 -- the first edge of a pair
 pub near_first : (t : SupportTable) (cs ps : List (List ℕ)) (a b : ℕ) → support_at t a b ≡ 0 → a < length cs → b < length ps → AreNear t cs ps
-    → AreNear (with_edge t a b) (slice_set cs a (list_at cs a ++ b ∷ [])) (slice_set ps b (list_at ps b ++ a ∷ []))
+    → AreNear (with_one_more t a b) (slice_set cs a (list_at cs a ++ b ∷ [])) (slice_set ps b (list_at ps b ++ a ∷ []))
 near_first t cs ps a b none in_cs in_ps n =
     let out : is_supported t a b ≡ false = ap (nat_lt 0) none in
     record {
       children_are = λ x. elim (eqb_tells x a) [
-        | inl s ↦ rw (s.1, get_or-set_same cs a (list_at cs a ++ b ∷ []) [] in_cs) (lists_pushed (is_supported t a) (is_supported (with_edge t a b) a) (list_at cs a) b (n.children_are a) out (this_supported t a b)
+        | inl s ↦ rw (s.1, get_or-set_same cs a (list_at cs a ++ b ∷ []) [] in_cs) (lists_pushed (is_supported t a) (is_supported (with_one_more t a b) a) (list_at cs a) b (n.children_are a) out (this_supported t a b)
             (λ m d. other_same t a b a m (apart_second a b a m d)))
-        | inr d ↦ rw (get_or-set_other cs a x (list_at cs a ++ b ∷ []) [] d.1) (lists_same (is_supported t x) (is_supported (with_edge t a b) x) (list_at cs x) (λ m. other_same t a b x m (apart_first a b x m d.1)) (n.children_are x))
+        | inr d ↦ rw (get_or-set_other cs a x (list_at cs a ++ b ∷ []) [] d.1) (lists_same (is_supported t x) (is_supported (with_one_more t a b) x) (list_at cs x) (λ m. other_same t a b x m (apart_first a b x m d.1)) (n.children_are x))
       ];
       parents_are = λ y. elim (eqb_tells y b) [
-        | inl s ↦ rw (s.1, get_or-set_same ps b (list_at ps b ++ a ∷ []) [] in_ps) (lists_pushed (λ x. is_supported t x b) (λ x. is_supported (with_edge t a b) x b) (list_at ps b) a (n.parents_are b) out (this_supported t a b)
+        | inl s ↦ rw (s.1, get_or-set_same ps b (list_at ps b ++ a ∷ []) [] in_ps) (lists_pushed (λ x. is_supported t x b) (λ x. is_supported (with_one_more t a b) x b) (list_at ps b) a (n.parents_are b) out (this_supported t a b)
             (λ m d. other_same t a b m b (apart_first a b m b d)))
-        | inr d ↦ rw (get_or-set_other ps b y (list_at ps b ++ a ∷ []) [] d.1) (lists_same (λ x. is_supported t x y) (λ x. is_supported (with_edge t a b) x y) (list_at ps y) (λ m. other_same t a b m y (apart_second a b m y d.1)) (n.parents_are y))
+        | inr d ↦ rw (get_or-set_other ps b y (list_at ps b ++ a ∷ []) [] d.1) (lists_same (λ x. is_supported t x y) (λ x. is_supported (with_one_more t a b) x y) (list_at ps y) (λ m. other_same t a b m y (apart_second a b m y d.1)) (n.parents_are y))
       ];
     }
 

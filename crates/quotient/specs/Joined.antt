@@ -1,11 +1,11 @@
 -- The lists of neighbours of blocks.
-use Rattle.std.specs.Prelude.{◌≡◌, ◌≢◌, ℕ, ◌+◌, ◌<◌, ◌&&◌, Bool, List, [], Option, Some, IsSome, length, cond, map, nat_eq, nat_lt, slice_get, slice_index_or, count_by}
+use Rattle.std.specs.Prelude.{◌≡◌, ◌≢◌, ℕ, ◌+◌, ◌<◌, ◌≤◌, ◌^◌, ◌&&◌, Bool, List, [], Option, Some, IsSome, length, cond, map, nat_eq, nat_lt, slice_get, slice_index_or, count_by}
 use Rattle.std.specs.FinMap as table
 use Rattle.std.specs.FinSet as set
 use Rattle.px_spec.specs.Graphs.{Edges}
 use Rattle.px_spec.specs.Members.{Lists, at}
 use Rattle.block_partition.specs.Partitions.{Partition}
-use Rattle.bisim_spec.specs.Supports.{joins, support}
+use Rattle.bisim_spec.specs.Supports.{joins, support, edges_between}
 use Rattle.bisim_spec.specs.Views.{SupportTable, support_at}
 
 -- the list with this number, and an empty one past the end
@@ -21,8 +21,8 @@ pub record AreNear (t : SupportTable) (children parents : List (List ℕ)) : Typ
   pub parents_are : (b : ℕ) → Lists (λ a. is_supported t a b) (list_at parents b)
 
 -- one more edge from a to b
-abbrev pub with_edge : SupportTable → ℕ → ℕ → SupportTable
-with_edge t a b = table.insert t (a, b) (support_at t a b + 1)
+abbrev pub with_one_more : SupportTable → ℕ → ℕ → SupportTable
+with_one_more t a b = table.insert t (a, b) (support_at t a b + 1)
 
 abbrev pub one_if : Bool → ℕ
 one_if b = cond b 1 0
@@ -47,9 +47,17 @@ AreBelow n pairs = (i : ℕ) (p : ℕ × ℕ) → slice_get pairs i ≡ Some p �
 abbrev pub edges_below : Edges → List (Option ℕ) → ℕ → ℕ → ℕ → ℕ
 edges_below edges block n x y = set.len (set.retain edges (λ e. nat_lt e.0 n && joins block x y e))
 
--- whatever the blocks: as many edges of the list lead from one to another as of those of the set that begin before a node
-pub record AreListed (edges : Edges) (n : ℕ) (list : List (ℕ × ℕ)) : Type 0 where
+-- whatever the blocks: as many edges of the list lead from one to another as of the set
+pub record AreListed (edges : Edges) (list : List (ℕ × ℕ)) : Type 0 where
+  pub same : (block : List (Option ℕ)) (x y : ℕ) → support list block x y ≡ edges_between edges block x y
+
+-- the same of those edges of the set that begin before a node
+pub record AreListedBelow (edges : Edges) (n : ℕ) (list : List (ℕ × ℕ)) : Type 0 where
   pub same : (block : List (Option ℕ)) (x y : ℕ) → support list block x y ≡ edges_below edges block n x y
+
+-- whatever the blocks: at most 2^30 edges of the list lead from one to another
+pub record AreFew (list : List (ℕ × ℕ)) : Type 0 where
+  pub most : (block : List (Option ℕ)) (x y : ℕ) → support list block x y ≤ 2 ^ 30
 
 -- each pair in the table has edges
 abbrev pub IsPositive : SupportTable → Type 0

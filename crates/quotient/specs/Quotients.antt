@@ -31,8 +31,8 @@ abbrev pub view_of : Quotient → View
 view_of q = record { block_of = q.blocks.block_of; labels = q.blocks.labels; supports = q.supports }
 
 -- each support is the number of edges
-abbrev pub AreCounted : Edges → List (Option ℕ) → SupportTable → Type 0
-AreCounted edges block supports = (a b : ℕ) → support_at supports a b ≡ edges_between edges block a b
+abbrev pub AreSupports : Edges → List (Option ℕ) → SupportTable → Type 0
+AreSupports edges block supports = (a b : ℕ) → support_at supports a b ≡ edges_between edges block a b
 
 -- how many pairs of blocks have support
 abbrev pub pair_count : SupportTable → ℕ

@@ -1,17 +1,13 @@
-// Counting the edges of a graph between the blocks of its nodes.
-ghost use Rattle.std.specs.Prelude.{◌≡◌, ◌+◌, ◌-◌, ◌<◌, ◌≤◌, ◌^◌, ◌&&◌, ℕ, IfOk, IfSome, OnOk, length, is_some, nat_eq};
-ghost use Rattle.std.specs.FinSet as set;
-ghost use Rattle.label_graph.specs.Views.{label_number};
-ghost use Rattle.px_spec.specs.Members.{at, is_this};
-ghost use Rattle.bisim_spec.specs.Supports.{joins};
+// Counting edges between the blocks of their ends.
+ghost use Rattle.std.specs.Prelude.{◌≡◌, ◌+◌, ◌-◌, ◌<◌, ◌≤◌, ◌^◌, ◌&&◌, ℕ, IfOk, IfSome, OnOk, length, nat_eq};
+ghost use Rattle.px_spec.specs.Members.{is_this};
+ghost use Rattle.bisim_spec.specs.Supports.{joins, support};
 ghost use Rattle.bisim_spec.specs.Views.{support_at};
-ghost use Rattle.quotient.specs.Quotients.{AreCounted};
-ghost use Rattle.quotient.specs.Joined.{AreNear, AreLive, AreBelow, AreListed, one_if, pairs_with};
+ghost use Rattle.quotient.specs.Joined.{AreNear, AreLive, AreBelow, AreFew, one_if, pairs_with};
 
 use crate::joins::Joins;
 use crate::supports::empty_hand;
 use block_partition::Blocks;
-use label_graph::GraphView;
 use px_base::{Memory, NodeId};
 use std::alloc::Global;
 
@@ -96,18 +92,15 @@ fn count_batch(
     Ok(())
 }
 
-/// Counts the edges of a graph between the blocks of its nodes. The blocks of many edges are read
+/// Counts the edges of a list between the blocks of their ends. The blocks of many edges are read
 /// before their pairs are counted, since reads that don't wait for one another take less time.
 pub(crate) fn count_edges(
     alloc: Global,
     blocks: &Blocks,
-    view: &GraphView<'_>,
     edges: &[(NodeId, NodeId)],
 ) -> Result<Joins, Memory>
-    requires nodes { (m : ℕ) → is_some (at blocks.now.block_of m) ≡ is_some (label_number view.now m) }
-    requires listed { AreListed view.now.edges (length view.now.given) edges.now }
-    requires few { set.len view.now.edges ≤ 2 ^ 30 }
-    ensures supports { IfOk result (λ j. AreCounted view.now.edges blocks.now.block_of j.supports) }
+    requires few { AreFew edges.now }
+    ensures supports { IfOk result (λ j. (a b : ℕ) → support_at j.supports a b ≡ support edges.now blocks.now.block_of a b) }
     ensures live { IfOk result (λ j. AreLive blocks.now j.supports) }
     ensures near { IfOk result (λ j. AreNear j.supports j.children j.parents) }
     ensures children { IfOk result (λ j. length j.children ≡ length blocks.now.labels) }

@@ -1,8 +1,7 @@
 // The edges of a graph, in a list.
-ghost use Rattle.std.specs.Prelude.{◌≡◌, ◌++◌, ℕ, suc, IfOk, OnOk, length};
-ghost use Rattle.px_spec.specs.Graphs.{has_edge};
-ghost use Rattle.label_graph.specs.Views.{is_linked};
-ghost use Rattle.quotient.specs.Joined.{AreListed, pairs_of};
+ghost use Rattle.std.specs.Prelude.{◌≡◌, ◌++◌, suc, IfOk, OnOk};
+ghost use Rattle.px_spec.specs.Graphs.{IsGraph};
+ghost use Rattle.quotient.specs.Joined.{AreListed, AreListedBelow, AreFew, pairs_of};
 
 use label_graph::{Digraph, GraphView};
 use px_base::{Memory, NodeId};
@@ -23,17 +22,19 @@ impl Model for EdgeList {
 
     ghost Value = { List (ℕ × ℕ) };
 
+    ghost use Rattle.quotient.specs.Joined.{AreFew};
+
     ghost view = { λ e. e.edges.items };
+
+    ghost invariant = { λ e. AreFew e.edges.items };
 }
 
 impl EdgeList {
     /// The edges of a graph. It reads each node's children once.
     pub fn of(alloc: Global, view: &GraphView<'_>) -> Result<EdgeList, Memory>
-        ensures { IfOk result (AreListed view.now.edges (length view.now.given)) }
+        ensures { IfOk result (AreListed view.now.edges) }
     {
-        // It tells that the view shows the graph itself.
-        let count = view.edge_count();
-        let mut edges = Vec::with_capacity(alloc, count as usize)?;
+        let mut edges = Vec::with_capacity(alloc, view.edge_count() as usize)?;
         for n in 0..view.size() {
             list_node(&mut edges, view, n)?;
         }
@@ -42,7 +43,8 @@ impl EdgeList {
 
     /// The edges.
     pub(crate) fn as_slice(&self) -> &[(NodeId, NodeId)]
-        ensures { result.now ≡ self.now }
+        ensures edges { result.now ≡ self.now }
+        ensures few { AreFew self.now }
     {
         &self.edges
     }
@@ -70,9 +72,9 @@ fn list_node(
     view: &GraphView<'_>,
     n: NodeId,
 ) -> Result<(), Memory>
-    requires links { (u v : ℕ) → is_linked view.now u v ≡ has_edge view.now u v }
-    requires listed { AreListed view.now.edges n edges.old.items }
-    ensures { OnOk result (AreListed view.now.edges (suc n) edges.new.items) }
+    requires graph { IsGraph view.now }
+    requires listed { AreListedBelow view.now.edges n edges.old.items }
+    ensures { OnOk result (AreListedBelow view.now.edges (suc n) edges.new.items) }
 {
     if !view.is_node(n) {
         return Ok(());

@@ -1,12 +1,11 @@
 // The index graph of a partition.
 ghost use Rattle.std.specs.Prelude.{◌≡◌, ◌<◌, ◌≤◌, ◌^◌, ℕ, List, is_some, IsSome, IfOk, IfSome, length};
 ghost use Rattle.px_spec.specs.Members.{Lists, at};
-ghost use Rattle.px_spec.specs.Shapes.{shape_of, shape_by};
+ghost use Rattle.px_spec.specs.Shapes.{shape_by};
 ghost use Rattle.block_partition.specs.Partitions.{is_member, block_count};
-ghost use Rattle.bisim_spec.specs.Partitions.{IsPartition};
+ghost use Rattle.bisim_spec.specs.Supports.{support};
 ghost use Rattle.bisim_spec.specs.Views.{support_at, shape_of_view};
-ghost use Rattle.quotient.specs.Quotients.{AreCounted, pair_count, is_joined, view_of};
-ghost use Rattle.quotient.specs.Joined.{AreListed};
+ghost use Rattle.quotient.specs.Quotients.{AreSupports, pair_count, is_joined, view_of};
 
 use crate::counting::count_edges;
 use crate::edges::EdgeList;
@@ -42,34 +41,25 @@ impl Model for Summary {
 }
 
 impl Summary {
-    /// The quotient of a graph by a partition of its live nodes. It lists the graph's edges, which takes 8
-    /// bytes for each of them while it runs, and finds pairs that aren't at hand by hash. On want of memory
-    /// the blocks are dropped.
+    /// The quotient of a graph by a partition of its nodes. It lists the graph's edges, which takes 8 bytes
+    /// for each of them while it runs, and finds pairs that aren't at hand by hash. On want of memory the
+    /// blocks are dropped.
     pub fn of(alloc: Global, blocks: Blocks, view: &GraphView<'_>) -> Result<Summary, Memory>
-        requires partition { IsPartition (shape_of view.now) blocks.block_of }
         ensures blocks { IfOk result (λ s. s.blocks ≡ blocks) }
-        ensures supports { IfOk result (λ s. AreCounted view.now.edges blocks.block_of s.supports) }
+        ensures supports { IfOk result (λ s. AreSupports view.now.edges blocks.block_of s.supports) }
     {
         let edges = EdgeList::of(alloc, view)?;
-        Summary::of_edges(alloc, blocks, view, &edges)
+        Summary::of_edges(alloc, blocks, &edges)
     }
 
-    /// The quotient of a graph by a partition of its live nodes, from a list of this graph's edges. On want
-    /// of memory the blocks are dropped.
-    pub fn of_edges(
-        alloc: Global,
-        blocks: Blocks,
-        view: &GraphView<'_>,
-        edges: &EdgeList,
-    ) -> Result<Summary, Memory>
-        requires partition { IsPartition (shape_of view.now) blocks.block_of }
-        requires listed { AreListed view.now.edges (length view.now.given) edges.now }
+    /// The quotient by a partition, from a list of edges: the support of a pair of blocks is the number of
+    /// edges of the list from a member of the first to a member of the second. On want of memory the blocks
+    /// are dropped.
+    pub fn of_edges(alloc: Global, blocks: Blocks, edges: &EdgeList) -> Result<Summary, Memory>
         ensures blocks { IfOk result (λ s. s.blocks ≡ blocks) }
-        ensures supports { IfOk result (λ s. AreCounted view.now.edges blocks.block_of s.supports) }
+        ensures supports { IfOk result (λ s. (a b : ℕ) → support_at s.supports a b ≡ support edges.now blocks.block_of a b) }
     {
-        // It tells that the view shows the graph itself.
-        let _ = view.edge_count();
-        let joins = count_edges(alloc, &blocks, view, edges.as_slice())?;
+        let joins = count_edges(alloc, &blocks, edges.as_slice())?;
         Ok(Summary { blocks, joins })
     }
 

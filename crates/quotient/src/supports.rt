@@ -4,7 +4,7 @@ ghost use Rattle.std.specs.FinMap as map;
 ghost use Rattle.indexmap.specs.IndexMap.{get};
 ghost use Rattle.bisim_spec.specs.Views.{support_at};
 ghost use Rattle.quotient.specs.Quotients.{pair_count};
-ghost use Rattle.quotient.specs.Joined.{with_edge};
+ghost use Rattle.quotient.specs.Joined.{with_one_more};
 
 use indexmap::IndexMap;
 use px_base::Memory;
@@ -64,7 +64,7 @@ impl Supports {
     #[inline(always)]
     pub(crate) fn raise(&mut self, hand: &mut Vec<usize>, a: u32, b: u32) -> Result<bool, Memory>
         requires few { support_at self.old a b < 2 ^ 32 - 1 }
-        ensures raised { OnOk result (self.new ≡ with_edge self.old a b) }
+        ensures raised { OnOk result (self.new ≡ with_one_more self.old a b) }
         ensures first { IfOk result (λ first. first ≡ nat_eq (support_at self.old a b) 0) }
     {
         let place = place_of(a, b);
@@ -78,7 +78,7 @@ impl Supports {
     #[inline(always)]
     fn raise_at(&mut self, i: usize, a: u32, b: u32) -> bool
         requires few { support_at self.old a b < 2 ^ 32 - 1 }
-        ensures raised { IsTrue result → self.new ≡ with_edge self.old a b }
+        ensures raised { IsTrue result → self.new ≡ with_one_more self.old a b }
         ensures some { IsTrue result → false ≡ nat_eq (support_at self.old a b) 0 }
         ensures left { IsFalse result → self.new ≡ self.old }
     {
@@ -102,7 +102,7 @@ impl Supports {
         b: u32,
     ) -> Result<bool, Memory>
         requires few { support_at self.old a b < 2 ^ 32 - 1 }
-        ensures raised { OnOk result (self.new ≡ with_edge self.old a b) }
+        ensures raised { OnOk result (self.new ≡ with_one_more self.old a b) }
         ensures first { IfOk result (λ first. first ≡ nat_eq (support_at self.old a b) 0) }
     {
         if let Some(i) = index_of(&self.table, a, b) {

@@ -1,8 +1,6 @@
 // Each public call once, on a small graph.
-ghost use Rattle.std.specs.Prelude.{◌≡◌, ◌<◌, ◌≤◌, ◌+◌, IsTrue, IsSome, length};
+ghost use Rattle.std.specs.Prelude.{◌≡◌, ◌<◌, ◌≤◌, ◌+◌, IsSome, length};
 ghost use Rattle.px_spec.specs.Members.{at};
-ghost use Rattle.px_spec.specs.Shapes.{shape_of};
-ghost use Rattle.bisim_spec.specs.Partitions.{IsPartition};
 
 use super::*;
 use block_partition::Blocks;
@@ -82,22 +80,6 @@ fn by_label(rt: &impl Abort, alloc: Global) -> Result<Blocks, Fail> {
     Ok(blocks)
 }
 
-// Whether exactly the live nodes have a block.
-fn is_partition(view: &GraphView<'_>, blocks: &Blocks) -> bool
-    ensures { IsTrue result → IsPartition (shape_of view.now) blocks.now.block_of }
-{
-    let _ = view.edge_count();
-    if blocks.numbers() > view.size() {
-        return false;
-    }
-    for n in 0..view.size() {
-        if view.is_node(n) != blocks.block_of(n).is_some() {
-            return false;
-        }
-    }
-    true
-}
-
 // How many edges lead from one block to another.
 fn check_supports(rt: &impl Abort, summary: &Summary) {
     for (a, b, count) in [
@@ -156,8 +138,7 @@ fn check_graph(rt: &impl Abort, summary: &Summary) {
 fn check_listed(rt: &impl Abort, alloc: Global, view: &GraphView<'_>) -> Result<(), Fail> {
     let edges = EdgeList::of(alloc, view)?;
     let blocks = by_label(rt, alloc)?;
-    assert!(rt; is_partition(view, &blocks));
-    let summary = Summary::of_edges(alloc, blocks, view, &edges)?;
+    let summary = Summary::of_edges(alloc, blocks, &edges)?;
     check_supports(rt, &summary);
     Ok(())
 }
@@ -172,7 +153,6 @@ fn read_tree<L: Ledger>(rt: &impl Abort, alloc: Global, blank: Blank) -> Result<
     let view = graph.view(&mut steps);
     assert_eq!(rt; view.edge_count(), 7);
     let blocks = by_label(rt, alloc)?;
-    assert!(rt; is_partition(&view, &blocks));
     let summary = Summary::of(alloc, blocks, &view)?;
     check_supports(rt, &summary);
     check_blocks(rt, &summary);

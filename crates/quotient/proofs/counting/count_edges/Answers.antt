@@ -1,12 +1,10 @@
 use Rattle.quotient.specs.Joined.{AreBelow}
 use Rattle.std.proofs.Common.{◌∙◌, ◌<◌, ap, sym, arith, length, subst, ◌+◌}
 use Rattle.std.proofs.lemmas.List.{take_all}
-use Rattle.label_graph.specs.ViewLaws.{below_span}
 use Rattle.bisim_spec.specs.Supports.{support}
 use Rattle.quotient.proofs.Near.{support_none}
 use Rattle.quotient.proofs.Pairs.{no_pairs, none_below}
-use Rattle.quotient.proofs.Between.{below_all, between_members}
-use Rattle.quotient.proofs.Listed.{support_more, support_most}
+use Rattle.quotient.proofs.Listed.{support_more, support_take, support_members}
 use Rattle.quotient.proofs.counting.count_edges.Goals as goal
 
 pub loop-from-init : goal.loop-from-init
@@ -26,8 +24,8 @@ count_batch-requires-clause-few c = λ x y.
     let so_far = c.loop-from.invariant.supports x y in
     let added = c.in_ok-gather_edge.ensures.pairs x y in
     let more = support_more c.args.blocks.now.block_of c.args.edges.now c.loop-from.from-index x y (0, 0) c.loop-from-test.true in
-    let few = support_most c.args.view.now.edges (length c.args.view.now.given) c.args.edges.now c.args.blocks.now.block_of (c.loop-from.from-index + 1) x y c.requires.listed in
-    let most = c.requires.few in
+    let few = support_take c.args.blocks.now.block_of (c.loop-from.from-index + 1) c.args.edges.now x y in
+    let most = c.requires.few.most c.args.blocks.now.block_of x y in
     omega (arith, so_far, added, more, few, most)
 
 pub loop-from-preserved : goal.loop-from-preserved
@@ -47,29 +45,18 @@ loop-from-preserved c = record {
 pub count_pairs-requires-clause-few : goal.count_pairs-requires-clause-few
 count_pairs-requires-clause-few c = λ x y.
     let is = c.loop-from.invariant.supports x y in
-    let few = support_most c.args.view.now.edges (length c.args.view.now.given) c.args.edges.now c.args.blocks.now.block_of c.loop-from.from-index x y c.requires.listed in
-    let most = c.requires.few in
+    let few = support_take c.args.blocks.now.block_of c.loop-from.from-index c.args.edges.now x y in
+    let most = c.requires.few.most c.args.blocks.now.block_of x y in
     rw c.deref.ensures.value (omega (arith, is, few, most))
 
 pub returns-clause-supports : goal.returns-clause-supports
 returns-clause-supports c = λ a b.
-    let g = c.args.view.now in
-    let block = c.args.blocks.now.block_of in
     c.in_ok-count_pairs.ensures.supports a b ∙ rw c.deref.ensures.value (c.loop-from.invariant.supports a b)
-    ∙ ap (λ es. support es block a b) (take_all c.loop-from.from-index c.args.edges.now (let end = c.loop-from-test.false in omega (arith, end)))
-    ∙ c.requires.listed.same block a b
-    ∙ below_all g.edges block (length g.given) a b (λ n h. below_span g n (sym (c.requires.nodes n) ∙ h))
+    ∙ ap (λ es. support es c.args.blocks.now.block_of a b) (take_all c.loop-from.from-index c.args.edges.now (let end = c.loop-from-test.false in omega (arith, end)))
 
 pub returns-clause-live : goal.returns-clause-live
 returns-clause-live c = λ a b h.
-    let g = c.args.view.now in
-    let block = c.args.blocks.now.block_of in
-    let is =
-    c.in_ok-count_pairs.ensures.supports a b ∙ rw c.deref.ensures.value (c.loop-from.invariant.supports a b)
-    ∙ ap (λ es. support es block a b) (take_all c.loop-from.from-index c.args.edges.now (let end = c.loop-from-test.false in omega (arith, end)))
-    ∙ c.requires.listed.same block a b
-    ∙ below_all g.edges block (length g.given) a b (λ n h. below_span g n (sym (c.requires.nodes n) ∙ h)) in
-    let m = between_members g.edges block a b (subst (λ n. 0 < n) is h) in
+    let m = support_members c.args.edges.now c.args.blocks.now.block_of a b (subst (λ n. 0 < n) (returns-clause-supports c a b) h) in
     (c.span.ensures.live m.0 a m.2, c.span.ensures.live m.1 b m.3)
 
 pub gather_edge-requires : goal.gather_edge-requires

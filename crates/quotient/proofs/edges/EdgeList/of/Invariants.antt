@@ -1,5 +1,5 @@
-use Rattle.quotient.specs.Joined.{AreListed}
+use Rattle.quotient.specs.Joined.{AreListedBelow}
 use Rattle.quotient.proofs.edges.EdgeList.of.Given as goal
 
 abbrev pub invariant-loop-n : goal.invariant-loop-n
-invariant-loop-n l = AreListed l.view.edges l.n l.edges.items
+invariant-loop-n l = AreListedBelow l.view.edges l.n l.edges.items
