@@ -3,7 +3,7 @@ use Rattle.std.proofs.Common.{◌≡◌, ℕ, suc, ◌+◌, ◌<◌, ◌≤◌, 
 use Rattle.std.proofs.lemmas.Bool.{cases_lt}
 use Rattle.std.proofs.lemmas.List.{get_or_push, get_or_append_left, length-append}
 use Rattle.px_spec.specs.Graphs.{Graph, has_edge}
-use Rattle.px_spec.specs.Shapes.{Shape, shape_of}
+use Rattle.px_spec.specs.Shapes.{shape_of}
 use Rattle.label_graph.specs.Views.{label_number}
 use Rattle.bisim_spec.specs.Bisimilarity.{Bis}
 use Rattle.px_spec.specs.Members.{at}
@@ -11,18 +11,18 @@ use Rattle.bisim_spec.specs.Partitions.{Agrees}
 use Rattle.bisim_spec.specs.Views.{ViewFits}
 use Rattle.bisim_levels.specs.Keys.{IsKey}
 use Rattle.bisim_levels.specs.Refining.{AreNumbered}
-use Rattle.bisim_levels.specs.Sides.{view_shape, is_near, no_neighbours}
+use Rattle.bisim_levels.specs.Sides.{is_near, no_neighbours}
 use Rattle.bisim_levels.specs.declared.sides.Side.TheVariants.{Parents}
 use Rattle.quotient.specs.Quotients.{view_of}
 use Rattle.ak_family.specs.Families.{KeyedQuotient, no_level, level_at, blocks_at, key_at, AreLabelKeys, AreParentKeys}
 use Rattle.ak_family.specs.Layers.{BlocksHaveLabels, SameBlocks}
-use Rattle.ak_family.proofs.Filled.{IsShown, shown_at, agrees_moved}
+use Rattle.ak_family.proofs.Filled.{shown_at, agrees_moved}
 
 -- level i is the last one, and has the blocks of the list
 pub record IsBuilt (g : Graph) (i : ℕ) (levels : List KeyedQuotient) (block : List (Option ℕ)) (labels : List ℕ) : Type 0 where
   pub count : length levels ≡ i + 1
   pub fits : (j : ℕ) → j ≤ i → ViewFits g (view_of (level_at levels j).quotient)
-  pub agrees : (j : ℕ) → j ≤ i → Agrees (view_shape g) (blocks_at levels j) (Bis (view_shape g) j)
+  pub agrees : (j : ℕ) → j ≤ i → Agrees (shape_of g) (blocks_at levels j) (Bis (shape_of g) j)
   pub label_keys : AreLabelKeys g levels
   pub parent_keys : (j : ℕ) → j < i → AreParentKeys g levels j
   pub top : SameBlocks (blocks_at levels i) block
@@ -53,7 +53,7 @@ kept_at : (keys : List (Option (List ℕ))) (table : List (List ℕ)) → keys �
 kept_at keys table same b = ap (λ ks. key_at ks b) same ∙ shown_at table b
 
 pub built_lowest : (g : Graph) (level : KeyedQuotient) (block : List (Option ℕ)) (labels : List ℕ) (keys : List (List ℕ)) (levels : List KeyedQuotient)
-    → Agrees (view_shape g) block (Bis (view_shape g) 0) → BlocksHaveLabels g block labels → AreNumbered (label_number g) [] no_neighbours block (slice_get keys)
+    → Agrees (shape_of g) block (Bis (shape_of g) 0) → BlocksHaveLabels g block labels → AreNumbered (label_number g) [] no_neighbours block (slice_get keys)
     → SameBlocks level.quotient.blocks.block_of block → ViewFits g (view_of level.quotient) → level.keys ≡ map Some keys → levels ≡ level ∷ [] → IsBuilt g 0 levels block labels
 built_lowest g level block labels keys levels a is w same fits keys_same one =
     let first : (j : ℕ) → j ≤ 0 → j ≡ 0 = λ j h. omega (arith, h) in
@@ -65,8 +65,8 @@ built_lowest g level block labels keys levels a is w same fits keys_same one =
       count = ap length one;
       fits = λ j h. subst (λ (l : KeyedQuotient). ViewFits g (view_of l.quotient)) (sym (here j h)) fits;
       agrees = λ j h.
-          subst (λ (l : KeyedQuotient). Agrees (view_shape g) l.quotient.blocks.block_of (Bis (view_shape g) j)) (sym (here j h))
-          (subst (λ n. Agrees (view_shape g) level.quotient.blocks.block_of (Bis (view_shape g) n)) (sym (first j h)) (agrees_moved (view_shape g) level.quotient.blocks.block_of block (Bis (view_shape g) 0) same a));
+          subst (λ (l : KeyedQuotient). Agrees (shape_of g) l.quotient.blocks.block_of (Bis (shape_of g) j)) (sym (here j h))
+          (subst (λ n. Agrees (shape_of g) level.quotient.blocks.block_of (Bis (shape_of g) n)) (sym (first j h)) (agrees_moved (shape_of g) level.quotient.blocks.block_of block (Bis (shape_of g) 0) same a));
       label_keys = subst (λ (l : KeyedQuotient). AreNumbered (label_number g) [] no_neighbours l.quotient.blocks.block_of (key_at l.keys)) (sym (here 0 (omega arith))) keyed;
       parent_keys = λ j h. absurd (omega (arith, h));
       top = subst (λ (l : KeyedQuotient). SameBlocks l.quotient.blocks.block_of block) (sym (here 0 (omega arith))) same;
@@ -75,16 +75,16 @@ built_lowest g level block labels keys levels a is w same fits keys_same one =
 
 -- the last level is one of bisimilarity
 pub built_top : (g : Graph) (i : ℕ) (levels : List KeyedQuotient) (block : List (Option ℕ)) (labels : List ℕ) → IsBuilt g i levels block labels
-    → Agrees (view_shape g) block (Bis (view_shape g) i)
-built_top g i levels block labels w = agrees_moved (view_shape g) block (blocks_at levels i) (Bis (view_shape g) i) (λ n. sym (w.top n)) (w.agrees i (omega arith))
+    → Agrees (shape_of g) block (Bis (shape_of g) i)
+built_top g i levels block labels w = agrees_moved (shape_of g) block (blocks_at levels i) (Bis (shape_of g) i) (λ n. sym (w.top n)) (w.agrees i (omega arith))
 
-pub built_above : (g : Graph) (i : ℕ) (levels more : List KeyedQuotient) (level : KeyedQuotient) (block next : List (Option ℕ)) (labels found : List ℕ) (keys : List (List ℕ)) → IsShown g
+pub built_above : (g : Graph) (i : ℕ) (levels more : List KeyedQuotient) (level : KeyedQuotient) (block next : List (Option ℕ)) (labels found : List ℕ) (keys : List (List ℕ))
     → IsBuilt g i levels block labels
-    → ((j : ℕ) → Agrees (view_shape g) block (Bis (view_shape g) j) → Agrees (view_shape g) next (Bis (view_shape g) (suc j)))
+    → ((j : ℕ) → Agrees (shape_of g) block (Bis (shape_of g) j) → Agrees (shape_of g) next (Bis (shape_of g) (suc j)))
     → BlocksHaveLabels g next found → AreNumbered (at block) block (is_near Parents g) next (slice_get keys)
     → SameBlocks level.quotient.blocks.block_of next → ViewFits g (view_of level.quotient) → level.keys ≡ map Some keys → more ≡ levels ++ level ∷ [] → IsBuilt g (i + 1) more next found
-built_above g i levels more level block next labels found keys shown w up is numbered same fits keys_same added =
-    let s = view_shape g in
+built_above g i levels more level block next labels found keys w up is numbered same fits keys_same added =
+    let s = shape_of g in
     let count = w.count in
     let below : (j : ℕ) → j ≤ i → level_at more j ≡ level_at levels j =
     λ j h. ap (λ ls. level_at ls j) added ∙ get_or_append_left levels (level ∷ []) no_level j (omega (arith, h, count)) in
@@ -92,11 +92,9 @@ built_above g i levels more level block next labels found keys shown w up is num
     λ j h. ap (λ ls. level_at ls j) added ∙ get_or_push levels level no_level j (omega (arith, h, count)) in
     let a_top : Agrees s next (Bis s (suc i)) = up i (built_top g i levels block labels w) in
     let a_next : Agrees s level.quotient.blocks.block_of (Bis s (suc i)) = agrees_moved s level.quotient.blocks.block_of next (Bis s (suc i)) same a_top in
-    let near : AreNumbered (at block) block (has_edge g) next (slice_get keys) =
-    subst (λ e. AreNumbered (at block) block e next (slice_get keys)) (ap (λ (x : Shape). x.edge) shown) numbered in
     let keyed : AreNumbered (at (blocks_at levels i)) (blocks_at levels i) (has_edge g) level.quotient.blocks.block_of (key_at level.keys) =
     numbered_moved (at block) (at (blocks_at levels i)) block (blocks_at levels i) (has_edge g) next level.quotient.blocks.block_of (slice_get keys) (key_at level.keys) w.top w.top same
-    (kept_at level.keys keys keys_same) near in
+    (kept_at level.keys keys keys_same) numbered in
     record {
       count = ap length added ∙ length-append levels (level ∷ []) ∙ ap (λ n. n + 1) count;
       fits = λ j h. elim (cases_lt i j) [
@@ -129,8 +127,3 @@ built_above g i levels more level block next labels found keys shown w up is num
       top = subst (λ (l : KeyedQuotient). SameBlocks l.quotient.blocks.block_of next) (sym (last (i + 1) refl)) same;
       labelled = is;
     }
-
-pub built_agrees : (g : Graph) (i k : ℕ) (levels : List KeyedQuotient) (block : List (Option ℕ)) (labels : List ℕ) → IsShown g → IsBuilt g i levels block labels → k ≤ i
-    → (j : ℕ) → j ≤ k → Agrees (shape_of g) (blocks_at levels j) (Bis (shape_of g) j)
-built_agrees g i k levels block labels shown w few j h =
-    subst (λ (s : Shape). Agrees s (blocks_at levels j) (Bis s j)) shown (w.agrees j (omega (arith, few, h)))

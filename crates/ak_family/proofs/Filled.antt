@@ -4,20 +4,18 @@ use Rattle.std.specs.Prelude.{option_and_then}
 use Rattle.std.proofs.lemmas.Bool.{cases_Bool, cases_lt, lt-ltb, le-ltb}
 use Rattle.std.proofs.lemmas.Bool.Decides.{Decides-eqb}
 use Rattle.std.proofs.lemmas.Option.{slice_get_within, slice_get_past, slice_get_cases}
-use Rattle.px_spec.specs.Graphs.{Graph}
+use Rattle.px_spec.specs.Graphs.{Graph, IsGraph, label_of}
 use Rattle.px_spec.specs.Shapes.{Shape, shape_of}
-use Rattle.label_graph.specs.Views.{label_number}
+use Rattle.label_graph.proofs.Viewed.{viewed_shape}
 use Rattle.px_spec.specs.Members.{at}
 use Rattle.block_partition.specs.Partitions.{Partition}
 use Rattle.bisim_spec.specs.Partitions.{IsPartition, Agrees}
 use Rattle.bisim_spec.specs.Views.{ViewFits}
 use Rattle.bisim_spec.proofs.Bisimilar.{some_of, is_some_at}
-use Rattle.bisim_levels.specs.Sides.{view_shape}
-use Rattle.quotient.specs.Quotients.{AreCounted, Quotient, view_of}
+use Rattle.quotient.specs.Quotients.{AreSupports, Quotient, view_of}
 use Rattle.key_table.specs.Interning.{AreDistinct}
 use Rattle.ak_family.specs.Families.{key_at, AreKeyed}
 use Rattle.ak_family.specs.Layers.{BlocksHaveLabels, HaveLabels, SameBlocks}
-use Rattle.ak_family.proofs.Labelled.{number_of_node}
 
 pub partition_moved : (s : Shape) (xs ys : List (Option ℕ)) → SameBlocks xs ys → IsPartition s ys → IsPartition s xs
 partition_moved s xs ys same p = record {
@@ -51,24 +49,21 @@ filled_keyed p labels keys have count distinct = record {
   apart = λ b c key e f. distinct.apart b c key (sym (shown_at keys b) ∙ e) (sym (shown_at keys c) ∙ f);
 }
 
--- a view shows the graph itself
-abbrev pub IsShown : Graph → Type 0
-IsShown g = view_shape g ≡ shape_of g
-
-pub filled_fits : (g : Graph) (block : List (Option ℕ)) (labels : List ℕ) (q : Quotient) → IsShown g → IsPartition (view_shape g) block → BlocksHaveLabels g block labels
+-- the quotient is one of the graph
+pub filled_fits : (g : Graph) (block : List (Option ℕ)) (labels : List ℕ) (q : Quotient) → IsGraph g → IsPartition (shape_of g) block → BlocksHaveLabels g block labels
     → ((b : ℕ) → b < length labels → (n : ℕ) × (at block n ≡ Some b)) → SameBlocks q.blocks.block_of block → HaveLabels q.blocks labels
-    → AreCounted g.edges q.blocks.block_of q.supports → ViewFits g (view_of q)
-filled_fits g block labels q shown p is inhabited same have counted = record {
+    → AreSupports g.edges q.blocks.block_of q.supports → ViewFits g (view_of q)
+filled_fits g block labels q s p is inhabited same have counted = record {
   inhabited = λ b h.
       let l = some_of (slice_get labels b) (sym (ap is_some (have b)) ∙ h) in
       let n = inhabited b (slice_get_within labels b l.0 l.1) in
       (n.0, same n.0 ∙ n.1);
   labelled = λ n b e.
       let here : at block n ≡ Some b = sym (same n) ∙ e in
-      let node = p.only n (is_some_at (at block n) b here) in
-      let l = some_of (label_number g n) (number_of_node g n node) in
-      let t = some_of ((view_shape g).label n) node in
-      (l.0, t.0, have b ∙ is n b here ∙ l.1, sym (ap (option_and_then (λ x. slice_get g.seen x)) l.1) ∙ t.1, sym (ap (λ (s : Shape). s.label n) shown) ∙ t.1);
+      let l = is n b here in
+      let t = some_of (label_of g n) (p.only n (is_some_at (at block n) b here)) in
+      let seen : slice_get g.seen l.0 ≡ label_of g n = sym (ap (option_and_then (slice_get g.seen)) l.2) ∙ ap (λ (x : Shape). x.label n) (viewed_shape g s) in
+      (l.0, t.0, have b ∙ l.1, seen ∙ t.1, t.1);
   supports = counted;
 }
 

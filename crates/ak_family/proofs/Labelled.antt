@@ -1,15 +1,12 @@
 -- The labels of blocks, which their members have.
-use Rattle.std.proofs.Common.{◌≡◌, ℕ, zero, suc, ◌+◌, ◌<◌, ◌≤◌, List, [], ◌∷◌, ◌++◌, length, Option, Some, None, IsSome, is_some, refl, sym, ◌∙◌, ap, subst, inl, inr, Bool, slice_get, arith}
-use Rattle.std.specs.Prelude.{option_and_then}
+use Rattle.std.proofs.Common.{◌≡◌, ℕ, zero, suc, ◌+◌, ◌<◌, ◌≤◌, List, [], ◌∷◌, ◌++◌, length, Option, Some, IsSome, is_some, refl, sym, ◌∙◌, ap, subst, inl, inr, Bool, slice_get, arith}
 use Rattle.std.proofs.lemmas.Bool.{cases_lt}
 use Rattle.std.proofs.lemmas.Option.{slice_get_within}
 use Rattle.px_spec.specs.Graphs.{Graph}
-use Rattle.px_spec.specs.Shapes.{IsNode}
 use Rattle.label_graph.specs.Views.{label_number}
 use Rattle.px_spec.specs.Members.{at}
-use Rattle.bisim_spec.specs.Partitions.{IsPartition}
-use Rattle.bisim_spec.proofs.Bisimilar.{some_of, none_or_some, is_some_at}
-use Rattle.bisim_levels.specs.Sides.{view_shape, no_neighbours}
+use Rattle.bisim_spec.proofs.Bisimilar.{none_or_some, is_some_at}
+use Rattle.bisim_levels.specs.Sides.{no_neighbours}
 use Rattle.bisim_levels.specs.Keys.{IsKey}
 use Rattle.bisim_levels.specs.Refining.{AreNumbered, AreBlocksBelow}
 use Rattle.ak_family.specs.Layers.{BlocksHaveLabels}
@@ -25,14 +22,6 @@ get_here xs x j e = ap (slice_get (xs ++ x ∷ [])) e ∙ get_end xs x
     get_end : (ys : List ℕ) (y : ℕ) → slice_get (ys ++ y ∷ []) (length ys) ≡ Some y
     get_end [] y = refl
     get_end (z ∷ ys) y = get_end ys y
-
-some_first : {X Y : Type 0} (f : X → Option Y) (o : Option X) → IsSome (option_and_then f o) → IsSome o
-some_first f None h = h
-some_first f (Some x) h = refl
-
--- a node of the view has a label's number
-pub number_of_node : (g : Graph) (n : ℕ) → IsNode (view_shape g) n → IsSome (label_number g n)
-number_of_node g n h = some_first (λ l. slice_get g.seen l) (label_number g n) h
 
 -- the key of a block, which a member has
 pub record MemberKey (own : ℕ → Option ℕ) (base : List (Option ℕ)) (near : ℕ → ℕ → Bool) (key : ℕ → Option (List ℕ)) (m b : ℕ) : Type 0 where
@@ -68,18 +57,15 @@ abbrev pub AreFirst : List (List ℕ) → List ℕ → Type 0
 AreFirst keys own = (b : ℕ) (key : List ℕ) → slice_get keys b ≡ Some key → slice_get own b ≡ slice_get key 0
 
 -- a block that a node has, has a label
-pub labelled_below : (g : Graph) (block : List (Option ℕ)) (labels : List ℕ) → IsPartition (view_shape g) block → BlocksHaveLabels g block labels
-    → (n b : ℕ) → at block n ≡ Some b → b < length labels
-labelled_below g block labels p is n b e =
-    let l = some_of (label_number g n) (number_of_node g n (p.only n (is_some_at (at block n) b e))) in
-    slice_get_within labels b l.0 (is n b e ∙ l.1)
+pub labelled_below : (g : Graph) (block : List (Option ℕ)) (labels : List ℕ) → BlocksHaveLabels g block labels → (n b : ℕ) → at block n ≡ Some b → b < length labels
+labelled_below g block labels is n b e = let l = is n b e in slice_get_within labels b l.0 l.1
 
 -- the first number of a key of the lowest level is its members' label
 pub labelled_lowest : (g : Graph) (next : List (Option ℕ)) (keys : List (List ℕ)) (labels : List ℕ) → AreNumbered (label_number g) [] no_neighbours next (slice_get keys) → AreFirst keys labels
     → BlocksHaveLabels g next labels
 labelled_lowest g next keys labels w first m b e =
     let k = member_key (label_number g) [] no_neighbours next (slice_get keys) w m b e in
-    first b k.numbers k.at ∙ key_first (label_number g) [] no_neighbours m k.numbers k.is ∙ sym k.is.own_is
+    (k.is.number, first b k.numbers k.at ∙ key_first (label_number g) [] no_neighbours m k.numbers k.is, k.is.own_is)
 
 -- above it, it is a block of the level below, in which the members are
 pub labelled_above : (g : Graph) (block : List (Option ℕ)) (labels : List ℕ) (near : ℕ → ℕ → Bool) (next : List (Option ℕ)) (keys : List (List ℕ)) (own found : List ℕ)
@@ -87,19 +73,20 @@ pub labelled_above : (g : Graph) (block : List (Option ℕ)) (labels : List ℕ)
     → ((b n : ℕ) → slice_get own b ≡ Some n → slice_get found b ≡ slice_get labels n) → BlocksHaveLabels g next found
 labelled_above g block labels near next keys own found is w first looked m b e =
     let k = member_key (at block) block near next (slice_get keys) w m b e in
-    looked b k.is.number (first b k.numbers k.at ∙ key_first (at block) block near m k.numbers k.is) ∙ is m k.is.number k.is.own_is
+    let l = is m k.is.number k.is.own_is in
+    (l.0, looked b k.is.number (first b k.numbers k.at ∙ key_first (at block) block near m k.numbers k.is) ∙ l.1, l.2)
 
 -- and that block has a label
 pub own_below : (g : Graph) (block : List (Option ℕ)) (labels : List ℕ) (near : ℕ → ℕ → Bool) (next : List (Option ℕ)) (keys : List (List ℕ)) (own : List ℕ)
-    → IsPartition (view_shape g) block → BlocksHaveLabels g block labels → AreNumbered (at block) block near next (slice_get keys) → AreBlocksBelow next (length keys) → AreFirst keys own
-    → length own ≡ length keys → (b n : ℕ) → slice_get own b ≡ Some n → n < length labels
-own_below g block labels near next keys own p is w blocks first count b n e =
+    → BlocksHaveLabels g block labels → AreNumbered (at block) block near next (slice_get keys) → AreBlocksBelow next (length keys) → AreFirst keys own → length own ≡ length keys
+    → (b n : ℕ) → slice_get own b ≡ Some n → n < length labels
+own_below g block labels near next keys own is w blocks first count b n e =
     let within = slice_get_within own b n e in
     let m = blocks.inhabited b (omega (arith, within, count)) in
     let k = member_key (at block) block near next (slice_get keys) w m.0 b m.1 in
     let there = first b k.numbers k.at ∙ key_first (at block) block near m.0 k.numbers k.is in
     let same : k.is.number ≡ n = cc in
-    subst (λ x. x < length labels) same (labelled_below g block labels p is m.0 k.is.number k.is.own_is)
+    subst (λ x. x < length labels) same (labelled_below g block labels is m.0 k.is.number k.is.own_is)
 
 -- one more key's first number
 pub first_more : (keys : List (List ℕ)) (own : List ℕ) (key : List ℕ) (b x : ℕ) → length own ≡ b

@@ -7,7 +7,7 @@ use Rattle.block_partition.specs.Partitions.{Partition}
 
 -- each block has a label, which is that of its members
 abbrev pub BlocksHaveLabels : Graph → List (Option ℕ) → List ℕ → Type 0
-BlocksHaveLabels g block labels = (n b : ℕ) → at block n ≡ Some b → slice_get labels b ≡ label_number g n
+BlocksHaveLabels g block labels = (n b : ℕ) → at block n ≡ Some b → (l : ℕ) × (slice_get labels b ≡ Some l) × (label_number g n ≡ Some l)
 
 -- the blocks of a partition have these labels
 abbrev pub HaveLabels : Partition → List ℕ → Type 0

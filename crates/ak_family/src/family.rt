@@ -53,8 +53,6 @@ impl AkFamily {
         ensures label_keys { IfOk result (AreLabelKeys view.now) }
         ensures parent_keys { IfOk result (λ f. (i : ℕ) → i < k → AreParentKeys view.now f i) }
     {
-        // It tells that the view shows the graph itself.
-        let _ = view.edge_count();
         let edges = EdgeList::of(alloc, view)?;
         let (mut layer, keys) = lowest(alloc, view)?;
         let mut levels = Vec::with_capacity(alloc, k as usize + 1)?;

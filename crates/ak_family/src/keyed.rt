@@ -1,8 +1,8 @@
 // The quotient by a level of bisimilarity, with the keys of its blocks.
 ghost use Rattle.std.specs.Prelude.{◌≡◌, ◌≤◌, ◌^◌, ◌↔◌, ℕ, Some, IfOk, IfSome, length, map};
+ghost use Rattle.px_spec.specs.Shapes.{shape_of};
 ghost use Rattle.bisim_spec.specs.Partitions.{IsPartition};
 ghost use Rattle.bisim_spec.specs.Views.{ViewFits};
-ghost use Rattle.bisim_levels.specs.Sides.{view_shape};
 ghost use Rattle.bisim_levels.specs.Refining.{AreBlocksBelow};
 ghost use Rattle.key_table.specs.Interning.{AreDistinct};
 ghost use Rattle.block_partition.specs.Partitions.{IsBlock};
@@ -51,8 +51,8 @@ impl KeyedSummary {
         layer: &Layer,
         keys: KeyTable,
     ) -> Result<KeyedSummary, Memory>
-        requires listed { AreListed view.now.edges (length view.now.given) edges.now }
-        requires partition { IsPartition (view_shape view.now) layer.now.block.items }
+        requires listed { AreListed view.now.edges edges.now }
+        requires partition { IsPartition (shape_of view.now) layer.now.block.items }
         requires labelled { BlocksHaveLabels view.now layer.now.block.items layer.now.labels.items }
         requires span { AreBlocksBelow layer.now.block.items (length keys) }
         requires distinct { AreDistinct keys }
@@ -62,10 +62,8 @@ impl KeyedSummary {
         ensures fits { IfOk result (λ s. ViewFits view.now (view_of s.quotient)) }
         ensures keys { IfOk result (λ s. s.keys ≡ map Some keys) }
     {
-        // It tells that the view shows the graph itself.
-        let _ = view.edge_count();
         let blocks = fill(alloc, view.created(), &layer.block, &layer.labels)?;
-        let summary = Summary::of_edges(alloc, blocks, view, edges)?;
+        let summary = Summary::of_edges(alloc, blocks, edges)?;
         Ok(KeyedSummary { summary, keys })
     }
 

@@ -6,7 +6,7 @@ ghost use Rattle.bisim_spec.specs.Bisimilarity.{Bis};
 ghost use Rattle.px_spec.specs.Members.{at};
 ghost use Rattle.bisim_spec.specs.Partitions.{Agrees, IsPartition};
 ghost use Rattle.bisim_levels.specs.declared.sides.Side.TheVariants.{Parents};
-ghost use Rattle.bisim_levels.specs.Sides.{view_shape, is_near, no_neighbours};
+ghost use Rattle.bisim_levels.specs.Sides.{is_near, no_neighbours};
 ghost use Rattle.bisim_levels.specs.Refining.{AreNumbered, AreBlocksBelow};
 ghost use Rattle.key_table.specs.Interning.{AreDistinct};
 ghost use Rattle.ak_family.specs.Layers.{BlocksHaveLabels};
@@ -29,7 +29,7 @@ pub(crate) struct Layer {
 
 /// Level 0, and the keys of its blocks.
 pub(crate) fn lowest(alloc: Global, view: &GraphView<'_>) -> Result<(Layer, KeyTable), Memory>
-    ensures agrees { IfOk result (λ l. Agrees (view_shape view.now) l.0.block.items (Bis (view_shape view.now) 0)) }
+    ensures agrees { IfOk result (λ l. Agrees (shape_of view.now) l.0.block.items (Bis (shape_of view.now) 0)) }
     ensures labelled { IfOk result (λ l. BlocksHaveLabels view.now l.0.block.items l.0.labels.items) }
     ensures numbered { IfOk result (λ l. AreNumbered (label_number view.now) [] no_neighbours l.0.block.items (slice_get l.1)) }
     ensures span { IfOk result (λ l. AreBlocksBelow l.0.block.items (length l.1)) }
@@ -52,9 +52,9 @@ pub(crate) fn above(
     view: &GraphView<'_>,
     layer: &Layer,
 ) -> Result<(Layer, KeyTable), Memory>
-    requires partition { IsPartition (view_shape view.now) layer.now.block.items }
+    requires partition { IsPartition (shape_of view.now) layer.now.block.items }
     requires labelled { BlocksHaveLabels view.now layer.now.block.items layer.now.labels.items }
-    ensures agrees { IfOk result (λ l. (i : ℕ) → Agrees (view_shape view.now) layer.now.block.items (Bis (view_shape view.now) i) → Agrees (view_shape view.now) l.0.block.items (Bis (view_shape view.now) (suc i))) }
+    ensures agrees { IfOk result (λ l. (i : ℕ) → Agrees (shape_of view.now) layer.now.block.items (Bis (shape_of view.now) i) → Agrees (shape_of view.now) l.0.block.items (Bis (shape_of view.now) (suc i))) }
     ensures labelled { IfOk result (λ l. BlocksHaveLabels view.now l.0.block.items l.0.labels.items) }
     ensures numbered { IfOk result (λ l. AreNumbered (at layer.now.block.items) layer.now.block.items (is_near Parents view.now) l.0.block.items (slice_get l.1)) }
     ensures span { IfOk result (λ l. AreBlocksBelow l.0.block.items (length l.1)) }

@@ -10,7 +10,7 @@ pub look_up-requires : goal.look_up-requires
 look_up-requires c =
     rw (c.deref-2.ensures.value, c.deref-3.ensures.value)
     (own_below c.args.view.now c.args.layer.now.block.items c.args.layer.now.labels.items (is_near Parents c.args.view.now) c.in_ok-level.level.block.items c.in_ok-level.level.keys c.in_ok-own.own.items
-    c.requires.partition c.requires.labelled (rw (← c.deref.ensures.value) c.in_ok-level.ensures.numbered) c.in_ok-level.ensures.span c.in_ok-own.ensures.first c.in_ok-own.ensures.count)
+    c.requires.labelled (rw (← c.deref.ensures.value) c.in_ok-level.ensures.numbered) c.in_ok-level.ensures.span c.in_ok-own.ensures.first c.in_ok-own.ensures.count)
 
 pub returns-clause-agrees : goal.returns-clause-agrees
 returns-clause-agrees c = rw (← c.deref.ensures.value) c.in_ok-level.ensures.agrees
