@@ -6,7 +6,7 @@ use Rattle.std.proofs.lemmas.Bool.Decides.{eqb_tells}
 use Rattle.std.proofs.lemmas.Map.Steps.{length-le_from_distinct_below}
 use Rattle.px_spec.specs.Members.{has, Lists, at, is_this}
 use Rattle.block_partition.specs.Chains.{chain}
-use Rattle.block_partition.specs.Soundness.{AreLinked, AreMirrored}
+use Rattle.block_partition.specs.Soundness.{AreMemberLists, AreMirrored}
 use Rattle.block_partition.proofs.Links.{none_or_some}
 use Rattle.block_partition.proofs.Mirrors.{within}
 
@@ -79,7 +79,7 @@ on_from next rank falls f None few y z h e = absurd (let in_nil : Has [] y = rw 
 on_from next rank falls f (Some x) few y z h e = chain_closed next rank falls f x (few x refl) y z h e
 
 -- each member of a block is reached from its first
-pub reached : (B N P F : ℕ → Option ℕ) (rank : ℕ → ℕ) (top b : ℕ) → AreLinked B N P F rank → ((n : ℕ) → rank n ≤ top) → (k n : ℕ) → top ≤ rank n + k → B n ≡ Some b → Has (chain N (top + 1) (F b)) n
+pub reached : (B N P F : ℕ → Option ℕ) (rank : ℕ → ℕ) (top b : ℕ) → AreMemberLists B N P F rank → ((n : ℕ) → rank n ≤ top) → (k n : ℕ) → top ≤ rank n + k → B n ≡ Some b → Has (chain N (top + 1) (F b)) n
 reached B N P F rank top b l bound zero n close e = elim (none_or_some (P n)) [
   | inl none ↦ rw (l.head n b e none) (chain_head N (top + 1) n (omega arith))
   | inr (p, some) ↦ absurd (let r = l.next_rank p n (l.prev_back n p some) in let t = bound p in omega arith)
@@ -94,7 +94,7 @@ reached B N P F rank top b l bound (suc k) n close e = elim (none_or_some (P n))
 ]
 
 -- what is in the chain of a block is of that block
-pub of_block : (B N P F : ℕ → Option ℕ) (rank : ℕ → ℕ) (f b n : ℕ) → AreLinked B N P F rank → Has (chain N f (F b)) n → B n ≡ Some b
+pub of_block : (B N P F : ℕ → Option ℕ) (rank : ℕ → ℕ) (f b n : ℕ) → AreMemberLists B N P F rank → Has (chain N f (F b)) n → B n ≡ Some b
 of_block B N P F rank f b n l h = chain_keeps N (λ m. B m ≡ Some b) (λ m q e same. l.next_block m q e ∙ same) f (F b) (λ x e. l.first_block b x e) n h
 
 is_this_is : (b : ℕ) (o : Option ℕ) → is_this b o ≡ true → o ≡ Some b

@@ -7,7 +7,7 @@ use Rattle.std.proofs.lemmas.List.Sums.{sum_by-set, sum_by-append, count_by-le-l
 use Rattle.std.proofs.lemmas.Bool.Decides.{eqb_tells}
 use Rattle.std.proofs.lemmas.Bool.{cases_lt}
 use Rattle.px_spec.specs.Members.{at, is_this}
-use Rattle.block_partition.specs.Soundness.{AreCounted}
+use Rattle.block_partition.specs.Soundness.{AreBlockCounts}
 use Rattle.block_partition.proofs.Links.{some_is}
 use Rattle.block_partition.proofs.Mirrors.{writes_set, within, at_grown}
 
@@ -38,7 +38,7 @@ count_out : (bl : List (Option ℕ)) (n b c : ℕ) → at bl n ≡ Some b
 count_out bl n b c has = let k = count_set (is_this c) bl n None (within bl n b has) in let y = rw has at k in omega (arith, y)
 
 -- a block with a member has a size above 0
-pub size_above : (bl lb : List (Option ℕ)) (sizes : List ℕ) (count n b : ℕ) → AreCounted bl lb sizes count → at bl n ≡ Some b → 0 < slice_index sizes b
+pub size_above : (bl lb : List (Option ℕ)) (sizes : List ℕ) (count n b : ℕ) → AreBlockCounts bl lb sizes count → at bl n ≡ Some b → 0 < slice_index sizes b
 size_above bl lb sizes count n b k has =
     let o = count_out bl n b b has in
     let one : bit (nat_eq b b) ≡ 1 = rw (this_here b) refl in
@@ -46,11 +46,11 @@ size_above bl lb sizes count n b k has =
     omega (arith, o, one, is)
 
 -- no block has more members than there are nodes
-pub size_within : (bl lb : List (Option ℕ)) (sizes : List ℕ) (count b : ℕ) → AreCounted bl lb sizes count → slice_index sizes b ≤ length bl
+pub size_within : (bl lb : List (Option ℕ)) (sizes : List ℕ) (count b : ℕ) → AreBlockCounts bl lb sizes count → slice_index sizes b ≤ length bl
 size_within bl lb sizes count b k = let is = k.sizes_are b in let l = count_by-le-length (is_this b) bl in omega (arith, is, l)
 
-pub counted_out : (bl lb : List (Option ℕ)) (sizes : List ℕ) (count n b : ℕ) → AreCounted bl lb sizes count → at bl n ≡ Some b → b < length sizes
-    → AreCounted (slice_set bl n None) lb (slice_set sizes b (slice_index sizes b - 1)) count
+pub counted_out : (bl lb : List (Option ℕ)) (sizes : List ℕ) (count n b : ℕ) → AreBlockCounts bl lb sizes count → at bl n ≡ Some b → b < length sizes
+    → AreBlockCounts (slice_set bl n None) lb (slice_set sizes b (slice_index sizes b - 1)) count
 counted_out bl lb sizes count n b k has in_sizes =
     let wb = writes_set bl n None (within bl n b has) in
     record {
@@ -72,8 +72,8 @@ counted_out bl lb sizes count n b k has in_sizes =
       count_is = k.count_is;
     }
 
-pub counted_in : (bl lb : List (Option ℕ)) (sizes : List ℕ) (count n b : ℕ) → AreCounted bl lb sizes count → at bl n ≡ None → n < length bl → IsSome (at lb b) → b < length sizes
-    → AreCounted (slice_set bl n (Some b)) lb (slice_set sizes b (slice_index sizes b + 1)) count
+pub counted_in : (bl lb : List (Option ℕ)) (sizes : List ℕ) (count n b : ℕ) → AreBlockCounts bl lb sizes count → at bl n ≡ None → n < length bl → IsSome (at lb b) → b < length sizes
+    → AreBlockCounts (slice_set bl n (Some b)) lb (slice_set sizes b (slice_index sizes b + 1)) count
 counted_in bl lb sizes count n b k none in_bl is_block in_sizes =
     let wb = writes_set bl n (Some b) in_bl in
     record {
@@ -117,7 +117,7 @@ nones_count b zero = refl
 nones_count b (suc k) = nones_count b k
 
 -- none behind the list
-pub counted_grown : (bl lb : List (Option ℕ)) (sizes : List ℕ) (count k : ℕ) → AreCounted bl lb sizes count → AreCounted (bl ++ replicate k None) lb sizes count
+pub counted_grown : (bl lb : List (Option ℕ)) (sizes : List ℕ) (count k : ℕ) → AreBlockCounts bl lb sizes count → AreBlockCounts (bl ++ replicate k None) lb sizes count
 counted_grown bl lb sizes count k s = record {
   live = λ n b e. s.live n b (sym (at_grown bl k n) ∙ e);
   sizes_are = λ b.
@@ -129,8 +129,8 @@ counted_grown bl lb sizes count k s = record {
 }
 
 -- a number that was free becomes a block
-pub counted_again : (bl lb : List (Option ℕ)) (sizes : List ℕ) (count b label : ℕ) → AreCounted bl lb sizes count → at lb b ≡ None → b < length lb
-    → AreCounted bl (slice_set lb b (Some label)) sizes (count + 1)
+pub counted_again : (bl lb : List (Option ℕ)) (sizes : List ℕ) (count b label : ℕ) → AreBlockCounts bl lb sizes count → at lb b ≡ None → b < length lb
+    → AreBlockCounts bl (slice_set lb b (Some label)) sizes (count + 1)
 counted_again bl lb sizes count b label k none h =
     let w = writes_set lb b (Some label) h in
     record {
@@ -140,8 +140,8 @@ counted_again bl lb sizes count b label k none h =
     }
 
 -- the next number becomes a block
-pub counted_next : (bl lb : List (Option ℕ)) (sizes : List ℕ) (count label : ℕ) → AreCounted bl lb sizes count → length sizes ≡ length lb
-    → AreCounted bl (lb ++ Some label ∷ []) (sizes ++ 0 ∷ []) (count + 1)
+pub counted_next : (bl lb : List (Option ℕ)) (sizes : List ℕ) (count label : ℕ) → AreBlockCounts bl lb sizes count → length sizes ≡ length lb
+    → AreBlockCounts bl (lb ++ Some label ∷ []) (sizes ++ 0 ∷ []) (count + 1)
 counted_next bl lb sizes count label k same = record {
   live = λ n c e. let is = k.live n c e in subst IsSome (sym (get_or_append_left lb (Some label ∷ []) None c (some_within lb c is))) is;
   sizes_are = λ b. zero_behind sizes b ∙ k.sizes_are b;
@@ -149,8 +149,8 @@ counted_next bl lb sizes count label k same = record {
 }
 
 -- a block without members is no block any more
-pub counted_retired : (bl lb : List (Option ℕ)) (sizes : List ℕ) (count b : ℕ) → AreCounted bl lb sizes count → IsSome (at lb b) → ((n : ℕ) → at bl n ≢ Some b)
-    → (0 < count) × AreCounted bl (slice_set lb b None) sizes (count - 1)
+pub counted_retired : (bl lb : List (Option ℕ)) (sizes : List ℕ) (count b : ℕ) → AreBlockCounts bl lb sizes count → IsSome (at lb b) → ((n : ℕ) → at bl n ≢ Some b)
+    → (0 < count) × AreBlockCounts bl (slice_set lb b None) sizes (count - 1)
 counted_retired bl lb sizes count b k is_block empty =
     let h = some_within lb b is_block in
     let w = writes_set lb b None h in

@@ -3,7 +3,7 @@ use Rattle.std.proofs.Common.{◌≡◌, ◌≢◌, ℕ, ◌+◌, ◌≤◌, ◌
 use Rattle.std.proofs.lemmas.Bool.Decides.{eqb_tells}
 use Rattle.std.specs.Prelude.{eqb}
 use Rattle.block_partition.specs.Tables.{head_where}
-use Rattle.block_partition.specs.Soundness.{AreLinked}
+use Rattle.block_partition.specs.Soundness.{AreMemberLists}
 
 -- one table is another with a value written at a place, where there is one
 pub record Writes (f g : ℕ → Option ℕ) (place : Option ℕ) (v : Option ℕ) : Type 0 where
@@ -37,10 +37,10 @@ head_cases B P F F' v n b has w c =
     ]
 
 -- a node is taken out of its list
-pub unlinked : (B N P F B' N1 N' P1 P' F' : ℕ → Option ℕ) (r : ℕ → ℕ) (n b : ℕ) → AreLinked B N P F r → B n ≡ Some b
+pub unlinked : (B N P F B' N1 N' P1 P' F' : ℕ → Option ℕ) (r : ℕ → ℕ) (n b : ℕ) → AreMemberLists B N P F r → B n ≡ Some b
     → Writes B B' (Some n) None → Writes N N1 (P n) (N n) → Writes N1 N' (Some n) None
     → Writes P P1 (N n) (P n) → Writes P1 P' (Some n) None → Writes F F' (head_where b (P n)) (N n)
-    → AreLinked B' N' P' F' r
+    → AreMemberLists B' N' P' F' r
 unlinked B N P F B' N1 N' P1 P' F' r n b k has wb wn1 wn wp1 wp wf =
     let not_next : N n ≡ Some n → ⊥ = λ e. let h = k.next_rank n n e in omega arith in
     let not_prev : P n ≡ Some n → ⊥ = λ e. not_next (k.prev_back n n e) in
@@ -85,9 +85,9 @@ rank_bound r n o top h k = elim (eqb_tells k n) [
 ]
 
 -- a node that has no block is put before the first member of a block
-pub linked : (B N P F B' N' P' F' : ℕ → Option ℕ) (r : ℕ → ℕ) (n b : ℕ) → AreLinked B N P F r → B n ≡ None
+pub linked : (B N P F B' N' P' F' : ℕ → Option ℕ) (r : ℕ → ℕ) (n b : ℕ) → AreMemberLists B N P F r → B n ≡ None
     → Writes B B' (Some n) (Some b) → Writes N N' (Some n) (F b) → Writes P P' (F b) (Some n) → Writes F F' (Some b) (Some n)
-    → AreLinked B' N' P' F' (rank_with r n (above r (F b)))
+    → AreMemberLists B' N' P' F' (rank_with r n (above r (F b)))
 linked B N P F B' N' P' F' r n b k none wb wn wp wf = record {
   next_back = λ m q e. grind (arith, some_is (Some n) m, some_is (F b) q, wn.here, wn.there, wp.here, wp.there, k.next_back, k.first_prev);
   next_block = λ m q e. grind (arith, some_is (Some n) m, some_is (Some n) q, wb.here, wb.there, wn.here, wn.there, k.next_block, k.first_block, k.next_back, k.free_prev);

@@ -4,7 +4,7 @@ use Rattle.std.specs.List.{count_by}
 use Rattle.px_spec.specs.Members.{at, is_this}
 
 -- for how many more numbers past the end of the list, and for how many more blocks, there is room
-pub record Room : Type 0 where
+pub record TableRoom : Type 0 where
   pub nodes : ℕ
   pub blocks : ℕ
 
@@ -13,7 +13,7 @@ pub record Partition : Type 0 where
   pub block_of : List (Option ℕ)
   -- for each number the label of that block, or none where the number is no block
   pub labels : List (Option ℕ)
-  pub room : Room
+  pub room : TableRoom
 
 abbrev pub IsBlock : Partition → ℕ → Type 0
 IsBlock p b = IsSome (at p.labels b)

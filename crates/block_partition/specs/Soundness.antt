@@ -6,7 +6,7 @@ use Rattle.block_partition.specs.Tables.{Table, Heap}
 
 -- The members of a block form a doubly linked list: the block of a node, the next member and the one before it, and the
 -- first member of a block. Ranks fall along each list, so none runs in a ring
-pub record AreLinked (block next prev first : ℕ → Option ℕ) (rank : ℕ → ℕ) : Type 0 where
+pub record AreMemberLists (block next prev first : ℕ → Option ℕ) (rank : ℕ → ℕ) : Type 0 where
   pub next_back : (n q : ℕ) → next n ≡ Some q → prev q ≡ Some n
   pub next_block : (n q : ℕ) → next n ≡ Some q → block q ≡ block n
   pub next_rank : (n q : ℕ) → next n ≡ Some q → rank q < rank n
@@ -24,10 +24,10 @@ pub record AreMirrored (block next prev first : List (Option ℕ)) : Type 0 wher
   pub rank : ℕ → ℕ
   pub top : ℕ
   pub below_top : (n : ℕ) → rank n ≤ top
-  pub links : AreLinked (at block) (at next) (at prev) (at first) rank
+  pub links : AreMemberLists (at block) (at next) (at prev) (at first) rank
 
 -- nodes are in blocks, and the counts are right
-pub record AreCounted (block labels : List (Option ℕ)) (sizes : List ℕ) (count : ℕ) : Type 0 where
+pub record AreBlockCounts (block labels : List (Option ℕ)) (sizes : List ℕ) (count : ℕ) : Type 0 where
   pub live : (n b : ℕ) → at block n ≡ Some b → IsSome (at labels b)
   pub sizes_are : (b : ℕ) → slice_index sizes b ≡ count_by (is_this b) block
   pub count_is : count ≡ count_by is_some labels
@@ -62,7 +62,7 @@ pub record BlocksFit (count first labels sizes freed more : ℕ) : Type 0 where
 pub record IsSoundPartition (block next prev first : Table) (labels : List (Option ℕ)) (labels_capacity : ℕ) (sizes : List ℕ)
     (sizes_capacity : ℕ) (freed : Heap) (count node_room block_room : ℕ) : Type 0 where
   pub mirrored : AreMirrored block.places next.places prev.places first.places
-  pub counted : AreCounted block.places labels sizes count
+  pub counted : AreBlockCounts block.places labels sizes count
   pub tables : AreTables first.places labels sizes freed
   pub nodes_fit : NodesFit block next prev node_room
   pub blocks_fit : BlocksFit count first.capacity labels_capacity sizes_capacity freed.capacity block_room

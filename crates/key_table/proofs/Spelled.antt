@@ -6,7 +6,7 @@ use Rattle.std.proofs.Math.Seq.{get_or-append_seam, drop-append_seam, take-lengt
 use Rattle.key_table.specs.declared.entries.Entry.{Entry}
 use Rattle.key_table.specs.Hashes.{hash_of}
 use Rattle.key_table.specs.Entries.{nothing, entry_at, key_in, keys_of, AreSpelled, SameEntries}
-use Rattle.key_table.specs.Chains.{head_at, bucket_of, AreLinked, IsTable}
+use Rattle.key_table.specs.Chains.{head_at, bucket_of, AreChained, IsTable}
 use Rattle.key_table.specs.Interning.{IsAbsent, AreDistinct}
 use Rattle.key_table.proofs.Linked.{linked_step, linked_same}
 
@@ -155,7 +155,7 @@ spelled_pushed arena key es e k none f t q few short =
       ];
     }
 
-pub linked_pushed : (es : List Entry) (heads : List ℕ) (e : Entry) → AreLinked (length es) es heads → AreLinked (length es) (es ++ e ∷ []) heads
+pub linked_pushed : (es : List Entry) (heads : List ℕ) (e : Entry) → AreChained (length es) es heads → AreChained (length es) (es ++ e ∷ []) heads
 linked_pushed es heads e k =
     linked_same (length es) (λ i. bucket_of heads (entry_at es i).hash) _ (λ i. (entry_at es i).next) _ (head_at heads) k
     (λ i h. ap (λ (x : Entry). bucket_of heads x.hash) (get_or_append_left es (e ∷ []) nothing i h))
@@ -173,7 +173,7 @@ same_linked es n e h f t q = record {
   hash = λ i. elim (test i n) [ inl s ↦ rw s (ap (λ (x : Entry). x.hash) (get_or-set_same es n e nothing h) ∙ q) | inr d ↦ ap (λ (x : Entry). x.hash) (get_or-set_other es n i e nothing d) ];
 }
 
-pub link_up : (es : List Entry) (heads : List ℕ) (n : ℕ) (e : Entry) (b : ℕ) → AreLinked n es heads → SameEntries es (slice_set es n e) → n < length es → b ≡ bucket_of heads (entry_at es n).hash → b < length heads → e.next ≡ head_at heads b → AreLinked (n + 1) (slice_set es n e) (slice_set heads b (n + 1))
+pub link_up : (es : List Entry) (heads : List ℕ) (n : ℕ) (e : Entry) (b : ℕ) → AreChained n es heads → SameEntries es (slice_set es n e) → n < length es → b ≡ bucket_of heads (entry_at es n).hash → b < length heads → e.next ≡ head_at heads b → AreChained (n + 1) (slice_set es n e) (slice_set heads b (n + 1))
 link_up es heads n e b k same h is within next =
     let l = length-set heads b (n + 1) in
     linked_step n (λ i. bucket_of heads (entry_at es i).hash) (λ i. bucket_of (slice_set heads b (n + 1)) (entry_at (slice_set es n e) i).hash) (λ i. (entry_at es i).next) (λ i. (entry_at (slice_set es n e) i).next) (head_at heads) (head_at (slice_set heads b (n + 1))) k
@@ -187,10 +187,10 @@ link_up es heads n e b k same h is within next =
       there = λ m d. get_or-set_other heads b m (n + 1) 0 (rw is d);
     })
 
-pub table_same : (arena : List ℕ) (old new : List Entry) (heads : List ℕ) → AreSpelled arena old → SameEntries old new → AreLinked (length new) new heads → 0 < length heads → IsTable arena new heads
+pub table_same : (arena : List ℕ) (old new : List Entry) (heads : List ℕ) → AreSpelled arena old → SameEntries old new → AreChained (length new) new heads → 0 < length heads → IsTable arena new heads
 table_same arena old new heads k s l some = record { spelled = spelled_same arena old new s k; linked = l; some = some }
 
-pub added_table : (arena key : List ℕ) (es new : List Entry) (heads heads2 : List ℕ) (e : Entry) → IsTable arena es heads → IsAbsent (keys_of arena es) key → e.from ≡ length arena → e.to ≡ length arena + length key → e.hash ≡ hash_of key → length es + 1 < 2 ^ 31 → length arena + length key < 2 ^ 32 → SameEntries (es ++ e ∷ []) new → AreLinked (length es + 1) new heads2 → 0 < length heads2 → IsTable (arena ++ key) new heads2
+pub added_table : (arena key : List ℕ) (es new : List Entry) (heads heads2 : List ℕ) (e : Entry) → IsTable arena es heads → IsAbsent (keys_of arena es) key → e.from ≡ length arena → e.to ≡ length arena + length key → e.hash ≡ hash_of key → length es + 1 < 2 ^ 31 → length arena + length key < 2 ^ 32 → SameEntries (es ++ e ∷ []) new → AreChained (length es + 1) new heads2 → 0 < length heads2 → IsTable (arena ++ key) new heads2
 added_table arena key es new heads heads2 e t none f g q few short s l some =
     let n : length new ≡ length es + 1 = s.length_kept ∙ length-append es (e ∷ []) in
     table_same (arena ++ key) (es ++ e ∷ []) new heads2 (spelled_pushed arena key es e t.spelled none f g q few short) s (rw n l) some

@@ -21,11 +21,11 @@ pub record IsLinked (n : ℕ) (bucket next head : ℕ → ℕ) : Type 0 where
   pub next_below : (i : ℕ) → i < n → next i ≤ i
   pub next_is : (i : ℕ) → i < n → 0 < next i → bucket (next i - 1) ≡ bucket i
 
-abbrev pub AreLinked : ℕ → List Entry → List ℕ → Type 0
-AreLinked n entries heads = IsLinked n (λ i. bucket_of heads (entry_at entries i).hash) (λ i. (entry_at entries i).next) (head_at heads)
+abbrev pub AreChained : ℕ → List Entry → List ℕ → Type 0
+AreChained n entries heads = IsLinked n (λ i. bucket_of heads (entry_at entries i).hash) (λ i. (entry_at entries i).next) (head_at heads)
 
 -- what every table keeps
 pub record IsTable (arena : List ℕ) (entries : List Entry) (heads : List ℕ) : Type 0 where
   pub spelled : AreSpelled arena entries
-  pub linked : AreLinked (length entries) entries heads
+  pub linked : AreChained (length entries) entries heads
   pub some : 0 < length heads

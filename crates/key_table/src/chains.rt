@@ -2,7 +2,7 @@
 ghost use Rattle.std.specs.Prelude.{◌≡◌, ℕ, ◌+◌, ◌^◌, ◌<◌, length, slice_get, slice_set, Some, IfSome, IfNone};
 ghost use Rattle.key_table.specs.Hashes.{hash_of};
 ghost use Rattle.key_table.specs.Entries.{keys_of, SameEntries};
-ghost use Rattle.key_table.specs.Chains.{head_at, bucket_of, AreLinked, IsTable};
+ghost use Rattle.key_table.specs.Chains.{head_at, bucket_of, AreChained, IsTable};
 ghost use Rattle.key_table.specs.Interning.{IsAbsent};
 
 use crate::entries::{Entry, is_key, read_entry, set_entry};
@@ -61,12 +61,12 @@ pub(crate) fn search(
 // Puts entry n in front of its chain.
 #[inline(always)]
 pub(crate) fn link(entries: &mut Vec<Entry>, heads: &mut Vec<u32>, n: usize)
-    requires linked { AreLinked n entries.old.items heads.old.items }
+    requires linked { AreChained n entries.old.items heads.old.items }
     requires within { n < length entries.old.items }
     requires few { length entries.old.items < 2 ^ 31 }
     requires some { 0 < length heads.old.items }
     ensures same { SameEntries entries.old.items entries.new.items }
-    ensures linked { AreLinked (n + 1) entries.new.items heads.new.items }
+    ensures linked { AreChained (n + 1) entries.new.items heads.new.items }
     ensures some { 0 < length heads.new.items }
 {
     let e = read_entry(entries, n);
@@ -78,11 +78,11 @@ pub(crate) fn link(entries: &mut Vec<Entry>, heads: &mut Vec<u32>, n: usize)
 
 // Makes twice as many buckets where there are no more of them than entries.
 pub(crate) fn make_room(entries: &mut Vec<Entry>, heads: &mut Vec<u32>) -> Result<(), Memory>
-    requires linked { AreLinked (length entries.old.items) entries.old.items heads.old.items }
+    requires linked { AreChained (length entries.old.items) entries.old.items heads.old.items }
     requires few { length entries.old.items < 2 ^ 31 }
     requires some { 0 < length heads.old.items }
     ensures same { SameEntries entries.old.items entries.new.items }
-    ensures linked { AreLinked (length entries.new.items) entries.new.items heads.new.items }
+    ensures linked { AreChained (length entries.new.items) entries.new.items heads.new.items }
     ensures some { 0 < length heads.new.items }
 {
     let size = heads.len();
@@ -102,7 +102,7 @@ fn relink(entries: &mut Vec<Entry>, heads: &mut Vec<u32>)
     requires few { length entries.old.items < 2 ^ 31 }
     requires some { 0 < length heads.old.items }
     ensures same { SameEntries entries.old.items entries.new.items }
-    ensures linked { AreLinked (length entries.new.items) entries.new.items heads.new.items }
+    ensures linked { AreChained (length entries.new.items) entries.new.items heads.new.items }
     ensures some { 0 < length heads.new.items }
 {
     for n in 0..entries.len() {
