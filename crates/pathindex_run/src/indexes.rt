@@ -29,8 +29,6 @@ fn counted_family<L: Ledger>(
     ensures { IfOk result (λ f. AreLevelsOf graph.now.graph k f) }
 {
     let mut steps = Steps::<L>::new(blank);
-    // The labels tell that the graph is a shape.
-    let _ = graph.labels();
     let view = graph.view(&mut steps);
     AkFamily::build(alloc, &view, k)
 }
