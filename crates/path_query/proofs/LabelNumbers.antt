@@ -46,11 +46,11 @@ text_is t texts k e =
     let p = position-Some (bytes_eq t) texts k t e in
     slice_get-get_or texts k t p.0 ∙ ap Some (sym ((bytes_eq-Decides t (get_or texts k t)).0 p.1))
 
-same_number : (t : List ℕ) (texts : List (List ℕ)) (label at : Option ℕ) → label ≡ position (bytes_eq t) texts
+same_text : (t : List ℕ) (texts : List (List ℕ)) (label at : Option ℕ) → label ≡ position (bytes_eq t) texts
     → IsTrue (same_number label at) → option_and_then (λ l. slice_get texts l) at ≡ Some t
-same_number t texts None at e h = absurd (true≢false (sym h))
-same_number t texts (Some l) None e h = absurd (true≢false (sym h))
-same_number t texts (Some l) (Some m) e h = ap (λ n. slice_get texts n) (eqb-true m l h) ∙ text_is t texts l (sym e)
+same_text t texts None at e h = absurd (true≢false (sym h))
+same_text t texts (Some l) None e h = absurd (true≢false (sym h))
+same_text t texts (Some l) (Some m) e h = ap (λ n. slice_get texts n) (eqb-true m l h) ∙ text_is t texts l (sym e)
 
 number_same : (t : List ℕ) (texts : List (List ℕ)) (label at : Option ℕ) → label ≡ position (bytes_eq t) texts → IsDistinct bytes_eq texts
     → option_and_then (λ l. slice_get texts l) at ≡ Some t → IsTrue (same_number label at)
@@ -67,4 +67,4 @@ pub record Names (texts : List (List ℕ)) (label : Option ℕ) (t : List ℕ) :
   pub to_number : (at : Option ℕ) → option_and_then (λ l. slice_get texts l) at ≡ Some t → IsTrue (same_number label at)
 
 pub names : (texts : List (List ℕ)) (label : Option ℕ) (t : List ℕ) → label ≡ position (bytes_eq t) texts → IsDistinct bytes_eq texts → Names texts label t
-names texts label t e d = record { to_text = λ at h. same_number t texts label at e h; to_number = λ at h. number_same t texts label at e d h }
+names texts label t e d = record { to_text = λ at h. same_text t texts label at e h; to_number = λ at h. number_same t texts label at e d h }

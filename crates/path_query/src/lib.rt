@@ -9,7 +9,7 @@ mod words;
 pub use answers::eval;
 pub use expr::{ExprError, PathExpr};
 pub use labels::read_label;
-pub use words::{skip_blanks, split_word};
+pub use words::{skip_blanks, split_word, trim_end_blanks};
 
 #[cfg(test)]
 mod tests;

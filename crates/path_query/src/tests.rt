@@ -97,6 +97,8 @@ fn words_are_split(rt: HostRuntime) {
     let (word, rest) = split_word(skip_blanks(b" \tnode a \n"));
     assert_eq!(rt; (word, rest), (b"node".as_slice(), b" a \n".as_slice()));
     assert!(rt; skip_blanks(b" \t").is_empty());
+    assert_eq!(rt; trim_end_blanks(b" a b \t"), b" a b".as_slice());
+    assert!(rt; trim_end_blanks(b" \t").is_empty());
 }
 
 fn add_node(rt: &impl Abort, alloc: Global, graph: &mut Graph, label: &str) -> Result<(), Fail> {

@@ -1,6 +1,6 @@
 // Blanks, and the words between them.
-ghost use Rattle.std.specs.Prelude.{◌≡◌, ◌≤◌, length, take, drop};
-ghost use Rattle.std.specs.List.{position_or_len, prefix_len};
+ghost use Rattle.std.specs.Prelude.{◌≡◌, ◌≤◌, ◌-◌, length, take, drop};
+ghost use Rattle.std.specs.List.{position_or_len, prefix_len, suffix_len};
 ghost use Rattle.px_spec.specs.Words.{is_blank};
 
 fn is_blank(byte: u8) -> bool
@@ -17,6 +17,18 @@ fn blanks_len(bytes: &[u8]) -> usize
     bytes.iter().take_while(|byte| is_blank(**byte)).count()
 }
 
+/// How many blanks stand behind the last other byte.
+fn end_blanks_len(bytes: &[u8]) -> usize
+    ensures count { result ≡ suffix_len is_blank bytes.now }
+    ensures within { result ≤ length bytes.now }
+{
+    bytes
+        .iter()
+        .rev()
+        .take_while(|byte| is_blank(**byte))
+        .count()
+}
+
 /// How many bytes stand before the first blank.
 fn word_len(bytes: &[u8]) -> usize
     ensures place { result ≡ position_or_len is_blank bytes.now }
@@ -30,6 +42,13 @@ pub fn skip_blanks(bytes: &[u8]) -> &[u8]
     ensures { result.now ≡ drop (prefix_len is_blank bytes.now) bytes.now }
 {
     &bytes[blanks_len(bytes)..]
+}
+
+/// The bytes up to the last that is no blank.
+pub fn trim_end_blanks(bytes: &[u8]) -> &[u8]
+    ensures { result.now ≡ take (length bytes.now - suffix_len is_blank bytes.now) bytes.now }
+{
+    &bytes[..bytes.len() - end_blanks_len(bytes)]
 }
 
 /// The bytes before the first blank, and from it on.
