@@ -8,7 +8,7 @@ use Rattle.px_spec.specs.Words.{node_word}
 use Rattle.index_api.specs.declared.kinds.Via.{Via}
 use Rattle.index_api.specs.declared.kinds.Via.TheVariants.{Data, A, One, Fb}
 use Rattle.index_api.specs.Spelling.{via_word}
-use Rattle.script_read.specs.Parts.{first_word, behind_word}
+use Rattle.script_read.specs.Parts.{first_word, expression_text}
 use Rattle.script_read.specs.Commands.{Command, change, path, extents, sizes, IsIndex, IsQuiet, IsSpelled, SpellsPair, SpellsNothing, SpellsOnce, LabelsOnce, PathsOnce}
 use Rattle.script_read.specs.Saying.{SaysNode, SaysPath}
 use Rattle.script_read.proofs.WordLemmas.{head_word, is_split}
@@ -43,10 +43,10 @@ via_one Data w h k e = absurd h
 via_one v Data h k e = absurd k
 via_one v w h k e = absurd (let first = ap (λ l. slice_index l 0) e in omega (arith, first))
 
--- the word behind `node`, where there is one, spells at most one label, and what follows `path data` at most one expression
+-- the word behind `node`, where there is one, spells at most one label, and the expression behind `path data` at most one tree
 record PartsOnce (line : List ℕ) : Type 0 where
   label : (word : List ℕ) → SaysNode line word → LabelsOnce word
-  expression : first_word line ≡ codes "path" → PathsOnce (behind_word (behind_word line))
+  expression : first_word line ≡ codes "path" → PathsOnce (expression_text line)
 
 command_one : (line : List ℕ) → PartsOnce line → (c d : Command) → IsSpelled line c → IsSpelled line d → c ≡ d
 command_one line o (change (node t)) (change (node u)) h k =

@@ -10,7 +10,7 @@ use Rattle.path_query.proofs.Examples.{plain_a, iri_a, iri_escaped, no_label_and
 use Rattle.index_api.specs.declared.kinds.Via.{Via}
 use Rattle.index_api.specs.declared.kinds.Via.TheVariants.{Data, A, One, Fb}
 use Rattle.script_read.specs.Commands.{Command, change, path, extents, sizes, IsQuiet, IsSpelled, SpellsNothing}
-use Rattle.script_read.specs.Parts.{behind_word}
+use Rattle.script_read.specs.Parts.{expression_text}
 use Rattle.script_read.proofs.CommandLemmas.{asks_data}
 
 -- blanks may stand at both ends and between the words
@@ -89,10 +89,9 @@ blank_quiet = tt
 comment_quiet : IsQuiet (codes "  # node a")
 comment_quiet = refl
 
--- what stands behind the first two words of a query
 -- an expression is asked of the graph itself; through an index no line asks yet
-path_spelled : IsSpelled (codes "path data a") (path Data (path_of (codes "a") []))
-path_spelled = (refl, refl, (codes " a", [], (codes " ", codes "a", [], refl, inl (plain_a, refl), refl, refl), refl, refl))
+path_spelled : IsSpelled (codes "path data  a\t") (path Data (path_of (codes "a") []))
+path_spelled = (refl, refl, (codes "a", [], ([], codes "a", [], refl, inl (plain_a, refl), refl, refl), refl, refl))
 
 no_index : (via : Via) (e : Seq) → ¬ IsSpelled (codes "path one a") (path via e)
 no_index via e h = (let d = (asks_data (codes "path one a") via e h).1.1 in omega (arith, ap (λ l. slice_index l 0) d))
@@ -128,8 +127,13 @@ sizes_spelled = refl
 no_word_behind_sizes : ¬ IsSpelled (codes "sizes x") sizes
 no_word_behind_sizes h = omega (arith, ap length h)
 
-text_of_query : behind_word (behind_word (codes "path data a / b ")) ≡ codes " a / b "
+-- the text of an expression has no blanks at its ends, and all those that stand within it
+text_of_query : expression_text (codes " path\tdata  a / b\t ") ≡ codes "a / b"
 text_of_query = refl
+
+-- blanks alone are no expression
+no_text : expression_text (codes "path data \t ") ≡ []
+no_text = refl
 
 -- a word of the query languages is no label, so the line is no command
 bad_label : SpellsNothing (codes "node and")

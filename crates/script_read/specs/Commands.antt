@@ -8,7 +8,7 @@ use Rattle.path_query.specs.Spelling.{Spells}
 use Rattle.index_api.specs.declared.kinds.Via.{Via}
 use Rattle.index_api.specs.declared.kinds.Via.TheVariants.{Data, A, One, Fb}
 use Rattle.index_api.specs.Spelling.{via_word}
-use Rattle.script_read.specs.Parts.{first_word, behind_word}
+use Rattle.script_read.specs.Parts.{first_word, behind_word, expression_text}
 
 pub data Command : Type 0 where
   -- a change of the graph
@@ -40,10 +40,11 @@ SpellsChange line (link u v) = SpellsPair line (codes "link") u v
 SpellsChange line (unlink u v) = SpellsPair line (codes "unlink") u v
 SpellsChange line (drop u) = (words line ≡ codes "drop" ∷ node_word u ∷ []) × (u < 2 ^ 32)
 
--- The first words are `path data`, and what follows them spells the expression. Through an index no line asks yet.
+-- The first words are `path data`, and what follows them, without the blanks at both ends, spells the expression. Through an
+-- index no line asks yet.
 abbrev pub SpellsPath : List ℕ → Via → Seq → Type 0
 SpellsPath line Data e =
-    (first_word line ≡ codes "path") × (first_word (behind_word line) ≡ codes "data") × Spells (behind_word (behind_word line)) e
+    (first_word line ≡ codes "path") × (first_word (behind_word line) ≡ codes "data") × Spells (expression_text line) e
 SpellsPath line via e = ⊥
 
 -- an index, whose level has 32 bits; the graph itself is none

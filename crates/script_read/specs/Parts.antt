@@ -1,11 +1,19 @@
--- The first word of a line, and what follows it.
-use Rattle.std.specs.Prelude.{ℕ, ◌≡◌, ◌≢◌, List, [], ◌∷◌, take, drop}
-use Rattle.std.specs.List.{position_or_len, prefix_len}
+-- The first word of a line, what follows it, and a text without the blanks at its ends.
+use Rattle.std.specs.Prelude.{ℕ, ◌≡◌, ◌≢◌, ◌-◌, List, [], ◌∷◌, length, take, drop}
+use Rattle.std.specs.List.{position_or_len, prefix_len, suffix_len}
 use Rattle.px_spec.specs.Words.{is_blank, words}
 
 -- the line without the blanks in front
 abbrev pub after_blanks : List ℕ → List ℕ
 after_blanks line = drop (prefix_len is_blank line) line
+
+-- the text without the blanks behind
+abbrev pub before_blanks : List ℕ → List ℕ
+before_blanks text = take (length text - suffix_len is_blank text) text
+
+-- the text without the blanks at both ends
+abbrev pub without_blanks : List ℕ → List ℕ
+without_blanks text = before_blanks (after_blanks text)
 
 -- the bytes up to the next blank; none where there is no word
 abbrev pub first_word : List ℕ → List ℕ
@@ -13,6 +21,10 @@ first_word line = take (position_or_len is_blank (after_blanks line)) (after_bla
 
 abbrev pub behind_word : List ℕ → List ℕ
 behind_word line = drop (position_or_len is_blank (after_blanks line)) (after_blanks line)
+
+-- the expression of a query: the rest of the line behind its first two words, without the blanks at both ends
+abbrev pub expression_text : List ℕ → List ℕ
+expression_text line = without_blanks (behind_word (behind_word line))
 
 -- the first word of the line, empty where there is none, and what follows it
 pub record IsSplit (line word rest : List ℕ) : Type 0 where

@@ -3,7 +3,7 @@ use Rattle.std.specs.Prelude.{ℕ, ◌≡◌, ◌≢◌, List, [], ◌∷◌, co
 use Rattle.px_spec.specs.Words.{words}
 use Rattle.px_spec.specs.Changes.{link, unlink, drop}
 use Rattle.script_read.specs.Commands.{change, extents, sizes, IsQuiet, IsSpelled, SpellsNothing}
-use Rattle.script_read.specs.Parts.{first_word, behind_word, OpensNothing}
+use Rattle.script_read.specs.Parts.{first_word, behind_word, expression_text, OpensNothing}
 use Rattle.script_read.specs.declared.scan.Said.{Said}
 use Rattle.script_read.specs.declared.scan.Said.TheVariants.{Quiet, Node, Link, Unlink, Drop, Path, Extents, Sizes, Bad}
 
@@ -14,7 +14,7 @@ SaysNode line word = words line ≡ codes "node" ∷ word ∷ []
 -- the line asks for the answers of what this text spells
 abbrev pub SaysPath : List ℕ → List ℕ → Type 0
 SaysPath line text =
-    (first_word line ≡ codes "path") × (first_word (behind_word line) ≡ codes "data") × (text ≡ behind_word (behind_word line))
+    (first_word line ≡ codes "path") × (first_word (behind_word line) ≡ codes "data") × (text ≡ expression_text line)
 
 -- a first word, but of no change
 pub record OpensOther (word : List ℕ) : Type 0 where

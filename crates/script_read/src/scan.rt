@@ -1,12 +1,12 @@
 // What a line of a script says.
 ghost use Rattle.std.specs.Prelude.{◌≡◌, ◌≢◌, ◌↔◌, List, ℕ, IsTrue, IfSome, IfNone, [], ◌∷◌, codes};
 ghost use Rattle.px_spec.specs.Words.{words};
-ghost use Rattle.script_read.specs.Parts.{first_word, behind_word, OpensNothing};
+ghost use Rattle.script_read.specs.Parts.{first_word, behind_word, without_blanks, OpensNothing};
 ghost use Rattle.script_read.specs.Saying.{OpensOther, Says};
 
 use crate::indexes::one_index;
 use crate::nodes::{one_node, two_nodes};
-use crate::words::{is_over, is_word, one_word, split_word};
+use crate::words::{is_over, is_word, one_word, split_word, trim_blanks};
 use index_api::Via;
 use px_base::NodeId;
 
@@ -26,14 +26,14 @@ pub(crate) enum Said<'a> {
     Bad,
 }
 
-/// The text of the expression that follows `path data`.
+/// The text of the expression that follows `data`, without the blanks at both ends.
 fn path_text(rest: &[u8]) -> Option<&[u8]>
-    ensures found { IfSome result (λ t. (first_word rest.now ≡ codes "data") × (t.now ≡ behind_word rest.now)) }
+    ensures found { IfSome result (λ t. (first_word rest.now ≡ codes "data") × (t.now ≡ without_blanks (behind_word rest.now))) }
     ensures absent { IfNone result (first_word rest.now ≢ codes "data") }
 {
     let (via, text) = split_word(rest);
     if is_word(via, "data") {
-        Some(text)
+        Some(trim_blanks(text))
     } else {
         None
     }

@@ -1,9 +1,9 @@
 // The words of a line, one after another.
 ghost use Rattle.std.specs.Prelude.{◌≡◌, ◌≢◌, ◌↔◌, ℕ, List, IsTrue, IfSome, IfNone, [], ◌∷◌};
 ghost use Rattle.px_spec.specs.Words.{words};
-ghost use Rattle.script_read.specs.Parts.{first_word, behind_word, IsSplit};
+ghost use Rattle.script_read.specs.Parts.{first_word, behind_word, without_blanks, IsSplit};
 
-use path_query::skip_blanks;
+use path_query::{skip_blanks, trim_end_blanks};
 
 /// The first word of the line, which is empty where there is none, and what follows it.
 pub(crate) fn split_word(line: &[u8]) -> (&[u8], &[u8])
@@ -12,6 +12,13 @@ pub(crate) fn split_word(line: &[u8]) -> (&[u8], &[u8])
     ensures parts { IsSplit line.now result.0.now result.1.now }
 {
     path_query::split_word(skip_blanks(line))
+}
+
+/// The text without the blanks at both ends.
+pub(crate) fn trim_blanks(text: &[u8]) -> &[u8]
+    ensures { result.now ≡ without_blanks text.now }
+{
+    trim_end_blanks(skip_blanks(text))
 }
 
 /// Whether the line has no word.

@@ -1,13 +1,13 @@
 use Rattle.std.proofs.Common.{refl, sym, true≢false, ap, ◌∙◌, ◌∷◌, []}
 use Rattle.std.specs.Prelude.{codes}
 use Rattle.index_api.specs.Spelling.{via_word}
-use Rattle.script_read.specs.Parts.{first_word, behind_word}
+use Rattle.script_read.specs.Parts.{first_word, behind_word, without_blanks}
 use Rattle.script_read.proofs.CommandLemmas.{words_opened, none_path, none_extents, none_sizes, none_other}
 use Rattle.script_read.proofs.scan.scan_query.Goals as goal
 
 pub returns-in-Some : goal.returns-in-Some
 returns-in-Some c line w r =
-    let f = c.in-Some.ensures.found in (sym w ∙ c.if-is_word.ensures.0 refl, ap first_word (sym r) ∙ f.0, f.1 ∙ ap behind_word r)
+    let f = c.in-Some.ensures.found in (sym w ∙ c.if-is_word.ensures.0 refl, ap first_word (sym r) ∙ f.0, f.1 ∙ ap (λ l. without_blanks (behind_word l)) r)
 
 pub returns-in-None : goal.returns-in-None
 returns-in-None c line w r =
