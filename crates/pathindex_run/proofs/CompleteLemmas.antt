@@ -11,10 +11,11 @@ use Rattle.script_read.specs.Commands.{SpellsSomething, SpellsNothing}
 use Rattle.command_line.specs.Forms.{Settings, Form, runs, neither}
 use Rattle.graph_load.specs.Loads.{Outcome, loaded, Loads}
 use Rattle.graph_load.specs.Going.{LoadsTold}
-use Rattle.pathindex_run.specs.Runs.{State, Progress, start, IsWithinScript, TakesLines, Ends}
-use Rattle.pathindex_run.specs.Told.{RanTold}
+use Rattle.pathindex_run.specs.States.{State}
+use Rattle.pathindex_run.specs.Runs.{Progress, start, IsWithinScript, TakesLines, Ends}
+use Rattle.pathindex_run.specs.Told.{WritesRun}
 use Rattle.pathindex_run.specs.Headline.{RunsScript, HasStatus, LacksDueFile, Lacks, BeginsWith, IsProper, NamesProper, NoFault, Completes}
-use Rattle.pathindex_run.specs.Starting.{ScriptTold}
+use Rattle.pathindex_run.specs.ToldFiles.{ScriptTold}
 
 -- the bytes of the lines with their ends
 abbrev bytes_of : List Line → ℕ
@@ -88,17 +89,21 @@ none_bad limits first text before (l ∷ ls) printed ending last status w cuts t
     let within : IsWithinScript last l = (here.0, omega (arith, whole, taken, small)) in
     absurd (not_both l.text here.1 (ends.0 within))
 
-ran_few : (first : State) (text : List ℕ) (old new : Option (List ℕ)) (status : ℕ) → IsProper text → RanTold program_limits first (Some text) old new status → status ≤ 1
-ran_few first text old new status w r = none_bad program_limits first text r.3.before r.3.left r.3.printed r.3.ending r.1 status w r.3.script_is r.3.takes r.3.ends
+ran_few : (first : State) (text : List ℕ) (old new : Option (List ℕ)) (status : ℕ) (Last : State → Type 0) → IsProper text
+    → WritesRun program_limits first text old new status Last → status ≤ 1
+ran_few first text old new status Last w r =
+    let run = r.is_run in
+    none_bad program_limits first text run.before run.left run.printed run.ending r.last status w run.script_is run.takes run.ends
 
 not_rose : (before now : ℕ) → NoFault before now → Rose before now → ⊥
 not_rose before now n (l, inl r) = (let e = n.0 in omega (arith, e, r))
 not_rose before now n (l, inr r) = (let e = n.1 in omega (arith, e, r))
 
-runs_few : (first : State) (text : Option (List ℕ)) (t : List ℕ) (old new : Option (List ℕ)) (status : ℕ) → text ≡ Some t → IsProper t → RunsScript first text old new status → (status ≤ 1) ⊎ (5 ≤ status)
-runs_few first None t old new status e w r = cc
-runs_few first (Some s) t old new status e w (inl r) = inl (ran_few first s old new status (let same : s ≡ t = cc in subst IsProper (sym same) w) r.1)
-runs_few first (Some s) t old new status e w (inr r) = inr r.0
+runs_few : (first : State) (text : Option (List ℕ)) (t : List ℕ) (old new : Option (List ℕ)) (status : ℕ) (Last : State → Type 0) → text ≡ Some t → IsProper t
+    → RunsScript first text old new status Last → (status ≤ 1) ⊎ (5 ≤ status)
+runs_few first None t old new status Last e w r = cc
+runs_few first (Some s) t old new status Last e w (inl r) = inl (ran_few first s old new status Last (let same : s ≡ t = cc in subst IsProper (sym same) w) r.1)
+runs_few first (Some s) t old new status Last e w (inr r) = inr r.0
 
 -- a graph file that is there isn't missing
 not_lacking : (name : Option (List ℕ)) (files : List File) (g : Graph) → BeginsWith name files g → Lacks files name → ⊥
@@ -127,11 +132,11 @@ pub short_completes : (form : Form) (files : Option (List File)) (h h2 k k2 stat
 short_completes form files h h2 k k2 status s l w f g = inr (seven form files h h2 k k2 status s w f g l)
 
 -- the script ran from a first state
-pub script_completes : (s : Settings) (files : Option (List File)) (first : State) (old new : Option (List ℕ)) (h h2 k k2 status : ℕ)
-    → ScriptTold first files s.script old new status → HasStatus (runs s) files h h2 k k2 status → Completes (runs s) files h h2 k k2 status
-script_completes s None first old new h h2 k k2 status r c w f g = absurd w
-script_completes s (Some fs) first old new h h2 k k2 status r c w f g =
-    elim (runs_few first (content_of fs s.script) w.2 old new status w.3 w.4 r) [
+pub script_completes : (s : Settings) (files : Option (List File)) (first : State) (old new : Option (List ℕ)) (h h2 k k2 status : ℕ) (Last : State → Type 0)
+    → ScriptTold first files s.script old new status Last → HasStatus (runs s) files h h2 k k2 status → Completes (runs s) files h h2 k k2 status
+script_completes s None first old new h h2 k k2 status Last r c w f g = absurd w
+script_completes s (Some fs) first old new h h2 k k2 status Last r c w f g =
+    elim (runs_few first (content_of fs s.script) w.2 old new status Last w.3 w.4 r) [
       | inl e ↦ inl e
       | inr e ↦ inr (seven (runs s) (Some fs) h h2 k k2 status c w f g e)
     ]

@@ -1,8 +1,8 @@
 -- The definitions at worked lines, and at near misses.
-use Rattle.std.proofs.Common.{◌≡◌, ℕ, zero, suc, ◌≤◌, List, [], ◌∷◌, ◌++◌, length, subst, true, false, refl, sym, ap, ◌∙◌, arith, append-nil, lit<, lit≤, Option, None, Some, inl, inr, Ok, Err}
+use Rattle.std.proofs.Common.{◌≡◌, ℕ, zero, suc, ◌≤◌, Bool, List, [], ◌∷◌, ◌++◌, length, subst, true, false, true≢false, refl, sym, ap, ◌∙◌, arith, append-nil, lit<, lit≤, Option, None, Some, inl, inr, Ok, Err}
 use Rattle.std.specs.Prelude.{codes, slice_get, slice_index}
 use Rattle.index_api.specs.declared.kinds.Via.{Via}
-use Rattle.index_api.specs.declared.kinds.Via.TheVariants.{Data, A, One}
+use Rattle.index_api.specs.declared.kinds.Via.TheVariants.{Data, A, One, Fb}
 use Rattle.std.proofs.lemmas.Fmt.{decimal_digit}
 use Rattle.px_spec.specs.Lines.{Line, cut}
 use Rattle.px_spec.specs.declared.refusal.Refusal.TheVariants.{InUse}
@@ -17,9 +17,11 @@ use Rattle.script_read.specs.Commands.{Command, change, path, extents, sizes, Is
 use Rattle.command_line.specs.Forms.{Settings, runs}
 use Rattle.graph_load.specs.Loads.{syntax, limit}
 use Rattle.px_base.specs.Files.{File}
-use Rattle.pathindex_run.specs.Headline.{first_state as state_of, RunsScript, RunsLoaded, RunsOutcome, IsProper, HasStatus, Completes}
-use Rattle.pathindex_run.specs.Indexes.{IsKept, ShowsExtents, unkept}
-use Rattle.pathindex_run.specs.Runs.{State, Progress, start, TakesLine, IsRun, Obeys, command, changes}
+use Rattle.pathindex_run.specs.States.{State, state_of}
+use Rattle.pathindex_run.specs.Headline.{RunsScript, RunsLoaded, RunsOutcome, IsProper, HasStatus, Completes}
+use Rattle.pathindex_run.specs.Told.{RanTold}
+use Rattle.pathindex_run.specs.Indexes.{IsKept, ShowsIndex, ShowsExtents, unkept, ShowsSize, all_indexes}
+use Rattle.pathindex_run.specs.Runs.{Progress, start, TakesLine, TakesLines, IsRun, PrintsFront, Obeys, command, changes}
 
 plain_a : IsPlainLabel (codes "a")
 plain_a = (refl, (λ e. omega (arith, ap (λ l. slice_index l 1) e)), (λ e. omega (arith, ap (λ l. slice_index l 0) e)), (λ e. omega (arith, ap (λ l. slice_index l 0) e)))
@@ -103,9 +105,44 @@ run_bad = record {
   output_is = refl;
 }
 
+-- one line is taken, and the last state is the one after it
+ran_one : RanTold program_limits first_state (Some (codes "node a\n")) (Some []) (Some (codes "added " ++ node_word 0 ++ 10 ∷ [])) 0 (λ s. s ≡ after_one.state)
+unfolding after_one
+ran_one = record {
+  output = codes "added " ++ node_word 0 ++ 10 ∷ [];
+  last = after_one;
+  written = refl;
+  is_run = record {
+    before = record { text = codes "node a"; end = 10 ∷ [] } ∷ [];
+    left = [];
+    printed = codes "added " ++ node_word 0 ++ 10 ∷ [];
+    ending = [];
+    script_is = refl;
+    takes = (codes "added " ++ node_word 0 ++ 10 ∷ [], [], after_one, takes_one, (refl, refl), sym (append-nil _));
+    ends = (refl, refl);
+    output_is = sym (append-nil _);
+  };
+  ends_in = refl;
+}
+
+-- what is said of the last state is said of that of the run: the run of an empty script leaves the first state
+last_of_empty : (old new : Option (List ℕ)) (status : ℕ) (Last : State → Type 0) → RanTold program_limits first_state (Some []) old new status Last → Last first_state
+last_of_empty old new status Last r = subst (λ p. Last p.state) (only r.is_run.before r.is_run.left r.is_run.printed r.last r.is_run.script_is r.is_run.takes) r.ends_in
+  where
+    only : (before left : List Line) (printed : List ℕ) (last : Progress) → [] ≡ before ++ left → TakesLines program_limits (start first_state) before printed last → last ≡ start first_state
+    only [] left printed last e t = t.1
+    only (l ∷ ls) left printed last e t = cc
+
+-- so far the end of a script prints nothing
+front_at_end : (p : Progress) (front : List ℕ) → PrintsFront program_limits p [] front → front ≡ []
+front_at_end p front (inl e) = e
+front_at_end p front (inr (rest, inl t)) = absurd t
+front_at_end p [] (inr (rest, inr e)) = refl
+front_at_end p (b ∷ bs) (inr (rest, inr e)) = (let none = e.1.0 in cc)
+
 -- a script that isn't there is no empty one
-not_empty : (old : Option (List ℕ)) → ¬ RunsScript first_state None old old 0
-not_empty old r = elim r.1 [ inl e ↦ omega (arith, e) | inr e ↦ omega (arith, e) ]
+not_empty : (old : Option (List ℕ)) (Last : State → Type 0) → ¬ RunsScript first_state None old old 0 Last
+not_empty old Last r = elim r.1 [ inl e ↦ omega (arith, e) | inr e ↦ omega (arith, e) ]
 
 -- what changes that take away print
 unlink_done : (g h : Graph) → reply (unlink 0 1) g (Ok h) ≡ codes "ok\n"
@@ -143,49 +180,79 @@ not_failed s = elim (s.missing refl) [
   | inr m ↦ elim m [ inl l ↦ l | inr l ↦ (let z : Some [] ≡ None = l.2 in cc) ]
 ]
 
+-- no count falls, and at status 0 none rises
+no_fall : (files : Option (List File)) (status : ℕ) → ¬ HasStatus (runs plain) files 1 0 0 0 status
+unfolding plain
+no_fall files status s = (let up = s.shelf_never_falls in omega (arith, up))
+
+no_rise : (files : Option (List File)) → ¬ HasStatus (runs plain) files 0 0 0 1 0
+unfolding plain
+no_rise files s = (let same = s.sink_kept (λ e. omega (arith, e)) in omega (arith, same))
+
 -- a line of the graph file that spells nothing
 refused_line_is : graph_line 3 (codes "syntax") ≡ codes "graph 3 syntax\n"
 refused_line_is = ap (λ d. codes "graph " ++ (d ++ codes " syntax\n")) (decimal_digit 3 (lit< tt))
 
 -- a graph file that isn't there is no empty one
-not_empty_graph : (s : Settings) (old : Option (List ℕ)) → ¬ RunsLoaded s [] None old old 0
-not_empty_graph s old r = elim r.1 [ inl e ↦ omega (arith, e) | inr e ↦ omega (arith, e) ]
+not_empty_graph : (s : Settings) (old : Option (List ℕ)) (Last : State → Type 0) → ¬ RunsLoaded s [] None old old 0 Last
+not_empty_graph s old Last r = elim r.1 [ inl e ↦ omega (arith, e) | inr e ↦ omega (arith, e) ]
 
 -- a level above the highest one that is kept is refused, and so is an index that isn't built
-level_refused : ShowsExtents empty_graph 2 (A 3) (codes "refused no-index\n") true
+level_refused : ShowsExtents (state_of empty_graph 2) (A 3) (codes "refused no-index\n") true
 level_refused = unkept (A 3) (λ h. omega (arith, h))
 
-one_refused : ShowsExtents empty_graph 8 One (codes "refused no-index\n") true
+one_refused : ShowsExtents (state_of empty_graph 8) One (codes "refused no-index\n") true
 one_refused = unkept One (λ h. h)
 
 -- no level is refused that is kept
-level_kept : (k : ℕ) (via : Via) (text : List ℕ) → ShowsExtents empty_graph k via text true → ¬ IsKept k via
+level_kept : (k : ℕ) (via : Via) (text : List ℕ) → ShowsExtents (state_of empty_graph k) via text true → ¬ IsKept (state_of empty_graph k) via
 level_kept k _ _ (unkept via h) = h
+
+-- in the empty graph no two numbers are bisimilar
+shows_none : ShowsIndex (state_of empty_graph 2) (A 0) (λ u v. false)
+shows_none = record { kept = lit≤ tt; decides = λ u v. ((λ e. absurd (true≢false (sym e))), (λ h. (let none : None ≡ Some h.0 = h.1 in cc))) }
+
+not_all : ¬ ShowsIndex (state_of empty_graph 2) (A 0) (λ u v. true)
+not_all h = (let alike = (h.decides 0 0).0 refl in let none : None ≡ Some alike.0 = alike.1 in cc)
+
+no_level : (r : ℕ → ℕ → Bool) → ¬ ShowsIndex (state_of empty_graph 2) (A 3) r
+no_level r h = (let low = h.kept in omega (arith, low))
+
+no_graph_itself : (s : State) (r : ℕ → ℕ → Bool) → ¬ ShowsIndex s Data r
+no_graph_itself s r h = h.kept
+
+-- the order of the lines of sizes; an index that isn't kept has none
+order_is : all_indexes 2 ≡ A 0 ∷ A 1 ∷ A 2 ∷ One ∷ Fb ∷ []
+order_is = refl
+
+no_line_of_one : (s : State) (text : List ℕ) → ShowsSize s One text → text ≡ []
+no_line_of_one s text (inl h) = absurd h.shows.kept
+no_line_of_one s text (inr h) = h.1
 
 -- a graph file
 with_graph : Settings
 with_graph = record { script = codes "s"; graph = Some (codes "g"); k = 2 }
 
 -- where its first line is refused, the run doesn't end as if there were no such line, and says which line it was
-not_done : (files : List File) (old new : Option (List ℕ)) → ¬ RunsOutcome with_graph files (syntax 1) old new 0
+not_done : (files : List File) (old new : Option (List ℕ)) (Last : State → Type 0) → ¬ RunsOutcome with_graph files (syntax 1) old new 0 Last
 unfolding with_graph
-not_done files old new (inl e) = omega (arith, e.0)
-not_done files old new (inr (inl e)) = omega (arith, e.0)
-not_done files old new (inr (inr e)) = omega (arith, e.0)
+not_done files old new Last (inl e) = omega (arith, e.0)
+not_done files old new Last (inr (inl e)) = omega (arith, e.0)
+not_done files old new Last (inr (inr e)) = omega (arith, e.0)
 
-says_which : (files : List File) → RunsOutcome with_graph files (syntax 1) (Some []) (Some (graph_line 1 (codes "syntax"))) 3
+says_which : (files : List File) (Last : State → Type 0) → RunsOutcome with_graph files (syntax 1) (Some []) (Some (graph_line 1 (codes "syntax"))) 3 Last
 unfolding with_graph
-says_which files = inl (refl, refl)
+says_which files Last = inl (refl, refl)
 
 -- a line past a limit isn't said to be misspelled
-not_syntax : (files : List File) → ¬ RunsOutcome with_graph files (limit 1) (Some []) (Some (codes "graph 1 syntax\n")) 3
+not_syntax : (files : List File) (Last : State → Type 0) → ¬ RunsOutcome with_graph files (limit 1) (Some []) (Some (codes "graph 1 syntax\n")) 3 Last
 unfolding with_graph
-not_syntax files (inl e) = (let same = limit_is ∙ sym e.1 in omega (arith, ap (λ l. slice_index l 8) same))
+not_syntax files Last (inl e) = (let same = limit_is ∙ sym e.1 in omega (arith, ap (λ l. slice_index l 8) same))
   where
     limit_is : codes "graph 1 limit\n" ≡ graph_line 1 (codes "limit")
     limit_is = sym (ap (λ d. codes "graph " ++ (d ++ codes " limit\n")) (decimal_digit 1 (lit< tt)))
-not_syntax files (inr (inl e)) = omega (arith, e.0)
-not_syntax files (inr (inr e)) = omega (arith, e.0)
+not_syntax files Last (inr (inl e)) = omega (arith, e.0)
+not_syntax files Last (inr (inr e)) = omega (arith, e.0)
 
 -- no run without a graph file ends with the status of a refused one
 no_graph : (files : Option (List File)) (h h2 k k2 : ℕ) → ¬ HasStatus (runs plain) files h h2 k k2 3

@@ -16,10 +16,6 @@ fronts (x ∷ a) b (y ∷ c) d e =
       | inr p ↦ inr (p.0, ap (λ z. z ∷ c) (sym head) ∙ ap (λ l. x ∷ l) p.1, p.2)
     ]
 
-no_front : (limits : Limits) (p : Progress) (lines : List Line) → PrintsFront limits p lines []
-no_front limits p [] = refl
-no_front limits p (l ∷ ls) = inl refl
-
 -- the lines begin with one that is taken
 front_on : {limits : Limits} (p : Progress) (l : Line) (text : List ℕ) (mid : Progress) (ls : List Line) (output : List ℕ)
     → TakesLine limits p l text mid → RunsFront limits mid ls output → RunsFront limits p (l ∷ ls) (text ++ output)
@@ -71,7 +67,7 @@ front_of {limits} p (l ∷ ls) printed q t left more next front rest e =
 pub front_of_taken : {limits : Limits} (p : Progress) (lines : List Line) (printed : List ℕ) (q : Progress) → TakesLines limits p lines printed q
     → (left : List Line) (front rest : List ℕ) → printed ≡ front ++ rest → RunsFront limits p (lines ++ left) front
 front_of_taken {limits} p lines printed q t left front rest e =
-    front_of p lines printed q t left [] (λ f r n. subst (PrintsFront limits q left) (nil_front f r n) (no_front limits q left)) front rest (append-nil printed ∙ e)
+    front_of p lines printed q t left [] (λ f r n. subst (PrintsFront limits q left) (nil_front f r n) (inl refl)) front rest (append-nil printed ∙ e)
   where
     nil_front : (f r : List ℕ) → [] ≡ f ++ r → [] ≡ f
     nil_front [] r n = refl

@@ -1,8 +1,8 @@
 pub mod TakenLemmas
 pub mod FrontLemmas
 pub mod ReachedLemmas
-pub mod TopLemmas
-pub mod ListingLemmas
+pub mod RunLemmas
+pub mod NodeTextLemmas
 pub mod Examples
 pub mod CompleteLemmas
 pub mod LevelLemmas

@@ -8,9 +8,10 @@ use Rattle.px_spec.specs.Lines.{Line, cut}
 use Rattle.px_base.specs.Files.{AppendsFront}
 use Rattle.px_base.specs.Reading.{IsFirst, IsOver}
 use Rattle.pathindex_run.specs.Texts.{bad_line}
-use Rattle.pathindex_run.specs.Runs.{State, Progress, TakesLine, TakesLines, start, status_of, RunsFront}
+use Rattle.pathindex_run.specs.States.{State}
+use Rattle.pathindex_run.specs.Runs.{Progress, TakesLine, TakesLines, start, end_status, RunsFront}
 use Rattle.pathindex_run.specs.Told.{RanTold, FrontTold}
-use Rattle.pathindex_run.specs.Going.{FirstIsBad, Writes}
+use Rattle.pathindex_run.specs.RunSteps.{FirstIsBad, Writes}
 use Rattle.pathindex_run.proofs.FrontLemmas.{front_of, front_of_taken}
 
 -- the lines of the one text are these lines and then those of the other, where the texts are told
@@ -83,15 +84,16 @@ reached-written {old = old} {new = new} {out = out} r newer left w = record {
   printed_is = r.printed_is ∙ ap (λ x. r.front ++ x) w.2 ∙ sym (append_assoc r.front w.0 left);
 }
 
+-- The script is over, and all that was gathered is written.
 pub ran-over : {limits : Limits} {first : State} (a b : Option (List ℕ)) {old new : Option (List ℕ)} {out : List ℕ} {p : Progress} → Reached limits first a b old new out p
-    → IsOver b → (newer : Option (List ℕ)) → Appends new newer out → RanTold limits first a old newer (status_of p)
-ran-over None b r over newer w = tt
-ran-over (Some x) None r over newer w = absurd r.told
-ran-over (Some x) (Some y) {old = old} {new = new} {out = out} {p = p} r over newer w = (
-  r.front ++ out,
-  p,
-  Appends-trans old new newer r.front out r.written w,
-  record {
+    → IsOver b → (newer : Option (List ℕ)) → Appends new newer out → (Last : State → Type 0) → Last p.state → RanTold limits first a old newer (end_status p) Last
+ran-over None b r over newer w Last h = tt
+ran-over (Some x) None r over newer w Last h = absurd r.told
+ran-over (Some x) (Some y) {old = old} {new = new} {out = out} {p = p} r over newer w Last h = record {
+  output = r.front ++ out;
+  last = p;
+  written = Appends-trans old new newer r.front out r.written w;
+  is_run = record {
     before = r.lines;
     left = [];
     printed = r.printed;
@@ -100,18 +102,21 @@ ran-over (Some x) (Some y) {old = old} {new = new} {out = out} {p = p} r over ne
     takes = r.takes;
     ends = (refl, refl);
     output_is = sym r.printed_is ∙ sym (append-nil r.printed);
-  },
-)
+  };
+  ends_in = h;
+}
 
+-- The next line is bad, and all that was gathered is written.
 pub ran-bad : {limits : Limits} {first : State} (a b : Option (List ℕ)) {old new : Option (List ℕ)} {out : List ℕ} {p : Progress} → Reached limits first a b old new out p
-    → FirstIsBad p b → (newer : Option (List ℕ)) (gathered : List ℕ) → gathered ≡ out ++ bad_line (p.lines + 1) → Appends new newer gathered → RanTold limits first a old newer 4
-ran-bad None b r bad newer gathered e w = tt
-ran-bad (Some x) None r bad newer gathered e w = absurd r.told
-ran-bad (Some x) (Some y) {old = old} {new = new} {out = out} {p = p} r bad newer gathered e w = (
-  r.front ++ gathered,
-  p,
-  Appends-trans old new newer r.front gathered r.written w,
-  record {
+    → FirstIsBad p b → (newer : Option (List ℕ)) (gathered : List ℕ) → gathered ≡ out ++ bad_line (p.lines + 1) → Appends new newer gathered
+    → (Last : State → Type 0) → Last p.state → RanTold limits first a old newer 4 Last
+ran-bad None b r bad newer gathered e w Last h = tt
+ran-bad (Some x) None r bad newer gathered e w Last h = absurd r.told
+ran-bad (Some x) (Some y) {old = old} {new = new} {out = out} {p = p} r bad newer gathered e w Last h = record {
+  output = r.front ++ gathered;
+  last = p;
+  written = Appends-trans old new newer r.front gathered r.written w;
+  is_run = record {
     before = r.lines;
     left = bad.0 ∷ bad.1;
     printed = r.printed;
@@ -120,8 +125,9 @@ ran-bad (Some x) (Some y) {old = old} {new = new} {out = out} {p = p} r bad newe
     takes = r.takes;
     ends = (bad.3, refl, refl);
     output_is = ap (λ g. r.front ++ g) e ∙ sym (append_assoc r.front out (bad_line (p.lines + 1))) ∙ ap (λ x. x ++ bad_line (p.lines + 1)) (sym r.printed_is);
-  },
-)
+  };
+  ends_in = h;
+}
 
 -- the front that is written of what was to be written
 pub record PartWritten (new newer : Option (List ℕ)) (gathered : List ℕ) : Type 0 where
@@ -161,7 +167,7 @@ front-bad {limits} {first} (Some x) (Some y) {old = old} {new = new} {out = out}
   Appends-trans old new newer r.front w.front r.written w.written,
   subst (λ ls. RunsFront limits (start first) ls (r.front ++ w.front)) (sym (r.told ∙ ap (λ t. r.lines ++ t) bad.2))
       (front_of (start first) r.lines r.printed p r.takes (bad.0 ∷ bad.1) (bad_line (p.lines + 1))
-      (λ f m n. inr (m, inr (bad.3, sym n))) (r.front ++ w.front) w.rest
+      (λ f m n. inr (m, inr (4, (bad.3, sym n, refl)))) (r.front ++ w.front) w.rest
       (ap (λ z. z ++ bad_line (p.lines + 1)) r.printed_is ∙ append_assoc r.front out (bad_line (p.lines + 1)) ∙ ap (λ g. r.front ++ g) (sym e ∙ w.gathered_is)
       ∙ sym (append_assoc r.front w.front w.rest))),
 )

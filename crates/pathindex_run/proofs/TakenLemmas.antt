@@ -15,7 +15,7 @@ use Rattle.pathindex_run.specs.Texts.{reply, answers_text}
 use Rattle.pathindex_run.specs.Kept.{Kept}
 use Rattle.pathindex_run.specs.Runs.{nothing, command, Obeys, changes, answers, lists, measures}
 use Rattle.pathindex_run.specs.Indexes.{ShowsExtents, ShowsSizes}
-use Rattle.pathindex_run.specs.Going.{Changes, Obeyed, AsksData, LineIsTaken}
+use Rattle.pathindex_run.specs.RunSteps.{Changes, Obeyed, AsksData, LineIsTaken}
 
 or_same : (b : Bool) → b ≡ (b || false)
 or_same true = refl
@@ -53,7 +53,7 @@ answers_obeyed limits k e out (Err x) gathered a = tt
 
 -- an index that was listed, or isn't kept
 pub list_obeyed : (limits : Limits) (m : Kept) (via : Via) (out text : List ℕ) (refuses : Bool) (gathered : List ℕ)
-    → ShowsExtents m.state.graph m.state.k via text refuses → gathered ≡ out ++ text
+    → ShowsExtents m.state via text refuses → gathered ≡ out ++ text
     → Obeyed limits m (extents via) out (record { state = m.state; refused = m.refused || refuses }) gathered
 list_obeyed limits m via out text refuses gathered s e = record {
   printed = text;
@@ -64,7 +64,7 @@ list_obeyed limits m via out text refuses gathered s e = record {
 }
 
 -- sizes that were listed
-pub sizes_obeyed : (limits : Limits) (m : Kept) (out text gathered : List ℕ) → ShowsSizes m.state.graph m.state.k text → gathered ≡ out ++ text
+pub sizes_obeyed : (limits : Limits) (m : Kept) (out text gathered : List ℕ) → ShowsSizes m.state text → gathered ≡ out ++ text
     → Obeyed limits m sizes out m gathered
 sizes_obeyed limits m out text gathered s e = record {
   printed = text;

@@ -7,7 +7,9 @@ use Rattle.bisim_spec.specs.Partitions.{Agrees}
 use Rattle.bisim_spec.specs.Views.{ViewFits}
 use Rattle.quotient.specs.Quotients.{Quotient, view_of}
 use Rattle.ak_family.specs.Families.{KeyedQuotient, level_at}
-use Rattle.pathindex_run.specs.Indexes.{IsLevelLine}
+use Rattle.index_api.specs.declared.kinds.Via.TheVariants.{A}
+use Rattle.pathindex_run.specs.States.{State}
+use Rattle.pathindex_run.specs.Indexes.{IsSizeLine}
 
 -- the quotient is that of the graph by bisimilarity to the level
 pub record IsLevelOf (g : Graph) (level : ℕ) (q : Quotient) : Type 0 where
@@ -21,5 +23,5 @@ pub record AreLevelsOf (g : Graph) (k : ℕ) (levels : List KeyedQuotient) : Typ
   pub each : (level : ℕ) → level ≤ k → IsLevelOf g level (level_at levels level).quotient
 
 -- the line of the level is gathered
-abbrev pub AddsLevel : Graph → ℕ → List ℕ → List ℕ → Type 0
-AddsLevel g level out gathered = (line : List ℕ) × IsLevelLine g level line × (gathered ≡ out ++ line)
+abbrev pub AddsLevel : State → ℕ → List ℕ → List ℕ → Type 0
+AddsLevel s level out gathered = (line : List ℕ) × IsSizeLine s (A level) line × (gathered ≡ out ++ line)

@@ -1,5 +1,5 @@
 -- What a call of `run` does, by its words, the files, the bytes written, the counts of faults, and the status.
-use Rattle.std.specs.Prelude.{◌≡◌, ℕ, ◌-◌, ◌^◌, ◌<◌, ◌≤◌, ◌⊎◌, List, codes, length, slice_get, ⊤, Option, None, Some, IsSome}
+use Rattle.std.specs.Prelude.{◌≡◌, ◌≢◌, ℕ, ◌-◌, ◌^◌, ◌<◌, ◌≤◌, ◌⊎◌, List, codes, length, slice_get, ⊤, Option, None, Some, IsSome}
 use Rattle.std.specs.Io.KnownBytes.{Appends, Keeps}
 use Rattle.px_spec.specs.Lines.{Line, cut}
 use Rattle.px_spec.specs.ProgramLimits.{program_limits}
@@ -11,56 +11,51 @@ use Rattle.graph_load.specs.Loads.{Outcome, loaded, syntax, limit, Loads}
 use Rattle.script_read.specs.Commands.{SpellsSomething}
 use Rattle.command_line.specs.Forms.{Settings, Form, runs, neither}
 use Rattle.pathindex_run.specs.Texts.{usage_line, graph_line}
-use Rattle.pathindex_run.specs.Runs.{State}
+use Rattle.pathindex_run.specs.States.{State, state_of}
 use Rattle.pathindex_run.specs.Told.{RanTold, FrontTold}
-
--- a run starts with this graph, and keeps indexes up to this level
-abbrev pub first_state : Graph → ℕ → State
-first_state g k = record { graph = g; k = k }
 
 -- nothing is written, since a file isn't there or wasn't read to its end, or memory was wanting
 abbrev pub StopsAtOnce : Option (List ℕ) → Option (List ℕ) → ℕ → Type 0
 StopsAtOnce old new status = Keeps old new × ((status ≡ 5) ⊎ (status ≡ 7))
 
--- what is written from a first state on: `text` is what the script holds, if it is there
-abbrev pub RunsScript : State → Option (List ℕ) → Option (List ℕ) → Option (List ℕ) → ℕ → Type 0
-RunsScript first None old new status = StopsAtOnce old new status
-RunsScript first (Some text) old new status =
-    ((status ≤ 4) × RanTold program_limits first (Some text) old new status)
-    ⊎ ((5 ≤ status) × FrontTold program_limits first (Some text) old new)
-
--- the line says which line of the graph file is refused
-abbrev pub ShowsRefusal : List ℕ → Option (List ℕ) → Option (List ℕ) → ℕ → Type 0
-ShowsRefusal line old new status =
-    ((status ≡ 3) × Appends old new line)
+-- the line is written with this status of its own, unless a write fails or memory is wanting
+abbrev pub ShowsLine : List ℕ → ℕ → Option (List ℕ) → Option (List ℕ) → ℕ → Type 0
+ShowsLine line own old new status =
+    ((status ≡ own) × Appends old new line)
     ⊎ (((status ≡ 6) × AppendsFront old new line) ⊎ ((status ≡ 7) × Keeps old new))
 
+-- What is written from a first state on: `text` is what the script holds, if it is there. Where the script was read to its
+-- end or to a bad line, `Last` holds of the last state of the run that is written.
+abbrev pub RunsScript : State → Option (List ℕ) → Option (List ℕ) → Option (List ℕ) → ℕ → (State → Type 0) → Type 0
+RunsScript first None old new status Last = StopsAtOnce old new status
+RunsScript first (Some text) old new status Last =
+    ((status ≤ 4) × RanTold program_limits first (Some text) old new status Last)
+    ⊎ ((5 ≤ status) × FrontTold program_limits first (Some text) old new)
+
 -- what follows, by what the graph file loads to
-abbrev pub RunsOutcome : Settings → List File → Outcome → Option (List ℕ) → Option (List ℕ) → ℕ → Type 0
-RunsOutcome s files (loaded g) old new status = RunsScript (first_state g s.k) (content_of files s.script) old new status
-RunsOutcome s files (syntax l) old new status = ShowsRefusal (graph_line l (codes "syntax")) old new status
-RunsOutcome s files (limit l) old new status = ShowsRefusal (graph_line l (codes "limit")) old new status
+abbrev pub RunsOutcome : Settings → List File → Outcome → Option (List ℕ) → Option (List ℕ) → ℕ → (State → Type 0) → Type 0
+RunsOutcome s files (loaded g) old new status Last = RunsScript (state_of g s.k) (content_of files s.script) old new status Last
+RunsOutcome s files (syntax l) old new status Last = ShowsLine (graph_line l (codes "syntax")) 3 old new status
+RunsOutcome s files (limit l) old new status Last = ShowsLine (graph_line l (codes "limit")) 3 old new status
 
 -- `text` is what the graph file holds, if it is there: it is loaded first
-abbrev pub RunsLoaded : Settings → List File → Option (List ℕ) → Option (List ℕ) → Option (List ℕ) → ℕ → Type 0
-RunsLoaded s files None old new status = StopsAtOnce old new status
-RunsLoaded s files (Some text) old new status =
-    ((o : Outcome) × Loads program_limits text o × RunsOutcome s files o old new status)
+abbrev pub RunsLoaded : Settings → List File → Option (List ℕ) → Option (List ℕ) → Option (List ℕ) → ℕ → (State → Type 0) → Type 0
+RunsLoaded s files None old new status Last = StopsAtOnce old new status
+RunsLoaded s files (Some text) old new status Last =
+    ((o : Outcome) × Loads program_limits text o × RunsOutcome s files o old new status Last)
     ⊎ StopsAtOnce old new status
 
 -- the run begins with the empty graph, or with that of the file that is named
-abbrev pub RunsFiles : Settings → Option (List ℕ) → List File → Option (List ℕ) → Option (List ℕ) → ℕ → Type 0
-RunsFiles s None files old new status = RunsScript (first_state empty_graph s.k) (content_of files s.script) old new status
-RunsFiles s (Some name) files old new status = RunsLoaded s files (content_of files name) old new status
+abbrev pub RunsFiles : Settings → Option (List ℕ) → List File → Option (List ℕ) → Option (List ℕ) → ℕ → (State → Type 0) → Type 0
+RunsFiles s None files old new status Last = RunsScript (state_of empty_graph s.k) (content_of files s.script) old new status Last
+RunsFiles s (Some name) files old new status Last = RunsLoaded s files (content_of files name) old new status Last
 
--- What is written, from the bytes before to the bytes after, where the shelf tells its files. Words of no form give the
--- usage line.
-abbrev pub Meets : Form → Option (List File) → Option (List ℕ) → Option (List ℕ) → ℕ → Type 0
-Meets neither files old new status =
-    ((status ≡ 2) × Appends old new usage_line)
-    ⊎ (((status ≡ 6) × AppendsFront old new usage_line) ⊎ ((status ≡ 7) × Keeps old new))
-Meets (runs s) None old new status = ⊤
-Meets (runs s) (Some files) old new status = RunsFiles s s.graph files old new status
+-- What is written, from the bytes before to the bytes after, where the shelf tells its files, and the last state. Words of no
+-- form give the usage line.
+abbrev pub Meets : Form → Option (List File) → Option (List ℕ) → Option (List ℕ) → ℕ → (State → Type 0) → Type 0
+Meets neither files old new status Last = ShowsLine usage_line 2 old new status
+Meets (runs s) None old new status Last = ⊤
+Meets (runs s) (Some files) old new status Last = RunsFiles s s.graph files old new status Last
 
 -- the graph with which the run begins
 abbrev pub BeginsWith : Option (List ℕ) → List File → Graph → Type 0
@@ -83,13 +78,18 @@ abbrev pub NamesGraph : Form → Type 0
 NamesGraph neither = ⊥
 NamesGraph (runs s) = IsSome s.graph
 
--- The status, by the counts of faults of the shelf and of the sink before and after.
+-- The status, by the counts of faults of the shelf and of the sink before and after. Neither count falls; where the shelf's
+-- rose the status is 5, and at every other status it is as before; so is the sink's but at 6.
 pub record HasStatus (form : Form) (files : Option (List File)) (shelf_before shelf_after sink_before sink_after status : ℕ) : Type 0 where
   pub is_one : status ≤ 7
   pub usage : status ≡ 2 → form ≡ neither
   pub graph : status ≡ 3 → NamesGraph form
   pub missing : status ≡ 5 → Rose shelf_before shelf_after ⊎ LacksDueFile form files
   pub sink : status ≡ 6 → Rose sink_before sink_after
+  pub shelf_never_falls : shelf_before ≤ shelf_after
+  pub sink_never_falls : sink_before ≤ sink_after
+  pub shelf_kept : status ≢ 5 → shelf_after ≡ shelf_before
+  pub sink_kept : status ≢ 6 → sink_after ≡ sink_before
   pub shelf_rose : shelf_before < shelf_after → status ≡ 5
   pub sink_rose : sink_before < sink_after → status ≡ 6
 

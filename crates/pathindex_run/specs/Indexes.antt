@@ -1,7 +1,6 @@
--- What is printed of the indexes that are kept.
-use Rattle.std.specs.Prelude.{ℕ, zero, suc, ◌≡◌, ◌≤◌, ◌++◌, Bool, true, false, List, []}
+-- What the indexes of a state show, and what is printed of them.
+use Rattle.std.specs.Prelude.{ℕ, zero, suc, ◌≡◌, ◌≤◌, ◌⊎◌, ◌∷◌, ◌++◌, Bool, true, false, List, []}
 use Rattle.px_spec.specs.declared.refusal.Refusal.TheVariants.{NoIndex}
-use Rattle.px_spec.specs.Graphs.{Graph}
 use Rattle.px_spec.specs.Shapes.{shape_of}
 use Rattle.label_graph.specs.Views.{live_count, edge_count}
 use Rattle.bisim_spec.specs.Bisimilarity.{Bis}
@@ -9,37 +8,62 @@ use Rattle.index_api.specs.declared.kinds.Via.{Via}
 use Rattle.index_api.specs.declared.kinds.Via.TheVariants.{Data, A, One, Fb}
 use Rattle.extent_report.specs.Listing.{DecidesEach, extents_text, block_total, joined_total, head_line, size_line}
 use Rattle.pathindex_run.specs.Texts.{refused_line}
+use Rattle.pathindex_run.specs.States.{State}
 
--- The index is kept where the highest level is k: so far those of the A(k)-family are, and no others.
-abbrev pub IsKept : ℕ → Via → Type 0
-IsKept k Data = ⊥
-IsKept k (A level) = level ≤ k
-IsKept k One = ⊥
-IsKept k Fb = ⊥
+-- The index is kept: so far those of the A(k)-family up to level k are, and no others.
+abbrev pub IsKept : State → Via → Type 0
+IsKept s Data = ⊥
+IsKept s (A level) = level ≤ s.k
+IsKept s One = ⊥
+IsKept s Fb = ⊥
 
--- the test tells which nodes of the graph are bisimilar to the level
-abbrev pub TellsLevel : Graph → ℕ → (ℕ → ℕ → Bool) → Type 0
-TellsLevel g level r = DecidesEach r (Bis (shape_of g) level)
+-- the relation of the index: the two nodes are in one of its blocks
+abbrev pub Relates : State → Via → ℕ → ℕ → Type 0
+Relates s Data u v = ⊥
+Relates s (A level) u v = Bis (shape_of s.graph) level u v
+Relates s One u v = ⊥
+Relates s Fb u v = ⊥
 
--- the text lists the blocks of nodes that are bisimilar to the level
-abbrev pub ListsLevel : Graph → ℕ → List ℕ → Type 0
-ListsLevel g level text = (r : ℕ → ℕ → Bool) × TellsLevel g level r × (text ≡ extents_text (shape_of g) r)
+-- What an index shows in a state: it is kept, and the test decides its relation.
+pub record ShowsIndex (s : State) (via : Via) (r : ℕ → ℕ → Bool) : Type 0 where
+  pub kept : IsKept s via
+  pub decides : DecidesEach r (Relates s via)
+
+-- the text lists the blocks of the index
+pub record ListsIndex (s : State) (via : Via) (text : List ℕ) : Type 0 where
+  pub test : ℕ → ℕ → Bool
+  pub shows : ShowsIndex s via test
+  pub text_is : text ≡ extents_text (shape_of s.graph) test
 
 -- what `extents` prints through an index, and whether that is a refusal
-pub data ShowsExtents (g : Graph) (k : ℕ) : Via → List ℕ → Bool → Type 0 where
-  listed : (level : ℕ) → level ≤ k → (text : List ℕ) → ListsLevel g level text → ShowsExtents g k (A level) text false
-  unkept : (via : Via) → ¬ IsKept k via → ShowsExtents g k via (refused_line NoIndex) true
+pub data ShowsExtents (s : State) : Via → List ℕ → Bool → Type 0 where
+  listed : (via : Via) (text : List ℕ) → ListsIndex s via text → ShowsExtents s via text false
+  unkept : (via : Via) → ¬ IsKept s via → ShowsExtents s via (refused_line NoIndex) true
 
--- how many blocks of nodes are bisimilar to the level, and how many edges join them
-abbrev pub IsLevelLine : Graph → ℕ → List ℕ → Type 0
-IsLevelLine g level line =
-    (r : ℕ → ℕ → Bool) × TellsLevel g level r × (line ≡ size_line (A level) (block_total (shape_of g) r) (joined_total (shape_of g) r))
+-- the line says how many blocks the index has, and how many pairs of them an edge joins
+pub record IsSizeLine (s : State) (via : Via) (line : List ℕ) : Type 0 where
+  pub test : ℕ → ℕ → Bool
+  pub shows : ShowsIndex s via test
+  pub line_is : line ≡ size_line via (block_total (shape_of s.graph) test) (joined_total (shape_of s.graph) test)
 
--- such lines of the levels below n, the lowest first
-abbrev pub AreLevelLines : Graph → ℕ → List ℕ → Type 0
-AreLevelLines g zero text = text ≡ []
-AreLevelLines g (suc n) text = (front : List ℕ) × (line : List ℕ) × AreLevelLines g n front × IsLevelLine g n line × (text ≡ front ++ line)
+-- what `sizes` prints of an index: its line where it is kept, else nothing
+abbrev pub ShowsSize : State → Via → List ℕ → Type 0
+ShowsSize s via text = IsSizeLine s via text ⊎ ((¬ IsKept s via) × (text ≡ []))
 
--- what `sizes` prints: how many nodes and edges there are, and then the line of each level that is kept
-abbrev pub ShowsSizes : Graph → ℕ → List ℕ → Type 0
-ShowsSizes g k text = (lines : List ℕ) × AreLevelLines g (suc k) lines × (text ≡ head_line (live_count g) (edge_count g) ++ lines)
+-- what it prints of these indexes, one after another
+abbrev pub AreSizes : State → List Via → List ℕ → Type 0
+AreSizes s [] text = text ≡ []
+AreSizes s (via ∷ vias) text = (line : List ℕ) × (rest : List ℕ) × ShowsSize s via line × AreSizes s vias rest × (text ≡ line ++ rest)
+
+-- the A-indexes of the levels below n, the lowest first
+abbrev pub levels_below : ℕ → List Via
+levels_below zero = []
+levels_below (suc n) = levels_below n ++ A n ∷ []
+
+-- all indexes with levels up to k, in the order in which sizes are printed
+abbrev pub all_indexes : ℕ → List Via
+all_indexes k = levels_below (suc k) ++ One ∷ Fb ∷ []
+
+-- what `sizes` prints: how many nodes and edges there are, and then the line of each index that is kept
+abbrev pub ShowsSizes : State → List ℕ → Type 0
+ShowsSizes s text = (lines : List ℕ) × AreSizes s (all_indexes s.k) lines × (text ≡ head_line (live_count s.graph) (edge_count s.graph) ++ lines)

@@ -2,7 +2,7 @@
 use Rattle.std.specs.Prelude.{ℕ, Bool, refl}
 use Rattle.std.specs.Coded.{Coded, code_by, coded×, coded_bool, coded_ℕ}
 use Rattle.px_spec.specs.Graphs.{Graph, graph_code}
-use Rattle.pathindex_run.specs.Runs.{State}
+use Rattle.pathindex_run.specs.States.{State}
 
 -- its state, and whether some line printed `refused`
 pub record Kept : Type 0 where

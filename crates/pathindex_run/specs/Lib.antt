@@ -1,11 +1,12 @@
 pub mod Texts
+pub mod States
 pub mod Indexes
 pub mod Runs
 pub mod Kept
-pub mod Going
+pub mod RunSteps
 pub mod Families
-pub mod Listing
+pub mod NodeTexts
 pub mod Endings
 pub mod Told
 pub mod Headline
-pub mod Starting
+pub mod ToldFiles

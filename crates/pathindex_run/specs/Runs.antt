@@ -12,21 +12,16 @@ use Rattle.index_api.specs.declared.kinds.Via.TheVariants.{Data}
 use Rattle.path_query.specs.Trees.{Seq}
 use Rattle.path_query.specs.Answers.{AreAnswers}
 use Rattle.pathindex_run.specs.Texts.{reply, answers_text, bad_line}
+use Rattle.pathindex_run.specs.States.{State}
 use Rattle.pathindex_run.specs.Indexes.{ShowsExtents, ShowsSizes}
 use Rattle.script_read.specs.Commands.{Command, change, path, extents, sizes, IsQuiet, IsSpelled, SpellsNothing}
-
--- what commands change or ask
-pub record State : Type 0 where
-  pub graph : Graph
-  -- the highest level of the A(k)-indexes that are kept
-  pub k : ℕ
 
 -- the graph after a change, by its outcome: a refusal leaves it
 abbrev pub changed : Graph → Result Graph Refusal → Graph
 changed g (Ok h) = h
 changed g (Err r) = g
 
--- so does the state
+-- the state after it
 abbrev pub moved : State → Result Graph Refusal → State
 moved s outcome = record s { graph = changed s.graph outcome }
 
@@ -36,8 +31,8 @@ pub data Obeys (limits : Limits) (s : State) : Command → List ℕ → Bool →
       → Obeys limits s (change c) (reply c s.graph (apply c s.graph limits)) (is_err (apply c s.graph limits))
       (moved s (apply c s.graph limits))
   answers : (e : Seq) (nodes : List ℕ) → AreAnswers (shape_of s.graph) e nodes → Obeys limits s (path Data e) (answers_text nodes) false s
-  lists : (via : Via) (text : List ℕ) (refuses : Bool) → ShowsExtents s.graph s.k via text refuses → Obeys limits s (extents via) text refuses s
-  measures : (text : List ℕ) → ShowsSizes s.graph s.k text → Obeys limits s sizes text false s
+  lists : (via : Via) (text : List ℕ) (refuses : Bool) → ShowsExtents s via text refuses → Obeys limits s (extents via) text refuses s
+  measures : (text : List ℕ) → ShowsSizes s text → Obeys limits s sizes text false s
 
 -- so may a line
 pub data Does (limits : Limits) (s : State) (line : List ℕ) : List ℕ → Bool → State → Type 0 where
@@ -84,13 +79,17 @@ TakesLines limits p [] printed q = (printed ≡ []) × (q ≡ p)
 TakesLines limits p (l ∷ ls) printed q = (text : List ℕ) × (rest : List ℕ) × (mid : Progress)
     × TakesLine limits p l text mid × TakesLines limits mid ls rest q × (printed ≡ text ++ rest)
 
--- the status at the end of the script
-abbrev pub status_of : Progress → ℕ
-status_of p = if p.refused then 1 else 0
+-- what the end of the script prints: nothing so far
+abbrev pub end_text : Progress → List ℕ
+end_text p = []
 
--- the run after the last line that it takes: at the end of the script, or at a bad line
+-- the status there
+abbrev pub end_status : Progress → ℕ
+end_status p = if p.refused then 1 else 0
+
+-- The run ends here, and that prints this and gives the status: at the end of the script, or at a bad line.
 abbrev pub Ends : Progress → List Line → List ℕ → ℕ → Type 0
-Ends p [] printed status = (printed ≡ []) × (status ≡ status_of p)
+Ends p [] printed status = (printed ≡ end_text p) × (status ≡ end_status p)
 Ends p (l ∷ ls) printed status = IsBad p l × (printed ≡ bad_line (p.lines + 1)) × (status ≡ 4)
 
 -- From the first state the script is run to its end or to a bad line.
@@ -105,16 +104,20 @@ pub record IsRun (limits : Limits) (first : State) (script output : List ℕ) (s
   pub ends : Ends last left ending status
   pub output_is : output ≡ printed ++ ending
 
--- what a line prints, a bad one too
-abbrev pub Prints : Limits → Progress → Line → List ℕ → Type 0
-Prints limits p l text = ((q : Progress) × TakesLine limits p l text q) ⊎ (IsBad p l × (text ≡ bad_line (p.lines + 1)))
+-- the next line is taken, and prints this
+abbrev pub TakesNext : Limits → Progress → List Line → List ℕ → Type 0
+TakesNext limits p [] text = ⊥
+TakesNext limits p (l ∷ ls) text = (q : Progress) × TakesLine limits p l text q
 
--- nothing, or a front of what the next line prints
+-- what comes next prints this: a line that is taken, or the end of the run
+abbrev pub PrintsNext : Limits → Progress → List Line → List ℕ → Type 0
+PrintsNext limits p left text = TakesNext limits p left text ⊎ ((status : ℕ) × Ends p left text status)
+
+-- nothing, or a front of what comes next prints
 abbrev pub PrintsFront : Limits → Progress → List Line → List ℕ → Type 0
-PrintsFront limits p [] front = front ≡ []
-PrintsFront limits p (l ∷ ls) front = (front ≡ []) ⊎ ((rest : List ℕ) × Prints limits p l (front ++ rest))
+PrintsFront limits p left front = (front ≡ []) ⊎ ((rest : List ℕ) × PrintsNext limits p left (front ++ rest))
 
--- A front of what the lines print: all that some first lines print, and a front of what the next one prints.
+-- A front of what the lines print: all that some first lines print, and a front of what comes next prints.
 pub record RunsFront (limits : Limits) (p : Progress) (lines : List Line) (output : List ℕ) : Type 0 where
   pub before : List Line
   pub left : List Line

@@ -2,7 +2,7 @@
 ghost use Rattle.std.specs.Prelude.{◌≡◌, ◌++◌, Ok, IfOk, OnOk, OnErr};
 ghost use Rattle.px_spec.specs.Changes.{after};
 ghost use Rattle.graph_update.specs.Judging.{change_of};
-ghost use Rattle.pathindex_run.specs.Going.{Changes};
+ghost use Rattle.pathindex_run.specs.RunSteps.{Changes};
 ghost use Rattle.pathindex_run.specs.Texts.{reply};
 
 use crate::output::{push_line, push_number};

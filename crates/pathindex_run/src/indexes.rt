@@ -1,10 +1,11 @@
 // What is printed of the indexes that are kept. So far each list builds its index afresh.
-ghost use Rattle.std.specs.Prelude.{◌≡◌, ◌<◌, ◌≤◌, ◌++◌, ◌^◌, List, ℕ, suc, IfOk, IfSome, IfNone, OnOk, OnErr, length};
+ghost use Rattle.std.specs.Prelude.{◌≡◌, ◌<◌, ◌≤◌, ◌++◌, ◌^◌, List, ℕ, IfOk, IfSome, IfNone, OnOk, OnErr, length};
 ghost use Rattle.px_spec.specs.Graphs.{Graph as GraphSeen};
 ghost use Rattle.ak_family.specs.Families.{level_at};
 ghost use Rattle.pathindex_run.specs.Families.{AreLevelsOf, IsLevelOf, AddsLevel};
-ghost use Rattle.pathindex_run.specs.Going.{Extends};
-ghost use Rattle.pathindex_run.specs.Indexes.{IsKept, ListsLevel, ShowsExtents, AreLevelLines, ShowsSizes};
+ghost use Rattle.pathindex_run.specs.RunSteps.{Extends};
+ghost use Rattle.pathindex_run.specs.States.{State, state_of};
+ghost use Rattle.pathindex_run.specs.Indexes.{IsKept, ListsIndex, ShowsExtents, AreSizes, all_indexes, ShowsSizes};
 
 use crate::output::push_line;
 use ak_family::AkFamily;
@@ -44,7 +45,7 @@ fn family(alloc: Global, graph: &Graph, k: u32) -> Result<AkFamily, Memory>
 /// The list of the A(i)-index.
 fn level_text(alloc: Global, graph: &Graph, level: u32) -> Result<Text, Memory>
     requires few { level ≤ 8 }
-    ensures { IfOk result (λ t. ListsLevel graph.now.graph level t) }
+    ensures { IfOk result (λ t. (k : ℕ) → level ≤ k → ListsIndex (state_of graph.now.graph k) (Via.A level) t) }
 {
     let family = family(alloc, graph, level)?;
     extents_text(alloc, family.level(level), graph.labels())
@@ -53,7 +54,7 @@ fn level_text(alloc: Global, graph: &Graph, level: u32) -> Result<Text, Memory>
 /// The level of an index that is kept.
 fn kept_level(via: Via, k: u32) -> Option<u32>
     ensures kept { IfSome result (λ level. (via ≡ Via.A level) × (level ≤ k)) }
-    ensures other { IfNone result (¬ IsKept k via) }
+    ensures other { (g : GraphSeen) → IfNone result (¬ IsKept (state_of g k) via) }
 {
     match via {
         Via::A(level) => { if level <= k { Some(level) } else { None } }
@@ -73,7 +74,7 @@ pub(crate) fn push_extents(
     out: &mut Vec<u8>,
 ) -> Result<bool, Memory>
     requires few { k ≤ 8 }
-    ensures ok { IfOk result (λ refuses. (text : List ℕ) × ShowsExtents graph.now.graph k via text refuses × (out.new.items ≡ out.old.items ++ text)) }
+    ensures ok { IfOk result (λ refuses. (text : List ℕ) × ShowsExtents (state_of graph.now.graph k) via text refuses × (out.new.items ≡ out.old.items ++ text)) }
     ensures err { OnErr result (out.new.items ≡ out.old.items) }
 {
     match kept_level(via, k) {
@@ -92,7 +93,7 @@ pub(crate) fn push_extents(
 /// Appends the line of the size of a level.
 fn push_level(alloc: Global, family: &AkFamily, level: u32, out: &mut Vec<u8>) -> Result<(), Memory>
     requires level { level < length family.now }
-    ensures ok { (g : GraphSeen) → IsLevelOf g level (level_at family.now level).quotient → OnOk result (AddsLevel g level out.old.items out.new.items) }
+    ensures ok { (s : State) → level ≤ s.k → IsLevelOf s.graph level (level_at family.now level).quotient → OnOk result (AddsLevel s level out.old.items out.new.items) }
     ensures err { OnErr result (Extends out.old.items out.new.items) }
 {
     let line = sizes_line(alloc, Via::A(level), family.level(level))?;
@@ -103,7 +104,7 @@ fn push_level(alloc: Global, family: &AkFamily, level: u32, out: &mut Vec<u8>) -
 /// Appends the lines of the sizes of the levels.
 fn push_levels(alloc: Global, graph: &Graph, k: u32, out: &mut Vec<u8>) -> Result<(), Memory>
     requires few { k ≤ 8 }
-    ensures ok { OnOk result ((lines : List ℕ) × AreLevelLines graph.now.graph (suc k) lines × (out.new.items ≡ out.old.items ++ lines)) }
+    ensures ok { OnOk result ((lines : List ℕ) × AreSizes (state_of graph.now.graph k) (all_indexes k) lines × (out.new.items ≡ out.old.items ++ lines)) }
     ensures err { OnErr result (Extends out.old.items out.new.items) }
 {
     let family = family(alloc, graph, k)?;
@@ -116,7 +117,7 @@ fn push_levels(alloc: Global, graph: &Graph, k: u32, out: &mut Vec<u8>) -> Resul
 /// Appends what `sizes` prints, or a front of that where memory is wanting.
 fn push_all_sizes(alloc: Global, graph: &Graph, k: u32, out: &mut Vec<u8>) -> Result<(), Memory>
     requires few { k ≤ 8 }
-    ensures ok { OnOk result ((text : List ℕ) × ShowsSizes graph.now.graph k text × (out.new.items ≡ out.old.items ++ text)) }
+    ensures ok { OnOk result ((text : List ℕ) × ShowsSizes (state_of graph.now.graph k) text × (out.new.items ≡ out.old.items ++ text)) }
     ensures err { OnErr result (Extends out.old.items out.new.items) }
 {
     let head = sizes_head(alloc, graph.node_count(), graph.edge_count())?;
@@ -133,7 +134,7 @@ pub(crate) fn push_sizes(
     out: &mut Vec<u8>,
 ) -> Result<(), Memory>
     requires few { k ≤ 8 }
-    ensures ok { OnOk result ((text : List ℕ) × ShowsSizes graph.now.graph k text × (out.new.items ≡ out.old.items ++ text)) }
+    ensures ok { OnOk result ((text : List ℕ) × ShowsSizes (state_of graph.now.graph k) text × (out.new.items ≡ out.old.items ++ text)) }
     ensures err { OnErr result (out.new.items ≡ out.old.items) }
 {
     let whole = out.len();

@@ -7,7 +7,7 @@ ghost use Rattle.px_spec.specs.declared.limits.Limits.{Limits as LimitsSeen};
 ghost use Rattle.script_read.specs.Commands.{change as changing, extents as listing, sizes as measuring};
 ghost use Rattle.script_read.specs.Reading.{command_of};
 ghost use Rattle.pathindex_run.specs.Texts.{answers_text};
-ghost use Rattle.pathindex_run.specs.Going.{Obeyed, AsksData, LineIsTaken};
+ghost use Rattle.pathindex_run.specs.RunSteps.{Obeyed, AsksData, LineIsTaken};
 
 use crate::changes::make_change;
 use crate::indexes::{push_extents, push_sizes};

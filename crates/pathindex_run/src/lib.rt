@@ -3,6 +3,7 @@
 #![tactic(auto)]
 
 mod changes;
+mod entry;
 mod host;
 mod indexes;
 mod interpreter;
@@ -11,8 +12,7 @@ mod queries;
 mod script;
 #[cfg(test)]
 mod tests;
-mod top;
 
+pub use entry::run;
 pub use graph_load::{LoadError, load};
 pub use host::{HostShelf, HostSink};
-pub use top::run;

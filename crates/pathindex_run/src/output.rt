@@ -3,7 +3,7 @@ ghost use Rattle.std.specs.Prelude.{◌≡◌, ◌++◌, ◌∷◌, [], OnOk, On
 ghost use Rattle.std.specs.Io.KnownBytes.{Appends};
 ghost use Rattle.px_base.specs.Causes.{HasCause};
 ghost use Rattle.px_base.specs.Files.{AppendsFront};
-ghost use Rattle.pathindex_run.specs.Going.{Extends};
+ghost use Rattle.pathindex_run.specs.RunSteps.{Extends};
 ghost use Rattle.pathindex_run.specs.Texts.{graph_line};
 
 use itoa::Buffer;

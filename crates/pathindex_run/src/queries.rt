@@ -6,8 +6,8 @@ ghost use Rattle.px_spec.specs.Shapes.{shape_of};
 ghost use Rattle.path_query.specs.Answers.{AreAnswers};
 ghost use Rattle.px_spec.specs.Words.{node_word};
 ghost use Rattle.pathindex_run.specs.Texts.{answers_text, nodes_line};
-ghost use Rattle.pathindex_run.specs.Going.{Extends};
-ghost use Rattle.pathindex_run.specs.Listing.{others_text, members_from};
+ghost use Rattle.pathindex_run.specs.RunSteps.{Extends};
+ghost use Rattle.pathindex_run.specs.NodeTexts.{others_text, members_from};
 
 use crate::output::push_number;
 use itoa::Buffer;

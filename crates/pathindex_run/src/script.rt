@@ -4,9 +4,9 @@ ghost use Rattle.std.specs.Io.KnownBytes.{Appends};
 ghost use Rattle.px_base.specs.Causes.{Rose, HasCause};
 ghost use Rattle.px_base.specs.Files.{AppendsFront};
 ghost use Rattle.px_base.specs.Reading.{stream};
-ghost use Rattle.pathindex_run.specs.Going.{progress, Goes, OnTaken, CanRead, Writes};
+ghost use Rattle.pathindex_run.specs.RunSteps.{progress, Goes, OnTaken, CanRead, Writes};
 ghost use Rattle.pathindex_run.specs.Endings.{status_at};
-ghost use Rattle.pathindex_run.specs.Headline.{first_state};
+ghost use Rattle.pathindex_run.specs.States.{AnyState, state_of};
 ghost use Rattle.pathindex_run.specs.Texts.{bad_line};
 ghost use Rattle.pathindex_run.specs.Told.{RanTold, FrontTold};
 ghost use Rattle.pathindex_run.specs.declared.script.Stop.TheVariants.{Sink as SinkStop, Memory as MemoryStop};
@@ -127,7 +127,7 @@ fn next_line<H: Shelf>(
 
 /// Writes what is gathered where there is much of it, and before the next line is read of the shelf, so that a
 /// failing read loses no line that was taken.
-fn make_way<K: Sink>(reader: &LineReader, out: &mut Vec<u8>, sink: &mut K) -> Result<(), Failed>
+fn flush_if_due<K: Sink>(reader: &LineReader, out: &mut Vec<u8>, sink: &mut K) -> Result<(), Failed>
     ensures written { OnOk result (Writes (K.written sink.old) (K.written sink.new) out.old.items out.new.items) }
     ensures part { OnErr result (AppendsFront (K.written sink.old) (K.written sink.new) out.old.items) }
     ensures cause { HasCause (K.faults sink.old) (K.faults sink.new) result }
@@ -176,8 +176,8 @@ pub(crate) fn run_lines<H: Shelf, K: Sink>(
 ) -> Result<Ending, Stop>
     requires open { IsTrue (H.is_open shelf.old) }
     requires few { k ≤ 8 }
-    ensures ran { IfOk result (λ ending. RanTold limits.now (first_state graph.graph k) (H.left shelf.old) (K.written sink.old) (K.written sink.new) (status_at ending)) }
-    ensures part { OnErr result (FrontTold limits.now (first_state graph.graph k) (H.left shelf.old) (K.written sink.old) (K.written sink.new)) }
+    ensures ran { IfOk result (λ ending. RanTold limits.now (state_of graph.graph k) (H.left shelf.old) (K.written sink.old) (K.written sink.new) (status_at ending) AnyState) }
+    ensures part { OnErr result (FrontTold limits.now (state_of graph.graph k) (H.left shelf.old) (K.written sink.old) (K.written sink.new)) }
     ensures files { H.files shelf.new ≡ H.files shelf.old }
     ensures shelf_fault { IsErrOf result Stop.Shelf → Rose (H.faults shelf.old) (H.faults shelf.new) }
     ensures no_shelf_fault { result ≢ Err Stop.Shelf → H.faults shelf.new ≡ H.faults shelf.old }
@@ -188,7 +188,7 @@ pub(crate) fn run_lines<H: Shelf, K: Sink>(
     let mut interpreter = Interpreter::new(graph, k);
     let mut out = Vec::new(alloc);
     'lines: loop {
-        make_way(&reader, &mut out, sink)?;
+        flush_if_due(&reader, &mut out, sink)?;
         match next_line(
             alloc,
             limits,

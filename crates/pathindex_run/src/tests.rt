@@ -177,6 +177,22 @@ fn graph_files_are_loaded(rt: HostRuntime) -> Result<(), Fail> {
     Ok(())
 }
 
+// A comment of one byte more than a line may have, in either file.
+#[test]
+fn long_lines_are_refused(rt: HostRuntime) -> Result<(), Fail> {
+    let long = b"#".repeat(rt.alloc(), 1_048_577)?;
+    let graph: Option<&[u8]> = Some(long.as_slice());
+    let words = ["s", "--graph", "g"];
+    let (refused, written) = run_files(rt.alloc(), &words, Some(b""), graph, (&[], &[]))?;
+    assert_eq!(rt;
+        (refused, written.as_slice()),
+        (3, b"graph 1 limit\n".as_slice())
+    );
+    let (bad, written) = run_script(rt.alloc(), &["s"], graph, &[], &[])?;
+    assert_eq!(rt; (bad, written.as_slice()), (4, b"bad 1\n".as_slice()));
+    Ok(())
+}
+
 /// Two chains of a, b and c, and a node above the second one: its lists before it is linked, then, and after.
 const CHAINS: &[u8] =
     b"node a\nnode b\nnode c\nlink n0 n1\nlink n1 n2\nnode a\nnode b\nnode c\nlink n3 n4\nlink n4 n5\nnode x\nextents a2\nlink n6 n3\nextents a2\nunlink n6 n3\nextents a2\n";

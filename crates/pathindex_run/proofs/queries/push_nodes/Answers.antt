@@ -1,7 +1,7 @@
 use Rattle.std.proofs.Common.{◌+◌, ◌++◌, ◌∷◌, [], ◌∙◌, ap, sym, append_assoc}
 use Rattle.px_spec.specs.Words.{node_word}
-use Rattle.pathindex_run.specs.Listing.{members_from, others_text}
-use Rattle.pathindex_run.proofs.ListingLemmas.{line_by_first}
+use Rattle.pathindex_run.specs.NodeTexts.{members_from, others_text}
+use Rattle.pathindex_run.proofs.NodeTextLemmas.{line_by_first}
 use Rattle.pathindex_run.proofs.queries.push_nodes.Goals as goal
 
 pub returns-in_ok-push-in-Some-clause-ok : goal.returns-in_ok-push-in-Some-clause-ok

@@ -1,7 +1,7 @@
 use Rattle.std.proofs.Common.{◌<◌, ◌+◌, ◌++◌, ◌∷◌, ◌∙◌, ap, sym, append_assoc, append-nil, arith}
 use Rattle.px_spec.specs.Words.{node_word}
-use Rattle.pathindex_run.specs.Listing.{members_from, others_text}
-use Rattle.pathindex_run.proofs.ListingLemmas.{others_step, others_end, extends_on}
+use Rattle.pathindex_run.specs.NodeTexts.{members_from, others_text}
+use Rattle.pathindex_run.proofs.NodeTextLemmas.{others_step, others_end, extends_on}
 use Rattle.pathindex_run.proofs.queries.push_others.Goals as goal
 
 pub loop-node-preserved : goal.loop-node-preserved

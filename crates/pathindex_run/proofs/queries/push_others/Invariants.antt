@@ -1,6 +1,6 @@
 use Rattle.std.proofs.Common.{◌≡◌, ◌++◌, ◌-◌, ◌≤◌, ◌+◌}
-use Rattle.pathindex_run.specs.Going.{Extends}
-use Rattle.pathindex_run.specs.Listing.{others_text, members_from}
+use Rattle.pathindex_run.specs.RunSteps.{Extends}
+use Rattle.pathindex_run.specs.NodeTexts.{others_text, members_from}
 use Rattle.pathindex_run.proofs.queries.push_others.Given as goal
 
 abbrev pub invariant-loop-node : goal.invariant-loop-node

@@ -3,7 +3,7 @@ use Rattle.std.specs.Prelude.{◌||◌}
 use Rattle.graph_update.specs.Judging.{change_of}
 use Rattle.script_read.specs.Commands.{change as changing}
 use Rattle.pathindex_run.specs.Kept.{Kept}
-use Rattle.pathindex_run.specs.Going.{Obeyed}
+use Rattle.pathindex_run.specs.RunSteps.{Obeyed}
 use Rattle.pathindex_run.proofs.TakenLemmas.{change_obeyed}
 use Rattle.pathindex_run.proofs.interpreter.Interpreter.change.Goals as goal
 

@@ -2,7 +2,7 @@ use Rattle.std.proofs.Common.{◌≡◌, sym, subst, rules}
 use Rattle.std.specs.Prelude.{◌||◌}
 use Rattle.script_read.specs.Commands.{extents as listing}
 use Rattle.pathindex_run.specs.Kept.{Kept}
-use Rattle.pathindex_run.specs.Going.{Obeyed}
+use Rattle.pathindex_run.specs.RunSteps.{Obeyed}
 use Rattle.pathindex_run.proofs.TakenLemmas.{list_obeyed}
 use Rattle.pathindex_run.proofs.interpreter.Interpreter.list.Goals as goal
 

@@ -1,4 +1,4 @@
--- Nodes that are listed from some number on.
+-- The texts of nodes that are listed from some number on.
 use Rattle.std.specs.Prelude.{ℕ, List, [], ◌∷◌, ◌++◌, filter, nat_le}
 use Rattle.px_spec.specs.Words.{node_word}
 

@@ -4,9 +4,10 @@ ghost use Rattle.px_base.specs.Causes.{Rose};
 ghost use Rattle.command_line.specs.Forms.{runs, neither};
 ghost use Rattle.command_line.specs.Shown.{shown_settings};
 ghost use Rattle.command_line.specs.Words.{form_of};
-ghost use Rattle.pathindex_run.specs.Headline.{Meets, HasStatus, Completes, ShowsRefusal};
-ghost use Rattle.pathindex_run.specs.Starting.{BeginsTold};
-ghost use Rattle.pathindex_run.specs.Texts.{graph_line};
+ghost use Rattle.pathindex_run.specs.States.{AnyState};
+ghost use Rattle.pathindex_run.specs.Headline.{Meets, HasStatus, Completes, ShowsLine};
+ghost use Rattle.pathindex_run.specs.ToldFiles.{BeginsTold};
+ghost use Rattle.pathindex_run.specs.Texts.{graph_line, usage_line};
 
 use crate::output::push_graph_line;
 use crate::script::{Stop, run_lines};
@@ -30,7 +31,7 @@ const NO_MEMORY: u8 = 7;
 
 /// Writes the usage line.
 fn show_usage<K: Sink>(sink: &mut K) -> u8
-    ensures meets { Meets neither None (K.written sink.old) (K.written sink.new) result }
+    ensures meets { ShowsLine usage_line 2 (K.written sink.old) (K.written sink.new) result }
     ensures sink { result ≡ 6 → Rose (K.faults sink.old) (K.faults sink.new) }
     ensures kept { result ≢ 6 → K.faults sink.new ≡ K.faults sink.old }
     ensures is_one { (result ≡ 2) ⊎ (result ≡ 6) }
@@ -43,7 +44,7 @@ fn show_usage<K: Sink>(sink: &mut K) -> u8
 
 /// Writes which line of the graph file is refused, and why.
 fn show_refusal<K: Sink>(alloc: Global, line: u32, reason: &str, sink: &mut K) -> u8
-    ensures meets { ShowsRefusal (graph_line line reason.now) (K.written sink.old) (K.written sink.new) result }
+    ensures meets { ShowsLine (graph_line line reason.now) 3 (K.written sink.old) (K.written sink.new) result }
     ensures sink { result ≡ 6 → Rose (K.faults sink.old) (K.faults sink.new) }
     ensures kept { result ≢ 6 → K.faults sink.new ≡ K.faults sink.old }
 {
@@ -75,7 +76,7 @@ fn show_refusal<K: Sink>(alloc: Global, line: u32, reason: &str, sink: &mut K) -
 /// no call fails and no count of faults stands at its last value. At 5, 6 and 7 a front of what the run prints is
 /// written. The cost is linear in the bytes of both files but for what the commands cost.
 pub fn run<H: Shelf, K: Sink>(alloc: Global, words: &[String], shelf: &mut H, sink: &mut K) -> u8
-    ensures meets { Meets (form_of (map string_bytes words.now)) (H.files shelf.old) (K.written sink.old) (K.written sink.new) result }
+    ensures meets { Meets (form_of (map string_bytes words.now)) (H.files shelf.old) (K.written sink.old) (K.written sink.new) result AnyState }
     ensures status { HasStatus (form_of (map string_bytes words.now)) (H.files shelf.old) (H.faults shelf.old) (H.faults shelf.new) (K.faults sink.old) (K.faults sink.new) result }
     ensures complete { Completes (form_of (map string_bytes words.now)) (H.files shelf.old) (H.faults shelf.old) (H.faults shelf.new) (K.faults sink.old) (K.faults sink.new) result }
     ensures files { H.files shelf.new ≡ H.files shelf.old }
@@ -96,7 +97,7 @@ fn run_settings<H: Shelf, K: Sink>(
     sink: &mut K,
 ) -> u8
     requires level { settings.now.k ≤ 8 }
-    ensures meets { Meets (runs (shown_settings settings.now)) (H.files shelf.old) (K.written sink.old) (K.written sink.new) result }
+    ensures meets { Meets (runs (shown_settings settings.now)) (H.files shelf.old) (K.written sink.old) (K.written sink.new) result AnyState }
     ensures status { HasStatus (runs (shown_settings settings.now)) (H.files shelf.old) (H.faults shelf.old) (H.faults shelf.new) (K.faults sink.old) (K.faults sink.new) result }
     ensures complete { Completes (runs (shown_settings settings.now)) (H.files shelf.old) (H.faults shelf.old) (H.faults shelf.new) (K.faults sink.old) (K.faults sink.new) result }
     ensures files { H.files shelf.new ≡ H.files shelf.old }
@@ -120,7 +121,7 @@ fn run_loaded<H: Shelf, K: Sink>(
 ) -> u8
     requires named { option_map (λ t. t.now) settings.now.graph ≡ Some name.now }
     requires level { settings.now.k ≤ 8 }
-    ensures meets { Meets (runs (shown_settings settings.now)) (H.files shelf.old) (K.written sink.old) (K.written sink.new) result }
+    ensures meets { Meets (runs (shown_settings settings.now)) (H.files shelf.old) (K.written sink.old) (K.written sink.new) result AnyState }
     ensures status { HasStatus (runs (shown_settings settings.now)) (H.files shelf.old) (H.faults shelf.old) (H.faults shelf.new) (K.faults sink.old) (K.faults sink.new) result }
     ensures complete { Completes (runs (shown_settings settings.now)) (H.files shelf.old) (H.faults shelf.old) (H.faults shelf.new) (K.faults sink.old) (K.faults sink.new) result }
     ensures files { H.files shelf.new ≡ H.files shelf.old }
@@ -145,7 +146,7 @@ fn run_script<H: Shelf, K: Sink>(
 ) -> u8
     requires begins { BeginsTold (shown_settings settings.now).graph (H.files shelf.old) graph.graph }
     requires level { settings.now.k ≤ 8 }
-    ensures meets { Meets (runs (shown_settings settings.now)) (H.files shelf.old) (K.written sink.old) (K.written sink.new) result }
+    ensures meets { Meets (runs (shown_settings settings.now)) (H.files shelf.old) (K.written sink.old) (K.written sink.new) result AnyState }
     ensures status { HasStatus (runs (shown_settings settings.now)) (H.files shelf.old) (H.faults shelf.old) (H.faults shelf.new) (K.faults sink.old) (K.faults sink.new) result }
     ensures complete { Completes (runs (shown_settings settings.now)) (H.files shelf.old) (H.faults shelf.old) (H.faults shelf.new) (K.faults sink.old) (K.faults sink.new) result }
     ensures files { H.files shelf.new ≡ H.files shelf.old }

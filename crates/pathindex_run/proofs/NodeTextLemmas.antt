@@ -8,8 +8,8 @@ use Rattle.std.proofs.lemmas.List.Elements.{recursion_from_All}
 use Rattle.std.proofs.lemmas.List.Kept.{AllPairs-from_increasing}
 use Rattle.px_spec.specs.Words.{node_word}
 use Rattle.pathindex_run.specs.Texts.{nodes_line}
-use Rattle.pathindex_run.specs.Going.{Extends}
-use Rattle.pathindex_run.specs.Listing.{members_from, others_text}
+use Rattle.pathindex_run.specs.RunSteps.{Extends}
+use Rattle.pathindex_run.specs.NodeTexts.{members_from, others_text}
 
 -- each number is below all later ones
 abbrev Rises : List ℕ → Type 0
