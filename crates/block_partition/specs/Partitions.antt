@@ -1,5 +1,5 @@
 -- A partition of nodes into blocks.
-use Rattle.std.specs.Prelude.{◌≡◌, ℕ, zero, suc, ◌+◌, ◌-◌, ◌<◌, Bool, false, List, [], ◌∷◌, length, Option, None, Some, IsSome, is_some, nat_eq, slice_index_or, slice_set}
+use Rattle.std.specs.Prelude.{◌≡◌, ℕ, zero, suc, ◌+◌, ◌-◌, ◌<◌, Bool, List, [], ◌∷◌, length, Option, None, Some, IsSome, is_some, slice_set}
 use Rattle.std.specs.List.{count_by}
 use Rattle.px_spec.specs.Members.{at, is_this}
 
