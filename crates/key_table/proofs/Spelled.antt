@@ -1,199 +1,180 @@
--- Entries that spell distinct keys, and tables of them.
-use Rattle.std.proofs.Common.{◌≡◌, ◌≢◌, ℕ, suc, ◌+◌, ◌-◌, ◌^◌, ◌<◌, ◌≤◌, ◌⊎◌, List, [], ◌∷◌, ◌++◌, length, refl, sym, ◌∙◌, ap, arith, inl, inr, drop, slice_get, Some, slice_set}
+-- Tables of distinct keys.
+use Rattle.std.proofs.Common.{◌≡◌, ◌≢◌, ℕ, suc, ◌+◌, ◌-◌, ◌^◌, ◌<◌, ◌≤◌, ◌⊎◌, List, [], ◌∷◌, ◌++◌, length, refl, sym, ◌∙◌, ap, subst, arith, inl, inr, drop, slice_get, Option, Some, None, Result, Ok, Err}
+use Rattle.std.specs.Prelude.{IfSome, OnOk, OnErr}
 use Rattle.std.proofs.lemmas.Option.{slice_get-map, slice_get-get_or, slice_get_within}
-use Rattle.std.proofs.lemmas.List.{length-map, length-append, map-append, take-append-le, drop-append-le, get_or_append_left, length-set, get_or-set_same, get_or-set_other, length-drop}
+use Rattle.std.proofs.lemmas.List.{length-map, length-append, map-append, take-append-le, drop-append-le, get_or_append_left, length-drop}
 use Rattle.std.proofs.Math.Seq.{get_or-append_seam, drop-append_seam, take-length}
-use Rattle.key_table.specs.declared.entries.Entry.{Entry}
+use Rattle.hash_index.specs.Items.{Items, with_item, hash_at, count_to, IsNewest}
+use Rattle.key_table.specs.declared.spans.Span.{Span}
 use Rattle.key_table.specs.Hashes.{hash_of}
-use Rattle.key_table.specs.Entries.{nothing, entry_at, key_in, keys_of, AreSpelled, SameEntries}
-use Rattle.key_table.specs.Chains.{head_at, bucket_of, AreChained, IsTable}
+use Rattle.key_table.specs.Spans.{span_at, key_in, keys_of, IsTable}
 use Rattle.key_table.specs.Interning.{IsAbsent, AreDistinct}
-use Rattle.key_table.proofs.Linked.{linked_step, linked_same}
 
 -- the key of a number
-pub key_got : (arena : List ℕ) (es : List Entry) (i : ℕ) → i < length es → slice_get (keys_of arena es) i ≡ Some (key_in arena (entry_at es i))
-key_got arena es i h = rw (slice_get-map (key_in arena) es i, slice_get-get_or es i nothing h) refl
+pub key_got : (arena : List ℕ) (spans : List Span) (i : ℕ) → i < length spans → slice_get (keys_of arena spans) i ≡ Some (key_in arena (span_at spans i))
+key_got arena spans i h = rw (slice_get-map (key_in arena) spans i, slice_get-get_or spans i (record { from = 0; to = 0 }) h) refl
 
-pub found_at : (arena : List ℕ) (es : List Entry) (i : ℕ) (key : List ℕ) → i < length es → key_in arena (entry_at es i) ≡ key → slice_get (keys_of arena es) i ≡ Some key
-found_at arena es i key h e = rw (key_got arena es i h, e) refl
+pub found_at : (arena : List ℕ) (spans : List Span) (i : ℕ) (key : List ℕ) → i < length spans → key_in arena (span_at spans i) ≡ key → slice_get (keys_of arena spans) i ≡ Some key
+found_at arena spans i key h e = rw (key_got arena spans i h, e) refl
 
-pub is_at : (arena : List ℕ) (es : List Entry) (i : ℕ) (key : List ℕ) → slice_get (keys_of arena es) i ≡ Some key → (i < length es) × (key_in arena (entry_at es i) ≡ key)
-is_at arena es i key g =
-    let w : i < length es = rw (← length-map es (key_in arena)) (slice_get_within (keys_of arena es) i key g) in
-    let k = key_got arena es i w in
+is_at : (arena : List ℕ) (spans : List Span) (i : ℕ) (key : List ℕ) → slice_get (keys_of arena spans) i ≡ Some key → (i < length spans) × (key_in arena (span_at spans i) ≡ key)
+is_at arena spans i key g =
+    let w : i < length spans = rw (← length-map spans (key_in arena)) (slice_get_within (keys_of arena spans) i key g) in
+    let k = key_got arena spans i w in
     (w, cc)
 
-pub absent_from : (arena : List ℕ) (es : List Entry) (key : List ℕ) → ((j : ℕ) → j < length es → key_in arena (entry_at es j) ≡ key → ⊥) → IsAbsent (keys_of arena es) key
-absent_from arena es key none i g = let w = is_at arena es i key g in none i w.0 w.1
-
-pub distinct_keys : (arena : List ℕ) (es : List Entry) → AreSpelled arena es → AreDistinct (keys_of arena es)
-distinct_keys arena es k = record {
+pub distinct_keys : (arena : List ℕ) (index : Items Span) → IsTable arena index → AreDistinct (keys_of arena index.items)
+distinct_keys arena index k = record {
   apart = λ i j key g h.
-      let a = is_at arena es i key g in
-      let b = is_at arena es j key h in
+      let a = is_at arena index.items i key g in
+      let b = is_at arena index.items j key h in
       k.apart i j a.0 b.0 (a.1 ∙ sym b.1);
 }
 
--- each key in the chain from `at` on is below it, and each key that may be this one is
-pub record Walk (arena : List ℕ) (es : List Entry) (heads : List ℕ) (key : List ℕ) (at : ℕ) : Type 0 where
-  pub below : at ≤ length es
-  pub chain : 0 < at → bucket_of heads (entry_at es (at - 1)).hash ≡ bucket_of heads (hash_of key)
-  pub rest : (j : ℕ) → j < length es → key_in arena (entry_at es j) ≡ key → j < at
+-- ---- a search: the key isn't among the numbers that were met
 
-pub walk_start : (arena : List ℕ) (es : List Entry) (heads : List ℕ) (key : List ℕ) → IsTable arena es heads → Walk arena es heads key (head_at heads (bucket_of heads (hash_of key)))
-walk_start arena es heads key t = record {
-  below = t.linked.head_below _;
-  chain = λ p. t.linked.head_is _ p;
-  rest = λ j h e.
-      let same : (entry_at es j).hash ≡ hash_of key = rw (t.spelled.hashed j h, e) refl in
-      rw (← same) (t.linked.head_covers j h);
+pub record IsSearch (arena : List ℕ) (index : Items Span) (key : List ℕ) (at : Option ℕ) : Type 0 where
+  pub below : count_to at ≤ length index.items
+  pub has : IfSome at (λ i. hash_at index.hashes i ≡ hash_of key)
+  pub rest : (j : ℕ) → j < length index.items → key_in arena (span_at index.items j) ≡ key → j < count_to at
+
+key_hash : (arena : List ℕ) (index : Items Span) (key : List ℕ) → IsTable arena index → (j : ℕ) → j < length index.items → key_in arena (span_at index.items j) ≡ key → hash_at index.hashes j ≡ hash_of key
+key_hash arena index key t j h e = t.hashed j h ∙ ap hash_of e
+
+pub search_start : (arena : List ℕ) (index : Items Span) (key : List ℕ) (at : Option ℕ) → IsTable arena index → IsNewest index.hashes (hash_of key) (length index.hashes) at → IsSearch arena index key at
+search_start arena index key at t w = record {
+  below = rw (← t.even) w.below;
+  has = w.has;
+  rest = λ j h e. w.covers j (rw t.even h) (key_hash arena index key t j h e);
 }
 
-pub walk_on : (arena : List ℕ) (es : List Entry) (heads : List ℕ) (key : List ℕ) (at : ℕ) → IsTable arena es heads → 0 < at → Walk arena es heads key at → (key_in arena (entry_at es (at - 1)) ≡ key → ⊥) → Walk arena es heads key (entry_at es (at - 1)).next
-walk_on arena es heads key at t p w other =
-    let in_range : at - 1 < length es = (let b = w.below in omega (arith, b, p)) in
+pub search_on : (arena : List ℕ) (index : Items Span) (key : List ℕ) (n : ℕ) (at : Option ℕ) → IsTable arena index → IsSearch arena index key (Some n) → key_in arena (span_at index.items n) ≢ key
+    → IsNewest index.hashes (hash_at index.hashes n) n at → IsSearch arena index key at
+search_on arena index key n at t w other next =
+    let own : hash_at index.hashes n ≡ hash_of key = w.has in
     record {
-      below = (let u = t.linked.next_below (at - 1) in_range in omega (arith, u, in_range));
-      chain = λ q. t.linked.next_is (at - 1) in_range q ∙ w.chain p;
+      below = (let a = w.below in let b = next.below in omega (arith, a, b));
+      has = subst (λ h. IfSome at (λ i. hash_at index.hashes i ≡ h)) own next.has;
       rest = λ j h e.
-          let apart : j ≢ at - 1 = λ (s : j ≡ at - 1). other (rw (← s) e) in
-          let less : j < at - 1 = (let r = w.rest j h e in omega (arith, r, apart)) in
-          let same : (entry_at es j).hash ≡ hash_of key = rw (t.spelled.hashed j h, e) refl in
-          t.linked.next_covers (at - 1) j in_range less (ap (bucket_of heads) same ∙ sym (w.chain p));
+          let apart : j ≢ n = λ (s : j ≡ n). other (rw (← s) e) in
+          let less : j < n = (let r = w.rest j h e in omega (arith, r, apart)) in
+          next.covers j less (key_hash arena index key t j h e ∙ sym own);
     }
 
--- in what follows entries change
-pub keys_same : (arena : List ℕ) (old new : List Entry) → SameEntries old new → keys_of arena new ≡ keys_of arena old
-keys_same arena [] [] s = refl
-keys_same arena [] (y ∷ ys) s = absurd (let l = s.length_kept in omega (arith, l))
-keys_same arena (x ∷ xs) [] s = absurd (let l = s.length_kept in omega (arith, l))
-keys_same arena (x ∷ xs) (y ∷ ys) s =
-    let from : y.from ≡ x.from = s.from 0 in
-    let to : y.to ≡ x.to = s.to 0 in
-    let rest : SameEntries xs ys = record {
-      length_kept = (let l = s.length_kept in omega (arith, l));
-      from = λ i. s.from (suc i);
-      to = λ i. s.to (suc i);
-      hash = λ i. s.hash (suc i);
-    } in
-    rw (from, to, keys_same arena xs ys rest) refl
+pub search_end : (arena : List ℕ) (index : Items Span) (key : List ℕ) → IsSearch arena index key None → IsAbsent (keys_of arena index.items) key
+search_end arena index key w i g =
+    let a = is_at arena index.items i key g in
+    let r = w.rest i a.0 a.1 in
+    omega (arith, r)
 
-pub spelled_same : (arena : List ℕ) (old new : List Entry) → SameEntries old new → AreSpelled arena old → AreSpelled arena new
-spelled_same arena old new s k =
-    let l = s.length_kept in
-    let key = λ (i : ℕ). let e : key_in arena (entry_at new i) ≡ key_in arena (entry_at old i) = rw (s.from i, s.to i) refl in e in
-    record {
-      few = rw l k.few;
-      short = k.short;
-      order = λ i h. rw (s.from i, s.to i) (k.order i (rw (← l) h));
-      within = λ i h. rw (s.to i) (k.within i (rw (← l) h));
-      hashed = λ i h. s.hash i ∙ k.hashed i (rw (← l) h) ∙ ap hash_of (sym (key i));
-      apart = λ i j h m e. k.apart i j (rw (← l) h) (rw (← l) m) (sym (key i) ∙ e ∙ key j);
-    }
+-- ---- a key in front of further numbers
 
--- a key in front of further numbers
-pub key_kept : (arena more : List ℕ) (e : Entry) → e.from ≤ e.to → e.to ≤ length arena → key_in (arena ++ more) e ≡ key_in arena e
-key_kept arena more e o w =
-    let a : e.from ≤ length arena = omega (arith, o, w) in
-    let d = length-drop e.from arena in
-    let b : e.to - e.from ≤ length (drop e.from arena) = omega (arith, o, w, d) in
-    rw (drop-append-le e.from arena more a, take-append-le (e.to - e.from) (drop e.from arena) more b) refl
+key_kept : (arena more : List ℕ) (s : Span) → s.from ≤ s.to → s.to ≤ length arena → key_in (arena ++ more) s ≡ key_in arena s
+key_kept arena more s o w =
+    let a : s.from ≤ length arena = omega (arith, o, w) in
+    let d = length-drop s.from arena in
+    let b : s.to - s.from ≤ length (drop s.from arena) = omega (arith, o, w, d) in
+    rw (drop-append-le s.from arena more a, take-append-le (s.to - s.from) (drop s.from arena) more b) refl
 
-pub key_new : (arena key : List ℕ) (e : Entry) → e.from ≡ length arena → e.to ≡ length arena + length key → key_in (arena ++ key) e ≡ key
-key_new arena key e f t =
-    let n : e.to - e.from ≡ length key = omega (arith, f, t) in
+key_new : (arena key : List ℕ) (s : Span) → s.from ≡ length arena → s.to ≡ length arena + length key → key_in (arena ++ key) s ≡ key
+key_new arena key s f t =
+    let n : s.to - s.from ≡ length key = omega (arith, f, t) in
     rw (n, f, drop-append_seam arena key, take-length key) refl
 
-pub keys_more : (arena more : List ℕ) (es : List Entry) → ((i : ℕ) → i < length es → (entry_at es i).from ≤ (entry_at es i).to) → ((i : ℕ) → i < length es → (entry_at es i).to ≤ length arena) → keys_of (arena ++ more) es ≡ keys_of arena es
-keys_more arena more [] o w = refl
-keys_more arena more (e ∷ es) o w =
-    rw (key_kept arena more e (o 0 (omega arith)) (w 0 (omega arith)), keys_more arena more es (λ i h. o (suc i) (omega (arith, h))) (λ i h. w (suc i) (omega (arith, h)))) refl
+more_keys : (arena more : List ℕ) (spans : List Span) → ((i : ℕ) → i < length spans → (span_at spans i).from ≤ (span_at spans i).to) → ((i : ℕ) → i < length spans → (span_at spans i).to ≤ length arena)
+    → keys_of (arena ++ more) spans ≡ keys_of arena spans
+more_keys arena more [] o w = refl
+more_keys arena more (s ∷ spans) o w =
+    rw (key_kept arena more s (o 0 (omega arith)) (w 0 (omega arith)), more_keys arena more spans (λ i h. o (suc i) (omega (arith, h))) (λ i h. w (suc i) (omega (arith, h)))) refl
 
-pub keys_pushed : (arena key : List ℕ) (es : List Entry) (e : Entry) → AreSpelled arena es → e.from ≡ length arena → e.to ≡ length arena + length key → keys_of (arena ++ key) (es ++ e ∷ []) ≡ keys_of arena es ++ key ∷ []
-keys_pushed arena key es e k f t =
-    rw (map-append (key_in (arena ++ key)) es (e ∷ []), keys_more arena key es k.order k.within, key_new arena key e f t) refl
+pub keys_kept : (arena more : List ℕ) (index : Items Span) → IsTable arena index → keys_of (arena ++ more) index.items ≡ keys_of arena index.items
+keys_kept arena more index t = more_keys arena more index.items t.order t.within
 
-last_or_before : (es : List Entry) (e : Entry) (i : ℕ) → i < length (es ++ e ∷ []) → ((i < length es) × (entry_at (es ++ e ∷ []) i ≡ entry_at es i)) ⊎ ((i ≡ length es) × (entry_at (es ++ e ∷ []) i ≡ e))
-last_or_before es e i h =
-    let l = length-append es (e ∷ []) in
-    let split : (i < length es) ⊎ (i ≡ length es) = grind (arith, l, h) in
+pub table_kept : (arena more : List ℕ) (index : Items Span) → IsTable arena index → length (arena ++ more) < 2 ^ 32 → IsTable (arena ++ more) index
+table_kept arena more index t short =
+    let m = length-append arena more in
+    let old = λ (i : ℕ) (h : i < length index.items). key_kept arena more (span_at index.items i) (t.order i h) (t.within i h) in
+    record {
+      even = t.even;
+      short = short;
+      order = t.order;
+      within = λ i h. let w = t.within i h in omega (arith, m, w);
+      hashed = λ i h. t.hashed i h ∙ ap hash_of (sym (old i h));
+      apart = λ i j h l same. t.apart i j h l (sym (old i h) ∙ same ∙ old j l);
+    }
+
+-- ---- a new key
+
+pub record IsNew (arena : List ℕ) (index : Items Span) (span : Span) (key : List ℕ) (hash : ℕ) : Type 0 where
+  pub order : span.from ≤ span.to
+  pub within : span.to ≤ length arena
+  pub is : key_in arena span ≡ key
+  pub hashed : hash ≡ hash_of key
+  pub absent : IsAbsent (keys_of arena index.items) key
+
+pub new_key : (arena key : List ℕ) (index : Items Span) (span : Span) (hash : ℕ) → IsTable arena index → IsAbsent (keys_of arena index.items) key → span.from ≡ length arena
+    → span.to ≡ length arena + length key → hash ≡ hash_of key → IsNew (arena ++ key) index span key hash
+new_key arena key index span hash t none from to hashed = record {
+  order = omega (arith, from, to);
+  within = (let m = length-append arena key in omega (arith, to, m));
+  is = key_new arena key span from to;
+  hashed = hashed;
+  absent = subst (λ ks. IsAbsent ks key) (sym (keys_kept arena key index t)) none;
+}
+
+last_or_before : (spans : List Span) (s : Span) (i : ℕ) → i < length (spans ++ s ∷ []) → ((i < length spans) × (span_at (spans ++ s ∷ []) i ≡ span_at spans i)) ⊎ ((i ≡ length spans) × (span_at (spans ++ s ∷ []) i ≡ s))
+last_or_before spans s i h =
+    let l = length-append spans (s ∷ []) in
+    let split : (i < length spans) ⊎ (i ≡ length spans) = grind (arith, l, h) in
     elim split [
-      | inl b ↦ inl (b, get_or_append_left es (e ∷ []) nothing i b)
-      | inr s ↦ inr (s, rw s (get_or-append_seam es e [] nothing))
+      | inl b ↦ inl (b, get_or_append_left spans (s ∷ []) (record { from = 0; to = 0 }) i b)
+      | inr e ↦ inr (e, rw e (get_or-append_seam spans s [] (record { from = 0; to = 0 })))
     ]
 
-pub spelled_pushed : (arena key : List ℕ) (es : List Entry) (e : Entry) → AreSpelled arena es → IsAbsent (keys_of arena es) key → e.from ≡ length arena → e.to ≡ length arena + length key → e.hash ≡ hash_of key → length es + 1 < 2 ^ 31 → length arena + length key < 2 ^ 32 → AreSpelled (arena ++ key) (es ++ e ∷ [])
-spelled_pushed arena key es e k none f t q few short =
-    let n = length-append es (e ∷ []) in
-    let m = length-append arena key in
-    let old = λ (i : ℕ) (b : i < length es). key_kept arena key (entry_at es i) (k.order i b) (k.within i b) in
-    let new = key_new arena key e f t in
+pub table_added : (arena : List ℕ) (index : Items Span) (span : Span) (key : List ℕ) (hash : ℕ) → IsTable arena index → IsNew arena index span key hash → IsTable arena (with_item index hash span)
+table_added arena index span key hash t new =
+    let n = length-append index.items (span ∷ []) in
+    let m = length-append index.hashes (hash ∷ []) in
+    let even = t.even in
+    let old_hash = λ (i : ℕ) (b : i < length index.items). get_or_append_left index.hashes (hash ∷ []) 0 i (rw even b) in
+    let last_hash : hash_at (index.hashes ++ hash ∷ []) (length index.items) ≡ hash = rw (← even) (get_or-append_seam index.hashes hash [] 0) in
     record {
-      few = omega (arith, n, few);
-      short = omega (arith, m, short);
-      order = λ i h. elim (last_or_before es e i h) [
-        | inl b ↦ rw b.1 (k.order i b.0)
-        | inr s ↦ rw s.1 (omega (arith, f, t))
+      even = omega (arith, n, m, even);
+      short = t.short;
+      order = λ i h. elim (last_or_before index.items span i h) [ inl b ↦ rw b.1 (t.order i b.0) | inr s ↦ rw s.1 new.order ];
+      within = λ i h. elim (last_or_before index.items span i h) [ inl b ↦ rw b.1 (t.within i b.0) | inr s ↦ rw s.1 new.within ];
+      hashed = λ i h. elim (last_or_before index.items span i h) [
+        | inl b ↦ rw b.1 (old_hash i b.0 ∙ t.hashed i b.0)
+        | inr s ↦ rw (s.1, s.0) (last_hash ∙ new.hashed ∙ ap hash_of (sym new.is))
       ];
-      within = λ i h. elim (last_or_before es e i h) [
-        | inl b ↦ rw b.1 (let w = k.within i b.0 in omega (arith, m, w))
-        | inr s ↦ rw s.1 (omega (arith, m, t))
-      ];
-      hashed = λ i h. elim (last_or_before es e i h) [
-        | inl b ↦ rw b.1 (k.hashed i b.0 ∙ ap hash_of (sym (old i b.0)))
-        | inr s ↦ rw s.1 (q ∙ ap hash_of (sym new))
-      ];
-      apart = λ i j h l same. elim (last_or_before es e i h) [
-        | inl b ↦ elim (last_or_before es e j l) [
-          | inl c ↦ k.apart i j b.0 c.0 (sym (old i b.0) ∙ ap (key_in (arena ++ key)) (sym b.1) ∙ same ∙ ap (key_in (arena ++ key)) c.1 ∙ old j c.0)
-          | inr s ↦ absurd (none i (found_at arena es i key b.0 (sym (old i b.0) ∙ ap (key_in (arena ++ key)) (sym b.1) ∙ same ∙ ap (key_in (arena ++ key)) s.1 ∙ new)))
+      apart = λ i j h l same. elim (last_or_before index.items span i h) [
+        | inl b ↦ elim (last_or_before index.items span j l) [
+          | inl c ↦ t.apart i j b.0 c.0 (ap (key_in arena) (sym b.1) ∙ same ∙ ap (key_in arena) c.1)
+          | inr s ↦ absurd (new.absent i (found_at arena index.items i key b.0 (ap (key_in arena) (sym b.1) ∙ same ∙ ap (key_in arena) s.1 ∙ new.is)))
         ]
-        | inr s ↦ elim (last_or_before es e j l) [
-          | inl c ↦ absurd (none j (found_at arena es j key c.0 (sym (old j c.0) ∙ ap (key_in (arena ++ key)) (sym c.1) ∙ sym same ∙ ap (key_in (arena ++ key)) s.1 ∙ new)))
+        | inr s ↦ elim (last_or_before index.items span j l) [
+          | inl c ↦ absurd (new.absent j (found_at arena index.items j key c.0 (ap (key_in arena) (sym c.1) ∙ sym same ∙ ap (key_in arena) s.1 ∙ new.is)))
           | inr u ↦ s.0 ∙ sym u.0
         ]
       ];
     }
 
-pub linked_pushed : (es : List Entry) (heads : List ℕ) (e : Entry) → AreChained (length es) es heads → AreChained (length es) (es ++ e ∷ []) heads
-linked_pushed es heads e k =
-    linked_same (length es) (λ i. bucket_of heads (entry_at es i).hash) _ (λ i. (entry_at es i).next) _ (head_at heads) k
-    (λ i h. ap (λ (x : Entry). bucket_of heads x.hash) (get_or_append_left es (e ∷ []) nothing i h))
-    (λ i h. ap (λ (x : Entry). x.next) (get_or_append_left es (e ∷ []) nothing i h))
+pub keys_added : (arena key : List ℕ) (index : Items Span) (span : Span) → IsTable arena index → span.from ≡ length arena → span.to ≡ length arena + length key
+    → keys_of (arena ++ key) (index.items ++ span ∷ []) ≡ keys_of arena index.items ++ key ∷ []
+keys_added arena key index span t from to =
+    rw (map-append (key_in (arena ++ key)) index.items (span ∷ []), keys_kept arena key index t, key_new arena key span from to) refl
 
-test : (i n : ℕ) → (i ≡ n) ⊎ (i ≢ n)
-test i n = grind arith
+-- the table after an item was put in, or wasn't
+pub table_pushed : {E : Type 0} (r : Result ℕ E) (arena : List ℕ) (old new : Items Span) (span : Span) (key : List ℕ) (hash : ℕ) → IsTable arena old → IsNew arena old span key hash
+    → OnOk r (new ≡ with_item old hash span) → OnErr r (new ≡ old) → IsTable arena new
+table_pushed (Ok n) arena old new span key hash t is ok err = subst (IsTable arena) (sym ok) (table_added arena old span key hash t is)
+table_pushed (Err e) arena old new span key hash t is ok err = subst (IsTable arena) (sym err) t
 
--- the entry n is put in front of its chain
-pub same_linked : (es : List Entry) (n : ℕ) (e : Entry) → n < length es → e.from ≡ (entry_at es n).from → e.to ≡ (entry_at es n).to → e.hash ≡ (entry_at es n).hash → SameEntries es (slice_set es n e)
-same_linked es n e h f t q = record {
-  length_kept = length-set es n e;
-  from = λ i. elim (test i n) [ inl s ↦ rw s (ap (λ (x : Entry). x.from) (get_or-set_same es n e nothing h) ∙ f) | inr d ↦ ap (λ (x : Entry). x.from) (get_or-set_other es n i e nothing d) ];
-  to = λ i. elim (test i n) [ inl s ↦ rw s (ap (λ (x : Entry). x.to) (get_or-set_same es n e nothing h) ∙ t) | inr d ↦ ap (λ (x : Entry). x.to) (get_or-set_other es n i e nothing d) ];
-  hash = λ i. elim (test i n) [ inl s ↦ rw s (ap (λ (x : Entry). x.hash) (get_or-set_same es n e nothing h) ∙ q) | inr d ↦ ap (λ (x : Entry). x.hash) (get_or-set_other es n i e nothing d) ];
-}
+pub keys_pushed : {E : Type 0} (r : Result ℕ E) (arena key : List ℕ) (old new : Items Span) (span : Span) (hash : ℕ) → IsTable arena old → span.from ≡ length arena → span.to ≡ length arena + length key
+    → OnOk r (new ≡ with_item old hash span) → OnOk r (keys_of (arena ++ key) new.items ≡ keys_of arena old.items ++ key ∷ [])
+keys_pushed (Ok n) arena key old new span hash t from to ok = ap (λ x. keys_of (arena ++ key) x.items) ok ∙ keys_added arena key old span t from to
+keys_pushed (Err e) arena key old new span hash t from to ok = tt
 
-pub link_up : (es : List Entry) (heads : List ℕ) (n : ℕ) (e : Entry) (b : ℕ) → AreChained n es heads → SameEntries es (slice_set es n e) → n < length es → b ≡ bucket_of heads (entry_at es n).hash → b < length heads → e.next ≡ head_at heads b → AreChained (n + 1) (slice_set es n e) (slice_set heads b (n + 1))
-link_up es heads n e b k same h is within next =
-    let l = length-set heads b (n + 1) in
-    linked_step n (λ i. bucket_of heads (entry_at es i).hash) (λ i. bucket_of (slice_set heads b (n + 1)) (entry_at (slice_set es n e) i).hash) (λ i. (entry_at es i).next) (λ i. (entry_at (slice_set es n e) i).next) (head_at heads) (head_at (slice_set heads b (n + 1))) k
-    (λ i. rw (l, same.hash i) refl)
-    (record {
-      here = ap (λ (x : Entry). x.next) (get_or-set_same es n e nothing h) ∙ next ∙ ap (head_at heads) is;
-      there = λ m d. ap (λ (x : Entry). x.next) (get_or-set_other es n m e nothing d);
-    })
-    (record {
-      here = rw (← is) (get_or-set_same heads b (n + 1) 0 within);
-      there = λ m d. get_or-set_other heads b m (n + 1) 0 (rw is d);
-    })
-
-pub table_same : (arena : List ℕ) (old new : List Entry) (heads : List ℕ) → AreSpelled arena old → SameEntries old new → AreChained (length new) new heads → 0 < length heads → IsTable arena new heads
-table_same arena old new heads k s l some = record { spelled = spelled_same arena old new s k; linked = l; some = some }
-
-pub added_table : (arena key : List ℕ) (es new : List Entry) (heads heads2 : List ℕ) (e : Entry) → IsTable arena es heads → IsAbsent (keys_of arena es) key → e.from ≡ length arena → e.to ≡ length arena + length key → e.hash ≡ hash_of key → length es + 1 < 2 ^ 31 → length arena + length key < 2 ^ 32 → SameEntries (es ++ e ∷ []) new → AreChained (length es + 1) new heads2 → 0 < length heads2 → IsTable (arena ++ key) new heads2
-added_table arena key es new heads heads2 e t none f g q few short s l some =
-    let n : length new ≡ length es + 1 = s.length_kept ∙ length-append es (e ∷ []) in
-    table_same (arena ++ key) (es ++ e ∷ []) new heads2 (spelled_pushed arena key es e t.spelled none f g q few short) s (rw n l) some
-
-pub added_keys : (arena key : List ℕ) (es new : List Entry) (e : Entry) → AreSpelled arena es → e.from ≡ length arena → e.to ≡ length arena + length key → SameEntries (es ++ e ∷ []) new → keys_of (arena ++ key) new ≡ keys_of arena es ++ key ∷ []
-added_keys arena key es new e k f t s = keys_same (arena ++ key) (es ++ e ∷ []) new s ∙ keys_pushed arena key es e k f t
+pub keys_left : {E : Type 0} (r : Result ℕ E) (arena key : List ℕ) (old new : Items Span) → IsTable arena old → OnErr r (new ≡ old) → OnErr r (keys_of (arena ++ key) new.items ≡ keys_of arena old.items)
+keys_left (Ok n) arena key old new t err = tt
+keys_left (Err e) arena key old new t err = ap (λ x. keys_of (arena ++ key) x.items) err ∙ keys_kept arena key old t

@@ -1,4 +1,3 @@
 pub mod Hashes
-pub mod Entries
-pub mod Chains
+pub mod Spans
 pub mod Interning

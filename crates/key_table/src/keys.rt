@@ -1,29 +1,24 @@
 // The table of keys.
-ghost use Rattle.std.specs.Prelude.{◌≡◌, ◌+◌, ◌<◌, ◌^◌, ◌++◌, ◌∷◌, [], length, slice_get, Some, IfSome, IfNone, IfOk, OnErr};
+ghost use Rattle.std.specs.Prelude.{◌≡◌, ◌<◌, ◌^◌, ◌++◌, ◌∷◌, [], length, slice_get, Some, IfSome, IfNone, IfOk, OnOk, OnErr};
 ghost use Rattle.key_table.specs.Hashes.{hash_of};
-ghost use Rattle.key_table.specs.Entries.{keys_of};
-ghost use Rattle.key_table.specs.Chains.{IsTable};
+ghost use Rattle.key_table.specs.Spans.{keys_of, IsTable};
 ghost use Rattle.key_table.specs.Interning.{IsAbsent, AreDistinct, Interns};
 
-use crate::chains::{link, make_room, search};
-use crate::entries::Entry;
 use crate::hashing::hash_key;
+use crate::spans::{Span, read_span, search};
+use hash_index::HashIndex;
 use px_base::Memory;
 use std::alloc::Global;
 use std::marker::Model;
 
-/// How many buckets an empty table has.
-const FIRST_BUCKETS: usize = 16;
-
 /// Keys, each a list of numbers, numbered from 0 on in the order in which they came.
 ///
-/// A key takes 4 bytes for each of its numbers, 16 for its entry and 4 to 8 for its bucket. There are
+/// A key takes 4 bytes for each of its numbers, 16 for its place in the index and 4 to 8 for its bucket. There are
 /// fewer than 2^31 keys, with fewer than 2^32 numbers together.
 #[derive(Drop)]
 pub struct KeyTable {
     arena: Vec<u32>,
-    entries: Vec<Entry>,
-    heads: Vec<u32>,
+    index: HashIndex<Span>,
 }
 
 impl Model for KeyTable {
@@ -31,12 +26,11 @@ impl Model for KeyTable {
 
     ghost Value = { List (List ℕ) };
 
-    ghost use Rattle.key_table.specs.Entries.{keys_of};
-    ghost use Rattle.key_table.specs.Chains.{IsTable};
+    ghost use Rattle.key_table.specs.Spans.{keys_of, IsTable};
 
-    ghost view = { λ k. keys_of k.arena.items k.entries.items };
+    ghost view = { λ k. keys_of k.arena.items k.index.items };
 
-    ghost invariant = { λ k. IsTable k.arena.items k.entries.items k.heads.items };
+    ghost invariant = { λ k. IsTable k.arena.items k.index };
 }
 
 impl KeyTable {
@@ -44,11 +38,10 @@ impl KeyTable {
     pub fn new(alloc: Global) -> Result<KeyTable, Memory>
         ensures { IfOk result (λ k. k ≡ []) }
     {
-        let heads = vec![in alloc; 0; FIRST_BUCKETS]?;
+        let index = HashIndex::new(alloc)?;
         Ok(KeyTable {
             arena: Vec::new(alloc),
-            entries: Vec::new(alloc),
-            heads,
+            index,
         })
     }
 
@@ -58,7 +51,7 @@ impl KeyTable {
         ensures distinct { AreDistinct self.now }
         ensures few { result < 2 ^ 31 }
     {
-        self.entries.len() as u32
+        self.index.len()
     }
 
     /// The key of a number. O(1).
@@ -66,8 +59,8 @@ impl KeyTable {
         requires { i < length self.now }
         ensures { slice_get self.now i ≡ Some result.now }
     {
-        let e = self.entries[i as usize];
-        &self.arena[e.from as usize..e.to as usize]
+        let span = read_span(&self.index, i);
+        &self.arena[span.from as usize..span.to as usize]
     }
 
     /// The number of a key, and `None` exactly where it isn't in the table. It is found by hash.
@@ -76,7 +69,7 @@ impl KeyTable {
         ensures absent { IfNone result (IsAbsent self.now key.now) }
         ensures distinct { AreDistinct self.now }
     {
-        search(&self.arena, &self.entries, &self.heads, key, hash_key(key))
+        search(&self.arena, &self.index, key, hash_key(key))
     }
 
     /// The number of a key, which is put behind the others where it is new. `Memory` comes where memory
@@ -87,49 +80,37 @@ impl KeyTable {
         ensures err { OnErr result (self.new ≡ self.old) }
     {
         let hash = hash_key(key);
-        if let Some(i) = search(&self.arena, &self.entries, &self.heads, key, hash) {
+        if let Some(i) = search(&self.arena, &self.index, key, hash) {
             return Ok(i);
         }
-        make_room(&mut self.entries, &mut self.heads)?;
-        add(
-            &mut self.arena,
-            &mut self.entries,
-            &mut self.heads,
-            key,
-            hash,
-        )
+        add(&mut self.arena, &mut self.index, key, hash)
     }
 }
 
 // Adds a key that is absent.
 fn add(
     arena: &mut Vec<u32>,
-    entries: &mut Vec<Entry>,
-    heads: &mut Vec<u32>,
+    index: &mut HashIndex<Span>,
     key: &[u32],
     hash: u32,
 ) -> Result<u32, Memory>
-    requires table { IsTable arena.old.items entries.old.items heads.old.items }
+    requires table { IsTable arena.old.items index.old }
     requires hash { hash ≡ hash_of key.now }
-    requires absent { IsAbsent (keys_of arena.old.items entries.old.items) key.now }
-    ensures table { IsTable arena.new.items entries.new.items heads.new.items }
-    ensures ok { IfOk result (λ i. (i ≡ length entries.old.items) × (keys_of arena.new.items entries.new.items ≡ keys_of arena.old.items entries.old.items ++ key.now ∷ [])) }
-    ensures err { OnErr result (keys_of arena.new.items entries.new.items ≡ keys_of arena.old.items entries.old.items) }
+    requires absent { IsAbsent (keys_of arena.old.items index.old.items) key.now }
+    ensures table { IsTable arena.new.items index.new }
+    ensures number { IfOk result (λ i. i ≡ length index.old.items) }
+    ensures added { OnOk result (keys_of arena.new.items index.new.items ≡ keys_of arena.old.items index.old.items ++ key.now ∷ []) }
+    ensures err { OnErr result (keys_of arena.new.items index.new.items ≡ keys_of arena.old.items index.old.items) }
 {
-    let n = entries.len();
     let from = arena.len();
-    if n >= 0x7FFF_FFFF || key.len() >= 0xFFFF_FFFF - from {
+    if key.len() >= 0xFFFF_FFFF - from {
         return Err(Memory);
     }
-    entries.reserve(1)?;
     arena.extend_from_slice(key)?;
     let to = arena.len();
-    entries.push(Entry {
+    let span = Span {
         from: from as u32,
         to: to as u32,
-        hash,
-        next: 0,
-    })?;
-    link(entries, heads, n);
-    Ok(n as u32)
+    };
+    index.push(hash, span)
 }

@@ -2,10 +2,9 @@
 //! one after another in one arena, so that a new key takes no allocation of its own.
 #![tactic(auto)]
 
-mod chains;
-mod entries;
 mod hashing;
 mod keys;
+mod spans;
 #[cfg(test)]
 mod tests;
 

@@ -4,4 +4,4 @@ use Rattle.key_table.proofs.Spelled.{distinct_keys}
 use Rattle.key_table.proofs.keys.KeyTable.find.Goals as goal
 
 pub returns-clause-distinct : goal.returns-clause-distinct
-returns-clause-distinct c = subst AreDistinct c.self.view_is (distinct_keys _ _ c.self.invariant.spelled)
+returns-clause-distinct c = subst AreDistinct c.self.view_is (distinct_keys _ _ c.self.invariant)

@@ -1,0 +1,42 @@
+-- Chains of the items whose hashes fall into one bucket. A link or a head is one more than a number, or 0 where there is
+-- none.
+use Rattle.std.specs.Prelude.{◌≡◌, ℕ, ◌-◌, ◌^◌, ◌<◌, ◌≤◌, List, length, slice_index_or, bit_and}
+use Rattle.hash_index.specs.declared.slots.Slot.{Slot}
+use Rattle.hash_index.specs.Slots.{hashes_of, links_of}
+use Rattle.hash_index.specs.Items.{hash_at}
+
+abbrev pub head_at : List ℕ → ℕ → ℕ
+head_at heads b = slice_index_or heads b 0
+
+abbrev pub link_at : List ℕ → ℕ → ℕ
+link_at links n = slice_index_or links n 0
+
+-- the bucket of a hash
+abbrev pub bucket_of : List ℕ → ℕ → ℕ
+bucket_of heads hash = bit_and hash (length heads - 1)
+
+-- The chains of the first n numbers, by the bucket, the link and the heads. The head of a bucket is above each of its
+-- numbers, and the link of a number above each smaller number of its bucket. So a walk along the links of a bucket meets
+-- all its numbers, by falling number.
+pub record IsLinked (n : ℕ) (bucket next head : ℕ → ℕ) : Type 0 where
+  pub head_covers : (i : ℕ) → i < n → i < head (bucket i)
+  pub head_below : (b : ℕ) → head b ≤ n
+  pub head_is : (b : ℕ) → 0 < head b → bucket (head b - 1) ≡ b
+  pub next_covers : (i j : ℕ) → i < n → j < i → bucket j ≡ bucket i → j < next i
+  pub next_below : (i : ℕ) → i < n → next i ≤ i
+  pub next_is : (i : ℕ) → i < n → 0 < next i → bucket (next i - 1) ≡ bucket i
+
+abbrev pub AreLinked : ℕ → List ℕ → List ℕ → List ℕ → Type 0
+AreLinked n hashes links heads = IsLinked n (λ i. bucket_of heads (hash_at hashes i)) (link_at links) (head_at heads)
+
+-- what every index keeps
+pub record IsIndex {X : Type 0} (slots : List (Slot X)) (heads : List ℕ) : Type 0 where
+  pub few : length slots < 2 ^ 31
+  pub linked : AreLinked (length slots) (hashes_of slots) (links_of slots) heads
+  pub some : 0 < length heads
+
+-- what is left of a walk through the numbers below m: those that have the hash and weren't met yet are below the link `at`
+pub record IsWalk (hashes heads : List ℕ) (hash m at : ℕ) : Type 0 where
+  pub below : at ≤ m
+  pub chain : 0 < at → bucket_of heads (hash_at hashes (at - 1)) ≡ bucket_of heads hash
+  pub rest : (j : ℕ) → j < m → hash_at hashes j ≡ hash → j < at
