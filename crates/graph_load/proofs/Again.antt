@@ -3,8 +3,8 @@ use Rattle.std.proofs.Common.{◌≡◌, ℕ, List, Option, Some, None, sym}
 use Rattle.std.specs.Prelude.{IfSome, position, bytes_eq}
 use Rattle.triples_read.specs.declared.term.Term.{Term}
 use Rattle.graph_load.specs.declared.loader.Loader.{Loader}
-use Rattle.graph_load.specs.declared.terms.Found.{Found}
-use Rattle.graph_load.specs.Finding.{IsFound, IsFoundAs}
+use Rattle.term_table.specs.declared.table.Found.{Found}
+use Rattle.term_table.specs.Finding.{IsFound, IsFoundAs}
 use Rattle.graph_load.specs.Holding.{Grows}
 use Rattle.graph_load.proofs.Joining.{number_stays}
 use Rattle.graph_load.proofs.Taking.{place_stays, predicate_stays}

@@ -7,7 +7,8 @@ use Rattle.px_spec.specs.declared.refusal.Refusal.TheVariants.{Limit, NoNode}
 use Rattle.px_spec.specs.Graphs.{Graph, is_live, is_seen}
 use Rattle.px_spec.specs.Changes.{node, link, apply, node_fits, edge_fits, with_node, with_edge}
 use Rattle.triples_read.specs.declared.term.Term.{Term}
-use Rattle.graph_load.specs.Loading.{Loading, number_of, with_graph, changed, numbered, need, term_label}
+use Rattle.graph_load.specs.Loading.{Loading, with_graph, changed, numbered, need, term_label}
+use Rattle.term_table.specs.Terms.{number_of}
 
 abbrev value_or : {T E : Type 0} → T → Result T E → T
 value_or x (Ok z) = z

@@ -15,7 +15,8 @@ use Rattle.triples_read.specs.Lines.{xsd_string}
 use Rattle.triples_read.specs.declared.term.Term.{Term}
 use Rattle.triples_read.specs.declared.term.Term.TheVariants.{Iri, Blank, Literal}
 use Rattle.triples_read.specs.declared.term.Triple.{Triple}
-use Rattle.graph_load.specs.Loading.{Loading, nothing_loaded, predicate_label, same_term, need, with_graph, then_do, onto_term, with_triple}
+use Rattle.graph_load.specs.Loading.{Loading, nothing_loaded, predicate_label, need, with_graph, then_do, onto_term, with_triple}
+use Rattle.term_table.specs.Terms.{same_term}
 
 abbrev a : Term
 a = Iri (codes "a")

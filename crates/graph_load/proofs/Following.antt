@@ -16,6 +16,7 @@ use Rattle.graph_load.specs.declared.files.LoadError.TheVariants as error
 use Rattle.graph_load.specs.declared.batch.Next.{Next}
 use Rattle.graph_load.specs.declared.batch.Next.TheVariants.{Lines, End, Syntax, Limit}
 use Rattle.graph_load.specs.declared.batch.Waiting.{Waiting}
+use Rattle.graph_load.specs.Hashed.{triple_of, hashed}
 use Rattle.graph_load.specs.declared.loader.Loader.{Loader}
 use Rattle.px_spec.specs.declared.refusal.Refusal.{Refusal}
 use Rattle.graph_load.specs.Loading.{Loading, nothing_loaded, with_triple}
@@ -110,7 +111,7 @@ module _ (r q : Reading) (before after : Option (List ℕ)) (reads : ReadsLine r
         empty (subst Empty text_is is_empty) o (subst (λ p. LoadsFrom limits rest p o) (sym (behind l l)) h))
 
     -- a line spells a triple
-    past_triple : (t : Triple) → Spells q.line t → (l : Loading) (o : Outcome) → LoadsThen limits Lines q after (with_one limits (record { triple = t; line = q.number }) l) o → LoadsAhead limits before (place r l) o
+    past_triple : (t : Triple) → Spells q.line t → (l : Loading) (o : Outcome) → LoadsThen limits Lines q after (with_one limits (record { triple = hashed t; line = q.number }) l) o → LoadsAhead limits before (place r l) o
     past_triple t spells l o h = by (with_triple limits t l) refl h
       where
         by : (x : Result Loading Refusal) → with_triple limits t l ≡ x → LoadsThen limits Lines q after (at_line q.number x) o → LoadsAhead limits before (place r l) o
@@ -133,7 +134,7 @@ module _ (r q : Reading) (before after : Option (List ℕ)) (reads : ReadsLine r
   reads_on Lines waited waits (inl (is_empty, same)) = λ limits l o h.
       each limits r before Lines q after (past_empty limits is_empty) (with_all limits waited l) o (subst (λ ws. LoadsThen limits Lines q after (with_all limits ws l) o) same h)
   reads_on Lines waited waits (inr (t, spells, is)) = λ limits l o h.
-      let w : Waiting = record { triple = t; line = q.number } in
+      let w : Waiting = record { triple = hashed t; line = q.number } in
       each_last limits w r before q after (past_triple limits t spells) (with_all limits waited l) o
       (subst (λ x. LoadsThen limits Lines q after x o) (ap (λ ws. with_all limits ws l) is ∙ with_last limits waited w l) h)
   reads_on End waited waits puts = absurd puts
@@ -200,12 +201,12 @@ module _ (limits : Limits) (ws : List Waiting) (n : ℕ) (old r : Loader) (left 
   }
 
   module _ (w : Waiting) (h : n < length ws) (is : w ≡ get_or ws n w) where
-    pub left_next : (new : Loader) → IsTaken limits w.triple r new → AreLeft limits ws (n + 1) old new
+    pub left_next : (new : Loader) → IsTaken limits (triple_of w.triple) r new → AreLeft limits ws (n + 1) old new
     left_next new taken = record {
       sound = taken.sound;
       does = λ triples holds.
           let d = left.does triples holds in (
-            with_new d.0 w.triple,
+            with_new d.0 (triple_of w.triple),
             taken.holds d.0 d.1,
             d.2 ∙ ap (λ x. with_all limits x (loading r d.0)) (drop_more ws n w h ∙ ap (λ v. v ∷ drop (n + 1) ws) (sym is))
                 ∙ ap (λ x. then_load (at_line w.line x) (with_all limits (drop (n + 1) ws))) (taken.does d.0 d.1),

@@ -6,8 +6,10 @@ use Rattle.px_spec.specs.Changes.{link}
 use Rattle.triples_read.specs.declared.term.Term.{Term}
 use Rattle.triples_read.specs.declared.term.Triple.{Triple}
 use Rattle.graph_load.specs.declared.loader.Loader.{Loader}
-use Rattle.graph_load.specs.Loading.{number_of, same_term, need, changed, then_do, from_term, onto_term, joined}
-use Rattle.graph_load.specs.Holding.{loading, Begins, Grows, Steps, IsStopped}
+use Rattle.graph_load.specs.Loading.{need, changed, then_do, from_term, onto_term, joined}
+use Rattle.term_table.specs.Terms.{number_of, same_term}
+use Rattle.graph_load.specs.Holding.{loading, Grows, Steps, IsStopped}
+use Rattle.term_table.specs.Entries.{Begins}
 use Rattle.graph_load.proofs.Standing.{lookup_append}
 
 begins_trans : {X : Type 0} (xs ys zs : List X) → Begins xs ys → Begins ys zs → Begins xs zs

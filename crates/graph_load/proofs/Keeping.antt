@@ -10,11 +10,14 @@ use Rattle.label_graph.specs.Held.{Held, no_room}
 use Rattle.triples_read.specs.declared.term.Term.{Term}
 use Rattle.graph_load.specs.declared.known.Key.{Key}
 use Rattle.graph_load.specs.declared.loader.Loader.{Loader}
-use Rattle.graph_load.specs.Loading.{number_of, same_term, need, changed, with_graph, term_label, predicate_label}
-use Rattle.graph_load.specs.Places.{place_of, with_predicate}
-use Rattle.graph_load.specs.Holding.{loading, PointsInto, IsSoundLoader, Begins, Steps}
+use Rattle.graph_load.specs.Loading.{need, changed, with_graph, term_label, predicate_label}
+use Rattle.term_table.specs.Terms.{number_of, same_term}
+use Rattle.graph_load.specs.Places.{with_predicate}
+use Rattle.term_table.specs.Terms.{place_in}
+use Rattle.graph_load.specs.Holding.{loading, PointsInto, IsSoundLoader, Steps}
+use Rattle.term_table.specs.Entries.{Begins}
 use Rattle.graph_load.proofs.Standing.{position_push, lookup_push, keys_push, is_some-lookup}
-use Rattle.graph_load.proofs.SameTerms.{term_same}
+use Rattle.term_table.proofs.SameTerms.{term_same}
 use Rattle.graph_load.proofs.Changing.{node_made, link_made, need_new}
 
 pub more_within : (m n p q : ℕ) → m ≤ p → n ≤ q → (ks : List Key) → AllByRecursion (PointsInto m n) ks → AllByRecursion (PointsInto p q) ks
@@ -46,7 +49,7 @@ term_steps limits x old h n terms sound none made room number added =
       grows = record { terms = ((x, n) ∷ [], added); predicates = ([], sym (append-nil old.predicates)); known = refl };
     }
 
-pub term_place : (terms : List (Term × ℕ)) (x : Term) (n : ℕ) → number_of terms x ≡ None → place_of (terms ++ (x, n) ∷ []) x ≡ Some (length terms)
+pub term_place : (terms : List (Term × ℕ)) (x : Term) (n : ℕ) → number_of terms x ≡ None → place_in (terms ++ (x, n) ∷ []) x ≡ Some (length terms)
 term_place terms x n none =
     ap (position (same_term x)) (keys_push terms x n)
     ∙ position_push (same_term x) (keys_of terms) x (term_same x) (sym (is_some-lookup (same_term x) terms) ∙ ap is_some none)

@@ -9,11 +9,13 @@ use Rattle.triples_read.specs.declared.term.Term.{Term}
 use Rattle.triples_read.specs.declared.term.Triple.{Triple}
 use Rattle.graph_load.specs.declared.known.Key.{Key}
 use Rattle.graph_load.specs.declared.loader.Loader.{Loader}
-use Rattle.graph_load.specs.Loading.{same_term, same_triple}
-use Rattle.graph_load.specs.Places.{place_of, stands, is_key_of, same_key}
+use Rattle.graph_load.specs.Loading.{same_triple}
+use Rattle.term_table.specs.Terms.{same_term}
+use Rattle.graph_load.specs.Places.{stands, is_key_of, same_key}
+use Rattle.term_table.specs.Terms.{place_in}
 use Rattle.graph_load.specs.Holding.{is_known, PointsInto, IsSoundLoader, Grows}
 use Rattle.graph_load.proofs.Standing.{is_at, stands_at, stands_append, stands_same}
-use Rattle.graph_load.proofs.SameTerms.{term_is, same_bytes}
+use Rattle.term_table.proofs.SameTerms.{term_is, same_bytes}
 
 pub any_same : {X : Type 0} (p q : X → Bool) (xs : List X) → ((x : X) → p x ≡ q x) → list_any p xs ≡ list_any q xs
 any_same p q xs h = ap (λ r. list_any r xs) (λ i x. h x i)
@@ -30,14 +32,14 @@ false_last false = refl
 pub placed_at : {X : Type 0} (p : X → Bool) (xs : List X) (o : Option ℕ) (k : ℕ) → position p xs ≡ o → stands p xs k ≡ is_at o k
 placed_at p xs o k h = stands_at p xs k ∙ ap (λ q. is_at q k) h
 
-term_at : (terms : List (Term × ℕ)) (x : Term) (o : Option ℕ) (k : ℕ) → place_of terms x ≡ o → stands (same_term x) (keys_of terms) k ≡ is_at o k
+term_at : (terms : List (Term × ℕ)) (x : Term) (o : Option ℕ) (k : ℕ) → place_in terms x ≡ o → stands (same_term x) (keys_of terms) k ≡ is_at o k
 term_at terms x o k h = placed_at (same_term x) (keys_of terms) o k h
 
 predicate_found : (predicates : List (List ℕ)) (iri : List ℕ) (o : Option ℕ) (k : ℕ) → position (bytes_eq iri) predicates ≡ o → stands (bytes_eq iri) predicates k ≡ is_at o k
 predicate_found predicates iri o k h = placed_at (bytes_eq iri) predicates o k h
 
 module _ (terms : List (Term × ℕ)) (predicates : List (List ℕ)) (t : Triple) where
-  pub unknown_subject : (ks : List Key) → place_of terms t.subject ≡ None → list_any (is_key_of terms predicates t) ks ≡ false
+  pub unknown_subject : (ks : List Key) → place_in terms t.subject ≡ None → list_any (is_key_of terms predicates t) ks ≡ false
   unknown_subject ks h = any_false _ ks (λ k. ap (λ b. b && (stands (bytes_eq t.predicate) predicates k.predicate && stands (same_term t.object) (keys_of terms) k.object)) (term_at terms t.subject None k.subject h))
 
   pub unknown_predicate : (ks : List Key) → position (bytes_eq t.predicate) predicates ≡ None → list_any (is_key_of terms predicates t) ks ≡ false
@@ -45,15 +47,15 @@ module _ (terms : List (Term × ℕ)) (predicates : List (List ℕ)) (t : Triple
       ap (λ b. stands (same_term t.subject) (keys_of terms) k.subject && (b && stands (same_term t.object) (keys_of terms) k.object)) (predicate_found predicates t.predicate None k.predicate h)
       ∙ false_last (stands (same_term t.subject) (keys_of terms) k.subject))
 
-  pub unknown_object : (ks : List Key) → place_of terms t.object ≡ None → list_any (is_key_of terms predicates t) ks ≡ false
+  pub unknown_object : (ks : List Key) → place_in terms t.object ≡ None → list_any (is_key_of terms predicates t) ks ≡ false
   unknown_object ks h = any_false _ ks (λ k.
       ap (λ b. stands (same_term t.subject) (keys_of terms) k.subject && (stands (bytes_eq t.predicate) predicates k.predicate && b)) (term_at terms t.object None k.object h)
       ∙ ap (λ b. stands (same_term t.subject) (keys_of terms) k.subject && b) (false_last (stands (bytes_eq t.predicate) predicates k.predicate))
       ∙ false_last (stands (same_term t.subject) (keys_of terms) k.subject))
 
   -- the key of a triple whose parts all have a place
-  pub known_key : (ks : List Key) (key : Key) → place_of terms t.subject ≡ Some key.subject → position (bytes_eq t.predicate) predicates ≡ Some key.predicate
-      → place_of terms t.object ≡ Some key.object → list_any (same_key key) ks ≡ list_any (is_key_of terms predicates t) ks
+  pub known_key : (ks : List Key) (key : Key) → place_in terms t.subject ≡ Some key.subject → position (bytes_eq t.predicate) predicates ≡ Some key.predicate
+      → place_in terms t.object ≡ Some key.object → list_any (same_key key) ks ≡ list_any (is_key_of terms predicates t) ks
   known_key ks key s p o = sym (any_same _ (same_key key) ks (λ k.
       (λ i. term_at terms t.subject (Some key.subject) k.subject s i && (predicate_found predicates t.predicate (Some key.predicate) k.predicate p i && term_at terms t.object (Some key.object) k.object o i))))
 
@@ -83,8 +85,8 @@ itself : (n : ℕ) → nat_eq n n ≡ true
 itself n = grind (arith, nat_tests)
 
 -- a key is that of its own triple alone
-pub key_of_same : (terms : List (Term × ℕ)) (predicates : List (List ℕ)) (t : Triple) (key : Key) → place_of terms t.subject ≡ Some key.subject
-    → position (bytes_eq t.predicate) predicates ≡ Some key.predicate → place_of terms t.object ≡ Some key.object
+pub key_of_same : (terms : List (Term × ℕ)) (predicates : List (List ℕ)) (t : Triple) (key : Key) → place_in terms t.subject ≡ Some key.subject
+    → position (bytes_eq t.predicate) predicates ≡ Some key.predicate → place_in terms t.object ≡ Some key.object
     → (u : Triple) → is_key_of terms predicates u key ≡ same_triple u t
 key_of_same terms predicates t key s p o u =
     (λ i. stands_same same_term term_is (keys_of terms) u.subject t.subject key.subject (term_at terms t.subject (Some key.subject) key.subject s ∙ itself key.subject) i

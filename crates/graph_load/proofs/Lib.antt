@@ -1,9 +1,4 @@
-pub mod Linked
-pub mod Stored
-pub mod Spelled
 pub mod Standing
-pub mod SameTerms
-pub mod FoundLemmas
 pub mod Changing
 pub mod Keeping
 pub mod Joining

@@ -10,30 +10,10 @@ use Rattle.std.proofs.lemmas.List.Quantifiers.{position-Some}
 use Rattle.std.proofs.lemmas.Option.{unwrap_or-slice_get}
 use Rattle.graph_update.specs.declared.changes.Change.{Change}
 use Rattle.graph_update.specs.declared.changes.Change.TheVariants.{Node}
+use Rattle.term_table.proofs.Positions.{position-cons}
 use Rattle.graph_load.specs.Loading.{predicate_label}
 use Rattle.graph_load.specs.Places.{stands, AddLabels, predicate_at, with_predicate}
-use Rattle.graph_load.proofs.SameTerms.{same_bytes}
-
-shifted : (k n : ℕ) → cond (nat_lt (1 + k) (suc n)) (Some (1 + k)) None ≡ option_map suc (cond (nat_lt k n) (Some k) None)
-shifted k n = ap (λ b. cond b (Some (1 + k)) None) more ∙ by (nat_lt k n)
-  where
-    more : nat_lt (1 + k) (suc n) ≡ nat_lt k n
-    more = grind (arith, nat_tests)
-
-    by : (b : Bool) → cond b (Some (1 + k)) None ≡ option_map suc (cond b (Some k) None)
-    by true = ap Some (omega arith)
-    by false = refl
-
--- `position` by recursion
-pub position-cons : {X : Type 0} (p : X → Bool) (x : X) (xs : List X) → position p (x ∷ xs) ≡ cond (p x) (Some 0) (option_map suc (position p xs))
-position-cons p x xs = by (p x)
-  where
-    first : nat_lt 0 (suc (length xs)) ≡ true
-    first = grind (arith, nat_tests)
-
-    by : (b : Bool) → cond (nat_lt (cond (not b) (1 + position_or_len p xs) 0) (suc (length xs))) (Some (cond (not b) (1 + position_or_len p xs) 0)) None ≡ cond b (Some 0) (option_map suc (position p xs))
-    by true = ap (λ b. cond b (Some 0) None) first
-    by false = shifted (position_or_len p xs) (length xs)
+use Rattle.term_table.proofs.SameTerms.{same_bytes}
 
 -- whether the place is this one
 abbrev pub is_at : Option ℕ → ℕ → Bool

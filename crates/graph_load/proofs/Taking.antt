@@ -12,8 +12,10 @@ use Rattle.triples_read.specs.declared.term.Term.{Term}
 use Rattle.triples_read.specs.declared.term.Triple.{Triple}
 use Rattle.graph_load.specs.declared.known.Key.{Key}
 use Rattle.graph_load.specs.declared.loader.Loader.{Loader}
-use Rattle.graph_load.specs.Loading.{same_term, same_triple, need, changed, then_do, joined, placed, predicate_label, with_triple}
-use Rattle.graph_load.specs.Places.{place_of, is_key_of, same_key}
+use Rattle.graph_load.specs.Loading.{same_triple, need, changed, then_do, joined, placed, predicate_label, with_triple}
+use Rattle.term_table.specs.Terms.{same_term}
+use Rattle.graph_load.specs.Places.{is_key_of, same_key}
+use Rattle.term_table.specs.Terms.{place_in}
 use Rattle.graph_load.specs.Holding.{loading, is_known, Holds, with_new, PointsInto, IsSoundLoader, Grows, Steps, IsStopped, IsTaken, IsUntaken}
 use Rattle.graph_load.proofs.Standing.{position_append}
 use Rattle.graph_load.proofs.Joining.{grows_trans}
@@ -74,12 +76,12 @@ module _ (limits : Limits) (t : Triple) (old : Loader) (unknown : is_known old t
         grown : Grows old c
         grown = grows_trans old b c (grows_trans old a b needs.grows adds.grows) joins.grows
 
-        pub still_unknown : (key : Key) → place_of c.terms t.subject ≡ Some key.subject → position (bytes_eq t.predicate) c.predicates ≡ Some key.predicate
-            → place_of c.terms t.object ≡ Some key.object → list_any (same_key key) c.known ≡ false
+        pub still_unknown : (key : Key) → place_in c.terms t.subject ≡ Some key.subject → position (bytes_eq t.predicate) c.predicates ≡ Some key.predicate
+            → place_in c.terms t.object ≡ Some key.object → list_any (same_key key) c.known ≡ false
         still_unknown key s p o = known_key c.terms c.predicates t c.known key s p o ∙ known_stays old c grown sound t ∙ unknown
 
-        pub taken_new : (key : Key) (known : List Key) → place_of c.terms t.subject ≡ Some key.subject → position (bytes_eq t.predicate) c.predicates ≡ Some key.predicate
-            → place_of c.terms t.object ≡ Some key.object → known ≡ c.known ++ key ∷ [] → IsTaken limits t old (record c { known = known })
+        pub taken_new : (key : Key) (known : List Key) → place_in c.terms t.subject ≡ Some key.subject → position (bytes_eq t.predicate) c.predicates ≡ Some key.predicate
+            → place_in c.terms t.object ≡ Some key.object → known ≡ c.known ++ key ∷ [] → IsTaken limits t old (record c { known = known })
         taken_new key known s p o added = record {
           sound = record {
             room = joins.sound.room;
@@ -106,9 +108,9 @@ module _ (limits : Limits) (t : Triple) (old : Loader) (unknown : is_known old t
                 record { subject = omega (arith, size, i); predicate = j; object = omega (arith, size, k) }
 
 -- the places of the subject and the predicate stay
-pub place_stays : (old new : Loader) → Grows old new → (x : Term) (i : ℕ) → place_of old.terms x ≡ Some i → place_of new.terms x ≡ Some i
+pub place_stays : (old new : Loader) → Grows old new → (x : Term) (i : ℕ) → place_in old.terms x ≡ Some i → place_in new.terms x ≡ Some i
 place_stays old new grows x i h =
-    ap (λ ts. place_of ts x) grows.terms.1 ∙ ap (position (same_term x)) (map-append (λ e. e.0) old.terms grows.terms.0) ∙ position_append (same_term x) (keys_of old.terms) (keys_of grows.terms.0) i h
+    ap (λ ts. place_in ts x) grows.terms.1 ∙ ap (position (same_term x)) (map-append (λ e. e.0) old.terms grows.terms.0) ∙ position_append (same_term x) (keys_of old.terms) (keys_of grows.terms.0) i h
 
 pub predicate_stays : (old new : Loader) → Grows old new → (iri : List ℕ) (i : ℕ) → position (bytes_eq iri) old.predicates ≡ Some i → position (bytes_eq iri) new.predicates ≡ Some i
 predicate_stays old new grows iri i h = ap (position (bytes_eq iri)) grows.predicates.1 ∙ position_append (bytes_eq iri) old.predicates grows.predicates.0 i h

@@ -15,6 +15,7 @@ use Rattle.graph_load.specs.declared.batch.Next.TheVariants.{Lines, End, Syntax,
 use Rattle.graph_load.specs.declared.batch.Waiting.{Waiting}
 use Rattle.graph_load.specs.declared.loader.Loader.{Loader}
 use Rattle.graph_load.specs.Loading.{Loading, with_triple}
+use Rattle.graph_load.specs.Hashed.{triple_of, hashed}
 use Rattle.graph_load.specs.Loads.{Outcome, loaded, syntax, limit, Place, LoadsFrom, Loads}
 use Rattle.graph_load.specs.Holding.{loading, Holds, IsSoundLoader, IsUntaken}
 
@@ -71,7 +72,7 @@ then_load (Ok l) f = f l
 then_load (Err n) f = Err n
 
 abbrev pub with_one : Limits → Waiting → Loading → Result Loading ℕ
-with_one limits w l = at_line w.line (with_triple limits w.triple l)
+with_one limits w l = at_line w.line (with_triple limits (triple_of w.triple) l)
 
 -- one after the other; the first that is refused decides
 abbrev pub with_all : Limits → List Waiting → Loading → Result Loading ℕ
@@ -92,7 +93,7 @@ LoadsThen limits next r text (Err n) o = o ≡ limit n
 
 -- a line, of that number, is put behind those that wait where it spells a triple
 abbrev pub Puts : List ℕ → ℕ → List Waiting → List Waiting → Next → Type 0
-Puts text n old new Lines = (Empty text × (new ≡ old)) ⊎ ((t : Triple) × Spells text t × (new ≡ old ++ record { triple = t; line = n } ∷ []))
+Puts text n old new Lines = (Empty text × (new ≡ old)) ⊎ ((t : Triple) × Spells text t × (new ≡ old ++ record { triple = hashed t; line = n } ∷ []))
 Puts text n old new End = ⊥
 Puts text n old new (Syntax m) = (m ≡ n) × (new ≡ old) × (¬ Empty text) × ((t : Triple) → Spells text t → ⊥)
 Puts text n old new (Limit m) = ⊥
@@ -114,7 +115,7 @@ pub record AreLoaded (limits : Limits) (waited : List Waiting) (old new : Loader
 
 -- a triple is refused, and the number of its line decides
 abbrev pub Stops : Limits → Waiting → Loader → Outcome → Type 0
-Stops limits w r o = (o ≡ limit w.line) × IsUntaken limits w.triple r
+Stops limits w r o = (o ≡ limit w.line) × IsUntaken limits (triple_of w.triple) r
 
 -- one of the triples that waited is
 abbrev pub OneStops : Limits → List Waiting → Loader → Outcome → Type 0

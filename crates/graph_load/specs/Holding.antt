@@ -8,7 +8,8 @@ use Rattle.triples_read.specs.declared.term.Triple.{Triple}
 use Rattle.graph_load.specs.declared.known.Key.{Key}
 use Rattle.graph_load.specs.declared.loader.Loader.{Loader}
 use Rattle.graph_load.specs.declared.loader.Places.{Places}
-use Rattle.graph_load.specs.Finding.{IsFoundAs}
+use Rattle.term_table.specs.Entries.{Begins}
+use Rattle.term_table.specs.Finding.{IsFoundAs}
 use Rattle.graph_load.specs.Loading.{Loading, same_triple, with_triple}
 use Rattle.graph_load.specs.Places.{is_key_of}
 
@@ -45,10 +46,6 @@ pub record IsSoundLoader (r : Loader) : Type 0 where
   pub terms : length r.terms ≤ length r.graph.graph.given
   pub predicates : length r.predicates ≤ length r.graph.graph.given
   pub known : AllByRecursion (PointsInto (length r.terms) (length r.predicates)) r.known
-
--- the second list begins with the first
-abbrev pub Begins : {X : Type 0} → List X → List X → Type 0
-Begins {X} xs ys = (more : List X) × (ys ≡ xs ++ more)
 
 -- nothing is taken out of a table, and no triple is known that wasn't
 pub record Grows (old new : Loader) : Type 0 where

@@ -1,10 +1,7 @@
 pub mod Loading
 pub mod Loads
 pub mod Places
-pub mod Parts
-pub mod Entries
-pub mod Chains
-pub mod Finding
+pub mod Hashed
 pub mod Steps
 pub mod Holding
 pub mod Going

@@ -1,29 +1,17 @@
 -- The graph of a set of triples. Each term that is a subject or an object is a node, labelled by its kind; each triple
 -- is a node, labelled by its predicate; edges lead from the subject to the triple and on to the object. Numbers are given
 -- in the order of first need: of a new triple its subject, the triple, its object.
-use Rattle.std.specs.Prelude.{ℕ, Bool, true, false, ◌&&◌, List, [], ◌∷◌, ◌++◌, length, codes, bytes_eq, is_some, unwrap_or, if◌then◌else◌, Option, Some, None, Result, Ok, Err}
+use Rattle.std.specs.Prelude.{ℕ, Bool, ◌&&◌, List, [], ◌∷◌, ◌++◌, length, codes, bytes_eq, is_some, unwrap_or, if◌then◌else◌, Result, Ok, Err}
 use Rattle.std.specs.List.{list_any}
-use Rattle.std.specs.Map.{lookup}
 use Rattle.px_spec.specs.declared.limits.Limits.{Limits}
 use Rattle.px_spec.specs.declared.refusal.Refusal.{Refusal}
 use Rattle.px_spec.specs.Graphs.{Graph, empty_graph}
 use Rattle.px_spec.specs.Changes.{Change, node, link, apply}
+use Rattle.term_table.specs.Terms.{same_term, number_of}
 use Rattle.triples_read.specs.declared.term.Term.{Term}
 use Rattle.triples_read.specs.declared.term.Term.TheVariants.{Iri, Blank, Literal}
 use Rattle.triples_read.specs.declared.term.Triple.{Triple}
 use Rattle.triples_read.specs.Canonical.{iri_spelling}
-
-abbrev pub same_tag : Option (List ℕ) → Option (List ℕ) → Bool
-same_tag None None = true
-same_tag (Some s) (Some t) = bytes_eq s t
-same_tag a b = false
-
--- the kind and all characters are equal
-abbrev pub same_term : Term → Term → Bool
-same_term (Iri x) (Iri y) = bytes_eq x y
-same_term (Blank x) (Blank y) = bytes_eq x y
-same_term (Literal x d s) (Literal y e t) = bytes_eq x y && (bytes_eq d e && same_tag s t)
-same_term a b = false
 
 abbrev pub same_triple : Triple → Triple → Bool
 same_triple t u = same_term t.subject u.subject && (bytes_eq t.predicate u.predicate && same_term t.object u.object)
@@ -47,10 +35,6 @@ pub record Loading : Type 0 where
 
 abbrev pub nothing_loaded : Loading
 nothing_loaded = record { graph = empty_graph; terms = []; triples = [] }
-
--- the number of a term that is a node
-abbrev pub number_of : List (Term × ℕ) → Term → Option ℕ
-number_of terms x = lookup (same_term x) terms
 
 abbrev pub is_loaded : Loading → Triple → Bool
 is_loaded l t = list_any (same_triple t) l.triples

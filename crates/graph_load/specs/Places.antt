@@ -7,10 +7,8 @@ use Rattle.graph_update.specs.declared.changes.Change.TheVariants.{Node}
 use Rattle.triples_read.specs.declared.term.Term.{Term}
 use Rattle.triples_read.specs.declared.term.Triple.{Triple}
 use Rattle.graph_load.specs.declared.known.Key.{Key}
-use Rattle.graph_load.specs.Loading.{same_term, predicate_label}
-
-abbrev pub place_of : List (Term × ℕ) → Term → Option ℕ
-place_of terms x = position (same_term x) (keys_of terms)
+use Rattle.graph_load.specs.Loading.{predicate_label}
+use Rattle.term_table.specs.Terms.{same_term}
 
 abbrev pub predicate_at : List (List ℕ) → ℕ → List ℕ
 predicate_at predicates place = unwrap_or (slice_get predicates place) []

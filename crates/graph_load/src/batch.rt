@@ -2,11 +2,13 @@
 ghost use Rattle.std.specs.Prelude.{◌≡◌, ◌≢◌, ◌++◌, ◌∷◌, [], IfOk, IfErr, OnOk, IsErrOf, Err};
 ghost use Rattle.px_base.specs.Causes.{Rose};
 ghost use Rattle.px_base.specs.Reading.{stream};
+ghost use Rattle.graph_load.specs.Hashed.{triple_of, hashed};
 ghost use Rattle.graph_load.specs.Holding.{IsSoundLoader, IsTaken};
 ghost use Rattle.graph_load.specs.Going.{Says, CanRead, OnLines, Puts, Reads, IsNearer, AreLoaded, Stops, OneStops};
 
 use crate::additions::Stop;
 use crate::files::LoadError;
+use crate::hashed::HashedTriple;
 use crate::loader::Loader;
 use crate::loader::ahead::{Hints, Lookahead};
 use px_base::{Limits, LineFault, LineReader, Memory, Shelf};
@@ -19,7 +21,7 @@ const BATCH: usize = 16;
 /// A triple that was read and isn't loaded yet, and the number of its line.
 #[derive(Drop)]
 pub(crate) struct Waiting {
-    pub(crate) triple: Triple,
+    pub(crate) triple: HashedTriple,
     pub(crate) line: u32,
 }
 
@@ -36,8 +38,9 @@ pub(crate) enum Next {
 }
 
 fn put(waiting: &mut Vec<Waiting>, triple: Triple, line: u32) -> Result<(), Memory>
-    ensures { OnOk result (waiting.new.items ≡ waiting.old.items ++ record { triple = triple; line = line } ∷ []) }
+    ensures { OnOk result (waiting.new.items ≡ waiting.old.items ++ record { triple = hashed triple; line = line } ∷ []) }
 {
+    let triple = HashedTriple::new(triple);
     waiting.push(Waiting { triple, line })?;
     Ok(())
 }
@@ -123,7 +126,7 @@ fn load_next(
     hints: Option<Hints>,
 ) -> Result<(), LoadError>
     requires { IsSoundLoader loader.old }
-    ensures taken { OnOk result (IsTaken limits.now waiting.now.triple loader.old loader.new) }
+    ensures taken { OnOk result (IsTaken limits.now (triple_of waiting.now.triple) loader.old loader.new) }
     ensures stopped { IfErr result (Says (Stops limits.now waiting.now loader.old)) }
     ensures found { result ≢ Err LoadError.Missing }
     ensures no_fault { result ≢ Err LoadError.Fault }
@@ -161,6 +164,6 @@ pub(crate) fn give_back(spare: &mut SpareTexts, waiting: &mut Vec<Waiting>)
     ensures { waiting.new.items ≡ [] }
 {
     while let Some(w) = waiting.pop() {
-        spare.give_back(w.triple);
+        spare.give_back(w.triple.into_triple());
     }
 }

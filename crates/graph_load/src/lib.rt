@@ -4,11 +4,11 @@
 mod additions;
 mod batch;
 mod files;
+mod hashed;
 mod kinds;
 mod known;
 mod loader;
 mod predicates;
-mod terms;
 
 pub use files::{LoadError, load};
 

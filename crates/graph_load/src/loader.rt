@@ -1,31 +1,32 @@
 // What is loaded so far.
 ghost use Rattle.std.specs.Prelude.{◌≡◌, ℕ, List, [], length, position, bytes_eq, Some, None, Ok, OnOk, IfOk, IfSome, IsErrOf, false};
 ghost use Rattle.px_spec.specs.Changes.{node, link};
-ghost use Rattle.graph_load.specs.Loading.{number_of, need, changed, joined, with_triple, nothing_loaded, predicate_label};
-ghost use Rattle.graph_load.specs.Places.{place_of};
-ghost use Rattle.graph_load.specs.Finding.{IsFound, IsFoundAs};
-ghost use Rattle.triples_read.specs.declared.term.Triple.{Triple as TripleSeen};
+ghost use Rattle.graph_load.specs.Loading.{need, changed, joined, with_triple, nothing_loaded, predicate_label};
+ghost use Rattle.term_table.specs.Terms.{number_of, place_in};
+ghost use Rattle.term_table.specs.Finding.{IsFound, IsFoundAs};
+ghost use Rattle.triples_read.specs.declared.term.Term.{Term as TermSeen};
+ghost use Rattle.graph_load.specs.Hashed.{triple_of};
 ghost use Rattle.graph_load.specs.Holding.{ArePlaces, is_known, loading, with_new, Holds, IsSoundLoader, Steps, IsStopped, IsTaken, IsUntaken};
 
 pub(crate) mod ahead;
 
 use crate::additions::{Stop, add_node, make};
+use crate::hashed::HashedTriple;
 use crate::kinds::Kinds;
 use crate::known::{Key, Known};
 use crate::loader::ahead::Hints;
 use crate::predicates::Predicates;
-use crate::terms::{Found, Terms};
 use graph_update::Change;
 use label_graph::Graph;
 use px_base::{Limits, Memory, NodeId, Text};
 use std::alloc::Global;
-use triples_read::{Term, Triple};
+use term_table::{Found, HashedTerm, TermTable};
 
 /// The graph of the triples so far, and the tables by which their terms and the triples are found.
 #[derive(Drop)]
 pub(crate) struct Loader {
     graph: Graph,
-    terms: Terms,
+    terms: TermTable,
     predicates: Predicates,
     known: Known,
     kinds: Kinds,
@@ -49,7 +50,7 @@ impl Loader {
     {
         Ok(Loader {
             graph: Graph::new(alloc)?,
-            terms: Terms::new(alloc)?,
+            terms: TermTable::new(alloc)?,
             predicates: Predicates::new(alloc),
             known: Known::new(alloc),
             kinds: Kinds::new(alloc)?,
@@ -64,8 +65,8 @@ impl Loader {
     }
 
     // Where the parts of a triple stand. The hints are tried first.
-    fn find(&self, triple: &Triple, hints: Option<Hints>) -> Places
-        ensures { ArePlaces self.now triple.now result }
+    fn find(&self, triple: &HashedTriple, hints: Option<Hints>) -> Places
+        ensures { ArePlaces self.now (triple_of triple.now) result }
     {
         Places {
             subject: self
@@ -79,10 +80,10 @@ impl Loader {
     }
 
     // Whether the triple whose parts stand there is loaded.
-    fn is_known(&self, triple: &Triple, places: &Places) -> bool
+    fn is_known(&self, triple: &HashedTriple, places: &Places) -> bool
         requires sound { IsSoundLoader self.now }
-        requires places { ArePlaces self.now triple.now places.now }
-        ensures { result ≡ is_known self.now triple.now }
+        requires places { ArePlaces self.now (triple_of triple.now) places.now }
+        ensures { result ≡ is_known self.now (triple_of triple.now) }
     {
         let Some(subject) = places.subject else {
             return false;
@@ -101,16 +102,16 @@ impl Loader {
     }
 
     // Makes a node of a term that is none.
-    fn add_term(&mut self, alloc: Global, limits: &Limits, term: &Term) -> Result<Found, Stop>
+    fn add_term(&mut self, alloc: Global, limits: &Limits, term: &HashedTerm) -> Result<Found, Stop>
         requires sound { IsSoundLoader self.old }
         requires absent { number_of self.old.terms term.now ≡ None }
         ensures steps { OnOk result (Steps (need limits.now term.now) self.old self.new) }
-        ensures place { IfOk result (λ f. place_of self.new.terms term.now ≡ Some f.place) }
+        ensures place { IfOk result (λ f. place_in self.new.terms term.now ≡ Some f.place) }
         ensures number { IfOk result (λ f. number_of self.new.terms term.now ≡ Some f.number) }
         ensures limit { IsErrOf result Stop.Limit → IsStopped (need limits.now term.now) self.old }
     {
-        let number = add_node(alloc, &mut self.graph, self.kinds.node(term), limits)?;
-        let place = self.terms.add(term, number)?;
+        let number = add_node(alloc, &mut self.graph, self.kinds.node(term.term()), limits)?;
+        let place = self.terms.insert(term, number)?;
         Ok(Found { place, number })
     }
 
@@ -119,13 +120,13 @@ impl Loader {
         &mut self,
         alloc: Global,
         limits: &Limits,
-        term: &Term,
+        term: &HashedTerm,
         found: Option<Found>,
     ) -> Result<Found, Stop>
         requires sound { IsSoundLoader self.old }
         requires found { IsFoundAs self.old.terms term.now found }
         ensures steps { OnOk result (Steps (need limits.now term.now) self.old self.new) }
-        ensures place { IfOk result (λ f. place_of self.new.terms term.now ≡ Some f.place) }
+        ensures place { IfOk result (λ f. place_in self.new.terms term.now ≡ Some f.place) }
         ensures number { IfOk result (λ f. number_of self.new.terms term.now ≡ Some f.number) }
         ensures limit { IsErrOf result Stop.Limit → IsStopped (need limits.now term.now) self.old }
     {
@@ -136,13 +137,13 @@ impl Loader {
     }
 
     // Looks a term up that was looked up before more terms came: where it stood then, it still does.
-    fn find_again(&self, term: &Term, found: Option<Found>) -> Option<Found>
+    fn find_again(&self, term: &HashedTerm, found: Option<Found>) -> Option<Found>
         requires found { IfSome found (IsFound self.now.terms term.now) }
         ensures { IsFoundAs self.now.terms term.now result }
     {
         match found {
             Some(_) => found,
-            None => self.terms.find(term),
+            None => self.terms.find_hashed(term),
         }
     }
 
@@ -188,14 +189,14 @@ impl Loader {
         limits: &Limits,
         from: NodeId,
         node: NodeId,
-        object: &Term,
+        object: &HashedTerm,
         found: Option<Found>,
     ) -> Result<u32, Stop>
         requires sound { IsSoundLoader self.old }
         requires found { IfSome found (IsFound self.old.terms object.now) }
-        ensures steps { (x : Term) → number_of self.old.terms x ≡ Some from → OnOk result (Steps (joined limits.now x node object.now) self.old self.new) }
-        ensures place { IfOk result (λ p. place_of self.new.terms object.now ≡ Some p) }
-        ensures limit { IsErrOf result Stop.Limit → (x : Term) → number_of self.old.terms x ≡ Some from → IsStopped (joined limits.now x node object.now) self.old }
+        ensures steps { (x : TermSeen) → number_of self.old.terms x ≡ Some from → OnOk result (Steps (joined limits.now x node object.now) self.old self.new) }
+        ensures place { IfOk result (λ p. place_in self.new.terms object.now ≡ Some p) }
+        ensures limit { IsErrOf result Stop.Limit → (x : TermSeen) → number_of self.old.terms x ≡ Some from → IsStopped (joined limits.now x node object.now) self.old }
     {
         let found = self.find_again(object, found);
         let onto = self.need(alloc, limits, object, found)?;
@@ -209,14 +210,14 @@ impl Loader {
         &mut self,
         alloc: Global,
         limits: &Limits,
-        triple: &Triple,
+        triple: &HashedTriple,
         places: &Places,
     ) -> Result<(), Stop>
         requires sound { IsSoundLoader self.old }
-        requires unknown { is_known self.old triple.now ≡ false }
-        requires places { ArePlaces self.old triple.now places.now }
-        ensures taken { OnOk result (IsTaken limits.now triple.now self.old self.new) }
-        ensures limit { IsErrOf result Stop.Limit → IsUntaken limits.now triple.now self.old }
+        requires unknown { is_known self.old (triple_of triple.now) ≡ false }
+        requires places { ArePlaces self.old (triple_of triple.now) places.now }
+        ensures taken { OnOk result (IsTaken limits.now (triple_of triple.now) self.old self.new) }
+        ensures limit { IsErrOf result Stop.Limit → IsUntaken limits.now (triple_of triple.now) self.old }
     {
         let from = self.need(alloc, limits, &triple.subject, places.subject)?;
         let (predicate, node) = self.add_node(alloc, limits, &triple.predicate, places.predicate)?;
@@ -242,12 +243,12 @@ impl Loader {
         &mut self,
         alloc: Global,
         limits: &Limits,
-        triple: &Triple,
+        triple: &HashedTriple,
         hints: Option<Hints>,
     ) -> Result<(), Stop>
         requires sound { IsSoundLoader self.old }
-        ensures taken { OnOk result (IsTaken limits.now triple.now self.old self.new) }
-        ensures limit { IsErrOf result Stop.Limit → IsUntaken limits.now triple.now self.old }
+        ensures taken { OnOk result (IsTaken limits.now (triple_of triple.now) self.old self.new) }
+        ensures limit { IsErrOf result Stop.Limit → IsUntaken limits.now (triple_of triple.now) self.old }
     {
         let places = self.find(triple, hints);
         if self.is_known(triple, &places) {

@@ -3,15 +3,15 @@
 ghost use Rattle.std.specs.Prelude.{◌≡◌, ◌<◌};
 
 use crate::batch::Waiting;
+use crate::hashed::HashedTriple;
 use crate::known::Key;
 use crate::loader::Loader;
-use crate::terms::Hint;
 use label_graph::Graph;
 use px_base::{Memory, NodeId, Steps};
 use std::alloc::Global;
 use std::marker::Brand;
 use std::sync::ledger::{Blank, Ledger};
-use triples_read::Triple;
+use term_table::Hint;
 
 /// Where the terms of a triple may stand, and where its predicate does.
 #[derive(Clone, Copy)]
@@ -99,7 +99,7 @@ impl Lookahead {
 // What the stages do for one triple.
 impl Loader {
     // The hints for a triple, which lead to no terms yet.
-    fn hints(&self, triple: &Triple) -> Hints {
+    fn hints(&self, triple: &HashedTriple) -> Hints {
         Hints {
             subject: Hint::of(&triple.subject),
             predicate: self.predicates.find(&triple.predicate),

@@ -3,8 +3,10 @@ use Rattle.std.specs.Prelude.{IsErrOf}
 use Rattle.px_spec.specs.Changes.{node}
 use Rattle.triples_read.specs.declared.term.Term.{Term}
 use Rattle.graph_load.specs.declared.additions.Stop.TheVariants.{Limit}
-use Rattle.graph_load.specs.Loading.{number_of, need, changed, joined, predicate_label}
+use Rattle.graph_load.specs.Loading.{need, changed, joined, predicate_label}
+use Rattle.term_table.specs.Terms.{number_of}
 use Rattle.graph_load.specs.Holding.{IsStopped}
+use Rattle.graph_load.specs.Hashed.{triple_of}
 use Rattle.graph_load.proofs.Joining.{number_stays, grows_trans}
 use Rattle.graph_load.proofs.Again.{predicate_again_found, term_again_found}
 use Rattle.graph_load.proofs.Taking.{untaken_subject, untaken_node, untaken_joined, still_unknown, taken_new, place_stays, predicate_stays}
@@ -13,24 +15,24 @@ use Rattle.graph_load.proofs.loader.Loader.add_new.Goals as goal
 pub returns-in_err-from-clause-limit : goal.returns-in_err-from-clause-limit
 returns-in_err-from-clause-limit c =
     let stopped : IsErrOf c.from_residual.result Limit → IsStopped (need c.args.limits.now c.args.triple.now.subject) c.args.self.now = search rules in
-    λ e. untaken_subject c.args.limits.now c.args.triple.now c.args.self.now c.requires.unknown (stopped e)
+    λ e. untaken_subject c.args.limits.now (triple_of c.args.triple.now) c.args.self.now c.requires.unknown (stopped e)
 
 pub returns-in_err-predicate-clause-limit : goal.returns-in_err-predicate-clause-limit
 returns-in_err-predicate-clause-limit c =
     let stopped : IsErrOf c.from_residual-in_err-predicate.result Limit → IsStopped (changed c.args.limits.now (node (predicate_label c.args.triple.now.predicate))) c.need.new.self = search rules in
-    λ e. untaken_node c.args.limits.now c.args.triple.now c.args.self.now c.requires.unknown c.need.new.self c.in_ok-from.ensures.steps (stopped e)
+    λ e. untaken_node c.args.limits.now (triple_of c.args.triple.now) c.args.self.now c.requires.unknown c.need.new.self c.in_ok-from.ensures.steps (stopped e)
 
 pub returns-in_err-object-clause-limit : goal.returns-in_err-object-clause-limit
 returns-in_err-object-clause-limit c =
     let stopped : IsErrOf c.from_residual-in_err-object.result Limit → (x : Term) → number_of c.add_node.new.self.terms x ≡ Some c.in_ok-from.from.number
     → IsStopped (joined c.args.limits.now x c.in_ok-predicate.node c.args.triple.now.object) c.add_node.new.self = search rules in
-    λ e. untaken_joined c.args.limits.now c.args.triple.now c.args.self.now c.requires.unknown c.need.new.self c.in_ok-from.ensures.steps
+    λ e. untaken_joined c.args.limits.now (triple_of c.args.triple.now) c.args.self.now c.requires.unknown c.need.new.self c.in_ok-from.ensures.steps
     c.in_ok-predicate.node c.in_ok-predicate.ensures.number c.add_node.new.self c.in_ok-predicate.ensures.steps
     (stopped e c.args.triple.now.subject (number_stays c.need.new.self c.add_node.new.self c.in_ok-predicate.ensures.steps.grows c.args.triple.now.subject c.in_ok-from.from.number c.in_ok-from.ensures.number))
 
 pub add-requires : goal.add-requires
 add-requires c =
-    let t = c.args.triple.now in
+    let t = triple_of c.args.triple.now in
     let from = number_stays c.need.new.self c.add_node.new.self c.in_ok-predicate.ensures.steps.grows t.subject c.in_ok-from.from.number c.in_ok-from.ensures.number in
     let joins = c.in_ok-object.ensures.steps t.subject from in
     let grows = grows_trans c.need.new.self c.add_node.new.self c.join.new.self c.in_ok-predicate.ensures.steps.grows joins.grows in
@@ -44,7 +46,7 @@ add-requires c =
 
 pub returns-clause-taken : goal.returns-clause-taken
 returns-clause-taken c =
-    let t = c.args.triple.now in
+    let t = triple_of c.args.triple.now in
     let from = number_stays c.need.new.self c.add_node.new.self c.in_ok-predicate.ensures.steps.grows t.subject c.in_ok-from.from.number c.in_ok-from.ensures.number in
     let joins = c.in_ok-object.ensures.steps t.subject from in
     let grows = grows_trans c.need.new.self c.add_node.new.self c.join.new.self c.in_ok-predicate.ensures.steps.grows joins.grows in

@@ -1,7 +1,7 @@
 use Rattle.std.proofs.Common.{◌∙◌, ◌++◌, ◌∷◌, [], ap, sym, Some}
 use Rattle.std.specs.Prelude.{position, bytes_eq}
 use Rattle.graph_load.proofs.Standing.{none_passes, position_push, predicate_there, predicate_new, predicate_is_at}
-use Rattle.graph_load.proofs.SameTerms.{bytes_same}
+use Rattle.term_table.proofs.SameTerms.{bytes_same}
 use Rattle.graph_load.proofs.predicates.Predicates.intern.Goals as goal
 
 pub returns-in-Some-clause-added : goal.returns-in-Some-clause-added

@@ -1,0 +1,63 @@
+-- Terms in an arena, and the entries that say where they lie.
+use Rattle.std.specs.Prelude.{◌≡◌, ℕ, ◌^◌, ◌<◌, ◌≤◌, Bool, ◌&&◌, List, ◌++◌, map, length, slice_index_or, slice_range, bytes_eq}
+use Rattle.triples_read.specs.declared.term.Term.{Term}
+use Rattle.hash_index.specs.Items.{Items, hash_at}
+use Rattle.term_table.specs.declared.entries.Entry.{Entry}
+use Rattle.term_table.specs.declared.entries.Span.{Span}
+use Rattle.term_table.specs.declared.parts.Sort.TheVariants.{Iri}
+use Rattle.term_table.specs.Parts.{Parts, parts_of, term_of, hash_of}
+
+abbrev pub no_entry : Entry
+no_entry = record { span = record { from = 0; text_end = 0; datatype_end = 0; to = 0 }; sort = Iri; number = 0 }
+
+abbrev pub entry_at : List Entry → ℕ → Entry
+entry_at entries i = slice_index_or entries i no_entry
+
+-- the texts lie in order, below the bound
+pub record AreWithin (bound : ℕ) (s : Span) : Type 0 where
+  pub text : s.from ≤ s.text_end
+  pub datatype : s.text_end ≤ s.datatype_end
+  pub tag : s.datatype_end ≤ s.to
+  pub end : s.to ≤ bound
+
+abbrev pub text_in : List ℕ → Span → List ℕ
+text_in arena s = slice_range arena s.from s.text_end
+
+abbrev pub datatype_in : List ℕ → Span → List ℕ
+datatype_in arena s = slice_range arena s.text_end s.datatype_end
+
+abbrev pub tag_in : List ℕ → Span → List ℕ
+tag_in arena s = slice_range arena s.datatype_end s.to
+
+-- the texts that lie there are those of the parts
+pub record HasTexts (arena : List ℕ) (s : Span) (p : Parts) : Type 0 where
+  pub text : text_in arena s ≡ p.text
+  pub datatype : datatype_in arena s ≡ p.datatype
+  pub tag : tag_in arena s ≡ p.tag
+
+abbrev pub has_texts : List ℕ → Span → Parts → Bool
+has_texts arena s p = bytes_eq (text_in arena s) p.text && (bytes_eq (datatype_in arena s) p.datatype && bytes_eq (tag_in arena s) p.tag)
+
+-- the parts of the entry's term
+abbrev pub parts_in : List ℕ → Entry → Parts
+parts_in arena e = record { sort = e.sort; text = text_in arena e.span; datatype = datatype_in arena e.span; tag = tag_in arena e.span }
+
+abbrev pub terms_of : List ℕ → List Entry → List (Term × ℕ)
+terms_of arena entries = map (λ e. (term_of (parts_in arena e), e.number)) entries
+
+-- what every table keeps: distinct terms, with the hashes of their parts
+pub record IsTable (arena : List ℕ) (index : Items Entry) : Type 0 where
+  pub even : length index.hashes ≡ length index.items
+  pub short : length arena < 2 ^ 32
+  pub within : (i : ℕ) → i < length index.items → AreWithin (length arena) (entry_at index.items i).span
+  pub hashed : (i : ℕ) → i < length index.items → hash_at index.hashes i ≡ hash_of (parts_in arena (entry_at index.items i))
+  pub proper : (i : ℕ) → i < length index.items → parts_of (term_of (parts_in arena (entry_at index.items i))) ≡ parts_in arena (entry_at index.items i)
+  pub apart : (i j : ℕ) → i < length index.items → j < length index.items → parts_in arena (entry_at index.items i) ≡ parts_in arena (entry_at index.items j) → i ≡ j
+
+-- no entry has these parts
+abbrev pub LackParts : List ℕ → List Entry → Parts → Type 0
+LackParts arena entries p = (i : ℕ) → i < length entries → parts_in arena (entry_at entries i) ≡ p → ⊥
+
+-- the second list begins with the first
+abbrev pub Begins : {X : Type 0} → List X → List X → Type 0
+Begins {X} xs ys = (more : List X) × (ys ≡ xs ++ more)

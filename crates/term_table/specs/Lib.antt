@@ -1,0 +1,4 @@
+pub mod Terms
+pub mod Parts
+pub mod Entries
+pub mod Finding

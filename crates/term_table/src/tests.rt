@@ -1,0 +1,1 @@
+// Terms that come once and again.
