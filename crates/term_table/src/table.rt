@@ -177,12 +177,7 @@ impl TermTable {
 }
 
 // Where the term with these parts stands.
-fn search(
-    arena: &[u8],
-    index: &HashIndex<Entry>,
-    parts: &Parts<'_>,
-    hash: u32,
-) -> Option<Found>
+fn search(arena: &[u8], index: &HashIndex<Entry>, parts: &Parts<'_>, hash: u32) -> Option<Found>
     requires table { IsTable arena.now index.now }
     requires hash { hash ≡ hash_of (shown_parts parts.now) }
     ensures { (x : Value_of_term) → shown_parts parts.now ≡ parts_of x → IsFoundAs (terms_of arena.now index.now.items) x result }
@@ -202,12 +197,7 @@ fn search(
 }
 
 // The term at the place, where it has these parts.
-fn at_place(
-    arena: &[u8],
-    index: &HashIndex<Entry>,
-    place: u32,
-    parts: &Parts<'_>,
-) -> Option<Found>
+fn at_place(arena: &[u8], index: &HashIndex<Entry>, place: u32, parts: &Parts<'_>) -> Option<Found>
     requires { IsTable arena.now index.now }
     ensures { (x : Value_of_term) → shown_parts parts.now ≡ parts_of x → IfSome result (λ f. IsFoundAs (terms_of arena.now index.now.items) x (Some f)) }
 {
