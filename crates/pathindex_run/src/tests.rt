@@ -177,10 +177,15 @@ fn graph_files_are_loaded(rt: HostRuntime) -> Result<(), Fail> {
     Ok(())
 }
 
+/// A comment of that many bytes.
+fn comment(alloc: Global, len: usize) -> Result<Vec<u8>, Fail> {
+    Ok(b"#".repeat(alloc, len)?)
+}
+
 // A comment of one byte more than a line may have, in either file.
 #[test]
 fn long_lines_are_refused(rt: HostRuntime) -> Result<(), Fail> {
-    let long = b"#".repeat(rt.alloc(), 1_048_577)?;
+    let long = comment(rt.alloc(), 1_048_577)?;
     let graph: Option<&[u8]> = Some(long.as_slice());
     let words = ["s", "--graph", "g"];
     let (refused, written) = run_files(rt.alloc(), &words, Some(b""), graph, (&[], &[]))?;
@@ -189,7 +194,8 @@ fn long_lines_are_refused(rt: HostRuntime) -> Result<(), Fail> {
         (3, b"graph 1 limit\n".as_slice())
     );
     let (bad, written) = run_script(rt.alloc(), &["s"], graph, &[], &[])?;
-    assert_eq!(rt; (bad, written.as_slice()), (4, b"bad 1\n".as_slice()));
+    assert_eq!(rt; bad, 4);
+    assert_eq!(rt; written.as_slice(), b"bad 1\n".as_slice());
     Ok(())
 }
 
