@@ -1,17 +1,11 @@
 //! The program `pathindex`: it carries out a script over a graph, as its words ask for.
 #![tactic(auto)]
 
-use pathindex_run::{HostShelf, HostSink, run};
+use pathindex_run::{HostShelf, HostSink, Status, break_reason, run};
 use std::env::Env;
 use std::io::ErrorKind;
 use std::process::ExitCode;
 use std::{env, io};
-
-/// The status where the system doesn't hand out the words as text.
-const NO_TEXT: u8 = 2;
-
-/// The status where memory is wanting.
-const NO_MEMORY: u8 = 7;
 
 /// The words after the program's name.
 fn words(rt: &(impl Env + AllocGlobal)) -> io::Result<Vec<String>> {
@@ -19,14 +13,23 @@ fn words(rt: &(impl Env + AllocGlobal)) -> io::Result<Vec<String>> {
     Ok(words)
 }
 
+/// Tells on standard error why a run broke off, if it did. Where that can't be written, the status says it.
+fn tell(rt: &impl Eprint, status: u8) {
+    if let Some(reason) = break_reason(status) {
+        let _ = eprintln!(rt; "pathindex: {reason}");
+    }
+}
+
 fn main(rt: HostRuntime) -> ExitCode {
-    match words(&rt) {
+    let status = match words(&rt) {
         Ok(words) => {
             let mut shelf = HostShelf::new(&rt);
             let mut sink = HostSink::new(&rt);
-            ExitCode::from(run(rt.alloc(), &words, &mut shelf, &mut sink))
+            run(rt.alloc(), &words, &mut shelf, &mut sink)
         }
-        Err(error) if error.kind() == ErrorKind::OutOfMemory => ExitCode::from(NO_MEMORY),
-        Err(_) => ExitCode::from(NO_TEXT),
-    }
+        Err(error) if error.kind() == ErrorKind::OutOfMemory => Status::NoMemory as u8,
+        Err(_) => Status::Usage as u8,
+    };
+    tell(&rt, status);
+    ExitCode::from(status)
 }

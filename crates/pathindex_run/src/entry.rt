@@ -11,6 +11,7 @@ ghost use Rattle.pathindex_run.specs.Texts.{graph_line, usage_line};
 
 use crate::output::push_graph_line;
 use crate::script::{Stop, run_lines};
+use crate::status::Status;
 use command_line::{Form, Settings, read_words};
 use graph_load::{LoadError, load};
 use label_graph::Graph;
@@ -20,15 +21,6 @@ use std::alloc::Global;
 const USAGE: &str =
     "usage: pathindex SCRIPT [--graph FILE] [--k N] [--without-one] [--without-fb] | pathindex --make SEED\n";
 
-/// The status where a call of the shelf failed, or a file isn't there.
-const NO_FILE: u8 = 5;
-
-/// The status where a call of the sink failed.
-const NO_OUTPUT: u8 = 6;
-
-/// The status where memory is wanting.
-const NO_MEMORY: u8 = 7;
-
 /// Writes the usage line.
 fn show_usage<K: Sink>(sink: &mut K) -> u8
     ensures meets { ShowsLine usage_line 2 (K.written sink.old) (K.written sink.new) result }
@@ -37,8 +29,8 @@ fn show_usage<K: Sink>(sink: &mut K) -> u8
     ensures is_one { (result ≡ 2) ⊎ (result ≡ 6) }
 {
     match put_all(sink, USAGE.as_bytes()) {
-        Ok(()) => 2,
-        Err(_) => NO_OUTPUT,
+        Ok(()) => Status::Usage as u8,
+        Err(_) => Status::NoOutput as u8,
     }
 }
 
@@ -51,10 +43,10 @@ fn show_refusal<K: Sink>(alloc: Global, line: u32, reason: &str, sink: &mut K) -
     let mut out = Vec::new(alloc);
     match push_graph_line(&mut out, line, reason.as_bytes()) {
         Ok(()) => match put_all(sink, out.as_slice()) {
-            Ok(()) => 3,
-            Err(_) => NO_OUTPUT,
+            Ok(()) => Status::GraphLine as u8,
+            Err(_) => Status::NoOutput as u8,
         },
-        Err(_) => NO_MEMORY,
+        Err(_) => Status::NoMemory as u8,
     }
 }
 
@@ -70,7 +62,7 @@ fn show_refusal<K: Sink>(alloc: Global, line: u32, reason: &str, sink: &mut K) -
 /// | 4 | a line is no command or passes a limit, and `bad` with its number is written |
 /// | 5 | a call of the shelf failed, or a file isn't there |
 /// | 6 | a call of the sink failed |
-/// | 7 | memory is wanting |
+/// | 7 | there is no memory |
 ///
 /// Where the shelf tells its files, a graph file that loads and a script with no line that is bad give 0, 1 or 7 where
 /// no call fails and no count of faults stands at its last value. At 5, 6 and 7 a front of what the run prints is
@@ -85,7 +77,7 @@ pub fn run<H: Shelf, K: Sink>(alloc: Global, words: &[String], shelf: &mut H, si
     match read_words(alloc, words) {
         Ok(Form::Run(settings)) => run_settings(alloc, &settings, shelf, sink),
         Ok(Form::Neither) => show_usage(sink),
-        Err(_) => NO_MEMORY,
+        Err(_) => Status::NoMemory as u8,
     }
 }
 
@@ -106,7 +98,7 @@ fn run_settings<H: Shelf, K: Sink>(
         Some(name) => run_loaded(alloc, settings, name, shelf, sink),
         None => match Graph::new(alloc) {
             Ok(graph) => run_script(alloc, settings, graph, shelf, sink),
-            Err(_) => NO_MEMORY,
+            Err(_) => Status::NoMemory as u8,
         },
     }
 }
@@ -130,9 +122,9 @@ fn run_loaded<H: Shelf, K: Sink>(
         Ok(graph) => run_script(alloc, settings, graph, shelf, sink),
         Err(LoadError::Syntax(line)) => show_refusal(alloc, line, "syntax", sink),
         Err(LoadError::Limit(line)) => show_refusal(alloc, line, "limit", sink),
-        Err(LoadError::Missing) => NO_FILE,
-        Err(LoadError::Fault) => NO_FILE,
-        Err(LoadError::Memory) => NO_MEMORY,
+        Err(LoadError::Missing) => Status::NoFile as u8,
+        Err(LoadError::Fault) => Status::NoFile as u8,
+        Err(LoadError::Memory) => Status::NoMemory as u8,
     }
 }
 
@@ -154,11 +146,11 @@ fn run_script<H: Shelf, K: Sink>(
     match shelf.open(settings.script) {
         Ok(true) => match run_lines(alloc, &Limits::program(), graph, settings.k, shelf, sink) {
             Ok(ending) => ending.status(),
-            Err(Stop::Shelf) => NO_FILE,
-            Err(Stop::Sink) => NO_OUTPUT,
-            Err(Stop::Memory) => NO_MEMORY,
+            Err(Stop::Shelf) => Status::NoFile as u8,
+            Err(Stop::Sink) => Status::NoOutput as u8,
+            Err(Stop::Memory) => Status::NoMemory as u8,
         },
-        Ok(false) => NO_FILE,
-        Err(_) => NO_FILE,
+        Ok(false) => Status::NoFile as u8,
+        Err(_) => Status::NoFile as u8,
     }
 }

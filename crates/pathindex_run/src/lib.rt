@@ -10,9 +10,11 @@ mod interpreter;
 mod output;
 mod queries;
 mod script;
+mod status;
 #[cfg(test)]
 mod tests;
 
 pub use entry::run;
 pub use graph_load::{LoadError, load};
 pub use host::{HostShelf, HostSink};
+pub use status::{Status, break_reason};

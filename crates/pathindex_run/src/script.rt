@@ -13,6 +13,7 @@ ghost use Rattle.pathindex_run.specs.declared.script.Stop.TheVariants.{Sink as S
 
 use crate::interpreter::{Interpreter, Outcome};
 use crate::output::{flush, push_number};
+use crate::status::Status;
 use label_graph::Graph;
 use px_base::{
     Failed, LINE_BYTES, Limits, LineFault, LineReader, Memory, SCRIPT_BYTES, Shelf, Sink,
@@ -65,9 +66,9 @@ impl Ending {
         ensures { result ≡ status_at self }
     {
         match self {
-            Ending::Done => 0,
-            Ending::Refused => 1,
-            Ending::Bad => 4,
+            Ending::Done => Status::Done as u8,
+            Ending::Refused => Status::Refused as u8,
+            Ending::Bad => Status::BadLine as u8,
         }
     }
 }
