@@ -81,7 +81,6 @@ fn seen<L: Ledger>(
     let after = After::new(graph, change);
     assert!(rt; after.is_live(n));
     assert!(rt; !after.is_live(after.created()));
-    assert_eq!(rt; after.parents(after.created(), steps).count(), 0);
     let parents = after.parents(n, steps).collect(alloc)?;
     let children = after.children(n, steps).collect(alloc)?;
     Ok((parents, children, after.label(n)))
