@@ -51,7 +51,8 @@ impl Labels {
 
     /// How many labels were seen.
     pub fn len(&self) -> u32
-        ensures { result ≡ length self.now.texts }
+        ensures count { result ≡ length self.now.texts }
+        ensures distinct { IsDistinct bytes_eq self.now.texts }
     {
         self.shown as u32
     }

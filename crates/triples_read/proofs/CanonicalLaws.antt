@@ -49,7 +49,7 @@ all_scalars_of class [] all = refl
 all_scalars_of class (x ∷ xs) all = rw (all.0.0, all_scalars_of class xs all.1) refl
 
 -- an IRI
-iri_canonical : (s iri : List ℕ) → IsIri s iri → IsIri (iri_text (chars iri)) iri × (scalars (iri_text (chars iri)) ≡ true)
+pub iri_canonical : (s iri : List ℕ) → IsIri s iri → IsIri (iri_text (chars iri)) iri × (scalars (iri_text (chars iri)) ≡ true)
 iri_canonical s iri (v, (body, sp, m), is) =
     let ok = many_values Angle v body m in
     let same : chars iri ≡ v = ap chars is ∙ chars-encodes v ok in

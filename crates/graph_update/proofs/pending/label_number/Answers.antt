@@ -9,7 +9,7 @@ returns-in-Some-clause-text c = seen-text c.args.labels.now.texts c.args.label.n
 
 pub returns-in-None-clause-text : goal.returns-in-None-clause-text
 returns-in-None-clause-text c =
-    ap (slice_get (with_label c.args.labels.now.texts c.args.label.now)) c.len.ensures ∙ unseen-text c.args.labels.now.texts c.args.label.now (sym c.find.ensures.place ∙ c.in-None.is)
+    ap (slice_get (with_label c.args.labels.now.texts c.args.label.now)) c.len.ensures.count ∙ unseen-text c.args.labels.now.texts c.args.label.now (sym c.find.ensures.place ∙ c.in-None.is)
 
 pub returns-in-None-clause-number : goal.returns-in-None-clause-number
-returns-in-None-clause-number c = rw c.len.ensures (unseen-number c.args.labels.now.texts c.args.label.now (sym c.find.ensures.place ∙ c.in-None.is))
+returns-in-None-clause-number c = rw c.len.ensures.count (unseen-number c.args.labels.now.texts c.args.label.now (sym c.find.ensures.place ∙ c.in-None.is))

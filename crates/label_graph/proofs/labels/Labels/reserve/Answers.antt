@@ -33,5 +33,5 @@ returns-in_ok-put_ahead-in-None-clause-ahead c =
 pub returns-in_ok-put_ahead-in-None-clause-number : goal.returns-in_ok-put_ahead-in-None-clause-number
 returns-in_ok-put_ahead-in-None-clause-number c =
     let e = c.in_ok-put_ahead-in-None.ensures.ok ∙ ap {A = LabelTable} {B = LabelTable} (λ l. record l { ahead = Some c.args.text.now }) c.recall.ensures.same in
-    ap (slice_get (entries c.put_ahead.new.self)) (c.len.ensures ∙ ap (λ s. length s.texts) e) ∙ ap (λ s. slice_get (entries s) (length c.args.self.now.texts)) e
+    ap (slice_get (entries c.put_ahead.new.self)) (c.len.ensures.count ∙ ap (λ s. length s.texts) e) ∙ ap (λ s. slice_get (entries s) (length c.args.self.now.texts)) e
     ∙ get_seam c.args.self.now.texts c.args.text.now

@@ -1,0 +1,4 @@
+pub mod Bits
+pub mod Spread
+pub mod Kept
+pub mod Inside

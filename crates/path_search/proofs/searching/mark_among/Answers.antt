@@ -1,0 +1,28 @@
+use Rattle.std.proofs.Common.{IsTrue, get_or, inl, inr, sym, subst}
+use Rattle.px_spec.specs.Members.{has}
+use Rattle.path_search.specs.Rows.{IsMarked}
+use Rattle.path_search.specs.Spreading.{Passes}
+use Rattle.path_search.proofs.Spread.{spreads_as, spreads_then, has_there, take_cases}
+use Rattle.path_search.proofs.searching.mark_among.Goals as goal
+
+pub loop-node-preserved : goal.loop-node-preserved
+loop-node-preserved g c =
+    let l = c.loop-node in
+    let s = c.args.state in
+    let label_at = g.G.Digraph.label_at c.args.g.now in
+    let nodes = c.args.nodes.now in
+    let x = get_or nodes l.node-index 0 in
+    let new = c.mark_if.new.self in
+    let onto = c.in_ok-mark_if.ensures.spreads in
+    record {
+      spreads = spreads_then _ _ _ _ _ _ _ l.invariant.spreads
+          (spreads_as _ _ _ _ _ _ (λ a v h. (
+            h.1,
+            subst (λ y. IsTrue (has nodes y)) (sym h.2) (has_there nodes l.node-index c.loop-node-test.true),
+            subst (λ y. Passes label_at c.args.test y) (sym h.2) (c.passes.ensures.0 h.0),
+          )) onto);
+      marked = λ v h p. elim (take_cases nodes l.node-index v c.loop-node-test.true h) [
+        | inl old ↦ onto.grows s v (l.invariant.marked v old p)
+        | inr here ↦ subst (λ y. IsMarked new.rows.items s y) (sym here) (c.in_ok-mark_if.ensures.marked (c.passes.ensures.1 (subst (λ y. Passes label_at c.args.test y) here p)))
+      ];
+    }

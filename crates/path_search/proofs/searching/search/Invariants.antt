@@ -1,0 +1,16 @@
+use Rattle.std.proofs.Common.{◌≡◌, ◌+◌, ◌-◌, ◌*◌, length, IsTrue}
+use Rattle.std.specs.Prelude.{slice_get}
+use Rattle.px_spec.specs.Members.{has}
+use Rattle.path_search.specs.Rows.{members, pairs, HasRoom}
+use Rattle.path_search.proofs.Kept.{IsSearching}
+use Rattle.path_search.proofs.searching.search.Given as goal
+
+abbrev pub invariant-loop-pair : goal.invariant-loop-pair
+invariant-loop-pair g l = record {
+  room : HasRoom (length l.program) (g.G.Digraph.span l.g + 1) l.frontier.rows.items;
+  size : l.answers.size ≡ g.G.Digraph.span l.g;
+  searching : IsSearching (λ k. slice_get l.program k) (g.G.Digraph.span l.g) (g.G.Digraph.label_at l.g) (g.G.Digraph.edge l.g) (λ v. IsTrue (has l.fn.places v)) l.start (length l.program) l.frontier.rows.items l.frontier.waiting.items l.answers.members;
+}
+
+abbrev pub decreases-loop-pair : goal.decreases-loop-pair
+decreases-loop-pair g l = length l.frontier.waiting.items + 2 * (pairs l.frontier.rows.items - members l.frontier.rows.items)

@@ -1,0 +1,4 @@
+pub mod Searches
+pub mod Rows
+pub mod Programs
+pub mod Spreading

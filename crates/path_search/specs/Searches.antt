@@ -1,0 +1,31 @@
+-- The steps of the search of the product of an automaton and a graph. A place is a node, or the number of nodes,
+-- which stands for the place in front of all nodes.
+use Rattle.std.specs.Prelude.{ℕ, ◌≡◌, ◌<◌, ◌⊎◌, Bool, if◌then◌else◌, nat_eq, List, Option, None, Some, is_some, IsTrue}
+use Rattle.std.specs.List.Sorted.{IsStrictlyIncreasing}
+use Rattle.px_spec.specs.Members.{has}
+use Rattle.path_search.specs.declared.state.State.{State}
+use Rattle.path_search.specs.declared.state.State.TheVariants.{End, Stuck, Any, Label, Fork}
+
+-- whether the node comes next: any one in front of all nodes, else a child
+abbrev pub leads : ℕ → (ℕ → Option ℕ) → (ℕ → ℕ → Bool) → ℕ → ℕ → Bool
+leads size label_at edge v c = if nat_eq v size then is_some (label_at c) else edge v c
+
+-- from this state at the place v one gets to the state s at the place c
+abbrev pub Succeeds : ℕ → (ℕ → Option ℕ) → (ℕ → ℕ → Bool) → Option State → ℕ → ℕ → ℕ → Type 0
+Succeeds size label_at edge None v s c = ⊥
+Succeeds size label_at edge (Some End) v s c = ⊥
+Succeeds size label_at edge (Some Stuck) v s c = ⊥
+Succeeds size label_at edge (Some (Any next)) v s c = (s ≡ next) × IsTrue (leads size label_at edge v c)
+Succeeds size label_at edge (Some (Label l next)) v s c = (s ≡ next) × IsTrue (leads size label_at edge v c) × (label_at c ≡ Some l)
+Succeeds size label_at edge (Some (Fork a b)) v s c = ((s ≡ a) ⊎ (s ≡ b)) × (c ≡ v)
+
+-- what is reached from the first state at some first place
+pub data Reached (at : ℕ → Option State) (size : ℕ) (label_at : ℕ → Option ℕ) (edge : ℕ → ℕ → Bool) (First : ℕ → Type 0) (start : ℕ) : ℕ → ℕ → Type 0 where
+  begin : (v : ℕ) → First v → Reached at size label_at edge First start start v
+  onward : (s v s2 v2 : ℕ) → Reached at size label_at edge First start s v → Succeeds size label_at edge (at s) v s2 v2 → Reached at size label_at edge First start s2 v2
+
+-- the nodes at which a word can end, rising
+pub record AreEnds (at : ℕ → Option State) (size : ℕ) (label_at : ℕ → Option ℕ) (edge : ℕ → ℕ → Bool) (First : ℕ → Type 0) (start : ℕ) (nodes : List ℕ) : Type 0 where
+  pub rising : IsStrictlyIncreasing nodes
+  pub sound : (v : ℕ) → IsTrue (has nodes v) → (s : ℕ) × (at s ≡ Some End) × (v < size) × Reached at size label_at edge First start s v
+  pub complete : (s v : ℕ) → at s ≡ Some End → v < size → Reached at size label_at edge First start s v → IsTrue (has nodes v)

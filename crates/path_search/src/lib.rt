@@ -1,0 +1,13 @@
+//! Automata that read labels along the edges of a graph, and the nodes at which they end. It knows no language of
+//! queries.
+#![tactic(auto)]
+
+mod frontier;
+mod program;
+mod row;
+mod searching;
+mod state;
+
+pub use program::Program;
+pub use searching::search;
+pub use state::State;

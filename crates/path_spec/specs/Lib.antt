@@ -1,0 +1,7 @@
+pub mod Trees
+pub mod Matches
+pub mod Tests
+pub mod Answers
+pub mod Longest
+pub mod Tokens
+pub mod Spelling
