@@ -1,0 +1,25 @@
+use Rattle.std.proofs.Common.{ℕ, [], ◌∷◌, ap, length, IsTrue}
+use Rattle.px_spec.specs.Members.{has}
+use Rattle.path_expr.proofs.Places.{one_there, one_only}
+use Rattle.std.specs.Prelude.{slice_get}
+use Rattle.std.proofs.lemmas.Result.{IfOk-weaker}
+use Rattle.path_search.specs.Searches.{AreEnds}
+use Rattle.path_search.specs.declared.state.State.TheVariants.{End}
+use Rattle.path_expr.proofs.Following.{ends_answers}
+use Rattle.path_expr.proofs.answers.eval.Goals as goal
+
+pub returns-clause-answers : goal.returns-clause-answers
+returns-clause-answers g c =
+    let span = g.G.Digraph.span c.args.g.now in
+    let label_at = g.G.Digraph.label_at c.args.g.now in
+    let edge = g.G.Digraph.edge c.args.g.now in
+    let texts = c.args.labels.now.texts in
+    let at = λ (k : ℕ). slice_get c.compile_expr.new.program k in
+    let First : ℕ → Type 0 = λ v. IsTrue (has (c.size.result ∷ []) v) in
+    let start = c.in_ok-start.start in
+    let made = c.in_ok-program.ensures in
+    let end = c.in_ok-start.ensures.grows.kept 0 End (ap (λ p. slice_get p 0) made) in
+    IfOk-weaker c.search.result (λ b. AreEnds at span label_at edge First start b.members) _
+    (λ b h. ends_answers texts at span label_at edge
+    (record { distinct = c.len-known.ensures.distinct; labelled = c.requires.labelled; below = g.met.G.Digraph.below c.args.g.now; ends = g.met.G.Digraph.ends c.args.g.now })
+    c.args.expr.now (length c.in_ok-program.program) start c.in_ok-start.ensures.stands end First (one_there span c.size.result (c.size.ensures)) (λ v f. one_only span c.size.result v c.size.ensures f) b.members h) c.search.ensures.ends

@@ -1,0 +1,7 @@
+pub mod Coding
+pub mod Sizes
+pub mod Views
+pub mod Falls
+pub mod Automata
+pub mod Compiled
+pub mod Capped

@@ -1,0 +1,27 @@
+// The answers of a path expression over a graph.
+ghost use Rattle.std.specs.Prelude.{◌≡◌, ◌<◌, ℕ, length, Some, IfOk};
+ghost use Rattle.px_spec.specs.Shapes.{shape_by};
+ghost use Rattle.path_spec.specs.Answers.{AreAnswers};
+
+use crate::compile::compile_expr;
+use crate::tree::Expr;
+use label_graph::{Digraph, Labels};
+use path_search::{Program, search};
+use px_base::{Bits, Memory};
+use std::alloc::Global;
+
+/// The nodes in which a walk ends whose labels, in order, match the expression: a set of numbers below
+/// the graph's size. `Memory` comes at want of memory alone. For an expression with m labels, signs and separators
+/// the time is at most in proportion to m times the nodes and edges; each label is looked up once.
+pub fn eval<G: Digraph>(alloc: Global, g: &G, labels: &Labels, expr: &Expr) -> Result<Bits, Memory>
+    requires labelled { (n l : ℕ) → G.label_at g.now n ≡ Some l → l < length labels.now.texts }
+    ensures size { IfOk result (λ b. b.size ≡ G.span g.now) }
+    ensures answers { IfOk result (λ b. AreAnswers (shape_by labels.now.texts (G.span g.now) (G.label_at g.now) (G.edge g.now)) expr.now b.members) }
+{
+    // The labels are distinct, which this call says.
+    let _known = labels.len();
+    let mut program = Program::new(alloc)?;
+    let start = compile_expr(labels, &mut program, expr, 0)?;
+    let places = [g.size()];
+    search(alloc, g, &program, start, &places)
+}

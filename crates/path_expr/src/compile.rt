@@ -1,0 +1,141 @@
+// The automaton of an expression.
+ghost use Rattle.std.specs.Prelude.{◌≡◌, ◌<◌, ◌≤◌, ℕ, List, length, slice_get, Option, Some, IfSome, IfOk, OnOk};
+ghost use Rattle.path_expr.specs.Automata.{Stands, StandsSeq, StandsItem, StandsAtom, ReadsLabel};
+ghost use Rattle.path_expr.specs.Views.{seq_of, item_of, atom_of};
+ghost use Rattle.path_expr.specs.Compiled.{Grows, HasFork, HasSep};
+
+use crate::tree::{Atom, Expr, Item, Sep, Seq, Sign};
+use label_graph::Labels;
+use path_search::{Program, State};
+use px_base::{Memory, Text};
+
+/// The state that reads the label and goes on to the next one.
+fn label_state(labels: &Labels, label: &Text, next: u32) -> State
+    ensures { ReadsLabel labels.now.texts (Some result) label.now next }
+{
+    match labels.find(label) {
+        Some(number) => State::Label(number, next),
+        None => State::Stuck,
+    }
+}
+
+/// The state from which both are entered, where there is a second one.
+fn join(program: &mut Program, first: u32, second: Option<u32>) -> Result<u32, Memory>
+    requires first { first < length program.old }
+    requires second { IfSome second (λ s. s < length program.old) }
+    ensures number { IfOk result (λ i. i < length program.new) }
+    ensures grows { OnOk result (Grows program.old program.new) }
+    ensures fork { IfOk result (λ i. HasFork program.old program.new first second i) }
+{
+    match second {
+        None => Ok(first),
+        Some(second) => program.push(State::Fork(first, second)),
+    }
+}
+
+/// The state from which what follows the separator is read.
+fn compile_sep(program: &mut Program, sep: Sep, next: u32) -> Result<u32, Memory>
+    requires next { next < length program.old }
+    ensures number { IfOk result (λ i. i < length program.new) }
+    ensures grows { OnOk result (Grows program.old program.new) }
+    ensures gap { IfOk result (λ i. HasSep sep program.old program.new next i) }
+{
+    match sep {
+        Sep::Child => Ok(next),
+        Sep::Below => {
+            let fork = program.push(State::Fork(next, next))?;
+            let gap = program.push(State::Any(fork))?;
+            program.set(fork, State::Fork(gap, next));
+            Ok(fork)
+        }
+    }
+}
+
+#[cycle(compile)]
+fn compile_atom(
+    labels: &Labels,
+    program: &mut Program,
+    atom: &Atom,
+    next: u32,
+) -> Result<u32, Memory>
+    requires next { next < length program.old }
+    ensures number { IfOk result (λ i. i < length program.new) }
+    ensures grows { OnOk result (Grows program.old program.new) }
+    ensures stands { IfOk result (λ i. StandsAtom labels.now.texts (λ k. slice_get program.new k) (atom_of atom.now) (length program.old) i next) }
+{
+    match atom {
+        Atom::Label(label) => program.push(label_state(labels, label, next)),
+        Atom::Any => program.push(State::Any(next)),
+        Atom::Group(expr) => compile_expr(labels, program, expr, next),
+    }
+}
+
+#[cycle(compile)]
+fn compile_item(
+    labels: &Labels,
+    program: &mut Program,
+    item: &Item,
+    next: u32,
+) -> Result<u32, Memory>
+    requires next { next < length program.old }
+    ensures number { IfOk result (λ i. i < length program.new) }
+    ensures grows { OnOk result (Grows program.old program.new) }
+    ensures stands { IfOk result (λ i. StandsItem labels.now.texts (λ k. slice_get program.new k) (item_of item.now) (length program.old) i next) }
+{
+    match item.sign {
+        None => compile_atom(labels, program, &item.atom, next),
+        Some(Sign::Star) => {
+            let fork = program.push(State::Fork(next, next))?;
+            let first = compile_atom(labels, program, &item.atom, fork)?;
+            program.set(fork, State::Fork(first, next));
+            Ok(fork)
+        }
+        Some(Sign::Plus) => {
+            let fork = program.push(State::Fork(next, next))?;
+            let first = compile_atom(labels, program, &item.atom, fork)?;
+            program.set(fork, State::Fork(first, next));
+            Ok(first)
+        }
+        Some(Sign::Opt) => {
+            let first = compile_atom(labels, program, &item.atom, next)?;
+            program.push(State::Fork(next, first))
+        }
+    }
+}
+
+#[cycle(compile)]
+fn compile_seq(labels: &Labels, program: &mut Program, seq: &Seq, next: u32) -> Result<u32, Memory>
+    requires next { next < length program.old }
+    ensures number { IfOk result (λ i. i < length program.new) }
+    ensures grows { OnOk result (Grows program.old program.new) }
+    ensures stands { IfOk result (λ i. StandsSeq labels.now.texts (λ k. slice_get program.new k) (seq_of seq.now) (length program.old) i next) }
+{
+    let mut after = next;
+    for j in (0..seq.rest.len()).rev() {
+        let step = &seq.rest[j];
+        let first = compile_item(labels, program, &step.item, after)?;
+        after = compile_sep(program, step.sep, first)?;
+    }
+    compile_item(labels, program, &seq.first, after)
+}
+
+#[cycle(compile)]
+pub(crate) fn compile_expr(
+    labels: &Labels,
+    program: &mut Program,
+    expr: &Expr,
+    next: u32,
+) -> Result<u32, Memory>
+    requires next { next < length program.old }
+    ensures number { IfOk result (λ i. i < length program.new) }
+    ensures grows { OnOk result (Grows program.old program.new) }
+    ensures stands { IfOk result (λ i. Stands labels.now.texts (λ k. slice_get program.new k) expr.now (length program.old) i next) }
+{
+    let mut behind = None;
+    for j in (0..expr.more.len()).rev() {
+        let first = compile_seq(labels, program, &expr.more[j], next)?;
+        behind = Some(join(program, first, behind)?);
+    }
+    let first = compile_seq(labels, program, &expr.first, next)?;
+    join(program, first, behind)
+}

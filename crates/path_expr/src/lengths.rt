@@ -1,0 +1,87 @@
+// The length of the longest matching word.
+ghost use Rattle.std.specs.Prelude.{◌≡◌, ℕ, Option, None};
+ghost use Rattle.path_expr.specs.declared.tree.Sep.TheVariants as seps;
+ghost use Rattle.path_spec.specs.Longest.{longest, seq_longest, item_longest, atom_longest, greater, together};
+ghost use Rattle.path_expr.specs.Views.{atom_of, item_of, seq_of};
+ghost use Rattle.path_expr.specs.Capped.{capped};
+
+use crate::tree::{Atom, Expr, Item, Sep, Seq, Sign};
+
+/// Both lengths together.
+fn sum_of(a: Option<u32>, b: Option<u32>) -> Option<u32>
+    ensures { (x y : Option ℕ) → a ≡ capped x → b ≡ capped y → result ≡ capped (together x y) }
+{
+    match (a, b) {
+        (Some(m), Some(n)) => Some(m.saturating_add(n)),
+        _ => None,
+    }
+}
+
+/// The greater length.
+fn greater_of(a: Option<u32>, b: Option<u32>) -> Option<u32>
+    ensures { (x y : Option ℕ) → a ≡ capped x → b ≡ capped y → result ≡ capped (greater x y) }
+{
+    match (a, b) {
+        (Some(m), Some(n)) => Some(m.max(n)),
+        _ => None,
+    }
+}
+
+#[cycle(longest)]
+fn atom_len(atom: &Atom) -> Option<u32>
+    ensures { result ≡ capped (atom_longest (atom_of atom.now)) }
+{
+    match atom {
+        Atom::Label(_) | Atom::Any => Some(1),
+        Atom::Group(expr) => longest(expr),
+    }
+}
+
+#[cycle(longest)]
+fn item_len(item: &Item) -> Option<u32>
+    ensures { result ≡ capped (item_longest (item_of item.now)) }
+{
+    match item.sign {
+        Some(Sign::Star) => None,
+        Some(Sign::Plus) => None,
+        Some(Sign::Opt) => atom_len(&item.atom),
+        None => atom_len(&item.atom),
+    }
+}
+
+/// The length with one step more.
+#[cycle(longest)]
+fn step_len(before: Option<u32>, sep: Sep, item: &Item) -> Option<u32>
+    ensures child { sep ≡ seps.Child → (x : Option ℕ) → before ≡ capped x → result ≡ capped (together x (item_longest (item_of item.now))) }
+    ensures below { sep ≡ seps.Below → result ≡ None }
+{
+    match sep {
+        Sep::Child => sum_of(before, item_len(item)),
+        Sep::Below => None,
+    }
+}
+
+#[cycle(longest)]
+fn seq_len(seq: &Seq) -> Option<u32>
+    ensures { result ≡ capped (seq_longest (seq_of seq.now)) }
+{
+    let mut len = item_len(&seq.first);
+    for j in 0..seq.rest.len() {
+        let step = &seq.rest[j];
+        len = step_len(len, step.sep, &step.item);
+    }
+    len
+}
+
+/// The number of labels of the longest matching word, None exactly where there is no longest. Past 2^32 - 1, which
+/// no text within the limits reaches, it is that number. It takes no memory.
+#[cycle(longest)]
+pub fn longest(expr: &Expr) -> Option<u32>
+    ensures { result ≡ capped (longest expr.now) }
+{
+    let mut len = seq_len(&expr.first);
+    for j in 0..expr.more.len() {
+        len = greater_of(len, seq_len(&expr.more[j]));
+    }
+    len
+}

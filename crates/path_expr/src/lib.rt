@@ -1,0 +1,12 @@
+//! Path expressions as trees: the automata that read their words, their answers over any graph, and their longest
+//! words.
+#![tactic(auto)]
+
+mod answers;
+mod compile;
+mod lengths;
+mod tree;
+
+pub use answers::eval;
+pub use lengths::longest;
+pub use tree::{Atom, Expr, Item, Sep, Seq, Sign, Step};
