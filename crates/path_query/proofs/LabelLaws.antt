@@ -14,7 +14,8 @@ use Rattle.triples_read.specs.Reading.{starts_with}
 use Rattle.triples_read.proofs.Opening.{front-quoted}
 use Rattle.triples_read.proofs.IriFronts.{front-cut, end-found, cut-there}
 use Rattle.triples_read.proofs.OneReading.{iri-unique}
-use Rattle.path_query.specs.Labels.{IsPlainLabel, SpellsLabel, IsLabelFront, EndsName}
+use Rattle.path_spec.specs.Spelling.{EndsName}
+use Rattle.path_query.specs.Labels.{IsPlainLabel, SpellsLabel, IsLabelFront}
 use Rattle.path_query.proofs.LabelBytes.{named, name_bytes, letter_is_no_blank}
 use Rattle.path_query.proofs.Cuts.{Stops, prefix_len-cut}
 

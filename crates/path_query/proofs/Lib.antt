@@ -1,8 +1,9 @@
+mod Cuts
 pub mod LabelBytes
-pub mod Cuts
 pub mod LabelLaws
-pub mod Spellings
-pub mod LabelNumbers
-pub mod Paths
-pub mod Markings
+pub mod Readings
+pub mod Lexing
+pub mod OneText
+pub mod Canon
+pub mod Again
 pub mod Examples

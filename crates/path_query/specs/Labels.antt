@@ -1,6 +1,6 @@
 -- Labels, as they are written: names, and IRIs in brackets.
-use Rattle.std.specs.Prelude.{ℕ, ◌≡◌, ◌≢◌, ◌≤◌, ◌⊎◌, false, List, [], ◌∷◌, length, take, codes, IsTrue}
-use Rattle.px_spec.specs.Words.{is_name, is_name_byte}
+use Rattle.std.specs.Prelude.{ℕ, ◌≡◌, ◌≢◌, ◌≤◌, ◌⊎◌, List, length, take, codes, IsTrue}
+use Rattle.px_spec.specs.Words.{is_name}
 use Rattle.triples_read.specs.Lines.{IsIriFront}
 use Rattle.triples_read.specs.Canonical.{iri_spelling}
 
@@ -17,8 +17,3 @@ SpellsLabel text t =
 -- the first n bytes spell the label
 abbrev pub IsLabelFront : List ℕ → ℕ → List ℕ → Type 0
 IsLabelFront text n t = (n ≤ length text) × SpellsLabel (take n text) t
-
--- no name goes on into the text
-abbrev pub EndsName : List ℕ → Type 0
-EndsName [] = Unit {0}
-EndsName (b ∷ bs) = is_name_byte b ≡ false

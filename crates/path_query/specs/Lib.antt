@@ -1,6 +1,6 @@
-pub mod Trees
 pub mod Labels
-pub mod Matches
-pub mod Answers
-pub mod Spelling
-pub mod Marking
+pub mod Depths
+pub mod Parsed
+pub mod Seen
+pub mod Fronts
+pub mod Written

@@ -1,113 +1,96 @@
 // Path expressions.
-ghost use Rattle.std.specs.Prelude.{◌≡◌, ◌↔◌, ℕ, List, IsTrue, IfOk, IsErrOf};
-ghost use Rattle.path_query.specs.Trees.{Item, Separator, Seq, label_item, children};
-ghost use Rattle.path_query.specs.Spelling.{BeginsRest, IsItemFront, SpellsRest, Spells};
+ghost use Rattle.std.specs.Prelude.{◌≡◌, ◌↔◌, ℕ, List, Err, IfOk, IsErrOf, IsTrue};
+ghost use Rattle.path_spec.specs.Trees as tree;
+ghost use Rattle.path_spec.specs.Longest.{longest};
+ghost use Rattle.path_spec.specs.Spelling.{canonical};
+ghost use Rattle.path_expr.specs.Capped.{capped};
+ghost use Rattle.path_query.specs.Parsed.{Spells, is_past};
 
-use crate::labels::read_front;
-use crate::words::skip_blanks;
+use crate::grammar::ReadError;
+use crate::parsing::{is_past, read};
+use crate::writing::write_expr;
+use path_expr::{Expr, longest};
 use px_base::{Memory, Text};
-use std::alloc::{AllocFailed, Global};
+use px_spec::Limits;
+use std::alloc::Global;
 use std::marker::Model;
 
 /// Why a text makes no path expression.
 #[derive(Clone, Copy, Debug, PartialEq, Eq)]
 pub enum ExprError {
+    /// The text passes a limit.
+    Limit,
     /// The text spells none.
     Syntax,
     /// Want of memory.
     Memory,
 }
 
-impl<T: Drop> From<AllocFailed<T>> for ExprError {
-    ghost use Rattle.std.specs.Prelude.{◌≡◌};
-    ghost use Rattle.path_query.specs.declared.expr.ExprError.TheVariants as variants;
-
-    ghost from_gives = { λ _ e. e ≡ variants.Memory };
-
-    fn from(_: AllocFailed<T>) -> Self {
-        ExprError::Memory
-    }
-}
-
-impl From<Memory> for ExprError {
-    ghost use Rattle.std.specs.Prelude.{◌≡◌};
-    ghost use Rattle.path_query.specs.declared.expr.ExprError.TheVariants as variants;
-
-    ghost from_gives = { λ _ e. e ≡ variants.Memory };
-
-    fn from(_: Memory) -> Self {
-        ExprError::Memory
-    }
-}
-
-/// A path expression, seen as its tree: labels, each of a child of the node before.
+/// A path expression that some text spells, seen as its tree.
 #[derive(Drop)]
 pub struct PathExpr {
-    pub(crate) first: Text,
-    pub(crate) rest: Vec<Text>,
+    tree: Expr,
 }
 
 impl Model for PathExpr {
-    ghost use Rattle.path_query.specs.Trees.{Seq, path_of};
+    ghost use Rattle.path_spec.specs.Trees.{Expr as Tree};
+    ghost use Rattle.path_spec.specs.Spelling.{canonical};
+    ghost use Rattle.path_expr.specs.Coding.{coded_tree};
+    ghost use Rattle.path_query.specs.Parsed.{Spells};
 
-    ghost Value = { Seq };
+    ghost Value = { Tree };
 
-    ghost view = { λ e. path_of e.first e.rest.items };
+    ghost coded = { coded_tree };
+
+    ghost view = { λ e. e.tree };
+
+    ghost invariant = { λ e. Spells (canonical e.tree) e.tree };
 }
 
 impl PathExpr {
-    /// The one expression that the text spells: labels with `/` between them, as `a/<http://e/b>`, where
-    /// spaces and tabs may stand around each label. A label is a name or an IRIREF, as `read_label` reads
-    /// it. `Syntax` comes only where the text spells none, `Memory` at want of memory. Linear in the text.
-    pub fn parse(alloc: Global, text: &[u8]) -> Result<PathExpr, ExprError>
-        ensures ok { IfOk result (Spells text.now) }
-        ensures only { IfOk result (λ e. (other : Seq) → Spells text.now other → other ≡ e) }
-        ensures syntax { IsErrOf result ExprError.Syntax → (e : Seq) → Spells text.now e → ⊥ }
-        ensures once { (a b : Seq) → Spells text.now a → Spells text.now b → a ≡ b }
+    /// The one expression that the text spells, as `a//(b|<http://e/c>)*`, where spaces and tabs may stand between
+    /// tokens and at both ends. `Limit` comes exactly where the text has more bytes than `expr_bytes` or its
+    /// brackets nest deeper than `expr_depth`, else `Syntax` only where it spells none, and `Memory` at want of
+    /// memory. Linear in the text.
+    pub fn parse(alloc: Global, text: &[u8], limits: &Limits) -> Result<PathExpr, ExprError>
+        ensures ok { IfOk result (λ e. Spells text.now e) }
+        ensures only { IfOk result (λ e. (other : tree.Expr) → Spells text.now other → other ≡ e) }
+        ensures limit { (result ≡ Err ExprError.Limit) ↔ IsTrue (is_past limits.now text.now) }
+        ensures syntax { IsErrOf result ExprError.Syntax → (e : tree.Expr) → Spells text.now e → ⊥ }
+        ensures once { (a b : tree.Expr) → Spells text.now a → Spells text.now b → a ≡ b }
     {
-        let (first, left) = read_item(alloc, text)?;
-        let rest = parse_rest(alloc, left)?;
-        Ok(PathExpr { first, rest })
+        if is_past(limits, text) {
+            return Err(ExprError::Limit);
+        }
+        match read(alloc, text) {
+            Ok(tree) => Ok(PathExpr { tree }),
+            Err(ReadError::Syntax) => Err(ExprError::Syntax),
+            Err(ReadError::Memory) => Err(ExprError::Memory),
+        }
     }
-}
 
-/// Whether an item may end here.
-fn begins_rest(text: &[u8]) -> bool
-    ensures { IsTrue result ↔ BeginsRest text.now }
-{
-    matches!(text, [] | [b'/', ..])
-}
-
-/// The label between blanks with which the text begins, and what follows.
-fn read_item(alloc: Global, text: &[u8]) -> Result<(Text, &[u8]), ExprError>
-    ensures ok { IfOk result (λ r. IsItemFront text.now (label_item r.0) r.1.now) }
-    ensures syntax { IsErrOf result ExprError.Syntax → (i : Item) (rest : List ℕ) → IsItemFront text.now i rest → ⊥ }
-{
-    let from_label = skip_blanks(text);
-    let Some((label, len)) = read_front(alloc, from_label)? else {
-        return Err(ExprError::Syntax);
-    };
-    let (_, behind) = from_label.split_at(len);
-    let rest = skip_blanks(behind);
-    if begins_rest(rest) {
-        Ok((label, rest))
-    } else {
-        Err(ExprError::Syntax)
+    /// The canonical text: the tokens without any blank, labels in their one spelling. It spells this very expression,
+    /// so `parse` of it, where it is within the limits, gives the same tree.
+    pub fn write(&self, alloc: Global) -> Result<Text, Memory>
+        ensures canonical { IfOk result (λ t. t ≡ canonical self.now) }
+        ensures again { IfOk result (λ t. Spells t self.now) }
+    {
+        let mut out = String::new(alloc);
+        write_expr(&mut out, &self.tree)?;
+        Ok(Text::from_string(out))
     }
-}
 
-/// The labels of which each stands after a '/'.
-fn parse_rest(alloc: Global, text: &[u8]) -> Result<Vec<Text>, ExprError>
-    requires { BeginsRest text.now }
-    ensures ok { IfOk result (λ labels. SpellsRest text.now (children labels.items)) }
-    ensures syntax { IsErrOf result ExprError.Syntax → (r : List (Separator × Item)) → SpellsRest text.now r → ⊥ }
-{
-    let mut labels = Vec::new(alloc);
-    let mut left = text;
-    while !left.is_empty() {
-        let (label, after) = read_item(alloc, &left[1..])?;
-        labels.push(label)?;
-        left = after;
+    /// The number of labels of the longest matching word, None exactly where there is no longest. It takes no memory.
+    pub fn longest(&self) -> Option<u32>
+        ensures { result ≡ capped (longest self.now) }
+    {
+        longest(&self.tree)
     }
-    Ok(labels)
+
+    /// The tree.
+    pub fn tree(&self) -> &Expr
+        ensures { result.now ≡ self.now }
+    {
+        &self.tree
+    }
 }

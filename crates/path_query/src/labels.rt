@@ -5,7 +5,8 @@ ghost use Rattle.px_spec.specs.Words.{is_letter, is_name_byte, is_name};
 ghost use Rattle.triples_read.specs.Lines.{IsIriFront};
 ghost use Rattle.triples_read.specs.Canonical.{iri_spelling};
 ghost use Rattle.triples_read.specs.Reading.{starts_with};
-ghost use Rattle.path_query.specs.Labels.{IsPlainLabel, SpellsLabel, IsLabelFront, EndsName};
+ghost use Rattle.path_spec.specs.Spelling.{EndsName};
+ghost use Rattle.path_query.specs.Labels.{IsPlainLabel, SpellsLabel, IsLabelFront};
 
 use px_base::{Memory, Text, TextError};
 use std::alloc::Global;
@@ -17,7 +18,7 @@ fn is_letter(byte: u8) -> bool
     (b'A' <= byte && byte <= b'Z') || (b'a' <= byte && byte <= b'z')
 }
 
-fn is_name_byte(byte: u8) -> bool
+pub(crate) fn is_name_byte(byte: u8) -> bool
     ensures { result ≡ is_name_byte byte }
 {
     is_letter(byte) || (b'0' <= byte && byte <= b'9') || byte == b'_' || byte == b'-'

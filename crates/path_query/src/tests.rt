@@ -5,41 +5,112 @@ ghost use Rattle.label_graph.specs.Views.{label_number};
 use super::*;
 use label_graph::{Graph, GraphView};
 use px_base::{NodeId, Steps, Text};
+use px_spec::Limits;
 use std::alloc::Global;
 use std::marker::Brand;
 use std::process::Abort;
 use std::sync::ledger::{Blank, Ledger};
 use std::test::Fail;
 
+/// What the text is read as: the canonical text of its expression, or the name of another answer.
+fn read_as(alloc: Global, text: &[u8]) -> Result<Text, Fail> {
+    match PathExpr::parse(alloc, text, &Limits::program()) {
+        Ok(expr) => Ok(expr.write(alloc)?),
+        Err(ExprError::Syntax) => Ok(Text::from_bytes(alloc, b"syntax")?),
+        Err(ExprError::Limit) => Ok(Text::from_bytes(alloc, b"limit")?),
+        Err(ExprError::Memory) => Ok(Text::from_bytes(alloc, b"memory")?),
+    }
+}
+
 #[test]
-fn texts_spell_expressions(rt: HostRuntime) -> Result<(), Fail> {
+fn texts_are_read(rt: HostRuntime) -> Result<(), Fail> {
     let alloc = rt.alloc();
-    for text in [
-        "a",
-        "a/b",
-        " a / b ",
-        "\ta\t/\tb\t",
-        "a-1/B_2/c",
-        "andy/notes/order",
-        "<http://e/a>/iri/<http://e/b>",
-        " <a/b> /\t<> ",
-    ] {
-        let expr = PathExpr::parse(alloc, text.as_bytes());
-        assert!(rt; expr.is_ok(), "at {text}");
+    let table: [(&[u8], &str); 32] = [
+        (b"a // ( b | <http://e/\\u0061> )*", "a//(b|<http://e/a>)*"),
+        (b" a / b\t", "a/b"),
+        (b"a_-", "a_-"),
+        (b"_", "_"),
+        (b"a * ", "a*"),
+        (b"(a*)*", "(a*)*"),
+        (b"(a|b)*/c", "(a|b)*/c"),
+        (b"a|b/c|_", "a|b/c|_"),
+        (b"((a))", "((a))"),
+        (b"android?/not-a+", "android?/not-a+"),
+        (b" <a/b> //\t<> ", "<a/b>//<>"),
+        (b"", "syntax"),
+        (b"  ", "syntax"),
+        (b"a**", "syntax"),
+        (b"/a", "syntax"),
+        (b"a/", "syntax"),
+        (b"a / /b", "syntax"),
+        (b"a///b", "syntax"),
+        (b"a b", "syntax"),
+        (b"_a", "syntax"),
+        (b"_ _", "syntax"),
+        (b"()", "syntax"),
+        (b"(a", "syntax"),
+        (b"a)", "syntax"),
+        (b"|a", "syntax"),
+        (b"a|", "syntax"),
+        (b"and", "syntax"),
+        (b"a/or", "syntax"),
+        (b"1a", "syntax"),
+        (b"a.b", "syntax"),
+        (b"a<b>", "syntax"),
+        (b"<a", "syntax"),
+    ];
+    for (text, answer) in table {
+        let found = read_as(alloc, text)?;
+        assert_eq!(rt; found.as_str(), answer);
     }
     Ok(())
 }
 
 #[test]
-fn other_texts_spell_none(rt: HostRuntime) -> Result<(), Fail> {
+fn limits_come_first(rt: HostRuntime) -> Result<(), Fail> {
     let alloc = rt.alloc();
-    let texts = [
-        "", " ", "a b", "a/", "/a", "a//b", "a/ /b", "/", "and", "a/or", "not/a", "1a", "_a",
-        "a.b", "a\n", "\u{e4}", "a<b>", "<a>b", "<a><b>", "<a b>", "<a", "<a/b",
+    let few = Limits {
+        nodes: 1,
+        edges: 1,
+        labels: 1,
+        expr_bytes: 7,
+        expr_depth: 1,
+    };
+    let table: [(&[u8], bool); 10] = [
+        (b"abcdefg", false),
+        (b"abcdefgh", true),
+        (b"*******", false),
+        (b"********", true),
+        (b"(a)/(b)", false),
+        (b"((a))", true),
+        (b"))((", false),
+        (b"))((((", true),
+        (b"[([a", true),
+        (b"<((>", false),
     ];
-    for text in texts {
-        let expr = PathExpr::parse(alloc, text.as_bytes());
-        assert_eq!(rt; expr.err(), Some(ExprError::Syntax), "at {text}");
+    for (text, past) in table {
+        let found = PathExpr::parse(alloc, text, &few).err();
+        assert_eq!(rt; found == Some(ExprError::Limit), past);
+    }
+    Ok(())
+}
+
+#[test]
+fn longest_words(rt: HostRuntime) -> Result<(), Fail> {
+    let alloc = rt.alloc();
+    let table: [(&[u8], Option<u32>); 8] = [
+        (b"a", Some(1)),
+        (b"a/_/c", Some(3)),
+        (b"a/b?|c", Some(2)),
+        (b"(a|b/c)/(d/e)?", Some(4)),
+        (b"a//(b|<http://e/a>)*", None),
+        (b"a//b", None),
+        (b"(a/b)+", None),
+        (b"a?|b?", Some(1)),
+    ];
+    for (text, len) in table {
+        let expr = PathExpr::parse(alloc, text, &Limits::program())?;
+        assert_eq!(rt; expr.longest(), len);
     }
     Ok(())
 }
@@ -152,7 +223,7 @@ fn check_answers(
     requires same { view.now ≡ graph.now.graph }
     requires labelled { (n l : ℕ) → label_number graph.now.graph n ≡ Some l → l < length graph.now.graph.seen }
 {
-    let expr = PathExpr::parse(alloc, text.as_bytes())?;
+    let expr = PathExpr::parse(alloc, text.as_bytes(), &Limits::program())?;
     let marked = eval(alloc, view, graph.labels(), &expr)?;
     assert_eq!(rt; marked.count() as usize, answers.len(), "at {text}");
     for n in answers {
@@ -169,15 +240,28 @@ fn check_small_graph<L: Ledger>(rt: &impl Abort, alloc: Global, blank: Blank) ->
     let mut steps = Steps::<L>::new(blank);
     let graph = small_graph(rt, alloc, &mut steps)?;
     let view = graph.view(&mut steps);
-    check_answers(rt, alloc, &graph, &view, "a", &[0, 2])?;
-    check_answers(rt, alloc, &graph, &view, "b", &[1, 3])?;
-    check_answers(rt, alloc, &graph, &view, "a/b", &[1])?;
-    check_answers(rt, alloc, &graph, &view, "a/b/c", &[4])?;
-    check_answers(rt, alloc, &graph, &view, "a / c", &[4])?;
-    check_answers(rt, alloc, &graph, &view, "b/b/b", &[3])?;
-    check_answers(rt, alloc, &graph, &view, "c/b", &[])?;
-    check_answers(rt, alloc, &graph, &view, "a/d", &[])?;
-    check_answers(rt, alloc, &graph, &view, "d", &[])
+    let table: [(&str, &[NodeId]); 16] = [
+        ("a/b/c", &[4]),
+        ("a / c", &[4]),
+        ("b/b/b", &[3]),
+        ("c/b", &[]),
+        ("a/d", &[]),
+        ("_", &[0, 1, 2, 3, 4]),
+        ("a//c", &[4]),
+        ("b//b", &[3]),
+        ("a//a", &[]),
+        ("a*", &[0, 2]),
+        ("d*", &[]),
+        ("(a|b)+", &[0, 1, 2, 3]),
+        ("(a|b)/c", &[4]),
+        ("c|a/b", &[1, 4]),
+        ("(a/b)?/c", &[4]),
+        ("d|(d/a|b)?/b", &[1, 3]),
+    ];
+    for (text, answers) in table {
+        check_answers(rt, alloc, &graph, &view, text, answers)?;
+    }
+    Ok(())
 }
 
 #[test]

@@ -1,0 +1,28 @@
+// Trees from texts.
+ghost use Rattle.std.specs.Prelude.{◌≡◌, IfOk, IsErrOf};
+ghost use Rattle.path_spec.specs.Trees as tree;
+ghost use Rattle.path_query.specs.Parsed.{Spells, is_past};
+
+use crate::depth::depth_of;
+use crate::grammar::{ReadError, read_tokens};
+use crate::lexer::lex;
+use path_expr::Expr;
+use px_spec::Limits;
+use std::alloc::Global;
+
+/// Whether the text has more bytes than the limit, or nests deeper.
+pub(crate) fn is_past(limits: &Limits, text: &[u8]) -> bool
+    ensures { result ≡ is_past limits.now text.now }
+{
+    (limits.expr_bytes as usize) < text.len() || (limits.expr_depth as usize) < depth_of(text)
+}
+
+/// The one tree that the text spells, whatever its size.
+pub(crate) fn read(alloc: Global, text: &[u8]) -> Result<Expr, ReadError>
+    ensures ok { IfOk result (λ e. Spells text.now e) }
+    ensures only { IfOk result (λ e. (f : tree.Expr) → Spells text.now f → f ≡ e) }
+    ensures syntax { IsErrOf result ReadError.Syntax → (f : tree.Expr) → Spells text.now f → ⊥ }
+{
+    let tokens = lex(alloc, text)?;
+    read_tokens(alloc, &tokens)
+}
