@@ -69,31 +69,32 @@ at_seam : (xs : List Line) (l : Line) (ls : List Line) → slice_get (xs ++ l �
 at_seam [] l ls = refl
 at_seam (x ∷ xs) l ls = at_seam xs l ls
 
-not_both : (text : List ℕ) → SpellsSomething text → SpellsNothing text → ⊥
-not_both text (inl q) n = n.0 q
-not_both text (inr c) n = n.1 c.0 c.1
+not_both : (limits : Limits) (text : List ℕ) → SpellsSomething limits text → SpellsNothing limits text → ⊥
+not_both limits text (inl q) n = n.0.0 q
+not_both limits text (inr (inl c)) n = n.0.1 c.0 c.1
+not_both limits text (inr (inr o)) n = n.1 o
 
 -- the next line of a proper script isn't bad
-none_bad : (limits : Limits) (first : State) (text : List ℕ) (before left : List Line) (printed ending : List ℕ) (last : Progress) (status : ℕ)
-    → IsProper text → cut text ≡ before ++ left → TakesLines limits (start first) before printed last → Ends last left ending status → status ≤ 1
-none_bad limits first text before [] printed ending last status w cuts takes ends = at_end last.refused status ends.1
+none_bad : (first : State) (text : List ℕ) (before left : List Line) (printed ending : List ℕ) (last : Progress) (status : ℕ)
+    → IsProper text → cut text ≡ before ++ left → TakesLines program_limits (start first) before printed last → Ends program_limits last left ending status → status ≤ 1
+none_bad first text before [] printed ending last status w cuts takes ends = at_end last.refused status ends.1
   where
     at_end : (b : Bool) (n : ℕ) → n ≡ (if b then 1 else 0) → n ≤ 1
     at_end true n e = omega (arith, e)
     at_end false n e = omega (arith, e)
-none_bad limits first text before (l ∷ ls) printed ending last status w cuts takes ends =
+none_bad first text before (l ∷ ls) printed ending last status w cuts takes ends =
     let here = w.lines (length before) l (ap (λ k. slice_get k (length before)) cuts ∙ at_seam before l ls) in
     let whole : bytes_of before + (length l.text + length l.end + bytes_of ls) ≡ length text = sym (bytes-append before (l ∷ ls)) ∙ ap bytes_of (sym cuts) ∙ (cut_whole text).0 in
-    let taken = taken-bytes limits (start first) before printed last takes in
+    let taken = taken-bytes program_limits (start first) before printed last takes in
     let small = w.small in
     let within : IsWithinScript last l = (here.0, omega (arith, whole, taken, small)) in
-    absurd (not_both l.text here.1 (ends.0 within))
+    absurd (not_both program_limits l.text here.1 (ends.0 within))
 
 ran_few : (first : State) (text : List ℕ) (old new : Option (List ℕ)) (status : ℕ) (Last : State → Type 0) → IsProper text
     → WritesRun program_limits first text old new status Last → status ≤ 1
 ran_few first text old new status Last w r =
     let run = r.is_run in
-    none_bad program_limits first text run.before run.left run.printed run.ending r.last status w run.script_is run.takes run.ends
+    none_bad first text run.before run.left run.printed run.ending r.last status w run.script_is run.takes run.ends
 
 not_rose : (before now : ℕ) → NoFault before now → Rose before now → ⊥
 not_rose before now n (l, inl r) = (let e = n.0 in omega (arith, e, r))

@@ -13,7 +13,7 @@ use Rattle.px_spec.specs.Changes.{node, link, unlink, drop as drop_node, with_no
 use Rattle.px_spec.specs.Words.{node_word}
 use Rattle.path_query.specs.Labels.{IsPlainLabel, SpellsLabel}
 use Rattle.pathindex_run.specs.Texts.{reply, nodes_line, answers_text, bad_line, graph_line}
-use Rattle.script_read.specs.Commands.{Command, change, path, extents, sizes, IsSpelled, SpellsNothing, SpellsSomething}
+use Rattle.script_read.specs.Commands.{Command, change, path, extents, sizes, AsksPath, IsSpelled, PassesLimit, NoCommand, SpellsNothing, SpellsSomething}
 use Rattle.command_line.specs.Forms.{Settings, runs}
 use Rattle.graph_load.specs.Loads.{syntax, limit}
 use Rattle.px_base.specs.Files.{File}
@@ -67,14 +67,14 @@ unfolding after_one
 takes_one = record {
   within = (lit≤ tt, lit≤ tt);
   refuses = false;
-  does = command (change (node (codes "a"))) (codes "a", refl, label_a) _ _ _ (changes (node (codes "a")));
+  does = command (change (node (codes "a"))) (codes "a", refl, label_a) (λ o. omega (arith, ap (λ l. slice_index l 0) o.0.0)) _ _ _ (changes (node (codes "a")));
   refused = refl;
   lines = refl;
   bytes = refl;
 }
 
 -- a line without a label is no command of any kind
-no_label : SpellsNothing (codes "node")
+no_label : NoCommand (codes "node")
 no_label = (λ q. omega (arith, q), other)
   where
     first : List (List ℕ) → List ℕ
@@ -86,7 +86,7 @@ no_label = (λ q. omega (arith, q), other)
     other (change (link u v)) h = omega (arith, ap length h.0)
     other (change (unlink u v)) h = omega (arith, ap length h.0)
     other (change (drop_node u)) h = omega (arith, ap length h.0)
-    other (path Data e) h = omega (arith, ap (λ l. slice_index l 0) h.0)
+    other (path Data e) h = omega (arith, ap (λ l. slice_index l 0) h.0.0)
     other (path via e) h = absurd h
     other (extents via) h = omega (arith, ap length h.0)
     other sizes h = omega (arith, ap (λ ws. slice_index (first ws) 0) h)
@@ -101,7 +101,7 @@ run_bad = record {
   ending = bad_line 2;
   script_is = refl;
   takes = (codes "added " ++ node_word 0 ++ 10 ∷ [], [], after_one, takes_one, (refl, refl), sym (append-nil _));
-  ends = (λ _. no_label, refl, refl);
+  ends = (λ _. (no_label, λ o. omega (arith, ap (λ l. slice_index l 0) o.0.0)), refl, refl);
   output_is = refl;
 }
 
@@ -155,13 +155,17 @@ drop_refused g = refl
 proper_one : IsProper (codes "node a\n")
 proper_one = record { small = lit≤ tt; lines = each }
   where
-    each : (i : ℕ) (l : Line) → slice_get (cut (codes "node a\n")) i ≡ Some l → (length l.text ≤ LINE_BYTES) × SpellsSomething l.text
+    each : (i : ℕ) (l : Line) → slice_get (cut (codes "node a\n")) i ≡ Some l → (length l.text ≤ LINE_BYTES) × SpellsSomething program_limits l.text
     each zero l e = let same : record { text = codes "node a"; end = 10 ∷ [] } ≡ l = cc in
-        subst (λ k. (length k.text ≤ LINE_BYTES) × SpellsSomething k.text) same (lit≤ tt, inr (change (node (codes "a")), (codes "a", refl, label_a)))
+        subst (λ k. (length k.text ≤ LINE_BYTES) × SpellsSomething program_limits k.text) same (lit≤ tt, inr (inl (change (node (codes "a")), (codes "a", refl, label_a))))
     each (suc i) l e = cc
 
 not_proper : ¬ IsProper (codes "node\n")
-not_proper w = elim (w.lines 0 (record { text = codes "node"; end = 10 ∷ [] }) refl).1 [ inl q ↦ no_label.0 q | inr c ↦ no_label.1 c.0 c.1 ]
+not_proper w = elim (w.lines 0 (record { text = codes "node"; end = 10 ∷ [] }) refl).1 [
+  | inl q ↦ no_label.0 q
+  | inr (inl c) ↦ no_label.1 c.0 c.1
+  | inr (inr o) ↦ omega (arith, ap (λ l. slice_index l 0) o.0.0)
+]
 
 -- a change that is refused prints why, and leaves the state
 obeys_refused : Obeys program_limits first_state (change (unlink 0 1)) (codes "refused no-node\n") true first_state

@@ -108,7 +108,7 @@ ran-over (Some x) (Some y) {old = old} {new = new} {out = out} {p = p} r over ne
 
 -- The next line is bad, and all that was gathered is written.
 pub ran-bad : {limits : Limits} {first : State} (a b : Option (List ℕ)) {old new : Option (List ℕ)} {out : List ℕ} {p : Progress} → Reached limits first a b old new out p
-    → FirstIsBad p b → (newer : Option (List ℕ)) (gathered : List ℕ) → gathered ≡ out ++ bad_line (p.lines + 1) → Appends new newer gathered
+    → FirstIsBad limits p b → (newer : Option (List ℕ)) (gathered : List ℕ) → gathered ≡ out ++ bad_line (p.lines + 1) → Appends new newer gathered
     → (Last : State → Type 0) → Last p.state → RanTold limits first a old newer 4 Last
 ran-bad None b r bad newer gathered e w Last h = tt
 ran-bad (Some x) None r bad newer gathered e w Last h = absurd r.told
@@ -159,7 +159,7 @@ front-part {limits} {first} (Some x) (Some y) {old = old} {new = new} {p = p} r 
 
 -- the same, where the line that is bad was gathered too
 pub front-bad : {limits : Limits} {first : State} (a b : Option (List ℕ)) {old new : Option (List ℕ)} {out : List ℕ} {p : Progress} → Reached limits first a b old new out p
-    → FirstIsBad p b → (newer : Option (List ℕ)) (gathered : List ℕ) → gathered ≡ out ++ bad_line (p.lines + 1) → PartWritten new newer gathered → FrontTold limits first a old newer
+    → FirstIsBad limits p b → (newer : Option (List ℕ)) (gathered : List ℕ) → gathered ≡ out ++ bad_line (p.lines + 1) → PartWritten new newer gathered → FrontTold limits first a old newer
 front-bad None b r bad newer gathered e w = tt
 front-bad (Some x) None r bad newer gathered e w = absurd r.told
 front-bad {limits} {first} (Some x) (Some y) {old = old} {new = new} {out = out} {p = p} r bad newer gathered e w = (

@@ -1,19 +1,20 @@
 -- Commands that are carried out, and lines that are taken.
-use Rattle.std.proofs.Common.{◌≡◌, ℕ, Bool, true, false, List, [], refl, sym, ap, subst, append-nil, Result, Ok, Err}
+use Rattle.std.proofs.Common.{◌≡◌, ℕ, Bool, true, false, List, [], refl, sym, ap, ◌∙◌, subst, append-nil, Result, Ok, Err}
 use Rattle.std.specs.Prelude.{◌||◌, ◌++◌, is_err, OnOk}
 use Rattle.px_spec.specs.declared.limits.Limits.{Limits}
 use Rattle.px_spec.specs.Graphs.{Graph}
 use Rattle.px_spec.specs.Changes.{Change, apply}
 use Rattle.px_spec.specs.Shapes.{shape_of}
+use Rattle.px_spec.specs.declared.refusal.Refusal.TheVariants.{Limit}
 use Rattle.index_api.specs.declared.kinds.Via.{Via}
 use Rattle.index_api.specs.declared.kinds.Via.TheVariants.{Data, A, One, Fb}
-use Rattle.path_query.specs.Trees.{Seq}
-use Rattle.path_query.specs.Answers.{AreAnswers}
-use Rattle.script_read.specs.Commands.{Command, change, path, extents, sizes, IsQuiet, IsSpelled}
+use Rattle.path_spec.specs.Trees.{Expr}
+use Rattle.path_spec.specs.Answers.{AreAnswers}
+use Rattle.script_read.specs.Commands.{Command, change, path, extents, sizes, IsQuiet, IsSpelled, PassesLimit}
 use Rattle.pathindex_run.specs.declared.interpreter.Outcome.TheVariants.{Done}
-use Rattle.pathindex_run.specs.Texts.{reply, answers_text}
+use Rattle.pathindex_run.specs.Texts.{reply, refused_line, answers_text}
 use Rattle.pathindex_run.specs.Kept.{Kept}
-use Rattle.pathindex_run.specs.Runs.{nothing, command, Obeys, changes, answers, lists, measures}
+use Rattle.pathindex_run.specs.Runs.{nothing, over, command, Obeys, Does, changes, answers, lists, measures}
 use Rattle.pathindex_run.specs.Indexes.{ShowsExtents, ShowsSizes}
 use Rattle.pathindex_run.specs.RunSteps.{Changes, Obeyed, AsksData, LineIsTaken}
 
@@ -39,7 +40,7 @@ change_obeyed limits k c out refuses h gathered d =
     }
 
 -- an expression that was asked of the graph itself
-pub answers_obeyed : {E : Type 0} (limits : Limits) (k : Kept) (e : Seq) (out : List ℕ) (r : Result (Unit {0}) E) (gathered : List ℕ)
+pub answers_obeyed : {E : Type 0} (limits : Limits) (k : Kept) (e : Expr) (out : List ℕ) (r : Result (Unit {0}) E) (gathered : List ℕ)
     → OnOk r ((nodes : List ℕ) × AreAnswers (shape_of k.state.graph) e nodes × (gathered ≡ out ++ answers_text nodes))
     → OnOk r (Obeyed limits k (path Data e) out k gathered)
 answers_obeyed limits k e out (Ok u) gathered a = record {
@@ -86,5 +87,20 @@ spelled_asks line sizes h = tt
 
 -- a line whose command was carried out
 pub obeyed_comes : (limits : Limits) (k : Kept) (line : List ℕ) (c : Command) (out : List ℕ) (m : Kept) (gathered : List ℕ)
-    → IsSpelled line c → Obeyed limits k c out m gathered → LineIsTaken limits k line out Done m gathered
-obeyed_comes limits k line c out m gathered s o = (o.printed, o.refuses, command c s _ _ _ o.obeys, o.refused, o.gathered_is)
+    → IsSpelled line c → ¬ PassesLimit limits line → Obeyed limits k c out m gathered → LineIsTaken limits k line out Done m gathered
+obeyed_comes limits k line c out m gathered s w o = (o.printed, o.refuses, command c s w _ _ _ o.obeys, o.refused, o.gathered_is)
+
+or_refused : (b : Bool) → true ≡ (b || true)
+or_refused true = refl
+or_refused false = refl
+
+-- a query whose expression passes a limit
+pub over_comes : (limits : Limits) (k : Kept) (line out : List ℕ) (m : Kept) (gathered : List ℕ) → PassesLimit limits line → m ≡ record k { refused = true }
+    → gathered ≡ out ++ refused_line Limit → LineIsTaken limits k line out Done m gathered
+over_comes limits k line out m gathered p e g = (
+  refused_line Limit,
+  true,
+  subst (λ x. Does limits k.state line (refused_line Limit) true x.state) (sym e) (over p),
+  ap (λ x. x.refused) e ∙ or_refused k.refused,
+  g,
+)

@@ -93,10 +93,11 @@ pub record HasStatus (form : Form) (files : Option (List File)) (shelf_before sh
   pub shelf_rose : shelf_before < shelf_after → status ≡ 5
   pub sink_rose : sink_before < sink_after → status ≡ 6
 
--- a script without a bad line: it is within its limit, each line is within that on a line, and is quiet or a command
+-- a script without a bad line: it is within its limit, each line is within that on a line, and it is quiet, a command, or a query whose expression
+-- passes a limit
 pub record IsProper (text : List ℕ) : Type 0 where
   pub small : length text ≤ SCRIPT_BYTES
-  pub lines : (i : ℕ) (l : Line) → slice_get (cut text) i ≡ Some l → (length l.text ≤ LINE_BYTES) × SpellsSomething l.text
+  pub lines : (i : ℕ) (l : Line) → slice_get (cut text) i ≡ Some l → (length l.text ≤ LINE_BYTES) × SpellsSomething program_limits l.text
 
 -- The words name files that the shelf tells: the graph file, where one is named, is there and loads, and the script is there
 -- and proper.

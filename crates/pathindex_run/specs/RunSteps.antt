@@ -47,21 +47,21 @@ AsksData sizes = ⊤
 abbrev pub LineIsTaken : Limits → Kept → List ℕ → List ℕ → Outcome → Kept → List ℕ → Type 0
 LineIsTaken limits k line out Done m gathered = (printed : List ℕ) × (refuses : Bool)
     × Does limits k.state line printed refuses m.state × (m.refused ≡ (k.refused || refuses)) × (gathered ≡ out ++ printed)
-LineIsTaken limits k line out Bad m gathered = SpellsNothing line × (gathered ≡ out)
+LineIsTaken limits k line out Bad m gathered = SpellsNothing limits line × (gathered ≡ out)
 
 abbrev pub progress : Kept → Reading → Progress
 progress k r = record { state = k.state; refused = k.refused; lines = r.number; bytes = r.taken }
 
 -- the first line of a told text is bad
-abbrev pub FirstIsBad : Progress → Option (List ℕ) → Type 0
-FirstIsBad p None = ⊤
-FirstIsBad p (Some text) = (l : Line) × (ls : List Line) × (cut text ≡ l ∷ ls) × IsBad p l
+abbrev pub FirstIsBad : Limits → Progress → Option (List ℕ) → Type 0
+FirstIsBad limits p None = ⊤
+FirstIsBad limits p (Some text) = (l : Line) × (ls : List Line) × (cut text ≡ l ∷ ls) × IsBad limits p l
 
 -- The run takes a line and gathers what it prints, or it ends: at a bad line, or at the end of the script.
 abbrev pub Goes : Limits → Progress → Option (List ℕ) → List ℕ → Next → Progress → Option (List ℕ) → List ℕ → Type 0
 Goes limits p before out Taken q after gathered = (l : Line) × (printed : List ℕ)
     × IsFirst l before after × TakesLine limits p l printed q × (gathered ≡ out ++ printed)
-Goes limits p before out AtBad q after gathered = FirstIsBad p before × (gathered ≡ out ++ bad_line (p.lines + 1))
+Goes limits p before out AtBad q after gathered = FirstIsBad limits p before × (gathered ≡ out ++ bad_line (p.lines + 1))
 Goes limits p before out AtEnd q after gathered = IsOver before × (q.refused ≡ p.refused) × (gathered ≡ out)
 
 -- a fact for a step after which the run goes on

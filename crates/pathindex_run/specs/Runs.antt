@@ -1,20 +1,21 @@
 -- A run of a script: what it prints, its status, and its last state.
-use Rattle.std.specs.Prelude.{ℕ, ◌+◌, ◌≡◌, ◌≤◌, ◌⊎◌, Bool, false, ◌||◌, List, [], ◌∷◌, ◌++◌, length, if◌then◌else◌, Result, Ok, Err, is_err}
+use Rattle.std.specs.Prelude.{ℕ, ◌+◌, ◌≡◌, ◌≤◌, ◌⊎◌, Bool, true, false, ◌||◌, List, [], ◌∷◌, ◌++◌, length, if◌then◌else◌, Result, Ok, Err, is_err}
 use Rattle.px_base.specs.declared.lines.TheConstants.{LINE_BYTES, SCRIPT_BYTES}
 use Rattle.px_spec.specs.declared.limits.Limits.{Limits}
 use Rattle.px_spec.specs.declared.refusal.Refusal.{Refusal}
+use Rattle.px_spec.specs.declared.refusal.Refusal.TheVariants.{Limit}
 use Rattle.px_spec.specs.Lines.{Line, cut}
 use Rattle.px_spec.specs.Graphs.{Graph}
 use Rattle.px_spec.specs.Changes.{Change, apply}
 use Rattle.px_spec.specs.Shapes.{shape_of}
 use Rattle.index_api.specs.declared.kinds.Via.{Via}
 use Rattle.index_api.specs.declared.kinds.Via.TheVariants.{Data}
-use Rattle.path_query.specs.Trees.{Seq}
-use Rattle.path_query.specs.Answers.{AreAnswers}
-use Rattle.pathindex_run.specs.Texts.{reply, answers_text, bad_line}
+use Rattle.path_spec.specs.Trees.{Expr}
+use Rattle.path_spec.specs.Answers.{AreAnswers}
+use Rattle.pathindex_run.specs.Texts.{reply, refused_line, answers_text, bad_line}
 use Rattle.pathindex_run.specs.States.{State}
 use Rattle.pathindex_run.specs.Indexes.{ShowsExtents, ShowsSizes}
-use Rattle.script_read.specs.Commands.{Command, change, path, extents, sizes, IsQuiet, IsSpelled, SpellsNothing}
+use Rattle.script_read.specs.Commands.{Command, change, path, extents, sizes, IsQuiet, IsSpelled, PassesLimit, SpellsNothing}
 
 -- the graph after a change, by its outcome: a refusal leaves it
 abbrev pub changed : Graph → Result Graph Refusal → Graph
@@ -30,14 +31,15 @@ pub data Obeys (limits : Limits) (s : State) : Command → List ℕ → Bool →
   changes : (c : Change)
       → Obeys limits s (change c) (reply c s.graph (apply c s.graph limits)) (is_err (apply c s.graph limits))
       (moved s (apply c s.graph limits))
-  answers : (e : Seq) (nodes : List ℕ) → AreAnswers (shape_of s.graph) e nodes → Obeys limits s (path Data e) (answers_text nodes) false s
+  answers : (e : Expr) (nodes : List ℕ) → AreAnswers (shape_of s.graph) e nodes → Obeys limits s (path Data e) (answers_text nodes) false s
   lists : (via : Via) (text : List ℕ) (refuses : Bool) → ShowsExtents s via text refuses → Obeys limits s (extents via) text refuses s
   measures : (text : List ℕ) → ShowsSizes s text → Obeys limits s sizes text false s
 
--- so may a line
+-- So may a line. A query whose expression passes a limit is refused, whatever else it is.
 pub data Does (limits : Limits) (s : State) (line : List ℕ) : List ℕ → Bool → State → Type 0 where
   nothing : IsQuiet line → Does limits s line [] false s
-  command : (c : Command) → IsSpelled line c → (printed : List ℕ) (refuses : Bool) (t : State)
+  over : PassesLimit limits line → Does limits s line (refused_line Limit) true s
+  command : (c : Command) → IsSpelled line c → ¬ PassesLimit limits line → (printed : List ℕ) (refuses : Bool) (t : State)
       → Obeys limits s c printed refuses t → Does limits s line printed refuses t
 
 -- how far a run has come
@@ -70,8 +72,8 @@ pub record TakesLine (limits : Limits) (p : Progress) (l : Line) (printed : List
   pub bytes : q.bytes ≡ bytes_with p l
 
 -- The line ends the run: it passes a limit, or it is within them and spells nothing.
-abbrev pub IsBad : Progress → Line → Type 0
-IsBad p l = IsWithinScript p l → SpellsNothing l.text
+abbrev pub IsBad : Limits → Progress → Line → Type 0
+IsBad limits p l = IsWithinScript p l → SpellsNothing limits l.text
 
 -- so may these lines, one after another
 abbrev pub TakesLines : Limits → Progress → List Line → List ℕ → Progress → Type 0
@@ -88,9 +90,9 @@ abbrev pub end_status : Progress → ℕ
 end_status p = if p.refused then 1 else 0
 
 -- The run ends here, and that prints this and gives the status: at the end of the script, or at a bad line.
-abbrev pub Ends : Progress → List Line → List ℕ → ℕ → Type 0
-Ends p [] printed status = (printed ≡ end_text p) × (status ≡ end_status p)
-Ends p (l ∷ ls) printed status = IsBad p l × (printed ≡ bad_line (p.lines + 1)) × (status ≡ 4)
+abbrev pub Ends : Limits → Progress → List Line → List ℕ → ℕ → Type 0
+Ends limits p [] printed status = (printed ≡ end_text p) × (status ≡ end_status p)
+Ends limits p (l ∷ ls) printed status = IsBad limits p l × (printed ≡ bad_line (p.lines + 1)) × (status ≡ 4)
 
 -- From the first state the script is run to its end or to a bad line.
 pub record IsRun (limits : Limits) (first : State) (script output : List ℕ) (status : ℕ) (last : Progress) : Type 0 where
@@ -101,7 +103,7 @@ pub record IsRun (limits : Limits) (first : State) (script output : List ℕ) (s
   pub ending : List ℕ
   pub script_is : cut script ≡ before ++ left
   pub takes : TakesLines limits (start first) before printed last
-  pub ends : Ends last left ending status
+  pub ends : Ends limits last left ending status
   pub output_is : output ≡ printed ++ ending
 
 -- the next line is taken, and prints this
@@ -111,7 +113,7 @@ TakesNext limits p (l ∷ ls) text = (q : Progress) × TakesLine limits p l text
 
 -- what comes next prints this: a line that is taken, or the end of the run
 abbrev pub PrintsNext : Limits → Progress → List Line → List ℕ → Type 0
-PrintsNext limits p left text = TakesNext limits p left text ⊎ ((status : ℕ) × Ends p left text status)
+PrintsNext limits p left text = TakesNext limits p left text ⊎ ((status : ℕ) × Ends limits p left text status)
 
 -- nothing, or a front of what comes next prints
 abbrev pub PrintsFront : Limits → Progress → List Line → List ℕ → Type 0

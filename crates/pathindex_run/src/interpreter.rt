@@ -1,22 +1,24 @@
 // Carrying out the lines of a script.
-ghost use Rattle.std.specs.Prelude.{◌≡◌, ◌≤◌, ◌++◌, ℕ, List, IfOk, OnOk, OnErr, false};
+ghost use Rattle.std.specs.Prelude.{◌≡◌, ◌≤◌, ◌++◌, ℕ, List, IfOk, OnOk, OnErr, false, true};
 ghost use Rattle.px_spec.specs.Shapes.{shape_of};
 ghost use Rattle.graph_update.specs.Judging.{change_of};
-ghost use Rattle.path_query.specs.Answers.{AreAnswers};
+ghost use Rattle.path_spec.specs.Answers.{AreAnswers};
 ghost use Rattle.px_spec.specs.declared.limits.Limits.{Limits as LimitsSeen};
 ghost use Rattle.script_read.specs.Commands.{change as changing, extents as listing, sizes as measuring};
 ghost use Rattle.script_read.specs.Reading.{command_of};
-ghost use Rattle.pathindex_run.specs.Texts.{answers_text};
+ghost use Rattle.pathindex_run.specs.Texts.{answers_text, refused_line};
+ghost use Rattle.px_spec.specs.declared.refusal.Refusal.TheVariants.{Limit as OverLimit};
 ghost use Rattle.pathindex_run.specs.RunSteps.{Obeyed, AsksData, LineIsTaken};
 
 use crate::changes::make_change;
 use crate::indexes::{push_extents, push_sizes};
+use crate::output::push_line;
 use crate::queries::{answers, push_answers};
 use graph_update::Change;
 use index_api::Via;
 use label_graph::Graph;
 use path_query::PathExpr;
-use px_base::{Limits, Memory};
+use px_base::{Limits, Memory, Refusal};
 use script_read::{Command, ScriptError, read};
 use std::alloc::Global;
 use std::marker::Model;
@@ -140,6 +142,16 @@ impl Interpreter {
         }
     }
 
+    /// Gathers that the expression of a query passes a limit.
+    fn refuse(&mut self, out: &mut Vec<u8>) -> Result<(), Memory>
+        ensures ok { OnOk result ((self.new ≡ record self.old { refused = true }) × (out.new.items ≡ out.old.items ++ refused_line OverLimit)) }
+        ensures err { OnErr result (out.new.items ≡ out.old.items) }
+    {
+        push_line(out, b"refused ", Refusal::Limit.word().as_bytes())?;
+        self.refused = true;
+        Ok(())
+    }
+
     /// Takes a line, and gathers what it prints. Where memory is wanting, nothing is gathered.
     pub(crate) fn take(
         &mut self,
@@ -151,12 +163,16 @@ impl Interpreter {
         ensures ok { IfOk result (λ outcome. LineIsTaken limits.now self.old line.now out.old.items outcome self.new out.new.items) }
         ensures err { OnErr result (out.new.items ≡ out.old.items) }
     {
-        match read(alloc, line) {
+        match read(alloc, line, limits) {
             Ok(Some(command)) => {
                 self.obey(alloc, limits, command, out)?;
                 Ok(Outcome::Done)
             }
             Ok(None) => Ok(Outcome::Done),
+            Err(ScriptError::Limit) => {
+                self.refuse(out)?;
+                Ok(Outcome::Done)
+            }
             Err(ScriptError::Bad) => Ok(Outcome::Bad),
             Err(ScriptError::Memory) => Err(Memory),
         }

@@ -3,7 +3,7 @@ ghost use Rattle.std.specs.Prelude.{◌≡◌, ◌<◌, ◌^◌, ◌+◌, ◌++�
 ghost use Rattle.std.specs.List.Sorted.{IsStrictlyIncreasing};
 ghost use Rattle.px_spec.specs.Members.{has};
 ghost use Rattle.px_spec.specs.Shapes.{shape_of};
-ghost use Rattle.path_query.specs.Answers.{AreAnswers};
+ghost use Rattle.path_spec.specs.Answers.{AreAnswers};
 ghost use Rattle.px_spec.specs.Words.{node_word};
 ghost use Rattle.pathindex_run.specs.Texts.{answers_text, nodes_line};
 ghost use Rattle.pathindex_run.specs.RunSteps.{Extends};

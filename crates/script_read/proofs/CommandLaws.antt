@@ -9,7 +9,7 @@ use Rattle.index_api.specs.declared.kinds.Via.{Via}
 use Rattle.index_api.specs.declared.kinds.Via.TheVariants.{Data, A, One, Fb}
 use Rattle.index_api.specs.Spelling.{via_word}
 use Rattle.script_read.specs.Parts.{first_word, expression_text}
-use Rattle.script_read.specs.Commands.{Command, change, path, extents, sizes, IsIndex, IsQuiet, IsSpelled, SpellsPair, SpellsNothing, SpellsOnce, LabelsOnce, PathsOnce}
+use Rattle.script_read.specs.Commands.{Command, change, path, extents, sizes, IsIndex, IsQuiet, IsSpelled, SpellsPair, AsksPath, NoCommand, SpellsOnce, LabelsOnce, PathsOnce}
 use Rattle.script_read.specs.Saying.{SaysNode, SaysPath}
 use Rattle.script_read.proofs.WordLemmas.{head_word, is_split}
 use Rattle.script_read.proofs.CommandLemmas.{second_same, no_query, apart, asks_data, begins, silent}
@@ -58,7 +58,7 @@ command_one line o (change (drop u)) (change (drop x)) h k = ap (λ n. change (d
 command_one line o (path v e) (path w f) h k =
     let p = asks_data line v e h in
     let q = asks_data line w f k in
-    ap (λ v. path v e) (p.0 ∙ sym q.0) ∙ ap (path w) (o.expression p.1.0 e f p.1.2 q.1.2)
+    ap (λ v. path v e) (p.0 ∙ sym q.0) ∙ ap (path w) (o.expression p.1.0.0 e f p.1.1 q.1.1)
 command_one line o (extents v) (extents w) h k = ap extents (via_one v w h.1 k.1 (second_same (sym h.0 ∙ k.0)))
 command_one line o sizes sizes h k = refl
 command_one line o (change c) (path v e) h k = absurd (apart (first_word line) _ _ (begins line (change c) h) (begins line (path v e) k) (no_query c).no_path)
@@ -80,8 +80,8 @@ no_parts line word e n p = record {
 pub quiet_once : (line : List ℕ) → IsQuiet line → SpellsOnce line
 quiet_once line q c d h k = absurd (silent line q c h)
 
-pub bad_once : (line : List ℕ) → SpellsNothing line → SpellsOnce line
-bad_once line n c d h k = absurd (n.1 c h)
+pub bad_once : (line : List ℕ) → NoCommand line × (¬ AsksPath line) → SpellsOnce line
+bad_once line n c d h k = absurd (n.0.1 c h)
 
 pub node_once : (line word : List ℕ) → SaysNode line word → LabelsOnce word → SpellsOnce line
 node_once line word s once = command_one line (record {
@@ -91,8 +91,8 @@ node_once line word s once = command_one line (record {
 
 pub path_once : (line text : List ℕ) → SaysPath line text → PathsOnce text → SpellsOnce line
 path_once line text s once = command_one line (record {
-  label = λ w t. absurd (apart (first_word line) _ _ (head_word line _ _ _ _ (is_split line) t).0 s.0 (λ e. omega (arith, e)));
-  expression = λ f. subst PathsOnce s.2 once;
+  label = λ w t. absurd (apart (first_word line) _ _ (head_word line _ _ _ _ (is_split line) t).0 s.0.0 (λ e. omega (arith, e)));
+  expression = λ f. subst PathsOnce s.1 once;
 })
 
 pub link_once : (line : List ℕ) (u v : ℕ) → IsSpelled line (change (link u v)) → SpellsOnce line

@@ -5,11 +5,11 @@ use Rattle.std.proofs.lemmas.Fmt.{decimal_digit, first_decimal}
 use Rattle.px_spec.specs.Words.{node_word}
 use Rattle.px_spec.specs.Changes.{node, link, unlink, drop as drop_node}
 use Rattle.path_query.specs.Labels.{SpellsLabel}
-use Rattle.path_query.specs.Trees.{Seq, path_of}
+use Rattle.path_spec.specs.Trees.{Expr, only, last, once, label}
 use Rattle.path_query.proofs.Examples.{plain_a, iri_a, iri_escaped, no_label_and}
 use Rattle.index_api.specs.declared.kinds.Via.{Via}
 use Rattle.index_api.specs.declared.kinds.Via.TheVariants.{Data, A, One, Fb}
-use Rattle.script_read.specs.Commands.{Command, change, path, extents, sizes, IsQuiet, IsSpelled, SpellsNothing}
+use Rattle.script_read.specs.Commands.{Command, change, path, extents, sizes, IsQuiet, IsSpelled, NoCommand}
 use Rattle.script_read.specs.Parts.{expression_text}
 use Rattle.script_read.proofs.CommandLemmas.{asks_data}
 
@@ -90,11 +90,11 @@ comment_quiet : IsQuiet (codes "  # node a")
 comment_quiet = refl
 
 -- an expression is asked of the graph itself; through an index no line asks yet
-path_spelled : IsSpelled (codes "path data  a\t") (path Data (path_of (codes "a") []))
-path_spelled = (refl, refl, (codes "a", [], ([], codes "a", [], refl, inl (plain_a, refl), refl, refl), refl, refl))
+path_spelled : IsSpelled (codes "path data  a\t") (path Data (only (last (once (label (codes "a"))))))
+path_spelled = ((refl, refl), ([], codes "a", [], refl, inl (plain_a, refl), tt, refl, refl))
 
-no_index : (via : Via) (e : Seq) → ¬ IsSpelled (codes "path one a") (path via e)
-no_index via e h = (let d = (asks_data (codes "path one a") via e h).1.1 in omega (arith, ap (λ l. slice_index l 0) d))
+no_index : (via : Via) (e : Expr) → ¬ IsSpelled (codes "path one a") (path via e)
+no_index via e h = (let d = (asks_data (codes "path one a") via e h).1.0.1 in omega (arith, ap (λ l. slice_index l 0) d))
 
 -- the blocks of an index; its level has no zero in front
 extents_spelled : IsSpelled (codes " extents fb ") (extents Fb)
@@ -136,7 +136,7 @@ no_text : expression_text (codes "path data \t ") ≡ []
 no_text = refl
 
 -- a word of the query languages is no label, so the line is no command
-bad_label : SpellsNothing (codes "node and")
+bad_label : NoCommand (codes "node and")
 bad_label = (λ q. omega (arith, q), other)
   where
     other : (c : Command) → ¬ IsSpelled (codes "node and") c
@@ -144,6 +144,6 @@ bad_label = (λ q. omega (arith, q), other)
     other (change (link u v)) h = omega (arith, ap length h.0)
     other (change (unlink u v)) h = omega (arith, ap length h.0)
     other (change (drop_node u)) h = omega (arith, ap (λ ws. slice_index (first ws) 0) h.0)
-    other (path via e) h = omega (arith, ap (λ l. slice_index l 0) (asks_data (codes "node and") via e h).1.0)
+    other (path via e) h = omega (arith, ap (λ l. slice_index l 0) (asks_data (codes "node and") via e h).1.0.0)
     other (extents via) h = omega (arith, ap (λ ws. slice_index (first ws) 0) h.0)
     other sizes h = omega (arith, ap length h)

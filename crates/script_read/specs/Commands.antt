@@ -1,10 +1,11 @@
 -- What a line of a script spells.
-use Rattle.std.specs.Prelude.{ℕ, ◌≡◌, ◌<◌, ◌^◌, ◌⊎◌, List, [], ◌∷◌, codes}
+use Rattle.std.specs.Prelude.{ℕ, ◌≡◌, ◌<◌, ◌^◌, ◌⊎◌, List, [], ◌∷◌, codes, IsTrue}
+use Rattle.px_spec.specs.declared.limits.Limits.{Limits}
 use Rattle.px_spec.specs.Words.{words, node_word}
 use Rattle.px_spec.specs.Changes.{Change, node, link, unlink, drop}
+use Rattle.path_spec.specs.Trees.{Expr}
 use Rattle.path_query.specs.Labels.{SpellsLabel}
-use Rattle.path_query.specs.Trees.{Seq}
-use Rattle.path_query.specs.Spelling.{Spells}
+use Rattle.path_query.specs.Parsed.{Spells, is_past}
 use Rattle.index_api.specs.declared.kinds.Via.{Via}
 use Rattle.index_api.specs.declared.kinds.Via.TheVariants.{Data, A, One, Fb}
 use Rattle.index_api.specs.Spelling.{via_word}
@@ -14,7 +15,7 @@ pub data Command : Type 0 where
   -- a change of the graph
   change : Change → Command
   -- the answers of a path expression, asked through this
-  path : Via → Seq → Command
+  path : Via → Expr → Command
   -- the blocks of this index, each with its nodes
   extents : Via → Command
   -- how many nodes and edges the graph and each index have
@@ -40,12 +41,18 @@ SpellsChange line (link u v) = SpellsPair line (codes "link") u v
 SpellsChange line (unlink u v) = SpellsPair line (codes "unlink") u v
 SpellsChange line (drop u) = (words line ≡ codes "drop" ∷ node_word u ∷ []) × (u < 2 ^ 32)
 
--- The first words are `path data`, and what follows them, without the blanks at both ends, spells the expression. Through an
--- index no line asks yet.
-abbrev pub SpellsPath : List ℕ → Via → Seq → Type 0
-SpellsPath line Data e =
-    (first_word line ≡ codes "path") × (first_word (behind_word line) ≡ codes "data") × Spells (expression_text line) e
+-- The first words are `path data`. Through an index no line asks yet.
+abbrev pub AsksPath : List ℕ → Type 0
+AsksPath line = (first_word line ≡ codes "path") × (first_word (behind_word line) ≡ codes "data")
+
+-- so they are, and what follows them, without the blanks at both ends, spells the expression
+abbrev pub SpellsPath : List ℕ → Via → Expr → Type 0
+SpellsPath line Data e = AsksPath line × Spells (expression_text line) e
 SpellsPath line via e = ⊥
+
+-- so they are, and what follows them has more bytes than a query's text may, or nests deeper
+abbrev pub PassesLimit : Limits → List ℕ → Type 0
+PassesLimit limits line = AsksPath line × IsTrue (is_past limits (expression_text line))
 
 -- an index, whose level has 32 bits; the graph itself is none
 abbrev pub IsIndex : Via → Type 0
@@ -65,12 +72,16 @@ IsSpelled line (extents via) = SpellsExtents line via
 IsSpelled line sizes = words line ≡ codes "sizes" ∷ []
 
 -- the line is neither quiet nor a command
-abbrev pub SpellsNothing : List ℕ → Type 0
-SpellsNothing line = (¬ IsQuiet line) × ((c : Command) → IsSpelled line c → ⊥)
+abbrev pub NoCommand : List ℕ → Type 0
+NoCommand line = (¬ IsQuiet line) × ((c : Command) → IsSpelled line c → ⊥)
 
--- the line is quiet, or it is a command
-abbrev pub SpellsSomething : List ℕ → Type 0
-SpellsSomething line = IsQuiet line ⊎ ((c : Command) × IsSpelled line c)
+-- nor is it a query whose expression passes a limit
+abbrev pub SpellsNothing : Limits → List ℕ → Type 0
+SpellsNothing limits line = NoCommand line × (¬ PassesLimit limits line)
+
+-- the line is quiet, or a command, or a query whose expression passes a limit
+abbrev pub SpellsSomething : Limits → List ℕ → Type 0
+SpellsSomething limits line = IsQuiet line ⊎ (((c : Command) × IsSpelled line c) ⊎ PassesLimit limits line)
 
 -- the word spells at most one label
 abbrev pub LabelsOnce : List ℕ → Type 0
@@ -78,7 +89,7 @@ LabelsOnce word = (t u : List ℕ) → SpellsLabel word t → SpellsLabel word u
 
 -- the text spells at most one path expression
 abbrev pub PathsOnce : List ℕ → Type 0
-PathsOnce text = (e f : Seq) → Spells text e → Spells text f → e ≡ f
+PathsOnce text = (e f : Expr) → Spells text e → Spells text f → e ≡ f
 
 -- the line spells at most one command
 abbrev pub SpellsOnce : List ℕ → Type 0

@@ -1,11 +1,12 @@
 -- What is read of a line.
 use Rattle.std.specs.Prelude.{ℕ, ⊤, List, Option, None, Some, Result, Ok, Err}
+use Rattle.px_spec.specs.declared.limits.Limits.{Limits}
 use Rattle.px_spec.specs.Changes.{node, link, unlink, drop}
-use Rattle.script_read.specs.Commands.{Command, change, path, extents, sizes, IsQuiet, IsSpelled, SpellsNothing}
+use Rattle.script_read.specs.Commands.{Command, change, path, extents, sizes, IsQuiet, IsSpelled, PassesLimit, SpellsNothing}
 use Rattle.script_read.specs.declared.commands.Command.{Command as Asked}
 use Rattle.script_read.specs.declared.commands.Command.TheVariants.{Node, Link, Unlink, Drop, Path, Extents, Sizes}
 use Rattle.script_read.specs.declared.commands.ScriptError.{ScriptError}
-use Rattle.script_read.specs.declared.commands.ScriptError.TheVariants.{Bad, Memory}
+use Rattle.script_read.specs.declared.commands.ScriptError.TheVariants.{Bad, Limit, Memory}
 
 -- the command that the code's value stands for
 abbrev pub command_of : Asked → Command
@@ -17,9 +18,11 @@ command_of (Path via e) = path via e
 command_of (Extents via) = extents via
 command_of Sizes = sizes
 
--- The line is quiet, spells this command, or spells nothing; or memory is wanting.
-abbrev pub Reads : List ℕ → Result (Option Asked) ScriptError → Type 0
-Reads line (Ok None) = IsQuiet line
-Reads line (Ok (Some c)) = IsSpelled line (command_of c)
-Reads line (Err Bad) = SpellsNothing line
-Reads line (Err Memory) = ⊤
+-- The line is quiet; it spells this command, and passes no limit on queries; it passes one; or it spells nothing; or memory
+-- is wanting.
+abbrev pub Reads : Limits → List ℕ → Result (Option Asked) ScriptError → Type 0
+Reads limits line (Ok None) = IsQuiet line
+Reads limits line (Ok (Some c)) = IsSpelled line (command_of c) × (¬ PassesLimit limits line)
+Reads limits line (Err Limit) = PassesLimit limits line
+Reads limits line (Err Bad) = SpellsNothing limits line
+Reads limits line (Err Memory) = ⊤

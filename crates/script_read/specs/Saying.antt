@@ -2,8 +2,8 @@
 use Rattle.std.specs.Prelude.{ℕ, ◌≡◌, ◌≢◌, List, [], ◌∷◌, codes}
 use Rattle.px_spec.specs.Words.{words}
 use Rattle.px_spec.specs.Changes.{link, unlink, drop}
-use Rattle.script_read.specs.Commands.{change, extents, sizes, IsQuiet, IsSpelled, SpellsNothing}
-use Rattle.script_read.specs.Parts.{first_word, behind_word, expression_text, OpensNothing}
+use Rattle.script_read.specs.Commands.{change, extents, sizes, AsksPath, IsQuiet, IsSpelled, NoCommand}
+use Rattle.script_read.specs.Parts.{expression_text, OpensNothing}
 use Rattle.script_read.specs.declared.scan.Said.{Said}
 use Rattle.script_read.specs.declared.scan.Said.TheVariants.{Quiet, Node, Link, Unlink, Drop, Path, Extents, Sizes, Bad}
 
@@ -13,8 +13,7 @@ SaysNode line word = words line ≡ codes "node" ∷ word ∷ []
 
 -- the line asks for the answers of what this text spells
 abbrev pub SaysPath : List ℕ → List ℕ → Type 0
-SaysPath line text =
-    (first_word line ≡ codes "path") × (first_word (behind_word line) ≡ codes "data") × (text ≡ expression_text line)
+SaysPath line text = AsksPath line × (text ≡ expression_text line)
 
 -- a first word, but of no change
 pub record OpensOther (word : List ℕ) : Type 0 where
@@ -34,4 +33,4 @@ Says line (Drop u) = IsSpelled line (change (drop u))
 Says line (Path text) = SaysPath line text.now
 Says line (Extents via) = IsSpelled line (extents via)
 Says line Sizes = IsSpelled line sizes
-Says line Bad = SpellsNothing line
+Says line Bad = NoCommand line × (¬ AsksPath line)

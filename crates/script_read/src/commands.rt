@@ -1,15 +1,15 @@
 // Commands, and the lines that spell them.
-ghost use Rattle.std.specs.Prelude.{ℕ, List, IfOk, IsErrOf};
+ghost use Rattle.std.specs.Prelude.{◌≡◌, ◌≢◌, ◌↔◌, ℕ, List, Err, IfOk, IsErrOf, IsTrue};
+ghost use Rattle.path_spec.specs.Trees.{Expr};
 ghost use Rattle.path_query.specs.Labels.{SpellsLabel};
-ghost use Rattle.path_query.specs.Trees.{Seq};
-ghost use Rattle.path_query.specs.Spelling.{Spells};
+ghost use Rattle.path_query.specs.Parsed.{Spells, is_past};
 ghost use Rattle.script_read.specs.Commands.{Command as Spelled, IsQuiet, IsSpelled, LabelsOnce, PathsOnce, SpellsOnce};
 ghost use Rattle.script_read.specs.Reading.{Reads};
 
 use crate::scan::{Said, scan};
 use index_api::Via;
 use path_query::{ExprError, PathExpr, read_label};
-use px_base::{NodeId, Text};
+use px_base::{Limits, NodeId, Text};
 use std::alloc::Global;
 use thiserror::Error;
 
@@ -39,6 +39,9 @@ pub enum ScriptError {
     /// The line spells none, and is neither blank nor a comment.
     #[error("the line is no command")]
     Bad,
+    /// The line asks with an expression that passes a limit.
+    #[error("the expression passes a limit")]
+    Limit,
     /// Want of memory.
     #[error("out of memory")]
     Memory,
@@ -48,6 +51,7 @@ pub enum ScriptError {
 fn parse_label(alloc: Global, word: &[u8]) -> Result<Text, ScriptError>
     ensures ok { IfOk result (λ t. SpellsLabel word.now t) }
     ensures bad { IsErrOf result ScriptError.Bad → (t : List ℕ) → SpellsLabel word.now t → ⊥ }
+    ensures no_limit { result ≢ Err ScriptError.Limit }
     ensures once { LabelsOnce word.now }
 {
     match read_label(alloc, word) {
@@ -58,23 +62,26 @@ fn parse_label(alloc: Global, word: &[u8]) -> Result<Text, ScriptError>
 }
 
 /// The path expression that the text spells.
-fn parse_path(alloc: Global, text: &[u8]) -> Result<PathExpr, ScriptError>
+fn parse_path(alloc: Global, text: &[u8], limits: &Limits) -> Result<PathExpr, ScriptError>
     ensures ok { IfOk result (Spells text.now) }
-    ensures bad { IsErrOf result ScriptError.Bad → (e : Seq) → Spells text.now e → ⊥ }
+    ensures limit { (result ≡ Err ScriptError.Limit) ↔ IsTrue (is_past limits.now text.now) }
+    ensures bad { IsErrOf result ScriptError.Bad → (e : Expr) → Spells text.now e → ⊥ }
     ensures once { PathsOnce text.now }
 {
-    match PathExpr::parse(alloc, text) {
+    match PathExpr::parse(alloc, text, limits) {
         Ok(expr) => Ok(expr),
+        Err(ExprError::Limit) => Err(ScriptError::Limit),
         Err(ExprError::Syntax) => Err(ScriptError::Bad),
         Err(ExprError::Memory) => Err(ScriptError::Memory),
     }
 }
 
-/// The command that the line spells, which is one; None exactly for a blank or comment line. `Bad` comes exactly
-/// where the line is neither, `Memory` at want of memory. The line is without its end. Linear in the line.
+/// The command that the line spells, which is one; None exactly for a blank or comment line. `Limit` comes exactly
+/// where the line asks with an expression that passes a limit, be it in the language or not; else `Bad` exactly where
+/// the line is neither a command nor blank nor a comment, and `Memory` at want of memory. The line is without its end. Linear in the line.
 #[tactic(auto, using(crate::proofs::CommandLaws::reading_laws))]
-pub fn read(alloc: Global, line: &[u8]) -> Result<Option<Command>, ScriptError>
-    ensures reads { Reads line.now result }
+pub fn read(alloc: Global, line: &[u8], limits: &Limits) -> Result<Option<Command>, ScriptError>
+    ensures reads { Reads limits.now line.now result }
     ensures once { SpellsOnce line.now }
     ensures quiet { IsQuiet line.now → (c : Spelled) → IsSpelled line.now c → ⊥ }
 {
@@ -84,7 +91,10 @@ pub fn read(alloc: Global, line: &[u8]) -> Result<Option<Command>, ScriptError>
         Said::Link(from, to) => Ok(Some(Command::Link(from, to))),
         Said::Unlink(from, to) => Ok(Some(Command::Unlink(from, to))),
         Said::Drop(node) => Ok(Some(Command::Drop(node))),
-        Said::Path(text) => Ok(Some(Command::Path(Via::Data, parse_path(alloc, text)?))),
+        Said::Path(text) => Ok(Some(Command::Path(
+            Via::Data,
+            parse_path(alloc, text, limits)?,
+        ))),
         Said::Extents(via) => Ok(Some(Command::Extents(via))),
         Said::Sizes => Ok(Some(Command::Sizes)),
         Said::Bad => Err(ScriptError::Bad),

@@ -1,7 +1,7 @@
 // What lines spell.
 use super::*;
 use index_api::Via;
-use px_base::Text;
+use px_base::{Limits, Text};
 use std::alloc::Global;
 use std::test::Fail;
 
@@ -16,6 +16,7 @@ enum Short {
     Extents(Via),
     Sizes,
     Bad,
+    Limit,
     Memory,
 }
 
@@ -30,13 +31,14 @@ fn shorten(read: Result<Option<Command>, ScriptError>) -> Short {
         Ok(Some(Command::Extents(via))) => Short::Extents(via),
         Ok(Some(Command::Sizes)) => Short::Sizes,
         Err(ScriptError::Bad) => Short::Bad,
+        Err(ScriptError::Limit) => Short::Limit,
         Err(ScriptError::Memory) => Short::Memory,
     }
 }
 
 #[test]
 fn lines_are_commands(rt: HostRuntime) -> Result<(), Fail> {
-    let rows: [(&[u8], Short); 14] = [
+    let rows: [(&[u8], Short); 15] = [
         (b"", Short::Quiet),
         (b" \t# node a", Short::Quiet),
         (b" node\ta ", Short::Node),
@@ -45,6 +47,7 @@ fn lines_are_commands(rt: HostRuntime) -> Result<(), Fail> {
         (b"unlink n10 n2", Short::Pair('u', 10, 2)),
         (b"drop n7", Short::Drop(7)),
         (b"path data a / b \t", Short::Path(Via::Data)),
+        (b"path data (a|b)*//_ ", Short::Path(Via::Data)),
         (b"path one a", Short::Bad),
         (b"extents one", Short::Extents(Via::One)),
         (b" extents\tfb ", Short::Extents(Via::Fb)),
@@ -53,14 +56,14 @@ fn lines_are_commands(rt: HostRuntime) -> Result<(), Fail> {
         (b"sizes", Short::Sizes),
     ];
     for (line, short) in rows {
-        assert_eq!(rt; shorten(read(rt.alloc(), line)), short);
+        assert_eq!(rt; shorten(read(rt.alloc(), line, &Limits::program())), short);
     }
     Ok(())
 }
 
 #[test]
 fn near_misses_are_bad(rt: HostRuntime) -> Result<(), Fail> {
-    let lines: [&[u8]; 18] = [
+    let lines: [&[u8]; 19] = [
         b"node",
         b"node and",
         b"node a b",
@@ -72,6 +75,7 @@ fn near_misses_are_bad(rt: HostRuntime) -> Result<(), Fail> {
         b"drop 0",
         b"drop n0 n1",
         b"path data a b",
+        b"path data a**",
         b"Node a",
         b"extents",
         b"extents data",
@@ -81,7 +85,7 @@ fn near_misses_are_bad(rt: HostRuntime) -> Result<(), Fail> {
         b"sizes x",
     ];
     for line in lines {
-        assert_eq!(rt; shorten(read(rt.alloc(), line)), Short::Bad);
+        assert_eq!(rt; shorten(read(rt.alloc(), line, &Limits::program())), Short::Bad);
     }
     Ok(())
 }
@@ -89,9 +93,33 @@ fn near_misses_are_bad(rt: HostRuntime) -> Result<(), Fail> {
 #[test]
 fn an_iri_has_one_spelling(rt: HostRuntime) -> Result<(), Fail> {
     let alloc = rt.alloc();
-    match read(alloc, b"node <http://e/\\u0061>") {
+    match read(alloc, b"node <http://e/\\u0061>", &Limits::program()) {
         Ok(Some(Command::Node(label))) => assert_eq!(rt; label.as_str(), "<http://e/a>"),
         _ => return Err("a command".into()),
+    }
+    Ok(())
+}
+
+#[test]
+fn limits_come_before_the_language(rt: HostRuntime) -> Result<(), Fail> {
+    let few = Limits {
+        nodes: 1,
+        edges: 1,
+        labels: 1,
+        expr_bytes: 5,
+        expr_depth: 1,
+    };
+    let rows: [(&[u8], Short); 7] = [
+        (b" path data  a//bc \t", Short::Path(Via::Data)),
+        (b"path data a//bcd", Short::Limit),
+        (b"path data a b c d", Short::Limit),
+        (b"path data a b c", Short::Bad),
+        (b"path data ((a", Short::Limit),
+        (b"path one ((a", Short::Bad),
+        (b"node abcdefgh", Short::Node),
+    ];
+    for (line, short) in rows {
+        assert_eq!(rt; shorten(read(rt.alloc(), line, &few)), short);
     }
     Ok(())
 }

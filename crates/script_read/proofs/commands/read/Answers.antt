@@ -1,18 +1,46 @@
-use Rattle.std.proofs.Common.{ap, sym, ◌∙◌, Err}
+use Rattle.std.proofs.Common.{◌≡◌, ap, sym, ◌∙◌, Err, arith}
 use Rattle.std.proofs.lemmas.Result.{err_from_is_err_and}
-use Rattle.script_read.proofs.CommandLemmas.{failed_node, failed_path}
+use Rattle.px_spec.specs.Changes.{link, unlink, drop}
+use Rattle.script_read.specs.Commands.{change, extents, sizes}
+use Rattle.script_read.specs.declared.commands.ScriptError.TheVariants.{Limit}
+use Rattle.script_read.proofs.CommandLemmas.{failed_node, failed_path, node_free, free}
 use Rattle.script_read.proofs.CommandLaws.{path_once, extents_once}
 use Rattle.script_read.proofs.commands.read.Goals as goal
 
 pub returns-in_err-parse_label-in-Node-clause-reads : goal.returns-in_err-parse_label-in-Node-clause-reads
 returns-in_err-parse_label-in-Node-clause-reads c =
     let p = err_from_is_err_and c.from_residual.result c.from_residual.ensures.1 in
-    rw p.1 (failed_node c.args.line.now c.in-Node.word.now p.0 c.in-Node.ensures (λ i. c.in_err-parse_label-in-Node.ensures.bad (ap Err (sym p.2 ∙ i))))
+    rw p.1 (failed_node c.args.limits.now c.args.line.now c.in-Node.word.now p.0 c.in-Node.ensures (λ i. c.in_err-parse_label-in-Node.ensures.no_limit (ap Err (sym p.2 ∙ i)))
+    (λ i. c.in_err-parse_label-in-Node.ensures.bad (ap Err (sym p.2 ∙ i))))
+
+pub returns-in_ok-parse_label-in-Node-clause-reads : goal.returns-in_ok-parse_label-in-Node-clause-reads
+returns-in_ok-parse_label-in-Node-clause-reads c = (
+  (c.in-Node.word.now, c.in-Node.ensures, c.in_ok-parse_label-in-Node.ensures.ok),
+  node_free c.args.limits.now c.args.line.now c.in-Node.word.now c.in-Node.ensures,
+)
+
+pub returns-in-Link-clause-reads : goal.returns-in-Link-clause-reads
+returns-in-Link-clause-reads c = (c.in-Link.ensures, free c.args.limits.now c.args.line.now (change (link c.in-Link.from c.in-Link.to)) c.in-Link.ensures (λ d. omega (arith, d)))
+
+pub returns-in-Unlink-clause-reads : goal.returns-in-Unlink-clause-reads
+returns-in-Unlink-clause-reads c =
+    (c.in-Unlink.ensures, free c.args.limits.now c.args.line.now (change (unlink c.in-Unlink.from c.in-Unlink.to)) c.in-Unlink.ensures (λ d. omega (arith, d)))
+
+pub returns-in-Drop-clause-reads : goal.returns-in-Drop-clause-reads
+returns-in-Drop-clause-reads c = (c.in-Drop.ensures, free c.args.limits.now c.args.line.now (change (drop c.in-Drop.node)) c.in-Drop.ensures (λ d. omega (arith, d)))
+
+pub returns-in-Extents-clause-reads : goal.returns-in-Extents-clause-reads
+returns-in-Extents-clause-reads c = (c.in-Extents.ensures, free c.args.limits.now c.args.line.now (extents c.in-Extents.via) c.in-Extents.ensures (λ d. omega (arith, d)))
+
+pub returns-in-Sizes-clause-reads : goal.returns-in-Sizes-clause-reads
+returns-in-Sizes-clause-reads c = (c.in-Sizes.ensures, free c.args.limits.now c.args.line.now sizes c.in-Sizes.ensures (λ d. omega (arith, d)))
 
 pub returns-in_err-parse_path-in-Path-clause-reads : goal.returns-in_err-parse_path-in-Path-clause-reads
 returns-in_err-parse_path-in-Path-clause-reads c =
     let p = err_from_is_err_and c.from_residual-in_err-parse_path-in-Path.result c.from_residual-in_err-parse_path-in-Path.ensures.1 in
-    rw p.1 (failed_path c.args.line.now c.in-Path.text.now p.0 c.in-Path.ensures (λ i. c.in_err-parse_path-in-Path.ensures.bad (ap Err (sym p.2 ∙ i))))
+    let l = c.in_err-parse_path-in-Path.ensures.limit in
+    rw p.1 (failed_path c.args.limits.now c.args.line.now c.in-Path.text.now p.0 c.in-Path.ensures ((λ i. l.0 (ap Err (sym p.2 ∙ i))), λ i. (let same : Err c.in_err-parse_path-in-Path.field-0.0 ≡ Err Limit = l.1 i in cc))
+    (λ i. c.in_err-parse_path-in-Path.ensures.bad (ap Err (sym p.2 ∙ i))))
 
 pub returns-in_err-parse_path-in-Path-clause-once : goal.returns-in_err-parse_path-in-Path-clause-once
 returns-in_err-parse_path-in-Path-clause-once c = path_once c.args.line.now c.in-Path.text.now c.in-Path.ensures c.in_err-parse_path-in-Path.ensures.once

@@ -7,11 +7,11 @@ use Rattle.script_read.proofs.scan.scan_query.Goals as goal
 
 pub returns-in-Some : goal.returns-in-Some
 returns-in-Some c line w r =
-    let f = c.in-Some.ensures.found in (sym w ∙ c.if-is_word.ensures.0 refl, ap first_word (sym r) ∙ f.0, f.1 ∙ ap (λ l. without_blanks (behind_word l)) r)
+    let f = c.in-Some.ensures.found in ((sym w ∙ c.if-is_word.ensures.0 refl, ap first_word (sym r) ∙ f.0), f.1 ∙ ap (λ l. without_blanks (behind_word l)) r)
 
 pub returns-in-None : goal.returns-in-None
 returns-in-None c line w r =
-    none_path line _ _ c.requires.loud w r (c.if-is_word.ensures.0 refl) (λ x h. c.in-None.ensures.absent (ap first_word r ∙ h.1))
+    (none_path line _ _ c.requires.loud w r (c.if-is_word.ensures.0 refl) (λ x h. c.in-None.ensures.absent (ap first_word r ∙ h.0.1)), λ a. c.in-None.ensures.absent (ap first_word r ∙ a.1))
 
 pub returns-in-Some-one_index : goal.returns-in-Some-one_index
 returns-in-Some-one_index c line w r = (
