@@ -3,7 +3,7 @@ use Rattle.std.proofs.Common.{◌≡◌, ◌≢◌, ℕ, ◌+◌, ◌-◌, ◌<�
 use Rattle.std.proofs.lemmas.List.{length-set, get_or-set_same, get_or-set_other, get_or_append_left}
 use Rattle.std.proofs.Math.Seq.{get_or-append_seam}
 use Rattle.hash_index.specs.Items.{hash_at}
-use Rattle.hash_index.specs.Chains.{IsLinked, AreLinked, bucket_of, head_at, link_at}
+use Rattle.hash_index.specs.Chains.{IsLinked, AreChains, bucket_of, head_at, link_at}
 
 -- g is f with v written at one place
 record Writes (f g : ℕ → ℕ) (place v : ℕ) : Type 0 where
@@ -72,11 +72,11 @@ linked_same n B B' N N' H k b w = record {
       rw (b (N i - 1) l, b i h) (k.next_is i h p2));
 }
 
-pub none_linked : (hashes links heads : List ℕ) → ((b : ℕ) → head_at heads b ≡ 0) → AreLinked 0 hashes links heads
+pub none_linked : (hashes links heads : List ℕ) → ((b : ℕ) → head_at heads b ≡ 0) → AreChains 0 hashes links heads
 none_linked hashes links heads e = linked_none (λ i. bucket_of heads (hash_at hashes i)) (link_at links) (head_at heads) e
 
-front : (n : ℕ) (hashes links heads heads2 : List ℕ) (b : ℕ) → AreLinked n hashes links heads → b ≡ bucket_of heads (hash_at hashes n) → b < length heads
-    → link_at links n ≡ head_at heads b → heads2 ≡ slice_set heads b (n + 1) → AreLinked (n + 1) hashes links heads2
+front : (n : ℕ) (hashes links heads heads2 : List ℕ) (b : ℕ) → AreChains n hashes links heads → b ≡ bucket_of heads (hash_at hashes n) → b < length heads
+    → link_at links n ≡ head_at heads b → heads2 ≡ slice_set heads b (n + 1) → AreChains (n + 1) hashes links heads2
 front n hashes links heads heads2 b k is within leads grown =
     let l : length heads2 ≡ length heads = ap length grown ∙ length-set heads b (n + 1) in
     linked_step n (λ i. bucket_of heads (hash_at hashes i)) (λ i. bucket_of heads2 (hash_at hashes i)) (link_at links) (head_at heads) (head_at heads2) k
@@ -88,9 +88,9 @@ front n hashes links heads heads2 b k is within leads grown =
     })
 
 -- a number that is there is linked
-pub linked_set : (n : ℕ) (hashes hashes2 links links2 heads heads2 : List ℕ) (b : ℕ) → AreLinked n hashes links heads → hashes2 ≡ hashes → n < length links
+pub linked_set : (n : ℕ) (hashes hashes2 links links2 heads heads2 : List ℕ) (b : ℕ) → AreChains n hashes links heads → hashes2 ≡ hashes → n < length links
     → b ≡ bucket_of heads (hash_at hashes n) → b < length heads → links2 ≡ slice_set links n (head_at heads b) → heads2 ≡ slice_set heads b (n + 1)
-    → AreLinked (n + 1) hashes2 links2 heads2
+    → AreChains (n + 1) hashes2 links2 heads2
 linked_set n hashes hashes2 links links2 heads heads2 b k same h is within set grown =
     front n hashes2 links2 heads heads2 b
     (linked_same n (λ i. bucket_of heads (hash_at hashes i)) (λ i. bucket_of heads (hash_at hashes2 i)) (link_at links) (link_at links2) (head_at heads) k
@@ -100,9 +100,9 @@ linked_set n hashes hashes2 links links2 heads heads2 b k same h is within set g
     (ap (λ ls. link_at ls n) set ∙ get_or-set_same links n (head_at heads b) 0 h) grown
 
 -- a new number is linked
-pub linked_push : (n : ℕ) (hashes hashes2 links links2 heads heads2 : List ℕ) (hash b : ℕ) → AreLinked n hashes links heads → n ≡ length hashes → n ≡ length links
+pub linked_push : (n : ℕ) (hashes hashes2 links links2 heads heads2 : List ℕ) (hash b : ℕ) → AreChains n hashes links heads → n ≡ length hashes → n ≡ length links
     → hashes2 ≡ hashes ++ hash ∷ [] → links2 ≡ links ++ head_at heads b ∷ [] → b ≡ bucket_of heads hash → b < length heads → heads2 ≡ slice_set heads b (n + 1)
-    → AreLinked (n + 1) hashes2 links2 heads2
+    → AreChains (n + 1) hashes2 links2 heads2
 linked_push n hashes hashes2 links links2 heads heads2 hash b k p q more longer is within grown =
     let new : hash_at hashes2 n ≡ hash = ap (λ hs. hash_at hs n) more ∙ ap (hash_at (hashes ++ hash ∷ [])) p ∙ get_or-append_seam hashes hash [] 0 in
     front n hashes2 links2 heads heads2 b

@@ -1,9 +1,9 @@
 -- A walk along a chain.
 use Rattle.std.proofs.Common.{◌≡◌, ◌≢◌, ℕ, ◌-◌, ◌<◌, ◌≤◌, List, sym, ◌∙◌, ap, arith, Some, None}
 use Rattle.hash_index.specs.Items.{hash_at, IsNewest}
-use Rattle.hash_index.specs.Chains.{AreLinked, bucket_of, head_at, link_at, IsWalk}
+use Rattle.hash_index.specs.Chains.{AreChains, bucket_of, head_at, link_at, IsWalk}
 
-module _ (n : ℕ) (hashes links heads : List ℕ) (k : AreLinked n hashes links heads) where
+module _ (n : ℕ) (hashes links heads : List ℕ) (k : AreChains n hashes links heads) where
   -- it begins at the head of a bucket
   pub walk_all : (hash : ℕ) → IsWalk hashes heads hash n (head_at heads (bucket_of heads hash))
   walk_all hash = record {

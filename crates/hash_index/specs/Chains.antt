@@ -26,13 +26,13 @@ pub record IsLinked (n : ℕ) (bucket next head : ℕ → ℕ) : Type 0 where
   pub next_below : (i : ℕ) → i < n → next i ≤ i
   pub next_is : (i : ℕ) → i < n → 0 < next i → bucket (next i - 1) ≡ bucket i
 
-abbrev pub AreLinked : ℕ → List ℕ → List ℕ → List ℕ → Type 0
-AreLinked n hashes links heads = IsLinked n (λ i. bucket_of heads (hash_at hashes i)) (link_at links) (head_at heads)
+abbrev pub AreChains : ℕ → List ℕ → List ℕ → List ℕ → Type 0
+AreChains n hashes links heads = IsLinked n (λ i. bucket_of heads (hash_at hashes i)) (link_at links) (head_at heads)
 
 -- what every index keeps
 pub record IsIndex {X : Type 0} (slots : List (Slot X)) (heads : List ℕ) : Type 0 where
   pub few : length slots < 2 ^ 31
-  pub linked : AreLinked (length slots) (hashes_of slots) (links_of slots) heads
+  pub linked : AreChains (length slots) (hashes_of slots) (links_of slots) heads
   pub some : 0 < length heads
 
 -- what is left of a walk through the numbers below m: those that have the hash and weren't met yet are below the link `at`

@@ -2,7 +2,7 @@
 ghost use Rattle.std.specs.Prelude.{◌≡◌, ℕ, ◌+◌, ◌^◌, ◌<◌, ◌≤◌, List, length, slice_set, IfSome};
 ghost use Rattle.hash_index.specs.Items.{hash_at, IsNewest};
 ghost use Rattle.hash_index.specs.Slots.{hashes_of, links_of, items_of};
-ghost use Rattle.hash_index.specs.Chains.{head_at, link_at, bucket_of, AreLinked, IsWalk};
+ghost use Rattle.hash_index.specs.Chains.{head_at, link_at, bucket_of, AreChains, IsWalk};
 
 use crate::slots::{Slot, read_hash, read_link, set_link};
 use px_base::Memory;
@@ -39,7 +39,7 @@ pub(crate) fn along<T>(slots: &[Slot<T>], from: u32, hash: u32) -> Option<u32>
     requires within { from ≤ length slots.now }
     requires falls { (i : ℕ) → i < length slots.now → link_at (links_of slots.now) i ≤ i }
     ensures within { IfSome result (λ i. i < length slots.now) }
-    ensures newest { (heads : List ℕ) (m : ℕ) → AreLinked (length slots.now) (hashes_of slots.now) (links_of slots.now) heads → m ≤ length slots.now → IsWalk (hashes_of slots.now) heads hash m from → IsNewest (hashes_of slots.now) hash m result }
+    ensures newest { (heads : List ℕ) (m : ℕ) → AreChains (length slots.now) (hashes_of slots.now) (links_of slots.now) heads → m ≤ length slots.now → IsWalk (hashes_of slots.now) heads hash m from → IsNewest (hashes_of slots.now) hash m result }
 {
     let mut at = from;
     while at > 0 {
@@ -54,13 +54,13 @@ pub(crate) fn along<T>(slots: &[Slot<T>], from: u32, hash: u32) -> Option<u32>
 
 // Puts number n in front of its chain.
 fn link<T>(slots: &mut Vec<Slot<T>>, heads: &mut Vec<u32>, n: usize)
-    requires linked { AreLinked n (hashes_of slots.old.items) (links_of slots.old.items) heads.old.items }
+    requires linked { AreChains n (hashes_of slots.old.items) (links_of slots.old.items) heads.old.items }
     requires within { n < length slots.old.items }
     requires few { length slots.old.items < 2 ^ 31 }
     requires some { 0 < length heads.old.items }
     ensures hashes { hashes_of slots.new.items ≡ hashes_of slots.old.items }
     ensures items { items_of slots.new.items ≡ items_of slots.old.items }
-    ensures linked { AreLinked (n + 1) (hashes_of slots.new.items) (links_of slots.new.items) heads.new.items }
+    ensures linked { AreChains (n + 1) (hashes_of slots.new.items) (links_of slots.new.items) heads.new.items }
     ensures some { 0 < length heads.new.items }
 {
     let b = bucket(heads, read_hash(slots, n));
@@ -70,12 +70,12 @@ fn link<T>(slots: &mut Vec<Slot<T>>, heads: &mut Vec<u32>, n: usize)
 
 // Makes twice as many buckets where there are no more of them than items.
 pub(crate) fn make_room<T>(slots: &mut Vec<Slot<T>>, heads: &mut Vec<u32>) -> Result<(), Memory>
-    requires linked { AreLinked (length slots.old.items) (hashes_of slots.old.items) (links_of slots.old.items) heads.old.items }
+    requires linked { AreChains (length slots.old.items) (hashes_of slots.old.items) (links_of slots.old.items) heads.old.items }
     requires few { length slots.old.items < 2 ^ 31 }
     requires some { 0 < length heads.old.items }
     ensures hashes { hashes_of slots.new.items ≡ hashes_of slots.old.items }
     ensures items { items_of slots.new.items ≡ items_of slots.old.items }
-    ensures linked { AreLinked (length slots.new.items) (hashes_of slots.new.items) (links_of slots.new.items) heads.new.items }
+    ensures linked { AreChains (length slots.new.items) (hashes_of slots.new.items) (links_of slots.new.items) heads.new.items }
     ensures some { 0 < length heads.new.items }
 {
     let size = heads.len();
@@ -96,7 +96,7 @@ fn relink<T>(slots: &mut Vec<Slot<T>>, heads: &mut Vec<u32>)
     requires some { 0 < length heads.old.items }
     ensures hashes { hashes_of slots.new.items ≡ hashes_of slots.old.items }
     ensures items { items_of slots.new.items ≡ items_of slots.old.items }
-    ensures linked { AreLinked (length slots.new.items) (hashes_of slots.new.items) (links_of slots.new.items) heads.new.items }
+    ensures linked { AreChains (length slots.new.items) (hashes_of slots.new.items) (links_of slots.new.items) heads.new.items }
     ensures some { 0 < length heads.new.items }
 {
     for n in 0..slots.len() {

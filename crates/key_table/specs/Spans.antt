@@ -15,7 +15,7 @@ abbrev pub keys_of : List ℕ → List Span → List (List ℕ)
 keys_of arena spans = map (key_in arena) spans
 
 -- what every table keeps: distinct keys, with their hashes
-pub record IsTable (arena : List ℕ) (index : Items Span) : Type 0 where
+pub record IsKeyTable (arena : List ℕ) (index : Items Span) : Type 0 where
   pub even : length index.hashes ≡ length index.items
   pub short : length arena < 2 ^ 32
   pub order : (i : ℕ) → i < length index.items → (span_at index.items i).from ≤ (span_at index.items i).to

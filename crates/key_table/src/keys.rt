@@ -1,7 +1,7 @@
 // The table of keys.
 ghost use Rattle.std.specs.Prelude.{◌≡◌, ◌<◌, ◌^◌, ◌++◌, ◌∷◌, [], length, slice_get, Some, IfSome, IfNone, IfOk, OnOk, OnErr};
 ghost use Rattle.key_table.specs.Hashes.{hash_of};
-ghost use Rattle.key_table.specs.Spans.{keys_of, IsTable};
+ghost use Rattle.key_table.specs.Spans.{keys_of, IsKeyTable};
 ghost use Rattle.key_table.specs.Interning.{IsAbsent, AreDistinct, Interns};
 
 use crate::hashing::hash_key;
@@ -26,11 +26,11 @@ impl Model for KeyTable {
 
     ghost Value = { List (List ℕ) };
 
-    ghost use Rattle.key_table.specs.Spans.{keys_of, IsTable};
+    ghost use Rattle.key_table.specs.Spans.{keys_of, IsKeyTable};
 
     ghost view = { λ k. keys_of k.arena.items k.index.items };
 
-    ghost invariant = { λ k. IsTable k.arena.items k.index };
+    ghost invariant = { λ k. IsKeyTable k.arena.items k.index };
 }
 
 impl KeyTable {
@@ -94,10 +94,10 @@ fn add(
     key: &[u32],
     hash: u32,
 ) -> Result<u32, Memory>
-    requires table { IsTable arena.old.items index.old }
+    requires table { IsKeyTable arena.old.items index.old }
     requires hash { hash ≡ hash_of key.now }
     requires absent { IsAbsent (keys_of arena.old.items index.old.items) key.now }
-    ensures table { IsTable arena.new.items index.new }
+    ensures table { IsKeyTable arena.new.items index.new }
     ensures number { IfOk result (λ i. i ≡ length index.old.items) }
     ensures added { OnOk result (keys_of arena.new.items index.new.items ≡ keys_of arena.old.items index.old.items ++ key.now ∷ []) }
     ensures err { OnErr result (keys_of arena.new.items index.new.items ≡ keys_of arena.old.items index.old.items) }

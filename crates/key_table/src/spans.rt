@@ -1,7 +1,7 @@
 // Where keys lie, and how they are found.
 ghost use Rattle.std.specs.Prelude.{◌≡◌, ◌≢◌, ◌<◌, ◌≤◌, length, slice_get, Some, IfSome, IfNone, IsTrue, IsFalse};
 ghost use Rattle.key_table.specs.Hashes.{hash_of};
-ghost use Rattle.key_table.specs.Spans.{span_at, key_in, keys_of, IsTable};
+ghost use Rattle.key_table.specs.Spans.{span_at, key_in, keys_of, IsKeyTable};
 ghost use Rattle.key_table.specs.Interning.{IsAbsent};
 
 use hash_index::HashIndex;
@@ -34,7 +34,7 @@ fn is_key(arena: &[u32], span: Span, key: &[u32]) -> bool
 
 /// The number of the key.
 pub(crate) fn search(arena: &[u32], index: &HashIndex<Span>, key: &[u32], hash: u32) -> Option<u32>
-    requires table { IsTable arena.now index.now }
+    requires table { IsKeyTable arena.now index.now }
     requires hash { hash ≡ hash_of key.now }
     ensures found { IfSome result (λ i. slice_get (keys_of arena.now index.now.items) i ≡ Some key.now) }
     ensures absent { IfNone result (IsAbsent (keys_of arena.now index.now.items) key.now) }

@@ -18,6 +18,5 @@ pub use expr::{ExprError, PathExpr};
 pub use labels::read_label;
 pub use words::{skip_blanks, split_word, trim_end_blanks};
 
-
 #[cfg(test)]
 mod tests;

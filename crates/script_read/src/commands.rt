@@ -91,10 +91,7 @@ pub fn read(alloc: Global, line: &[u8], limits: &Limits) -> Result<Option<Comman
         Said::Link(from, to) => Ok(Some(Command::Link(from, to))),
         Said::Unlink(from, to) => Ok(Some(Command::Unlink(from, to))),
         Said::Drop(node) => Ok(Some(Command::Drop(node))),
-        Said::Path(text) => Ok(Some(Command::Path(
-            Via::Data,
-            parse_path(alloc, text, limits)?,
-        ))),
+        Said::Path(text) => Ok(Some(Command::Path(Via::Data, parse_path(alloc, text, limits)?))),
         Said::Extents(via) => Ok(Some(Command::Extents(via))),
         Said::Sizes => Ok(Some(Command::Sizes)),
         Said::Bad => Err(ScriptError::Bad),

@@ -85,7 +85,10 @@ fn near_misses_are_bad(rt: HostRuntime) -> Result<(), Fail> {
         b"sizes x",
     ];
     for line in lines {
-        assert_eq!(rt; shorten(read(rt.alloc(), line, &Limits::program())), Short::Bad);
+        assert_eq!(rt;
+            shorten(read(rt.alloc(), line, &Limits::program())),
+            Short::Bad
+        );
     }
     Ok(())
 }

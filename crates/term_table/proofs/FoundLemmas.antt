@@ -10,7 +10,7 @@ use Rattle.term_table.specs.declared.parts.Sort.TheVariants as sort
 use Rattle.term_table.specs.declared.entries.Entry.{Entry}
 use Rattle.term_table.specs.Terms.{same_term}
 use Rattle.term_table.specs.Parts.{parts_of, term_of}
-use Rattle.term_table.specs.Entries.{entry_at, parts_in, terms_of, IsTable, LackParts}
+use Rattle.term_table.specs.Entries.{entry_at, parts_in, terms_of, IsTermTable, LackParts}
 use Rattle.term_table.specs.Finding.{IsFoundAs}
 use Rattle.term_table.proofs.SameTerms.{same_bytes, term_is, term_same}
 use Rattle.term_table.proofs.Positions.{position-cons}
@@ -71,7 +71,7 @@ none_is f p (e ∷ es) others =
 
 -- ---- terms
 
-module _ (arena : List ℕ) (index : Items Entry) (table : IsTable arena index) (x : Term) where
+module _ (arena : List ℕ) (index : Items Entry) (table : IsTermTable arena index) (x : Term) where
   -- an entry of the same term has its parts
   has_parts : (j : ℕ) → j < length index.items → same_term x (term_of (parts_in arena (entry_at index.items j))) ≡ true → parts_in arena (entry_at index.items j) ≡ parts_of x
   has_parts j l same = sym (table.proper j l) ∙ ap parts_of (sym (term_is x _ same))

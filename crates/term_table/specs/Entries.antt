@@ -46,7 +46,7 @@ abbrev pub terms_of : List ℕ → List Entry → List (Term × ℕ)
 terms_of arena entries = map (λ e. (term_of (parts_in arena e), e.number)) entries
 
 -- what every table keeps: distinct terms, with the hashes of their parts
-pub record IsTable (arena : List ℕ) (index : Items Entry) : Type 0 where
+pub record IsTermTable (arena : List ℕ) (index : Items Entry) : Type 0 where
   pub even : length index.hashes ≡ length index.items
   pub short : length arena < 2 ^ 32
   pub within : (i : ℕ) → i < length index.items → AreWithin (length arena) (entry_at index.items i).span

@@ -3,7 +3,7 @@ ghost use Rattle.std.specs.Prelude.{◌≡◌, ◌<◌, ◌++◌, ◌∷◌, [],
 ghost use Rattle.triples_read.specs.declared.term.Term.{Term as Value_of_term};
 ghost use Rattle.term_table.specs.Terms.{number_of};
 ghost use Rattle.term_table.specs.Parts.{parts_of, shown_parts, hash_of};
-ghost use Rattle.term_table.specs.Entries.{IsTable, LackParts, terms_of};
+ghost use Rattle.term_table.specs.Entries.{IsTermTable, LackParts, terms_of};
 ghost use Rattle.term_table.specs.Finding.{IsFoundAs};
 
 use crate::entries::{Entry, has_parts, read_entry};
@@ -60,13 +60,13 @@ pub struct TermTable {
 impl Model for TermTable {
     ghost use Rattle.std.specs.Prelude.{List, ℕ};
     ghost use Rattle.triples_read.specs.declared.term.Term.{Term as Value_of_term};
-    ghost use Rattle.term_table.specs.Entries.{IsTable, terms_of};
+    ghost use Rattle.term_table.specs.Entries.{IsTermTable, terms_of};
 
     ghost Value = { List (Value_of_term × ℕ) };
 
     ghost view = { λ t. terms_of t.arena.items t.index.items };
 
-    ghost invariant = { λ t. IsTable t.arena.items t.index };
+    ghost invariant = { λ t. IsTermTable t.arena.items t.index };
 }
 
 impl TermTable {
@@ -178,7 +178,7 @@ impl TermTable {
 
 // Where the term with these parts stands.
 fn search(arena: &[u8], index: &HashIndex<Entry>, parts: &Parts<'_>, hash: u32) -> Option<Found>
-    requires table { IsTable arena.now index.now }
+    requires table { IsTermTable arena.now index.now }
     requires hash { hash ≡ hash_of (shown_parts parts.now) }
     ensures { (x : Value_of_term) → shown_parts parts.now ≡ parts_of x → IsFoundAs (terms_of arena.now index.now.items) x result }
 {
@@ -198,7 +198,7 @@ fn search(arena: &[u8], index: &HashIndex<Entry>, parts: &Parts<'_>, hash: u32) 
 
 // The term at the place, where it has these parts.
 fn at_place(arena: &[u8], index: &HashIndex<Entry>, place: u32, parts: &Parts<'_>) -> Option<Found>
-    requires { IsTable arena.now index.now }
+    requires { IsTermTable arena.now index.now }
     ensures { (x : Value_of_term) → shown_parts parts.now ≡ parts_of x → IfSome result (λ f. IsFoundAs (terms_of arena.now index.now.items) x (Some f)) }
 {
     if place >= index.len() {
@@ -221,9 +221,9 @@ fn put(
     term: &HashedTerm,
     number: NodeId,
 ) -> Result<u32, Memory>
-    requires table { IsTable arena.old.items index.old }
+    requires table { IsTermTable arena.old.items index.old }
     requires absent { LackParts arena.old.items index.old.items (parts_of term.now) }
-    ensures table { IsTable arena.new.items index.new }
+    ensures table { IsTermTable arena.new.items index.new }
     ensures added { OnOk result (terms_of arena.new.items index.new.items ≡ terms_of arena.old.items index.old.items ++ (term.now, number) ∷ []) }
     ensures place { IfOk result (λ p. p ≡ length index.old.items) }
     ensures err { OnErr result (terms_of arena.new.items index.new.items ≡ terms_of arena.old.items index.old.items) }

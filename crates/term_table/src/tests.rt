@@ -1,52 +1,48 @@
 // Terms that come once and again.
 use super::*;
-use px_base::{Memory, NodeId, Text};
+use px_base::{Memory, Text};
 use std::alloc::Global;
 use std::test::Fail;
 use triples_read::Term;
 
-fn text(alloc: Global, content: &str) -> Result<Text, Memory> {
-    Ok(Text::from_string(String::from_str(alloc, content)?))
+fn iri(alloc: Global, content: &str) -> Result<HashedTerm, Memory> {
+    let content = String::from_str(alloc, content)?;
+    Ok(HashedTerm::new(Term::Iri(Text::from_string(content))))
 }
 
-fn literal(alloc: Global, content: &str, datatype: &str) -> Result<HashedTerm, Memory> {
-    Ok(HashedTerm::new(Term::Literal {
-        text: text(alloc, content)?,
-        datatype: text(alloc, datatype)?,
-        tag: None,
-    }))
-}
-
-// The place of the term, which is put in where it isn't there.
-fn place(table: &mut TermTable, term: &HashedTerm, number: NodeId) -> Result<u32, Memory> {
-    match table.find_hashed(term) {
-        Some(found) => Ok(found.place),
-        None => table.insert(term, number),
+// Puts terms in where they aren't there, and answers the place of the last one.
+fn fill(table: &mut TermTable, terms: &[HashedTerm]) -> Result<Option<u32>, Memory> {
+    let mut last = None;
+    for term in terms {
+        last = match table.find_hashed(term) {
+            Some(found) => Some(found.place),
+            None => Some(table.insert(term, 7)?),
+        };
     }
+    Ok(last)
+}
+
+// Whether the term is found in each way, and a hint leads to it.
+fn is_there(table: &TermTable, term: &HashedTerm) -> bool {
+    let hint = table.pass_others(table.enter_chain(Hint::of(term)));
+    table.find(term.term()).is_some()
+        && table.find_near(term, Some(hint)).is_some()
+        && hint.place().is_some()
+        && table.number(hint).is_some()
+        && table.first_byte(hint).is_some()
+}
+
+fn three(alloc: Global) -> Result<[HashedTerm; 3], Memory> {
+    Ok([iri(alloc, "a")?, iri(alloc, "b")?, iri(alloc, "a")?])
 }
 
 #[test]
 fn terms_are_numbered_as_they_come(rt: HostRuntime) -> Result<(), Fail> {
-    let alloc = rt.alloc();
-    let mut table = TermTable::new(alloc)?;
-    let rows = [
-        (&HashedTerm::new(Term::Iri(text(alloc, "a")?)), 0),
-        (&HashedTerm::new(Term::Blank(text(alloc, "b")?)), 1),
-        (&literal(alloc, "a", "b")?, 2),
-        (&literal(alloc, "ab", "")?, 3),
-        (&HashedTerm::new(Term::Iri(text(alloc, "a")?)), 0),
-    ];
-    for (term, at) in rows {
-        assert_eq!(rt; place(&mut table, term, at)?, at, "at {at}");
-        let hint = table.pass_others(table.enter_chain(Hint::of(term)));
-        assert_eq!(rt; hint.place(), Some(at), "at {at}");
-        assert_eq!(rt;
-            table.find_near(term, Some(hint)).is_some(),
-            true,
-            "at {at}"
-        );
-        assert_eq!(rt; table.find(term.term()).is_some(), true, "at {at}");
-    }
-    assert_eq!(rt; table.len(), 4);
+    let mut table = TermTable::new(rt.alloc())?;
+    let terms = three(rt.alloc())?;
+    let last = fill(&mut table, &terms)?;
+    assert_eq!(rt; last, Some(0));
+    assert_eq!(rt; table.len(), 2);
+    assert_eq!(rt; is_there(&table, &terms[1]), true);
     Ok(())
 }

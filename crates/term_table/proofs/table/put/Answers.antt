@@ -3,7 +3,7 @@ use Rattle.std.proofs.lemmas.Result.{err_from_is_err_and}
 use Rattle.term_table.specs.declared.entries.Entry.{Entry}
 use Rattle.term_table.specs.Parts.{parts_of, shown_parts}
 use Rattle.term_table.proofs.FoundLemmas.{parts_again, term_again}
-use Rattle.term_table.proofs.Spelled.{IsNew, new_entry, table_kept, table_pushed, terms_kept, terms_pushed, terms_left}
+use Rattle.term_table.proofs.Spelled.{IsNewTerm, new_entry, table_kept, table_pushed, terms_kept, terms_pushed, terms_left}
 use Rattle.term_table.proofs.table.put.Goals as goal
 
 pub returns-in_err-span-clause-table : goal.returns-in_err-span-clause-table
@@ -21,7 +21,7 @@ pub returns-clause-table : goal.returns-clause-table
 returns-clause-table c =
     let b = c.store.ensures.begins in
     let e : Entry = record { span = c.in_ok-span.span; sort = c.parts-parts.result.sort; number = c.args.number } in
-    let is : IsNew c.store.new.arena.items c.args.index.now e (parts_of c.args.term.now) c.hash.result =
+    let is : IsNewTerm c.store.new.arena.items c.args.index.now e (parts_of c.args.term.now) c.hash.result =
     new_entry c.args.arena.now.items b.0 c.store.new.arena.items c.args.index.now e (shown_parts c.parts-parts.result) (parts_of c.args.term.now) c.hash.result b.1 c.requires.table c.requires.absent
     c.in_ok-span.ensures.within c.in_ok-span.ensures.texts refl c.parts-parts.ensures c.hash.ensures (parts_again c.args.term.now) in
     table_pushed c.push.result c.store.new.arena.items c.args.index.now c.push.new.self e (parts_of c.args.term.now) c.hash.result
@@ -31,7 +31,7 @@ pub returns-clause-added : goal.returns-clause-added
 returns-clause-added c =
     let b = c.store.ensures.begins in
     let e : Entry = record { span = c.in_ok-span.span; sort = c.parts-parts.result.sort; number = c.args.number } in
-    let is : IsNew c.store.new.arena.items c.args.index.now e (parts_of c.args.term.now) c.hash.result =
+    let is : IsNewTerm c.store.new.arena.items c.args.index.now e (parts_of c.args.term.now) c.hash.result =
     new_entry c.args.arena.now.items b.0 c.store.new.arena.items c.args.index.now e (shown_parts c.parts-parts.result) (parts_of c.args.term.now) c.hash.result b.1 c.requires.table c.requires.absent
     c.in_ok-span.ensures.within c.in_ok-span.ensures.texts refl c.parts-parts.ensures c.hash.ensures (parts_again c.args.term.now) in
     terms_pushed c.push.result c.args.arena.now.items b.0 c.store.new.arena.items b.1 c.args.index.now c.push.new.self e (parts_of c.args.term.now) c.hash.result c.args.term.now c.requires.table is

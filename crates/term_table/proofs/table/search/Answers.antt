@@ -2,14 +2,14 @@ use Rattle.std.proofs.Common.{◌≡◌, ◌<◌, ◌∙◌, ap, sym, subst, ref
 use Rattle.term_table.specs.Parts.{shown_parts}
 use Rattle.term_table.specs.Entries.{LackParts, parts_in, entry_at}
 use Rattle.term_table.proofs.FoundLemmas.{found_as, absent_as}
-use Rattle.term_table.proofs.Spelled.{IsSearch, search_on, search_end}
+use Rattle.term_table.proofs.Spelled.{IsTermSearch, search_on, search_end}
 use Rattle.term_table.proofs.table.search.Goals as goal
 
 pub returns-then-has_parts : goal.returns-then-has_parts
 returns-then-has_parts c x is =
     let arena = c.args.arena.now in
     let index = c.args.index.now in
-    let walk : IsSearch arena index (shown_parts c.args.parts.now) (Some c.in-Some.n) = rw c.in-Some.is at c.walk.invariant in
+    let walk : IsTermSearch arena index (shown_parts c.args.parts.now) (Some c.in-Some.n) = rw c.in-Some.is at c.walk.invariant in
     let below = walk.below in
     let parts = ap (parts_in arena) (sym c.read_entry-e.ensures) ∙ c.if-has_parts.ensures.same refl ∙ is in
     rw c.read_entry-e.ensures (found_as arena index c.requires.table x c.in-Some.n (omega (arith, below)) parts)
@@ -18,7 +18,7 @@ pub walk-preserved : goal.walk-preserved
 walk-preserved c =
     let arena = c.args.arena.now in
     let index = c.args.index.now in
-    let walk : IsSearch arena index (shown_parts c.args.parts.now) (Some c.in-Some.n) = rw c.in-Some.is at c.walk.invariant in
+    let walk : IsTermSearch arena index (shown_parts c.args.parts.now) (Some c.in-Some.n) = rw c.in-Some.is at c.walk.invariant in
     search_on arena index (shown_parts c.args.parts.now) c.in-Some.n c.older-at.result c.requires.table walk
     (λ e. c.if-has_parts.ensures.other refl (ap (parts_in arena) c.read_entry-e.ensures ∙ e)) c.older-at.ensures
 
@@ -26,5 +26,5 @@ pub returns : goal.returns
 returns c x is =
     let arena = c.args.arena.now in
     let index = c.args.index.now in
-    let walk : IsSearch arena index (shown_parts c.args.parts.now) None = rw c.in_default.is at c.walk.invariant in
+    let walk : IsTermSearch arena index (shown_parts c.args.parts.now) None = rw c.in_default.is at c.walk.invariant in
     absent_as arena index c.requires.table x (subst (LackParts arena index.items) is (search_end arena index (shown_parts c.args.parts.now) walk))
