@@ -29,8 +29,8 @@ given_below g n h = elim (none_or_some (slice_get g.given n)) [
 
 module _ (g : Graph) (q : Quotient) (r : ℕ → ℕ → Bool) (fits : ViewFits g (view_of q)) (agrees : Agrees (shape_of g) q.blocks.block_of (λ u v. IsTrue (r u v))) where
   -- the label of a node by its block is that of the graph
-  pub same_label : (n : ℕ) → (shape_of_blocks g.seen q.blocks).label n ≡ label_of g n
-  same_label n = elim (none_or_some (at q.blocks.block_of n)) [
+  pub labels_agree : (n : ℕ) → (shape_of_blocks g.seen q.blocks).label n ≡ label_of g n
+  labels_agree n = elim (none_or_some (at q.blocks.block_of n)) [
     | inl none ↦ elim (none_or_some (label_of g n)) [
       | inl gone ↦ ap (λ o. option_and_then (slice_get g.seen) (option_and_then (at q.blocks.labels) o)) none ∙ sym gone
       | inr (t, e) ↦ absurd (none_not_some (at q.blocks.block_of n) none (agrees.partition.live n (is_some_at (label_of g n) t e)))
@@ -41,14 +41,14 @@ module _ (g : Graph) (q : Quotient) (r : ℕ → ℕ → Bool) (fits : ViewFits 
   ]
 
   own_node : (n : ℕ) → IsNode (shape_of_blocks g.seen q.blocks) n → IsNode (shape_of g) n
-  own_node n h = sym (ap is_some (same_label n)) ∙ h
+  own_node n h = sym (ap is_some (labels_agree n)) ∙ h
 
   own_block : (n : ℕ) → IsNode (shape_of_blocks g.seen q.blocks) n → IsSome (at q.blocks.block_of n)
   own_block n h = agrees.partition.live n (own_node n h)
 
   pub fit_alike : AreAlike (shape_of_blocks g.seen q.blocks) (shape_of g) (together q.blocks.block_of) r
   fit_alike = record {
-    labels = same_label;
+    labels = labels_agree;
     below = λ n h. block_below q.blocks.block_of n (own_block n h);
     below_other = given_below g;
     related = λ u v hu hv.

@@ -21,7 +21,7 @@ high : (status : ℕ) → (status ≡ 5) ⊎ (status ≡ 7) → 5 ≤ status
 high status (inl e) = omega (arith, e)
 high status (inr e) = omega (arith, e)
 
--- nothing was written of a script, since a call failed before it was open or memory was wanting
+-- nothing was written of a script, since a call failed before it was open or memory ran out
 stopped_script : (first : State) (text old : Option (List ℕ)) (status : ℕ) (Last : State → Type 0) → (status ≡ 5) ⊎ (status ≡ 7) → RunsScript first text old old status Last
 stopped_script first None old status Last e = (Keeps-refl old, e)
 stopped_script first (Some s) old status Last e = inr (high status e, front-part _ _ (reached-start program_limits first (Some s) old) old (nothing_written old _))
@@ -34,7 +34,7 @@ stopped_files : (s : Settings) (name : Option (List ℕ)) (files : List File) (o
 stopped_files s None files old status Last e = stopped_script _ (content_of files s.script) old status Last e
 stopped_files s (Some name) files old status Last e = stopped_loaded s files (content_of files name) old status Last e
 
--- nothing was written, since a call failed before anything was, or memory was wanting
+-- nothing was written, since a call failed before anything was, or memory ran out
 pub stopped : (s : Settings) (files : Option (List File)) (old : Option (List ℕ)) (status : ℕ) (Last : State → Type 0) → (status ≡ 5) ⊎ (status ≡ 7) → Meets (runs s) files old old status Last
 stopped s None old status Last e = tt
 stopped s (Some fs) old status Last e = stopped_files s s.graph fs old status Last e

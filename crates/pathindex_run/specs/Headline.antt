@@ -14,11 +14,11 @@ use Rattle.pathindex_run.specs.Texts.{usage_line, graph_line}
 use Rattle.pathindex_run.specs.States.{State, state_of}
 use Rattle.pathindex_run.specs.Told.{RanTold, FrontTold}
 
--- nothing is written, since a file isn't there or wasn't read to its end, or memory was wanting
+-- nothing is written, since a file isn't there or wasn't read to its end, or memory ran out
 abbrev pub StopsAtOnce : Option (List ℕ) → Option (List ℕ) → ℕ → Type 0
 StopsAtOnce old new status = Keeps old new × ((status ≡ 5) ⊎ (status ≡ 7))
 
--- the line is written with this status of its own, unless a write fails or memory is wanting
+-- the line is written with this status of its own, unless a write fails or memory runs out
 abbrev pub ShowsLine : List ℕ → ℕ → Option (List ℕ) → Option (List ℕ) → ℕ → Type 0
 ShowsLine line own old new status =
     ((status ≡ own) × Appends old new line)
@@ -111,7 +111,7 @@ NamesProper (runs s) (Some files) =
 abbrev pub NoFault : ℕ → ℕ → Type 0
 NoFault before now = (now ≡ before) × (before < 2 ^ 64 - 1)
 
--- A proper script is read to its end, unless a call fails or memory is wanting.
+-- A proper script is read to its end, unless a call fails or memory runs out.
 abbrev pub Completes : Form → Option (List File) → ℕ → ℕ → ℕ → ℕ → ℕ → Type 0
 Completes form files shelf_before shelf_after sink_before sink_after status =
     NamesProper form files → NoFault shelf_before shelf_after → NoFault sink_before sink_after → (status ≤ 1) ⊎ (status ≡ 7)

@@ -64,7 +64,7 @@ fn kept_level(via: Via, k: u32) -> Option<u32>
     }
 }
 
-/// Gathers what `extents` prints through an index, or nothing where memory is wanting. Answers whether that is a
+/// Gathers what `extents` prints through an index, or nothing where memory runs out. Answers whether that is a
 /// refusal.
 pub(crate) fn push_extents(
     alloc: Global,
@@ -114,7 +114,7 @@ fn push_levels(alloc: Global, graph: &Graph, k: u32, out: &mut Vec<u8>) -> Resul
     Ok(())
 }
 
-/// Appends what `sizes` prints, or a front of that where memory is wanting.
+/// Appends what `sizes` prints, or a front of that where memory runs out.
 fn push_all_sizes(alloc: Global, graph: &Graph, k: u32, out: &mut Vec<u8>) -> Result<(), Memory>
     requires few { k ≤ 8 }
     ensures ok { OnOk result ((text : List ℕ) × ShowsSizes (state_of graph.now.graph k) text × (out.new.items ≡ out.old.items ++ text)) }
@@ -126,7 +126,7 @@ fn push_all_sizes(alloc: Global, graph: &Graph, k: u32, out: &mut Vec<u8>) -> Re
     Ok(())
 }
 
-/// Gathers what `sizes` prints, or nothing where memory is wanting.
+/// Gathers what `sizes` prints, or nothing where memory runs out.
 pub(crate) fn push_sizes(
     alloc: Global,
     graph: &Graph,

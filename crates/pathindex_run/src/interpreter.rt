@@ -152,7 +152,7 @@ impl Interpreter {
         Ok(())
     }
 
-    /// Takes a line, and gathers what it prints. Where memory is wanting, nothing is gathered.
+    /// Takes a line, and gathers what it prints. Where memory runs out, nothing is gathered.
     pub(crate) fn take(
         &mut self,
         alloc: Global,

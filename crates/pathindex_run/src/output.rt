@@ -9,7 +9,7 @@ ghost use Rattle.pathindex_run.specs.Texts.{graph_line};
 use itoa::Buffer;
 use px_base::{Failed, Memory, Sink, put_all};
 
-/// Appends the two texts and LF, or nothing where memory is wanting.
+/// Appends the two texts and LF, or nothing where memory runs out.
 pub(crate) fn push_line(out: &mut Vec<u8>, head: &[u8], tail: &[u8]) -> Result<(), Memory>
     ensures ok { OnOk result (out.new.items ≡ out.old.items ++ (head.now ++ tail.now ++ 10 ∷ [])) }
     ensures err { OnErr result (out.new.items ≡ out.old.items) }
@@ -24,7 +24,7 @@ pub(crate) fn push_line(out: &mut Vec<u8>, head: &[u8], tail: &[u8]) -> Result<(
     }
 }
 
-/// Appends the two texts and LF, or a front of that where memory is wanting.
+/// Appends the two texts and LF, or a front of that where memory runs out.
 fn push_parts(out: &mut Vec<u8>, head: &[u8], tail: &[u8]) -> Result<(), Memory>
     ensures ok { OnOk result (out.new.items ≡ out.old.items ++ (head.now ++ tail.now ++ 10 ∷ [])) }
     ensures err { OnErr result (Extends out.old.items out.new.items) }
@@ -35,7 +35,7 @@ fn push_parts(out: &mut Vec<u8>, head: &[u8], tail: &[u8]) -> Result<(), Memory>
     Ok(())
 }
 
-/// Appends the text, the number and LF, or nothing where memory is wanting.
+/// Appends the text, the number and LF, or nothing where memory runs out.
 pub(crate) fn push_number(out: &mut Vec<u8>, head: &[u8], number: u32) -> Result<(), Memory>
     ensures ok { OnOk result (out.new.items ≡ out.old.items ++ (head.now ++ decimal number ++ 10 ∷ [])) }
     ensures err { OnErr result (out.new.items ≡ out.old.items) }
@@ -44,7 +44,7 @@ pub(crate) fn push_number(out: &mut Vec<u8>, head: &[u8], number: u32) -> Result
     push_line(out, head, buffer.format(number).as_bytes())
 }
 
-/// Appends which line of the graph file is refused, and why, or a front of that where memory is wanting.
+/// Appends which line of the graph file is refused, and why, or a front of that where memory runs out.
 pub(crate) fn push_graph_line(out: &mut Vec<u8>, line: u32, reason: &[u8]) -> Result<(), Memory>
     ensures { OnOk result (out.new.items ≡ out.old.items ++ graph_line line reason.now) }
 {

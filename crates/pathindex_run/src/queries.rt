@@ -108,7 +108,7 @@ fn push_text(out: &mut Vec<u8>, answers: &Bits) -> Result<(), Memory>
     Ok(())
 }
 
-/// Gathers the answers, or nothing where memory is wanting.
+/// Gathers the answers, or nothing where memory runs out.
 pub(crate) fn push_answers(out: &mut Vec<u8>, answers: &Bits) -> Result<(), Memory>
     ensures ok { OnOk result (out.new.items ≡ out.old.items ++ answers_text answers.now.members) }
     ensures err { OnErr result (out.new.items ≡ out.old.items) }

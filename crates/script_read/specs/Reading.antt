@@ -18,8 +18,8 @@ command_of (Path via e) = path via e
 command_of (Extents via) = extents via
 command_of Sizes = sizes
 
--- The line is quiet; it spells this command, and passes no limit on queries; it passes one; or it spells nothing; or memory
--- is wanting.
+-- The line is quiet; it spells this command, and passes no limit on queries; it passes one; or it spells nothing. Where memory
+-- runs out nothing is said.
 abbrev pub Reads : Limits → List ℕ → Result (Option Asked) ScriptError → Type 0
 Reads limits line (Ok None) = IsQuiet line
 Reads limits line (Ok (Some c)) = IsSpelled line (command_of c) × (¬ PassesLimit limits line)

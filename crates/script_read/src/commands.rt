@@ -77,9 +77,9 @@ fn parse_path(alloc: Global, text: &[u8], limits: &Limits) -> Result<PathExpr, S
 }
 
 /// The command that the line spells, which is one; None exactly for a blank or comment line. `Limit` comes exactly
-/// where the line asks with an expression that passes a limit, be it in the language or not; else `Bad` exactly where
-/// the line is neither a command nor blank nor a comment, and `Memory` at want of memory. The line is without its end. Linear in the line.
-#[tactic(auto, using(crate::proofs::CommandLaws::reading_laws))]
+/// where the line asks with an expression that passes a limit, whether or not that is in the language; else `Bad`
+/// exactly where the line is neither a command nor blank nor a comment. `Memory` comes where memory runs out. The
+/// line is without its end. Linear in the line.
 pub fn read(alloc: Global, line: &[u8], limits: &Limits) -> Result<Option<Command>, ScriptError>
     ensures reads { Reads limits.now line.now result }
     ensures once { SpellsOnce line.now }
