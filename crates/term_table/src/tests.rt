@@ -36,13 +36,19 @@ fn three(alloc: Global) -> Result<[HashedTerm; 3], Memory> {
     Ok([iri(alloc, "a")?, iri(alloc, "b")?, iri(alloc, "a")?])
 }
 
+// The place of the last of three terms, how many there are, and whether the second is there.
+fn filled(alloc: Global) -> Result<(Option<u32>, u32, bool), Memory> {
+    let mut table = TermTable::new(alloc)?;
+    let terms = three(alloc)?;
+    let last = fill(&mut table, &terms)?;
+    Ok((last, table.len(), is_there(&table, &terms[1])))
+}
+
 #[test]
 fn terms_are_numbered_as_they_come(rt: HostRuntime) -> Result<(), Fail> {
-    let mut table = TermTable::new(rt.alloc())?;
-    let terms = three(rt.alloc())?;
-    let last = fill(&mut table, &terms)?;
+    let (last, count, there) = filled(rt.alloc())?;
     assert_eq!(rt; last, Some(0));
-    assert_eq!(rt; table.len(), 2);
-    assert_eq!(rt; is_there(&table, &terms[1]), true);
+    assert_eq!(rt; count, 2);
+    assert_eq!(rt; there, true);
     Ok(())
 }
