@@ -55,7 +55,7 @@ fn sink_of(alloc: Global, failing: &[u32]) -> Result<MemSink, Memory> {
 fn scripts_and_what_they_write(rt: HostRuntime) -> Result<(), Fail> {
     let usage: &[u8] =
         b"usage: pathindex SCRIPT [--graph FILE] [--k N] [--without-one] [--without-fb] | pathindex --make SEED\n";
-    let rows: [(&[&str], Option<&[u8]>, &[u8], u8); 17] = [
+    let rows: [(&[&str], Option<&[u8]>, &[u8], u8); 21] = [
         (&["s"], Some(b""), b"", 0),
         (
             &["s"],
@@ -82,6 +82,36 @@ fn scripts_and_what_they_write(rt: HostRuntime) -> Result<(), Fail> {
             0,
         ),
         (&["s"], Some(b"path data a b\n"), b"bad 1\n", 4),
+        (
+            &["s"],
+            Some(
+                b"node a\nnode b\nnode c\nlink n0 n1\nlink n1 n2\npath data a/b/c\npath data a//c\npath data (a|b)+\n",
+            ),
+            b"added n0\nadded n1\nadded n2\nok\nok\nanswers 1\nn2\nanswers 1\nn2\nanswers 2\nn0 n1\n",
+            0,
+        ),
+        (
+            &["s"],
+            Some(b"node b\npath data a*\n"),
+            b"added n0\nanswers 0\n",
+            0,
+        ),
+        (
+            &["s"],
+            Some(
+                b"path data ((((((((((((((((((((((((((((((((((((((((((((((((((((((((((((((((a))))))))))))))))))))))))))))))))))))))))))))))))))))))))))))))))\n",
+            ),
+            b"answers 0\n",
+            0,
+        ),
+        (
+            &["s"],
+            Some(
+                b"path data (((((((((((((((((((((((((((((((((((((((((((((((((((((((((((((((((a)))))))))))))))))))))))))))))))))))))))))))))))))))))))))))))))))\npath data a**\n",
+            ),
+            b"refused limit\nbad 2\n",
+            4,
+        ),
         (
             &["s"],
             Some(b"node a\rnode b\r\nlink n0 n1\nlink n0 n1\nunlink n0 n1\nunlink n0 n1\n"),
@@ -207,6 +237,28 @@ const CHAINS_LISTED: &[u8] =
     b"added n0\nadded n1\nadded n2\nok\nok\nadded n3\nadded n4\nadded n5\nok\nok\nadded n6\nblocks 4\na n0 n3\nb n1 n4\nc n2 n5\nx n6\nok\nblocks 6\na n0\nb n1\nc n2 n5\na n3\nb n4\nx n6\nok\nblocks 4\na n0 n3\nb n1 n4\nc n2 n5\nx n6\n";
 
 // Sets of parents count and not their number; two loops are alike; so are two rings, at each level; children don't count, nor do gone nodes.
+/// A query of so many labels.
+fn query(alloc: Global, labels: usize) -> Result<Vec<u8>, Fail> {
+    let mut script = Vec::new(alloc);
+    script.extend_from_slice(b"path data a")?;
+    for _ in 1..labels {
+        script.extend_from_slice(b"/a")?;
+    }
+    Ok(script)
+}
+
+#[test]
+fn long_expressions_are_refused(rt: HostRuntime) -> Result<(), Fail> {
+    let rows: [(usize, &[u8], u8); 2] = [(2048, b"answers 0\n", 0), (2049, b"refused limit\n", 1)];
+    for (labels, output, status) in rows {
+        let script = query(rt.alloc(), labels)?;
+        let (ended, written) = run_script(rt.alloc(), &["s"], Some(&script), &[], &[])?;
+        assert_eq!(rt; ended, status);
+        assert_eq!(rt; written.as_slice(), output);
+    }
+    Ok(())
+}
+
 #[test]
 fn indexes_are_listed(rt: HostRuntime) -> Result<(), Fail> {
     let rows: [(&[&str], Option<&[u8]>, &[u8], u8); 6] = [
