@@ -80,6 +80,7 @@ fn parse_path(alloc: Global, text: &[u8], limits: &Limits) -> Result<PathExpr, S
 /// where the line asks with an expression that passes a limit, whether or not that is in the language; else `Bad`
 /// exactly where the line is neither a command nor blank nor a comment. `Memory` comes where memory runs out. The
 /// line is without its end. Linear in the line.
+#[tactic(auto, using(crate::proofs::CommandLaws::reading_laws))]
 pub fn read(alloc: Global, line: &[u8], limits: &Limits) -> Result<Option<Command>, ScriptError>
     ensures reads { Reads limits.now line.now result }
     ensures once { SpellsOnce line.now }
