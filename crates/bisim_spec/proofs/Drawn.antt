@@ -8,7 +8,7 @@ use Rattle.std.proofs.lemmas.Option.{slice_get_within}
 use Rattle.px_spec.specs.Shapes.{Shape, IsShape}
 use Rattle.bisim_spec.proofs.Bisimilar.{some_of}
 
-abbrev is_edge : ℕ → ℕ → ℕ × ℕ → Bool
+abbrev pub is_edge : ℕ → ℕ → ℕ × ℕ → Bool
 is_edge u v e = nat_eq u e.0 && nat_eq v e.1
 
 -- nodes with these labels, numbered from 0 on, and these edges

@@ -20,7 +20,7 @@ use Rattle.bisim_spec.proofs.StabilityTests.{together_decides, partition_decides
 use Rattle.bisim_spec.proofs.Drawn.{drawn, drawn_shape}
 
 -- what a test that fails refutes
-refuted : {r : Bool} {P : Type 0} → Decides r P → r ≡ false → P → ⊥
+pub refuted : {r : Bool} {P : Type 0} → Decides r P → r ≡ false → P → ⊥
 refuted {r = r} decides fails p = both_ways r fails (decides.1 p)
 
 pub level_decides : (s : Shape) → IsShape s → (block : List (Option ℕ)) (i : ℕ) → Decides (agrees s block (bis s i)) (Agrees s block (Bis s i))
@@ -31,10 +31,10 @@ both_level_decides : (s : Shape) → IsShape s → (block : List (Option ℕ)) (
 both_level_decides s shape block i =
     agrees_decides s shape block (both s i) (Both s i) (both_decides s shape i) (λ u v h. (both_node s i u v h, both_node s i v u (both_sym s i u v h)))
 
-full_decides : (s : Shape) → IsShape s → (block : List (Option ℕ)) → Decides (agrees s block (bisim s)) (Agrees s block (Bisim s))
+pub full_decides : (s : Shape) → IsShape s → (block : List (Option ℕ)) → Decides (agrees s block (bisim s)) (Agrees s block (Bisim s))
 full_decides s shape block = level_decides s shape block (node_count s)
 
-fb_full_decides : (s : Shape) → IsShape s → (block : List (Option ℕ)) → Decides (agrees s block (fb s)) (Agrees s block (FB s))
+pub fb_full_decides : (s : Shape) → IsShape s → (block : List (Option ℕ)) → Decides (agrees s block (fb s)) (Agrees s block (FB s))
 fb_full_decides s shape block = both_level_decides s shape block (node_count s)
 
 -- two chains a -> b -> c, and a node x by itself

@@ -1,15 +1,16 @@
 -- Targets, and what fits, at small graphs and near misses.
-use Rattle.std.proofs.Common.{◌≡◌, ℕ, ◌<◌, zero, suc, true, false, List, [], ◌∷◌, Option, Some, None, IsSome, refl, sym, ◌∙◌, ap, arith, true≢false, unwrap_or, slice_get}
+use Rattle.std.proofs.Common.{◌≡◌, ℕ, ◌<◌, zero, suc, true, false, List, [], ◌∷◌, Option, Some, None, IsSome, refl, sym, ◌∙◌, ap, subst, arith, true≢false, unwrap_or, slice_get}
 use Rattle.std.specs.Prelude.{codes}
 use Rattle.std.specs.FinSet as set
 use Rattle.std.specs.FinMap as table
 use Rattle.px_spec.specs.Graphs.{Graph, edge_cmp, label_of}
 use Rattle.px_spec.specs.Changes.{node, link, unlink, drop}
 use Rattle.px_spec.specs.Members.{at}
-use Rattle.px_spec.specs.Shapes.{IsNode, IsParent, IsShape, shape_of}
+use Rattle.px_spec.specs.Shapes.{Shape, IsNode, IsParent, IsShape, shape_of}
 use Rattle.px_spec.proofs.EdgeOrder.{edge_cmp_total}
 use Rattle.bisim_spec.specs.declared.kind.Kind.TheVariants.{A, One, Fb}
-use Rattle.bisim_spec.specs.Partitions.{Together}
+use Rattle.bisim_spec.specs.Bisimilarity.{Bis, FB}
+use Rattle.bisim_spec.specs.Partitions.{Together, Agrees}
 use Rattle.bisim_spec.specs.Stability.{Stable, Minimal}
 use Rattle.bisim_spec.specs.Supports.{joins, edges_between}
 use Rattle.bisim_spec.specs.Targets.{target, KeepsParents}
@@ -18,7 +19,7 @@ use Rattle.bisim_spec.specs.Fits.{Fits, FitsAt, view_at, view_count}
 use Rattle.bisim_spec.proofs.EdgeSets.{kept, same_len}
 use Rattle.bisim_spec.proofs.Ranks.{acyclic_full}
 use Rattle.bisim_spec.proofs.StabilityTests.{partition_decides}
-use Rattle.bisim_spec.proofs.Examples.{level_decides}
+use Rattle.bisim_spec.proofs.Examples.{level_decides, fb_full_decides}
 
 -- nodes n0 and n1 were given, and n1 is gone
 abbrev one_left : Graph
@@ -124,6 +125,36 @@ one_level = record { count = omega arith; each = at_each }
   where
     at_each : (i : ℕ) → i < 1 → FitsAt A one_left i (view_at (Some one_block ∷ []) i)
     at_each zero h = record { view = one_fits; agrees = (level_decides (shape_of one_left) left_shape one_block.block_of 0).0 refl }
+    at_each (suc i) h = absurd (omega (arith, h))
+
+-- its shape, without the set of edges
+abbrev bare : Shape
+bare = record { size = 2; label = label_of one_left; edge = λ u v. false }
+
+bare_is : bare ≡ shape_of one_left
+bare_is i = record { size = 2; label = label_of one_left; edge = λ u v. sym (set.contains-empty edge_cmp (u, v)) i }
+
+bare_shape : IsShape bare
+bare_shape = subst IsShape (sym bare_is) left_shape
+
+-- a family of two levels, and one of which a level is missing
+two_levels : Fits A (Some one_block ∷ Some one_block ∷ []) one_left
+two_levels = record { count = omega arith; each = at_each }
+  where
+    at_each : (i : ℕ) → i < 2 → FitsAt A one_left i (view_at (Some one_block ∷ Some one_block ∷ []) i)
+    at_each zero h = record { view = one_fits; agrees = (level_decides (shape_of one_left) left_shape one_block.block_of 0).0 refl }
+    at_each (suc zero) h = record { view = one_fits; agrees = subst (λ s. Agrees s one_block.block_of (Bis s 1)) bare_is ((level_decides bare bare_shape one_block.block_of 1).0 refl) }
+    at_each (suc (suc i)) h = absurd (omega (arith, h))
+
+second_missing : Fits A (Some one_block ∷ None ∷ []) one_left → ⊥
+second_missing h = h.each 1 (omega arith)
+
+-- the forward and backward index, once it is computed
+computed : Fits Fb (Some one_block ∷ []) one_left
+computed = record { count = refl; each = at_each }
+  where
+    at_each : (i : ℕ) → i < 1 → FitsAt Fb one_left i (view_at (Some one_block ∷ []) i)
+    at_each zero h = record { view = one_fits; agrees = subst (λ s. Agrees s one_block.block_of (FB s)) bare_is ((fb_full_decides bare bare_shape one_block.block_of).0 refl) }
     at_each (suc i) h = absurd (omega (arith, h))
 
 one_stable : Stable (shape_of one_left) one_block.block_of

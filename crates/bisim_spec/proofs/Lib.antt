@@ -21,3 +21,5 @@ pub mod StabilityTests
 pub mod Drawn
 pub mod Examples
 pub mod FitExamples
+pub mod DrawnGraphs
+pub mod StepExamples

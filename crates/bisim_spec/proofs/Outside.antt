@@ -4,8 +4,8 @@ use Rattle.std.proofs.lemmas.Bool.{false_from_ne_true, both_ways}
 use Rattle.px_spec.specs.Shapes.{Shape, IsParent, IsShape}
 use Rattle.bisim_spec.specs.Bisimilarity.{Covers, Bis}
 use Rattle.px_spec.specs.Members.{at}
-use Rattle.bisim_spec.specs.Partitions.{Together}
-use Rattle.bisim_spec.specs.Stability.{Stable, Mergeable, Minimal, merged}
+use Rattle.bisim_spec.specs.Partitions.{Together, IsPartition}
+use Rattle.bisim_spec.specs.Stability.{StableBut, Stable, Mergeable, Minimal, merged}
 use Rattle.bisim_spec.specs.Reach.{near, reach}
 use Rattle.bisim_spec.proofs.Stable.{stable_label, stable_parents}
 use Rattle.bisim_spec.proofs.Together.{together_sym, together_at, merged_keeps, merged_a, merged_b, merged_cases}
@@ -33,6 +33,17 @@ outside_reach target s s2 shape d =
       label = λ n h. d.label n (apart n h);
       edge = λ p n h. d.edge p n (apart n h);
     }
+
+-- a partition that stays as it is: where it was stable it is so after the change, but maybe at the targets
+pub stable_but_targets : (target : ℕ → Bool) (s s2 : Shape) (block : List (Option ℕ)) → DiffersAt target s s2 → Stable s block → IsPartition s2 block
+    → StableBut s2 block target
+stable_but_targets target s s2 block d st partition = record {
+  partition = partition;
+  label = λ u v nu nv t. sym (d.label u nu) ∙ stable_label s block st u v t ∙ d.label v nv;
+  parents = λ u v nu nv t p e.
+      let q = stable_parents s block st u v t p (d.edge p u nu ∙ e) in
+      (q.0, sym (d.edge q.0 v nv) ∙ q.1, q.2);
+}
 
 -- By level: such nodes have their labels and parents, and from one level up their parents are such nodes.
 record IsOutsideBy (s s2 : Shape) (Out : ℕ → ℕ → Type 0) : Type 0 where

@@ -1,0 +1,184 @@
+-- How the 1-index moves, and levels that fit, at small graphs and near misses.
+use Rattle.std.proofs.Common.{◌≡◌, ℕ, false, List, [], ◌∷◌, length, Option, Some, refl, sym, ◌∙◌, ap, subst, arith, inl, inr, true≢false}
+use Rattle.std.specs.Prelude.{IsFalse, ◌||◌, codes, nat_eq}
+use Rattle.std.proofs.lemmas.Bool.{and_parts, or_cases}
+use Rattle.std.proofs.lemmas.Bool.Decides.{Decides-eqb}
+use Rattle.px_spec.specs.Graphs.{Graph}
+use Rattle.px_spec.specs.Changes.{node, link, after}
+use Rattle.px_spec.specs.Shapes.{Shape, IsShape, shape_of}
+use Rattle.bisim_spec.specs.declared.kind.Kind.TheVariants.{A}
+use Rattle.bisim_spec.specs.Bisimilarity.{Bis, Bisim}
+use Rattle.bisim_spec.specs.Partitions.{Together, Agrees}
+use Rattle.bisim_spec.specs.Stability.{Stable, Minimal}
+use Rattle.bisim_spec.specs.Reach.{reach}
+use Rattle.bisim_spec.specs.Targets.{target, HasOther, KeepsParents}
+use Rattle.bisim_spec.specs.OneStep.{OneStep}
+use Rattle.bisim_spec.specs.Views.{View}
+use Rattle.bisim_spec.specs.Fits.{Fits}
+use Rattle.bisim_spec.proofs.StabilityTests.{stable_decides, minimal_decides}
+use Rattle.bisim_spec.proofs.Drawn.{drawn, drawn_shape, is_edge}
+use Rattle.bisim_spec.proofs.DrawnGraphs.{drawn_graph, shape_drawn}
+use Rattle.bisim_spec.proofs.Examples.{refuted, level_decides, full_decides}
+
+-- two a, and a b to which an edge leads from the first of them, and then from the second too
+
+abbrev pair_labels : List (List ℕ)
+pair_labels = codes "a" ∷ codes "a" ∷ codes "b" ∷ []
+
+abbrev pair : List (ℕ × ℕ) → Graph
+pair edges = drawn_graph (codes "a" ∷ codes "b" ∷ []) pair_labels edges
+
+abbrev one_edge : List (ℕ × ℕ)
+one_edge = (0, 2) ∷ []
+
+abbrev two_edges : List (ℕ × ℕ)
+two_edges = (1, 2) ∷ (0, 2) ∷ []
+
+pair_shape : IsShape (drawn pair_labels two_edges)
+pair_shape = drawn_shape pair_labels two_edges refl
+
+abbrev by_label : List (Option ℕ)
+by_label = Some 0 ∷ Some 0 ∷ Some 1 ∷ []
+
+-- the b has a parent in the block of the two a already, so one more gives it no parent block
+keeps_link : KeepsParents (link 1 2) (pair two_edges) by_label
+keeps_link = record {
+  parent = 0;
+  other = λ e. absurd (omega (arith, e));
+  is_parent = ap (λ s. s.edge 0 2) (shape_drawn (codes "a" ∷ codes "b" ∷ []) pair_labels two_edges);
+  together = (0, refl, refl);
+}
+
+-- the first edge does give it one: no other parent is there
+first_adds : KeepsParents (link 0 2) (pair one_edge) by_label → ⊥
+first_adds h =
+    let e = sym (ap (λ s. s.edge h.parent 2) (shape_drawn (codes "a" ∷ codes "b" ∷ []) pair_labels one_edge)) ∙ h.is_parent in
+    elim (or_cases (is_edge h.parent 2 (0, 2)) false e) [
+      | inl same ↦ h.other ((Decides-eqb h.parent 0).0 (and_parts (nat_eq h.parent 0) (nat_eq 2 2) same).0)
+      | inr none ↦ true≢false (sym none)
+    ]
+
+-- nor does a second edge where the two a are apart
+abbrev apart : List (Option ℕ)
+apart = Some 0 ∷ Some 2 ∷ Some 1 ∷ []
+
+apart_adds : KeepsParents (link 1 2) (pair two_edges) apart → ⊥
+apart_adds h =
+    let e = sym (ap (λ s. s.edge h.parent 2) (shape_drawn (codes "a" ∷ codes "b" ∷ []) pair_labels two_edges)) ∙ h.is_parent in
+    elim (or_cases (is_edge h.parent 2 (1, 2)) (is_edge h.parent 2 (0, 2) || false) e) [
+      | inl same ↦ h.other ((Decides-eqb h.parent 1).0 (and_parts (nat_eq h.parent 1) (nat_eq 2 2) same).0)
+      | inr rest ↦ elim (or_cases (is_edge h.parent 2 (0, 2)) false rest) [
+        | inl same ↦ first_alone (subst (λ n. Together apart n 1) ((Decides-eqb h.parent 0).0 (and_parts (nat_eq h.parent 0) (nat_eq 2 2) same).0) h.together)
+        | inr none ↦ true≢false (sym none)
+      ]
+    ]
+  where
+    first_alone : Together apart 0 1 → ⊥
+    first_alone (b, x, y) = absurd (cc)
+
+linked : OneStep (pair one_edge) by_label (link 1 2) (pair two_edges) by_label
+linked =
+    let same = sym (shape_drawn (codes "a" ∷ codes "b" ∷ []) pair_labels two_edges) in
+    let stable = (stable_decides (drawn pair_labels two_edges) pair_shape by_label).0 refl in
+    record {
+      made = refl;
+      stable = subst (λ s. Stable s by_label) same stable;
+      minimal = subst (λ s. Minimal s by_label) same ((minimal_decides (drawn pair_labels two_edges) pair_shape by_label stable.partition).0 refl);
+      whole = λ acyclic. subst (λ s. Agrees s by_label (Bisim s)) same ((full_decides (drawn pair_labels two_edges) pair_shape by_label).0 refl);
+      outside = λ u v gu gv hu hv ru rv. (λ t. t, λ t. t);
+      still = λ keeps u v hu hv. (λ t. t, λ t. t);
+    }
+
+-- the change has to be made
+not_made : OneStep (pair one_edge) by_label (node (codes "a")) (pair one_edge) by_label → ⊥
+not_made h = let e = ap (λ g. length g.given) h.made in omega (arith, e)
+
+-- Two rings of an a and a b, in two blocks. With rings a partition of four blocks is stable and unmergeable too, but none that
+-- a change may lead to unless it reaches what is parted.
+
+abbrev ring_labels : List (List ℕ)
+ring_labels = codes "a" ∷ codes "b" ∷ codes "a" ∷ codes "b" ∷ []
+
+abbrev ring_edges : List (ℕ × ℕ)
+ring_edges = (0, 1) ∷ (1, 0) ∷ (2, 3) ∷ (3, 2) ∷ []
+
+abbrev rings : Graph
+rings = drawn_graph (codes "a" ∷ codes "b" ∷ []) ring_labels ring_edges
+
+abbrev in_two : List (Option ℕ)
+in_two = Some 0 ∷ Some 1 ∷ Some 0 ∷ Some 1 ∷ []
+
+-- an edge from one ring to the other, whose end has a parent in that block already
+
+abbrev joined_edges : List (ℕ × ℕ)
+joined_edges = (2, 1) ∷ ring_edges
+
+abbrev in_four : List (Option ℕ)
+in_four = Some 0 ∷ Some 1 ∷ Some 2 ∷ Some 3 ∷ []
+
+joined_shape : IsShape (drawn ring_labels joined_edges)
+joined_shape = drawn_shape ring_labels joined_edges refl
+
+in_four_stable : Stable (drawn ring_labels joined_edges) in_four
+in_four_stable = (stable_decides (drawn ring_labels joined_edges) joined_shape in_four).0 refl
+
+in_four_minimal : Minimal (drawn ring_labels joined_edges) in_four
+in_four_minimal = (minimal_decides (drawn ring_labels joined_edges) joined_shape in_four in_four_stable.partition).0 refl
+
+parted_by_link : OneStep rings in_two (link 2 1) (after (link 2 1) rings) in_four → ⊥
+parted_by_link h =
+    let same = shape_drawn (codes "a" ∷ codes "b" ∷ []) ring_labels joined_edges in
+    let other : HasOther (shape_of (after (link 2 1) rings)) in_two 2 1 = record {
+      parent = 0;
+      other = λ e. absurd (omega (arith, e));
+      is_parent = ap (λ s. s.edge 0 1) same;
+      together = (0, refl, refl);
+    } in
+    let t = (h.still other 0 2 refl refl).1 (0, refl, refl) in
+    let x = t.1 in
+    let y = t.2 in
+    absurd (cc)
+
+-- a node by itself reaches neither ring
+
+abbrev more_labels : List (List ℕ)
+more_labels = codes "a" ∷ codes "b" ∷ codes "a" ∷ codes "b" ∷ codes "x" ∷ []
+
+parted_by_node : OneStep rings in_two (node (codes "x")) (after (node (codes "x")) rings) (Some 0 ∷ Some 1 ∷ Some 2 ∷ Some 3 ∷ Some 4 ∷ []) → ⊥
+parted_by_node h =
+    let same = shape_drawn (codes "a" ∷ codes "b" ∷ codes "x" ∷ []) more_labels ring_edges in
+    let off : (n : ℕ) → reach (drawn more_labels ring_edges) (λ m. nat_eq m 4) n ≡ false → IsFalse (reach (shape_of (after (node (codes "x")) rings)) (target (node (codes "x")) rings) n) =
+    λ n e. ap (λ s. reach s (target (node (codes "x")) rings) n) same ∙ e in
+    let t = (h.outside 0 2 refl refl refl refl (off 0 refl) (off 2 refl)).1 (0, refl, refl) in
+    let x = t.1 in
+    let y = t.2 in
+    absurd (cc)
+
+-- a -> b, and a b by itself: level 1 tells the two b apart, and the levels can't change places
+
+abbrev lone_labels : List (List ℕ)
+lone_labels = codes "a" ∷ codes "b" ∷ codes "b" ∷ []
+
+abbrev lone : Graph
+lone = drawn_graph (codes "a" ∷ codes "b" ∷ []) lone_labels ((0, 1) ∷ [])
+
+abbrev lone_drawn : Shape
+lone_drawn = drawn lone_labels ((0, 1) ∷ [])
+
+lone_shape : IsShape lone_drawn
+lone_shape = drawn_shape lone_labels ((0, 1) ∷ []) refl
+
+abbrev all_alone : List (Option ℕ)
+all_alone = Some 0 ∷ Some 1 ∷ Some 2 ∷ []
+
+abbrev two_blocks : List (Option ℕ)
+two_blocks = Some 0 ∷ Some 1 ∷ Some 1 ∷ []
+
+lone_first : Agrees lone_drawn all_alone (Bis lone_drawn 1)
+lone_first = (level_decides lone_drawn lone_shape all_alone 1).0 refl
+
+levels_swapped : (v w : View) → v.block_of ≡ all_alone → w.block_of ≡ two_blocks → Fits A (Some v ∷ Some w ∷ []) lone → ⊥
+levels_swapped v w e f h =
+    let same = shape_drawn (codes "a" ∷ codes "b" ∷ []) lone_labels ((0, 1) ∷ []) in
+    let a = subst (λ s. Agrees s v.block_of (Bis s 0)) same (h.each 0 (omega arith)).agrees in
+    refuted (level_decides lone_drawn lone_shape all_alone 0) refl (subst (λ p. Agrees lone_drawn p (Bis lone_drawn 0)) e a)
