@@ -1,4 +1,4 @@
--- Changes that alter a graph, and the graph that each leaves.
+-- Changes that alter a graph.
 use Rattle.std.specs.Prelude.{◌≡◌, ℕ, ◌<◌, ◌^◌, Bool, true, false, ◌&&◌, ◌||◌, List, length, nat_lt, IsTrue}
 use Rattle.std.specs.FinSet as set
 use Rattle.px_spec.specs.declared.limits.Limits.{Limits}

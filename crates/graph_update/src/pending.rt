@@ -46,6 +46,7 @@ impl<'a> After<'a> {
     pub fn new(graph: &'a Graph, change: &'a Change) -> After<'a>
         requires new { IsNew (change_of change.now) graph.now.graph }
         ensures pending { result ≡ record { before = graph.now.graph; change = change_of change.now } }
+        ensures new { IsNew result.change result.before }
         ensures before { IsGraph result.before }
         ensures after { IsGraph (graph_after result) }
     {
@@ -80,10 +81,11 @@ impl<'a> After<'a> {
         }
     }
 
-    /// How many node numbers will have been given: at most 2^30. Both graphs are graphs.
+    /// How many node numbers will have been given: at most 2^30. O(1).
     pub fn created(&self) -> u32
         ensures count { result ≡ length (graph_after self.now).given }
         ensures few { result ≤ 2 ^ 30 }
+        ensures new { IsNew self.now.change self.now.before }
         ensures before { IsGraph self.now.before }
         ensures after { IsGraph (graph_after self.now) }
     {

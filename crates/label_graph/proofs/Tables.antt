@@ -1,6 +1,6 @@
 -- The table of labels, cut where the labels end.
-use Rattle.std.proofs.Common.{◌≡◌, ℕ, zero, suc, ◌+◌, ◌-◌, ◌≤◌, true, false, List, [], ◌∷◌, ◌++◌, length, take, Option, None, Some, refl, sym, ap, ◌∙◌, subst, arith, rules, get_or, set, append_assoc, append-nil, length-append}
-use Rattle.std.specs.Prelude.{slice_get, IfSome, bytes_eq, if◌then◌else◌, ◌||◌}
+use Rattle.std.proofs.Common.{◌≡◌, ℕ, zero, suc, ◌+◌, ◌-◌, ◌≤◌, ◌<◌, true, false, List, [], ◌∷◌, ◌++◌, length, take, Option, None, Some, refl, sym, ap, ◌∙◌, subst, arith, rules, get_or, set, append_assoc, append-nil, length-append}
+use Rattle.std.specs.Prelude.{slice_get, unwrap_or, IfSome, bytes_eq, if◌then◌else◌, ◌||◌}
 use Rattle.std.specs.List.{IsDistinct, list_any, swap_remove}
 use Rattle.std.specs.Option.{option_to_list}
 use Rattle.std.specs.Cmp.{IsEquivalence}
@@ -10,6 +10,7 @@ use Rattle.std.proofs.lemmas.List.{length-take-le}
 use Rattle.std.proofs.lemmas.List.Folds.{list_any-append}
 use Rattle.std.proofs.lemmas.Slice.Eq.{bytes_eq-Decides}
 use Rattle.indexmap.proofs.MapLemmas.{distinct-take}
+use Rattle.indexmap.proofs.SetLemmas.{set_all_distinct}
 use Rattle.indexmap.specs.IndexSet.{insert_key}
 use Rattle.px_spec.specs.Graphs.{is_seen}
 use Rattle.std.proofs.Math.Bool.{or-false, or-true}
@@ -99,6 +100,39 @@ is_put keys inserted final n t h l unseen is dropped kept =
       ahead = ap (λ k. slice_get k n) e ∙ ap (λ m. slice_get (take n keys ++ t ∷ []) m) (sym long) ∙ get_seam (take n keys) t;
       count = ap length e ∙ length-append (take n keys) (t ∷ []) ∙ ap (λ m. m + 1) long;
     }
+
+-- one more text of a list is put behind those that stand before it
+take_next : {X : Type 0} (xs : List X) (n : ℕ) (x : X) → slice_get xs n ≡ Some x → take (suc n) xs ≡ take n xs ++ x ∷ []
+take_next [] n x e = absurd (cc)
+take_next (y ∷ ys) zero x e = ap (λ o. unwrap_or o y ∷ []) e
+take_next (y ∷ ys) (suc n) x e = ap (λ r. y ∷ r) (take_next ys n x e)
+
+get_front : {X : Type 0} (xs : List X) (n shown : ℕ) (x : X) → n < shown → slice_get xs n ≡ Some x → slice_get (take shown xs) n ≡ Some x
+get_front xs n zero x h e = absurd (omega (arith, h))
+get_front [] n (suc shown) x h e = e
+get_front (y ∷ ys) zero (suc shown) x h e = e
+get_front (y ∷ ys) (suc n) (suc shown) x h e = get_front ys n shown x (omega (arith, h)) e
+
+pub put_next : (keys : List (List ℕ)) (shown n : ℕ) (t : List ℕ) → IsDistinct bytes_eq keys → n < shown → slice_get keys n ≡ Some t
+    → insert_key bytes_eq (take n (take shown keys)) t ≡ take (n + 1) (take shown keys)
+put_next keys shown n t once h e =
+    let texts = take shown keys in
+    let next = take_next texts n t (get_front keys n shown t h e) in
+    let more : suc n ≡ n + 1 = omega arith in
+    set_all_distinct bytes_laws (take n texts) (t ∷ []) (subst (IsDistinct bytes_eq) next (texts-distinct (suc n) texts (texts-distinct shown keys once)))
+    ∙ sym next
+    ∙ ap (λ m. take m texts) more
+
+-- all labels were put
+pub record AreAllPut (texts keys : List (List ℕ)) (shown : ℕ) : Type 0 where
+  pub count : length keys ≡ shown
+  pub same : keys ≡ texts
+
+pub all_put : (texts keys old : List (List ℕ)) (shown n : ℕ) → texts ≡ take shown old → shown ≤ length old → n ≡ shown → keys ≡ take n texts → AreAllPut texts keys shown
+all_put texts keys old shown n is h e put =
+    let long : length texts ≡ shown = ap length is ∙ length-take-le shown old h in
+    let same : keys ≡ texts = put ∙ ap (λ m. take m texts) (omega (arith, e, long)) ∙ take-length texts in
+    record { count = ap length same ∙ long; same = same }
 
 -- all the entries are labels
 pub all_shown : (keys : List (List ℕ)) (n : ℕ) → n ≤ length keys → length keys ≤ n + 1 → take (length keys) keys ≡ take n keys ++ option_to_list (slice_get keys n)

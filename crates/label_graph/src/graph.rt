@@ -208,7 +208,21 @@ impl Graph {
         })
     }
 
-    /// Makes room for a node with that label, in place of the room that there was. On want of memory
+    /// An equal graph with an equal table of labels, and no room. O(nodes + edges + the bytes of all labels), in time and in
+    /// memory.
+    pub fn copy(&self, alloc: Global) -> Result<Graph, Memory>
+        ensures { IfOk result (λ g. g ≡ record { graph = self.now.graph; room = no_room }) }
+    {
+        Ok(Graph {
+            labels: self.labels.copy(alloc)?,
+            nodes: self.nodes.copy(alloc)?,
+            node_count: self.node_count,
+            edge_count: self.edge_count,
+            room: Reserved::Nothing,
+        })
+    }
+
+    /// Makes room for a node with that label, in place of the room that there was. Where memory runs out
     /// that room stays.
     pub fn reserve_node(&mut self, alloc: Global, label: &Text) -> Result<(), Memory>
         ensures graph { self.new.graph ≡ self.old.graph }
@@ -221,8 +235,8 @@ impl Graph {
         Ok(())
     }
 
-    /// Makes room for an edge between live nodes, in place of the room that there was. On want of
-    /// memory that room stays.
+    /// Makes room for an edge between live nodes, in place of the room that there was. Where
+    /// memory runs out that room stays.
     pub fn reserve_edge(&mut self, u: NodeId, v: NodeId) -> Result<(), Memory>
         requires from { IsTrue (is_live self.old.graph u) }
         requires onto { IsTrue (is_live self.old.graph v) }

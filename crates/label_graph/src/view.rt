@@ -1,7 +1,8 @@
 // A graph as queries and indexes read it.
 ghost use Rattle.std.specs.Prelude.{◌≡◌, ◌≤◌, ◌^◌, length};
 ghost use Rattle.px_spec.specs.Graphs.{IsGraph};
-ghost use Rattle.label_graph.specs.Views.{edge_count};
+ghost use Rattle.px_spec.specs.Shapes.{shape_of, shape_by};
+ghost use Rattle.label_graph.specs.Views.{label_number, is_linked, edge_count};
 
 use crate::digraph::Digraph;
 use crate::graph::Graph;
@@ -32,19 +33,23 @@ impl<'a> GraphView<'a> {
     }
 
     /// How many node numbers were given, those of gone nodes too: at most 2^30.
+    #[tactic(auto, using(crate::proofs::Viewed::viewed_shape))]
     pub fn created(&self) -> u32
         ensures count { result ≡ length self.now.given }
         ensures few { result ≤ 2 ^ 30 }
         ensures graph { IsGraph self.now }
+        ensures shape { shape_by self.now.seen (length self.now.given) (label_number self.now) (is_linked self.now) ≡ shape_of self.now }
     {
         self.graph.created()
     }
 
     /// How many edges there are: at most 2^30.
+    #[tactic(auto, using(crate::proofs::Viewed::viewed_shape))]
     pub fn edge_count(&self) -> u32
         ensures count { result ≡ edge_count self.now }
         ensures few { result ≤ 2 ^ 30 }
         ensures graph { IsGraph self.now }
+        ensures shape { shape_by self.now.seen (length self.now.given) (label_number self.now) (is_linked self.now) ≡ shape_of self.now }
     {
         self.graph.edge_count()
     }
@@ -61,10 +66,12 @@ impl<'a> Digraph for GraphView<'a> {
 
     ghost edge = { is_linked };
 
+    #[tactic(auto, using(crate::proofs::Viewed::viewed_shape))]
     fn size(&self) -> u32
         ensures size { result ≡ length self.now.given }
         ensures few { result ≤ 2 ^ 30 }
         ensures graph { IsGraph self.now }
+        ensures shape { shape_by self.now.seen (length self.now.given) (label_number self.now) (is_linked self.now) ≡ shape_of self.now }
     {
         self.created()
     }
