@@ -40,50 +40,64 @@ fn make(
 fn pair(rt: &impl Abort, alloc: Global) -> Result<Graph, Fail> {
     let mut graph = Graph::new(alloc)?;
     let first = node(alloc, b"a")?;
-    assert_eq!(rt; make(alloc, &mut graph, &first, &TIGHT)?, Applied::Added(0));
-    assert_eq!(rt; make(alloc, &mut graph, &first, &TIGHT)?, Applied::Added(1));
-    assert_eq!(rt;
-        make(alloc, &mut graph, &Change::Link(0, 1), &TIGHT)?,
-        Applied::Done
-    );
+    assert!(rt; make(alloc, &mut graph, &first, &TIGHT)? == Applied::Added(0));
+    assert!(rt; make(alloc, &mut graph, &first, &TIGHT)? == Applied::Added(1));
+    assert!(rt; make(alloc, &mut graph, &Change::Link(0, 1), &TIGHT)? == Applied::Done);
     Ok(graph)
 }
 
+fn has_verdict(graph: &Graph, change: Change, verdict: Result<Verdict, Refusal>) -> bool {
+    judge(graph, &change, &TIGHT) == verdict
+}
+
+// Each limit is reached.
 #[test]
 fn verdicts_at_the_limits(rt: HostRuntime) -> Result<(), Fail> {
-    let alloc = rt.alloc();
-    let graph = pair(&rt, alloc)?;
-    for (change, verdict) in [
-        (node(alloc, b"a")?, Err(Refusal::Limit)),
-        (Change::Link(1, 0), Err(Refusal::Limit)),
-        (Change::Link(0, 1), Ok(Verdict::Same)),
-        (Change::Link(0, 5), Err(Refusal::NoNode)),
-        (Change::Unlink(1, 0), Err(Refusal::NoEdge)),
-        (Change::Drop(1), Err(Refusal::InUse)),
-    ] {
-        assert_eq!(rt; judge(&graph, &change, &TIGHT), verdict, "{change:?}");
-    }
+    let graph = pair(&rt, rt.alloc())?;
+    let third = node(rt.alloc(), b"a")?;
+    assert!(rt; has_verdict(&graph, third, Err(Refusal::Limit)));
+    assert!(rt; has_verdict(&graph, Change::Link(1, 0), Err(Refusal::Limit)));
+    assert!(rt; has_verdict(&graph, Change::Link(0, 1), Ok(Verdict::Same)));
+    assert!(rt; has_verdict(&graph, Change::Link(0, 5), Err(Refusal::NoNode)));
+    assert!(rt; has_verdict(&graph, Change::Unlink(1, 0), Err(Refusal::NoEdge)));
+    assert!(rt; has_verdict(&graph, Change::Drop(1), Err(Refusal::InUse)));
     Ok(())
 }
 
-// The neighbours that a node will have, and its label's number: parents, children and label.
-fn seen<L: Ledger>(
+fn listed(alloc: Global, items: Neighbours<'_>) -> Result<Vec<NodeId>, Fail> {
+    Ok(items.collect(alloc)?)
+}
+
+// Whether these are the items, in some order.
+fn are(items: &[NodeId], others: &[NodeId]) -> bool {
+    items.len() == others.len() && items.iter().all(|n| others.contains(n))
+}
+
+// Shows the neighbours that node 0 will have, and makes the change.
+fn show_and_make<L: Ledger>(
     rt: &impl Abort,
     alloc: Global,
-    graph: &Graph,
-    change: &Change,
-    n: NodeId,
+    graph: &mut Graph,
+    change: Change,
+    neighbours: (&[NodeId], &[NodeId]),
     steps: &mut Steps<L>,
-) -> Result<(Vec<NodeId>, Vec<NodeId>, u32), Fail> {
-    let Ok(Verdict::New) = judge(graph, change, &Limits::program()) else {
+) -> Result<(), Fail> {
+    let Ok(Verdict::New) = judge(graph, &change, &Limits::program()) else {
         return Err("not new".into());
     };
-    let after = After::new(graph, change);
-    assert!(rt; after.is_live(n));
-    assert!(rt; !after.is_live(after.created()));
-    let parents = after.parents(n, steps).collect(alloc)?;
-    let children = after.children(n, steps).collect(alloc)?;
-    Ok((parents, children, after.label(n)))
+    let after = After::new(graph, &change);
+    let (parents, children) = neighbours;
+    assert!(rt; after.is_live(0) && !after.is_live(after.created()));
+    assert!(rt;
+        are(&listed(alloc, after.parents(0, steps))?, parents),
+        "{change:?}"
+    );
+    assert!(rt;
+        are(&listed(alloc, after.children(0, steps))?, children),
+        "{change:?}"
+    );
+    make(alloc, graph, &change, &Limits::program())?;
+    Ok(())
 }
 
 fn check_shown<L: Ledger>(rt: &impl Abort, alloc: Global, blank: Blank) -> Result<(), Fail>
@@ -93,38 +107,67 @@ fn check_shown<L: Ledger>(rt: &impl Abort, alloc: Global, blank: Blank) -> Resul
 {
     let mut steps = Steps::<L>::new(blank);
     let mut graph = pair(rt, alloc)?;
-    for (change, n, parents, children, label, applied) in [
-        (
-            Change::Link(1, 0),
-            0,
-            [1].as_slice(),
-            [1].as_slice(),
-            0,
-            Applied::Done,
-        ),
-        (Change::Link(0, 0), 0, &[0, 1], &[0, 1], 0, Applied::Done),
-        (Change::Unlink(0, 1), 0, &[0, 1], &[0], 0, Applied::Done),
-        (node(alloc, b"b")?, 2, &[], &[], 1, Applied::Added(2)),
-        (Change::Unlink(1, 0), 0, &[0], &[0], 0, Applied::Done),
-        (Change::Drop(1), 2, &[], &[], 1, Applied::Done),
-    ] {
-        let (mut above, mut below, number) = seen(rt, alloc, &graph, &change, n, &mut steps)?;
-        above.sort()?;
-        below.sort()?;
-        assert_eq!(rt; above.as_slice(), parents, "{change:?}");
-        assert_eq!(rt; below.as_slice(), children, "{change:?}");
-        assert_eq!(rt; number, label, "{change:?}");
-        assert_eq!(rt;
-            make(alloc, &mut graph, &change, &Limits::program())?,
-            applied
-        );
-    }
-    assert_eq!(rt; graph.edge_count(), 1);
-    assert!(rt; !graph.is_live(1));
+    show_and_make(
+        rt,
+        alloc,
+        &mut graph,
+        Change::Link(1, 0),
+        (&[1], &[1]),
+        &mut steps,
+    )?;
+    show_and_make(
+        rt,
+        alloc,
+        &mut graph,
+        Change::Link(0, 0),
+        (&[0, 1], &[0, 1]),
+        &mut steps,
+    )?;
+    show_and_make(
+        rt,
+        alloc,
+        &mut graph,
+        Change::Unlink(0, 1),
+        (&[0, 1], &[0]),
+        &mut steps,
+    )?;
+    show_and_make(
+        rt,
+        alloc,
+        &mut graph,
+        Change::Unlink(1, 0),
+        (&[0], &[0]),
+        &mut steps,
+    )?;
+    show_and_make(
+        rt,
+        alloc,
+        &mut graph,
+        Change::Drop(1),
+        (&[0], &[0]),
+        &mut steps,
+    )?;
+    assert!(rt; graph.edge_count() == 1 && !graph.is_live(1));
     Ok(())
 }
 
 #[test]
 fn changes_are_shown_and_made(rt: HostRuntime) -> Result<(), Fail> {
     check_shown::<Brand>(&rt, rt.alloc(), Blank::new(1))
+}
+
+// A new node has the next number, and a label that wasn't seen the next number of a label.
+#[test]
+fn a_new_node_is_shown(rt: HostRuntime) -> Result<(), Fail> {
+    let alloc = rt.alloc();
+    let mut graph = pair(&rt, alloc)?;
+    let change = node(alloc, b"b")?;
+    let Ok(Verdict::New) = judge(&graph, &change, &Limits::program()) else {
+        return Err("not new".into());
+    };
+    let after = After::new(&graph, &change);
+    assert!(rt; after.is_live(2));
+    assert!(rt; after.label(2) == 1);
+    assert!(rt; make(alloc, &mut graph, &change, &Limits::program())? == Applied::Added(2));
+    Ok(())
 }

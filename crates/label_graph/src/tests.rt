@@ -11,14 +11,17 @@ use std::test::Fail;
 
 const MOST: u32 = 1 << 30;
 
+// The labels of six nodes, a byte each, and their edges.
+const LABELS: &[u8] = b"abacaa";
+
+const EDGES: &[(NodeId, NodeId)] = &[(0, 1), (0, 2), (0, 3), (0, 4), (0, 5), (2, 1), (3, 3)];
+
 // Adds a node with that label.
-fn put_node(alloc: Global, graph: &mut Graph, label: &[u8]) -> Result<NodeId, Fail> {
-    let label = Text::from_bytes(alloc, label)?;
-    if graph.created() >= MOST {
-        return Err("too many nodes".into());
-    }
-    graph.reserve_node(alloc, &label)?;
-    Ok(graph.add_node())
+fn put_node(rt: &impl Abort, alloc: Global, graph: &mut Graph, label: u8) -> Result<(), Fail> {
+    assert!(rt; graph.created() < MOST);
+    graph.reserve_node(alloc, &Text::from_bytes(alloc, &[label])?)?;
+    graph.add_node();
+    Ok(())
 }
 
 // Adds an edge between live nodes that isn't there yet.
@@ -57,39 +60,51 @@ fn totals<G: Digraph>(graph: &G, label: u32) -> (usize, usize, u32) {
 
 fn small<L: Ledger>(rt: &impl Abort, alloc: Global, steps: &mut Steps<L>) -> Result<Graph, Fail> {
     let mut graph = Graph::new(alloc)?;
-    for label in [b"a", b"b", b"a", b"c", b"a", b"a"] {
-        put_node(alloc, &mut graph, label.as_slice())?;
+    for label in LABELS {
+        put_node(rt, alloc, &mut graph, *label)?;
     }
-    for (u, v) in [(0, 1), (0, 2), (0, 3), (0, 4), (0, 5), (2, 1), (3, 3)] {
-        put_edge(rt, &mut graph, u, v, steps)?;
+    for (u, v) in EDGES {
+        put_edge(rt, &mut graph, *u, *v, steps)?;
     }
     Ok(graph)
 }
 
-fn check_edges<L: Ledger>(rt: &impl Abort, graph: &Graph, steps: &mut Steps<L>) {
-    for (u, v, there) in [
-        (0, 1, true),
-        (2, 1, true),
-        (3, 3, true),
-        (0, 0, false),
-        (3, 1, false),
-        (1, 0, false),
-        (9, 0, false),
-        (0, 9, false),
-    ] {
-        assert_eq!(rt; graph.has_edge(u, v, steps), there, "from {u} to {v}");
+// Pairs of numbers, and whether an edge leads from the first to the second.
+const PAIRS: &[(NodeId, NodeId, bool)] = &[
+    (0, 1, true),
+    (2, 1, true),
+    (3, 3, true),
+    (0, 0, false),
+    (3, 1, false),
+    (1, 0, false),
+    (9, 0, false),
+    (0, 9, false),
+];
+
+fn check_pairs<L: Ledger>(rt: &impl Abort, graph: &Graph, steps: &mut Steps<L>) {
+    for (u, v, there) in PAIRS {
+        assert!(rt; graph.has_edge(*u, *v, steps) == *there, "from {u} to {v}");
     }
 }
 
-fn check_lists<L: Ledger>(rt: &impl Abort, graph: &Graph, steps: &mut Steps<L>) {
-    let children = graph.children(0, steps);
-    assert_eq!(rt; children.len(), 5);
-    assert!(rt; (1..6).all(|n| children.contains(&n)));
-    let parents = graph.parents(1, steps);
-    assert_eq!(rt; parents.len(), 2);
-    assert!(rt; parents.contains(&0) && parents.contains(&2));
-    assert!(rt; graph.is_live(3));
-    assert_eq!(rt; graph.label(3), 2);
+// Whether these are the items, in some order.
+fn are(items: &[NodeId], others: &[NodeId]) -> bool {
+    items.len() == others.len() && items.iter().all(|n| others.contains(n))
+}
+
+fn check_neighbours<L: Ledger>(rt: &impl Abort, graph: &Graph, steps: &mut Steps<L>) {
+    assert!(rt; are(graph.children(0, steps), &[1, 2, 3, 4, 5]));
+    assert!(rt; are(graph.parents(1, steps), &[0, 2]));
+    assert!(rt; are(graph.parents(9, steps), &[]));
+}
+
+// A graph with the nodes and edges of the small one.
+fn check_small<L: Ledger>(rt: &impl Abort, graph: &Graph, steps: &mut Steps<L>) {
+    assert!(rt; graph.created() == 6 && graph.node_count() == 6 && graph.edge_count() == 7);
+    assert!(rt; !graph.is_live(6));
+    check_pairs(rt, graph, steps);
+    check_neighbours(rt, graph, steps);
+    assert!(rt; totals(&graph.view(steps), 0) == (7, 7, 4));
 }
 
 fn read_small_graph<L: Ledger>(rt: &impl Abort, alloc: Global, blank: Blank) -> Result<(), Fail>
@@ -99,14 +114,10 @@ fn read_small_graph<L: Ledger>(rt: &impl Abort, alloc: Global, blank: Blank) -> 
 {
     let mut steps = Steps::<L>::new(blank);
     let graph = small(rt, alloc, &mut steps)?;
-    assert_eq!(rt; graph.created(), 6);
-    assert_eq!(rt; graph.node_count(), 6);
-    assert_eq!(rt; graph.edge_count(), 7);
-    assert!(rt; !graph.is_live(6));
-    check_edges(rt, &graph, &mut steps);
-    check_lists(rt, &graph, &mut steps);
-    assert_eq!(rt; graph.parents(9, &mut steps).len(), 0);
-    assert_eq!(rt; totals(&graph.view(&mut steps), 0), (7, 7, 4));
+    check_small(rt, &graph, &mut steps);
+    assert!(rt; graph.is_live(3));
+    assert!(rt; graph.label(3) == 2);
+    check_small(rt, &graph.copy(alloc)?, &mut steps);
     Ok(())
 }
 
@@ -142,32 +153,42 @@ fn take_loop<L: Ledger>(rt: &impl Abort, graph: &mut Graph, steps: &mut Steps<L>
     assert!(rt; !graph.is_isolated(3, steps));
     take_edge(rt, graph, 0, 3, steps);
     take_node(rt, graph, 3, steps);
-    assert_eq!(rt; graph.created(), 6);
-    assert_eq!(rt; graph.node_count(), 5);
-    assert_eq!(rt; graph.edge_count(), 5);
-    let children = graph.children(0, steps);
-    assert_eq!(rt; children.len(), 4);
-    assert!(rt; [1, 2, 4, 5].iter().all(|n| children.contains(n)));
-    assert!(rt;
-        graph
-            .any_child(0, steps)
-            .is_some_and(|n| children.contains(&n))
-    );
-    assert_eq!(rt; graph.any_parent(0, steps), None);
+    assert!(rt; graph.created() == 6 && graph.node_count() == 5 && graph.edge_count() == 5);
+    assert!(rt; are(graph.children(0, steps), &[1, 2, 4, 5]));
+}
+
+// Some neighbour of a node, where it has any.
+fn check_any<L: Ledger>(rt: &impl Abort, graph: &Graph, steps: &mut Steps<L>) {
+    assert!(rt; graph.any_child(2, steps) == Some(1));
+    assert!(rt; graph.any_parent(2, steps) == Some(0));
+    assert!(rt; graph.any_parent(0, steps).is_none());
 }
 
 // The edges of the hub go, and then the hub. Node 2 keeps its child.
 fn take_hub<L: Ledger>(rt: &impl Abort, graph: &mut Graph, steps: &mut Steps<L>) {
-    for child in [4, 1, 5, 2] {
-        take_edge(rt, graph, 0, child, steps);
+    for child in &[4, 1, 5, 2] {
+        take_edge(rt, graph, 0, *child, steps);
     }
     take_node(rt, graph, 0, steps);
-    assert_eq!(rt; graph.node_count(), 4);
-    assert_eq!(rt; graph.edge_count(), 1);
-    let parents = graph.parents(1, steps);
-    assert_eq!(rt; parents.len(), 1);
-    assert!(rt; parents.contains(&2));
-    assert_eq!(rt; totals(&graph.view(steps), 0), (1, 1, 3));
+    assert!(rt; graph.node_count() == 4 && graph.edge_count() == 1);
+    assert!(rt; are(graph.parents(1, steps), &[2]));
+    assert!(rt; totals(&graph.view(steps), 0) == (1, 1, 3));
+}
+
+// The label of the gone node 3 is still number 2, and the number 3 is not given again.
+fn put_again<L: Ledger>(
+    rt: &impl Abort,
+    alloc: Global,
+    graph: &mut Graph,
+    steps: &mut Steps<L>,
+) -> Result<(), Fail> {
+    assert!(rt; graph.labels().len() == 3);
+    put_node(rt, alloc, graph, b'c')?;
+    assert!(rt; graph.is_live(6) && !graph.is_live(3));
+    assert!(rt; graph.label(6) == 2);
+    put_edge(rt, graph, 6, 6, steps)?;
+    assert!(rt; graph.edge_count() == 2);
+    Ok(())
 }
 
 fn take_apart<L: Ledger>(rt: &impl Abort, alloc: Global, blank: Blank) -> Result<(), Fail>
@@ -178,15 +199,12 @@ fn take_apart<L: Ledger>(rt: &impl Abort, alloc: Global, blank: Blank) -> Result
     let mut steps = Steps::<L>::new(blank);
     let mut graph = small(rt, alloc, &mut steps)?;
     take_loop(rt, &mut graph, &mut steps);
+    check_any(rt, &graph, &mut steps);
     take_hub(rt, &mut graph, &mut steps);
-    // The label of the gone node 3 is still number 2, and the number 3 is not given again.
-    assert_eq!(rt; graph.labels().len(), 3);
-    assert_eq!(rt; put_node(alloc, &mut graph, b"c")?, 6);
-    assert!(rt; graph.is_live(6));
-    assert_eq!(rt; graph.label(6), 2);
-    assert!(rt; !graph.is_live(3));
-    put_edge(rt, &mut graph, 6, 6, &mut steps)?;
-    assert_eq!(rt; graph.edge_count(), 2);
+    put_again(rt, alloc, &mut graph, &mut steps)?;
+    // A copy has the gone nodes and the labels too.
+    let copy = graph.copy(alloc)?;
+    assert!(rt; copy.created() == 7 && copy.node_count() == 5 && copy.labels().len() == 3);
     Ok(())
 }
 
@@ -195,6 +213,7 @@ fn removals(rt: HostRuntime) -> Result<(), Fail> {
     take_apart::<Brand>(&rt, rt.alloc(), Blank::new(1))
 }
 
+// Of two rooms the last one counts, and its label is no label before the node is added.
 #[test]
 fn last_room_counts(rt: HostRuntime) -> Result<(), Fail> {
     let alloc = rt.alloc();
@@ -203,13 +222,9 @@ fn last_room_counts(rt: HostRuntime) -> Result<(), Fail> {
     let second = Text::from_bytes(alloc, b"second")?;
     graph.reserve_node(alloc, &first)?;
     graph.reserve_node(alloc, &second)?;
-    assert_eq!(rt; graph.labels().len(), 0);
-    assert_eq!(rt; graph.labels().find(&second), None);
-    assert_eq!(rt; graph.created(), 0);
-    assert_eq!(rt; graph.add_node(), 0);
-    assert_eq!(rt; graph.labels().len(), 1);
-    assert_eq!(rt; graph.labels().find(&first), None);
-    assert_eq!(rt; graph.labels().find(&second), Some(0));
-    assert_eq!(rt; graph.labels().text(0).as_bytes(), b"second".as_slice());
+    assert!(rt; graph.labels().len() == 0 && graph.labels().find(&second).is_none());
+    graph.add_node();
+    assert!(rt; graph.labels().len() == 1 && graph.labels().find(&first).is_none());
+    assert!(rt; graph.labels().find(&second) == Some(0));
     Ok(())
 }
