@@ -23,7 +23,7 @@ abbrev pub is_no_fault : Kinds → Bool
 is_no_fault [] = true
 is_no_fault (k ∷ ks) = false
 
--- clap takes the words, unless memory is wanting
+-- clap takes the words, unless memory runs out
 abbrev pub is_accepted : List (List ℕ) → Bool
 is_accepted words = is_no_fault (fault_of command words)
 

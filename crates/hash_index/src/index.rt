@@ -105,7 +105,7 @@ impl<T: Copy> HashIndex<T> {
         along(&self.slots, n + 1, hash)
     }
 
-    /// Puts an item behind the others, and gives its number. `Memory` comes where memory is wanting or there are 2^31 - 1
+    /// Puts an item behind the others, and gives its number. `Memory` comes where memory runs out or there are 2^31 - 1
     /// items, and leaves the items. O(1), spread over all that are put in.
     pub fn push(&mut self, hash: u32, item: T) -> Result<u32, Memory>
         ensures number { IfOk result (λ n. n ≡ length self.old.items) }

@@ -73,7 +73,7 @@ impl KeyTable {
     }
 
     /// The number of a key, which is put behind the others where it is new. `Memory` comes where memory
-    /// is wanting or the table is full, and leaves the keys.
+    /// runs out or the table is full, and leaves the keys.
     pub fn intern(&mut self, key: &[u32]) -> Result<u32, Memory>
         ensures ok { IfOk result (λ i. Interns self.old self.new key.now i) }
         ensures distinct { AreDistinct self.new }

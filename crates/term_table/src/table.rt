@@ -122,8 +122,8 @@ impl TermTable {
         at_place(&self.arena, &self.index, place, &term.parts())
     }
 
-    /// Puts a term that isn't there behind the others, and gives its place. `Memory` comes where memory is wanting or the table is
-    /// full, and leaves the terms. It takes the time of copying its texts, and O(1), spread over all that are put in.
+    /// Puts a term that isn't there behind the others, and gives its place. `Memory` comes where memory runs out or the table is full,
+    /// and leaves the terms. It takes the time of copying its texts, and O(1), spread over all that are put in.
     pub fn insert(&mut self, term: &HashedTerm, number: NodeId) -> Result<u32, Memory>
         requires absent { number_of self.old term.now ≡ None }
         ensures added { OnOk result (self.new ≡ self.old ++ (term.now, number) ∷ []) }
