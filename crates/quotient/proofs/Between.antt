@@ -11,9 +11,10 @@ use Rattle.label_graph.specs.Views.{is_linked}
 use Rattle.label_graph.proofs.Viewed.{linked_is}
 use Rattle.px_spec.specs.Members.{has, Lists}
 use Rattle.bisim_spec.specs.Supports.{joins, edges_between}
+use Rattle.bisim_spec.specs.Touching.{edges_from}
 use Rattle.bisim_spec.proofs.EdgeSets.{eq, kept, same_len, kept_len, len_more}
 use Rattle.bisim_spec.proofs.Moves.{from_has, from_distinct}
-use Rattle.quotient.specs.Joined.{pairs_of, pairs_between, edges_below}
+use Rattle.quotient.specs.Joined.{pairs_between, edges_below}
 
 -- a node is at no place before its own
 at_own : (c t : Bool) (m n : ℕ) (x : Bool) → (nat_eq m n && x) ≡ true → (c && (nat_lt m n && t)) ≡ false
@@ -43,13 +44,13 @@ below_step edges block n x y cs l =
     let j = joins block x y in
     let before : ℕ × ℕ → Bool = λ e. nat_lt e.0 n && j e in
     let after : ℕ × ℕ → Bool = λ e. nat_lt e.0 (suc n) && j e in
-    len_more j (set.retain edges before) (pairs_of n cs) (from_distinct n cs l.once)
+    len_more j (set.retain edges before) (edges_from n cs) (from_distinct n cs l.once)
     (λ k h g. kept edges before k ∙ at_own (set.contains edges k) (j k) k.0 n (has cs k.1) (sym (from_has k.0 k.1 n cs) ∙ h))
     (set.retain edges after)
     (λ k. kept edges after k
     ∙ next_or (set.contains edges k) (j k) (has cs k.1) k.0 n (λ e. l.members k.1 ∙ ap (λ m. set.contains edges (m, k.1)) (sym e))
     ∙ ap (λ b. (b && j k) || (set.contains edges k && before k)) (sym (from_has k.0 k.1 n cs))
-    ∙ ap (λ b. (list_any (eq k) (pairs_of n cs) && j k) || b) (sym (kept edges before k)))
+    ∙ ap (λ b. (list_any (eq k) (edges_from n cs) && j k) || b) (sym (kept edges before k)))
 
 -- the edges before the first node
 pub below_zero : (edges : Edges) (block : List (Option ℕ)) (x y : ℕ) → edges_below edges block 0 x y ≡ 0

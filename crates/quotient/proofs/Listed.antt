@@ -13,7 +13,8 @@ use Rattle.label_graph.specs.Views.{label_number}
 use Rattle.label_graph.specs.ViewLaws.{ends_seen}
 use Rattle.label_graph.proofs.Viewed.{linked_is}
 use Rattle.bisim_spec.specs.Supports.{joins, support}
-use Rattle.quotient.specs.Joined.{AreListed, AreListedBelow, AreFew, pairs_of, pairs_between, one_if}
+use Rattle.bisim_spec.specs.Touching.{edges_from}
+use Rattle.quotient.specs.Joined.{AreListed, AreListedBelow, AreFew, pairs_between, one_if}
 use Rattle.quotient.proofs.Between.{below_zero, below_step, below_all, below_most}
 use Rattle.bisim_spec.proofs.Moves.{block_get}
 
@@ -24,14 +25,14 @@ listed_none edges list none = record {
 }
 
 -- the edges of one node more
-pub listed_more : (edges : Edges) (n : ℕ) (cs : List ℕ) (old new : List (ℕ × ℕ)) → Lists (λ v. set.contains edges (n, v)) cs → AreListedBelow edges n old → new ≡ old ++ pairs_of n cs
+pub listed_more : (edges : Edges) (n : ℕ) (cs : List ℕ) (old new : List (ℕ × ℕ)) → Lists (λ v. set.contains edges (n, v)) cs → AreListedBelow edges n old → new ≡ old ++ edges_from n cs
     → AreListedBelow edges (suc n) new
 listed_more edges n cs old new l before added = record {
   same = λ block x y.
       let step = below_step edges block n x y cs l in
       let is = before.same block x y in
       let parts : support new block x y ≡ support old block x y + pairs_between block n cs x y =
-      ap (λ (es : List (ℕ × ℕ)). support es block x y) added ∙ sum_by-append (λ (e : ℕ × ℕ). cond (joins block x y e) 1 0) old (pairs_of n cs) in
+      ap (λ (es : List (ℕ × ℕ)). support es block x y) added ∙ sum_by-append (λ (e : ℕ × ℕ). cond (joins block x y e) 1 0) old (edges_from n cs) in
       omega (arith, step, is, parts);
 }
 

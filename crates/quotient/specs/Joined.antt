@@ -1,11 +1,12 @@
 -- The lists of neighbours of blocks.
-use Rattle.std.specs.Prelude.{◌≡◌, ◌≢◌, ℕ, ◌+◌, ◌<◌, ◌≤◌, ◌^◌, ◌&&◌, Bool, List, [], Option, Some, IsSome, length, cond, map, nat_eq, nat_lt, slice_get, slice_index_or, count_by}
+use Rattle.std.specs.Prelude.{◌≡◌, ◌≢◌, ℕ, ◌+◌, ◌<◌, ◌≤◌, ◌^◌, ◌&&◌, Bool, List, [], Option, Some, IsSome, length, cond, nat_eq, nat_lt, slice_get, slice_index_or, count_by}
 use Rattle.std.specs.FinMap as table
 use Rattle.std.specs.FinSet as set
 use Rattle.px_spec.specs.Graphs.{Edges}
 use Rattle.px_spec.specs.Members.{Lists, at}
 use Rattle.block_partition.specs.Partitions.{Partition}
 use Rattle.bisim_spec.specs.Supports.{joins, support, edges_between}
+use Rattle.bisim_spec.specs.Touching.{edges_from}
 use Rattle.bisim_spec.specs.Views.{SupportTable, support_at}
 
 -- the list with this number, and an empty one past the end
@@ -27,13 +28,9 @@ with_one_more t a b = table.insert t (a, b) (support_at t a b + 1)
 abbrev pub one_if : Bool → ℕ
 one_if b = cond b 1 0
 
--- the edges from n to each of these
-abbrev pub pairs_of : ℕ → List ℕ → List (ℕ × ℕ)
-pairs_of n children = map (λ c. (n, c)) children
-
 -- how many of the edges from n to each of these lead from x to y
 abbrev pub pairs_between : List (Option ℕ) → ℕ → List ℕ → ℕ → ℕ → ℕ
-pairs_between block n children x y = count_by (joins block x y) (pairs_of n children)
+pairs_between block n children x y = count_by (joins block x y) (edges_from n children)
 
 -- how many of the pairs of blocks are x and y
 abbrev pub pairs_with : List (ℕ × ℕ) → ℕ → ℕ → ℕ

@@ -1,7 +1,8 @@
 // The edges of a graph, in a list.
 ghost use Rattle.std.specs.Prelude.{◌≡◌, ◌++◌, suc, IfOk, OnOk};
 ghost use Rattle.px_spec.specs.Graphs.{IsGraph};
-ghost use Rattle.quotient.specs.Joined.{AreListed, AreListedBelow, AreFew, pairs_of};
+ghost use Rattle.bisim_spec.specs.Touching.{edges_from};
+ghost use Rattle.quotient.specs.Joined.{AreListed, AreListedBelow, AreFew};
 
 use label_graph::{Digraph, GraphView};
 use px_base::{Memory, NodeId};
@@ -57,7 +58,7 @@ fn list_children(
     n: NodeId,
     children: &[NodeId],
 ) -> Result<(), Memory>
-    ensures { OnOk result (edges.new.items ≡ edges.old.items ++ pairs_of n children.now) }
+    ensures { OnOk result (edges.new.items ≡ edges.old.items ++ edges_from n children.now) }
 {
     for child in children {
         edges.push((n, *child))?;
