@@ -1,6 +1,5 @@
 // Each public call once, on a small graph.
-ghost use Rattle.std.specs.Prelude.{◌≡◌, ◌<◌, ◌≤◌, ◌+◌, IsSome, length};
-ghost use Rattle.px_spec.specs.Members.{at};
+ghost use Rattle.std.specs.Prelude.{◌≡◌, ◌<◌, ◌≤◌, ◌+◌, length};
 
 use super::*;
 use block_partition::Blocks;
@@ -14,13 +13,15 @@ use std::test::Fail;
 
 const MOST: u32 = 1 << 30;
 
+// The labels of a root, of two nodes below it, and of three below these, a byte each.
+const LABELS: &[u8] = b"raabbc";
+
+const EDGES: &[(NodeId, NodeId)] = &[(0, 1), (0, 2), (1, 3), (1, 4), (2, 4), (2, 5), (5, 5)];
+
 // Adds a node with that label.
-fn put_node(alloc: Global, graph: &mut Graph, label: &[u8]) -> Result<(), Fail> {
-    let label = Text::from_bytes(alloc, label)?;
-    if graph.created() >= MOST {
-        return Err("too many nodes".into());
-    }
-    graph.reserve_node(alloc, &label)?;
+fn put_node(rt: &impl Abort, alloc: Global, graph: &mut Graph, label: u8) -> Result<(), Fail> {
+    assert!(rt; graph.created() < MOST);
+    graph.reserve_node(alloc, &Text::from_bytes(alloc, &[label])?)?;
     graph.add_node();
     Ok(())
 }
@@ -42,14 +43,13 @@ fn put_edge<L: Ledger>(
     Ok(())
 }
 
-// A root, two nodes below it, and three below these.
 fn tree<L: Ledger>(rt: &impl Abort, alloc: Global, steps: &mut Steps<L>) -> Result<Graph, Fail> {
     let mut graph = Graph::new(alloc)?;
-    for label in [b"r", b"a", b"a", b"b", b"b", b"c"] {
-        put_node(alloc, &mut graph, label.as_slice())?;
+    for label in LABELS {
+        put_node(rt, alloc, &mut graph, *label)?;
     }
-    for (u, v) in [(0, 1), (0, 2), (1, 3), (1, 4), (2, 4), (2, 5), (5, 5)] {
-        put_edge(rt, &mut graph, u, v, steps)?;
+    for (u, v) in EDGES {
+        put_edge(rt, &mut graph, *u, *v, steps)?;
     }
     Ok(graph)
 }
@@ -81,42 +81,48 @@ fn by_label(rt: &impl Abort, alloc: Global) -> Result<Blocks, Fail> {
 }
 
 // How many edges lead from one block to another.
+const SUPPORTS: &[(u32, u32, u32)] = &[
+    (0, 1, 2),
+    (1, 2, 3),
+    (1, 3, 1),
+    (3, 3, 1),
+    (2, 1, 0),
+    (0, 0, 0),
+    (0, 9, 0),
+];
+
 fn check_supports(rt: &impl Abort, summary: &Summary) {
-    for (a, b, count) in [
-        (0, 1, 2),
-        (1, 2, 3),
-        (1, 3, 1),
-        (3, 3, 1),
-        (2, 1, 0),
-        (0, 0, 0),
-        (0, 9, 0),
-    ] {
-        assert_eq!(rt; summary.support(a, b), count, "from {a} to {b}");
+    for (a, b, count) in SUPPORTS {
+        assert!(rt; summary.support(*a, *b) == *count, "from {a} to {b}");
     }
 }
 
-fn extent_len(summary: &Summary, b: u32) -> usize
-    requires { IsSome (at summary.now.blocks.labels b) }
-{
-    let mut len = 0usize;
-    for _ in summary.extent(b) {
-        len = len.saturating_add(1);
+// Whether the members of a node's block are these, in some order.
+fn has_members(summary: &Summary, n: NodeId, nodes: &[NodeId]) -> bool {
+    let Some(b) = summary.block_of(n) else {
+        return false;
+    };
+    let mut left = nodes.len();
+    for m in summary.extent(b) {
+        if left == 0 || !nodes.contains(&m) {
+            return false;
+        }
+        left -= 1;
     }
-    len
+    left == 0
 }
 
 fn check_blocks(rt: &impl Abort, summary: &Summary) {
-    assert_eq!(rt;
-        (summary.numbers(), summary.blocks(), summary.pairs()),
-        (6, 4, 4)
-    );
+    assert_eq!(rt; summary.numbers(), 6);
+    assert_eq!(rt; summary.blocks(), 4);
+    assert_eq!(rt; summary.pairs(), 4);
     assert_eq!(rt; (summary.block_of(4), summary.block_of(6)), (Some(2), None));
-    let Some(b) = summary.block_of(3) else {
-        panic!(rt; "node 3 has no block")
-    };
-    let members = [3, 4];
-    assert!(rt; summary.extent(b).all(|n| members.contains(&n)));
-    assert_eq!(rt; extent_len(summary, b), 2);
+    assert!(rt; has_members(summary, 3, &[3, 4]));
+}
+
+// Whether a list has these two and no others.
+fn is_pair(list: &[u32], first: u32, second: u32) -> bool {
+    list.len() == 2 && list.contains(&first) && list.contains(&second)
 }
 
 // The index graph of the blocks.
@@ -125,13 +131,9 @@ fn check_graph(rt: &impl Abort, summary: &Summary) {
     assert!(rt; !summary.is_node(4));
     assert!(rt; summary.is_node(1));
     assert_eq!(rt; summary.label(1), 1);
-    let children = summary.children(1);
-    assert_eq!(rt; children.len(), 2);
-    assert!(rt; children.contains(&2) && children.contains(&3));
+    assert!(rt; is_pair(summary.children(1), 2, 3));
     assert!(rt; summary.is_node(3));
-    let parents = summary.parents(3);
-    assert_eq!(rt; parents.len(), 2);
-    assert!(rt; parents.contains(&1) && parents.contains(&3));
+    assert!(rt; is_pair(summary.parents(3), 1, 3));
 }
 
 // From a list of the edges the same supports come.
