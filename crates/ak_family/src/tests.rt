@@ -72,35 +72,78 @@ fn is_bisimilar(
     Ok(family.same(i, u, v))
 }
 
-// The nodes' blocks at the greatest level are these.
-fn check_blocks(rt: &impl Abort, family: &AkFamily, blocks: &[u32]) {
+// Whether the nodes' blocks at the greatest level are these.
+fn has_blocks(family: &AkFamily, blocks: &[u32]) -> bool {
     let top = family.level(family.k());
-    assert_eq!(rt; top.numbers() as usize, blocks.len());
-    for n in 0..top.numbers() {
-        assert_eq!(rt; top.block_of(n), blocks.get(n as usize).copied(), "{n}");
+    if top.numbers() as usize != blocks.len() {
+        return false;
     }
+    for n in 0..top.numbers() {
+        if top.block_of(n) != Some(blocks[n as usize]) {
+            return false;
+        }
+    }
+    true
 }
 
-// Two chains a, b, c, and an x, which may stand in front of the second one.
+// Whether these are the nodes' blocks in the A(2)-index.
+fn are_blocks(alloc: Global, view: &GraphView<'_>, blocks: &[u32]) -> Result<bool, Memory> {
+    Ok(has_blocks(&AkFamily::build(alloc, view, 2)?, blocks))
+}
+
+// Two chains a, b, c.
+const CHAINS: &[(NodeId, NodeId)] = &[(0, 1), (1, 2), (3, 4), (4, 5)];
+
+// The blocks of the nodes while the x stands alone, and once an edge leads from it to the second chain.
+const APART: &[u32] = &[0, 1, 2, 0, 1, 2, 3];
+
+const LINKED: &[u32] = &[0, 1, 2, 3, 4, 2, 5];
+
+// Two chains, and an x, which may stand in front of the second one.
 fn check_chains<L: Ledger>(rt: &impl Abort, alloc: Global, blank: Blank) -> Result<(), Fail>
     requires name { blank.name ≡ L.name }
     requires parts { blank.parts ≡ L.parts }
     requires some { 0 < blank.parts }
 {
     let mut steps = Steps::<L>::new(blank);
-    let edges = [(0, 1), (1, 2), (3, 4), (4, 5)];
-    let mut chains = drawn(rt, alloc, b"abcabcx", &edges, &mut steps)?;
-    let apart = AkFamily::build(alloc, &chains.view(&mut steps), 2)?;
-    check_blocks(rt, &apart, &[0, 1, 2, 0, 1, 2, 3]);
+    let mut chains = drawn(rt, alloc, b"abcabcx", CHAINS, &mut steps)?;
+    let apart = are_blocks(alloc, &chains.view(&mut steps), APART)?;
     put_edge(rt, &mut chains, 6, 3, &mut steps)?;
-    let linked = AkFamily::build(alloc, &chains.view(&mut steps), 2)?;
-    check_blocks(rt, &linked, &[0, 1, 2, 3, 4, 2, 5]);
+    let linked = are_blocks(alloc, &chains.view(&mut steps), LINKED)?;
+    assert!(rt; apart && linked);
     Ok(())
 }
 
 #[test]
 fn link_parts_chains(rt: HostRuntime) -> Result<(), Fail> {
     check_chains::<Brand>(&rt, rt.alloc(), Blank::new(1))
+}
+
+// Whether the greatest level is 1, and there the block has this key.
+fn has_key(family: &AkFamily, b: u32, key: &[u32]) -> bool {
+    if family.k() != 1 {
+        return false;
+    }
+    match family.find(1, key) {
+        Some(found) => found == b && family.key(1, found) == key,
+        None => false,
+    }
+}
+
+fn check_keys(rt: &impl Abort, family: &AkFamily) {
+    assert!(rt; has_key(family, 1, &[1, 0]));
+    assert_eq!(rt; family.k(), 1);
+    assert_eq!(rt; family.find(0, &[1]), Some(1));
+    assert_eq!(rt; family.find(1, &[1, 1]), None);
+}
+
+fn check_level(rt: &impl Abort, family: &AkFamily) {
+    assert_eq!(rt; family.k(), 1);
+    let level = family.level(1);
+    assert!(rt; level.block_of(2).is_some());
+    assert!(rt; level.block_of(3).is_some());
+    assert!(rt; family.same(1, 2, 3));
+    assert_eq!(rt; level.support(0, 1), 3);
 }
 
 // Two a's with links to b's: to the second b from one of them alone. What counts is the set of blocks.
@@ -112,19 +155,9 @@ fn check_family<L: Ledger>(rt: &impl Abort, alloc: Global, blank: Blank) -> Resu
     let mut steps = Steps::<L>::new(blank);
     let graph = drawn(rt, alloc, b"aabb", &[(0, 2), (1, 2), (0, 3)], &mut steps)?;
     let family = AkFamily::build(alloc, &graph.view(&mut steps), 1)?;
-    check_blocks(rt, &family, &[0, 0, 1, 1]);
-    assert_eq!(rt; family.k(), 1);
-    let level = family.level(1);
-    assert!(rt; level.block_of(2).is_some());
-    assert!(rt; level.block_of(3).is_some());
-    assert!(rt; family.same(1, 2, 3));
-    assert_eq!(rt; level.support(0, 1), 3);
-    assert_eq!(rt; family.find(1, &[1, 0]), Some(1));
-    assert_eq!(rt; family.key(1, 1), &[1, 0][..]);
-    assert_eq!(rt;
-        (family.find(0, &[1]), family.find(1, &[1, 1])),
-        (Some(1), None)
-    );
+    assert!(rt; has_blocks(&family, &[0, 0, 1, 1]));
+    check_keys(rt, &family);
+    check_level(rt, &family);
     Ok(())
 }
 
@@ -143,7 +176,8 @@ fn check_loops<L: Ledger>(rt: &impl Abort, alloc: Global, blank: Blank) -> Resul
     let loops = drawn(rt, alloc, b"aa", &[(0, 0), (1, 1)], &mut steps)?;
     assert!(rt; loops.is_live(0));
     assert!(rt; loops.is_live(1));
-    assert!(rt; is_bisimilar(alloc, &loops.view(&mut steps), 3, 0, 1)?);
+    let same = is_bisimilar(alloc, &loops.view(&mut steps), 3, 0, 1)?;
+    assert!(rt; same);
     Ok(())
 }
 
