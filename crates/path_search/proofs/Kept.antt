@@ -1,14 +1,15 @@
 -- What the search keeps.
-use Rattle.std.proofs.Common.{◌≡◌, ℕ, ◌<◌, ◌⊎◌, inl, inr, List, [], ◌∷◌, ◌++◌, Bool, sym, subst, arith, Option, Some, IsTrue, true≢false}
+use Rattle.std.proofs.Common.{◌≡◌, ℕ, ◌<◌, ◌⊎◌, inl, inr, List, [], ◌++◌, length, get_or, Bool, sym, subst, arith, Option, Some, IsTrue, true≢false}
 use Rattle.std.specs.List.Sorted.{IsStrictlyIncreasing}
 use Rattle.px_spec.specs.Members.{has}
 use Rattle.path_search.specs.declared.state.State.{State}
 use Rattle.path_search.specs.declared.state.State.TheVariants.{End}
 use Rattle.path_search.specs.Searches.{Succeeds, Reached, begin, onward, AreEnds}
 use Rattle.path_search.specs.Rows.{IsMarked}
-use Rattle.path_search.specs.Spreading.{Among, SpreadsOver, IsPlace}
-use Rattle.path_search.specs.declared.frontier.Pair.{Pair}
-use Rattle.path_search.proofs.Spread.{among_last, among_more, among_cases}
+use Rattle.path_search.specs.Waits.{all_at, Among}
+use Rattle.path_search.specs.Spreading.{SpreadsOver, SucceedsOne, IsPlace}
+use Rattle.path_search.proofs.Gathering.{has_there}
+use Rattle.path_search.proofs.Spread.{among_more, among_back, among_cases, among_at, at_among}
 
 module _ (at : ℕ → Option State) (size : ℕ) (label_at : ℕ → Option ℕ) (edge : ℕ → ℕ → Bool) (First : ℕ → Type 0) (start states : ℕ) where
   -- the pair was visited
@@ -16,7 +17,7 @@ module _ (at : ℕ → Option State) (size : ℕ) (label_at : ℕ → Option ℕ
     pub onto : (s2 v2 : ℕ) → Succeeds size label_at edge (at s) v s2 v2 → IsMarked marks s2 v2
     pub ends : at s ≡ Some End → v < size → IsTrue (has answers v)
 
-  pub record IsSearching (marks : List (List Bool)) (waiting : List Pair) (answers : List ℕ) : Type 0 where
+  pub record IsSearching (marks : List (List Bool)) (waiting : List (ℕ × ℕ)) (answers : List ℕ) : Type 0 where
     pub reached : (s v : ℕ) → IsMarked marks s v → Reached at size label_at edge First start s v
     pub visited : (s v : ℕ) → IsMarked marks s v → Among waiting s v ⊎ IsDone marks answers s v
     pub waits : (s v : ℕ) → Among waiting s v → IsMarked marks s v × (s < states) × IsPlace size label_at v
@@ -24,7 +25,7 @@ module _ (at : ℕ → Option State) (size : ℕ) (label_at : ℕ → Option ℕ
     pub found : (v : ℕ) → IsTrue (has answers v) → (s : ℕ) × (at s ≡ Some End) × (v < size) × Reached at size label_at edge First start s v
     pub rising : IsStrictlyIncreasing answers
 
-  pub searching_begins : (m m2 : List (List Bool)) (k2 : List Pair) → start < states → ((s v : ℕ) → IsMarked m s v → ⊥) → IsStrictlyIncreasing []
+  pub searching_begins : (m m2 : List (List Bool)) (k2 : List (ℕ × ℕ)) → start < states → ((s v : ℕ) → IsMarked m s v → ⊥) → IsStrictlyIncreasing []
       → SpreadsOver (λ s v. (s ≡ start) × First v) m m2 [] k2 → ((v : ℕ) → First v → IsMarked m2 start v) → ((v : ℕ) → First v → IsPlace size label_at v) → IsSearching m2 k2 []
   searching_begins m m2 k2 below empty rising a begun places =
       record {
@@ -46,55 +47,57 @@ module _ (at : ℕ → Option State) (size : ℕ) (label_at : ℕ → Option ℕ
         rising = rising;
       }
 
-  pub searching_next : (m m2 : List (List Bool)) (k k2 : List Pair) (p : Pair) (a a2 : List ℕ)
-      → IsSearching m (k ++ p ∷ []) a
-      → SpreadsOver (λ s c. Succeeds size label_at edge (at p.state) p.place s c) m m2 k k2
-      → ((s c : ℕ) → Succeeds size label_at edge (at p.state) p.place s c → IsMarked m2 s c)
-      → ((s c : ℕ) → Succeeds size label_at edge (at p.state) p.place s c → (s < states) × IsPlace size label_at c)
+  -- what is taken waited
+  pub place_waits : (m : List (List Bool)) (ks k : List (ℕ × ℕ)) (s0 : ℕ) (places : List ℕ) (a : List ℕ) → IsSearching m ks a → ks ≡ k ++ all_at s0 places
+      → (v : ℕ) → IsTrue (has places v) → IsMarked m s0 v × (s0 < states) × IsPlace size label_at v
+  place_waits m ks k s0 places a h was v p = h.waits s0 v (subst (λ y. Among y s0 v) (sym was) (among_back k (all_at s0 places) s0 v (among_at s0 v places p)))
+
+  pub state_waits : (m : List (List Bool)) (ks k : List (ℕ × ℕ)) (s0 : ℕ) (places : List ℕ) (a : List ℕ) → IsSearching m ks a → ks ≡ k ++ all_at s0 places
+      → 0 < length places → s0 < states
+  state_waits m ks k s0 places a h was some = (place_waits m ks k s0 places a h was (get_or places 0 0) (has_there places 0 some)).1
+
+  pub searching_next : (m m2 : List (List Bool)) (ks k k2 : List (ℕ × ℕ)) (s0 : ℕ) (places : List ℕ) (a a2 : List ℕ)
+      → IsSearching m ks a
+      → ks ≡ k ++ all_at s0 places
+      → SpreadsOver (SucceedsOne size label_at edge (at s0) places) m m2 k k2
+      → ((s c : ℕ) → SucceedsOne size label_at edge (at s0) places s c → IsMarked m2 s c)
+      → ((s c : ℕ) → SucceedsOne size label_at edge (at s0) places s c → (s < states) × IsPlace size label_at c)
       → ((v : ℕ) → IsTrue (has a v) → IsTrue (has a2 v))
-      → (at p.state ≡ Some End → p.place < size → IsTrue (has a2 p.place))
-      → ((v : ℕ) → IsTrue (has a2 v) → IsTrue (has a v) ⊎ ((at p.state ≡ Some End) × (v < size) × (v ≡ p.place)))
+      → (at s0 ≡ Some End → (v : ℕ) → IsTrue (has places v) → v < size → IsTrue (has a2 v))
+      → ((v : ℕ) → IsTrue (has a2 v) → IsTrue (has a v) ⊎ ((at s0 ≡ Some End) × (v < size) × IsTrue (has places v)))
       → IsStrictlyIncreasing a2
       → IsSearching m2 k2 a2
-  searching_next m m2 k k2 p a a2 h spreads onto inside kept noted source rising =
-      let R : ℕ → ℕ → Type 0 = λ s c. Succeeds size label_at edge (at p.state) p.place s c in
-      let here = h.waits p.state p.place (among_last k p) in
+  searching_next m m2 ks k k2 s0 places a a2 h was spreads onto inside kept noted source rising =
       let on : (s v : ℕ) → IsMarked m s v → IsMarked m2 s v = λ s v x. spreads.grows s v x in
-      let done : IsDone m2 a2 p.state p.place = record { onto = onto; ends = noted } in
       let still : (s v : ℕ) → IsDone m a s v → IsDone m2 a2 s v = λ s v d. record { onto = λ s2 v2 t. on s2 v2 (d.onto s2 v2 t); ends = λ e b. kept v (d.ends e b) } in
+      let done : (v : ℕ) → IsTrue (has places v) → IsDone m2 a2 s0 v = λ v p. record { onto = λ s2 v2 t. onto s2 v2 (v, p, t); ends = λ e b. noted e v p b } in
+      let from : (v : ℕ) → IsTrue (has places v) → Reached at size label_at edge First start s0 v = λ v p. h.reached s0 v (place_waits m ks k s0 places a h was v p).0 in
       record {
         reached = λ s v x. elim (spreads.fresh s v x) [
           | inl old ↦ h.reached s v old
-          | inr r ↦ onward p.state p.place s v (h.reached p.state p.place here.0) r.0
+          | inr r ↦ onward s0 r.0.0 s v (from r.0.0 r.0.1) r.0.2
         ];
         visited = λ s v x. elim (spreads.fresh s v x) [
           | inl old ↦ elim (h.visited s v old) [
-            | inl w ↦ elim (among_cases k p s v w) [
+            | inl w ↦ elim (among_cases k (all_at s0 places) s v (subst (λ y. Among y s v) was w)) [
               | inl b ↦ inl (spreads.kept s v b)
-              | inr e ↦ inr (subst (λ y. IsDone m2 a2 y v) e.0 (subst (λ y. IsDone m2 a2 p.state y) e.1 done))
+              | inr e ↦ (let p = at_among s0 s v places e in inr (subst (λ y. IsDone m2 a2 y v) (sym p.0) (done v p.1)))
             ]
             | inr d ↦ inr (still s v d)
           ]
           | inr r ↦ inl r.1
         ];
         waits = λ s v x. elim (spreads.source s v x) [
-          | inl b ↦ (let w = h.waits s v (among_more k (p ∷ []) s v b) in (on s v w.0, w.1, w.2))
+          | inl b ↦ (let w = h.waits s v (subst (λ y. Among y s v) (sym was) (among_more k (all_at s0 places) s v b)) in (on s v w.0, w.1, w.2))
           | inr r ↦ (let i = inside s v r in (onto s v r, i.0, i.1))
         ];
         begun = λ v f. on start v (h.begun v f);
         found = λ v x. elim (source v x) [
           | inl old ↦ h.found v old
-          | inr e ↦ (p.state, e.0, e.1, subst (λ y. Reached at size label_at edge First start p.state y) (sym e.2) (h.reached p.state p.place here.0))
+          | inr e ↦ (s0, e.0, e.1, from v e.2)
         ];
         rising = rising;
       }
-
-  -- the last of those that wait
-  pub last_waits : (m : List (List Bool)) (ks k : List Pair) (p : Pair) (a : List ℕ) → IsSearching m ks a → ks ≡ k ++ p ∷ [] → (p.state < states) × IsPlace size label_at p.place
-  last_waits m ks k p a h e = let w = h.waits p.state p.place (subst (λ x. Among x p.state p.place) (sym e) (among_last k p)) in (w.1, w.2)
-
-  pub popped : (m : List (List Bool)) (ks k : List Pair) (p : Pair) (a : List ℕ) → IsSearching m ks a → ks ≡ k ++ p ∷ [] → IsSearching m (k ++ p ∷ []) a
-  popped m ks k p a h e = subst (λ x. IsSearching m x a) e h
 
   module _ (m : List (List Bool)) (a : List ℕ) (h : IsSearching m [] a) where
     done_of : (s v : ℕ) → IsMarked m s v → IsDone m a s v

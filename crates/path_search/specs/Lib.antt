@@ -1,4 +1,5 @@
 pub mod Searches
 pub mod Rows
+pub mod Waits
 pub mod Programs
 pub mod Spreading

@@ -19,13 +19,13 @@ AreReady width words = (length words ≡ 0) ⊎ (width ≤ 64 * length words)
 abbrev pub row : List (List Bool) → ℕ → List Bool
 row marks s = slice_index_or marks s []
 
+-- the place is marked in the row
+abbrev pub IsSet : List Bool → ℕ → Type 0
+IsSet flags v = slice_index_or flags v false ≡ true
+
 -- the state is marked at the place
 abbrev pub IsMarked : List (List Bool) → ℕ → ℕ → Type 0
-IsMarked marks s v = slice_index_or (row marks s) v false ≡ true
-
--- the state is marked at the place too
-abbrev pub with_mark : List (List Bool) → ℕ → ℕ → List (List Bool)
-with_mark marks s v = slice_set marks s (slice_set (row marks s) v true)
+IsMarked marks s v = IsSet (row marks s) v
 
 -- how many are set
 unfoldable pub row_members : List Bool → ℕ

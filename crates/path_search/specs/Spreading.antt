@@ -1,17 +1,25 @@
--- How marks spread over pairs of a state and a place.
-use Rattle.std.specs.Prelude.{◌≡◌, ℕ, ◌+◌, ◌≤◌, ◌⊎◌, Bool, List, [], ◌∷◌, length, Option, None, Some, IsTrue, IsSome}
-use Rattle.path_search.specs.Searches.{leads}
-use Rattle.path_search.specs.Rows.{row, IsMarked, members, pairs}
-use Rattle.path_search.specs.declared.frontier.Pair.{Pair}
+-- How marks spread over places, and over pairs of a state and a place.
+use Rattle.std.specs.Prelude.{◌≡◌, ℕ, ◌+◌, ◌≤◌, ◌⊎◌, Bool, List, length, Option, None, Some, IsTrue, IsSome}
+use Rattle.px_spec.specs.Members.{has}
+use Rattle.path_search.specs.Searches.{leads, Succeeds}
+use Rattle.path_search.specs.declared.state.State.{State}
+use Rattle.path_search.specs.Rows.{row, IsSet, IsMarked, row_members, members, pairs}
+use Rattle.path_search.specs.Waits.{Among}
 use Rattle.path_search.specs.declared.frontier.Frontier.{Frontier}
 
--- a state at a place is among those that wait
-abbrev pub Among : List Pair → ℕ → ℕ → Type 0
-Among [] s v = ⊥
-Among (p ∷ ps) s v = ((p.state ≡ s) × (p.place ≡ v)) ⊎ Among ps s v
+-- Further places of the kind were marked in a row, and found.
+pub record Gathers (P : ℕ → Type 0) (before after : List Bool) (found finds : List ℕ) : Type 0 where
+  pub wide : length after ≡ length before
+  pub grows : (v : ℕ) → IsSet before v → IsSet after v
+  pub fresh : (v : ℕ) → IsSet after v → IsSet before v ⊎ (P v × IsTrue (has finds v))
+  pub kept : (v : ℕ) → IsTrue (has found v) → IsTrue (has finds v)
+  pub source : (v : ℕ) → IsTrue (has finds v) → IsTrue (has found v) ⊎ P v
+  pub counted : length finds + row_members before ≡ length found + row_members after
+  pub more : row_members before ≤ row_members after
 
 -- Further pairs of the kind were marked, and wait.
-pub record SpreadsOver (R : ℕ → ℕ → Type 0) (before after : List (List Bool)) (waited waits : List Pair) : Type 0 where
+pub record SpreadsOver (R : ℕ → ℕ → Type 0) (before after : List (List Bool)) (waited waits : List (ℕ × ℕ)) : Type 0 where
+  pub states : length after ≡ length before
   pub wide : (s : ℕ) → length (row after s) ≡ length (row before s)
   pub same_pairs : pairs after ≡ pairs before
   pub grows : (s v : ℕ) → IsMarked before s v → IsMarked after s v
@@ -22,17 +30,25 @@ pub record SpreadsOver (R : ℕ → ℕ → Type 0) (before after : List (List B
   pub more : members before ≤ members after
 
 abbrev pub Spreads : (ℕ → ℕ → Type 0) → Frontier → Frontier → Type 0
-Spreads R before after = SpreadsOver R before.rows.items after.rows.items before.waiting.items after.waiting.items
+Spreads R before after = SpreadsOver R before.rows.items after.rows.items before.waiting after.waiting
 
 -- the label passes: any one, or the one with the number
 abbrev pub Passes : (ℕ → Option ℕ) → Option ℕ → ℕ → Type 0
 Passes label_at None c = IsSome (label_at c)
 Passes label_at (Some l) c = label_at c ≡ Some l
 
--- the state at a node that comes next and passes
-abbrev pub Next : ℕ → (ℕ → Option ℕ) → (ℕ → ℕ → Bool) → Option ℕ → ℕ → ℕ → ℕ → ℕ → Type 0
-Next size label_at edge test next v s c = (s ≡ next) × IsTrue (leads size label_at edge v c) × Passes label_at test c
+-- the node comes next to the place, and passes
+abbrev pub Next : ℕ → (ℕ → Option ℕ) → (ℕ → ℕ → Bool) → Option ℕ → ℕ → ℕ → Type 0
+Next size label_at edge test v c = IsTrue (leads size label_at edge v c) × Passes label_at test c
+
+-- the node comes next to one of the places, and passes
+abbrev pub NextOf : ℕ → (ℕ → Option ℕ) → (ℕ → ℕ → Bool) → Option ℕ → List ℕ → ℕ → Type 0
+NextOf size label_at edge test places c = (v : ℕ) × IsTrue (has places v) × Next size label_at edge test v c
 
 -- a node, or the place in front of all nodes
 abbrev pub IsPlace : ℕ → (ℕ → Option ℕ) → ℕ → Type 0
 IsPlace size label_at v = (v ≡ size) ⊎ IsSome (label_at v)
+
+-- from this state at one of the places one gets to the state s at the place c
+abbrev pub SucceedsOne : ℕ → (ℕ → Option ℕ) → (ℕ → ℕ → Bool) → Option State → List ℕ → ℕ → ℕ → Type 0
+SucceedsOne size label_at edge state places s c = (v : ℕ) × IsTrue (has places v) × Succeeds size label_at edge state v s c

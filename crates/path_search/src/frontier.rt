@@ -1,27 +1,72 @@
 // The pairs that a search has marked, and those that it still has to visit.
-ghost use Rattle.std.specs.Prelude.{◌≡◌, ◌<◌, ◌≤◌, ◌⊎◌, ℕ, [], length, IsTrue, IfOk, OnOk};
+ghost use Rattle.std.specs.Prelude.{◌≡◌, ◌<◌, ◌≤◌, ℕ, [], length, IsTrue, IfOk, OnOk};
 ghost use Rattle.px_spec.specs.Members.{has};
-ghost use Rattle.path_search.specs.Rows.{row, IsMarked, HasRoom};
-ghost use Rattle.path_search.specs.Spreading.{Spreads};
+ghost use Rattle.path_search.specs.Rows.{row, IsSet, IsMarked, HasRoom};
+ghost use Rattle.path_search.specs.Spreading.{Gathers, Spreads};
 
 use crate::row::Row;
+use crate::waiting::Waiting;
 use px_base::Memory;
 use std::alloc::Global;
 
-/// A state of the automaton at a place: a node, or the graph's size, which stands for the place in front
-/// of all nodes.
-#[derive(Clone, Copy, Drop)]
-pub(crate) struct Pair {
-    pub state: u32,
-    pub place: u32,
-}
-
-/// The marks of pairs, a row for each state, and the pairs that wait to be visited.
+/// The marks of pairs of a state and a place, a row for each state, and the pairs that wait to be visited. A place is a
+/// node, or the graph's size, which stands for the place in front of all nodes.
 #[derive(Drop)]
 pub(crate) struct Frontier {
     pub alloc: Global,
     pub rows: Vec<Row>,
-    pub waiting: Vec<Pair>,
+    pub waiting: Waiting,
+}
+
+/// Marks the place, and finds it where it wasn't marked before.
+#[inline(always)]
+fn mark(alloc: Global, row: &mut Row, found: &mut Vec<u32>, place: u32) -> Result<(), Memory>
+    requires { place < length row.old }
+    ensures gathers { OnOk result (Gathers (λ v. v ≡ place) row.old row.new found.old.items found.new.items) }
+    ensures marked { OnOk result (IsSet row.new place) }
+{
+    if row.insert(alloc, place)? {
+        found.push(place)?;
+    }
+    Ok(())
+}
+
+/// The same where the test holds.
+#[inline(always)]
+pub(crate) fn mark_if(
+    alloc: Global,
+    row: &mut Row,
+    found: &mut Vec<u32>,
+    place: u32,
+    holds: bool,
+) -> Result<(), Memory>
+    requires { place < length row.old }
+    ensures gathers { OnOk result (Gathers (λ v. IsTrue holds × (v ≡ place)) row.old row.new found.old.items found.new.items) }
+    ensures marked { OnOk result (IsTrue holds → IsSet row.new place) }
+{
+    if holds {
+        mark(alloc, row, found, place)
+    } else {
+        Ok(())
+    }
+}
+
+/// The same for each of the places.
+fn mark_each(
+    alloc: Global,
+    row: &mut Row,
+    found: &mut Vec<u32>,
+    places: &[u32],
+) -> Result<(), Memory>
+    requires { (v : ℕ) → IsTrue (has places.now v) → v < length row.old }
+    ensures gathers { OnOk result (Gathers (λ v. IsTrue (has places.now v)) row.old row.new found.old.items found.new.items) }
+    ensures marked { OnOk result ((v : ℕ) → IsTrue (has places.now v) → IsSet row.new v) }
+{
+    for n in places {
+        let place = *n;
+        mark(alloc, row, found, place)?;
+    }
+    Ok(())
 }
 
 impl Frontier {
@@ -29,7 +74,7 @@ impl Frontier {
     pub(crate) fn new(alloc: Global, states: usize, width: usize) -> Result<Frontier, Memory>
         ensures room { IfOk result (λ f. HasRoom states width f.rows.items) }
         ensures unmarked { IfOk result (λ f. (s v : ℕ) → IsMarked f.rows.items s v → ⊥) }
-        ensures none { IfOk result (λ f. f.waiting.items ≡ []) }
+        ensures none { IfOk result (λ f. f.waiting ≡ []) }
     {
         let mut rows = Vec::new(alloc);
         for _ in 0..states {
@@ -38,58 +83,25 @@ impl Frontier {
         Ok(Frontier {
             alloc,
             rows,
-            waiting: Vec::new(alloc),
+            waiting: Waiting::new(alloc),
         })
     }
 
-    /// Marks the state at the place, and lets the pair wait where it wasn't marked before.
-    #[inline(always)]
-    pub(crate) fn mark(&mut self, state: u32, place: u32) -> Result<(), Memory>
-        requires { place < length (row self.old.rows.items state) }
-        ensures spreads { OnOk result (Spreads (λ s v. (s ≡ state) × (v ≡ place)) self.old self.new) }
-        ensures marked { OnOk result (IsMarked self.new.rows.items state place) }
-    {
-        if self.rows[state as usize].insert(self.alloc, place)? {
-            self.waiting.push(Pair { state, place })?;
-        }
-        Ok(())
-    }
-
-    /// Marks the state at the place where the test holds.
-    #[inline(always)]
-    pub(crate) fn mark_if(&mut self, state: u32, place: u32, holds: bool) -> Result<(), Memory>
-        requires { place < length (row self.old.rows.items state) }
-        ensures spreads { OnOk result (Spreads (λ s v. IsTrue holds × (s ≡ state) × (v ≡ place)) self.old self.new) }
-        ensures marked { OnOk result (IsTrue holds → IsMarked self.new.rows.items state place) }
-    {
-        if holds {
-            self.mark(state, place)
-        } else {
-            Ok(())
-        }
-    }
-
-    /// Marks both states at the place.
-    pub(crate) fn mark_both(&mut self, first: u32, second: u32, place: u32) -> Result<(), Memory>
-        requires first { place < length (row self.old.rows.items first) }
-        requires second { place < length (row self.old.rows.items second) }
-        ensures spreads { OnOk result (Spreads (λ s v. ((s ≡ first) ⊎ (s ≡ second)) × (v ≡ place)) self.old self.new) }
-        ensures marked { OnOk result ((s v : ℕ) → ((s ≡ first) ⊎ (s ≡ second)) × (v ≡ place) → IsMarked self.new.rows.items s v) }
-    {
-        self.mark(first, place)?;
-        self.mark(second, place)
-    }
-
-    /// Marks the state at each of the places.
-    pub(crate) fn mark_all(&mut self, state: u32, places: &[u32]) -> Result<(), Memory>
-        requires { (v : ℕ) → IsTrue (has places.now v) → v < length (row self.old.rows.items state) }
+    /// Marks the state at each of the places. The buffer holds what was found.
+    pub(crate) fn mark_all(
+        &mut self,
+        found: &mut Vec<u32>,
+        state: u32,
+        places: &[u32],
+    ) -> Result<(), Memory>
+        requires there { state < length self.old.rows.items }
+        requires room { (v : ℕ) → IsTrue (has places.now v) → v < length (row self.old.rows.items state) }
         ensures spreads { OnOk result (Spreads (λ s v. (s ≡ state) × IsTrue (has places.now v)) self.old self.new) }
         ensures marked { OnOk result ((v : ℕ) → IsTrue (has places.now v) → IsMarked self.new.rows.items state v) }
     {
-        for n in places {
-            let place = *n;
-            self.mark(state, place)?;
-        }
+        found.clear();
+        mark_each(self.alloc, &mut self.rows[state as usize], found, places)?;
+        self.waiting.push(state, found)?;
         Ok(())
     }
 }

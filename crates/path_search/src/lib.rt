@@ -2,11 +2,13 @@
 //! queries.
 #![tactic(auto)]
 
+mod follow;
 mod frontier;
 mod program;
 mod row;
 mod searching;
 mod state;
+mod waiting;
 
 pub use program::Program;
 pub use searching::search;

@@ -1,138 +1,142 @@
 // The search of the product of an automaton and a graph.
-ghost use Rattle.std.specs.Prelude.{◌≡◌, ◌↔◌, ◌≤◌, ◌<◌, ◌+◌, ◌⊎◌, ℕ, true, length, slice_get, Some, IsSome, IsTrue, IfOk, OnOk};
+ghost use Rattle.std.specs.Prelude.{◌≡◌, ◌↔◌, ◌≤◌, ◌<◌, ◌+◌, ◌⊎◌, ℕ, length, slice_get, Some, IsSome, IsTrue, IfOk, OnOk};
 ghost use Rattle.std.specs.List.Sorted.{IsStrictlyIncreasing};
 ghost use Rattle.px_spec.specs.Members.{has};
 ghost use Rattle.path_search.specs.Searches.{Succeeds, AreEnds};
 ghost use Rattle.path_search.specs.declared.state.State.TheVariants.{End};
 ghost use Rattle.path_search.specs.Rows.{row, IsMarked, HasRoom};
-ghost use Rattle.path_search.specs.Spreading.{Spreads, Passes, Next, IsPlace};
+ghost use Rattle.path_search.specs.Spreading.{Spreads, NextOf, SucceedsOne, IsPlace};
 
-use crate::frontier::{Frontier, Pair};
+use crate::follow::follow;
+use crate::frontier::Frontier;
 use crate::program::Program;
 use crate::state::State;
 use label_graph::Digraph;
-use px_base::{Bits, Memory, NodeId};
+use px_base::{Bits, Memory};
 use std::alloc::Global;
 
-/// Whether the node's label passes: any one, or the one with the number.
-#[inline(always)]
-fn passes<G: Digraph>(g: &G, test: Option<u32>, n: NodeId) -> bool
-    requires { IsSome (G.label_at g.now n) }
-    ensures { IsTrue result ↔ Passes (G.label_at g.now) test n }
-{
-    match test {
-        None => true,
-        Some(label) => g.label(n) == label,
-    }
-}
-
-/// Whether the number is that of a node whose label passes.
-#[inline(always)]
-fn is_passing<G: Digraph>(g: &G, test: Option<u32>, n: NodeId) -> bool
-    ensures { IsTrue result ↔ Passes (G.label_at g.now) test n }
-{
-    g.is_node(n) && passes(g, test, n)
-}
-
-/// Marks the state at each node whose label passes.
-fn mark_nodes<G: Digraph>(
+/// Marks the state at each node that comes next to one of the places and whose label passes. The buffer holds what was
+/// found.
+fn advance<G: Digraph>(
     g: &G,
     frontier: &mut Frontier,
+    found: &mut Vec<u32>,
     test: Option<u32>,
     state: u32,
+    places: &[u32],
 ) -> Result<(), Memory>
-    requires { G.span g.now + 1 ≤ length (row frontier.old.rows.items state) }
-    ensures spreads { OnOk result (Spreads (λ s c. (s ≡ state) × Passes (G.label_at g.now) test c) frontier.old frontier.new) }
-    ensures marked { OnOk result ((c : ℕ) → Passes (G.label_at g.now) test c → IsMarked frontier.new.rows.items state c) }
+    requires there { state < length frontier.old.rows.items }
+    requires places { (v : ℕ) → IsTrue (has places.now v) → IsPlace (G.span g.now) (G.label_at g.now) v }
+    requires room { G.span g.now + 1 ≤ length (row frontier.old.rows.items state) }
+    ensures spreads { OnOk result (Spreads (λ s c. (s ≡ state) × NextOf (G.span g.now) (G.label_at g.now) (G.edge g.now) test places.now c) frontier.old frontier.new) }
+    ensures marked { OnOk result ((c : ℕ) → NextOf (G.span g.now) (G.label_at g.now) (G.edge g.now) test places.now c → IsMarked frontier.new.rows.items state c) }
 {
-    for place in 0..g.size() {
-        frontier.mark_if(state, place, is_passing(g, test, place))?;
-    }
+    found.clear();
+    let alloc = frontier.alloc;
+    follow(
+        alloc,
+        g,
+        test,
+        &mut frontier.rows[state as usize],
+        found,
+        places,
+    )?;
+    frontier.waiting.push(state, found)?;
     Ok(())
 }
 
-/// Marks the state at each of the nodes whose label passes.
-fn mark_among<G: Digraph>(
-    g: &G,
+/// Marks both states at each of the places.
+fn fork(
     frontier: &mut Frontier,
-    test: Option<u32>,
-    state: u32,
-    nodes: &[NodeId],
+    found: &mut Vec<u32>,
+    first: u32,
+    second: u32,
+    places: &[u32],
 ) -> Result<(), Memory>
-    requires nodes { (c : ℕ) → has nodes.now c ≡ true → IsSome (G.label_at g.now c) }
-    requires room { G.span g.now + 1 ≤ length (row frontier.old.rows.items state) }
-    ensures spreads { OnOk result (Spreads (λ s c. (s ≡ state) × IsTrue (has nodes.now c) × Passes (G.label_at g.now) test c) frontier.old frontier.new) }
-    ensures marked { OnOk result ((c : ℕ) → IsTrue (has nodes.now c) → Passes (G.label_at g.now) test c → IsMarked frontier.new.rows.items state c) }
+    requires first { first < length frontier.old.rows.items }
+    requires second { second < length frontier.old.rows.items }
+    requires first_room { (v : ℕ) → IsTrue (has places.now v) → v < length (row frontier.old.rows.items first) }
+    requires second_room { (v : ℕ) → IsTrue (has places.now v) → v < length (row frontier.old.rows.items second) }
+    ensures spreads { OnOk result (Spreads (λ s v. ((s ≡ first) ⊎ (s ≡ second)) × IsTrue (has places.now v)) frontier.old frontier.new) }
+    ensures marked { OnOk result ((s v : ℕ) → ((s ≡ first) ⊎ (s ≡ second)) → IsTrue (has places.now v) → IsMarked frontier.new.rows.items s v) }
 {
-    for node in nodes {
-        let place = *node;
-        frontier.mark_if(state, place, passes(g, test, place))?;
-    }
-    Ok(())
+    frontier.mark_all(found, first, places)?;
+    frontier.mark_all(found, second, places)
 }
 
-/// Marks the state at each node that comes next and whose label passes.
-fn mark_next<G: Digraph>(
-    g: &G,
-    frontier: &mut Frontier,
-    test: Option<u32>,
-    state: u32,
-    place: u32,
-) -> Result<(), Memory>
-    requires place { IsPlace (G.span g.now) (G.label_at g.now) place }
-    requires room { G.span g.now + 1 ≤ length (row frontier.old.rows.items state) }
-    ensures spreads { OnOk result (Spreads (λ s c. Next (G.span g.now) (G.label_at g.now) (G.edge g.now) test state place s c) frontier.old frontier.new) }
-    ensures marked { OnOk result ((s c : ℕ) → Next (G.span g.now) (G.label_at g.now) (G.edge g.now) test state place s c → IsMarked frontier.new.rows.items s c) }
-{
-    if place == g.size() {
-        mark_nodes(g, frontier, test, state)
-    } else {
-        mark_among(g, frontier, test, state, g.children(place))
-    }
-}
-
-/// Marks all that succeeds the pair.
+/// Marks all that succeeds the state at one of the places.
 fn visit<G: Digraph>(
     g: &G,
     program: &Program,
     frontier: &mut Frontier,
-    pair: Pair,
+    found: &mut Vec<u32>,
+    state: u32,
+    places: &[u32],
 ) -> Result<(), Memory>
-    requires state { pair.state < length program.now }
-    requires place { IsPlace (G.span g.now) (G.label_at g.now) pair.place }
+    requires state { state < length program.now }
+    requires places { (v : ℕ) → IsTrue (has places.now v) → IsPlace (G.span g.now) (G.label_at g.now) v }
     requires room { HasRoom (length program.now) (G.span g.now + 1) frontier.old.rows.items }
-    ensures spreads { OnOk result (Spreads (λ s c. Succeeds (G.span g.now) (G.label_at g.now) (G.edge g.now) (slice_get program.now pair.state) pair.place s c) frontier.old frontier.new) }
-    ensures marked { OnOk result ((s c : ℕ) → Succeeds (G.span g.now) (G.label_at g.now) (G.edge g.now) (slice_get program.now pair.state) pair.place s c → IsMarked frontier.new.rows.items s c) }
-    ensures inside { (s c : ℕ) → Succeeds (G.span g.now) (G.label_at g.now) (G.edge g.now) (slice_get program.now pair.state) pair.place s c → (s < length program.now) × IsPlace (G.span g.now) (G.label_at g.now) c }
+    ensures spreads { OnOk result (Spreads (SucceedsOne (G.span g.now) (G.label_at g.now) (G.edge g.now) (slice_get program.now state) places.now) frontier.old frontier.new) }
+    ensures marked { OnOk result ((s c : ℕ) → SucceedsOne (G.span g.now) (G.label_at g.now) (G.edge g.now) (slice_get program.now state) places.now s c → IsMarked frontier.new.rows.items s c) }
+    ensures inside { (s c : ℕ) → SucceedsOne (G.span g.now) (G.label_at g.now) (G.edge g.now) (slice_get program.now state) places.now s c → (s < length program.now) × IsPlace (G.span g.now) (G.label_at g.now) c }
 {
-    match program.state(pair.state) {
+    match program.state(state) {
         State::End | State::Stuck => Ok(()),
-        State::Any(next) => mark_next(g, frontier, None, next, pair.place),
-        State::Label(label, next) => mark_next(g, frontier, Some(label), next, pair.place),
-        State::Fork(first, second) => frontier.mark_both(first, second, pair.place),
+        State::Any(next) => advance(g, frontier, found, None, next, places),
+        State::Label(label, next) => advance(g, frontier, found, Some(label), next, places),
+        State::Fork(first, second) => fork(frontier, found, first, second, places),
     }
 }
 
-/// Whether a word ends in the pair's state.
-fn ends(program: &Program, pair: Pair) -> bool
-    requires { pair.state < length program.now }
-    ensures { IsTrue result ↔ (slice_get program.now pair.state ≡ Some End) }
+/// Whether a word ends in the state.
+fn ends(program: &Program, state: u32) -> bool
+    requires { state < length program.now }
+    ensures { IsTrue result ↔ (slice_get program.now state ≡ Some End) }
 {
-    matches!(program.state(pair.state), State::End)
+    matches!(program.state(state), State::End)
 }
 
-/// Adds the pair's node to the answers where a word ends in its state.
-fn note_end(program: &Program, answers: &mut Bits, pair: Pair)
-    requires state { pair.state < length program.now }
+/// Adds to the answers each of the places that is below their size.
+fn note_each(answers: &mut Bits, places: &[u32])
     requires rising { IsStrictlyIncreasing answers.old.members }
     ensures size { answers.new.size ≡ answers.old.size }
     ensures kept { (v : ℕ) → IsTrue (has answers.old.members v) → IsTrue (has answers.new.members v) }
-    ensures noted { slice_get program.now pair.state ≡ Some End → pair.place < answers.old.size → IsTrue (has answers.new.members pair.place) }
-    ensures source { (v : ℕ) → IsTrue (has answers.new.members v) → IsTrue (has answers.old.members v) ⊎ ((slice_get program.now pair.state ≡ Some End) × (v < answers.old.size) × (v ≡ pair.place)) }
+    ensures noted { (v : ℕ) → IsTrue (has places.now v) → v < answers.old.size → IsTrue (has answers.new.members v) }
+    ensures source { (v : ℕ) → IsTrue (has answers.new.members v) → IsTrue (has answers.old.members v) ⊎ ((v < answers.old.size) × IsTrue (has places.now v)) }
     ensures rising { IsStrictlyIncreasing answers.new.members }
 {
-    if pair.place < answers.size() && ends(program, pair) {
-        answers.insert(pair.place);
+    for p in places {
+        note(answers, *p);
+    }
+}
+
+/// Adds the place to the answers, if it is below their size.
+#[inline(always)]
+fn note(answers: &mut Bits, place: u32)
+    requires rising { IsStrictlyIncreasing answers.old.members }
+    ensures size { answers.new.size ≡ answers.old.size }
+    ensures kept { (v : ℕ) → IsTrue (has answers.old.members v) → IsTrue (has answers.new.members v) }
+    ensures noted { place < answers.old.size → IsTrue (has answers.new.members place) }
+    ensures source { (v : ℕ) → IsTrue (has answers.new.members v) → IsTrue (has answers.old.members v) ⊎ ((v < answers.old.size) × (v ≡ place)) }
+    ensures rising { IsStrictlyIncreasing answers.new.members }
+{
+    if place < answers.size() {
+        answers.insert(place);
+    }
+}
+
+/// Adds the nodes among the places to the answers where a word ends in the state.
+fn note_ends(program: &Program, answers: &mut Bits, state: u32, places: &[u32])
+    requires state { state < length program.now }
+    requires rising { IsStrictlyIncreasing answers.old.members }
+    ensures size { answers.new.size ≡ answers.old.size }
+    ensures kept { (v : ℕ) → IsTrue (has answers.old.members v) → IsTrue (has answers.new.members v) }
+    ensures noted { slice_get program.now state ≡ Some End → (v : ℕ) → IsTrue (has places.now v) → v < answers.old.size → IsTrue (has answers.new.members v) }
+    ensures source { (v : ℕ) → IsTrue (has answers.new.members v) → IsTrue (has answers.old.members v) ⊎ ((slice_get program.now state ≡ Some End) × (v < answers.old.size) × IsTrue (has places.now v)) }
+    ensures rising { IsStrictlyIncreasing answers.new.members }
+{
+    if ends(program, state) {
+        note_each(answers, places);
     }
 }
 
@@ -155,10 +159,12 @@ pub fn search<G: Digraph>(
     let size = g.size();
     let mut frontier = Frontier::new(alloc, program.len(), size as usize + 1)?;
     let mut answers = Bits::new(alloc, size)?;
-    frontier.mark_all(start, places)?;
-    while let Some(pair) = frontier.waiting.pop() {
-        note_end(program, &mut answers, pair);
-        visit(g, program, &mut frontier, pair)?;
+    let mut found = Vec::new(alloc);
+    let mut current = Vec::new(alloc);
+    frontier.mark_all(&mut found, start, places)?;
+    'runs: while let Some(state) = frontier.waiting.take(&mut current)? {
+        note_ends(program, &mut answers, state, &current);
+        visit(g, program, &mut frontier, &mut found, state, &current)?;
     }
     Ok(answers)
 }

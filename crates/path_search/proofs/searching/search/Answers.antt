@@ -1,15 +1,25 @@
-use Rattle.std.proofs.Common.{◌≡◌, ◌∙◌, ℕ, ◌+◌, ◌<◌, [], sym, ap, subst, inl, inr, rules, length, IsTrue}
+use Rattle.std.proofs.Common.{◌≡◌, ◌∙◌, ℕ, ◌+◌, ◌<◌, [], sym, ap, subst, inl, inr, rules, arith, length, List, Option, Some, IsTrue}
 use Rattle.std.specs.Prelude.{slice_get}
-use Rattle.std.proofs.lemmas.List.{length_push}
+use Rattle.std.proofs.lemmas.List.{length-append}
 use Rattle.px_spec.specs.Members.{has}
 use Rattle.path_search.specs.Rows.{HasRoom}
-use Rattle.path_search.specs.Spreading.{SpreadsOver}
-use Rattle.path_search.proofs.Spread.{members_le, room_on, falls}
-use Rattle.path_search.proofs.Kept.{searching_begins, searching_next, searching_ends, last_waits, popped, none_rises, IsSearching}
+use Rattle.path_search.specs.Waits.{all_at, IsTaken}
+use Rattle.path_search.specs.Spreading.{SpreadsOver, SucceedsOne}
+use Rattle.path_search.proofs.Spread.{members_le, room_on, falls, length_at, row_there}
+use Rattle.path_search.proofs.Kept.{searching_begins, searching_next, searching_ends, state_waits, place_waits, none_rises, IsSearching}
+use Rattle.std.specs.Prelude.{MatchOption}
 use Rattle.path_search.proofs.searching.search.Goals as goal
 
-pub loop-pair-init : goal.loop-pair-init
-loop-pair-init g c =
+taken_of : (ks k : List (ℕ × ℕ)) (places : List ℕ) (o : Option ℕ) (s : ℕ) → o ≡ Some s → MatchOption o (ks ≡ []) (λ x. IsTaken ks k x places) → IsTaken ks k s places
+taken_of ks k places o s is h = subst (λ o. MatchOption o (ks ≡ []) (λ x. IsTaken ks k x places)) is h
+
+pub mark_all-requires-clause-there : goal.mark_all-requires-clause-there
+mark_all-requires-clause-there g c =
+    let l = c.in_ok-frontier.ensures.room c.args.start (subst (λ n. c.args.start < n) (sym c.len.ensures) c.requires.start) in
+    row_there c.in_ok-frontier.frontier.rows.items c.args.start 0 (omega arith)
+
+pub runs-init : goal.runs-init
+runs-init g c =
     let size = c.size-size.ensures in
     let label_at = g.G.Digraph.label_at c.args.g.now in
     let edge = g.G.Digraph.edge c.args.g.now in
@@ -25,55 +35,71 @@ loop-pair-init g c =
     record {
       room = room_on states (span + 1) c.in_ok-frontier.frontier.rows.items c.mark_all.new.self.rows.items begun.spreads.wide room;
       size = ap (λ b. b.size) none ∙ size;
-      searching = subst (λ a. IsSearching at span label_at edge First c.args.start states c.mark_all.new.self.rows.items c.mark_all.new.self.waiting.items a) (sym (ap (λ b. b.members) none))
-          (searching_begins at span label_at edge First c.args.start states c.in_ok-frontier.frontier.rows.items c.mark_all.new.self.rows.items c.mark_all.new.self.waiting.items
+      searching = subst (λ a. IsSearching at span label_at edge First c.args.start states c.mark_all.new.self.rows.items c.mark_all.new.self.waiting a) (sym (ap (λ b. b.members) none))
+          (searching_begins at span label_at edge First c.args.start states c.in_ok-frontier.frontier.rows.items c.mark_all.new.self.rows.items c.mark_all.new.self.waiting
           c.requires.start made.unmarked none_rises
-          (subst (λ k. SpreadsOver (λ s v. (s ≡ c.args.start) × First v) c.in_ok-frontier.frontier.rows.items c.mark_all.new.self.rows.items k c.mark_all.new.self.waiting.items) made.none begun.spreads)
+          (subst (λ k. SpreadsOver (λ s v. (s ≡ c.args.start) × First v) c.in_ok-frontier.frontier.rows.items c.mark_all.new.self.rows.items k c.mark_all.new.self.waiting) made.none begun.spreads)
           begun.marked c.requires.places);
     }
 
-pub note_end-requires-clause-state : goal.note_end-requires-clause-state
-note_end-requires-clause-state g c =
-    (last_waits _ (g.G.Digraph.span c.args.g.now) (g.G.Digraph.label_at c.args.g.now) (g.G.Digraph.edge c.args.g.now) (λ v. IsTrue (has c.args.places.now v)) c.args.start (length c.args.program.now)
-    c.loop-pair.frontier.rows.items c.loop-pair.frontier.waiting.items c.pop.new.self.items c.in-Some.pair c.loop-pair.answers.members c.loop-pair.invariant.searching c.in-Some.ensures.items).0
+pub note_ends-requires-clause-state : goal.note_ends-requires-clause-state
+note_ends-requires-clause-state g c =
+    let kept = c.runs.invariant.searching in
+    let t = taken_of c.runs.frontier.waiting c.take.new.self c.take.new.places.items c.in_ok-state.field-0 c.in-Some.state c.in-Some.is c.in_ok-state.ensures in
+    state_waits _ (g.G.Digraph.span c.args.g.now) (g.G.Digraph.label_at c.args.g.now) (g.G.Digraph.edge c.args.g.now) (λ v. IsTrue (has c.args.places.now v)) c.args.start (length c.args.program.now)
+    c.runs.frontier.rows.items c.runs.frontier.waiting c.take.new.self c.in-Some.state c.take.new.places.items c.runs.answers.members kept t.last t.some
 
 pub visit-requires-clause-state : goal.visit-requires-clause-state
 visit-requires-clause-state g c =
-    (last_waits _ (g.G.Digraph.span c.args.g.now) (g.G.Digraph.label_at c.args.g.now) (g.G.Digraph.edge c.args.g.now) (λ v. IsTrue (has c.args.places.now v)) c.args.start (length c.args.program.now)
-    c.loop-pair.frontier.rows.items c.loop-pair.frontier.waiting.items c.pop.new.self.items c.in-Some.pair c.loop-pair.answers.members c.loop-pair.invariant.searching c.in-Some.ensures.items).0
+    let kept = c.runs.invariant.searching in
+    let t = taken_of c.runs.frontier.waiting c.take.new.self c.take.new.places.items c.in_ok-state.field-0 c.in-Some.state c.in-Some.is c.in_ok-state.ensures in
+    state_waits _ (g.G.Digraph.span c.args.g.now) (g.G.Digraph.label_at c.args.g.now) (g.G.Digraph.edge c.args.g.now) (λ v. IsTrue (has c.args.places.now v)) c.args.start (length c.args.program.now)
+    c.runs.frontier.rows.items c.runs.frontier.waiting c.take.new.self c.in-Some.state c.take.new.places.items c.runs.answers.members kept t.last t.some
 
-pub visit-requires-clause-place : goal.visit-requires-clause-place
-visit-requires-clause-place g c =
-    (last_waits _ (g.G.Digraph.span c.args.g.now) (g.G.Digraph.label_at c.args.g.now) (g.G.Digraph.edge c.args.g.now) (λ v. IsTrue (has c.args.places.now v)) c.args.start (length c.args.program.now)
-    c.loop-pair.frontier.rows.items c.loop-pair.frontier.waiting.items c.pop.new.self.items c.in-Some.pair c.loop-pair.answers.members c.loop-pair.invariant.searching c.in-Some.ensures.items).1
+pub visit-requires-clause-places : goal.visit-requires-clause-places
+visit-requires-clause-places g c v h =
+    let kept = c.runs.invariant.searching in
+    let t = taken_of c.runs.frontier.waiting c.take.new.self c.take.new.places.items c.in_ok-state.field-0 c.in-Some.state c.in-Some.is c.in_ok-state.ensures in
+    (place_waits _ (g.G.Digraph.span c.args.g.now) (g.G.Digraph.label_at c.args.g.now) (g.G.Digraph.edge c.args.g.now) (λ v. IsTrue (has c.args.places.now v)) c.args.start (length c.args.program.now)
+    c.runs.frontier.rows.items c.runs.frontier.waiting c.take.new.self c.in-Some.state c.take.new.places.items c.runs.answers.members kept t.last v
+    (subst (λ x. IsTrue (has x v)) c.deref-in-Some.ensures.value h)).2
 
-pub loop-pair-smaller : goal.loop-pair-smaller
-loop-pair-smaller g c =
-    let s = c.in_ok-visit.ensures.spreads in
-    falls (length c.pop.new.self.items) _ _ _ _ _ _ (ap length c.in-Some.ensures.items ∙ length_push c.pop.new.self.items c.in-Some.pair) s.counted s.more s.same_pairs (members_le c.visit.new.frontier.rows.items)
+pub runs-smaller : goal.runs-smaller
+runs-smaller g c =
+    let t = taken_of c.runs.frontier.waiting c.take.new.self c.take.new.places.items c.in_ok-state.field-0 c.in-Some.state c.in-Some.is c.in_ok-state.ensures in
+    let spreads = c.in_ok-visit.ensures.spreads in
+    let count : length c.runs.frontier.waiting ≡ length c.take.new.self + length c.take.new.places.items =
+    ap length t.last ∙ length-append c.take.new.self (all_at c.in-Some.state c.take.new.places.items) ∙ ap (λ n. length c.take.new.self + n) (length_at c.in-Some.state c.take.new.places.items) in
+    falls _ _ _ (length c.take.new.places.items) _ _ _ _ count t.some spreads.counted spreads.more spreads.same_pairs (members_le c.visit.new.frontier.rows.items)
 
-pub loop-pair-preserved : goal.loop-pair-preserved
-loop-pair-preserved g c =
+pub runs-preserved : goal.runs-preserved
+runs-preserved g c =
     let v = c.in_ok-visit.ensures in
-    let n = c.note_end.ensures in
+    let n = c.note_ends.ensures in
     let span = g.G.Digraph.span c.args.g.now in
     let label_at = g.G.Digraph.label_at c.args.g.now in
     let edge = g.G.Digraph.edge c.args.g.now in
     let First : ℕ → Type 0 = λ v. IsTrue (has c.args.places.now v) in
     let at = λ (k : ℕ). slice_get c.args.program.now k in
     let states = length c.args.program.now in
-    let kept = c.loop-pair.invariant in
-    let rows = c.loop-pair.frontier.rows.items in
+    let kept = c.runs.invariant in
+    let rows = c.runs.frontier.rows.items in
     let after = c.visit.new.frontier in
-    let pair = c.in-Some.pair in
-    let was = popped at span label_at edge First c.args.start states rows c.loop-pair.frontier.waiting.items c.pop.new.self.items pair c.loop-pair.answers.members kept.searching c.in-Some.ensures.items in
+    let places = c.take.new.places.items in
+    let t = taken_of c.runs.frontier.waiting c.take.new.self places c.in_ok-state.field-0 c.in-Some.state c.in-Some.is c.in_ok-state.ensures in
+    let noted = c.deref.ensures.value in
+    let visited = c.deref-in-Some.ensures.value in
     record {
       room = room_on states (span + 1) rows after.rows.items v.spreads.wide kept.room;
       size = n.size ∙ kept.size;
-      searching = searching_next at span label_at edge First c.args.start states rows after.rows.items c.pop.new.self.items after.waiting.items pair
-          c.loop-pair.answers.members c.note_end.new.answers.members was v.spreads v.marked c.visit.ensures.inside n.kept
-          (λ e b. n.noted e (subst (λ x. pair.place < x) (sym kept.size) b))
-          (λ u h. elim (n.source u h) [ inl old ↦ inl old | inr e ↦ inr (e.0, subst (λ x. u < x) kept.size e.1, e.2) ])
+      searching = searching_next at span label_at edge First c.args.start states rows after.rows.items c.runs.frontier.waiting c.take.new.self after.waiting c.in-Some.state places
+          c.runs.answers.members c.note_ends.new.answers.members kept.searching t.last
+          (subst (λ x. SpreadsOver (SucceedsOne span label_at edge (at c.in-Some.state) x) rows after.rows.items c.take.new.self after.waiting) visited v.spreads)
+          (λ s e h. v.marked s e (subst (λ x. SucceedsOne span label_at edge (at c.in-Some.state) x s e) (sym visited) h))
+          (λ s e h. v.inside s e (subst (λ x. SucceedsOne span label_at edge (at c.in-Some.state) x s e) (sym visited) h))
+          n.kept
+          (λ e u p b. n.noted e u (subst (λ x. IsTrue (has x u)) (sym noted) p) (subst (λ x. u < x) (sym kept.size) b))
+          (λ u h. elim (n.source u h) [ inl old ↦ inl old | inr e ↦ inr (e.0, subst (λ x. u < x) kept.size e.1, subst (λ x. IsTrue (has x u)) noted e.2) ])
           n.rising;
     }
 
@@ -85,6 +111,6 @@ returns-clause-ends g c =
     let First : ℕ → Type 0 = λ v. IsTrue (has c.args.places.now v) in
     let at = λ (k : ℕ). slice_get c.args.program.now k in
     let states = length c.args.program.now in
-    let none : c.loop-pair.frontier.waiting.items ≡ [] = search rules in
-    searching_ends at span label_at edge First c.args.start states c.loop-pair.frontier.rows.items c.loop-pair.answers.members
-    (subst (λ k. IsSearching at span label_at edge First c.args.start states c.loop-pair.frontier.rows.items k c.loop-pair.answers.members) none c.loop-pair.invariant.searching)
+    let none : c.runs.frontier.waiting ≡ [] = search rules in
+    searching_ends at span label_at edge First c.args.start states c.runs.frontier.rows.items c.runs.answers.members
+    (subst (λ k. IsSearching at span label_at edge First c.args.start states c.runs.frontier.rows.items k c.runs.answers.members) none c.runs.invariant.searching)

@@ -5,12 +5,12 @@ use Rattle.path_search.specs.Rows.{members, pairs, HasRoom}
 use Rattle.path_search.proofs.Kept.{IsSearching}
 use Rattle.path_search.proofs.searching.search.Given as goal
 
-abbrev pub invariant-loop-pair : goal.invariant-loop-pair
-invariant-loop-pair g l = record {
+abbrev pub invariant-runs : goal.invariant-runs
+invariant-runs g l = record {
   room : HasRoom (length l.program) (g.G.Digraph.span l.g + 1) l.frontier.rows.items;
   size : l.answers.size ≡ g.G.Digraph.span l.g;
-  searching : IsSearching (λ k. slice_get l.program k) (g.G.Digraph.span l.g) (g.G.Digraph.label_at l.g) (g.G.Digraph.edge l.g) (λ v. IsTrue (has l.fn.places v)) l.start (length l.program) l.frontier.rows.items l.frontier.waiting.items l.answers.members;
+  searching : IsSearching (λ k. slice_get l.program k) (g.G.Digraph.span l.g) (g.G.Digraph.label_at l.g) (g.G.Digraph.edge l.g) (λ v. IsTrue (has l.fn.places v)) l.start (length l.program) l.frontier.rows.items l.frontier.waiting l.answers.members;
 }
 
-abbrev pub decreases-loop-pair : goal.decreases-loop-pair
-decreases-loop-pair g l = length l.frontier.waiting.items + 2 * (pairs l.frontier.rows.items - members l.frontier.rows.items)
+abbrev pub decreases-runs : goal.decreases-runs
+decreases-runs g l = length l.frontier.waiting + 2 * (pairs l.frontier.rows.items - members l.frontier.rows.items)

@@ -1,0 +1,11 @@
+use Rattle.std.proofs.Common.{◌≡◌, ℕ, take, IsTrue}
+use Rattle.px_spec.specs.Members.{has}
+use Rattle.path_search.specs.Rows.{IsSet}
+use Rattle.path_search.specs.Spreading.{Gathers, Next, NextOf}
+use Rattle.path_search.proofs.follow.follow.Given as goal
+
+abbrev pub invariant-loop-p : goal.invariant-loop-p
+invariant-loop-p g l = record {
+  gathers : Gathers (NextOf (g.G.Digraph.span l.g) (g.G.Digraph.label_at l.g) (g.G.Digraph.edge l.g) l.test l.places) l.initial.row l.row l.initial.found.items l.found.items;
+  marked : (v c : ℕ) → IsTrue (has (take l.p-index l.places) v) → Next (g.G.Digraph.span l.g) (g.G.Digraph.label_at l.g) (g.G.Digraph.edge l.g) l.test v c → IsSet l.row c;
+}
