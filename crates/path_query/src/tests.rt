@@ -4,7 +4,7 @@ ghost use Rattle.label_graph.specs.Views.{label_number};
 
 use super::*;
 use label_graph::{Graph, GraphView};
-use px_base::{NodeId, Steps, Text};
+use px_base::{Bits, NodeId, Steps, Text};
 use px_spec::Limits;
 use std::alloc::Global;
 use std::marker::Brand;
@@ -12,170 +12,211 @@ use std::process::Abort;
 use std::sync::ledger::{Blank, Ledger};
 use std::test::Fail;
 
-/// What the text is read as: the canonical text of its expression, or the name of another answer.
-fn read_as(alloc: Global, text: &[u8]) -> Result<Text, Fail> {
-    match PathExpr::parse(alloc, text, &Limits::program()) {
-        Ok(expr) => Ok(expr.write(alloc)?),
-        Err(ExprError::Syntax) => Ok(Text::from_bytes(alloc, b"syntax")?),
-        Err(ExprError::Limit) => Ok(Text::from_bytes(alloc, b"limit")?),
-        Err(ExprError::Memory) => Ok(Text::from_bytes(alloc, b"memory")?),
+/// Texts, and what they are read as: the canonical text of the expression, or the name of another answer.
+const TEXTS: &[(&str, &str)] = &[
+    ("a // ( b | <http://e/\\u0061> )*", "a//(b|<http://e/a>)*"),
+    (" a / b\t", "a/b"),
+    ("a_-", "a_-"),
+    ("_", "_"),
+    ("a * ", "a*"),
+    ("(a*)*", "(a*)*"),
+    ("(a|b)*/c", "(a|b)*/c"),
+    ("a|b/c|_", "a|b/c|_"),
+    ("((a))", "((a))"),
+    ("android?/not-a+", "android?/not-a+"),
+    (" <a/b> //\t<> ", "<a/b>//<>"),
+    ("", "syntax"),
+    ("  ", "syntax"),
+    ("a**", "syntax"),
+    ("/a", "syntax"),
+    ("a/", "syntax"),
+    ("a / /b", "syntax"),
+    ("a///b", "syntax"),
+    ("a b", "syntax"),
+    ("_a", "syntax"),
+    ("_ _", "syntax"),
+    ("()", "syntax"),
+    ("(a", "syntax"),
+    ("a)", "syntax"),
+    ("|a", "syntax"),
+    ("a|", "syntax"),
+    ("and", "syntax"),
+    ("a/or", "syntax"),
+    ("1a", "syntax"),
+    ("a.b", "syntax"),
+    ("a<b>", "syntax"),
+    ("<a", "syntax"),
+];
+
+/// Whether this is how the expression is written.
+fn is_written(alloc: Global, expr: &PathExpr, text: &str) -> bool {
+    match expr.write(alloc) {
+        Ok(found) => found.as_str() == text,
+        Err(_) => false,
+    }
+}
+
+/// Whether the text is read as this.
+fn is_read_as(alloc: Global, text: &str, answer: &str) -> bool {
+    match PathExpr::parse(alloc, text.as_bytes(), &Limits::program()) {
+        Ok(expr) => is_written(alloc, &expr, answer),
+        Err(ExprError::Syntax) => answer == "syntax",
+        Err(ExprError::Limit) => answer == "limit",
+        Err(ExprError::Memory) => false,
     }
 }
 
 #[test]
-fn texts_are_read(rt: HostRuntime) -> Result<(), Fail> {
-    let alloc = rt.alloc();
-    let table: [(&[u8], &str); 32] = [
-        (b"a // ( b | <http://e/\\u0061> )*", "a//(b|<http://e/a>)*"),
-        (b" a / b\t", "a/b"),
-        (b"a_-", "a_-"),
-        (b"_", "_"),
-        (b"a * ", "a*"),
-        (b"(a*)*", "(a*)*"),
-        (b"(a|b)*/c", "(a|b)*/c"),
-        (b"a|b/c|_", "a|b/c|_"),
-        (b"((a))", "((a))"),
-        (b"android?/not-a+", "android?/not-a+"),
-        (b" <a/b> //\t<> ", "<a/b>//<>"),
-        (b"", "syntax"),
-        (b"  ", "syntax"),
-        (b"a**", "syntax"),
-        (b"/a", "syntax"),
-        (b"a/", "syntax"),
-        (b"a / /b", "syntax"),
-        (b"a///b", "syntax"),
-        (b"a b", "syntax"),
-        (b"_a", "syntax"),
-        (b"_ _", "syntax"),
-        (b"()", "syntax"),
-        (b"(a", "syntax"),
-        (b"a)", "syntax"),
-        (b"|a", "syntax"),
-        (b"a|", "syntax"),
-        (b"and", "syntax"),
-        (b"a/or", "syntax"),
-        (b"1a", "syntax"),
-        (b"a.b", "syntax"),
-        (b"a<b>", "syntax"),
-        (b"<a", "syntax"),
-    ];
-    for (text, answer) in table {
-        let found = read_as(alloc, text)?;
-        assert_eq!(rt; found.as_str(), answer);
+fn texts_are_read(rt: HostRuntime) {
+    for (text, answer) in TEXTS {
+        assert!(rt; is_read_as(rt.alloc(), text, answer), "at {text}");
     }
-    Ok(())
+}
+
+const FEW: Limits = Limits {
+    nodes: 1,
+    edges: 1,
+    labels: 1,
+    expr_bytes: 7,
+    expr_depth: 1,
+};
+
+/// Texts, and whether they pass a limit of `FEW`.
+const PAST: &[(&str, bool)] = &[
+    ("abcdefg", false),
+    ("abcdefgh", true),
+    ("*******", false),
+    ("********", true),
+    ("(a)/(b)", false),
+    ("((a))", true),
+    ("))((", false),
+    ("))((((", true),
+    ("[([a", true),
+    ("<((>", false),
+];
+
+/// Whether the text passes one of the few limits.
+fn passes_limit(alloc: Global, text: &str) -> bool {
+    matches!(
+        PathExpr::parse(alloc, text.as_bytes(), &FEW),
+        Err(ExprError::Limit)
+    )
 }
 
 #[test]
-fn limits_come_first(rt: HostRuntime) -> Result<(), Fail> {
-    let alloc = rt.alloc();
-    let few = Limits {
-        nodes: 1,
-        edges: 1,
-        labels: 1,
-        expr_bytes: 7,
-        expr_depth: 1,
-    };
-    let table: [(&[u8], bool); 10] = [
-        (b"abcdefg", false),
-        (b"abcdefgh", true),
-        (b"*******", false),
-        (b"********", true),
-        (b"(a)/(b)", false),
-        (b"((a))", true),
-        (b"))((", false),
-        (b"))((((", true),
-        (b"[([a", true),
-        (b"<((>", false),
-    ];
-    for (text, past) in table {
-        let found = PathExpr::parse(alloc, text, &few).err();
-        assert_eq!(rt; found == Some(ExprError::Limit), past);
+fn limits_come_first(rt: HostRuntime) {
+    for (text, past) in PAST {
+        assert!(rt; passes_limit(rt.alloc(), text) == *past, "at {text}");
     }
-    Ok(())
+}
+
+/// Expressions, and the lengths of their longest words.
+const LENGTHS: &[(&str, Option<u32>)] = &[
+    ("a", Some(1)),
+    ("a/_/c", Some(3)),
+    ("a/b?|c", Some(2)),
+    ("(a|b/c)/(d/e)?", Some(4)),
+    ("a//(b|<http://e/a>)*", None),
+    ("a//b", None),
+    ("(a/b)+", None),
+    ("a?|b?", Some(1)),
+];
+
+/// Whether the text is read, and this is the length of its longest word.
+fn has_longest(alloc: Global, text: &str, len: Option<u32>) -> bool {
+    match PathExpr::parse(alloc, text.as_bytes(), &Limits::program()) {
+        Ok(expr) => expr.longest() == len,
+        Err(_) => false,
+    }
 }
 
 #[test]
-fn longest_words(rt: HostRuntime) -> Result<(), Fail> {
-    let alloc = rt.alloc();
-    let table: [(&[u8], Option<u32>); 8] = [
-        (b"a", Some(1)),
-        (b"a/_/c", Some(3)),
-        (b"a/b?|c", Some(2)),
-        (b"(a|b/c)/(d/e)?", Some(4)),
-        (b"a//(b|<http://e/a>)*", None),
-        (b"a//b", None),
-        (b"(a/b)+", None),
-        (b"a?|b?", Some(1)),
-    ];
-    for (text, len) in table {
-        let expr = PathExpr::parse(alloc, text, &Limits::program())?;
-        assert_eq!(rt; expr.longest(), len);
+fn longest_words(rt: HostRuntime) {
+    for (text, len) in LENGTHS {
+        assert!(rt; has_longest(rt.alloc(), text, *len), "at {text}");
     }
-    Ok(())
 }
 
-/// The label that the word spells.
-fn label_of(alloc: Global, word: &str) -> Result<Option<Text>, Fail> {
-    Ok(read_label(alloc, word.as_bytes())?)
-}
+/// Words, and the labels that they spell.
+const LABELS: &[(&str, &str)] = &[
+    ("a", "a"),
+    ("B-2_c", "B-2_c"),
+    ("nota", "nota"),
+    ("<>", "<>"),
+    ("<http://e/a>", "<http://e/a>"),
+    ("<http://e/\\u0061>", "<http://e/a>"),
+    ("<a\\u0020/>", "<a\\u0020/>"),
+    ("<\u{e4}>", "<\u{e4}>"),
+];
 
-#[test]
-fn words_are_labels(rt: HostRuntime) -> Result<(), Fail> {
-    let words = [
-        ("a", "a"),
-        ("B-2_c", "B-2_c"),
-        ("nota", "nota"),
-        ("<>", "<>"),
-        ("<http://e/a>", "<http://e/a>"),
-        ("<http://e/\\u0061>", "<http://e/a>"),
-        ("<a\\u0020/>", "<a\\u0020/>"),
-        ("<\u{e4}>", "<\u{e4}>"),
-    ];
-    for (word, label) in words {
-        let found = label_of(rt.alloc(), word)?.ok_or("a label")?;
-        assert_eq!(rt; found.as_str(), label, "at {word}");
+/// Whether the word spells the label.
+fn spells(alloc: Global, word: &str, label: &str) -> bool {
+    match read_label(alloc, word.as_bytes()) {
+        Ok(Some(found)) => found.as_str() == label,
+        _ => false,
     }
-    Ok(())
 }
 
 #[test]
-fn other_words_are_none(rt: HostRuntime) -> Result<(), Fail> {
-    let words = [
-        "not",
-        "and",
-        "or",
-        "",
-        "-a",
-        "2a",
-        "a/b",
-        "<",
-        "<http://e/a",
-        "<a b>",
-        "a<b>",
-        "<a>b",
-        "<a><b>",
-        "<\\u006>",
-    ];
-    for word in words {
-        assert!(rt; label_of(rt.alloc(), word)?.is_none(), "at {word}");
+fn words_are_labels(rt: HostRuntime) {
+    for (word, label) in LABELS {
+        assert!(rt; spells(rt.alloc(), word, label), "at {word}");
     }
-    Ok(())
+}
+
+/// Words that spell no label.
+const OTHERS: &[&str] = &[
+    "not",
+    "and",
+    "or",
+    "",
+    "-a",
+    "2a",
+    "a/b",
+    "<",
+    "<http://e/a",
+    "<a b>",
+    "a<b>",
+    "<a>b",
+    "<a><b>",
+    "<\\u006>",
+];
+
+/// Whether the word spells no label.
+fn spells_none(alloc: Global, word: &str) -> bool {
+    matches!(read_label(alloc, word.as_bytes()), Ok(None))
+}
+
+#[test]
+fn other_words_are_none(rt: HostRuntime) {
+    for word in OTHERS {
+        assert!(rt; spells_none(rt.alloc(), word), "at {word}");
+    }
 }
 
 #[test]
 fn words_are_split(rt: HostRuntime) {
     let (word, rest) = split_word(skip_blanks(b" \tnode a \n"));
-    assert_eq!(rt; (word, rest), (b"node".as_slice(), b" a \n".as_slice()));
+    assert!(rt; word == b"node".as_slice() && rest == b" a \n".as_slice());
+    assert!(rt; trim_end_blanks(b" a b \t") == b" a b".as_slice());
+}
+
+#[test]
+fn blanks_alone_are_left_out(rt: HostRuntime) {
     assert!(rt; skip_blanks(b" \t").is_empty());
-    assert_eq!(rt; trim_end_blanks(b" a b \t"), b" a b".as_slice());
     assert!(rt; trim_end_blanks(b" \t").is_empty());
 }
 
-fn add_node(rt: &impl Abort, alloc: Global, graph: &mut Graph, label: &str) -> Result<(), Fail> {
-    let label = Text::from_bytes(alloc, label.as_bytes())?;
-    assert!(rt; graph.created() < 100);
-    graph.reserve_node(alloc, &label)?;
+const MOST: u32 = 100;
+
+/// The labels of five nodes, a byte each, and their edges.
+const NODES: &[u8] = b"ababc";
+
+const EDGES: &[(NodeId, NodeId)] = &[(0, 1), (1, 4), (2, 4), (3, 3)];
+
+fn add_node(rt: &impl Abort, alloc: Global, graph: &mut Graph, label: u8) -> Result<(), Fail> {
+    assert!(rt; graph.created() < MOST);
+    graph.reserve_node(alloc, &Text::from_bytes(alloc, &[label])?)?;
     graph.add_node();
     Ok(())
 }
@@ -190,46 +231,79 @@ fn add_edge<L: Ledger>(
     assert!(rt; graph.is_live(from));
     assert!(rt; graph.is_live(to));
     assert!(rt; !graph.has_edge(from, to, steps));
-    assert!(rt; graph.edge_count() < 100);
+    assert!(rt; graph.edge_count() < MOST);
     graph.reserve_edge(from, to)?;
     graph.add_edge(from, to);
     Ok(())
 }
 
-/// Nodes 0 to 4 with the labels a, b, a, b and c, and edges 0 to 1, 1 to 4, 2 to 4 and 3 to 3.
 fn small_graph<L: Ledger>(
     rt: &impl Abort,
     alloc: Global,
     steps: &mut Steps<L>,
 ) -> Result<Graph, Fail> {
     let mut graph = Graph::new(alloc)?;
-    for label in ["a", "b", "a", "b", "c"] {
-        add_node(rt, alloc, &mut graph, label)?;
+    for label in NODES {
+        add_node(rt, alloc, &mut graph, *label)?;
     }
-    for (from, to) in [(0, 1), (1, 4), (2, 4), (3, 3)] {
-        add_edge(rt, &mut graph, from, to, steps)?;
+    for (from, to) in EDGES {
+        add_edge(rt, &mut graph, *from, *to, steps)?;
     }
     Ok(graph)
 }
 
-fn check_answers(
-    rt: &impl Abort,
+/// Expressions, and their answers over the small graph.
+const ANSWERS: &[(&str, &[NodeId])] = &[
+    ("a/b/c", &[4]),
+    ("a / c", &[4]),
+    ("b/b/b", &[3]),
+    ("c/b", &[]),
+    ("a/d", &[]),
+    ("_", &[0, 1, 2, 3, 4]),
+    ("a//c", &[4]),
+    ("b//b", &[3]),
+    ("a//a", &[]),
+    ("a*", &[0, 2]),
+    ("d*", &[]),
+    ("(a|b)+", &[0, 1, 2, 3]),
+    ("(a|b)/c", &[4]),
+    ("c|a/b", &[1, 4]),
+    ("(a/b)?/c", &[4]),
+    ("d|(d/a|b)?/b", &[1, 3]),
+];
+
+/// Whether these are the marked nodes.
+fn are(marked: &Bits, nodes: &[NodeId]) -> bool {
+    marked.count() as usize == nodes.len() && nodes.iter().all(|n| marked.contains(*n))
+}
+
+/// Whether these are the answers to the text.
+fn has_answers(
     alloc: Global,
     graph: &Graph,
     view: &GraphView<'_>,
     text: &str,
     answers: &[NodeId],
-) -> Result<(), Fail>
+) -> bool
     requires same { view.now ≡ graph.now.graph }
     requires labelled { (n l : ℕ) → label_number graph.now.graph n ≡ Some l → l < length graph.now.graph.seen }
 {
-    let expr = PathExpr::parse(alloc, text.as_bytes(), &Limits::program())?;
-    let marked = eval(alloc, view, graph.labels(), &expr)?;
-    assert_eq!(rt; marked.count() as usize, answers.len(), "at {text}");
-    for n in answers {
-        assert!(rt; marked.contains(*n), "at {text}");
+    let Ok(expr) = PathExpr::parse(alloc, text.as_bytes(), &Limits::program()) else {
+        return false;
+    };
+    match eval(alloc, view, graph.labels(), &expr) {
+        Ok(marked) => are(&marked, answers),
+        Err(_) => false,
     }
-    Ok(())
+}
+
+fn check_answers(rt: &impl Abort, alloc: Global, graph: &Graph, view: &GraphView<'_>)
+    requires same { view.now ≡ graph.now.graph }
+    requires labelled { (n l : ℕ) → label_number graph.now.graph n ≡ Some l → l < length graph.now.graph.seen }
+{
+    for (text, answers) in ANSWERS {
+        assert!(rt; has_answers(alloc, graph, view, text, answers), "at {text}");
+    }
 }
 
 fn check_small_graph<L: Ledger>(rt: &impl Abort, alloc: Global, blank: Blank) -> Result<(), Fail>
@@ -240,27 +314,7 @@ fn check_small_graph<L: Ledger>(rt: &impl Abort, alloc: Global, blank: Blank) ->
     let mut steps = Steps::<L>::new(blank);
     let graph = small_graph(rt, alloc, &mut steps)?;
     let view = graph.view(&mut steps);
-    let table: [(&str, &[NodeId]); 16] = [
-        ("a/b/c", &[4]),
-        ("a / c", &[4]),
-        ("b/b/b", &[3]),
-        ("c/b", &[]),
-        ("a/d", &[]),
-        ("_", &[0, 1, 2, 3, 4]),
-        ("a//c", &[4]),
-        ("b//b", &[3]),
-        ("a//a", &[]),
-        ("a*", &[0, 2]),
-        ("d*", &[]),
-        ("(a|b)+", &[0, 1, 2, 3]),
-        ("(a|b)/c", &[4]),
-        ("c|a/b", &[1, 4]),
-        ("(a/b)?/c", &[4]),
-        ("d|(d/a|b)?/b", &[1, 3]),
-    ];
-    for (text, answers) in table {
-        check_answers(rt, alloc, &graph, &view, text, answers)?;
-    }
+    check_answers(rt, alloc, &graph, &view);
     Ok(())
 }
 
