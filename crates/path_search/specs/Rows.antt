@@ -1,5 +1,5 @@
 -- Words as bits, and tables of marks: for each state, by its number, whether each place is marked.
-use Rattle.std.specs.Prelude.{ℕ, ◌*◌, ◌/◌, ◌%◌, ◌≡◌, ◌≤◌, ◌<◌, ◌⊎◌, Bool, true, false, List, length, map, ◌==◌, slice_index, slice_index_or, slice_set, count_by, []}
+use Rattle.std.specs.Prelude.{ℕ, ◌*◌, ◌/◌, ◌%◌, ◌≡◌, ◌≤◌, ◌<◌, ◌⊎◌, Bool, true, false, List, length, map, ◌==◌, slice_index, slice_index_or, count_by, []}
 use Rattle.std.specs.List.{range_with_len, sum_by}
 use Rattle.std.specs.Int.{bit_at}
 

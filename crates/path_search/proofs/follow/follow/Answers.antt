@@ -1,5 +1,4 @@
-use Rattle.std.proofs.Common.{IsTrue, get_or, inl, inr, sym, subst}
-use Rattle.px_spec.specs.Members.{has}
+use Rattle.std.proofs.Common.{get_or, inl, inr, subst}
 use Rattle.path_search.specs.Spreading.{Next}
 use Rattle.path_search.proofs.Gathering.{gathers_as, gathers_then, has_there, take_cases}
 use Rattle.path_search.proofs.follow.follow.Goals as goal

@@ -1,4 +1,4 @@
-use Rattle.std.proofs.Common.{IsTrue, get_or, inl, inr, sym, subst}
+use Rattle.std.proofs.Common.{IsTrue, inl, inr, sym, subst}
 use Rattle.px_spec.specs.Members.{has}
 use Rattle.path_search.specs.Rows.{IsSet}
 use Rattle.path_search.specs.Spreading.{Passes}

@@ -1,4 +1,4 @@
-use Rattle.std.proofs.Common.{◌≡◌, ◌<◌, ℕ}
+use Rattle.std.proofs.Common.{◌<◌, ℕ}
 use Rattle.path_search.specs.Rows.{IsSet}
 use Rattle.path_search.specs.Spreading.{Gathers, Passes}
 use Rattle.path_search.proofs.follow.mark_nodes.Given as goal

@@ -1,6 +1,4 @@
-use Rattle.std.proofs.Common.{refl, ◌≡◌, ◌∙◌, ◌<◌, ◌++◌, ◌∷◌, [], ap, subst, sym, length, arith}
-use Rattle.path_search.specs.declared.waiting.Run.{Run}
-use Rattle.path_search.specs.Waits.{all_at, pairs_in, AreRuns}
+use Rattle.std.proofs.Common.{refl, ◌<◌, length, arith}
 use Rattle.path_search.proofs.Runs.{runs_push, pairs_push}
 use Rattle.std.proofs.lemmas.Grind.{common_steps}
 use Rattle.path_search.proofs.waiting.Waiting.push.Goals as goal

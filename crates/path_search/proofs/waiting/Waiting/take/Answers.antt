@@ -1,4 +1,4 @@
-use Rattle.std.proofs.Common.{◌≡◌, ◌∙◌, ◌-◌, [], ap, subst, sym, length, take, arith, Some}
+use Rattle.std.proofs.Common.{◌≡◌, ◌∙◌, ◌-◌, ap, subst, sym, length, take, arith, Some}
 use Rattle.std.specs.Prelude.{slice_get}
 use Rattle.path_search.specs.Waits.{pairs_in, AreRuns, IsTaken}
 use Rattle.path_search.proofs.Runs.{last_of, taken, tail_is}
