@@ -12,54 +12,67 @@ use std::process::Abort;
 use std::sync::ledger::{Blank, Ledger};
 use std::test::Fail;
 
-/// Texts, and what they are read as: the canonical text of the expression, or the name of another answer.
-const TEXTS: &[(&str, &str)] = &[
-    ("a // ( b | <http://e/\\u0061> )*", "a//(b|<http://e/a>)*"),
-    (" a / b\t", "a/b"),
-    ("a_-", "a_-"),
-    ("_", "_"),
-    ("a * ", "a*"),
-    ("(a*)*", "(a*)*"),
-    ("(a|b)*/c", "(a|b)*/c"),
-    ("a|b/c|_", "a|b/c|_"),
-    ("((a))", "((a))"),
-    ("android?/not-a+", "android?/not-a+"),
-    (" <a/b> //\t<> ", "<a/b>//<>"),
-    ("", "syntax"),
-    ("  ", "syntax"),
-    ("a**", "syntax"),
-    ("/a", "syntax"),
-    ("a/", "syntax"),
-    ("a / /b", "syntax"),
-    ("a///b", "syntax"),
-    ("a b", "syntax"),
-    ("_a", "syntax"),
-    ("_ _", "syntax"),
-    ("()", "syntax"),
-    ("(a", "syntax"),
-    ("a)", "syntax"),
-    ("|a", "syntax"),
-    ("a|", "syntax"),
-    ("and", "syntax"),
-    ("a/or", "syntax"),
-    ("1a", "syntax"),
-    ("a.b", "syntax"),
-    ("a<b>", "syntax"),
-    ("<a", "syntax"),
+/// Texts, what they are read as, and the length of the longest word: the canonical text of an expression, or the name of
+/// another answer.
+const TEXTS: &[(&str, &str, Option<u32>)] = &[
+    (
+        "a // ( b | <http://e/\\u0061> )*",
+        "a//(b|<http://e/a>)*",
+        None,
+    ),
+    (" a / b\t", "a/b", Some(2)),
+    ("a_-", "a_-", Some(1)),
+    ("_", "_", Some(1)),
+    ("a * ", "a*", None),
+    ("(a*)*", "(a*)*", None),
+    ("(a|b)*/c", "(a|b)*/c", None),
+    ("a|b/c|_", "a|b/c|_", Some(2)),
+    ("((a))", "((a))", Some(1)),
+    ("android?/not-a+", "android?/not-a+", None),
+    (" <a/b> //\t<> ", "<a/b>//<>", None),
+    ("a", "a", Some(1)),
+    ("a/_/c", "a/_/c", Some(3)),
+    ("a/b?|c", "a/b?|c", Some(2)),
+    ("(a|b/c)/(d/e)?", "(a|b/c)/(d/e)?", Some(4)),
+    ("a//(b|<http://e/a>)*", "a//(b|<http://e/a>)*", None),
+    ("a//b", "a//b", None),
+    ("(a/b)+", "(a/b)+", None),
+    ("a?|b?", "a?|b?", Some(1)),
+    ("", "syntax", None),
+    ("  ", "syntax", None),
+    ("a**", "syntax", None),
+    ("/a", "syntax", None),
+    ("a/", "syntax", None),
+    ("a / /b", "syntax", None),
+    ("a///b", "syntax", None),
+    ("a b", "syntax", None),
+    ("_a", "syntax", None),
+    ("_ _", "syntax", None),
+    ("()", "syntax", None),
+    ("(a", "syntax", None),
+    ("a)", "syntax", None),
+    ("|a", "syntax", None),
+    ("a|", "syntax", None),
+    ("and", "syntax", None),
+    ("a/or", "syntax", None),
+    ("1a", "syntax", None),
+    ("a.b", "syntax", None),
+    ("a<b>", "syntax", None),
+    ("<a", "syntax", None),
 ];
 
-/// Whether this is how the expression is written.
-fn is_written(alloc: Global, expr: &PathExpr, text: &str) -> bool {
+/// Whether this is how the expression is written, and its longest word has this length.
+fn is_written(alloc: Global, expr: &PathExpr, text: &str, len: Option<u32>) -> bool {
     match expr.write(alloc) {
-        Ok(found) => found.as_str() == text,
+        Ok(found) => found.as_str() == text && expr.longest() == len,
         Err(_) => false,
     }
 }
 
 /// Whether the text is read as this.
-fn is_read_as(alloc: Global, text: &str, answer: &str) -> bool {
+fn is_read_as(alloc: Global, text: &str, answer: &str, len: Option<u32>) -> bool {
     match PathExpr::parse(alloc, text.as_bytes(), &Limits::program()) {
-        Ok(expr) => is_written(alloc, &expr, answer),
+        Ok(expr) => is_written(alloc, &expr, answer, len),
         Err(ExprError::Syntax) => answer == "syntax",
         Err(ExprError::Limit) => answer == "limit",
         Err(ExprError::Memory) => false,
@@ -68,8 +81,8 @@ fn is_read_as(alloc: Global, text: &str, answer: &str) -> bool {
 
 #[test]
 fn texts_are_read(rt: HostRuntime) {
-    for (text, answer) in TEXTS {
-        assert!(rt; is_read_as(rt.alloc(), text, answer), "at {text}");
+    for (text, answer, len) in TEXTS {
+        assert!(rt; is_read_as(rt.alloc(), text, answer, *len), "at {text}");
     }
 }
 
@@ -107,33 +120,6 @@ fn passes_limit(alloc: Global, text: &str) -> bool {
 fn limits_come_first(rt: HostRuntime) {
     for (text, past) in PAST {
         assert!(rt; passes_limit(rt.alloc(), text) == *past, "at {text}");
-    }
-}
-
-/// Expressions, and the lengths of their longest words.
-const LENGTHS: &[(&str, Option<u32>)] = &[
-    ("a", Some(1)),
-    ("a/_/c", Some(3)),
-    ("a/b?|c", Some(2)),
-    ("(a|b/c)/(d/e)?", Some(4)),
-    ("a//(b|<http://e/a>)*", None),
-    ("a//b", None),
-    ("(a/b)+", None),
-    ("a?|b?", Some(1)),
-];
-
-/// Whether the text is read, and this is the length of its longest word.
-fn has_longest(alloc: Global, text: &str, len: Option<u32>) -> bool {
-    match PathExpr::parse(alloc, text.as_bytes(), &Limits::program()) {
-        Ok(expr) => expr.longest() == len,
-        Err(_) => false,
-    }
-}
-
-#[test]
-fn longest_words(rt: HostRuntime) {
-    for (text, len) in LENGTHS {
-        assert!(rt; has_longest(rt.alloc(), text, *len), "at {text}");
     }
 }
 
