@@ -142,8 +142,8 @@ fn note_ends(program: &Program, answers: &mut Bits, state: u32, places: &[u32])
 
 /// The nodes at which a word can end that is read from the state `start` on behind one of the places, where
 /// the graph's size is the place in front of all nodes: a set of numbers below that size. `Memory` comes at
-/// want of memory alone. For m states the time is at most in proportion to m times the nodes and edges. A state
-/// that isn't entered takes no memory for its marks, and nothing is allocated for each node or edge.
+/// want of memory alone. For m states, n nodes and e edges it takes O(m (n + e)): a bit for each node and each state
+/// that is entered, at most 4 bytes for each of these pairs that waits, and no allocation for a node or an edge.
 pub fn search<G: Digraph>(
     alloc: Global,
     g: &G,
