@@ -1,2 +1,4 @@
 pub mod Places
 pub mod Spelling
+pub mod Meanings
+pub mod Kept

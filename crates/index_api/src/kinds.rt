@@ -1,6 +1,6 @@
-// Which index a query is asked through, and its level.
-ghost use Rattle.std.specs.Prelude.{◌≡◌};
-ghost use Rattle.index_api.specs.Places.{place_of};
+// Through what a query is asked.
+ghost use Rattle.std.specs.Prelude.{◌≡◌, ◌≤◌, slice_get};
+ghost use Rattle.index_api.specs.Places.{place_of, all_indexes};
 
 use bisim_spec::Kind;
 
@@ -28,6 +28,23 @@ impl Via {
             Via::A(level) => Some((Kind::A, level)),
             Via::One => Some((Kind::One, 0)),
             Via::Fb => Some((Kind::Fb, 0)),
+        }
+    }
+
+    /// The index at place `n`, counted from 0, in the list of all indexes with levels up to `k`: the A(i)-indexes
+    /// from level 0 up to `k`, then the 1-index, then the forward and backward index. None exactly past these.
+    pub fn nth(n: u32, k: u32) -> Option<Via>
+        requires few { k ≤ 8 }
+        ensures { result ≡ slice_get (all_indexes k) n }
+    {
+        if n <= k {
+            Some(Via::A(n))
+        } else if n == k + 1 {
+            Some(Via::One)
+        } else if n == k + 2 {
+            Some(Via::Fb)
+        } else {
+            None
         }
     }
 }

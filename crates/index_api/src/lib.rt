@@ -1,9 +1,14 @@
-//! The kinds of indexes, and through which one a query is answered.
+//! Indexes of a graph, of any kind: which there are, through which one a query is answered, and the interface through which an
+//! index is kept while its graph changes.
 #![tactic(auto)]
 
+mod answers;
 mod kinds;
+mod path_index;
 #[cfg(test)]
 mod tests;
 
+pub use answers::{Answer, How};
 pub use bisim_spec::Kind;
 pub use kinds::Via;
+pub use path_index::PathIndex;

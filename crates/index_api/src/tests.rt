@@ -1,4 +1,4 @@
-// Where each way leads.
+// Where each way leads, and the order of the indexes.
 use super::*;
 use std::test::Fail;
 
@@ -12,6 +12,21 @@ fn indexes_have_places(rt: HostRuntime) -> Result<(), Fail> {
     ];
     for (via, place) in rows {
         assert_eq!(rt; via.place(), place);
+    }
+    Ok(())
+}
+
+#[test]
+fn indexes_are_listed(rt: HostRuntime) -> Result<(), Fail> {
+    let rows: [(u32, Option<Via>); 5] = [
+        (0, Some(Via::A(0))),
+        (2, Some(Via::A(2))),
+        (3, Some(Via::One)),
+        (4, Some(Via::Fb)),
+        (5, None),
+    ];
+    for (n, via) in rows {
+        assert_eq!(rt; Via::nth(n, 2), via);
     }
     Ok(())
 }

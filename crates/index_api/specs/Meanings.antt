@@ -1,0 +1,73 @@
+-- What an index means to those who use it: its kind, its views, and the views that it has staged; and what each call of an
+-- index leaves of that.
+use Rattle.std.specs.Prelude.{⊤, ℕ, ◌≡◌, ◌<◌, List, length, Option, Some, None, IsSome}
+use Rattle.px_spec.specs.Graphs.{Graph}
+use Rattle.px_spec.specs.Changes.{Change, after}
+use Rattle.px_spec.specs.Shapes.{shape_of}
+use Rattle.bisim_spec.specs.declared.kind.Kind.{Kind}
+use Rattle.bisim_spec.specs.declared.kind.Kind.TheVariants.{A, One, Fb}
+use Rattle.bisim_spec.specs.Bisimilarity.{Bisim}
+use Rattle.bisim_spec.specs.Partitions.{Agrees}
+use Rattle.bisim_spec.specs.Views.{View}
+use Rattle.bisim_spec.specs.Fits.{Fits, view_at, view_count}
+
+pub record Meaning : Type 0 where
+  pub kind : Kind
+  -- the view of each level, none where it isn't computed
+  pub views : List (Option View)
+  -- the views that a change to come will leave, where one is prepared
+  pub staged : Option (List (Option View))
+
+-- the index without what it has staged
+abbrev pub unstaged : Meaning → Meaning
+unstaged m = record m { staged = None }
+
+-- the views fit the graph, and nothing is staged
+pub record IsReady (m : Meaning) (g : Graph) : Type 0 where
+  pub fits : Fits m.kind m.views g
+  pub unstaged : m.staged ≡ None
+
+-- A view as a build makes it: that of the 1-index is full bisimilarity, also where walks come back to their beginning.
+abbrev pub BeginsWhole : Kind → Graph → Option View → Type 0
+BeginsWhole A g o = ⊤
+BeginsWhole One g None = ⊤
+BeginsWhole One g (Some v) = Agrees (shape_of g) v.block_of (Bisim (shape_of g))
+BeginsWhole Fb g o = ⊤
+
+-- the index is built from the graph, with levels up to k where it has levels
+pub record IsBuilt (old new : Meaning) (g : Graph) (k : ℕ) : Type 0 where
+  pub kind : new.kind ≡ old.kind
+  pub ready : IsReady new g
+  pub count : length new.views ≡ view_count old.kind k
+  pub whole : BeginsWhole old.kind g (view_at new.views 0)
+
+-- these views are what a change makes of an index
+pub record AreNext (old : Meaning) (c : Change) (g : Graph) (views : List (Option View)) : Type 0 where
+  pub count : length views ≡ length old.views
+  pub fits : Fits old.kind views (after c g)
+
+-- the change of the graph is prepared, and nothing else has happened
+pub record IsStaged (old new : Meaning) (c : Change) (g : Graph) : Type 0 where
+  pub kind : new.kind ≡ old.kind
+  pub views : new.views ≡ old.views
+  pub next : List (Option View)
+  pub staged : new.staged ≡ Some next
+  pub are_next : AreNext old c g next
+
+-- what was staged is in force
+pub record IsCommitted (old new : Meaning) : Type 0 where
+  pub kind : new.kind ≡ old.kind
+  pub views : old.staged ≡ Some new.views
+  pub unstaged : new.staged ≡ None
+
+-- the kind and each view that is computed are as before
+pub record KeepsViews (old new : Meaning) : Type 0 where
+  pub kind : new.kind ≡ old.kind
+  pub count : length new.views ≡ length old.views
+  pub kept : (i : ℕ) (v : View) → view_at old.views i ≡ Some v → view_at new.views i ≡ Some v
+
+-- each view is computed
+pub record IsRefreshed (old new : Meaning) (g : Graph) : Type 0 where
+  pub keeps : KeepsViews old new
+  pub ready : IsReady new g
+  pub computed : (i : ℕ) → i < length new.views → IsSome (view_at new.views i)
