@@ -1,3 +1,4 @@
 pub mod Listing
 pub mod Summaries
 pub mod Chains
+pub mod Shown

@@ -3,6 +3,7 @@
 #![tactic(auto)]
 
 mod answers;
+mod boxed;
 mod kinds;
 mod path_index;
 #[cfg(test)]

@@ -1,0 +1,9 @@
+use Rattle.std.proofs.Common.{map}
+use Rattle.index_api.specs.Meanings.{IsBuilt}
+use Rattle.pathindex_core.specs.Boxes.{BecomeBelow}
+use Rattle.pathindex_core.proofs.boxes.build_all.Given as goal
+
+abbrev pub invariant-loop-i : goal.invariant-loop-i
+invariant-loop-i g l =
+    BecomeBelow (λ a b. IsBuilt a b l.view l.k) l.i (map (λ b. (goal.PathIndex-dyn g (b.vtable, b.value)).meaning b.value) l.fn.boxes.items)
+    (map (λ b. (goal.PathIndex-dyn g (b.vtable, b.value)).meaning b.value) l.boxes.items)

@@ -1,0 +1,196 @@
+// The engine.
+ghost use Rattle.std.specs.Prelude.{◌≡◌, ◌≢◌, ◌+◌, ◌<◌, ◌≤◌, ◌↔◌, not, Ok, Err, Some, None, true, false, List, ℕ, map, OnOk, OnErr, IfOk, IsSome};
+ghost use Rattle.std.specs.List.{AllPairs, filter};
+ghost use Rattle.px_spec.specs.Shapes.{shape_of};
+ghost use Rattle.label_graph.specs.Views.{live_count, edge_count};
+ghost use Rattle.graph_update.specs.NewChanges.{is_same};
+ghost use Rattle.graph_update.specs.Judging.{change_of};
+ghost use Rattle.graph_update.specs.Staging.{applied_of};
+ghost use Rattle.path_spec.specs.Answers.{AreAnswers};
+ghost use Rattle.index_api.specs.declared.kinds.Via.TheVariants.{Data as TheGraph, Fb as TheFb};
+ghost use Rattle.index_api.specs.declared.answers.How.TheVariants.{Data as InGraph};
+ghost use Rattle.index_api.specs.Meanings.{IsBuilt, KeepsViews};
+ghost use Rattle.index_api.specs.Kept.{is_kind, is_kept, kept_of, kinds_of, has_kind};
+ghost use Rattle.extent_report.specs.Shown.{ListsIndex, ListsSizes};
+ghost use Rattle.pathindex_core.specs.Engines.{engine_seen, opened_of, graph_in, level_in, EachBecomes, IsSound};
+ghost use Rattle.pathindex_core.specs.Updates.{outcome_in, opened_after, IsUpdated};
+
+use crate::boxes::{build_all, place_of, take_out};
+use crate::errors::{AskError, UpdateError};
+use crate::updates::update;
+use graph_update::{Applied, Change};
+use index_api::{Answer, How, Kind, PathIndex, Via};
+use label_graph::Graph;
+use path_query::{PathExpr, eval};
+use px_base::{Limits, Memory, Refusal, Steps, Text};
+use std::alloc::Global;
+use std::marker::Brand;
+use std::sync::ledger::{Blank, Ledger};
+
+/// What an open engine has beside its boxes.
+#[derive(Drop)]
+pub struct Open {
+    graph: Graph,
+    limits: Limits,
+    k: u32,
+}
+
+/// A graph, and the indexes that are kept of it. Each index is in a box, at most one of each kind. An engine is opened with a graph, of
+/// which each index is then built, and from there on changes go through the engine.
+///
+/// No contract can name what a box means in a field, so the clauses name the engine's two fields, through `engine_seen`.
+#[derive(Drop)]
+pub struct Engine {
+    boxes: Vec<Box<dyn PathIndex>>,
+    state: Option<Open>,
+}
+
+fn build_counted<L: Ledger>(
+    boxes: &mut Vec<Box<dyn PathIndex>>,
+    graph: &Graph,
+    k: u32,
+    blank: Blank,
+) -> Result<(), Memory>
+    requires few { k ≤ 8 }
+    requires name { blank.name ≡ L.name }
+    requires parts { blank.parts ≡ L.parts }
+    requires some { 0 < blank.parts }
+    ensures ok { OnOk result (EachBecomes (λ a b. IsBuilt a b graph.now.graph k) (map meaning boxes.old.items) (map meaning boxes.new.items)) }
+    ensures kinds { kinds_of (map meaning boxes.new.items) ≡ kinds_of (map meaning boxes.old.items) }
+{
+    let mut steps = Steps::<L>::new(blank);
+    let view = graph.view(&mut steps);
+    build_all(boxes, &view, k)
+}
+
+/// Builds each box of the graph.
+fn build_of(boxes: &mut Vec<Box<dyn PathIndex>>, graph: &Graph, k: u32) -> Result<(), Memory>
+    requires few { k ≤ 8 }
+    ensures ok { OnOk result (EachBecomes (λ a b. IsBuilt a b graph.now.graph k) (map meaning boxes.old.items) (map meaning boxes.new.items)) }
+    ensures kinds { kinds_of (map meaning boxes.new.items) ≡ kinds_of (map meaning boxes.old.items) }
+{
+    build_counted::<Brand>(boxes, graph, k, Blank::new(1))
+}
+
+impl Engine {
+    /// An engine with these boxes, of which no two are of one kind. It isn't open. It takes no memory.
+    pub fn new(boxes: Vec<Box<dyn PathIndex>>) -> Engine
+        requires apart { AllPairs (λ a b. a.kind ≢ b.kind) (map meaning boxes.items) }
+        ensures seen { engine_seen (map meaning result.boxes.items) result.state ≡ record { boxes = map meaning boxes.items; opened = None } }
+        ensures sound { IsSound (engine_seen (map meaning result.boxes.items) result.state) }
+    {
+        Engine { boxes, state: None }
+    }
+
+    /// Opens the engine with a graph, limits on what changes may make of it, and the highest level of the A(k)-family, and builds each index. At want of
+    /// memory the graph is dropped, and the engine isn't open.
+    pub fn open(&mut self, graph: Graph, limits: Limits, k: u32) -> Result<(), Memory>
+        requires closed { opened_of self.old.state ≡ None }
+        requires few { k ≤ 8 }
+        requires sound { IsSound (engine_seen (map meaning self.old.boxes.items) self.old.state) }
+        ensures sound { IsSound (engine_seen (map meaning self.new.boxes.items) self.new.state) }
+        ensures opened { OnOk result (opened_of self.new.state ≡ Some (record { graph = graph.graph; limits = limits; k = k })) }
+        ensures built { OnOk result (EachBecomes (λ a b. IsBuilt a b graph.graph k) (map meaning self.old.boxes.items) (map meaning self.new.boxes.items)) }
+        ensures err { OnErr result (opened_of self.new.state ≡ None) }
+        ensures kinds { kinds_of (map meaning self.new.boxes.items) ≡ kinds_of (map meaning self.old.boxes.items) }
+    {
+        build_of(&mut self.boxes, &graph, k)?;
+        self.state = Some(Open { graph, limits, k });
+        Ok(())
+    }
+
+    /// The graph. O(1).
+    pub fn graph(&self) -> &Graph
+        requires open { IsSome (opened_of self.now.state) }
+        ensures { result.now.graph ≡ graph_in (opened_of self.now.state) }
+    {
+        match &self.state {
+            Some(open) => &open.graph,
+            None => unreachable!(),
+        }
+    }
+
+    /// Makes a change in the graph and in each index, and says which number a new node got. `Refused` comes exactly where the change is refused within the
+    /// engine's limits, memory or not. An error leaves all as it was. So does the link of an edge that is there, which takes no
+    /// memory. Each other change takes all its memory before the graph or an index changes.
+    pub fn update(&mut self, alloc: Global, change: Change) -> Result<Applied, UpdateError>
+        requires open { IsSome (opened_of self.old.state) }
+        requires sound { IsSound (engine_seen (map meaning self.old.boxes.items) self.old.state) }
+        ensures sound { IsSound (engine_seen (map meaning self.new.boxes.items) self.new.state) }
+        ensures refused { (r : Refusal) → (result ≡ Err (UpdateError.Refused r)) ↔ (outcome_in (change_of change) (opened_of self.old.state) ≡ Err r) }
+        ensures opened { OnOk result (opened_of self.new.state ≡ opened_after (change_of change) (opened_of self.old.state)) }
+        ensures updated { OnOk result (EachBecomes (IsUpdated (change_of change) (graph_in (opened_of self.old.state))) (map meaning self.old.boxes.items) (map meaning self.new.boxes.items)) }
+        ensures applied { IfOk result (λ applied. applied ≡ applied_of (change_of change) (graph_in (opened_of self.old.state))) }
+        ensures same { is_same (change_of change) (graph_in (opened_of self.old.state)) ≡ true → result ≡ Ok Applied.Done }
+        ensures kinds { kinds_of (map meaning self.new.boxes.items) ≡ kinds_of (map meaning self.old.boxes.items) }
+        ensures err { OnErr result (engine_seen (map meaning self.new.boxes.items) self.new.state ≡ engine_seen (map meaning self.old.boxes.items) self.old.state) }
+    {
+        match &mut self.state {
+            Some(open) => update(alloc, &mut self.boxes, &mut open.graph, &change, &open.limits),
+            None => unreachable!(),
+        }
+    }
+
+    /// Takes out the index of a kind and drops it; all else stays. `NoIndex` comes exactly where none of that kind is kept, and no other
+    /// refusal. It takes no memory.
+    pub fn forget(&mut self, kind: Kind) -> Result<(), Refusal>
+        requires sound { IsSound (engine_seen (map meaning self.old.boxes.items) self.old.state) }
+        ensures sound { IsSound (engine_seen (map meaning self.new.boxes.items) self.new.state) }
+        ensures opened { opened_of self.new.state ≡ opened_of self.old.state }
+        ensures boxes { map meaning self.new.boxes.items ≡ filter (λ m. not (is_kind kind m.kind)) (map meaning self.old.boxes.items) }
+        ensures no_index { (result ≡ Err Refusal.NoIndex) ↔ (has_kind (kinds_of (map meaning self.old.boxes.items)) kind ≡ false) }
+        ensures no_other { (r : Refusal) → result ≡ Err r → r ≡ Refusal.NoIndex }
+    {
+        match place_of(&self.boxes, kind) {
+            Some(i) => {
+                take_out(&mut self.boxes, kind, i);
+                Ok(())
+            }
+            None => Err(Refusal::NoIndex),
+        }
+    }
+
+    /// The nodes in which a walk ends whose labels match the expression, asked of the graph itself. `NoIndex` doesn't come, and an error leaves all as it was. It
+    /// costs one view of the graph.
+    pub fn path<L: Ledger>(
+        &mut self,
+        alloc: Global,
+        via: Via,
+        expr: &PathExpr,
+        steps: &mut Steps<L>,
+    ) -> Result<Answer, AskError>
+        requires open { IsSome (opened_of self.old.state) }
+        requires sound { IsSound (engine_seen (map meaning self.old.boxes.items) self.old.state) }
+        requires graph { via ≡ TheGraph }
+        ensures sound { IsSound (engine_seen (map meaning self.new.boxes.items) self.new.state) }
+        ensures seen { engine_seen (map meaning self.new.boxes.items) self.new.state ≡ engine_seen (map meaning self.old.boxes.items) self.old.state }
+        ensures nodes { IfOk result (λ answer. AreAnswers (shape_of (graph_in (opened_of self.old.state))) expr.now answer.nodes.members) }
+        ensures how { IfOk result (λ answer. answer.how ≡ InGraph) }
+        ensures no_index { result ≢ Err AskError.NoIndex }
+        ensures cost { steps.new ≡ steps.old + 1 + live_count (graph_in (opened_of self.old.state)) + edge_count (graph_in (opened_of self.old.state)) }
+    {
+        match &self.state {
+            Some(open) => ask(alloc, &open.graph, expr, steps),
+            None => unreachable!(),
+        }
+    }
+}
+
+/// Asks the graph itself.
+fn ask<L: Ledger>(
+    alloc: Global,
+    graph: &Graph,
+    expr: &PathExpr,
+    steps: &mut Steps<L>,
+) -> Result<Answer, AskError>
+    ensures nodes { IfOk result (λ answer. AreAnswers (shape_of graph.now.graph) expr.now answer.nodes.members) }
+    ensures how { IfOk result (λ answer. answer.how ≡ InGraph) }
+    ensures no_index { result ≢ Err AskError.NoIndex }
+    ensures cost { steps.new ≡ steps.old + 1 + live_count graph.now.graph + edge_count graph.now.graph }
+{
+    let view = graph.view(steps);
+    match eval(alloc, &view, graph.labels(), expr) {
+        Ok(nodes) => Ok(Answer { nodes, how: How::Data }),
+        Err(Memory) => Err(AskError::Memory),
+    }
+}

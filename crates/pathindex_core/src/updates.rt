@@ -1,0 +1,70 @@
+// Making a change in a graph and in each of its indexes.
+ghost use Rattle.std.specs.Prelude.{◌≡◌, ℕ, ◌↔◌, Ok, Err, true, false, map, All, OnOk, OnErr, IfOk};
+ghost use Rattle.px_spec.specs.declared.refusal.Refusal.{Refusal};
+ghost use Rattle.px_spec.specs.Changes.{after, apply};
+ghost use Rattle.graph_update.specs.NewChanges.{IsNew, is_same};
+ghost use Rattle.graph_update.specs.Judging.{change_of};
+ghost use Rattle.graph_update.specs.Staging.{applied_of};
+ghost use Rattle.index_api.specs.Meanings.{IsReady};
+ghost use Rattle.pathindex_core.specs.Engines.{EachBecomes};
+ghost use Rattle.pathindex_core.specs.Updates.{IsMoved, IsUpdated, StaysReady, graph_or};
+
+use crate::boxes::{commit_all, prepare_all};
+use crate::errors::UpdateError;
+use graph_update::{Applied, Change, Verdict, commit, judge, stage};
+use index_api::PathIndex;
+use label_graph::Graph;
+use px_base::{Limits, Memory};
+use std::alloc::Global;
+
+/// Makes a change that alters the graph. All memory that it needs is taken before the graph or an index changes; at want of it all are
+/// as before.
+fn make(
+    alloc: Global,
+    boxes: &mut Vec<Box<dyn PathIndex>>,
+    graph: &mut Graph,
+    change: &Change,
+) -> Result<Applied, Memory>
+    requires ready { All (λ m. IsReady m graph.old.graph) (map meaning boxes.old.items) }
+    requires new { IsNew (change_of change.now) graph.old.graph }
+    ensures graph { OnOk result (graph.new.graph ≡ after (change_of change.now) graph.old.graph) }
+    ensures moved { OnOk result (EachBecomes (λ a b. IsMoved a b (change_of change.now) graph.old.graph) (map meaning boxes.old.items) (map meaning boxes.new.items)) }
+    ensures applied { IfOk result (λ applied. applied ≡ applied_of (change_of change.now) graph.old.graph) }
+    ensures err_graph { OnErr result (graph.new.graph ≡ graph.old.graph) }
+    ensures err_boxes { OnErr result (map meaning boxes.new.items ≡ map meaning boxes.old.items) }
+{
+    let staged = stage(alloc, graph, change)?;
+    prepare_all(boxes, graph, change)?;
+    let applied = commit(graph, staged);
+    commit_all(boxes);
+    Ok(applied)
+}
+
+/// Judges a change, and makes it where it is accepted. A refusal and want of memory leave all as it was, and so does a change that alters
+/// nothing, which takes no memory.
+pub(crate) fn update(
+    alloc: Global,
+    boxes: &mut Vec<Box<dyn PathIndex>>,
+    graph: &mut Graph,
+    change: &Change,
+    limits: &Limits,
+) -> Result<Applied, UpdateError>
+    requires ready { All (λ m. IsReady m graph.old.graph) (map meaning boxes.old.items) }
+    ensures refused { (r : Refusal) → (result ≡ Err (UpdateError.Refused r)) ↔ (apply (change_of change.now) graph.old.graph limits.now ≡ Err r) }
+    ensures graph { OnOk result (graph.new.graph ≡ graph_or graph.old.graph (apply (change_of change.now) graph.old.graph limits.now)) }
+    ensures updated { OnOk result (EachBecomes (IsUpdated (change_of change.now) graph.old.graph) (map meaning boxes.old.items) (map meaning boxes.new.items)) }
+    ensures applied { IfOk result (λ applied. applied ≡ applied_of (change_of change.now) graph.old.graph) }
+    ensures same { is_same (change_of change.now) graph.old.graph ≡ true → result ≡ Ok Applied.Done }
+    ensures ready { OnOk result (EachBecomes (λ a b. StaysReady a b graph.new.graph) (map meaning boxes.old.items) (map meaning boxes.new.items)) }
+    ensures err_graph { OnErr result (graph.new.graph ≡ graph.old.graph) }
+    ensures err_boxes { OnErr result (map meaning boxes.new.items ≡ map meaning boxes.old.items) }
+{
+    match judge(graph, change, limits) {
+        Err(refusal) => Err(UpdateError::Refused(refusal)),
+        Ok(Verdict::Same) => Ok(Applied::Done),
+        Ok(Verdict::New) => match make(alloc, boxes, graph, change) {
+            Ok(applied) => Ok(applied),
+            Err(Memory) => Err(UpdateError::Memory),
+        },
+    }
+}
