@@ -46,7 +46,7 @@ is_kept_at [] kind i s = let h = s.within in absurd (omega (arith, h))
 is_kept_at (m ∷ boxes) kind zero s = rw (s.of_kind m) refl
 is_kept_at (m ∷ boxes) kind (suc i) s =
     let h = s.within in
-    let rest = is_kept_at boxes kind i (record { within = omega (arith, h); of_kind = s.of_kind }) in
+    let rest = is_kept_at boxes kind i (record { within = omega (arith, h); of_kind = s.of_kind; first = λ j d below. s.first (suc j) d (omega (arith, below)) }) in
     elim (is_kind kind m.kind) as (λ b. (b || has_kind (kinds_of boxes) kind) ≡ true) [ true ↦ refl | false ↦ rest ]
 
 -- one more isn't of the kind
@@ -58,8 +58,9 @@ place_step f xs i x kind h e before here k d below =
     below_more P i (λ j jb. before j d jb) (rw (get_or-map f xs i x d h, ← e) here) k below
 
 -- the box at the place
-pub stands_here : {B : Type 0} (f : B → Meaning) (xs : List B) (i : ℕ) (x : B) (kind : Kind) → i < length xs → x ≡ get_or xs i x → is_kind kind (f x).kind ≡ true → StandsAt (map f xs) kind i
-stands_here f xs i x kind h e is = record { within = rw (length-map xs f) h; of_kind = λ d. rw (get_or-map f xs i x d h, ← e) is }
+pub stands_here : {B : Type 0} (f : B → Meaning) (xs : List B) (i : ℕ) (x : B) (kind : Kind) → i < length xs → x ≡ get_or xs i x
+    → ((k : ℕ) (d : Meaning) → k < i → is_kind kind (get_or (map f xs) k d).kind ≡ false) → is_kind kind (f x).kind ≡ true → StandsAt (map f xs) kind i
+stands_here f xs i x kind h e before is = record { within = rw (length-map xs f) h; of_kind = λ d. rw (get_or-map f xs i x d h, ← e) is; first = before }
 
 all_others : (boxes : List Meaning) (kind : Kind) → ((k : ℕ) (d : Meaning) → k < length boxes → is_kind kind (get_or boxes k d).kind ≡ false) → filter (λ m. not (is_kind kind m.kind)) boxes ≡ boxes
 all_others [] kind h = refl
@@ -72,7 +73,7 @@ others [] kind i s h = let w = s.within in absurd (omega (arith, w))
 others (m ∷ boxes) kind zero s h = rw (s.of_kind m) (sym (all_others boxes kind (λ k d within. h (suc k) d (omega (arith, within)) (omega arith))))
 others (m ∷ boxes) kind (suc i) s h =
     let w = s.within in
-    let rest = others boxes kind i (record { within = omega (arith, w); of_kind = s.of_kind }) (λ k d within ne. h (suc k) d (omega (arith, within)) (omega (arith, ne))) in
+    let rest = others boxes kind i (record { within = omega (arith, w); of_kind = s.of_kind; first = λ j d below. s.first (suc j) d (omega (arith, below)) }) (λ k d within ne. h (suc k) d (omega (arith, within)) (omega (arith, ne))) in
     let next : suc i + 1 ≡ suc (i + 1) = omega arith in
     rw (h 0 m (omega arith) (omega arith), next) (ap (λ xs. m ∷ xs) rest)
 

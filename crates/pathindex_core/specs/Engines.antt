@@ -6,7 +6,7 @@ use Rattle.px_spec.specs.declared.refusal.Refusal.{Refusal}
 use Rattle.px_spec.specs.Graphs.{Graph, empty_graph}
 use Rattle.bisim_spec.specs.Fits.{view_count}
 use Rattle.index_api.specs.Meanings.{Meaning, IsReady}
-use Rattle.pathindex_core.specs.declared.engine.Open.{Open}
+use Rattle.pathindex_core.specs.declared.state.Open.{Open}
 
 -- what an open engine has beside its boxes
 pub record Opened : Type 0 where
@@ -21,9 +21,12 @@ pub record EngineSeen : Type 0 where
   -- none while the engine isn't open
   pub opened : Option Opened
 
+abbrev pub opened : Open → Opened
+opened o = record { graph = o.graph.graph; limits = o.limits; k = o.k }
+
 abbrev pub opened_of : Option Open → Option Opened
 opened_of None = None
-opened_of (Some o) = Some (record { graph = o.graph.graph; limits = o.limits; k = o.k })
+opened_of (Some o) = Some (opened o)
 
 abbrev pub engine_seen : List Meaning → Option Open → EngineSeen
 engine_seen boxes state = record { boxes = boxes; opened = opened_of state }

@@ -17,6 +17,8 @@ ghost use Rattle.pathindex_core.specs.Updates.{outcome_in, opened_after, IsUpdat
 
 use crate::boxes::{build_all, place_of, take_out};
 use crate::errors::{AskError, UpdateError};
+use crate::lists::{list, measure};
+use crate::state::Open;
 use crate::updates::update;
 use graph_update::{Applied, Change};
 use index_api::{Answer, How, Kind, PathIndex, Via};
@@ -26,14 +28,6 @@ use px_base::{Limits, Memory, Refusal, Steps, Text};
 use std::alloc::Global;
 use std::marker::Brand;
 use std::sync::ledger::{Blank, Ledger};
-
-/// What an open engine has beside its boxes.
-#[derive(Drop)]
-pub struct Open {
-    graph: Graph,
-    limits: Limits,
-    k: u32,
-}
 
 /// A graph, and the indexes that are kept of it. Each index is in a box, at most one of each kind. An engine is opened with a graph, of
 /// which each index is then built, and from there on changes go through the engine.
@@ -171,6 +165,55 @@ impl Engine {
     {
         match &self.state {
             Some(open) => ask(alloc, &open.graph, expr, steps),
+            None => unreachable!(),
+        }
+    }
+
+    /// The list of the blocks of an index that isn't the graph itself, each with its nodes. `NoIndex` comes exactly where the index isn't kept, memory or not. That of
+    /// the forward and backward index is first computed, where it isn't; no other call to this function computes anything. An error
+    /// leaves the graph and each view that is computed.
+    pub fn extents<L: Ledger>(
+        &mut self,
+        alloc: Global,
+        via: Via,
+        steps: &mut Steps<L>,
+    ) -> Result<Text, AskError>
+        requires open { IsSome (opened_of self.old.state) }
+        requires sound { IsSound (engine_seen (map meaning self.old.boxes.items) self.old.state) }
+        requires index { via ≢ TheGraph }
+        ensures sound { IsSound (engine_seen (map meaning self.new.boxes.items) self.new.state) }
+        ensures opened { opened_of self.new.state ≡ opened_of self.old.state }
+        ensures keeps { EachBecomes KeepsViews (map meaning self.old.boxes.items) (map meaning self.new.boxes.items) }
+        ensures kept { kept_of (map meaning self.new.boxes.items) (level_in (opened_of self.old.state)) ≡ kept_of (map meaning self.old.boxes.items) (level_in (opened_of self.old.state)) }
+        ensures others { via ≢ TheFb → map meaning self.new.boxes.items ≡ map meaning self.old.boxes.items }
+        ensures text { IfOk result (ListsIndex (graph_in (opened_of self.old.state)) (kept_of (map meaning self.old.boxes.items) (level_in (opened_of self.old.state))) via) }
+        ensures no_index { (result ≡ Err AskError.NoIndex) ↔ (is_kept (kept_of (map meaning self.old.boxes.items) (level_in (opened_of self.old.state))) via ≡ false) }
+        ensures cost { steps.new ≤ steps.old + 1 + live_count (graph_in (opened_of self.old.state)) + edge_count (graph_in (opened_of self.old.state)) }
+    {
+        match &self.state {
+            Some(open) => list(alloc, &mut self.boxes, open, via, steps),
+            None => unreachable!(),
+        }
+    }
+
+    /// The size of the graph and of each index that is kept, in the order of `Via::nth`. The forward and backward index is first
+    /// computed, where it is kept and isn't. Want of memory leaves the graph and each view that is computed.
+    pub fn sizes<L: Ledger>(
+        &mut self,
+        alloc: Global,
+        steps: &mut Steps<L>,
+    ) -> Result<Text, Memory>
+        requires open { IsSome (opened_of self.old.state) }
+        requires sound { IsSound (engine_seen (map meaning self.old.boxes.items) self.old.state) }
+        ensures sound { IsSound (engine_seen (map meaning self.new.boxes.items) self.new.state) }
+        ensures opened { opened_of self.new.state ≡ opened_of self.old.state }
+        ensures keeps { EachBecomes KeepsViews (map meaning self.old.boxes.items) (map meaning self.new.boxes.items) }
+        ensures kept { kept_of (map meaning self.new.boxes.items) (level_in (opened_of self.old.state)) ≡ kept_of (map meaning self.old.boxes.items) (level_in (opened_of self.old.state)) }
+        ensures text { IfOk result (ListsSizes (graph_in (opened_of self.old.state)) (kept_of (map meaning self.old.boxes.items) (level_in (opened_of self.old.state)))) }
+        ensures cost { steps.new ≤ steps.old + 1 + live_count (graph_in (opened_of self.old.state)) + edge_count (graph_in (opened_of self.old.state)) }
+    {
+        match &self.state {
+            Some(open) => measure(alloc, &mut self.boxes, open, steps),
             None => unreachable!(),
         }
     }

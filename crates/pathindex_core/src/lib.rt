@@ -4,7 +4,11 @@
 mod boxes;
 mod engine;
 mod errors;
+mod lists;
+mod state;
 mod updates;
+mod views;
 
 pub use engine::Engine;
 pub use errors::{AskError, UpdateError};
+pub use state::Open;

@@ -1,0 +1,122 @@
+// The lists of the indexes that are kept.
+ghost use Rattle.std.specs.Prelude.{◌≡◌, ◌≢◌, ◌≤◌, ◌+◌, ◌++◌, ◌↔◌, Err, Some, true, false, List, ℕ, map, All, OnOk, OnErr, IfOk, string_bytes};
+ghost use Rattle.label_graph.specs.Views.{live_count, edge_count};
+ghost use Rattle.index_api.specs.declared.kinds.Via.TheVariants.{Data, Fb};
+ghost use Rattle.index_api.specs.Meanings.{KeepsViews};
+ghost use Rattle.index_api.specs.Kept.{is_kept, kept_of};
+ghost use Rattle.extent_report.specs.Shown.{ListsIndex, ListsSizes, ShowsSize};
+ghost use Rattle.pathindex_core.specs.Engines.{EachBecomes, IsKeptFor, opened};
+ghost use Rattle.pathindex_core.specs.Boxes.{IsFbComputed};
+
+use crate::errors::AskError;
+use crate::state::Open;
+use crate::views::{refresh_fb, refresh_for, summary_of};
+use extent_report::{extents_text, sizes_head, sizes_line};
+use index_api::{PathIndex, Via};
+use px_base::{Memory, Steps, Text};
+use std::alloc::Global;
+use std::sync::ledger::Ledger;
+
+/// The list of the blocks of an index whose view is computed, where it is kept.
+fn text_of(
+    alloc: Global,
+    boxes: &Vec<Box<dyn PathIndex>>,
+    open: &Open,
+    via: Via,
+) -> Result<Text, AskError>
+    requires kept { All (IsKeptFor (opened open.now)) (map meaning boxes.now.items) }
+    requires computed { via ≡ Fb → IsFbComputed (map meaning boxes.now.items) }
+    requires index { via ≢ Data }
+    ensures text { IfOk result (ListsIndex open.now.graph.graph (kept_of (map meaning boxes.now.items) open.now.k) via) }
+    ensures no_index { (result ≡ Err AskError.NoIndex) ↔ (is_kept (kept_of (map meaning boxes.now.items) open.now.k) via ≡ false) }
+{
+    match summary_of(boxes, via) {
+        Some(summary) => match extents_text(alloc, summary, open.graph.labels()) {
+            Ok(text) => Ok(text),
+            Err(Memory) => Err(AskError::Memory),
+        },
+        None => Err(AskError::NoIndex),
+    }
+}
+
+/// The list of the blocks of an index, where it is kept.
+pub(crate) fn list<L: Ledger>(
+    alloc: Global,
+    boxes: &mut Vec<Box<dyn PathIndex>>,
+    open: &Open,
+    via: Via,
+    steps: &mut Steps<L>,
+) -> Result<Text, AskError>
+    requires kept { All (IsKeptFor (opened open.now)) (map meaning boxes.old.items) }
+    requires index { via ≢ Data }
+    ensures keeps { EachBecomes KeepsViews (map meaning boxes.old.items) (map meaning boxes.new.items) }
+    ensures kept { All (IsKeptFor (opened open.now)) (map meaning boxes.new.items) }
+    ensures others { via ≢ Fb → map meaning boxes.new.items ≡ map meaning boxes.old.items }
+    ensures text { IfOk result (ListsIndex open.now.graph.graph (kept_of (map meaning boxes.old.items) open.now.k) via) }
+    ensures no_index { (result ≡ Err AskError.NoIndex) ↔ (is_kept (kept_of (map meaning boxes.old.items) open.now.k) via ≡ false) }
+    ensures cost { steps.new ≤ steps.old + 1 + live_count open.now.graph.graph + edge_count open.now.graph.graph }
+{
+    match refresh_for(boxes, via, &open.graph, steps) {
+        Ok(()) => text_of(alloc, boxes, open, via),
+        Err(Memory) => Err(AskError::Memory),
+    }
+}
+
+/// Appends the line of the size of an index, where it is kept.
+fn push_size(
+    alloc: Global,
+    out: &mut String,
+    boxes: &Vec<Box<dyn PathIndex>>,
+    open: &Open,
+    via: Via,
+) -> Result<(), Memory>
+    requires kept { All (IsKeptFor (opened open.now)) (map meaning boxes.now.items) }
+    requires computed { IsFbComputed (map meaning boxes.now.items) }
+    requires index { via ≢ Data }
+    ensures { OnOk result ((line : List ℕ) × ShowsSize open.now.graph.graph (kept_of (map meaning boxes.now.items) open.now.k) via line × (string_bytes out.new ≡ string_bytes out.old ++ line)) }
+{
+    match summary_of(boxes, via) {
+        Some(summary) => {
+            let line = sizes_line(alloc, via, summary)?;
+            out.push_str(line.as_str())?;
+            Ok(())
+        }
+        None => Ok(()),
+    }
+}
+
+/// The sizes, where the forward and backward index is computed if it is kept.
+fn sizes_of(alloc: Global, boxes: &Vec<Box<dyn PathIndex>>, open: &Open) -> Result<Text, Memory>
+    requires kept { All (IsKeptFor (opened open.now)) (map meaning boxes.now.items) }
+    requires computed { IsFbComputed (map meaning boxes.now.items) }
+    requires few { open.now.k ≤ 8 }
+    ensures { IfOk result (ListsSizes open.now.graph.graph (kept_of (map meaning boxes.now.items) open.now.k)) }
+{
+    let head = sizes_head(alloc, open.graph.node_count(), open.graph.edge_count())?;
+    let mut out = head.into_string();
+    let mut n = 0;
+    while let Some(via) = Via::nth(n, open.k) {
+        push_size(alloc, &mut out, boxes, open, via)?;
+        n += 1;
+    }
+    Ok(Text::from_string(out))
+}
+
+/// The size of the graph and of each index that is kept.
+pub(crate) fn measure<L: Ledger>(
+    alloc: Global,
+    boxes: &mut Vec<Box<dyn PathIndex>>,
+    open: &Open,
+    steps: &mut Steps<L>,
+) -> Result<Text, Memory>
+    requires kept { All (IsKeptFor (opened open.now)) (map meaning boxes.old.items) }
+    requires few { open.now.k ≤ 8 }
+    ensures keeps { EachBecomes KeepsViews (map meaning boxes.old.items) (map meaning boxes.new.items) }
+    ensures kept { All (IsKeptFor (opened open.now)) (map meaning boxes.new.items) }
+    ensures text { IfOk result (ListsSizes open.now.graph.graph (kept_of (map meaning boxes.old.items) open.now.k)) }
+    ensures cost { steps.new ≤ steps.old + 1 + live_count open.now.graph.graph + edge_count open.now.graph.graph }
+{
+    refresh_fb(boxes, &open.graph, steps)?;
+    let text = sizes_of(alloc, boxes, open)?;
+    Ok(text)
+}
