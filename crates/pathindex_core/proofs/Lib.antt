@@ -1,3 +1,6 @@
 pub mod Becoming
 pub mod Places
 pub mod Sound
+pub mod Found
+pub mod Refreshed
+pub mod Showing

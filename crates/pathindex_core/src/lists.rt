@@ -21,17 +21,16 @@ use std::sync::ledger::Ledger;
 fn text_of(
     alloc: Global,
     boxes: &Vec<Box<dyn PathIndex>>,
-    open: &Open,
+    state: &Open,
     via: Via,
 ) -> Result<Text, AskError>
-    requires kept { All (IsKeptFor (opened open.now)) (map meaning boxes.now.items) }
+    requires kept { All (IsKeptFor (opened state.now)) (map meaning boxes.now.items) }
     requires computed { via ≡ Fb → IsFbComputed (map meaning boxes.now.items) }
-    requires index { via ≢ Data }
-    ensures text { IfOk result (ListsIndex open.now.graph.graph (kept_of (map meaning boxes.now.items) open.now.k) via) }
-    ensures no_index { (result ≡ Err AskError.NoIndex) ↔ (is_kept (kept_of (map meaning boxes.now.items) open.now.k) via ≡ false) }
+    ensures text { IfOk result (ListsIndex state.now.graph.graph (kept_of (map meaning boxes.now.items) state.now.k) via) }
+    ensures no_index { (result ≡ Err AskError.NoIndex) ↔ (is_kept (kept_of (map meaning boxes.now.items) state.now.k) via ≡ false) }
 {
     match summary_of(boxes, via) {
-        Some(summary) => match extents_text(alloc, summary, open.graph.labels()) {
+        Some(summary) => match extents_text(alloc, summary, state.graph.labels()) {
             Ok(text) => Ok(text),
             Err(Memory) => Err(AskError::Memory),
         },
@@ -43,21 +42,20 @@ fn text_of(
 pub(crate) fn list<L: Ledger>(
     alloc: Global,
     boxes: &mut Vec<Box<dyn PathIndex>>,
-    open: &Open,
+    state: &Open,
     via: Via,
     steps: &mut Steps<L>,
 ) -> Result<Text, AskError>
-    requires kept { All (IsKeptFor (opened open.now)) (map meaning boxes.old.items) }
-    requires index { via ≢ Data }
+    requires kept { All (IsKeptFor (opened state.now)) (map meaning boxes.old.items) }
     ensures keeps { EachBecomes KeepsViews (map meaning boxes.old.items) (map meaning boxes.new.items) }
-    ensures kept { All (IsKeptFor (opened open.now)) (map meaning boxes.new.items) }
+    ensures kept { All (IsKeptFor (opened state.now)) (map meaning boxes.new.items) }
     ensures others { via ≢ Fb → map meaning boxes.new.items ≡ map meaning boxes.old.items }
-    ensures text { IfOk result (ListsIndex open.now.graph.graph (kept_of (map meaning boxes.old.items) open.now.k) via) }
-    ensures no_index { (result ≡ Err AskError.NoIndex) ↔ (is_kept (kept_of (map meaning boxes.old.items) open.now.k) via ≡ false) }
-    ensures cost { steps.new ≤ steps.old + 1 + live_count open.now.graph.graph + edge_count open.now.graph.graph }
+    ensures text { IfOk result (ListsIndex state.now.graph.graph (kept_of (map meaning boxes.old.items) state.now.k) via) }
+    ensures no_index { (result ≡ Err AskError.NoIndex) ↔ (is_kept (kept_of (map meaning boxes.old.items) state.now.k) via ≡ false) }
+    ensures cost { steps.new ≤ steps.old + 1 + live_count state.now.graph.graph + edge_count state.now.graph.graph }
 {
-    match refresh_for(boxes, via, &open.graph, steps) {
-        Ok(()) => text_of(alloc, boxes, open, via),
+    match refresh_for(boxes, via, &state.graph, steps) {
+        Ok(()) => text_of(alloc, boxes, state, via),
         Err(Memory) => Err(AskError::Memory),
     }
 }
@@ -67,13 +65,12 @@ fn push_size(
     alloc: Global,
     out: &mut String,
     boxes: &Vec<Box<dyn PathIndex>>,
-    open: &Open,
+    state: &Open,
     via: Via,
 ) -> Result<(), Memory>
-    requires kept { All (IsKeptFor (opened open.now)) (map meaning boxes.now.items) }
+    requires kept { All (IsKeptFor (opened state.now)) (map meaning boxes.now.items) }
     requires computed { IsFbComputed (map meaning boxes.now.items) }
-    requires index { via ≢ Data }
-    ensures { OnOk result ((line : List ℕ) × ShowsSize open.now.graph.graph (kept_of (map meaning boxes.now.items) open.now.k) via line × (string_bytes out.new ≡ string_bytes out.old ++ line)) }
+    ensures { OnOk result ((line : List ℕ) × ShowsSize state.now.graph.graph (kept_of (map meaning boxes.now.items) state.now.k) via line × (string_bytes out.new ≡ string_bytes out.old ++ line)) }
 {
     match summary_of(boxes, via) {
         Some(summary) => {
@@ -86,17 +83,17 @@ fn push_size(
 }
 
 /// The sizes, where the forward and backward index is computed if it is kept.
-fn sizes_of(alloc: Global, boxes: &Vec<Box<dyn PathIndex>>, open: &Open) -> Result<Text, Memory>
-    requires kept { All (IsKeptFor (opened open.now)) (map meaning boxes.now.items) }
+fn sizes_of(alloc: Global, boxes: &Vec<Box<dyn PathIndex>>, state: &Open) -> Result<Text, Memory>
+    requires kept { All (IsKeptFor (opened state.now)) (map meaning boxes.now.items) }
     requires computed { IsFbComputed (map meaning boxes.now.items) }
-    requires few { open.now.k ≤ 8 }
-    ensures { IfOk result (ListsSizes open.now.graph.graph (kept_of (map meaning boxes.now.items) open.now.k)) }
+    requires few { state.now.k ≤ 8 }
+    ensures { IfOk result (ListsSizes state.now.graph.graph (kept_of (map meaning boxes.now.items) state.now.k)) }
 {
-    let head = sizes_head(alloc, open.graph.node_count(), open.graph.edge_count())?;
+    let head = sizes_head(alloc, state.graph.node_count(), state.graph.edge_count())?;
     let mut out = head.into_string();
     let mut n = 0;
-    while let Some(via) = Via::nth(n, open.k) {
-        push_size(alloc, &mut out, boxes, open, via)?;
+    while let Some(via) = Via::nth(n, state.k) {
+        push_size(alloc, &mut out, boxes, state, via)?;
         n += 1;
     }
     Ok(Text::from_string(out))
@@ -106,17 +103,17 @@ fn sizes_of(alloc: Global, boxes: &Vec<Box<dyn PathIndex>>, open: &Open) -> Resu
 pub(crate) fn measure<L: Ledger>(
     alloc: Global,
     boxes: &mut Vec<Box<dyn PathIndex>>,
-    open: &Open,
+    state: &Open,
     steps: &mut Steps<L>,
 ) -> Result<Text, Memory>
-    requires kept { All (IsKeptFor (opened open.now)) (map meaning boxes.old.items) }
-    requires few { open.now.k ≤ 8 }
+    requires kept { All (IsKeptFor (opened state.now)) (map meaning boxes.old.items) }
+    requires few { state.now.k ≤ 8 }
     ensures keeps { EachBecomes KeepsViews (map meaning boxes.old.items) (map meaning boxes.new.items) }
-    ensures kept { All (IsKeptFor (opened open.now)) (map meaning boxes.new.items) }
-    ensures text { IfOk result (ListsSizes open.now.graph.graph (kept_of (map meaning boxes.old.items) open.now.k)) }
-    ensures cost { steps.new ≤ steps.old + 1 + live_count open.now.graph.graph + edge_count open.now.graph.graph }
+    ensures kept { All (IsKeptFor (opened state.now)) (map meaning boxes.new.items) }
+    ensures text { IfOk result (ListsSizes state.now.graph.graph (kept_of (map meaning boxes.old.items) state.now.k)) }
+    ensures cost { steps.new ≤ steps.old + 1 + live_count state.now.graph.graph + edge_count state.now.graph.graph }
 {
-    refresh_fb(boxes, &open.graph, steps)?;
-    let text = sizes_of(alloc, boxes, open)?;
+    refresh_fb(boxes, &state.graph, steps)?;
+    let text = sizes_of(alloc, boxes, state)?;
     Ok(text)
 }
