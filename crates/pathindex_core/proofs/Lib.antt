@@ -4,3 +4,4 @@ pub mod Sound
 pub mod Found
 pub mod Refreshed
 pub mod Showing
+pub mod Asked

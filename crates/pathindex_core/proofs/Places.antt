@@ -9,7 +9,7 @@ use Rattle.index_api.specs.Meanings.{Meaning}
 use Rattle.index_api.specs.Kept.{is_kind, kinds_of, has_kind}
 use Rattle.pathindex_core.specs.Boxes.{StandsAt}
 
-neither : (a b : Bool) → (a || b) ≡ false → (a ≡ false) × (b ≡ false)
+pub neither : (a b : Bool) → (a || b) ≡ false → (a ≡ false) × (b ≡ false)
 neither true b e = absurd (cc)
 neither false b e = (refl, e)
 

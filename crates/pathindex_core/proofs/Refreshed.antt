@@ -2,6 +2,7 @@
 use Rattle.std.proofs.Common.{◌≡◌, ◌≢◌, ℕ, ◌<◌, ◌≤◌, Bool, true, false, List, Option, Some, None, IsSome, All, ◌⊎◌, inl, inr, Result, Ok, Err, length, map, arith, refl, sym, ◌∙◌, ap, subst, get_or}
 use Rattle.std.specs.Prelude.{OnOk, OnErr}
 use Rattle.std.proofs.Math.ListN.{set}
+use Rattle.std.proofs.Math.Seq.{map-set_same}
 use Rattle.std.proofs.lemmas.List.{get_or-map, length-map, get_or-set_same, get_or-set_other, length-set, map-set, get_or_default}
 use Rattle.std.proofs.lemmas.Bool.{cases_lt}
 use Rattle.px_spec.specs.Graphs.{Graph}
@@ -148,3 +149,21 @@ kept_again o olds news all h ready j d w =
     let within : j < length olds = omega (arith, w, same) in
     let step = h.each j d within in
     record { ready = ready j d w; count = step.count ∙ (all j d within).count ∙ ap (λ k. view_count k o.k) (sym step.kind) }
+
+-- the call on the box, as its result says
+pub refreshed_result : {B E : Type 0} (f : B → Meaning) (r : Result (Unit {0}) E) (g v : Graph) (i : ℕ) (xs : List B) (x y : B) → v ≡ g → i < length xs → x ≡ get_or xs i x
+    → OnOk r (IsRefreshed (f x) (f y) v) → OnOk r (BecomesAt (λ a b. HasFirst a b g) i (map f xs) (map f (set xs i y)))
+refreshed_result f (Ok u) g v i xs x y e w h r = one_becomes f (λ a b. HasFirst a b g) i xs x y w h (first_refreshed (f x) (f y) g (subst (IsRefreshed (f x) (f y)) e r))
+refreshed_result f (Err u) g v i xs x y e w h r = tt
+
+pub unrefreshed_result : {B E : Type 0} (f : B → Meaning) (r : Result (Unit {0}) E) (i : ℕ) (xs : List B) (x y : B) → x ≡ get_or xs i x → OnErr r (f y ≡ f x) → OnErr r (map f (set xs i y) ≡ map f xs)
+unrefreshed_result f (Ok u) i xs x y h r = tt
+unrefreshed_result f (Err u) i xs x y h r = map-set_same f xs i y x (r ∙ ap f h)
+
+pub on_err : {T E : Type 0} (r : Result T E) (P : Type 0) → P → OnErr r P
+on_err (Ok x) P p = tt
+on_err (Err x) P p = p
+
+pub err_both : {T E : Type 0} (r : Result T E) (P Q : Type 0) → P → OnErr r Q → OnErr r (P × Q)
+err_both (Ok x) P Q p q = tt
+err_both (Err x) P Q p q = (p, q)

@@ -1,6 +1,6 @@
 -- What the index shows that is asked, by its view.
-use Rattle.std.proofs.Common.{◌≡◌, ◌≢◌, ℕ, suc, ◌+◌, ◌<◌, ◌≤◌, ◌&&◌, Bool, true, false, nat_le, List, [], ◌∷◌, ◌++◌, Option, Some, None, IsSome, IsTrue, All, ◌⊎◌, inl, inr, length, map, take, arith, refl, sym, ◌∙◌, ap, subst, get_or, slice_get, append_assoc, append-nil, rules, true≢false}
-use Rattle.std.proofs.lemmas.List.{get_or_past, take_more, take_all}
+use Rattle.std.proofs.Common.{◌≡◌, ◌≢◌, ℕ, zero, suc, ◌+◌, ◌<◌, ◌≤◌, ◌&&◌, Bool, true, false, nat_le, List, [], ◌∷◌, ◌++◌, Option, Some, None, IsSome, IsTrue, All, ◌⊎◌, inl, inr, length, map, take, arith, refl, sym, ◌∙◌, ap, subst, get_or, slice_get, append_assoc, append-nil, rules, true≢false}
+use Rattle.std.proofs.lemmas.List.{get_or_past, take_more, take_all, length-append}
 use Rattle.std.proofs.lemmas.Option.{slice_get_within, get_or_from_slice_get, slice_get-get_or}
 use Rattle.std.proofs.lemmas.Bool.{cases_lt}
 use Rattle.px_spec.specs.Graphs.{Graph}
@@ -17,6 +17,7 @@ use Rattle.bisim_spec.proofs.StabilityTests.{together_decides}
 use Rattle.quotient.specs.Quotients.{Quotient, view_of}
 use Rattle.index_api.specs.declared.kinds.Via.{Via}
 use Rattle.index_api.specs.declared.kinds.Via.TheVariants.{Data, A, One, Fb}
+use Rattle.index_api.specs.Places.{levels_below, all_indexes}
 use Rattle.index_api.specs.Meanings.{Meaning}
 use Rattle.index_api.specs.Kept.{KeptIndexes, is_kept, Relates, kinds_of, has_kind, index_of, kept_view, kept_of, blocks_in}
 use Rattle.extent_report.specs.Listing.{DecidesEach, extents_text, block_total, joined_total, size_line}
@@ -83,10 +84,10 @@ module _ (o : Opened) (boxes : List Meaning) (all : All (IsKeptFor o) boxes) whe
         is = rw (f.is) v.1;
         kept_is = kept;
         shown = λ s. record {
-            test = bis (shape_of o.graph) level;
-            shows = record { is_kept = kept; decides = bis_decides (shape_of o.graph) s level };
-            fits = v.2.view;
-            agrees = tested (bis (shape_of o.graph) level) (bis_decides (shape_of o.graph) s level) v.2.agrees;
+          test = bis (shape_of o.graph) level;
+          shows = record { is_kept = kept; decides = bis_decides (shape_of o.graph) s level };
+          fits = v.2.view;
+          agrees = tested (bis (shape_of o.graph) level) (bis_decides (shape_of o.graph) s level) v.2.agrees;
         };
       }
     where
@@ -115,14 +116,14 @@ module _ (o : Opened) (boxes : List Meaning) (all : All (IsKeptFor o) boxes) whe
         is = here;
         kept_is = f.has;
         shown = λ s. record {
-            test = together (v.0).block_of;
-            shows = record { is_kept = f.has; decides = λ a b. rw blocks (together_decides (v.0).block_of a b) };
-            fits = one.view;
-            agrees = record {
-                partition = one.stable.partition;
-                related = λ a b t. (together_decides (v.0).block_of a b).1 t;
-                grouped = λ a b m n t. (together_decides (v.0).block_of a b).0 t;
-            };
+          test = together (v.0).block_of;
+          shows = record { is_kept = f.has; decides = λ a b. rw blocks (together_decides (v.0).block_of a b) };
+          fits = one.view;
+          agrees = record {
+            partition = one.stable.partition;
+            related = λ a b t. (together_decides (v.0).block_of a b).1 t;
+            grouped = λ a b m n t. (together_decides (v.0).block_of a b).0 t;
+          };
         };
       }
 
@@ -136,10 +137,10 @@ module _ (o : Opened) (boxes : List Meaning) (all : All (IsKeptFor o) boxes) whe
         is = rw (f.is) v.1;
         kept_is = f.has;
         shown = λ s. record {
-            test = fb (shape_of o.graph);
-            shows = record { is_kept = f.has; decides = fb_decides (shape_of o.graph) s };
-            fits = v.2.view;
-            agrees = tested (fb (shape_of o.graph)) (fb_decides (shape_of o.graph) s) v.2.agrees;
+          test = fb (shape_of o.graph);
+          shows = record { is_kept = f.has; decides = fb_decides (shape_of o.graph) s };
+          fits = v.2.view;
+          agrees = tested (fb (shape_of o.graph)) (fb_decides (shape_of o.graph) s) v.2.agrees;
         };
       }
 
@@ -260,3 +261,15 @@ is_index boxes via v e d = some_none v (e ∙ ap (via_view boxes) d)
   where
     some_none : (w : View) → Some w ≡ None → ⊥
     some_none w h = cc
+
+levels_length : (n : ℕ) → length (levels_below n) ≡ n
+levels_length zero = refl
+levels_length (suc n) = let e = levels_length n in length-append (levels_below n) (A n ∷ []) ∙ omega (arith, e)
+
+-- how many indexes there are
+pub index_bound : (k n : ℕ) (via : Via) → slice_get (all_indexes k) n ≡ Some via → n < k + 3
+index_bound k n via e =
+    let within = slice_get_within (all_indexes k) n via e in
+    let count = levels_length (suc k) in
+    let total : length (all_indexes k) ≡ length (levels_below (suc k)) + 2 = length-append (levels_below (suc k)) (One ∷ Fb ∷ []) in
+    omega (arith, within, count, total)

@@ -10,7 +10,7 @@ use Rattle.px_spec.specs.Changes.{Change, after}
 use Rattle.bisim_spec.specs.declared.kind.Kind.{Kind}
 use Rattle.bisim_spec.specs.Views.{View}
 use Rattle.bisim_spec.specs.Fits.{Fits, view_count}
-use Rattle.index_api.specs.Meanings.{Meaning, IsReady, IsBuilt, IsStaged, IsCommitted, AreNext}
+use Rattle.index_api.specs.Meanings.{Meaning, IsReady, IsBuilt, IsStaged, IsCommitted, AreNext, KeepsViews}
 use Rattle.index_api.specs.Kept.{is_kind, kinds_of}
 use Rattle.graph_update.specs.NewChanges.{is_same}
 use Rattle.pathindex_core.specs.Engines.{Opened, EngineSeen, IsKeptFor, AreKeptFor, IsSound, EachBecomes}
@@ -25,7 +25,7 @@ apart_by_kinds olds news e apart i j d below within same =
     let i_old : i < length olds = omega (arith, below) in
     let i_new : i < length news = omega (arith, below) in
     let kind_at : (k : ℕ) → k < length news → k < length olds → (get_or news k d).kind ≡ (get_or olds k d).kind
-        = λ k n o. sym (get_or-map (λ m. m.kind) news k d d.kind n) ∙ ap (λ ks. get_or ks k d.kind) e ∙ get_or-map (λ m. m.kind) olds k d d.kind o in
+    = λ k n o. sym (get_or-map (λ m. m.kind) news k d d.kind n) ∙ ap (λ ks. get_or ks k d.kind) e ∙ get_or-map (λ m. m.kind) olds k d d.kind o in
     apart i j d below j_old (sym (kind_at i i_new i_old) ∙ same ∙ kind_at j within j_old)
 
 -- an engine that isn't open
@@ -108,3 +108,8 @@ pub sound_without : (olds news : List Meaning) (opened : Option Opened) (kind : 
 sound_without olds news opened kind e s =
     subst (λ b. IsSound (record { boxes = b; opened = opened })) (sym e)
     (record { apart = AllPairs-filter (λ a b. a.kind ≢ b.kind) (λ m. not (is_kind kind m.kind)) olds s.apart; fit = fit_without opened olds (λ m. not (is_kind kind m.kind)) s.fit })
+
+-- an engine whose views were computed
+pub sound_kept : (o : Opened) (olds news : List Meaning) → IsSound (record { boxes = olds; opened = Some o }) → EachBecomes KeepsViews olds news → All (IsKeptFor o) news
+    → IsSound (record { boxes = news; opened = Some o })
+sound_kept o olds news s h all = record { apart = apart_by_kinds olds news (map_kept (λ m. m.kind) KeepsViews (λ a b r. r.kind) olds news h) s.apart; fit = (s.fit.0, all) }

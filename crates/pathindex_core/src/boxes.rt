@@ -42,7 +42,11 @@ pub(crate) fn take_out(boxes: &mut Vec<Box<dyn PathIndex>>, kind: Kind, i: usize
 }
 
 /// Builds each box. Where one finds no memory, those before it are built.
-pub(crate) fn build_all(boxes: &mut Vec<Box<dyn PathIndex>>, view: &GraphView<'_>, k: u32) -> Result<(), Memory>
+pub(crate) fn build_all(
+    boxes: &mut Vec<Box<dyn PathIndex>>,
+    view: &GraphView<'_>,
+    k: u32,
+) -> Result<(), Memory>
     requires few { k ≤ 8 }
     ensures ok { OnOk result (EachBecomes (λ a b. IsBuilt a b view.now k) (map meaning boxes.old.items) (map meaning boxes.new.items)) }
     ensures kinds { kinds_of (map meaning boxes.new.items) ≡ kinds_of (map meaning boxes.old.items) }

@@ -120,7 +120,13 @@ impl Engine {
         ensures err { OnErr result (engine_seen (map meaning self.new.boxes.items) self.new.state ≡ engine_seen (map meaning self.old.boxes.items) self.old.state) }
     {
         match &mut self.state {
-            Some(open) => update(alloc, &mut self.boxes, &mut open.graph, &change, &open.limits),
+            Some(open) => update(
+                alloc,
+                &mut self.boxes,
+                &mut open.graph,
+                &change,
+                &open.limits,
+            ),
             None => unreachable!(),
         }
     }
@@ -198,11 +204,7 @@ impl Engine {
 
     /// The size of the graph and of each index that is kept, in the order of `Via::nth`. The forward and backward index is first
     /// computed, where it is kept and isn't. Want of memory leaves the graph and each view that is computed.
-    pub fn sizes<L: Ledger>(
-        &mut self,
-        alloc: Global,
-        steps: &mut Steps<L>,
-    ) -> Result<Text, Memory>
+    pub fn sizes<L: Ledger>(&mut self, alloc: Global, steps: &mut Steps<L>) -> Result<Text, Memory>
         requires open { IsSome (opened_of self.old.state) }
         requires sound { IsSound (engine_seen (map meaning self.old.boxes.items) self.old.state) }
         ensures sound { IsSound (engine_seen (map meaning self.new.boxes.items) self.new.state) }
@@ -233,7 +235,10 @@ fn ask<L: Ledger>(
 {
     let view = graph.view(steps);
     match eval(alloc, &view, graph.labels(), expr) {
-        Ok(nodes) => Ok(Answer { nodes, how: How::Data }),
+        Ok(nodes) => Ok(Answer {
+            nodes,
+            how: How::Data,
+        }),
         Err(Memory) => Err(AskError::Memory),
     }
 }

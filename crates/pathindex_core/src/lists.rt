@@ -1,5 +1,6 @@
 // The lists of the indexes that are kept.
 ghost use Rattle.std.specs.Prelude.{◌≡◌, ◌≢◌, ◌≤◌, ◌+◌, ◌++◌, ◌↔◌, Err, Some, true, false, List, ℕ, map, All, OnOk, OnErr, IfOk, string_bytes};
+ghost use Rattle.px_spec.specs.Graphs.{IsGraph};
 ghost use Rattle.label_graph.specs.Views.{live_count, edge_count};
 ghost use Rattle.index_api.specs.declared.kinds.Via.TheVariants.{Data, Fb};
 ghost use Rattle.index_api.specs.Meanings.{KeepsViews};
@@ -70,6 +71,7 @@ fn push_size(
 ) -> Result<(), Memory>
     requires kept { All (IsKeptFor (opened state.now)) (map meaning boxes.now.items) }
     requires computed { IsFbComputed (map meaning boxes.now.items) }
+    requires graph { IsGraph state.now.graph.graph }
     ensures { OnOk result ((line : List ℕ) × ShowsSize state.now.graph.graph (kept_of (map meaning boxes.now.items) state.now.k) via line × (string_bytes out.new ≡ string_bytes out.old ++ line)) }
 {
     match summary_of(boxes, via) {

@@ -1,10 +1,10 @@
 // The views of the indexes that are kept.
-ghost use Rattle.std.specs.Prelude.{◌≡◌, ◌≢◌, ◌<◌, ◌≤◌, ◌+◌, map, length, All, OnOk, OnErr, option_map};
+ghost use Rattle.std.specs.Prelude.{◌≡◌, ◌≢◌, ◌<◌, ◌≤◌, ◌+◌, true, map, length, All, OnOk, OnErr, option_map};
 ghost use Rattle.label_graph.specs.Views.{live_count, edge_count};
 ghost use Rattle.quotient.specs.Quotients.{view_of};
 ghost use Rattle.index_api.specs.declared.kinds.Via.TheVariants.{Fb};
 ghost use Rattle.index_api.specs.Meanings.{IsReady, KeepsViews};
-ghost use Rattle.index_api.specs.Kept.{kept_view};
+ghost use Rattle.index_api.specs.Kept.{kinds_of, has_kind, kept_view};
 ghost use Rattle.pathindex_core.specs.Engines.{EachBecomes};
 ghost use Rattle.pathindex_core.specs.Boxes.{BecomesAt, HasFirst, IsFbComputed, via_view};
 
@@ -45,6 +45,7 @@ pub(crate) fn refresh_fb<L: Ledger>(
     ensures keeps { EachBecomes KeepsViews (map meaning boxes.old.items) (map meaning boxes.new.items) }
     ensures ready { All (λ m. IsReady m graph.now.graph) (map meaning boxes.new.items) }
     ensures computed { OnOk result (IsFbComputed (map meaning boxes.new.items)) }
+    ensures err { OnErr result (has_kind (kinds_of (map meaning boxes.old.items)) Kind.Fb ≡ true) }
     ensures cost { steps.new ≤ steps.old + 1 + live_count graph.now.graph + edge_count graph.now.graph }
 {
     match place_of(boxes, Kind::Fb) {
@@ -65,7 +66,7 @@ pub(crate) fn refresh_for<L: Ledger>(
     ensures ready { All (λ m. IsReady m graph.now.graph) (map meaning boxes.new.items) }
     ensures computed { OnOk result (via ≡ Fb → IsFbComputed (map meaning boxes.new.items)) }
     ensures others { via ≢ Fb → map meaning boxes.new.items ≡ map meaning boxes.old.items }
-    ensures others_ok { via ≢ Fb → result ≡ Ok (tt {0}) }
+    ensures err { OnErr result ((via ≡ Fb) × (has_kind (kinds_of (map meaning boxes.old.items)) Kind.Fb ≡ true)) }
     ensures cost { steps.new ≤ steps.old + 1 + live_count graph.now.graph + edge_count graph.now.graph }
 {
     match via {
