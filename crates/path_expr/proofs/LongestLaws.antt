@@ -7,7 +7,7 @@ use Rattle.path_expr.specs.declared.tree.Sep.{Sep}
 use Rattle.path_expr.specs.declared.tree.Sep.TheVariants.{Child, Below}
 use Rattle.path_expr.specs.declared.tree.Step.{Step}
 use Rattle.path_expr.specs.declared.tree.Seq.{Seq}
-use Rattle.path_expr.specs.Capped.{capped}
+use Rattle.path_expr.specs.Capped.{capped, greatest_length}
 use Rattle.path_expr.specs.Views.{sep_of, item_of, seq_of, seq_from, expr_from}
 
 together_assoc : (a b c : Option ℕ) → together a (together b c) ≡ together (together a b) c
@@ -58,7 +58,7 @@ pub expr_step : (s : tree.Seq) (xs : List Seq) (j : ℕ) (x : Seq) → j < lengt
     → greater (longest (expr_from s (take j xs))) (seq_longest (seq_of x)) ≡ longest (expr_from s (take (j + 1) xs))
 expr_step s xs j x within e = sym (expr_more s (take j xs) x) ∙ ap (λ y. longest (expr_from s y)) (ap (λ y. take j xs ++ y ∷ []) e ∙ sym (take_more xs j x within))
 
-pub by_sep : (o : Sep) (before result x : Option ℕ) (i : tree.Item) → before ≡ capped x → (o ≡ Child → (y : Option ℕ) → before ≡ capped y → result ≡ capped (together y (item_longest i)))
-    → (o ≡ Below → result ≡ None) → result ≡ capped (with_step x o i)
+pub by_sep : (o : Sep) (before result x : Option ℕ) (i : tree.Item) → before ≡ capped greatest_length x → (o ≡ Child → (y : Option ℕ) → before ≡ capped greatest_length y → result ≡ capped greatest_length (together y (item_longest i)))
+    → (o ≡ Below → result ≡ None) → result ≡ capped greatest_length (with_step x o i)
 by_sep Child before result x i h c b = c refl x h
 by_sep Below before result x i h c b = b refl

@@ -3,13 +3,13 @@ ghost use Rattle.std.specs.Prelude.{◌≡◌, ℕ, Option, None};
 ghost use Rattle.path_expr.specs.declared.tree.Sep.TheVariants as seps;
 ghost use Rattle.path_spec.specs.Longest.{longest, seq_longest, item_longest, atom_longest, greater, together};
 ghost use Rattle.path_expr.specs.Views.{atom_of, item_of, seq_of};
-ghost use Rattle.path_expr.specs.Capped.{capped};
+ghost use Rattle.path_expr.specs.Capped.{capped, greatest_length};
 
 use crate::tree::{Atom, Expr, Item, Sep, Seq, Sign};
 
 /// Both lengths together.
-fn sum_of(a: Option<u32>, b: Option<u32>) -> Option<u32>
-    ensures { (x y : Option ℕ) → a ≡ capped x → b ≡ capped y → result ≡ capped (together x y) }
+fn sum_of(a: Option<u64>, b: Option<u64>) -> Option<u64>
+    ensures { (x y : Option ℕ) → a ≡ capped greatest_length x → b ≡ capped greatest_length y → result ≡ capped greatest_length (together x y) }
 {
     match (a, b) {
         (Some(m), Some(n)) => Some(m.saturating_add(n)),
@@ -18,8 +18,8 @@ fn sum_of(a: Option<u32>, b: Option<u32>) -> Option<u32>
 }
 
 /// The greater length.
-fn greater_of(a: Option<u32>, b: Option<u32>) -> Option<u32>
-    ensures { (x y : Option ℕ) → a ≡ capped x → b ≡ capped y → result ≡ capped (greater x y) }
+fn greater_of(a: Option<u64>, b: Option<u64>) -> Option<u64>
+    ensures { (x y : Option ℕ) → a ≡ capped greatest_length x → b ≡ capped greatest_length y → result ≡ capped greatest_length (greater x y) }
 {
     match (a, b) {
         (Some(m), Some(n)) => Some(m.max(n)),
@@ -28,8 +28,8 @@ fn greater_of(a: Option<u32>, b: Option<u32>) -> Option<u32>
 }
 
 #[cycle(longest)]
-fn atom_len(atom: &Atom) -> Option<u32>
-    ensures { result ≡ capped (atom_longest (atom_of atom.now)) }
+fn atom_len(atom: &Atom) -> Option<u64>
+    ensures { result ≡ capped greatest_length (atom_longest (atom_of atom.now)) }
 {
     match atom {
         Atom::Label(_) | Atom::Any => Some(1),
@@ -38,8 +38,8 @@ fn atom_len(atom: &Atom) -> Option<u32>
 }
 
 #[cycle(longest)]
-fn item_len(item: &Item) -> Option<u32>
-    ensures { result ≡ capped (item_longest (item_of item.now)) }
+fn item_len(item: &Item) -> Option<u64>
+    ensures { result ≡ capped greatest_length (item_longest (item_of item.now)) }
 {
     match item.sign {
         Some(Sign::Star) => None,
@@ -51,8 +51,8 @@ fn item_len(item: &Item) -> Option<u32>
 
 /// The length with one step more.
 #[cycle(longest)]
-fn step_len(before: Option<u32>, sep: Sep, item: &Item) -> Option<u32>
-    ensures child { sep ≡ seps.Child → (x : Option ℕ) → before ≡ capped x → result ≡ capped (together x (item_longest (item_of item.now))) }
+fn step_len(before: Option<u64>, sep: Sep, item: &Item) -> Option<u64>
+    ensures child { sep ≡ seps.Child → (x : Option ℕ) → before ≡ capped greatest_length x → result ≡ capped greatest_length (together x (item_longest (item_of item.now))) }
     ensures below { sep ≡ seps.Below → result ≡ None }
 {
     match sep {
@@ -62,8 +62,8 @@ fn step_len(before: Option<u32>, sep: Sep, item: &Item) -> Option<u32>
 }
 
 #[cycle(longest)]
-fn seq_len(seq: &Seq) -> Option<u32>
-    ensures { result ≡ capped (seq_longest (seq_of seq.now)) }
+fn seq_len(seq: &Seq) -> Option<u64>
+    ensures { result ≡ capped greatest_length (seq_longest (seq_of seq.now)) }
 {
     let mut len = item_len(&seq.first);
     for j in 0..seq.rest.len() {
@@ -73,11 +73,11 @@ fn seq_len(seq: &Seq) -> Option<u32>
     len
 }
 
-/// The number of labels of the longest matching word, None exactly where there is no longest. Past 2^32 - 1, which
-/// no text within the limits reaches, it is that number. It takes no memory.
+/// The number of labels of the longest matching word, None exactly where there is no longest. Past 2^64 - 1,
+/// which no text within the limits reaches, it is that number. It takes no memory.
 #[cycle(longest)]
-pub fn longest(expr: &Expr) -> Option<u32>
-    ensures { result ≡ capped (longest expr.now) }
+pub fn longest(expr: &Expr) -> Option<u64>
+    ensures { result ≡ capped greatest_length (longest expr.now) }
 {
     let mut len = seq_len(&expr.first);
     for j in 0..expr.more.len() {

@@ -1,9 +1,9 @@
 // Path expressions.
-ghost use Rattle.std.specs.Prelude.{◌≡◌, ◌↔◌, ℕ, List, Err, IfOk, IsErrOf, IsTrue};
+ghost use Rattle.std.specs.Prelude.{◌≡◌, ◌↔◌, ◌-◌, ◌^◌, ℕ, List, Option, Err, IfOk, IsErrOf, IsTrue};
 ghost use Rattle.path_spec.specs.Trees as tree;
 ghost use Rattle.path_spec.specs.Longest.{longest};
 ghost use Rattle.path_spec.specs.Spelling.{canonical};
-ghost use Rattle.path_expr.specs.Capped.{capped};
+ghost use Rattle.path_expr.specs.Capped.{capped, greatest_length};
 ghost use Rattle.path_query.specs.Parsed.{Spells, is_past};
 
 use crate::grammar::ReadError;
@@ -82,9 +82,9 @@ impl PathExpr {
 
     /// The number of labels of the longest matching word, None exactly where there is no longest. It takes no memory.
     pub fn longest(&self) -> Option<u32>
-        ensures { result ≡ capped (longest self.now) }
+        ensures { result ≡ capped (2 ^ 32 - 1) (longest self.now) }
     {
-        longest(&self.tree)
+        narrow(longest(&self.tree))
     }
 
     /// The tree.
@@ -92,5 +92,15 @@ impl PathExpr {
         ensures { result.now ≡ self.now }
     {
         &self.tree
+    }
+}
+
+/// The length, or 2^32 - 1 where it is more.
+fn narrow(len: Option<u64>) -> Option<u32>
+    ensures { (x : Option ℕ) → len ≡ capped greatest_length x → result ≡ capped (2 ^ 32 - 1) x }
+{
+    match len {
+        Some(n) => Some(n.min(u64::from(u32::MAX)) as u32),
+        None => None,
     }
 }
