@@ -5,14 +5,16 @@ use Rattle.std.proofs.lemmas.Fmt.{decimal_injective}
 use Rattle.px_spec.specs.Changes.{node, link, unlink, drop}
 use Rattle.path_query.specs.Labels.{SpellsLabel}
 use Rattle.px_spec.specs.Words.{node_word}
+use Rattle.bisim_spec.specs.declared.kind.Kind.{Kind}
+use Rattle.bisim_spec.specs.declared.kind.Kind.TheVariants as kind
 use Rattle.index_api.specs.declared.kinds.Via.{Via}
 use Rattle.index_api.specs.declared.kinds.Via.TheVariants.{Data, A, One, Fb}
-use Rattle.index_api.specs.Spelling.{via_word}
+use Rattle.index_api.specs.Spelling.{via_word, kind_word}
 use Rattle.script_read.specs.Parts.{first_word, expression_text}
-use Rattle.script_read.specs.Commands.{Command, change, path, extents, sizes, IsIndex, IsQuiet, IsSpelled, SpellsPair, AsksPath, NoCommand, SpellsOnce, LabelsOnce, PathsOnce}
+use Rattle.script_read.specs.Commands.{Command, change, path, extents, sizes, forget, IsIndex, IsVia, IsQuiet, IsSpelled, SpellsPair, Asks, NoCommand, SpellsOnce, LabelsOnce, PathsOnce}
 use Rattle.script_read.specs.Saying.{SaysNode, SaysPath}
 use Rattle.script_read.proofs.WordLemmas.{head_word, is_split}
-use Rattle.script_read.proofs.CommandLemmas.{second_same, no_query, apart, asks_data, begins, silent}
+use Rattle.script_read.proofs.CommandLemmas.{second_same, no_query, apart, begins, silent}
 
 node_number : (m n : ℕ) → m < 2 ^ 32 → n < 2 ^ 32 → node_word m ≡ node_word n → m ≡ n
 node_number m n a b e = decimal_injective m n (omega arith) (omega arith) cc
@@ -34,16 +36,27 @@ pair_one line word u v x y f h k =
     let z = sym h.0 ∙ k.0 in
     ap (λ n. f n v) (node_number u x h.1 k.1 (ap second z)) ∙ ap (λ n. f x n) (node_number v y h.2 k.2 (ap third z))
 
--- an index is named by one word
-via_one : (v w : Via) → IsIndex v → IsIndex w → via_word v ≡ via_word w → v ≡ w
+-- a word names one thing through which a query is asked, one index, and one kind of indexes
+via_one : (v w : Via) → IsVia v → IsVia w → via_word v ≡ via_word w → v ≡ w
 via_one (A m) (A n) h k e = ap A (decimal_injective m n (omega (arith, h)) (omega (arith, k)) cc)
 via_one One One h k e = refl
 via_one Fb Fb h k e = refl
-via_one Data w h k e = absurd h
-via_one v Data h k e = absurd k
+via_one Data Data h k e = refl
 via_one v w h k e = absurd (let first = ap (λ l. slice_index l 0) e in omega (arith, first))
 
--- the word behind `node`, where there is one, spells at most one label, and the expression behind `path data` at most one tree
+index_via : (v : Via) → IsIndex v → IsVia v
+index_via (A m) h = h
+index_via One h = h
+index_via Fb h = h
+index_via Data h = absurd h
+
+kind_one : (v w : Kind) → kind_word v ≡ kind_word w → v ≡ w
+kind_one kind.A kind.A e = refl
+kind_one kind.One kind.One e = refl
+kind_one kind.Fb kind.Fb e = refl
+kind_one v w e = absurd (let first = ap (λ l. slice_index l 0) e in omega (arith, first))
+
+-- the word behind `node`, where there is one, spells at most one label, and the expression of a query at most one tree
 record PartsOnce (line : List ℕ) : Type 0 where
   label : (word : List ℕ) → SaysNode line word → LabelsOnce word
   expression : first_word line ≡ codes "path" → PathsOnce (expression_text line)
@@ -56,17 +69,18 @@ command_one line o (change (link u v)) (change (link x y)) h k = pair_one line _
 command_one line o (change (unlink u v)) (change (unlink x y)) h k = pair_one line _ u v x y (λ a b. change (unlink a b)) h k
 command_one line o (change (drop u)) (change (drop x)) h k = ap (λ n. change (drop n)) (node_number u x h.1 k.1 (ap second (sym h.0 ∙ k.0)))
 command_one line o (path v e) (path w f) h k =
-    let p = asks_data line v e h in
-    let q = asks_data line w f k in
-    ap (λ v. path v e) (p.0 ∙ sym q.0) ∙ ap (path w) (o.expression p.1.0.0 e f p.1.1 q.1.1)
-command_one line o (extents v) (extents w) h k = ap extents (via_one v w h.1 k.1 (second_same (sym h.0 ∙ k.0)))
+    ap (λ v. path v e) (via_one v w h.0.2 k.0.2 (sym h.0.1 ∙ k.0.1)) ∙ ap (path w) (o.expression h.0.0 e f h.1 k.1)
+command_one line o (extents v) (extents w) h k = ap extents (via_one v w (index_via v h.1) (index_via w k.1) (second_same (sym h.0 ∙ k.0)))
 command_one line o sizes sizes h k = refl
+command_one line o (forget v) (forget w) h k = ap forget (kind_one v w (second_same (sym h ∙ k)))
 command_one line o (change c) (path v e) h k = absurd (apart (first_word line) _ _ (begins line (change c) h) (begins line (path v e) k) (no_query c).no_path)
 command_one line o (change c) (extents v) h k = absurd (apart (first_word line) _ _ (begins line (change c) h) (begins line (extents v) k) (no_query c).no_extents)
 command_one line o (change c) sizes h k = absurd (apart (first_word line) _ _ (begins line (change c) h) (begins line sizes k) (no_query c).no_sizes)
+command_one line o (change c) (forget v) h k = absurd (apart (first_word line) _ _ (begins line (change c) h) (begins line (forget v) k) (no_query c).no_forget)
 command_one line o (path v e) (change c) h k = absurd (apart (first_word line) _ _ (begins line (change c) k) (begins line (path v e) h) (no_query c).no_path)
 command_one line o (extents v) (change c) h k = absurd (apart (first_word line) _ _ (begins line (change c) k) (begins line (extents v) h) (no_query c).no_extents)
 command_one line o sizes (change c) h k = absurd (apart (first_word line) _ _ (begins line (change c) k) (begins line sizes h) (no_query c).no_sizes)
+command_one line o (forget v) (change c) h k = absurd (apart (first_word line) _ _ (begins line (change c) k) (begins line (forget v) h) (no_query c).no_forget)
 command_one line o c d h k = absurd (apart (first_word line) _ _ (begins line c h) (begins line d k) (λ e. omega (arith, e)))
 
 -- a first byte other than that of `node` (110) and of `path` (112)
@@ -80,7 +94,7 @@ no_parts line word e n p = record {
 pub quiet_once : (line : List ℕ) → IsQuiet line → SpellsOnce line
 quiet_once line q c d h k = absurd (silent line q c h)
 
-pub bad_once : (line : List ℕ) → NoCommand line × (¬ AsksPath line) → SpellsOnce line
+pub bad_once : (line : List ℕ) → NoCommand line × (¬ Asks line) → SpellsOnce line
 bad_once line n c d h k = absurd (n.0.1 c h)
 
 pub node_once : (line word : List ℕ) → SaysNode line word → LabelsOnce word → SpellsOnce line
@@ -89,8 +103,8 @@ node_once line word s once = command_one line (record {
   expression = λ f. absurd (apart (first_word line) _ _ (head_word line _ _ _ _ (is_split line) s).0 f (λ e. omega (arith, e)));
 })
 
-pub path_once : (line text : List ℕ) → SaysPath line text → PathsOnce text → SpellsOnce line
-path_once line text s once = command_one line (record {
+pub path_once : (line : List ℕ) (via : Via) (text : List ℕ) → SaysPath line via text → PathsOnce text → SpellsOnce line
+path_once line via text s once = command_one line (record {
   label = λ w t. absurd (apart (first_word line) _ _ (head_word line _ _ _ _ (is_split line) t).0 s.0.0 (λ e. omega (arith, e)));
   expression = λ f. subst PathsOnce s.1 once;
 })
@@ -110,4 +124,8 @@ extents_once line via h = command_one line (no_parts line _ (begins line (extent
 pub sizes_once : (line : List ℕ) → IsSpelled line sizes → SpellsOnce line
 sizes_once line h = command_one line (no_parts line _ (begins line sizes h) (λ e. omega (arith, e)) (λ e. omega (arith, e)))
 
-pub ruleset reading_laws = (silent, quiet_once, bad_once, node_once, path_once, link_once, unlink_once, drop_once, extents_once, sizes_once)
+pub forget_once : (line : List ℕ) (kind : Kind) → IsSpelled line (forget kind) → SpellsOnce line
+forget_once line kind h = command_one line (no_parts line _ (begins line (forget kind) h) (λ e. omega (arith, e)) (λ e. omega (arith, e)))
+
+pub ruleset reading_laws =
+    (silent, quiet_once, bad_once, node_once, path_once, link_once, unlink_once, drop_once, extents_once, sizes_once, forget_once)

@@ -3,9 +3,9 @@ use Rattle.std.proofs.Common.{◌≡◌, ◌≢◌, ℕ, ◌<◌, ◌^◌, List,
 use Rattle.std.specs.Prelude.{codes, slice_index, ◌↔◌}
 use Rattle.px_spec.specs.Words.{words}
 use Rattle.px_spec.specs.Changes.{Change, node, link, unlink, drop}
+use Rattle.bisim_spec.specs.declared.kind.Kind.{Kind}
 use Rattle.index_api.specs.declared.kinds.Via.{Via}
-use Rattle.index_api.specs.declared.kinds.Via.TheVariants.{Data, A, One, Fb}
-use Rattle.index_api.specs.Spelling.{via_word}
+use Rattle.index_api.specs.Spelling.{via_word, kind_word}
 use Rattle.px_spec.specs.declared.limits.Limits.{Limits}
 use Rattle.path_spec.specs.Trees.{Expr}
 use Rattle.path_query.specs.Labels.{SpellsLabel}
@@ -15,7 +15,7 @@ use Rattle.script_read.specs.Reading.{Reads}
 use Rattle.script_read.specs.declared.commands.ScriptError.{ScriptError}
 use Rattle.script_read.specs.declared.commands.ScriptError.TheVariants.{Bad, Limit, Memory}
 use Rattle.px_spec.specs.Words.{node_word}
-use Rattle.script_read.specs.Commands.{Command, change, path, extents, sizes, IsIndex, SaysNothing, IsQuiet, AsksPath, SpellsPath, PassesLimit, IsSpelled, NoCommand, SpellsNothing}
+use Rattle.script_read.specs.Commands.{Command, change, path, extents, sizes, forget, IsIndex, SaysNothing, IsQuiet, Asks, SpellsPath, PassesLimit, IsSpelled, NoCommand}
 use Rattle.script_read.specs.Parts.{IsSplit, OpensNothing, first_word, behind_word}
 use Rattle.script_read.proofs.WordLemmas.{head_word, is_split, words-cons}
 
@@ -39,43 +39,39 @@ keyword (change (drop u)) = codes "drop"
 keyword (path via e) = codes "path"
 keyword (extents via) = codes "extents"
 keyword sizes = codes "sizes"
+keyword (forget kind) = codes "forget"
 
 -- two lists of words with the same second word
 pub second_same : {a b v w : List ℕ} → a ∷ v ∷ [] ≡ b ∷ w ∷ [] → v ≡ w
 second_same e = cc
 
--- a first byte that isn't that of `path`, `extents` or `sizes`
+-- a first byte that isn't that of `path`, `extents`, `sizes` or `forget`
 pub record OpensChange (b : ℕ) : Type 0 where
   pub no_path : b ≢ 112
   pub no_extents : b ≢ 101
   pub no_sizes : b ≢ 115
+  pub no_forget : b ≢ 102
 
 -- no change is a query
 pub no_query : (c : Change) → OpensChange (slice_index (keyword (change c)) 0)
-no_query (node t) = record { no_path = λ e. omega (arith, e); no_extents = λ e. omega (arith, e); no_sizes = λ e. omega (arith, e) }
-no_query (link u v) = record { no_path = λ e. omega (arith, e); no_extents = λ e. omega (arith, e); no_sizes = λ e. omega (arith, e) }
-no_query (unlink u v) = record { no_path = λ e. omega (arith, e); no_extents = λ e. omega (arith, e); no_sizes = λ e. omega (arith, e) }
-no_query (drop u) = record { no_path = λ e. omega (arith, e); no_extents = λ e. omega (arith, e); no_sizes = λ e. omega (arith, e) }
+no_query (node t) = record { no_path = λ e. omega (arith, e); no_extents = λ e. omega (arith, e); no_sizes = λ e. omega (arith, e); no_forget = λ e. omega (arith, e) }
+no_query (link u v) = record { no_path = λ e. omega (arith, e); no_extents = λ e. omega (arith, e); no_sizes = λ e. omega (arith, e); no_forget = λ e. omega (arith, e) }
+no_query (unlink u v) = record { no_path = λ e. omega (arith, e); no_extents = λ e. omega (arith, e); no_sizes = λ e. omega (arith, e); no_forget = λ e. omega (arith, e) }
+no_query (drop u) = record { no_path = λ e. omega (arith, e); no_extents = λ e. omega (arith, e); no_sizes = λ e. omega (arith, e); no_forget = λ e. omega (arith, e) }
 
 -- two words that differ in the first byte
 pub apart : (word a b : List ℕ) → word ≡ a → word ≡ b → (slice_index a 0 ≢ slice_index b 0) → ⊥
 apart word a b p q d = d (ap (λ l. slice_index l 0) (sym p ∙ q))
-
--- so far a line asks the graph itself alone
-pub asks_data : (line : List ℕ) (via : Via) (e : Expr) → SpellsPath line via e → (via ≡ Data) × SpellsPath line Data e
-asks_data line Data e h = (refl, h)
-asks_data line (A level) e h = absurd h
-asks_data line One e h = absurd h
-asks_data line Fb e h = absurd h
 
 pub begins : (line : List ℕ) (c : Command) → IsSpelled line c → first_word line ≡ keyword c
 begins line (change (node t)) h = (head_word line _ _ _ _ (is_split line) h.1).0
 begins line (change (link u v)) h = (head_word line _ _ _ _ (is_split line) h.0).0
 begins line (change (unlink u v)) h = (head_word line _ _ _ _ (is_split line) h.0).0
 begins line (change (drop u)) h = (head_word line _ _ _ _ (is_split line) h.0).0
-begins line (path via e) h = (asks_data line via e h).1.0.0
+begins line (path via e) h = h.0.0
 begins line (extents via) h = (head_word line _ _ _ _ (is_split line) h.0).0
 begins line sizes h = (head_word line _ _ _ _ (is_split line) h).0
+begins line (forget kind) h = (head_word line _ _ _ _ (is_split line) h).0
 
 -- what follows the first word
 behind : (line w : List ℕ) (ws : List (List ℕ)) → words line ≡ w ∷ ws → words (behind_word line) ≡ ws
@@ -101,60 +97,69 @@ module _ (line word rest : List ℕ) (loud : ¬ OpensNothing word) (is_first : w
   follows : (w : List ℕ) (ws : List (List ℕ)) → words line ≡ w ∷ ws → words rest ≡ ws
   follows w ws e = ap words is_rest ∙ behind line w ws e
 
-  pub none_node : word ≡ codes "node" → ((w : List ℕ) → words rest ≢ w ∷ []) → NoCommand line × (¬ AsksPath line)
-  none_node e absent = ((not_quiet, other), λ a. apart word _ _ e (is_first ∙ a.0) (λ d. omega (arith, d)))
+  pub none_node : word ≡ codes "node" → ((w : List ℕ) → words rest ≢ w ∷ []) → NoCommand line × (¬ Asks line)
+  none_node e absent = ((not_quiet, other), λ a. apart word _ _ e (is_first ∙ a.1.0) (λ d. omega (arith, d)))
     where
       other : (c : Command) → IsSpelled line c → ⊥
       other (change (node t)) h = absent h.0 (follows _ _ h.1)
       other c h = clash _ e c h (λ d. omega (arith, d))
 
-  pub none_link : word ≡ codes "link" → ((u v : ℕ) → u < 2 ^ 32 → v < 2 ^ 32 → words rest ≢ node_word u ∷ node_word v ∷ []) → NoCommand line × (¬ AsksPath line)
-  none_link e absent = ((not_quiet, other), λ a. apart word _ _ e (is_first ∙ a.0) (λ d. omega (arith, d)))
+  pub none_link : word ≡ codes "link" → ((u v : ℕ) → u < 2 ^ 32 → v < 2 ^ 32 → words rest ≢ node_word u ∷ node_word v ∷ []) → NoCommand line × (¬ Asks line)
+  none_link e absent = ((not_quiet, other), λ a. apart word _ _ e (is_first ∙ a.1.0) (λ d. omega (arith, d)))
     where
       other : (c : Command) → IsSpelled line c → ⊥
       other (change (link u v)) h = absent u v h.1 h.2 (follows _ _ h.0)
       other c h = clash _ e c h (λ d. omega (arith, d))
 
-  pub none_unlink : word ≡ codes "unlink" → ((u v : ℕ) → u < 2 ^ 32 → v < 2 ^ 32 → words rest ≢ node_word u ∷ node_word v ∷ []) → NoCommand line × (¬ AsksPath line)
-  none_unlink e absent = ((not_quiet, other), λ a. apart word _ _ e (is_first ∙ a.0) (λ d. omega (arith, d)))
+  pub none_unlink : word ≡ codes "unlink" → ((u v : ℕ) → u < 2 ^ 32 → v < 2 ^ 32 → words rest ≢ node_word u ∷ node_word v ∷ []) → NoCommand line × (¬ Asks line)
+  none_unlink e absent = ((not_quiet, other), λ a. apart word _ _ e (is_first ∙ a.1.0) (λ d. omega (arith, d)))
     where
       other : (c : Command) → IsSpelled line c → ⊥
       other (change (unlink u v)) h = absent u v h.1 h.2 (follows _ _ h.0)
       other c h = clash _ e c h (λ d. omega (arith, d))
 
-  pub none_drop : word ≡ codes "drop" → ((u : ℕ) → u < 2 ^ 32 → words rest ≢ node_word u ∷ []) → NoCommand line × (¬ AsksPath line)
-  none_drop e absent = ((not_quiet, other), λ a. apart word _ _ e (is_first ∙ a.0) (λ d. omega (arith, d)))
+  pub none_drop : word ≡ codes "drop" → ((u : ℕ) → u < 2 ^ 32 → words rest ≢ node_word u ∷ []) → NoCommand line × (¬ Asks line)
+  none_drop e absent = ((not_quiet, other), λ a. apart word _ _ e (is_first ∙ a.1.0) (λ d. omega (arith, d)))
     where
       other : (c : Command) → IsSpelled line c → ⊥
       other (change (drop u)) h = absent u h.1 (follows _ _ h.0)
       other c h = clash _ e c h (λ d. omega (arith, d))
 
-  pub none_path : word ≡ codes "path" → ((x : Expr) → SpellsPath line Data x → ⊥) → NoCommand line
+  pub none_path : word ≡ codes "path" → ((via : Via) (x : Expr) → SpellsPath line via x → ⊥) → NoCommand line
   none_path e absent = (not_quiet, other)
     where
       other : (c : Command) → IsSpelled line c → ⊥
-      other (path via x) h = absent x (asks_data line via x h).1
+      other (path via x) h = absent via x h
       other (change d) h = clash _ e (change d) h (λ z. (no_query d).no_path (sym z))
       other c h = clash _ e c h (λ d. omega (arith, d))
 
-  pub none_extents : word ≡ codes "extents" → ((via : Via) → IsIndex via → words rest ≢ via_word via ∷ []) → NoCommand line × (¬ AsksPath line)
-  none_extents e absent = ((not_quiet, other), λ a. apart word _ _ e (is_first ∙ a.0) (λ d. omega (arith, d)))
+  pub none_extents : word ≡ codes "extents" → ((via : Via) → IsIndex via → words rest ≢ via_word via ∷ []) → NoCommand line × (¬ Asks line)
+  none_extents e absent = ((not_quiet, other), λ a. apart word _ _ e (is_first ∙ a.1.0) (λ d. omega (arith, d)))
     where
       other : (c : Command) → IsSpelled line c → ⊥
       other (extents via) h = absent via h.1 (follows _ _ h.0)
       other (change d) h = clash _ e (change d) h (λ z. (no_query d).no_extents (sym z))
       other c h = clash _ e c h (λ d. omega (arith, d))
 
-  pub none_sizes : word ≡ codes "sizes" → words rest ≢ [] → NoCommand line × (¬ AsksPath line)
-  none_sizes e absent = ((not_quiet, other), λ a. apart word _ _ e (is_first ∙ a.0) (λ d. omega (arith, d)))
+  pub none_sizes : word ≡ codes "sizes" → words rest ≢ [] → NoCommand line × (¬ Asks line)
+  none_sizes e absent = ((not_quiet, other), λ a. apart word _ _ e (is_first ∙ a.1.0) (λ d. omega (arith, d)))
     where
       other : (c : Command) → IsSpelled line c → ⊥
       other sizes h = absent (follows _ _ h)
       other (change d) h = clash _ e (change d) h (λ z. (no_query d).no_sizes (sym z))
       other c h = clash _ e c h (λ d. omega (arith, d))
 
-  pub none_other : OpensOther word → word ≢ codes "path" → word ≢ codes "extents" → word ≢ codes "sizes" → NoCommand line × (¬ AsksPath line)
-  none_other o p x z = ((not_quiet, other), λ a. p (is_first ∙ a.0))
+  pub none_forget : word ≡ codes "forget" → ((kind : Kind) → words rest ≢ kind_word kind ∷ []) → NoCommand line × (¬ Asks line)
+  none_forget e absent = ((not_quiet, other), λ a. apart word _ _ e (is_first ∙ a.1.0) (λ d. omega (arith, d)))
+    where
+      other : (c : Command) → IsSpelled line c → ⊥
+      other (forget kind) h = absent kind (follows _ _ h)
+      other (change d) h = clash _ e (change d) h (λ z. (no_query d).no_forget (sym z))
+      other c h = clash _ e c h (λ d. omega (arith, d))
+
+  pub none_other : OpensOther word → word ≢ codes "path" → word ≢ codes "extents" → word ≢ codes "sizes" → word ≢ codes "forget"
+      → NoCommand line × (¬ Asks line)
+  none_other o p x z f = ((not_quiet, other), λ a. p (is_first ∙ a.1.0))
     where
       other : (c : Command) → IsSpelled line c → ⊥
       other (change (node t)) h = o.no_node (starts (change (node t)) h)
@@ -164,6 +169,7 @@ module _ (line word rest : List ℕ) (loud : ¬ OpensNothing word) (is_first : w
       other (path via e) h = p (starts (path via e) h)
       other (extents via) h = x (starts (extents via) h)
       other sizes h = z (starts sizes h)
+      other (forget kind) h = f (starts (forget kind) h)
 
 -- a line that says nothing is no command
 pub silent : (line : List ℕ) → IsQuiet line → (c : Command) → IsSpelled line c → ⊥
@@ -177,20 +183,21 @@ silent line q c h = loud c (subst OpensNothing (begins line c h) (quiet_opens li
     loud (path via e) o = omega (arith, o)
     loud (extents via) o = omega (arith, o)
     loud sizes o = omega (arith, o)
+    loud (forget kind) o = omega (arith, o)
 
 -- a line that asks nothing passes no limit on queries
-pub asks_nothing : (limits : Limits) (line : List ℕ) → ¬ AsksPath line → ¬ PassesLimit limits line
+pub asks_nothing : (limits : Limits) (line : List ℕ) → ¬ Asks line → ¬ PassesLimit limits line
 asks_nothing limits line absent h = absent h.0
 
 -- no command but a path query asks with an expression
 pub free : (limits : Limits) (line : List ℕ) (c : Command) → IsSpelled line c → (slice_index (keyword c) 0 ≢ 112) → ¬ PassesLimit limits line
-free limits line c h other k = apart (first_word line) _ _ (begins line c h) k.0.0 other
+free limits line c h other k = apart (first_word line) _ _ (begins line c h) k.0.1.0 other
 
 opens_node : (line word : List ℕ) → SaysNode line word → first_word line ≡ codes "node"
 opens_node line word s = (head_word line _ _ _ _ (is_split line) s).0
 
 pub node_free : (limits : Limits) (line word : List ℕ) → SaysNode line word → ¬ PassesLimit limits line
-node_free limits line word s k = apart (first_word line) _ _ (opens_node line word s) k.0.0 (λ d. omega (arith, d))
+node_free limits line word s k = apart (first_word line) _ _ (opens_node line word s) k.0.1.0 (λ d. omega (arith, d))
 
 -- the word behind `node` spells no label
 pub node_bad : (line word : List ℕ) → SaysNode line word → ((t : List ℕ) → SpellsLabel word t → ⊥) → NoCommand line
@@ -204,10 +211,10 @@ node_bad line word s absent = (quiet, other)
     other c h = apart (first_word line) _ _ (opens_node line word s) (begins line c h) (λ d. omega (arith, d))
 
 -- the line asks for what spells no expression
-pub path_bad : (line text : List ℕ) → SaysPath line text → ((e : Expr) → Spells text e → ⊥) → NoCommand line
-path_bad line text s absent =
+pub path_bad : (line : List ℕ) (via : Via) (text : List ℕ) → SaysPath line via text → ((e : Expr) → Spells text e → ⊥) → NoCommand line
+path_bad line via text s absent =
     none_path line (first_word line) (behind_word line) (λ o. (let n : OpensNothing (codes "path") = subst OpensNothing s.0.0 o in omega (arith, n))) refl refl s.0.0
-    (λ x h. absent x (subst (λ t. Spells t x) (sym s.1) h.1))
+    (λ v x h. absent x (subst (λ t. Spells t x) (sym s.1) h.1))
 
 -- what is read where the word behind `node` gave this error
 pub failed_node : (limits : Limits) (line word : List ℕ) (e : ScriptError) → SaysNode line word → (e ≢ Limit) → (e ≡ Bad → (t : List ℕ) → SpellsLabel word t → ⊥)
@@ -217,12 +224,12 @@ failed_node limits line word Limit s n f = absurd (n refl)
 failed_node limits line word Memory s n f = tt
 
 -- the expression of a query is what its text is
-pub within_is : (limits : Limits) (line text : List ℕ) → SaysPath line text → (IsTrue (is_past limits text) → ⊥) → ¬ PassesLimit limits line
-within_is limits line text s within k = within (subst (λ t. IsTrue (is_past limits t)) (sym s.1) k.1)
+pub within_is : (limits : Limits) (line : List ℕ) (via : Via) (text : List ℕ) → SaysPath line via text → (IsTrue (is_past limits text) → ⊥) → ¬ PassesLimit limits line
+within_is limits line via text s within k = within (subst (λ t. IsTrue (is_past limits t)) (sym s.1) k.1)
 
--- what is read where the text behind `path data` gave this error
-pub failed_path : (limits : Limits) (line text : List ℕ) (e : ScriptError) → SaysPath line text → (e ≡ Limit ↔ IsTrue (is_past limits text))
+-- what is read where the text of a path expression gave this error
+pub failed_path : (limits : Limits) (line : List ℕ) (via : Via) (text : List ℕ) (e : ScriptError) → SaysPath line via text → (e ≡ Limit ↔ IsTrue (is_past limits text))
     → (e ≡ Bad → (x : Expr) → Spells text x → ⊥) → Reads limits line (Err e)
-failed_path limits line text Bad s l f = (path_bad line text s (f refl), within_is limits line text s (λ p. (let b : ◌≡◌ {A = ScriptError} Bad Limit = l.1 p in cc)))
-failed_path limits line text Limit s l f = (s.0, subst (λ t. IsTrue (is_past limits t)) s.1 (l.0 refl))
-failed_path limits line text Memory s l f = tt
+failed_path limits line via text Bad s l f = (path_bad line via text s (f refl), within_is limits line via text s (λ p. (let b : ◌≡◌ {A = ScriptError} Bad Limit = l.1 p in cc)))
+failed_path limits line via text Limit s l f = ((via, s.0), subst (λ t. IsTrue (is_past limits t)) s.1 (l.0 refl))
+failed_path limits line via text Memory s l f = tt

@@ -7,11 +7,12 @@ use Rattle.px_spec.specs.Changes.{node, link, unlink, drop as drop_node}
 use Rattle.path_query.specs.Labels.{SpellsLabel}
 use Rattle.path_spec.specs.Trees.{Expr, only, last, once, label}
 use Rattle.path_query.proofs.Examples.{plain_a, iri_a, iri_escaped, no_label_and}
+use Rattle.bisim_spec.specs.declared.kind.Kind.{Kind}
+use Rattle.bisim_spec.specs.declared.kind.Kind.TheVariants as kind
 use Rattle.index_api.specs.declared.kinds.Via.{Via}
 use Rattle.index_api.specs.declared.kinds.Via.TheVariants.{Data, A, One, Fb}
-use Rattle.script_read.specs.Commands.{Command, change, path, extents, sizes, IsQuiet, IsSpelled, NoCommand}
+use Rattle.script_read.specs.Commands.{Command, change, path, extents, sizes, forget, IsQuiet, IsSpelled, NoCommand}
 use Rattle.script_read.specs.Parts.{expression_text}
-use Rattle.script_read.proofs.CommandLemmas.{asks_data}
 
 -- blanks may stand at both ends and between the words
 node_spelled : IsSpelled (codes " node\ta ") (change (node (codes "a")))
@@ -89,12 +90,36 @@ blank_quiet = tt
 comment_quiet : IsQuiet (codes "  # node a")
 comment_quiet = refl
 
--- an expression is asked of the graph itself; through an index no line asks yet
+-- an expression is asked through the graph itself, or through an index
 path_spelled : IsSpelled (codes "path data  a\t") (path Data (only (last (once (label (codes "a"))))))
-path_spelled = ((refl, refl), ([], codes "a", [], refl, inl (plain_a, refl), tt, refl, refl))
+path_spelled = ((refl, refl, tt), ([], codes "a", [], refl, inl (plain_a, refl), tt, refl, refl))
 
-no_index : (via : Via) (e : Expr) → ¬ IsSpelled (codes "path one a") (path via e)
-no_index via e h = (let d = (asks_data (codes "path one a") via e h).1.0.1 in omega (arith, ap (λ l. slice_index l 0) d))
+path_of_index : IsSpelled (codes "path one a") (path One (only (last (once (label (codes "a"))))))
+path_of_index = ((refl, refl, tt), ([], codes "a", [], refl, inl (plain_a, refl), tt, refl, refl))
+
+path_of_level : IsSpelled (codes "path a2 a") (path (A 2) (only (last (once (label (codes "a"))))))
+path_of_level = ((refl, ap (λ d. 97 ∷ d) (sym (decimal_digit 2 (lit< tt))), lit< tt), ([], codes "a", [], refl, inl (plain_a, refl), tt, refl, refl))
+
+-- the word behind `path` has to be one of these
+no_other_way : (via : Via) (e : Expr) → ¬ IsSpelled (codes "path two a") (path via e)
+no_other_way Data e h = omega (arith, ap (λ l. slice_index l 0) h.0.1)
+no_other_way (A level) e h = omega (arith, ap (λ l. slice_index l 0) h.0.1)
+no_other_way One e h = omega (arith, ap (λ l. slice_index l 0) h.0.1)
+no_other_way Fb e h = omega (arith, ap (λ l. slice_index l 0) h.0.1)
+
+-- a kind of indexes is named without a level, and the graph itself is no kind
+forget_spelled : IsSpelled (codes "forget a") (forget kind.A)
+forget_spelled = refl
+
+no_level_forgotten : (kind : Kind) → ¬ IsSpelled (codes "forget a0") (forget kind)
+no_level_forgotten kind.A h = omega (arith, ap (λ ws. length (second ws)) h)
+no_level_forgotten kind.One h = omega (arith, ap (λ ws. length (second ws)) h)
+no_level_forgotten kind.Fb h = omega (arith, ap (λ ws. slice_index (second ws) 0) h)
+
+no_data_forgotten : (kind : Kind) → ¬ IsSpelled (codes "forget data") (forget kind)
+no_data_forgotten kind.A h = omega (arith, ap (λ ws. slice_index (second ws) 0) h)
+no_data_forgotten kind.One h = omega (arith, ap (λ ws. slice_index (second ws) 0) h)
+no_data_forgotten kind.Fb h = omega (arith, ap (λ ws. slice_index (second ws) 0) h)
 
 -- the blocks of an index; its level has no zero in front
 extents_spelled : IsSpelled (codes " extents fb ") (extents Fb)
@@ -144,6 +169,7 @@ bad_label = (λ q. omega (arith, q), other)
     other (change (link u v)) h = omega (arith, ap length h.0)
     other (change (unlink u v)) h = omega (arith, ap length h.0)
     other (change (drop_node u)) h = omega (arith, ap (λ ws. slice_index (first ws) 0) h.0)
-    other (path via e) h = omega (arith, ap (λ l. slice_index l 0) (asks_data (codes "node and") via e h).1.0.0)
+    other (path via e) h = omega (arith, ap (λ l. slice_index l 0) h.0.0)
     other (extents via) h = omega (arith, ap (λ ws. slice_index (first ws) 0) h.0)
     other sizes h = omega (arith, ap length h)
+    other (forget kind) h = omega (arith, ap (λ ws. slice_index (first ws) 0) h)

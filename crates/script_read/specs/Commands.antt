@@ -6,9 +6,10 @@ use Rattle.px_spec.specs.Changes.{Change, node, link, unlink, drop}
 use Rattle.path_spec.specs.Trees.{Expr}
 use Rattle.path_query.specs.Labels.{SpellsLabel}
 use Rattle.path_query.specs.Parsed.{Spells, is_past}
+use Rattle.bisim_spec.specs.declared.kind.Kind.{Kind}
 use Rattle.index_api.specs.declared.kinds.Via.{Via}
 use Rattle.index_api.specs.declared.kinds.Via.TheVariants.{Data, A, One, Fb}
-use Rattle.index_api.specs.Spelling.{via_word}
+use Rattle.index_api.specs.Spelling.{via_word, kind_word}
 use Rattle.script_read.specs.Parts.{first_word, behind_word, expression_text}
 
 pub data Command : Type 0 where
@@ -20,6 +21,8 @@ pub data Command : Type 0 where
   extents : Via → Command
   -- how many nodes and edges the graph and each index have
   sizes : Command
+  -- the indexes of this kind are kept no longer
+  forget : Kind → Command
 
 -- no words, or a first word that begins with # (35)
 abbrev pub SaysNothing : List (List ℕ) → Type 0
@@ -41,19 +44,6 @@ SpellsChange line (link u v) = SpellsPair line (codes "link") u v
 SpellsChange line (unlink u v) = SpellsPair line (codes "unlink") u v
 SpellsChange line (drop u) = (words line ≡ codes "drop" ∷ node_word u ∷ []) × (u < 2 ^ 32)
 
--- The first words are `path data`. Through an index no line asks yet.
-abbrev pub AsksPath : List ℕ → Type 0
-AsksPath line = (first_word line ≡ codes "path") × (first_word (behind_word line) ≡ codes "data")
-
--- so they are, and what follows them, without the blanks at both ends, spells the expression
-abbrev pub SpellsPath : List ℕ → Via → Expr → Type 0
-SpellsPath line Data e = AsksPath line × Spells (expression_text line) e
-SpellsPath line via e = ⊥
-
--- so they are, and what follows them has more bytes than a query's text may, or nests deeper
-abbrev pub PassesLimit : Limits → List ℕ → Type 0
-PassesLimit limits line = AsksPath line × IsTrue (is_past limits (expression_text line))
-
 -- an index, whose level has 32 bits; the graph itself is none
 abbrev pub IsIndex : Via → Type 0
 IsIndex Data = ⊥
@@ -61,8 +51,34 @@ IsIndex (A level) = level < 2 ^ 32
 IsIndex One = Unit {0}
 IsIndex Fb = Unit {0}
 
+-- the graph itself, or an index
+abbrev pub IsVia : Via → Type 0
+IsVia Data = Unit {0}
+IsVia (A level) = IsIndex (A level)
+IsVia One = IsIndex One
+IsVia Fb = IsIndex Fb
+
+-- the first words are `path` and through what it is asked
+abbrev pub AsksPath : List ℕ → Via → Type 0
+AsksPath line via = (first_word line ≡ codes "path") × (first_word (behind_word line) ≡ via_word via) × IsVia via
+
+-- so they are, and what follows them, without the blanks at both ends, spells the expression
+abbrev pub SpellsPath : List ℕ → Via → Expr → Type 0
+SpellsPath line via e = AsksPath line via × Spells (expression_text line) e
+
+-- the line asks with a path expression, through the graph or some index
+abbrev pub Asks : List ℕ → Type 0
+Asks line = (via : Via) × AsksPath line via
+
+-- so it does, and the text of the expression has more bytes than it may, or nests deeper
+abbrev pub PassesLimit : Limits → List ℕ → Type 0
+PassesLimit limits line = Asks line × IsTrue (is_past limits (expression_text line))
+
 abbrev pub SpellsExtents : List ℕ → Via → Type 0
 SpellsExtents line via = (words line ≡ codes "extents" ∷ via_word via ∷ []) × IsIndex via
+
+abbrev pub SpellsForget : List ℕ → Kind → Type 0
+SpellsForget line kind = words line ≡ codes "forget" ∷ kind_word kind ∷ []
 
 -- the line is this command
 abbrev pub IsSpelled : List ℕ → Command → Type 0
@@ -70,6 +86,7 @@ IsSpelled line (change c) = SpellsChange line c
 IsSpelled line (path via e) = SpellsPath line via e
 IsSpelled line (extents via) = SpellsExtents line via
 IsSpelled line sizes = words line ≡ codes "sizes" ∷ []
+IsSpelled line (forget kind) = SpellsForget line kind
 
 -- the line is neither quiet nor a command
 abbrev pub NoCommand : List ℕ → Type 0

@@ -7,7 +7,7 @@ ghost use Rattle.script_read.specs.Commands.{Command as Spelled, IsQuiet, IsSpel
 ghost use Rattle.script_read.specs.Reading.{Reads};
 
 use crate::scan::{Said, scan};
-use index_api::Via;
+use index_api::{Kind, Via};
 use path_query::{ExprError, PathExpr, read_label};
 use px_base::{Limits, NodeId, Text};
 use std::alloc::Global;
@@ -24,13 +24,15 @@ pub enum Command {
     Unlink(NodeId, NodeId),
     /// `drop NODE`: the node is taken away.
     Drop(NodeId),
-    /// `path VIA EXPR`: the nodes in which the walks end that the expression matches. So far VIA is `data`, the
-    /// graph itself.
+    /// `path VIA EXPR`: the nodes in which the walks end that the expression matches, asked through the graph itself
+    /// or an index.
     Path(Via, PathExpr),
     /// `extents INDEX`: the blocks of this index, which isn't the graph itself, each with its nodes.
     Extents(Via),
     /// `sizes`: how many nodes and edges the graph and each index have.
     Sizes,
+    /// `forget KIND`: the indexes of this kind are kept no longer.
+    Forget(Kind),
 }
 
 /// Why a line gives no command.
@@ -92,9 +94,10 @@ pub fn read(alloc: Global, line: &[u8], limits: &Limits) -> Result<Option<Comman
         Said::Link(from, to) => Ok(Some(Command::Link(from, to))),
         Said::Unlink(from, to) => Ok(Some(Command::Unlink(from, to))),
         Said::Drop(node) => Ok(Some(Command::Drop(node))),
-        Said::Path(text) => Ok(Some(Command::Path(Via::Data, parse_path(alloc, text, limits)?))),
+        Said::Path(via, text) => Ok(Some(Command::Path(via, parse_path(alloc, text, limits)?))),
         Said::Extents(via) => Ok(Some(Command::Extents(via))),
         Said::Sizes => Ok(Some(Command::Sizes)),
+        Said::Forget(kind) => Ok(Some(Command::Forget(kind))),
         Said::Bad => Err(ScriptError::Bad),
     }
 }

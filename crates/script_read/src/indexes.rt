@@ -1,13 +1,14 @@
-// Indexes, as lines name them.
+// Indexes and their kinds, as lines name them.
 ghost use Rattle.std.specs.Prelude.{◌≡◌, ◌≢◌, ◌<◌, ◌^◌, ℕ, IfSome, IfNone, [], ◌∷◌, decimal};
 ghost use Rattle.px_spec.specs.Words.{words};
+ghost use Rattle.bisim_spec.specs.declared.kind.Kind.{Kind as AnyKind};
 ghost use Rattle.index_api.specs.declared.kinds.Via.{Via as AnyVia};
-ghost use Rattle.index_api.specs.Spelling.{via_word};
-ghost use Rattle.script_read.specs.Commands.{IsIndex};
+ghost use Rattle.index_api.specs.Spelling.{via_word, kind_word};
+ghost use Rattle.script_read.specs.Commands.{IsIndex, IsVia};
 
 use crate::nodes::printed_number;
 use crate::words::{is_word, one_word};
-use index_api::Via;
+use index_api::{Kind, Via};
 
 /// The level of an index that is written as `a2` is.
 fn level_of(word: &[u8]) -> Option<u32>
@@ -35,6 +36,46 @@ fn index_of(word: &[u8]) -> Option<Via>
             Some(level) => Some(Via::A(level)),
             None => None,
         }
+    }
+}
+
+/// Through what the word asks a query.
+pub(crate) fn via_of(word: &[u8]) -> Option<Via>
+    ensures found { IfSome result (λ v. word.now ≡ via_word v) }
+    ensures lawful { IfSome result IsVia }
+    ensures absent { IfNone result ((v : AnyVia) → IsVia v → word.now ≢ via_word v) }
+{
+    if is_word(word, "data") {
+        Some(Via::Data)
+    } else {
+        index_of(word)
+    }
+}
+
+/// The kind of indexes that the word names.
+fn kind_of(word: &[u8]) -> Option<Kind>
+    ensures found { IfSome result (λ k. word.now ≡ kind_word k) }
+    ensures absent { IfNone result ((k : AnyKind) → word.now ≢ kind_word k) }
+{
+    if is_word(word, "a") {
+        Some(Kind::A)
+    } else if is_word(word, "one") {
+        Some(Kind::One)
+    } else if is_word(word, "fb") {
+        Some(Kind::Fb)
+    } else {
+        None
+    }
+}
+
+/// The one kind of indexes that follows.
+pub(crate) fn one_kind(rest: &[u8]) -> Option<Kind>
+    ensures found { IfSome result (λ k. words rest.now ≡ kind_word k ∷ []) }
+    ensures absent { IfNone result ((k : AnyKind) → words rest.now ≢ kind_word k ∷ []) }
+{
+    match one_word(rest) {
+        Some(word) => kind_of(word),
+        None => None,
     }
 }
 

@@ -1,13 +1,16 @@
 // What a line of a script says.
-ghost use Rattle.std.specs.Prelude.{◌≡◌, ◌≢◌, ◌↔◌, List, ℕ, IsTrue, IfSome, IfNone, [], ◌∷◌, codes};
+ghost use Rattle.std.specs.Prelude.{◌≡◌, ◌≢◌, ◌↔◌, List, ℕ, IsTrue, IfSome, IfNone, [], ◌∷◌};
 ghost use Rattle.px_spec.specs.Words.{words};
+ghost use Rattle.index_api.specs.declared.kinds.Via.{Via as AnyVia};
+ghost use Rattle.index_api.specs.Spelling.{via_word};
+ghost use Rattle.script_read.specs.Commands.{IsVia};
 ghost use Rattle.script_read.specs.Parts.{first_word, behind_word, without_blanks, OpensNothing};
 ghost use Rattle.script_read.specs.Saying.{OpensOther, Says};
 
-use crate::indexes::one_index;
+use crate::indexes::{one_index, one_kind, via_of};
 use crate::nodes::{one_node, two_nodes};
 use crate::words::{is_over, is_word, one_word, split_word, trim_blanks};
-use index_api::Via;
+use index_api::{Kind, Via};
 use px_base::NodeId;
 
 /// What a line says. Its parts are borrowed from the line.
@@ -19,23 +22,24 @@ pub(crate) enum Said<'a> {
     Link(NodeId, NodeId),
     Unlink(NodeId, NodeId),
     Drop(NodeId),
-    /// The text of a path expression, to be asked of the graph itself.
-    Path(&'a [u8]),
+    /// Through what a path expression is asked, and its text.
+    Path(Via, &'a [u8]),
     Extents(Via),
     Sizes,
+    Forget(Kind),
     Bad,
 }
 
-/// The text of the expression that follows `data`, without the blanks at both ends.
-fn path_text(rest: &[u8]) -> Option<&[u8]>
-    ensures found { IfSome result (λ t. (first_word rest.now ≡ codes "data") × (t.now ≡ without_blanks (behind_word rest.now))) }
-    ensures absent { IfNone result (first_word rest.now ≢ codes "data") }
+/// Through what a path expression is asked, and its text without the blanks at both ends.
+fn path_parts(rest: &[u8]) -> Option<(Via, &[u8])>
+    ensures via { IfSome result (λ p. (first_word rest.now ≡ via_word p.0) × IsVia p.0) }
+    ensures text { IfSome result (λ p. p.1.now ≡ without_blanks (behind_word rest.now)) }
+    ensures absent { IfNone result ((v : AnyVia) → IsVia v → first_word rest.now ≢ via_word v) }
 {
-    let (via, text) = split_word(rest);
-    if is_word(via, "data") {
-        Some(trim_blanks(text))
-    } else {
-        None
+    let (word, text) = split_word(rest);
+    match via_of(word) {
+        Some(via) => Some((via, trim_blanks(text))),
+        None => None,
     }
 }
 
@@ -52,8 +56,8 @@ fn scan_query<'a>(word: &'a [u8], rest: &'a [u8]) -> Said<'a>
     ensures { (line : List ℕ) → word.now ≡ first_word line → rest.now ≡ behind_word line → Says line result }
 {
     if is_word(word, "path") {
-        match path_text(rest) {
-            Some(text) => Said::Path(text),
+        match path_parts(rest) {
+            Some((via, text)) => Said::Path(via, text),
             None => Said::Bad,
         }
     } else if is_word(word, "extents") {
@@ -66,6 +70,11 @@ fn scan_query<'a>(word: &'a [u8], rest: &'a [u8]) -> Said<'a>
             Said::Sizes
         } else {
             Said::Bad
+        }
+    } else if is_word(word, "forget") {
+        match one_kind(rest) {
+            Some(kind) => Said::Forget(kind),
+            None => Said::Bad,
         }
     } else {
         Said::Bad

@@ -1,6 +1,6 @@
 // What lines spell.
 use super::*;
-use index_api::Via;
+use index_api::{Kind, Via};
 use px_base::{Limits, Text};
 use std::alloc::Global;
 use std::test::Fail;
@@ -15,6 +15,7 @@ enum Short {
     Path(Via),
     Extents(Via),
     Sizes,
+    Forget(Kind),
     Bad,
     Limit,
     Memory,
@@ -30,6 +31,7 @@ fn shorten(read: Result<Option<Command>, ScriptError>) -> Short {
         Ok(Some(Command::Path(via, _))) => Short::Path(via),
         Ok(Some(Command::Extents(via))) => Short::Extents(via),
         Ok(Some(Command::Sizes)) => Short::Sizes,
+        Ok(Some(Command::Forget(kind))) => Short::Forget(kind),
         Err(ScriptError::Bad) => Short::Bad,
         Err(ScriptError::Limit) => Short::Limit,
         Err(ScriptError::Memory) => Short::Memory,
@@ -38,7 +40,7 @@ fn shorten(read: Result<Option<Command>, ScriptError>) -> Short {
 
 #[test]
 fn lines_are_commands(rt: HostRuntime) -> Result<(), Fail> {
-    let rows: [(&[u8], Short); 15] = [
+    let rows: [(&[u8], Short); 18] = [
         (b"", Short::Quiet),
         (b" \t# node a", Short::Quiet),
         (b" node\ta ", Short::Node),
@@ -48,12 +50,15 @@ fn lines_are_commands(rt: HostRuntime) -> Result<(), Fail> {
         (b"drop n7", Short::Drop(7)),
         (b"path data a / b \t", Short::Path(Via::Data)),
         (b"path data (a|b)*//_ ", Short::Path(Via::Data)),
-        (b"path one a", Short::Bad),
+        (b"path one a", Short::Path(Via::One)),
+        (b" path  a4294967295\ta/_ ", Short::Path(Via::A(4294967295))),
         (b"extents one", Short::Extents(Via::One)),
         (b" extents\tfb ", Short::Extents(Via::Fb)),
         (b"extents a0", Short::Extents(Via::A(0))),
         (b"extents a4294967295", Short::Extents(Via::A(4294967295))),
         (b"sizes", Short::Sizes),
+        (b"forget a", Short::Forget(Kind::A)),
+        (b" forget fb\t", Short::Forget(Kind::Fb)),
     ];
     for (line, short) in rows {
         assert_eq!(rt; shorten(read(rt.alloc(), line, &Limits::program())), short);
@@ -63,7 +68,7 @@ fn lines_are_commands(rt: HostRuntime) -> Result<(), Fail> {
 
 #[test]
 fn near_misses_are_bad(rt: HostRuntime) -> Result<(), Fail> {
-    let lines: [&[u8]; 19] = [
+    let lines: [&[u8]; 25] = [
         b"node",
         b"node and",
         b"node a b",
@@ -76,6 +81,9 @@ fn near_misses_are_bad(rt: HostRuntime) -> Result<(), Fail> {
         b"drop n0 n1",
         b"path data a b",
         b"path data a**",
+        b"path two a",
+        b"path a4294967296 a",
+        b"path fb",
         b"Node a",
         b"extents",
         b"extents data",
@@ -83,6 +91,9 @@ fn near_misses_are_bad(rt: HostRuntime) -> Result<(), Fail> {
         b"extents a4294967296",
         b"extents one fb",
         b"sizes x",
+        b"forget data",
+        b"forget a0",
+        b"forget one fb",
     ];
     for line in lines {
         assert_eq!(rt;
@@ -112,13 +123,14 @@ fn limits_come_before_the_language(rt: HostRuntime) -> Result<(), Fail> {
         expr_bytes: 5,
         expr_depth: 1,
     };
-    let rows: [(&[u8], Short); 7] = [
+    let rows: [(&[u8], Short); 8] = [
         (b" path data  a//bc \t", Short::Path(Via::Data)),
         (b"path data a//bcd", Short::Limit),
         (b"path data a b c d", Short::Limit),
         (b"path data a b c", Short::Bad),
         (b"path data ((a", Short::Limit),
-        (b"path one ((a", Short::Bad),
+        (b"path two ((a", Short::Bad),
+        (b"path one ((a", Short::Limit),
         (b"node abcdefgh", Short::Node),
     ];
     for (line, short) in rows {

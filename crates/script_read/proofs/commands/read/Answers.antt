@@ -1,10 +1,10 @@
 use Rattle.std.proofs.Common.{◌≡◌, ap, sym, ◌∙◌, Err, arith}
 use Rattle.std.proofs.lemmas.Result.{err_from_is_err_and}
 use Rattle.px_spec.specs.Changes.{link, unlink, drop}
-use Rattle.script_read.specs.Commands.{change, extents, sizes}
+use Rattle.script_read.specs.Commands.{change, extents, sizes, forget}
 use Rattle.script_read.specs.declared.commands.ScriptError.TheVariants.{Limit}
 use Rattle.script_read.proofs.CommandLemmas.{failed_node, failed_path, node_free, free}
-use Rattle.script_read.proofs.CommandLaws.{path_once, extents_once}
+use Rattle.script_read.proofs.CommandLaws.{path_once, extents_once, forget_once}
 use Rattle.script_read.proofs.commands.read.Goals as goal
 
 pub returns-in_err-parse_label-in-Node-clause-reads : goal.returns-in_err-parse_label-in-Node-clause-reads
@@ -35,18 +35,24 @@ returns-in-Extents-clause-reads c = (c.in-Extents.ensures, free c.args.limits.no
 pub returns-in-Sizes-clause-reads : goal.returns-in-Sizes-clause-reads
 returns-in-Sizes-clause-reads c = (c.in-Sizes.ensures, free c.args.limits.now c.args.line.now sizes c.in-Sizes.ensures (λ d. omega (arith, d)))
 
+pub returns-in-Forget-clause-reads : goal.returns-in-Forget-clause-reads
+returns-in-Forget-clause-reads c = (c.in-Forget.ensures, free c.args.limits.now c.args.line.now (forget c.in-Forget.kind) c.in-Forget.ensures (λ d. omega (arith, d)))
+
 pub returns-in_err-parse_path-in-Path-clause-reads : goal.returns-in_err-parse_path-in-Path-clause-reads
 returns-in_err-parse_path-in-Path-clause-reads c =
     let p = err_from_is_err_and c.from_residual-in_err-parse_path-in-Path.result c.from_residual-in_err-parse_path-in-Path.ensures.1 in
     let l = c.in_err-parse_path-in-Path.ensures.limit in
-    rw p.1 (failed_path c.args.limits.now c.args.line.now c.in-Path.text.now p.0 c.in-Path.ensures ((λ i. l.0 (ap Err (sym p.2 ∙ i))), λ i. (let same : Err c.in_err-parse_path-in-Path.field-0.0 ≡ Err Limit = l.1 i in cc))
+    rw p.1 (failed_path c.args.limits.now c.args.line.now c.in-Path.via c.in-Path.text.now p.0 c.in-Path.ensures ((λ i. l.0 (ap Err (sym p.2 ∙ i))), λ i. (let same : Err c.in_err-parse_path-in-Path.field-0.0 ≡ Err Limit = l.1 i in cc))
     (λ i. c.in_err-parse_path-in-Path.ensures.bad (ap Err (sym p.2 ∙ i))))
 
 pub returns-in_err-parse_path-in-Path-clause-once : goal.returns-in_err-parse_path-in-Path-clause-once
-returns-in_err-parse_path-in-Path-clause-once c = path_once c.args.line.now c.in-Path.text.now c.in-Path.ensures c.in_err-parse_path-in-Path.ensures.once
+returns-in_err-parse_path-in-Path-clause-once c = path_once c.args.line.now c.in-Path.via c.in-Path.text.now c.in-Path.ensures c.in_err-parse_path-in-Path.ensures.once
 
 pub returns-in_ok-parse_path-in-Path-clause-once : goal.returns-in_ok-parse_path-in-Path-clause-once
-returns-in_ok-parse_path-in-Path-clause-once c = path_once c.args.line.now c.in-Path.text.now c.in-Path.ensures c.in_ok-parse_path-in-Path.ensures.once
+returns-in_ok-parse_path-in-Path-clause-once c = path_once c.args.line.now c.in-Path.via c.in-Path.text.now c.in-Path.ensures c.in_ok-parse_path-in-Path.ensures.once
+
+pub returns-in-Forget-clause-once : goal.returns-in-Forget-clause-once
+returns-in-Forget-clause-once c = forget_once c.args.line.now c.in-Forget.kind c.in-Forget.ensures
 
 pub returns-in-Extents-clause-once : goal.returns-in-Extents-clause-once
 returns-in-Extents-clause-once c = extents_once c.args.line.now c.in-Extents.via c.in-Extents.ensures
