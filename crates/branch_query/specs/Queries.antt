@@ -1,0 +1,37 @@
+-- Queries, their answers over any graph, and their relaxed forms.
+use Rattle.std.specs.Prelude.{ℕ, Bool, true, false, List, IsTrue}
+use Rattle.std.specs.List.Sorted.{IsStrictlyIncreasing}
+use Rattle.px_spec.specs.Members.{has}
+use Rattle.px_spec.specs.Shapes.{Shape}
+use Rattle.path_spec.specs.Trees.{Expr}
+use Rattle.path_spec.specs.Answers.{IsAnswer}
+use Rattle.branch_query.specs.declared.queries.Query.{Query as Asked}
+use Rattle.branch_query.specs.declared.queries.Query.TheVariants.{Path}
+
+pub data Query : Type 0 where
+  -- a path expression
+  path : Expr → Query
+
+-- the query that the code's value stands for
+abbrev pub query_of : Asked → Query
+query_of (Path e) = path e.now
+
+-- the node answers the query
+abbrev pub IsQueryAnswer : Shape → Query → ℕ → Type 0
+IsQueryAnswer s (path e) v = IsAnswer s e v
+
+-- the nodes are those that answer the query, each once, in the order of their numbers
+pub record AreQueryAnswers (s : Shape) (q : Query) (nodes : List ℕ) : Type 0 where
+  pub rising : IsStrictlyIncreasing nodes
+  pub sound : (v : ℕ) → IsTrue (has nodes v) → IsQueryAnswer s q v
+  pub complete : (v : ℕ) → IsQueryAnswer s q v → IsTrue (has nodes v)
+
+-- What a query asks where more edges may be seen than there are: what it denies is left out. A path expression denies
+-- nothing, and is its own relaxed form.
+abbrev pub relaxed : Query → Query
+relaxed (path e) = path e
+
+-- the whole query, or its relaxed form
+abbrev pub form_of : Bool → Query → Query
+form_of true q = q
+form_of false q = relaxed q

@@ -1,0 +1,47 @@
+// Queries of every language.
+ghost use Rattle.std.specs.Prelude.{◌≡◌, ◌<◌, ℕ, length, Some, IfOk};
+ghost use Rattle.px_spec.specs.Shapes.{shape_by};
+ghost use Rattle.branch_query.specs.Queries.{query_of, relaxed, AreQueryAnswers};
+
+use label_graph::{Digraph, Labels};
+use path_query::{PathExpr, eval};
+use px_base::{Bits, Memory};
+use std::alloc::Global;
+
+/// A query, by its language.
+#[derive(Clone, Copy)]
+pub enum Query<'a> {
+    /// The nodes in which the walks end that the path expression matches.
+    Path(&'a PathExpr),
+}
+
+impl Query<'_> {
+    /// The nodes of a graph that answer the query: a set of numbers below the graph's size. `Memory` comes at want of
+    /// memory alone. For a path expression with m labels, signs and separators it takes time at most in proportion to m
+    /// times the nodes and edges.
+    pub fn answers<G: Digraph>(&self, alloc: Global, g: &G, labels: &Labels) -> Result<Bits, Memory>
+        requires labelled { (n l : ℕ) → G.label_at g.now n ≡ Some l → l < length labels.now.texts }
+        ensures size { IfOk result (λ b. b.size ≡ G.span g.now) }
+        ensures answers { IfOk result (λ b. AreQueryAnswers (shape_by labels.now.texts (G.span g.now) (G.label_at g.now) (G.edge g.now)) (query_of self.now) b.members) }
+    {
+        match *self {
+            Query::Path(expr) => eval(alloc, g, labels, expr),
+        }
+    }
+
+    /// The nodes of a graph that answer the query's relaxed form, likewise. A path expression is its own relaxed form.
+    pub fn relaxed_answers<G: Digraph>(
+        &self,
+        alloc: Global,
+        g: &G,
+        labels: &Labels,
+    ) -> Result<Bits, Memory>
+        requires labelled { (n l : ℕ) → G.label_at g.now n ≡ Some l → l < length labels.now.texts }
+        ensures size { IfOk result (λ b. b.size ≡ G.span g.now) }
+        ensures answers { IfOk result (λ b. AreQueryAnswers (shape_by labels.now.texts (G.span g.now) (G.label_at g.now) (G.edge g.now)) (relaxed (query_of self.now)) b.members) }
+    {
+        match *self {
+            Query::Path(_) => self.answers(alloc, g, labels),
+        }
+    }
+}
