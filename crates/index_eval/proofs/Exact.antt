@@ -1,0 +1,88 @@
+-- Where an index is exact for a query, the candidates are the answers.
+use Rattle.std.proofs.Common.{ℕ, ◌+◌, List, sym, ◌∙◌, Option, Bool, true}
+use Rattle.px_spec.specs.Graphs.{Graph, IsGraph}
+use Rattle.px_spec.specs.Shapes.{Shape, IsNode, IsShape, shape_of}
+use Rattle.px_spec.specs.Members.{at}
+use Rattle.px_spec.proofs.GraphLaws.{is_shape}
+use Rattle.path_spec.specs.Trees.{Expr}
+use Rattle.path_spec.specs.Longest.{longest}
+use Rattle.path_spec.specs.Answers.{IsAnswer}
+use Rattle.bisim_spec.specs.Bisimilarity.{Bis, IsBisimulation}
+use Rattle.bisim_spec.specs.Partitions.{Together, IsPartition, Agrees}
+use Rattle.bisim_spec.specs.Stability.{Stable}
+use Rattle.bisim_spec.specs.Tests.{together}
+use Rattle.bisim_spec.specs.Views.{View, ViewFits, shape_of_view}
+use Rattle.bisim_spec.proofs.Bisimilar.{some_of, bis_self}
+use Rattle.bisim_spec.proofs.Stable.{stable_label, stable_parents, fb_stable}
+use Rattle.bisim_spec.proofs.StabilityTests.{together_decides}
+use Rattle.bisim_spec.proofs.Together.{together_sym, together_trans, together_some}
+use Rattle.index_api.specs.declared.kinds.Via.{Via}
+use Rattle.index_api.specs.declared.kinds.Via.TheVariants.{Data, A, One, Fb}
+use Rattle.branch_query.specs.Queries.{Query, path, IsQueryAnswer, AreQueryAnswers}
+use Rattle.branch_query.specs.Candidates.{loose, AreCandidates}
+use Rattle.index_eval.specs.Exactness.{IsExact, IsWithin, FitsVia}
+use Rattle.index_eval.specs.Extents.{AreOfBlocks}
+use Rattle.index_eval.proofs.LooseWalks.{IsLoose, loose_is, path_kept, level_back, bisimilar_back}
+use Rattle.index_eval.proofs.BlockAnswers.{are_candidates, agrees_together}
+
+-- the loose graph of a partition into the classes of a relation is that of the relation
+blocks_loose : (s : Shape) → IsShape s → (block : List (Option ℕ)) (R : ℕ → ℕ → Type 0) → Agrees s block R → IsLoose s R (loose s (together block))
+blocks_loose s shape block R a =
+    loose_is s shape (together block) R (λ x y t. a.related x y ((together_decides block x y).0 t)) (λ x y nx ny h. (together_decides block x y).1 (a.grouped x y nx ny h))
+
+-- each node is in one block with itself
+same_block : (s : Shape) (block : List (Option ℕ)) → IsPartition s block → (n : ℕ) → IsNode s n → Together block n n
+same_block s block p n node = let b = some_of (at block n) (p.live n node) in (b.0, b.1, b.1)
+
+agrees_self : (s : Shape) (block : List (Option ℕ)) → IsPartition s block → Agrees s block (Together block)
+agrees_self s block p = record { partition = p; related = λ x y t. t; grouped = λ x y nx ny t. t }
+
+stable_bisimulation : (s : Shape) (block : List (Option ℕ)) → Stable s block → IsBisimulation s (Together block)
+stable_bisimulation s block st = record {
+  label = λ u v t. let l = some_of (s.label u) (st.partition.only u (together_some block u v t)) in (l.0, l.1, sym (stable_label s block st u v t) ∙ l.1);
+  there = λ u v p t e. stable_parents s block st u v t p e;
+  back = λ u v q t e.
+      let p = stable_parents s block st v u (together_sym block u v t) q e in
+      (p.0, p.1, together_sym block q p.0 p.2);
+}
+
+-- a set of candidates that are just the answers of an expression
+path_answers : (s : Shape) (r : ℕ → ℕ → Bool) (e : Expr) (nodes : List ℕ) → ((v : ℕ) → IsAnswer s e v → IsAnswer (loose s r) e v)
+    → ((v : ℕ) → IsAnswer (loose s r) e v → IsAnswer s e v) → AreCandidates s r (path e) true nodes → AreQueryAnswers s (path e) nodes
+path_answers s r e nodes there back h = record { rising = h.rising; sound = λ v m. back v (h.sound v m); complete = λ v a. h.complete v (there v a) }
+
+module _ (g : Graph) (is_graph : IsGraph g) (v : View) (fits : ViewFits g v) (nodes : List ℕ) where
+  abbrev s : Shape
+  s = shape_of g
+
+  candidates_of : IsPartition s v.block_of → (q : Query) → AreOfBlocks v.block_of (IsQueryAnswer (shape_of_view g.seen v) q) nodes → AreCandidates s (together v.block_of) q true nodes
+  candidates_of p q h = are_candidates g is_graph v fits (together v.block_of) (agrees_together s v.block_of p) q true nodes h
+
+  -- through a partition by a level, where no word is longer than the level allows
+  level_exact : (i : ℕ) → Agrees s v.block_of (Bis s i) → (e : Expr) → IsWithin (longest e) (i + 1)
+      → AreOfBlocks v.block_of (IsQueryAnswer (shape_of_view g.seen v) (path e)) nodes → AreQueryAnswers s (path e) nodes
+  level_exact i a e within h =
+      let shape = is_shape g is_graph in
+      let is_loose = blocks_loose s shape v.block_of (Bis s i) a in
+      path_answers s (together v.block_of) e nodes (path_kept s (loose s (together v.block_of)) shape (Bis s i) is_loose (bis_self s shape i) e)
+      (level_back s (loose s (together v.block_of)) shape i is_loose e within) (candidates_of a.partition (path e) h)
+
+  -- through a stable partition
+  stable_exact : Stable s v.block_of → (e : Expr) → AreOfBlocks v.block_of (IsQueryAnswer (shape_of_view g.seen v) (path e)) nodes → AreQueryAnswers s (path e) nodes
+  stable_exact st e h =
+      let shape = is_shape g is_graph in
+      let block = v.block_of in
+      let self = same_block s block st.partition in
+      let is_loose = blocks_loose s shape block (Together block) (agrees_self s block st.partition) in
+      path_answers s (together block) e nodes (path_kept s (loose s (together block)) shape (Together block) is_loose self e)
+      (bisimilar_back s (loose s (together block)) shape (Together block) is_loose (stable_bisimulation s block st) (together_sym block) (together_trans block) self e)
+      (candidates_of st.partition (path e) h)
+
+-- where the index is exact for the query, and the view is that of the index
+pub exact_answers : (g : Graph) → IsGraph g → (v : View) (via : Via) → FitsVia via g v → (q : Query) → IsExact via q → (nodes : List ℕ)
+    → AreOfBlocks v.block_of (IsQueryAnswer (shape_of_view g.seen v) q) nodes → AreQueryAnswers (shape_of g) q nodes
+exact_answers g is_graph v Data f q x nodes h = absurd x
+exact_answers g is_graph v (A i) f (path e) x nodes h = level_exact g is_graph v f.view nodes i f.agrees e x h
+exact_answers g is_graph v One f (path e) x nodes h = stable_exact g is_graph v f.view nodes f.stable e h
+exact_answers g is_graph v Fb f (path e) x nodes h =
+    stable_exact g is_graph v f.view nodes (fb_stable (shape_of g) v.block_of (is_shape g is_graph) f.agrees).stable e h

@@ -1,0 +1,16 @@
+use Rattle.std.proofs.Common.{subst}
+use Rattle.std.specs.Prelude.{IfOk}
+use Rattle.px_spec.specs.Shapes.{Shape}
+use Rattle.px_base.specs.BitSets.{BitSet}
+use Rattle.branch_query.specs.Queries.{query_of, relaxed, AreQueryAnswers}
+use Rattle.index_eval.proofs.summary_answers.answering_blocks.Goals as goal
+
+pub returns-then-whole : goal.returns-then-whole
+returns-then-whole c =
+    let shape = c.blocks-count.ensures.shape c.args.labels.now.texts in
+    rw c.if-whole.true (subst (λ (s : Shape). IfOk c.answers.result (λ (b : BitSet). AreQueryAnswers s (query_of c.args.q.now) b.members)) shape c.answers.ensures.answers)
+
+pub returns-else-whole : goal.returns-else-whole
+returns-else-whole c =
+    let shape = c.blocks-count.ensures.shape c.args.labels.now.texts in
+    rw c.if-whole.false (subst (λ (s : Shape). IfOk c.relaxed_answers.result (λ (b : BitSet). AreQueryAnswers s (relaxed (query_of c.args.q.now)) b.members)) shape c.relaxed_answers.ensures.answers)

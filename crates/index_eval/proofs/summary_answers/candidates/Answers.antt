@@ -1,0 +1,43 @@
+use Rattle.std.proofs.lemmas.Result.{IfOk-weaker}
+use Rattle.bisim_spec.specs.Views.{shape_of_view}
+use Rattle.quotient.specs.Quotients.{view_of}
+use Rattle.branch_query.specs.Queries.{query_of, form_of, IsQueryAnswer}
+use Rattle.index_eval.proofs.BlockAnswers.{answering_block}
+use Rattle.index_eval.proofs.Gathered.{AreGathered, CandidatesOfEach, KeptOfEach, ExactOfEach, gathered, candidates_of_each, kept_of_each, exact_of_each}
+use Rattle.index_eval.proofs.summary_answers.candidates.Goals as goal
+
+pub extents-requires : goal.extents-requires
+extents-requires c = record {
+  live = λ b m.
+      answering_block c.args.labels.now.texts (view_of c.args.summary.now) (form_of c.args.whole (query_of c.args.q.now)) b (c.in_ok-blocks.ensures.sound b m);
+}
+
+pub returns-clause-members : goal.returns-clause-members
+returns-clause-members c =
+    let blocks = c.in_ok-blocks.ensures in
+    gathered c.args.summary.now.blocks.block_of (IsQueryAnswer (shape_of_view c.args.labels.now.texts (view_of c.args.summary.now)) (form_of c.args.whole (query_of c.args.q.now)))
+    c.in_ok-blocks.blocks.members blocks.sound blocks.complete c.extents.result c.extents.ensures.rising c.extents.ensures.members
+
+pub returns-clause-candidates : goal.returns-clause-candidates
+returns-clause-candidates c =
+    let texts = c.args.labels.now.texts in
+    let v = view_of c.args.summary.now in
+    let q = query_of c.args.q.now in
+    let whole = c.args.whole in
+    IfOk-weaker c.extents.result (AreGathered texts v q whole) (CandidatesOfEach texts v q whole) (candidates_of_each texts v q whole) (returns-clause-members c)
+
+pub returns-clause-kept : goal.returns-clause-kept
+returns-clause-kept c =
+    let texts = c.args.labels.now.texts in
+    let v = view_of c.args.summary.now in
+    let q = query_of c.args.q.now in
+    let whole = c.args.whole in
+    IfOk-weaker c.extents.result (AreGathered texts v q whole) (KeptOfEach texts v q whole) (kept_of_each texts v q whole) (returns-clause-members c)
+
+pub returns-clause-exact : goal.returns-clause-exact
+returns-clause-exact c =
+    let texts = c.args.labels.now.texts in
+    let v = view_of c.args.summary.now in
+    let q = query_of c.args.q.now in
+    let whole = c.args.whole in
+    IfOk-weaker c.extents.result (AreGathered texts v q whole) (ExactOfEach texts v q whole) (exact_of_each texts v q whole) (returns-clause-members c)

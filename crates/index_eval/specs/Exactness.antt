@@ -1,0 +1,32 @@
+-- Which queries an index answers exactly. Sources: T. Milo and D. Suciu, ICDT 1999 (path expressions through the 1-index), R.
+-- Kaushik, P. Shenoy, P. Bohannon and E. Gudes, ICDE 2002 (short ones through an A(k)-index), R. Kaushik, P. Bohannon, J.
+-- Naughton and H. Korth, SIGMOD 2002 (all queries through the forward and backward index).
+use Rattle.std.specs.Prelude.{ℕ, ◌+◌, ◌≤◌, Option, None, Some}
+use Rattle.px_spec.specs.Graphs.{Graph}
+use Rattle.path_spec.specs.Longest.{longest}
+use Rattle.bisim_spec.specs.declared.kind.Kind.TheVariants as kind
+use Rattle.bisim_spec.specs.Views.{View}
+use Rattle.bisim_spec.specs.Fits.{FitsAt}
+use Rattle.index_api.specs.declared.kinds.Via.{Via}
+use Rattle.index_api.specs.declared.kinds.Via.TheVariants.{Data, A, One, Fb}
+use Rattle.branch_query.specs.Queries.{Query, path}
+
+-- there is a longest word, and it has at most so many labels
+abbrev pub IsWithin : Option ℕ → ℕ → Type 0
+IsWithin None most = ⊥
+IsWithin (Some n) most = n ≤ most
+
+-- The index answers the query exactly: the 1-index each path expression, the forward and backward index each query, and
+-- A(i) each path expression whose longest matching word has at most i + 1 labels. The graph itself is no index.
+abbrev pub IsExact : Via → Query → Type 0
+IsExact Data q = ⊥
+IsExact (A i) (path e) = IsWithin (longest e) (i + 1)
+IsExact One (path e) = Unit {0}
+IsExact Fb q = Unit {0}
+
+-- the view is what that of the index has to be for the graph
+abbrev pub FitsVia : Via → Graph → View → Type 0
+FitsVia Data g v = ⊥
+FitsVia (A i) g v = FitsAt kind.A g i (Some v)
+FitsVia One g v = FitsAt kind.One g 0 (Some v)
+FitsVia Fb g v = FitsAt kind.Fb g 0 (Some v)

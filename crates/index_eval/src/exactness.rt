@@ -1,0 +1,39 @@
+// Which queries an index answers exactly.
+ghost use Rattle.std.specs.Prelude.{◌↔◌, ◌+◌, IsTrue};
+ghost use Rattle.path_spec.specs.Longest.{longest};
+ghost use Rattle.branch_query.specs.Queries.{query_of};
+ghost use Rattle.index_eval.specs.Exactness.{IsExact, IsWithin};
+
+use branch_query::Query;
+use index_api::Via;
+use path_expr::longest;
+use path_query::PathExpr;
+
+/// Whether no matching word has more labels than one more than the level.
+fn is_short(expr: &PathExpr, level: u32) -> bool
+    ensures { IsTrue result ↔ IsWithin (longest expr.now) (level + 1) }
+{
+    match longest(expr.tree()) {
+        Some(len) => len <= u64::from(level) + 1,
+        None => false,
+    }
+}
+
+/// Whether the candidates of the query through the index are its answers, whatever the graph: a path expression through
+/// the 1-index, any query through the forward and backward index, and through the A(i)-index a path expression whose
+/// longest matching word has at most i + 1 labels. False for the graph itself, which has no candidates. It takes no
+/// memory, and time in proportion to the expression.
+pub fn is_exact(via: Via, q: &Query<'_>) -> bool
+    ensures { IsTrue result ↔ IsExact via (query_of q.now) }
+{
+    match via {
+        Via::Data => false,
+        Via::A(level) => match *q {
+            Query::Path(expr) => is_short(expr, level),
+        },
+        Via::One => match *q {
+            Query::Path(_) => true,
+        },
+        Via::Fb => true,
+    }
+}

@@ -1,0 +1,98 @@
+// The candidates of a query through an index.
+ghost use Rattle.std.specs.Prelude.{◌≡◌, ◌<◌, ◌||◌, ℕ, Bool, true, false, List, length, Some, IsSome, IsTrue, IfOk};
+ghost use Rattle.std.specs.List.Sorted.{IsStrictlyIncreasing};
+ghost use Rattle.px_spec.specs.Graphs.{Graph, IsGraph};
+ghost use Rattle.px_spec.specs.Shapes.{shape_of};
+ghost use Rattle.px_spec.specs.Members.{has, at};
+ghost use Rattle.block_partition.specs.Partitions.{is_member};
+ghost use Rattle.bisim_spec.specs.Partitions.{Agrees, IsPartition};
+ghost use Rattle.bisim_spec.specs.Views.{ViewFits, shape_of_view};
+ghost use Rattle.quotient.specs.Quotients.{view_of};
+ghost use Rattle.index_api.specs.declared.kinds.Via.{Via as AnyVia};
+ghost use Rattle.branch_query.specs.Queries.{query_of, form_of, IsQueryAnswer, AreQueryAnswers};
+ghost use Rattle.branch_query.specs.Candidates.{AreCandidates};
+ghost use Rattle.index_eval.specs.Exactness.{IsExact, FitsVia};
+ghost use Rattle.index_eval.specs.Extents.{is_in_blocks, AreOfBlocks};
+
+use branch_query::Query;
+use label_graph::Labels;
+use px_base::{Bits, Memory};
+use quotient::Summary;
+use std::alloc::Global;
+
+/// The blocks that answer the query over the index graph, or its relaxed form.
+fn answering_blocks(
+    alloc: Global,
+    summary: &Summary,
+    labels: &Labels,
+    q: &Query<'_>,
+    whole: bool,
+) -> Result<Bits, Memory>
+    requires labelled { (b l : ℕ) → at summary.now.blocks.labels b ≡ Some l → l < length labels.now.texts }
+    ensures { IfOk result (λ b. AreQueryAnswers (shape_of_view labels.now.texts (view_of summary.now)) (form_of whole (query_of q.now)) b.members) }
+{
+    // As a graph the summary is the index graph, which this call says.
+    let _count = summary.blocks();
+    if whole {
+        q.answers(alloc, summary, labels)
+    } else {
+        q.relaxed_answers(alloc, summary, labels)
+    }
+}
+
+/// Adds the members of a block.
+fn add_extent(set: &mut Bits, summary: &Summary, b: u32)
+    requires block { IsSome (at summary.now.blocks.labels b) }
+    requires size { set.old.size ≡ length summary.now.blocks.block_of }
+    requires rising { IsStrictlyIncreasing set.old.members }
+    ensures size { set.new.size ≡ set.old.size }
+    ensures rising { IsStrictlyIncreasing set.new.members }
+    ensures members { (n : ℕ) → has set.new.members n ≡ (is_member summary.now.blocks b n || has set.old.members n) }
+{
+    for n in summary.extent(b) {
+        set.insert(n);
+    }
+}
+
+/// The members of the blocks.
+fn extents(alloc: Global, summary: &Summary, blocks: &Bits) -> Result<Bits, Memory>
+    requires live { (b : ℕ) → IsTrue (has blocks.now.members b) → IsSome (at summary.now.blocks.labels b) }
+    ensures size { IfOk result (λ set. set.size ≡ length summary.now.blocks.block_of) }
+    ensures rising { IfOk result (λ set. IsStrictlyIncreasing set.members) }
+    ensures members { IfOk result (λ set. (n : ℕ) → has set.members n ≡ is_in_blocks blocks.now.members (at summary.now.blocks.block_of n)) }
+{
+    // The blocks are below the size, which this call says.
+    let _size = blocks.size();
+    let mut set = Bits::new(alloc, summary.numbers())?;
+    let mut from = 0;
+    while let Some(b) = blocks.next_from(from) {
+        add_extent(&mut set, summary, b);
+        from = b + 1;
+    }
+    Ok(set)
+}
+
+/// The nodes of the blocks that answer the query over the index graph: the query itself where `whole` is true, else its
+/// relaxed form. They are a set of numbers below `summary.numbers()`. Where `is_exact` says that the index is exact for the
+/// query, and `whole` is true, they are the answers of the graph. Whatever the index, all answers of the graph are among
+/// those that it gives where `whole` is false.
+///
+/// It sees no graph. Beside a byte for each node number, which are zeroed, it takes time and memory in proportion to the
+/// search of the index graph and to the nodes that it gives. `Memory` comes at want of memory alone.
+pub fn candidates(
+    alloc: Global,
+    summary: &Summary,
+    labels: &Labels,
+    q: &Query<'_>,
+    whole: bool,
+) -> Result<Bits, Memory>
+    requires labelled { (b l : ℕ) → at summary.now.blocks.labels b ≡ Some l → l < length labels.now.texts }
+    ensures size { IfOk result (λ set. set.size ≡ length summary.now.blocks.block_of) }
+    ensures members { IfOk result (λ set. AreOfBlocks summary.now.blocks.block_of (IsQueryAnswer (shape_of_view labels.now.texts (view_of summary.now)) (form_of whole (query_of q.now))) set.members) }
+    ensures candidates { IfOk result (λ set. (g : Graph) (r : ℕ → ℕ → Bool) → IsGraph g → g.seen ≡ labels.now.texts → ViewFits g (view_of summary.now) → Agrees (shape_of g) summary.now.blocks.block_of (λ u v. IsTrue (r u v)) → AreCandidates (shape_of g) r (query_of q.now) whole set.members) }
+    ensures kept { IfOk result (λ set. (g : Graph) → IsGraph g → g.seen ≡ labels.now.texts → ViewFits g (view_of summary.now) → IsPartition (shape_of g) summary.now.blocks.block_of → whole ≡ false → (v : ℕ) → IsQueryAnswer (shape_of g) (query_of q.now) v → IsTrue (has set.members v)) }
+    ensures exact { IfOk result (λ set. (g : Graph) (via : AnyVia) → IsGraph g → g.seen ≡ labels.now.texts → FitsVia via g (view_of summary.now) → IsExact via (query_of q.now) → whole ≡ true → AreQueryAnswers (shape_of g) (query_of q.now) set.members) }
+{
+    let blocks = answering_blocks(alloc, summary, labels, q, whole)?;
+    extents(alloc, summary, &blocks)
+}
