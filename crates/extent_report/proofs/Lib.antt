@@ -1,4 +1,6 @@
 pub mod Examples
+pub mod NodeTextLemmas
+pub mod AnswerExamples
 mod Chained
 mod Texts
 mod Wording

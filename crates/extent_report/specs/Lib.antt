@@ -1,4 +1,6 @@
 pub mod Listing
+pub mod Answers
+pub mod NodeTexts
 pub mod Summaries
 pub mod Chains
 pub mod Shown

@@ -12,22 +12,11 @@ ghost use Rattle.extent_report.specs.Summaries.{shape_of_blocks, LabelsHaveTexts
 ghost use Rattle.extent_report.specs.Chains.{leads, word_with};
 
 use crate::chains::Chains;
-use crate::output::{end_line, push_number};
-use itoa::Buffer;
+use crate::output::{end_line, push_node, push_number};
 use label_graph::Labels;
 use px_base::{Memory, NodeId, Text};
 use quotient::Summary;
 use std::alloc::Global;
-
-// Appends a space and how the node is written.
-fn push_node(out: &mut String, node: NodeId) -> Result<(), Memory>
-    ensures { OnOk result (string_bytes out.new ≡ string_bytes out.old ++ 32 ∷ node_word node) }
-{
-    let mut buffer = Buffer::new();
-    out.push_str(" n")?;
-    out.push_str(buffer.format(node))?;
-    Ok(())
-}
 
 // Appends the nodes of a block from its first one on.
 fn push_nodes(out: &mut String, chains: &Chains<'_>, first: NodeId) -> Result<(), Memory>

@@ -1,6 +1,7 @@
-//! The printed lists of an index: the members of its blocks, and its size.
+//! What is printed of an index and of answers: the members of its blocks, its size, and the nodes that answer a query.
 #![tactic(auto)]
 
+mod answers;
 mod chains;
 mod extents;
 mod output;
@@ -8,5 +9,6 @@ mod sizes;
 #[cfg(test)]
 mod tests;
 
+pub use answers::answer_text;
 pub use extents::extents_text;
 pub use sizes::{sizes_head, sizes_line};

@@ -1,8 +1,9 @@
 // Pieces of what is printed.
 ghost use Rattle.std.specs.Prelude.{◌≡◌, ◌++◌, ◌∷◌, [], OnOk, decimal, string_bytes};
+ghost use Rattle.px_spec.specs.Words.{node_word};
 
 use itoa::Buffer;
-use px_base::Memory;
+use px_base::{Memory, NodeId};
 
 /// Appends a text and a number.
 pub(crate) fn push_number(out: &mut String, head: &str, number: u64) -> Result<(), Memory>
@@ -11,6 +12,16 @@ pub(crate) fn push_number(out: &mut String, head: &str, number: u64) -> Result<(
     let mut buffer = Buffer::new();
     out.push_str(head)?;
     out.push_str(buffer.format(number))?;
+    Ok(())
+}
+
+/// Appends a space and how the node is written.
+pub(crate) fn push_node(out: &mut String, node: NodeId) -> Result<(), Memory>
+    ensures { OnOk result (string_bytes out.new ≡ string_bytes out.old ++ 32 ∷ node_word node) }
+{
+    let mut buffer = Buffer::new();
+    out.push_str(" n")?;
+    out.push_str(buffer.format(node))?;
     Ok(())
 }
 
