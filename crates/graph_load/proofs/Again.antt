@@ -5,9 +5,9 @@ use Rattle.triples_read.specs.declared.term.Term.{Term}
 use Rattle.graph_load.specs.declared.loader.Loader.{Loader}
 use Rattle.term_table.specs.declared.table.Found.{Found}
 use Rattle.term_table.specs.Finding.{IsFound, IsFoundAs}
-use Rattle.graph_load.specs.Holding.{Grows}
-use Rattle.graph_load.proofs.Joining.{number_stays}
-use Rattle.graph_load.proofs.Taking.{place_stays, predicate_stays}
+use Rattle.graph_load.specs.Loaders.{Grows}
+use Rattle.graph_load.proofs.EdgeSteps.{number_stays}
+use Rattle.graph_load.proofs.AddTriple.{place_stays, predicate_stays}
 
 pub term_again_found : (old new : Loader) → Grows old new → (x : Term) (o : Option Found) → IsFoundAs old.terms x o → IfSome o (IsFound new.terms x)
 term_again_found old new grows x None h = tt

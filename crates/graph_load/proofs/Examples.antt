@@ -15,7 +15,7 @@ use Rattle.triples_read.specs.Lines.{xsd_string}
 use Rattle.triples_read.specs.declared.term.Term.{Term}
 use Rattle.triples_read.specs.declared.term.Term.TheVariants.{Iri, Blank, Literal}
 use Rattle.triples_read.specs.declared.term.Triple.{Triple}
-use Rattle.graph_load.specs.Loading.{Loading, nothing_loaded, predicate_label, need, with_graph, then_do, onto_term, with_triple}
+use Rattle.graph_load.specs.TripleGraphs.{LoadState, nothing_loaded, predicate_label, need, with_graph, then_do, onto_term, with_triple}
 use Rattle.term_table.specs.Terms.{same_term}
 
 abbrev a : Term
@@ -35,14 +35,14 @@ nodes = record {
   seen = codes "iri" ∷ predicate_label (codes "p") ∷ [];
 }
 
-abbrev with_triples : Graph → List Triple → Loading
+abbrev with_triples : Graph → List Triple → LoadState
 with_triples g triples = record { graph = g; terms = (a, 0) ∷ (b, 2) ∷ []; triples = triples }
 
 -- and its two edges
-abbrev after_one : Loading
+abbrev after_one : LoadState
 after_one = with_triples (with_edge (with_edge nodes 0 1) 1 2) (one ∷ [])
 
-abbrev last : Loading → Result Loading Refusal
+abbrev last : LoadState → Result LoadState Refusal
 last l = Ok (record l { triples = l.triples ++ one ∷ [] })
 
 first_fits : edge_fits nodes program_limits 0 1 ≡ true

@@ -1,10 +1,10 @@
-pub mod Standing
-pub mod Changing
-pub mod Keeping
-pub mod Joining
-pub mod Knowing
-pub mod Taking
+pub mod PlaceLaws
+pub mod ChangeLaws
+pub mod SoundSteps
+pub mod EdgeSteps
+pub mod KnownTriples
+pub mod AddTriple
 pub mod Again
-pub mod Following
+pub mod LineSteps
 pub mod OneOutcome
 mod Examples

@@ -5,18 +5,18 @@ use Rattle.px_spec.specs.Lines.{Line, cut}
 use Rattle.triples_read.specs.declared.term.Triple.{Triple}
 use Rattle.triples_read.specs.Lines.{Spells}
 use Rattle.triples_read.proofs.OneReading.{one_reading, spelled_not_empty}
-use Rattle.graph_load.specs.Loading.{with_triple}
+use Rattle.graph_load.specs.TripleGraphs.{with_triple}
 use Rattle.graph_load.specs.Loads.{Outcome, Place, past, LoadsLine, empty, takes, refuses, neither, LoadsFrom, Loads, at_start}
-use Rattle.graph_load.proofs.Changing.{ok_is, not_both}
+use Rattle.graph_load.proofs.ChangeLaws.{ok_is, not_both}
 
 module _ (limits : Limits) (p : Place) (l : Line) where
   -- the triple of a line is loaded or refused in one way
-  same_result : (t u : Triple) → Spells l.text t → Spells l.text u → with_triple limits t p.loading ≡ with_triple limits u p.loading
-  same_result t u s r = ap (λ x. with_triple limits x p.loading) (one_reading l.text t u s r)
+  same_result : (t u : Triple) → Spells l.text t → Spells l.text u → with_triple limits t p.state ≡ with_triple limits u p.state
+  same_result t u s r = ap (λ x. with_triple limits x p.state) (one_reading l.text t u s r)
 
   module _ (rest : Place → Outcome → Type 0) (one : (q : Place) (a b : Outcome) → rest q a → rest q b → a ≡ b) where
     one_taken : (a b : Outcome) → LoadsLine limits p l rest a → LoadsLine limits p l rest b → a ≡ b
-    one_taken _ _ (empty e a h) (empty f b k) = one (past p l p.loading) a b h k
+    one_taken _ _ (empty e a h) (empty f b k) = one (past p l p.state) a b h k
     one_taken _ _ (empty e a h) (takes t s m made b k) = absurd (spelled_not_empty l.text t s e)
     one_taken _ _ (empty e a h) (refuses t s r stop) = absurd (spelled_not_empty l.text t s e)
     one_taken _ _ (empty e a h) (neither nothing none) = absurd (none e)

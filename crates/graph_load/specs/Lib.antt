@@ -1,7 +1,7 @@
-pub mod Loading
+pub mod TripleGraphs
 pub mod Loads
 pub mod Places
 pub mod Hashed
-pub mod Steps
-pub mod Holding
-pub mod Going
+pub mod Refused
+pub mod Loaders
+pub mod LoadSteps

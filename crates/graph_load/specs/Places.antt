@@ -7,7 +7,7 @@ use Rattle.graph_update.specs.declared.changes.Change.TheVariants.{Node}
 use Rattle.triples_read.specs.declared.term.Term.{Term}
 use Rattle.triples_read.specs.declared.term.Triple.{Triple}
 use Rattle.graph_load.specs.declared.known.Key.{Key}
-use Rattle.graph_load.specs.Loading.{predicate_label}
+use Rattle.graph_load.specs.TripleGraphs.{predicate_label}
 use Rattle.term_table.specs.Terms.{same_term}
 
 abbrev pub predicate_at : List (List ℕ) → ℕ → List ℕ

@@ -3,7 +3,7 @@ ghost use Rattle.std.specs.Prelude.{◌≡◌, ◌<◌, ◌^◌, ℕ, length, If
 ghost use Rattle.px_spec.specs.Changes.{apply};
 ghost use Rattle.label_graph.specs.Held.{no_room};
 ghost use Rattle.graph_update.specs.Judging.{change_of};
-ghost use Rattle.graph_load.specs.Steps.{IsRefused};
+ghost use Rattle.graph_load.specs.Refused.{IsRefused};
 ghost use Rattle.graph_load.specs.declared.additions.Stop.TheVariants.{Memory as NoMemory};
 
 use graph_update::{Change, Verdict, commit, judge, stage};

@@ -3,8 +3,8 @@ ghost use Rattle.std.specs.Prelude.{◌≡◌, ◌≢◌, ◌++◌, ◌∷◌, [
 ghost use Rattle.px_base.specs.Causes.{Rose};
 ghost use Rattle.px_base.specs.Reading.{stream};
 ghost use Rattle.graph_load.specs.Hashed.{triple_of, hashed};
-ghost use Rattle.graph_load.specs.Holding.{IsSoundLoader, IsTaken};
-ghost use Rattle.graph_load.specs.Going.{Says, CanRead, OnLines, Puts, Reads, IsNearer, AreLoaded, Stops, OneStops};
+ghost use Rattle.graph_load.specs.Loaders.{IsSoundLoader, IsTaken};
+ghost use Rattle.graph_load.specs.LoadSteps.{Says, CanRead, OnLines, Puts, Reads, IsNearer, AreLoaded, Stops, OneStops};
 
 use crate::additions::Stop;
 use crate::files::LoadError;

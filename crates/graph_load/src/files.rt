@@ -3,7 +3,7 @@ ghost use Rattle.std.specs.Prelude.{◌≡◌, ◌≢◌, ℕ, List, IfOk, IfErr
 ghost use Rattle.px_base.specs.Causes.{Rose};
 ghost use Rattle.label_graph.specs.Held.{no_room};
 ghost use Rattle.graph_load.specs.Loads.{Outcome, Loads, loaded, at_start};
-ghost use Rattle.graph_load.specs.Going.{LoadsTold, LacksFile, Says, LoadsAhead};
+ghost use Rattle.graph_load.specs.LoadSteps.{LoadsTold, LacksFile, Says, LoadsAhead};
 ghost use Rattle.graph_load.specs.declared.files.LoadError.TheVariants.{Memory as NoMemory};
 
 use crate::batch::{Next, give_back, load_batch, read_batch};

@@ -1,6 +1,6 @@
 // The labels of terms.
 ghost use Rattle.std.specs.Prelude.{◌≡◌, IfOk, codes};
-ghost use Rattle.graph_load.specs.Loading.{term_label};
+ghost use Rattle.graph_load.specs.TripleGraphs.{term_label};
 
 use graph_update::Change;
 use px_base::{Memory, Text};

@@ -1,12 +1,12 @@
 // What is loaded so far.
 ghost use Rattle.std.specs.Prelude.{◌≡◌, ℕ, List, [], length, position, bytes_eq, Some, None, Ok, OnOk, IfOk, IfSome, IsErrOf, false};
 ghost use Rattle.px_spec.specs.Changes.{node, link};
-ghost use Rattle.graph_load.specs.Loading.{need, changed, joined, with_triple, nothing_loaded, predicate_label};
+ghost use Rattle.graph_load.specs.TripleGraphs.{need, changed, joined, with_triple, nothing_loaded, predicate_label};
 ghost use Rattle.term_table.specs.Terms.{number_of, place_in};
 ghost use Rattle.term_table.specs.Finding.{IsFound, IsFoundAs};
 ghost use Rattle.triples_read.specs.declared.term.Term.{Term as TermSeen};
 ghost use Rattle.graph_load.specs.Hashed.{triple_of};
-ghost use Rattle.graph_load.specs.Holding.{ArePlaces, is_known, loading, with_new, Holds, IsSoundLoader, Steps, IsStopped, IsTaken, IsUntaken};
+ghost use Rattle.graph_load.specs.Loaders.{ArePlaces, is_known, load_state, with_new, Holds, IsSoundLoader, Steps, IsStopped, IsTaken, IsUntaken};
 
 pub(crate) mod ahead;
 
@@ -46,7 +46,7 @@ impl Loader {
     pub(crate) fn new(alloc: Global) -> Result<Loader, Memory>
         ensures sound { IfOk result IsSoundLoader }
         ensures nothing { IfOk result (λ r. Holds r []) }
-        ensures empty { IfOk result (λ r. loading r [] ≡ nothing_loaded) }
+        ensures empty { IfOk result (λ r. load_state r [] ≡ nothing_loaded) }
     {
         Ok(Loader {
             graph: Graph::new(alloc)?,

@@ -1,7 +1,7 @@
 // The predicates of the triples that are loaded.
 ghost use Rattle.std.specs.Prelude.{◌≡◌, ◌<◌, ◌^◌, ◌++◌, ◌∷◌, [], length, position, bytes_eq, Some, None, OnOk, IfOk, IfSome, false};
 ghost use Rattle.std.specs.List.{list_any};
-ghost use Rattle.graph_load.specs.Loading.{predicate_label};
+ghost use Rattle.graph_load.specs.TripleGraphs.{predicate_label};
 ghost use Rattle.graph_load.specs.Places.{predicate_at, with_predicate};
 
 use graph_update::Change;

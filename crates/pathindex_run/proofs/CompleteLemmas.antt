@@ -10,7 +10,7 @@ use Rattle.px_spec.specs.Lines.{Line, cut, onto, ended, return_onto}
 use Rattle.script_read.specs.Commands.{SpellsSomething, SpellsNothing}
 use Rattle.command_line.specs.Forms.{Settings, Form, runs, neither}
 use Rattle.graph_load.specs.Loads.{Outcome, loaded, Loads}
-use Rattle.graph_load.specs.Going.{LoadsTold}
+use Rattle.graph_load.specs.LoadSteps.{LoadsTold}
 use Rattle.pathindex_run.specs.States.{State}
 use Rattle.pathindex_run.specs.Runs.{Progress, start, IsWithinScript, TakesLines, Ends}
 use Rattle.pathindex_run.specs.Told.{WritesRun}

@@ -6,7 +6,7 @@ use Rattle.px_spec.specs.Graphs.{Graph, empty_graph}
 use Rattle.px_spec.specs.ProgramLimits.{program_limits}
 use Rattle.px_base.specs.Files.{File, Finds, content_of}
 use Rattle.graph_load.specs.Loads.{Outcome, loaded, Loads}
-use Rattle.graph_load.specs.Going.{LoadsTold, LacksFile as IsAbsent}
+use Rattle.graph_load.specs.LoadSteps.{LoadsTold, LacksFile as IsAbsent}
 use Rattle.command_line.specs.Forms.{Settings, Form, runs, neither}
 use Rattle.pathindex_run.specs.declared.script.Ending.{Ending}
 use Rattle.pathindex_run.specs.declared.script.Ending.TheVariants.{Done, Refused, Bad}

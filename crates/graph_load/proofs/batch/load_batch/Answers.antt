@@ -1,6 +1,6 @@
 use Rattle.std.proofs.Common.{rules}
 use Rattle.std.proofs.lemmas.Result.{err_from_is_err_and}
-use Rattle.graph_load.proofs.Following.{left_none, left_next, left_stops, says_map}
+use Rattle.graph_load.proofs.LineSteps.{left_none, left_next, left_stops, says_map}
 use Rattle.graph_load.proofs.batch.load_batch.Goals as goal
 
 pub loop-n-preserved : goal.loop-n-preserved

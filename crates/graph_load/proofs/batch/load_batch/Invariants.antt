@@ -1,4 +1,4 @@
-use Rattle.graph_load.proofs.Following.{AreLeft}
+use Rattle.graph_load.proofs.LineSteps.{AreLeft}
 use Rattle.graph_load.proofs.batch.load_batch.Given as goal
 
 abbrev pub invariant-loop-n : goal.invariant-loop-n

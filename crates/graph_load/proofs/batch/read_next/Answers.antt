@@ -1,5 +1,5 @@
 use Rattle.px_base.specs.Reading.{stream}
-use Rattle.graph_load.proofs.Following.{reads_result}
+use Rattle.graph_load.proofs.LineSteps.{reads_result}
 use Rattle.graph_load.proofs.batch.read_next.Goals as goal
 
 pub returns-in-Ok-true-clause-reads : goal.returns-in-Ok-true-clause-reads

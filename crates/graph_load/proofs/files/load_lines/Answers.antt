@@ -2,9 +2,9 @@ use Rattle.std.proofs.Common.{[], Ok, Err, ap, sym, refl, ◌∙◌, rules}
 use Rattle.px_base.specs.Reading.{Reading, stream}
 use Rattle.graph_load.specs.declared.batch.Next.TheVariants.{Lines, End, Syntax, Limit}
 use Rattle.graph_load.specs.Loads as outcome
-use Rattle.graph_load.specs.Holding.{loading}
-use Rattle.graph_load.specs.Going.{with_all, AreLoaded, OneStops}
-use Rattle.graph_load.proofs.Following.{start_leads, says_map, batch_leads}
+use Rattle.graph_load.specs.Loaders.{load_state}
+use Rattle.graph_load.specs.LoadSteps.{with_all, AreLoaded, OneStops}
+use Rattle.graph_load.proofs.LineSteps.{start_leads, says_map, batch_leads}
 use Rattle.graph_load.proofs.files.load_lines.Goals as goal
 
 pub batches-init : goal.batches-init
@@ -27,13 +27,13 @@ batches-preserved g c =
     let inv = c.batches.invariant in
     let loaded : AreLoaded c.args.limits.now c.deref.result.now c.batches.loader c.load_batch.new.loader = search rules in
     let d = loaded.does inv.triples inv.holds in
-    let all = ap (λ ws. with_all c.args.limits.now ws (loading c.batches.loader inv.triples)) (sym c.deref.ensures.value) ∙ d.2 in
+    let all = ap (λ ws. with_all c.args.limits.now ws (load_state c.batches.loader inv.triples)) (sym c.deref.ensures.value) ∙ d.2 in
     record {
       none = c.give_back.ensures;
       triples = d.0;
       holds = d.1;
       leads = batch_leads c.args.limits.now c.batches.reader c.read_batch.new.reader (stream c.batches.reader (g.H.Shelf.left c.batches.shelf)) (stream c.read_batch.new.reader (g.H.Shelf.left c.read_batch.new.shelf))
-          c.batches.waiting.items c.read_batch.new.waiting.items Lines (loading c.batches.loader inv.triples) (Ok (loading c.load_batch.new.loader d.0)) _
+          c.batches.waiting.items c.read_batch.new.waiting.items Lines (load_state c.batches.loader inv.triples) (Ok (load_state c.load_batch.new.loader d.0)) _
           inv.none (rw c.in-Lines.is at c.in-Ok.ensures.reads) all inv.leads;
       sound = loaded.sound;
       can = rw c.in-Lines.is at c.in-Ok.ensures.can;
@@ -46,10 +46,10 @@ returns-in-End-clause-loaded g c =
     let inv = c.batches.invariant in
     let loaded : AreLoaded c.args.limits.now c.deref.result.now c.batches.loader c.load_batch.new.loader = search rules in
     let d = loaded.does inv.triples inv.holds in
-    let all = ap (λ ws. with_all c.args.limits.now ws (loading c.batches.loader inv.triples)) (sym c.deref.ensures.value) ∙ d.2 in
+    let all = ap (λ ws. with_all c.args.limits.now ws (load_state c.batches.loader inv.triples)) (sym c.deref.ensures.value) ∙ d.2 in
     rw c.into_graph.ensures (
     batch_leads c.args.limits.now c.batches.reader c.read_batch.new.reader (stream c.batches.reader (g.H.Shelf.left c.batches.shelf)) (stream c.read_batch.new.reader (g.H.Shelf.left c.read_batch.new.shelf))
-    c.batches.waiting.items c.read_batch.new.waiting.items End (loading c.batches.loader inv.triples) (Ok (loading c.load_batch.new.loader d.0)) _
+    c.batches.waiting.items c.read_batch.new.waiting.items End (load_state c.batches.loader inv.triples) (Ok (load_state c.load_batch.new.loader d.0)) _
     inv.none (rw c.in-End.is at c.in-Ok.ensures.reads) all inv.leads (outcome.loaded c.load_batch.new.loader.graph.graph) refl)
 
 pub returns-in-Syntax-clause-refused : goal.returns-in-Syntax-clause-refused
@@ -57,9 +57,9 @@ returns-in-Syntax-clause-refused g c =
     let inv = c.batches.invariant in
     let loaded : AreLoaded c.args.limits.now c.deref.result.now c.batches.loader c.load_batch.new.loader = search rules in
     let d = loaded.does inv.triples inv.holds in
-    let all = ap (λ ws. with_all c.args.limits.now ws (loading c.batches.loader inv.triples)) (sym c.deref.ensures.value) ∙ d.2 in
+    let all = ap (λ ws. with_all c.args.limits.now ws (load_state c.batches.loader inv.triples)) (sym c.deref.ensures.value) ∙ d.2 in
     batch_leads c.args.limits.now c.batches.reader c.read_batch.new.reader (stream c.batches.reader (g.H.Shelf.left c.batches.shelf)) (stream c.read_batch.new.reader (g.H.Shelf.left c.read_batch.new.shelf))
-    c.batches.waiting.items c.read_batch.new.waiting.items (Syntax c.in-Syntax.line) (loading c.batches.loader inv.triples) (Ok (loading c.load_batch.new.loader d.0)) _
+    c.batches.waiting.items c.read_batch.new.waiting.items (Syntax c.in-Syntax.line) (load_state c.batches.loader inv.triples) (Ok (load_state c.load_batch.new.loader d.0)) _
     inv.none (rw c.in-Syntax.is at c.in-Ok.ensures.reads) all inv.leads (outcome.syntax c.in-Syntax.line) refl
 
 pub returns-in-Limit-clause-refused : goal.returns-in-Limit-clause-refused
@@ -67,9 +67,9 @@ returns-in-Limit-clause-refused g c =
     let inv = c.batches.invariant in
     let loaded : AreLoaded c.args.limits.now c.deref.result.now c.batches.loader c.load_batch.new.loader = search rules in
     let d = loaded.does inv.triples inv.holds in
-    let all = ap (λ ws. with_all c.args.limits.now ws (loading c.batches.loader inv.triples)) (sym c.deref.ensures.value) ∙ d.2 in
+    let all = ap (λ ws. with_all c.args.limits.now ws (load_state c.batches.loader inv.triples)) (sym c.deref.ensures.value) ∙ d.2 in
     batch_leads c.args.limits.now c.batches.reader c.read_batch.new.reader (stream c.batches.reader (g.H.Shelf.left c.batches.shelf)) (stream c.read_batch.new.reader (g.H.Shelf.left c.read_batch.new.shelf))
-    c.batches.waiting.items c.read_batch.new.waiting.items (Limit c.in-Limit.line) (loading c.batches.loader inv.triples) (Ok (loading c.load_batch.new.loader d.0)) _
+    c.batches.waiting.items c.read_batch.new.waiting.items (Limit c.in-Limit.line) (load_state c.batches.loader inv.triples) (Ok (load_state c.load_batch.new.loader d.0)) _
     inv.none (rw c.in-Limit.is at c.in-Ok.ensures.reads) all inv.leads (outcome.limit c.in-Limit.line) refl
 
 pub returns-in-Err-load_batch-clause-refused : goal.returns-in-Err-load_batch-clause-refused
@@ -78,6 +78,6 @@ returns-in-Err-load_batch-clause-refused g c =
     says_map (OneStops c.args.limits.now c.deref.result.now c.batches.loader) _ (λ o stops.
     let s = stops inv.triples inv.holds in
     batch_leads c.args.limits.now c.batches.reader c.read_batch.new.reader (stream c.batches.reader (g.H.Shelf.left c.batches.shelf)) (stream c.read_batch.new.reader (g.H.Shelf.left c.read_batch.new.shelf))
-    c.batches.waiting.items c.read_batch.new.waiting.items c.in-Ok.next (loading c.batches.loader inv.triples) (Err s.0) _
-    inv.none c.in-Ok.ensures.reads (ap (λ ws. with_all c.args.limits.now ws (loading c.batches.loader inv.triples)) (sym c.deref.ensures.value) ∙ s.2) inv.leads o s.1)
+    c.batches.waiting.items c.read_batch.new.waiting.items c.in-Ok.next (load_state c.batches.loader inv.triples) (Err s.0) _
+    inv.none c.in-Ok.ensures.reads (ap (λ ws. with_all c.args.limits.now ws (load_state c.batches.loader inv.triples)) (sym c.deref.ensures.value) ∙ s.2) inv.leads o s.1)
     c.in-Err-load_batch.error c.in-Err-load_batch.ensures.stopped

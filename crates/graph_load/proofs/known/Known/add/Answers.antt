@@ -1,6 +1,6 @@
 use Rattle.std.proofs.Common.{◌∙◌, rules}
 use Rattle.graph_load.specs.contracts.known.KeyPartialEq.TheImpl as key
-use Rattle.graph_load.proofs.Standing.{inserted_key}
+use Rattle.graph_load.proofs.PlaceLaws.{inserted_key}
 use Rattle.graph_load.proofs.known.Known.add.Goals as goal
 
 pub returns : goal.returns

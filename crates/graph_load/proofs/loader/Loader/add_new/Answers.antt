@@ -3,13 +3,13 @@ use Rattle.std.specs.Prelude.{IsErrOf}
 use Rattle.px_spec.specs.Changes.{node}
 use Rattle.triples_read.specs.declared.term.Term.{Term}
 use Rattle.graph_load.specs.declared.additions.Stop.TheVariants.{Limit}
-use Rattle.graph_load.specs.Loading.{need, changed, joined, predicate_label}
+use Rattle.graph_load.specs.TripleGraphs.{need, changed, joined, predicate_label}
 use Rattle.term_table.specs.Terms.{number_of}
-use Rattle.graph_load.specs.Holding.{IsStopped}
+use Rattle.graph_load.specs.Loaders.{IsStopped}
 use Rattle.graph_load.specs.Hashed.{triple_of}
-use Rattle.graph_load.proofs.Joining.{number_stays, grows_trans}
+use Rattle.graph_load.proofs.EdgeSteps.{number_stays, grows_trans}
 use Rattle.graph_load.proofs.Again.{predicate_again_found, term_again_found}
-use Rattle.graph_load.proofs.Taking.{untaken_subject, untaken_node, untaken_joined, still_unknown, taken_new, place_stays, predicate_stays}
+use Rattle.graph_load.proofs.AddTriple.{untaken_subject, untaken_node, untaken_joined, still_unknown, taken_new, place_stays, predicate_stays}
 use Rattle.graph_load.proofs.loader.Loader.add_new.Goals as goal
 
 pub returns-in_err-from-clause-limit : goal.returns-in_err-from-clause-limit

@@ -1,4 +1,4 @@
-use Rattle.graph_load.proofs.Keeping.{node_steps}
+use Rattle.graph_load.proofs.SoundSteps.{node_steps}
 use Rattle.graph_load.proofs.loader.Loader.add_node.Goals as goal
 
 pub returns-clause-steps : goal.returns-clause-steps

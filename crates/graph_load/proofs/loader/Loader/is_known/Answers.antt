@@ -1,7 +1,7 @@
 use Rattle.std.proofs.Common.{◌∙◌, ap, sym}
 use Rattle.std.specs.Option.{option_map}
 use Rattle.graph_load.specs.Hashed.{triple_of}
-use Rattle.graph_load.proofs.Knowing.{unknown_subject, unknown_predicate, unknown_object, known_key}
+use Rattle.graph_load.proofs.KnownTriples.{unknown_subject, unknown_predicate, unknown_object, known_key}
 use Rattle.graph_load.proofs.loader.Loader.is_known.Goals as goal
 
 pub returns-in_default : goal.returns-in_default

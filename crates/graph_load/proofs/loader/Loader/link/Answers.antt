@@ -1,4 +1,4 @@
-use Rattle.graph_load.proofs.Keeping.{link_steps, on_ok_both}
+use Rattle.graph_load.proofs.SoundSteps.{link_steps, on_ok_both}
 use Rattle.graph_load.proofs.loader.Loader.link.Goals as goal
 
 pub returns-clause-steps : goal.returns-clause-steps

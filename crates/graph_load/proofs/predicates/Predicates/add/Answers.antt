@@ -4,7 +4,7 @@ use Rattle.std.specs.Map.{keys_of}
 use Rattle.std.proofs.lemmas.List.{length-append, length-map}
 use Rattle.indexmap.proofs.CallerLemmas.{insert_entry-new}
 use Rattle.graph_load.specs.Places.{AddLabels}
-use Rattle.graph_load.proofs.Standing.{added_labels, keys_push, lookup_none}
+use Rattle.graph_load.proofs.PlaceLaws.{added_labels, keys_push, lookup_none}
 use Rattle.graph_load.proofs.predicates.Predicates.add.Goals as goal
 
 pub invariant_of-self-2 : goal.invariant_of-self-2

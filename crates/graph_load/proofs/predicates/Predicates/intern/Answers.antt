@@ -1,6 +1,6 @@
 use Rattle.std.proofs.Common.{◌∙◌, ◌++◌, ◌∷◌, [], ap, sym, Some}
 use Rattle.std.specs.Prelude.{position, bytes_eq}
-use Rattle.graph_load.proofs.Standing.{none_passes, position_push, predicate_there, predicate_new, predicate_is_at}
+use Rattle.graph_load.proofs.PlaceLaws.{none_passes, position_push, predicate_there, predicate_new, predicate_is_at}
 use Rattle.term_table.proofs.SameTerms.{bytes_same}
 use Rattle.graph_load.proofs.predicates.Predicates.intern.Goals as goal
 

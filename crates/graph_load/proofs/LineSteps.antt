@@ -19,10 +19,10 @@ use Rattle.graph_load.specs.declared.batch.Waiting.{Waiting}
 use Rattle.graph_load.specs.Hashed.{triple_of, hashed}
 use Rattle.graph_load.specs.declared.loader.Loader.{Loader}
 use Rattle.px_spec.specs.declared.refusal.Refusal.{Refusal}
-use Rattle.graph_load.specs.Loading.{Loading, nothing_loaded, with_triple}
+use Rattle.graph_load.specs.TripleGraphs.{LoadState, nothing_loaded, with_triple}
 use Rattle.graph_load.specs.Loads.{Outcome, loaded, syntax, limit, Place, at_start, past, IsWithinFile, LoadsLine, empty, takes, refuses, neither, LoadsFrom}
-use Rattle.graph_load.specs.Holding.{loading, Holds, with_new, IsSoundLoader, IsTaken}
-use Rattle.graph_load.specs.Going.{LoadsTold, LoadsAhead, Says, place, OnLines, at_line, then_load, with_one, with_all, LoadsBehind, LoadsThen, Puts, Reads, IsNearer, AreLoaded, Stops, OneStops}
+use Rattle.graph_load.specs.Loaders.{load_state, Holds, with_new, IsSoundLoader, IsTaken}
+use Rattle.graph_load.specs.LoadSteps.{LoadsTold, LoadsAhead, Says, place, OnLines, at_line, then_load, with_one, with_all, LoadsBehind, LoadsThen, Puts, Reads, IsNearer, AreLoaded, Stops, OneStops}
 
 -- what becomes of the first line decides
 follows : (limits : Limits) (p : Place) (l : Line) (before after : Option (List ℕ)) (q : Place) (o : Outcome) → IsFirst l before after → IsWithinFile p l
@@ -44,35 +44,35 @@ fits r p l line text taken w = (
   subst (λ n. n + length l.text + length l.end ≤ GRAPH_BYTES) taken (subst (λ n. r.taken + length l.text + length l.end ≤ n) text w.1),
 )
 
-place_same : (a b : Place) → a.loading ≡ b.loading → a.lines ≡ b.lines → a.bytes ≡ b.bytes → a ≡ b
-place_same a b e f g = λ i. record { loading = e i; lines = f i; bytes = g i }
+place_same : (a b : Place) → a.state ≡ b.state → a.lines ≡ b.lines → a.bytes ≡ b.bytes → a ≡ b
+place_same a b e f g = λ i. record { state = e i; lines = f i; bytes = g i }
 
 -- ---- triples that wait
 
-with_last : (limits : Limits) (ws : List Waiting) (w : Waiting) (l : Loading) → with_all limits (ws ++ w ∷ []) l ≡ then_load (with_all limits ws l) (with_one limits w)
+with_last : (limits : Limits) (ws : List Waiting) (w : Waiting) (l : LoadState) → with_all limits (ws ++ w ∷ []) l ≡ then_load (with_all limits ws l) (with_one limits w)
 with_last limits [] w l = alone (with_one limits w l)
   where
-    alone : (x : Result Loading ℕ) → then_load x (λ m. Ok m) ≡ x
+    alone : (x : Result LoadState ℕ) → then_load x (λ m. Ok m) ≡ x
     alone (Ok m) = refl
     alone (Err n) = refl
 with_last limits (v ∷ ws) w l = behind (with_one limits v l) (with_last limits ws w)
   where
-    behind : (x : Result Loading ℕ) → ((m : Loading) → with_all limits (ws ++ w ∷ []) m ≡ then_load (with_all limits ws m) (with_one limits w))
+    behind : (x : Result LoadState ℕ) → ((m : LoadState) → with_all limits (ws ++ w ∷ []) m ≡ then_load (with_all limits ws m) (with_one limits w))
         → then_load x (with_all limits (ws ++ w ∷ [])) ≡ then_load (then_load x (with_all limits ws)) (with_one limits w)
     behind (Ok m) rest = rest m
     behind (Err n) rest = refl
 
 -- what holds of all that may be loaded holds of what the triples load to
 each : (limits : Limits) (r : Reading) (before : Option (List ℕ)) (next : Next) (q : Reading) (after : Option (List ℕ))
-    → ((m : Loading) (o : Outcome) → LoadsBehind limits next q after m o → LoadsAhead limits before (place r m) o)
-    → (x : Result Loading ℕ) (o : Outcome) → LoadsThen limits next q after x o → LoadsThen limits Lines r before x o
+    → ((m : LoadState) (o : Outcome) → LoadsBehind limits next q after m o → LoadsAhead limits before (place r m) o)
+    → (x : Result LoadState ℕ) (o : Outcome) → LoadsThen limits next q after x o → LoadsThen limits Lines r before x o
 each limits r before next q after f (Ok m) o h = f m o h
 each limits r before next q after f (Err n) o h = h
 
 -- and of one more
 each_last : (limits : Limits) (w : Waiting) (r : Reading) (before : Option (List ℕ)) (q : Reading) (after : Option (List ℕ))
-    → ((m : Loading) (o : Outcome) → LoadsThen limits Lines q after (with_one limits w m) o → LoadsAhead limits before (place r m) o)
-    → (x : Result Loading ℕ) (o : Outcome) → LoadsThen limits Lines q after (then_load x (with_one limits w)) o → LoadsThen limits Lines r before x o
+    → ((m : LoadState) (o : Outcome) → LoadsThen limits Lines q after (with_one limits w m) o → LoadsAhead limits before (place r m) o)
+    → (x : Result LoadState ℕ) (o : Outcome) → LoadsThen limits Lines q after (then_load x (with_one limits w)) o → LoadsThen limits Lines r before x o
 each_last limits w r before q after f (Ok m) o h = f m o h
 each_last limits w r before q after f (Err n) o h = h
 
@@ -90,10 +90,10 @@ module _ (r q : Reading) (before after : Option (List ℕ)) (reads : ReadsLine r
   number_is : q.number ≡ r.number + 1
   number_is = ap (λ (x : Reading). x.number) reads.passed
 
-  behind : (l m : Loading) → past (place r l) reads.first m ≡ place q m
+  behind : (l m : LoadState) → past (place r l) reads.first m ≡ place q m
   behind l m = place_same _ _ refl (sym number_is) (sym (ap (λ (x : Reading). x.taken) reads.passed))
 
-  within : (l : Loading) → IsWithinFile (place r l) reads.first
+  within : (l : LoadState) → IsWithinFile (place r l) reads.first
   within l = fits r (place r l) reads.first line_limit text_limit refl reads.within
 
   pub nearer : IsNearer r q
@@ -105,16 +105,16 @@ module _ (r q : Reading) (before after : Option (List ℕ)) (reads : ReadsLine r
 
   module _ (limits : Limits) where
     -- a line is empty
-    past_empty : Empty q.line → (l : Loading) (o : Outcome) → LoadsAhead limits after (place q l) o → LoadsAhead limits before (place r l) o
+    past_empty : Empty q.line → (l : LoadState) (o : Outcome) → LoadsAhead limits after (place q l) o → LoadsAhead limits before (place r l) o
     past_empty is_empty l o =
         follows limits (place r l) reads.first before after (place q l) o reads.told (within l) (λ rest h.
         empty (subst Empty text_is is_empty) o (subst (λ p. LoadsFrom limits rest p o) (sym (behind l l)) h))
 
     -- a line spells a triple
-    past_triple : (t : Triple) → Spells q.line t → (l : Loading) (o : Outcome) → LoadsThen limits Lines q after (with_one limits (record { triple = hashed t; line = q.number }) l) o → LoadsAhead limits before (place r l) o
+    past_triple : (t : Triple) → Spells q.line t → (l : LoadState) (o : Outcome) → LoadsThen limits Lines q after (with_one limits (record { triple = hashed t; line = q.number }) l) o → LoadsAhead limits before (place r l) o
     past_triple t spells l o h = by (with_triple limits t l) refl h
       where
-        by : (x : Result Loading Refusal) → with_triple limits t l ≡ x → LoadsThen limits Lines q after (at_line q.number x) o → LoadsAhead limits before (place r l) o
+        by : (x : Result LoadState Refusal) → with_triple limits t l ≡ x → LoadsThen limits Lines q after (at_line q.number x) o → LoadsAhead limits before (place r l) o
         by (Ok m) is h =
             follows limits (place r l) reads.first before after (place q m) o reads.told (within l) (λ rest k.
             takes t (subst (λ x. Spells x t) text_is spells) m is o (subst (λ p. LoadsFrom limits rest p o) (sym (behind l m)) k)) h
@@ -123,7 +123,7 @@ module _ (r q : Reading) (before after : Option (List ℕ)) (reads : ReadsLine r
             (stops limits (place r l) reads.first before after (limit (r.number + 1)) reads.told (within l) (λ rest. refuses t (subst (λ x. Spells x t) text_is spells) e is))
 
     -- a line is neither
-    past_neither : (¬ Empty q.line) → ((t : Triple) → Spells q.line t → ⊥) → (l : Loading) (o : Outcome) → o ≡ syntax q.number → LoadsAhead limits before (place r l) o
+    past_neither : (¬ Empty q.line) → ((t : Triple) → Spells q.line t → ⊥) → (l : LoadState) (o : Outcome) → o ≡ syntax q.number → LoadsAhead limits before (place r l) o
     past_neither none nothing l o is =
         subst (LoadsAhead limits before (place r l)) (ap syntax (sym number_is) ∙ sym is)
         (stops limits (place r l) reads.first before after (syntax (r.number + 1)) reads.told (within l)
@@ -164,7 +164,7 @@ pub reads_past : (r q : Reading) (before after : Option (List ℕ)) → IsPast r
 reads_past r q before after is_past line text n number waited limits l o h =
     each limits r before (Limit n) q after (λ m o is. subst (LoadsAhead limits before (place r m)) (sym is) (past_there limits m before is_past)) (with_all limits waited l) o h
   where
-    past_there : (limits : Limits) (m : Loading) (told : Option (List ℕ)) → IsPast r told → LoadsAhead limits told (place r m) (limit n)
+    past_there : (limits : Limits) (m : LoadState) (told : Option (List ℕ)) → IsPast r told → LoadsAhead limits told (place r m) (limit n)
     past_there limits m None is_past = tt
     past_there limits m (Some text_ahead) (l, rest, lines, long) =
         subst (λ ls. LoadsFrom limits ls (place r m) (limit n)) (sym lines) (inl (
@@ -177,7 +177,7 @@ pub reads_over : (r q : Reading) (before after : Option (List ℕ)) → IsOver b
 reads_over r q before after over waited limits l o h =
     each limits r before End q after (λ m o is. subst (LoadsAhead limits before (place r m)) (sym is) (over_there limits m before over)) (with_all limits waited l) o h
   where
-    over_there : (limits : Limits) (m : Loading) (told : Option (List ℕ)) → IsOver told → LoadsAhead limits told (place r m) (loaded m.graph)
+    over_there : (limits : Limits) (m : LoadState) (told : Option (List ℕ)) → IsOver told → LoadsAhead limits told (place r m) (loaded m.graph)
     over_there limits m None over = tt
     over_there limits m (Some text) over = subst (λ t. LoadsFrom limits (cut t) (place r m) (loaded m.graph)) (sym over) refl
 
@@ -186,7 +186,7 @@ reads_over r q before after over waited limits l o h =
 -- the first ones are loaded
 pub record AreLeft (limits : Limits) (ws : List Waiting) (n : ℕ) (old new : Loader) : Type 0 where
   pub sound : IsSoundLoader new
-  pub does : (triples : List Triple) → Holds old triples → (more : List Triple) × Holds new more × (with_all limits ws (loading old triples) ≡ with_all limits (drop n ws) (loading new more))
+  pub does : (triples : List Triple) → Holds old triples → (more : List Triple) × Holds new more × (with_all limits ws (load_state old triples) ≡ with_all limits (drop n ws) (load_state new more))
 
 pub left_all : (limits : Limits) (ws : List Waiting) (r : Loader) → IsSoundLoader r → AreLeft limits ws 0 r r
 left_all limits ws r sound = record { sound = sound; does = λ triples holds. (triples, holds, refl) }
@@ -197,7 +197,7 @@ module _ (limits : Limits) (ws : List Waiting) (n : ℕ) (old r : Loader) (left 
     sound = left.sound;
     does = λ triples holds.
         let d = left.does triples holds in
-        (d.0, d.1, d.2 ∙ ap (λ x. with_all limits x (loading r d.0)) (drop_of_length-le ws h));
+        (d.0, d.1, d.2 ∙ ap (λ x. with_all limits x (load_state r d.0)) (drop_of_length-le ws h));
   }
 
   module _ (w : Waiting) (h : n < length ws) (is : w ≡ get_or ws n w) where
@@ -208,7 +208,7 @@ module _ (limits : Limits) (ws : List Waiting) (n : ℕ) (old r : Loader) (left 
           let d = left.does triples holds in (
             with_new d.0 (triple_of w.triple),
             taken.holds d.0 d.1,
-            d.2 ∙ ap (λ x. with_all limits x (loading r d.0)) (drop_more ws n w h ∙ ap (λ v. v ∷ drop (n + 1) ws) (sym is))
+            d.2 ∙ ap (λ x. with_all limits x (load_state r d.0)) (drop_more ws n w h ∙ ap (λ v. v ∷ drop (n + 1) ws) (sym is))
                 ∙ ap (λ x. then_load (at_line w.line x) (with_all limits (drop (n + 1) ws))) (taken.does d.0 d.1),
           );
     }
@@ -218,12 +218,12 @@ module _ (limits : Limits) (ws : List Waiting) (n : ℕ) (old r : Loader) (left 
         let d = left.does triples holds in (
           w.line,
           is_limit,
-          d.2 ∙ ap (λ x. with_all limits x (loading r d.0)) (drop_more ws n w h ∙ ap (λ v. v ∷ drop (n + 1) ws) (sym is))
+          d.2 ∙ ap (λ x. with_all limits x (load_state r d.0)) (drop_more ws n w h ∙ ap (λ v. v ∷ drop (n + 1) ws) (sym is))
               ∙ ap (λ x. then_load (at_line w.line x) (with_all limits (drop (n + 1) ws))) (untaken d.0 d.1).1,
         )
 
 -- what comes of a batch comes of what lay ahead
-pub batch_leads : (limits : Limits) (r q : Reading) (before after : Option (List ℕ)) (waited waits : List Waiting) (next : Next) (l : Loading) (x : Result Loading ℕ) (Q : Outcome → Type 0)
+pub batch_leads : (limits : Limits) (r q : Reading) (before after : Option (List ℕ)) (waited waits : List Waiting) (next : Next) (l : LoadState) (x : Result LoadState ℕ) (Q : Outcome → Type 0)
     → waited ≡ [] → Reads r waited before next q waits after → with_all limits waits l ≡ x → ((o : Outcome) → LoadsAhead limits before (place r l) o → Q o)
     → (o : Outcome) → LoadsThen limits next q after x o → Q o
 batch_leads limits r q before after waited waits next l x Q none reads does leads o h =
@@ -233,11 +233,11 @@ pub ahead_start : (limits : Limits) (left : Option (List ℕ)) (p : Place) (o : 
 ahead_start limits None p o h = tt
 ahead_start limits (Some text) p o h = h
 
-pub start_leads : (limits : Limits) (r : Reading) (l : Loader) (left : Option (List ℕ)) → r.ahead ≡ [] → r.number ≡ 0 → r.taken ≡ 0 → loading l [] ≡ nothing_loaded
-    → (o : Outcome) → LoadsAhead limits (stream r left) (place r (loading l [])) o → LoadsAhead limits left at_start o
+pub start_leads : (limits : Limits) (r : Reading) (l : Loader) (left : Option (List ℕ)) → r.ahead ≡ [] → r.number ≡ 0 → r.taken ≡ 0 → load_state l [] ≡ nothing_loaded
+    → (o : Outcome) → LoadsAhead limits (stream r left) (place r (load_state l [])) o → LoadsAhead limits left at_start o
 start_leads limits r l left ahead number taken nothing o h =
     ahead_start limits left at_start o (subst (λ (x : List ℕ). LoadsAhead limits (prepend_known x left) at_start o) ahead
-    (subst (λ p. LoadsAhead limits (stream r left) p o) (place_same (place r (loading l [])) at_start nothing number taken) h))
+    (subst (λ p. LoadsAhead limits (stream r left) p o) (place_same (place r (load_state l [])) at_start nothing number taken) h))
 
 pub says_map : (P Q : Outcome → Type 0) → ((o : Outcome) → P o → Q o) → (e : LoadError) → Says P e → Says Q e
 says_map P Q f (error.Syntax l) h = f (syntax l) h

@@ -9,12 +9,12 @@ use Rattle.triples_read.specs.declared.term.Term.{Term}
 use Rattle.triples_read.specs.declared.term.Triple.{Triple}
 use Rattle.graph_load.specs.declared.known.Key.{Key}
 use Rattle.graph_load.specs.declared.loader.Loader.{Loader}
-use Rattle.graph_load.specs.Loading.{same_triple}
+use Rattle.graph_load.specs.TripleGraphs.{same_triple}
 use Rattle.term_table.specs.Terms.{same_term}
 use Rattle.graph_load.specs.Places.{stands, is_key_of, same_key}
 use Rattle.term_table.specs.Terms.{place_in}
-use Rattle.graph_load.specs.Holding.{is_known, PointsInto, IsSoundLoader, Grows}
-use Rattle.graph_load.proofs.Standing.{is_at, stands_at, stands_append, stands_same}
+use Rattle.graph_load.specs.Loaders.{is_known, PointsInto, IsSoundLoader, Grows}
+use Rattle.graph_load.proofs.PlaceLaws.{is_at, stands_at, stands_append, stands_same}
 use Rattle.term_table.proofs.SameTerms.{term_is, same_bytes}
 
 pub any_same : {X : Type 0} (p q : X → Bool) (xs : List X) → ((x : X) → p x ≡ q x) → list_any p xs ≡ list_any q xs

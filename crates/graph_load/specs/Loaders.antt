@@ -10,12 +10,12 @@ use Rattle.graph_load.specs.declared.loader.Loader.{Loader}
 use Rattle.graph_load.specs.declared.loader.Places.{Places}
 use Rattle.term_table.specs.Entries.{Begins}
 use Rattle.term_table.specs.Finding.{IsFoundAs}
-use Rattle.graph_load.specs.Loading.{Loading, same_triple, with_triple}
+use Rattle.graph_load.specs.TripleGraphs.{LoadState, same_triple, with_triple}
 use Rattle.graph_load.specs.Places.{is_key_of}
 
 -- what is loaded, where these are the triples
-abbrev pub loading : Loader → List Triple → Loading
-loading r triples = record { graph = r.graph.graph; terms = r.terms; triples = triples }
+abbrev pub load_state : Loader → List Triple → LoadState
+load_state r triples = record { graph = r.graph.graph; terms = r.terms; triples = triples }
 
 abbrev pub is_known : Loader → Triple → Bool
 is_known r t = list_any (is_key_of r.terms r.predicates t) r.known
@@ -54,21 +54,21 @@ pub record Grows (old new : Loader) : Type 0 where
   pub known : new.known ≡ old.known
 
 -- a step leads from the one loader to the other
-pub record Steps (step : Loading → Result Loading Refusal) (old new : Loader) : Type 0 where
-  pub does : (triples : List Triple) → step (loading old triples) ≡ Ok (loading new triples)
+pub record Steps (step : LoadState → Result LoadState Refusal) (old new : Loader) : Type 0 where
+  pub does : (triples : List Triple) → step (load_state old triples) ≡ Ok (load_state new triples)
   pub sound : IsSoundLoader new
   pub grows : Grows old new
 
 -- a step is refused
-abbrev pub IsStopped : (Loading → Result Loading Refusal) → Loader → Type 0
-IsStopped step r = (triples : List Triple) → (refusal : Refusal) × (step (loading r triples) ≡ Err refusal)
+abbrev pub IsStopped : (LoadState → Result LoadState Refusal) → Loader → Type 0
+IsStopped step r = (triples : List Triple) → (refusal : Refusal) × (step (load_state r triples) ≡ Err refusal)
 
 -- the triple is loaded: it was, or its nodes and edges are added
 pub record IsTaken (limits : Limits) (t : Triple) (old new : Loader) : Type 0 where
   pub sound : IsSoundLoader new
-  pub does : (triples : List Triple) → Holds old triples → with_triple limits t (loading old triples) ≡ Ok (loading new (with_new triples t))
+  pub does : (triples : List Triple) → Holds old triples → with_triple limits t (load_state old triples) ≡ Ok (load_state new (with_new triples t))
   pub holds : (triples : List Triple) → Holds old triples → Holds new (with_new triples t)
 
 -- the triple is refused
 abbrev pub IsUntaken : Limits → Triple → Loader → Type 0
-IsUntaken limits t r = (triples : List Triple) → Holds r triples → (refusal : Refusal) × (with_triple limits t (loading r triples) ≡ Err refusal)
+IsUntaken limits t r = (triples : List Triple) → Holds r triples → (refusal : Refusal) × (with_triple limits t (load_state r triples) ≡ Err refusal)

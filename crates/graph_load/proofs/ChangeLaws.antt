@@ -1,4 +1,4 @@
--- What changes make of the loading.
+-- What changes make of the state of a load.
 use Rattle.std.proofs.Common.{◌≡◌, ℕ, ◌+◌, Bool, true, false, ◌&&◌, ◌||◌, List, [], ◌∷◌, ◌++◌, length, Some, None, Result, Ok, Err, sym, ap, ◌∙◌, true≢false}
 use Rattle.std.specs.Prelude.{is_some, is_ok, nat_lt, if◌then◌else◌}
 use Rattle.std.proofs.lemmas.List.{length_push}
@@ -7,7 +7,7 @@ use Rattle.px_spec.specs.declared.refusal.Refusal.TheVariants.{Limit, NoNode}
 use Rattle.px_spec.specs.Graphs.{Graph, is_live, is_seen}
 use Rattle.px_spec.specs.Changes.{node, link, apply, node_fits, edge_fits, with_node, with_edge}
 use Rattle.triples_read.specs.declared.term.Term.{Term}
-use Rattle.graph_load.specs.Loading.{Loading, with_graph, changed, numbered, need, term_label}
+use Rattle.graph_load.specs.TripleGraphs.{LoadState, with_graph, changed, numbered, need, term_label}
 use Rattle.term_table.specs.Terms.{number_of}
 
 abbrev value_or : {T E : Type 0} → T → Result T E → T
@@ -38,10 +38,10 @@ link_made u v g limits h made = by (is_live g u && is_live g v) (edge_fits g lim
 pub node_full : (t : List ℕ) (g : Graph) (limits : Limits) → nat_lt (length g.given) limits.nodes ≡ false → apply (node t) g limits ≡ Err Limit
 node_full t g limits h = ap (λ b. if b && (is_seen g.seen t || nat_lt (length g.seen) limits.labels) then Ok (with_node g t) else Err Limit) h
 
-pub need_there : (limits : Limits) (x : Term) (l : Loading) (n : ℕ) → number_of l.terms x ≡ Some n → need limits x l ≡ Ok l
+pub need_there : (limits : Limits) (x : Term) (l : LoadState) (n : ℕ) → number_of l.terms x ≡ Some n → need limits x l ≡ Ok l
 need_there limits x l n h = ap (λ o. if is_some o then Ok l else changed limits (node (term_label x)) (numbered x (length l.graph.given) l)) h
 
-pub need_new : (limits : Limits) (x : Term) (l : Loading) (g : Graph) → number_of l.terms x ≡ None → apply (node (term_label x)) l.graph limits ≡ Ok g
+pub need_new : (limits : Limits) (x : Term) (l : LoadState) (g : Graph) → number_of l.terms x ≡ None → apply (node (term_label x)) l.graph limits ≡ Ok g
     → need limits x l ≡ Ok (record { graph = g; terms = l.terms ++ (x, length l.graph.given) ∷ []; triples = l.triples })
 need_new limits x l g none made =
     ap (λ o. if is_some o then Ok l else changed limits (node (term_label x)) (numbered x (length l.graph.given) l)) none

@@ -26,59 +26,59 @@ term_label (Literal text datatype tag) = codes "literal"
 abbrev pub predicate_label : List ℕ → List ℕ
 predicate_label iri = iri_spelling iri
 
-pub record Loading : Type 0 where
+pub record LoadState : Type 0 where
   pub graph : Graph
   -- each term that is a node, with its number
   pub terms : List (Term × ℕ)
   -- the triples so far, each once
   pub triples : List Triple
 
-abbrev pub nothing_loaded : Loading
+abbrev pub nothing_loaded : LoadState
 nothing_loaded = record { graph = empty_graph; terms = []; triples = [] }
 
-abbrev pub is_loaded : Loading → Triple → Bool
+abbrev pub is_loaded : LoadState → Triple → Bool
 is_loaded l t = list_any (same_triple t) l.triples
 
 -- what is done next, unless something was refused
-abbrev pub then_do : Result Loading Refusal → (Loading → Result Loading Refusal) → Result Loading Refusal
+abbrev pub then_do : Result LoadState Refusal → (LoadState → Result LoadState Refusal) → Result LoadState Refusal
 then_do (Ok l) f = f l
 then_do (Err r) f = Err r
 
--- the loading with the graph after a change
-abbrev pub with_graph : Loading → Result Graph Refusal → Result Loading Refusal
+-- the state with the graph after a change
+abbrev pub with_graph : LoadState → Result Graph Refusal → Result LoadState Refusal
 with_graph l (Ok g) = Ok (record l { graph = g })
 with_graph l (Err r) = Err r
 
-abbrev pub changed : Limits → Change → Loading → Result Loading Refusal
+abbrev pub changed : Limits → Change → LoadState → Result LoadState Refusal
 changed limits c l = with_graph l (apply c l.graph limits)
 
 -- the term gets the next number
-abbrev pub numbered : Term → ℕ → Loading → Loading
+abbrev pub numbered : Term → ℕ → LoadState → LoadState
 numbered x n l = record l { terms = l.terms ++ (x, n) ∷ [] }
 
 -- the term is a node: it is one already, or becomes one
-abbrev pub need : Limits → Term → Loading → Result Loading Refusal
+abbrev pub need : Limits → Term → LoadState → Result LoadState Refusal
 need limits x l =
     if is_some (number_of l.terms x) then Ok l
     else changed limits (node (term_label x)) (numbered x (length l.graph.given) l)
 
 -- an edge between the node of a triple and that of a term, one way or the other
-abbrev pub from_term : Limits → Term → ℕ → Loading → Result Loading Refusal
+abbrev pub from_term : Limits → Term → ℕ → LoadState → Result LoadState Refusal
 from_term limits x n l = changed limits (link (unwrap_or (number_of l.terms x) 0) n) l
 
-abbrev pub onto_term : Limits → ℕ → Term → Loading → Result Loading Refusal
+abbrev pub onto_term : Limits → ℕ → Term → LoadState → Result LoadState Refusal
 onto_term limits n x l = changed limits (link n (unwrap_or (number_of l.terms x) 0)) l
 
 -- the object of a triple is a node too, and edges lead from the subject to the triple's node n and on to the object
-abbrev pub joined : Limits → Term → ℕ → Term → Loading → Result Loading Refusal
+abbrev pub joined : Limits → Term → ℕ → Term → LoadState → Result LoadState Refusal
 joined limits x n y l = then_do (need limits y l) (λ a. then_do (from_term limits x n a) (onto_term limits n y))
 
 -- the nodes and edges of a new triple, whose own node has the number n
-abbrev pub placed : Limits → Triple → ℕ → Loading → Result Loading Refusal
+abbrev pub placed : Limits → Triple → ℕ → LoadState → Result LoadState Refusal
 placed limits t n l = then_do (changed limits (node (predicate_label t.predicate)) l) (joined limits t.subject n t.object)
 
 -- The triple is loaded: it is already, or its nodes and edges are added. It is refused where one of them passes a limit.
-abbrev pub with_triple : Limits → Triple → Loading → Result Loading Refusal
+abbrev pub with_triple : Limits → Triple → LoadState → Result LoadState Refusal
 with_triple limits t l =
     if is_loaded l t then Ok l
     else then_do (need limits t.subject l)

@@ -12,22 +12,22 @@ use Rattle.triples_read.specs.declared.term.Term.{Term}
 use Rattle.triples_read.specs.declared.term.Triple.{Triple}
 use Rattle.graph_load.specs.declared.known.Key.{Key}
 use Rattle.graph_load.specs.declared.loader.Loader.{Loader}
-use Rattle.graph_load.specs.Loading.{same_triple, need, changed, then_do, joined, placed, predicate_label, with_triple}
+use Rattle.graph_load.specs.TripleGraphs.{same_triple, need, changed, then_do, joined, placed, predicate_label, with_triple}
 use Rattle.term_table.specs.Terms.{same_term}
 use Rattle.graph_load.specs.Places.{is_key_of, same_key}
 use Rattle.term_table.specs.Terms.{place_in}
-use Rattle.graph_load.specs.Holding.{loading, is_known, Holds, with_new, PointsInto, IsSoundLoader, Grows, Steps, IsStopped, IsTaken, IsUntaken}
-use Rattle.graph_load.proofs.Standing.{position_append}
-use Rattle.graph_load.proofs.Joining.{grows_trans}
-use Rattle.graph_load.proofs.Knowing.{known_stays, known_key, key_of_same}
+use Rattle.graph_load.specs.Loaders.{load_state, is_known, Holds, with_new, PointsInto, IsSoundLoader, Grows, Steps, IsStopped, IsTaken, IsUntaken}
+use Rattle.graph_load.proofs.PlaceLaws.{position_append}
+use Rattle.graph_load.proofs.EdgeSteps.{grows_trans}
+use Rattle.graph_load.proofs.KnownTriples.{known_stays, known_key, key_of_same}
 
 -- a triple that is known stays
 pub taken_known : (limits : Limits) (t : Triple) (r : Loader) → IsSoundLoader r → is_known r t ≡ true → IsTaken limits t r r
 taken_known limits t r sound known = record {
   sound = sound;
   does = λ triples holds.
-      ap (λ b. if b then Ok (loading r triples) else then_do (need limits t.subject (loading r triples)) (λ a. then_do (placed limits t (length a.graph.given) a) (λ b. Ok (record b { triples = b.triples ++ t ∷ [] })))) (holds t ∙ known)
-      ∙ ap (λ ts. Ok (loading r ts)) (sym (same triples holds));
+      ap (λ b. if b then Ok (load_state r triples) else then_do (need limits t.subject (load_state r triples)) (λ a. then_do (placed limits t (length a.graph.given) a) (λ b. Ok (record b { triples = b.triples ++ t ∷ [] })))) (holds t ∙ known)
+      ∙ ap (λ ts. Ok (load_state r ts)) (sym (same triples holds));
   holds = λ triples holds. subst (Holds r) (sym (same triples holds)) holds;
 }
   where
@@ -39,8 +39,8 @@ all_push P [] x h q = (q, tt)
 all_push P (y ∷ ys) x h q = (h.0, all_push P ys x h.1 q)
 
 module _ (limits : Limits) (t : Triple) (old : Loader) (unknown : is_known old t ≡ false) where
-  fresh : (triples : List Triple) → Holds old triples → with_triple limits t (loading old triples) ≡ then_do (need limits t.subject (loading old triples)) (λ a. then_do (placed limits t (length a.graph.given) a) (λ b. Ok (record b { triples = b.triples ++ t ∷ [] })))
-  fresh triples holds = ap (λ b. if b then Ok (loading old triples) else then_do (need limits t.subject (loading old triples)) (λ a. then_do (placed limits t (length a.graph.given) a) (λ b. Ok (record b { triples = b.triples ++ t ∷ [] })))) (holds t ∙ unknown)
+  fresh : (triples : List Triple) → Holds old triples → with_triple limits t (load_state old triples) ≡ then_do (need limits t.subject (load_state old triples)) (λ a. then_do (placed limits t (length a.graph.given) a) (λ b. Ok (record b { triples = b.triples ++ t ∷ [] })))
+  fresh triples holds = ap (λ b. if b then Ok (load_state old triples) else then_do (need limits t.subject (load_state old triples)) (λ a. then_do (placed limits t (length a.graph.given) a) (λ b. Ok (record b { triples = b.triples ++ t ∷ [] })))) (holds t ∙ unknown)
 
   new_is : (triples : List Triple) → Holds old triples → with_new triples t ≡ triples ++ t ∷ []
   new_is triples holds = ap (λ b. if b then triples else triples ++ t ∷ []) (holds t ∙ unknown)
@@ -52,7 +52,7 @@ module _ (limits : Limits) (t : Triple) (old : Loader) (unknown : is_known old t
 
   module _ (a : Loader) (needs : Steps (need limits t.subject) old a) where
     first : (triples : List Triple) → Holds old triples
-        → with_triple limits t (loading old triples) ≡ then_do (placed limits t (length a.graph.graph.given) (loading a triples)) (λ b. Ok (record b { triples = b.triples ++ t ∷ [] }))
+        → with_triple limits t (load_state old triples) ≡ then_do (placed limits t (length a.graph.graph.given) (load_state a triples)) (λ b. Ok (record b { triples = b.triples ++ t ∷ [] }))
     first triples holds = fresh triples holds ∙ ap (λ r. then_do r (λ a. then_do (placed limits t (length a.graph.given) a) (λ b. Ok (record b { triples = b.triples ++ t ∷ [] })))) (needs.does triples)
 
     pub untaken_node : IsStopped (changed limits (node (predicate_label t.predicate))) a → IsUntaken limits t old
@@ -62,10 +62,10 @@ module _ (limits : Limits) (t : Triple) (old : Loader) (unknown : is_known old t
 
     module _ (n : ℕ) (number : n ≡ length a.graph.graph.given) (b : Loader) (adds : Steps (changed limits (node (predicate_label t.predicate))) a b) where
       second : (triples : List Triple) → Holds old triples
-          → with_triple limits t (loading old triples) ≡ then_do (joined limits t.subject n t.object (loading b triples)) (λ b. Ok (record b { triples = b.triples ++ t ∷ [] }))
+          → with_triple limits t (load_state old triples) ≡ then_do (joined limits t.subject n t.object (load_state b triples)) (λ b. Ok (record b { triples = b.triples ++ t ∷ [] }))
       second triples holds =
           first triples holds ∙ ap (λ r. then_do (then_do r (joined limits t.subject (length a.graph.graph.given) t.object)) (λ b. Ok (record b { triples = b.triples ++ t ∷ [] }))) (adds.does triples)
-          ∙ ap (λ m. then_do (joined limits t.subject m t.object (loading b triples)) (λ b. Ok (record b { triples = b.triples ++ t ∷ [] }))) (sym number)
+          ∙ ap (λ m. then_do (joined limits t.subject m t.object (load_state b triples)) (λ b. Ok (record b { triples = b.triples ++ t ∷ [] }))) (sym number)
 
       pub untaken_joined : IsStopped (joined limits t.subject n t.object) b → IsUntaken limits t old
       untaken_joined stop triples holds =
@@ -91,7 +91,7 @@ module _ (limits : Limits) (t : Triple) (old : Loader) (unknown : is_known old t
           };
           does = λ triples holds.
               second triples holds ∙ ap (λ r. then_do r (λ b. Ok (record b { triples = b.triples ++ t ∷ [] }))) (joins.does triples)
-              ∙ ap (λ ts. Ok (loading c ts)) (sym (new_is triples holds));
+              ∙ ap (λ ts. Ok (load_state c ts)) (sym (new_is triples holds));
           holds = λ triples holds. subst (Holds (record c { known = known })) (sym (new_is triples holds)) (λ u.
               list_any-append (same_triple u) triples (t ∷ [])
               ∙ (λ i. (holds u ∙ sym (known_stays old c grown sound u)) i || (sym (key_of_same c.terms c.predicates t key s p o u) i || false))

@@ -11,7 +11,7 @@ use Rattle.std.proofs.lemmas.Option.{unwrap_or-slice_get}
 use Rattle.graph_update.specs.declared.changes.Change.{Change}
 use Rattle.graph_update.specs.declared.changes.Change.TheVariants.{Node}
 use Rattle.term_table.proofs.Positions.{position-cons}
-use Rattle.graph_load.specs.Loading.{predicate_label}
+use Rattle.graph_load.specs.TripleGraphs.{predicate_label}
 use Rattle.graph_load.specs.Places.{stands, AddLabels, predicate_at, with_predicate}
 use Rattle.term_table.proofs.SameTerms.{same_bytes}
 

@@ -14,10 +14,10 @@ use Rattle.graph_load.specs.declared.batch.Next.{Next}
 use Rattle.graph_load.specs.declared.batch.Next.TheVariants.{Lines, End, Syntax, Limit}
 use Rattle.graph_load.specs.declared.batch.Waiting.{Waiting}
 use Rattle.graph_load.specs.declared.loader.Loader.{Loader}
-use Rattle.graph_load.specs.Loading.{Loading, with_triple}
+use Rattle.graph_load.specs.TripleGraphs.{LoadState, with_triple}
 use Rattle.graph_load.specs.Hashed.{triple_of, hashed}
 use Rattle.graph_load.specs.Loads.{Outcome, loaded, syntax, limit, Place, LoadsFrom, Loads}
-use Rattle.graph_load.specs.Holding.{loading, Holds, IsSoundLoader, IsUntaken}
+use Rattle.graph_load.specs.Loaders.{load_state, Holds, IsSoundLoader, IsUntaken}
 
 -- The name is that of a told file whose text loads to this; of files that aren't told it says nothing.
 abbrev pub LoadsTold : Limits → Option (List File) → List ℕ → Outcome → Type 0
@@ -43,8 +43,8 @@ LoadsAhead limits None p o = ⊤
 LoadsAhead limits (Some text) p o = LoadsFrom limits (cut text) p o
 
 -- how far a load has come, where this is loaded
-abbrev pub place : Reading → Loading → Place
-place r l = record { loading = l; lines = r.number; bytes = r.taken }
+abbrev pub place : Reading → LoadState → Place
+place r l = record { state = l; lines = r.number; bytes = r.taken }
 
 -- the reader has the limits of a graph file, and can read on
 pub record CanRead (r : Reading) (is_open : Bool) : Type 0 where
@@ -63,31 +63,31 @@ OnLines (Limit n) P = ⊤
 -- ---- triples that wait
 
 -- what is loaded then, or the number of the line that passes a limit
-abbrev pub at_line : ℕ → Result Loading Refusal → Result Loading ℕ
+abbrev pub at_line : ℕ → Result LoadState Refusal → Result LoadState ℕ
 at_line n (Ok l) = Ok l
 at_line n (Err r) = Err n
 
-abbrev pub then_load : Result Loading ℕ → (Loading → Result Loading ℕ) → Result Loading ℕ
+abbrev pub then_load : Result LoadState ℕ → (LoadState → Result LoadState ℕ) → Result LoadState ℕ
 then_load (Ok l) f = f l
 then_load (Err n) f = Err n
 
-abbrev pub with_one : Limits → Waiting → Loading → Result Loading ℕ
+abbrev pub with_one : Limits → Waiting → LoadState → Result LoadState ℕ
 with_one limits w l = at_line w.line (with_triple limits (triple_of w.triple) l)
 
 -- one after the other; the first that is refused decides
-abbrev pub with_all : Limits → List Waiting → Loading → Result Loading ℕ
+abbrev pub with_all : Limits → List Waiting → LoadState → Result LoadState ℕ
 with_all limits [] l = Ok l
 with_all limits (w ∷ ws) l = then_load (with_one limits w l) (with_all limits ws)
 
 -- what is loaded gives this outcome, by what comes behind the lines that were read
-abbrev pub LoadsBehind : Limits → Next → Reading → Option (List ℕ) → Loading → Outcome → Type 0
+abbrev pub LoadsBehind : Limits → Next → Reading → Option (List ℕ) → LoadState → Outcome → Type 0
 LoadsBehind limits Lines r text l o = LoadsAhead limits text (place r l) o
 LoadsBehind limits End r text l o = o ≡ loaded l.graph
 LoadsBehind limits (Syntax n) r text l o = o ≡ syntax n
 LoadsBehind limits (Limit n) r text l o = o ≡ limit n
 
 -- and so does this, where one of the triples that waited may be refused
-abbrev pub LoadsThen : Limits → Next → Reading → Option (List ℕ) → Result Loading ℕ → Outcome → Type 0
+abbrev pub LoadsThen : Limits → Next → Reading → Option (List ℕ) → Result LoadState ℕ → Outcome → Type 0
 LoadsThen limits next r text (Ok l) o = LoadsBehind limits next r text l o
 LoadsThen limits next r text (Err n) o = o ≡ limit n
 
@@ -102,7 +102,7 @@ Puts text n old new (Limit m) = ⊥
 -- from those that waited before and the text that was left before.
 abbrev pub Reads : Reading → List Waiting → Option (List ℕ) → Next → Reading → List Waiting → Option (List ℕ) → Type 0
 Reads r waited before next q waits after =
-    (limits : Limits) (l : Loading) (o : Outcome) → LoadsThen limits next q after (with_all limits waits l) o → LoadsThen limits Lines r before (with_all limits waited l) o
+    (limits : Limits) (l : LoadState) (o : Outcome) → LoadsThen limits next q after (with_all limits waits l) o → LoadsThen limits Lines r before (with_all limits waited l) o
 
 -- more of the text is taken
 abbrev pub IsNearer : Reading → Reading → Type 0
@@ -111,7 +111,7 @@ IsNearer r q = (r.taken < q.taken) × (q.taken ≤ GRAPH_BYTES)
 -- the triples that waited are loaded
 pub record AreLoaded (limits : Limits) (waited : List Waiting) (old new : Loader) : Type 0 where
   pub sound : IsSoundLoader new
-  pub does : (triples : List Triple) → Holds old triples → (more : List Triple) × Holds new more × (with_all limits waited (loading old triples) ≡ Ok (loading new more))
+  pub does : (triples : List Triple) → Holds old triples → (more : List Triple) × Holds new more × (with_all limits waited (load_state old triples) ≡ Ok (load_state new more))
 
 -- a triple is refused, and the number of its line decides
 abbrev pub Stops : Limits → Waiting → Loader → Outcome → Type 0
@@ -119,4 +119,4 @@ Stops limits w r o = (o ≡ limit w.line) × IsUntaken limits (triple_of w.tripl
 
 -- one of the triples that waited is
 abbrev pub OneStops : Limits → List Waiting → Loader → Outcome → Type 0
-OneStops limits waited r o = (triples : List Triple) → Holds r triples → (n : ℕ) × (o ≡ limit n) × (with_all limits waited (loading r triples) ≡ Err n)
+OneStops limits waited r o = (triples : List Triple) → Holds r triples → (n : ℕ) × (o ≡ limit n) × (with_all limits waited (load_state r triples) ≡ Err n)

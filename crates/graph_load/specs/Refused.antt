@@ -1,4 +1,4 @@
--- What a step of the loading says of its outcome.
+-- What a step of a load says of its outcome.
 use Rattle.std.specs.Prelude.{◌≡◌, Result, Err}
 use Rattle.px_spec.specs.declared.refusal.Refusal.{Refusal}
 

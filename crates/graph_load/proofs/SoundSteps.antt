@@ -10,15 +10,15 @@ use Rattle.label_graph.specs.Held.{Held, no_room}
 use Rattle.triples_read.specs.declared.term.Term.{Term}
 use Rattle.graph_load.specs.declared.known.Key.{Key}
 use Rattle.graph_load.specs.declared.loader.Loader.{Loader}
-use Rattle.graph_load.specs.Loading.{need, changed, with_graph, term_label, predicate_label}
+use Rattle.graph_load.specs.TripleGraphs.{need, changed, with_graph, term_label, predicate_label}
 use Rattle.term_table.specs.Terms.{number_of, same_term}
 use Rattle.graph_load.specs.Places.{with_predicate}
 use Rattle.term_table.specs.Terms.{place_in}
-use Rattle.graph_load.specs.Holding.{loading, PointsInto, IsSoundLoader, Steps}
+use Rattle.graph_load.specs.Loaders.{load_state, PointsInto, IsSoundLoader, Steps}
 use Rattle.term_table.specs.Entries.{Begins}
-use Rattle.graph_load.proofs.Standing.{position_push, lookup_push, keys_push, is_some-lookup}
+use Rattle.graph_load.proofs.PlaceLaws.{position_push, lookup_push, keys_push, is_some-lookup}
 use Rattle.term_table.proofs.SameTerms.{term_same}
-use Rattle.graph_load.proofs.Changing.{node_made, link_made, need_new}
+use Rattle.graph_load.proofs.ChangeLaws.{node_made, link_made, need_new}
 
 pub more_within : (m n p q : ℕ) → m ≤ p → n ≤ q → (ks : List Key) → AllByRecursion (PointsInto m n) ks → AllByRecursion (PointsInto p q) ks
 more_within m n p q mp nq [] h = tt
@@ -39,7 +39,7 @@ term_steps limits x old h n terms sound none made room number added =
     let few = sound.terms in
     let fewer = sound.predicates in
     record {
-      does = λ triples. need_new limits x (loading old triples) h.graph none made ∙ ap (λ ts. Ok (record { graph = h.graph; terms = ts; triples = triples })) (sym exact);
+      does = λ triples. need_new limits x (load_state old triples) h.graph none made ∙ ap (λ ts. Ok (record { graph = h.graph; terms = ts; triples = triples })) (sym exact);
       sound = record {
         room = room;
         terms = omega (arith, given, longer, few);
@@ -79,7 +79,7 @@ node_steps limits iri old h predicates sound made room added =
     let more = is.more in
     let next = is.few in
     record {
-      does = λ triples. ap (with_graph (loading old triples)) made;
+      does = λ triples. ap (with_graph (load_state old triples)) made;
       sound = record {
         room = room;
         terms = omega (arith, given, few);
@@ -97,7 +97,7 @@ link_steps limits u v old h sound made room =
     let few = sound.terms in
     let fewer = sound.predicates in
     record {
-      does = λ triples. ap (with_graph (loading old triples)) made;
+      does = λ triples. ap (with_graph (load_state old triples)) made;
       sound = record {
         room = room;
         terms = omega (arith, few, ap length same);
