@@ -5,3 +5,4 @@ pub mod Found
 pub mod Refreshed
 pub mod Showing
 pub mod Asked
+pub mod QueryFinds

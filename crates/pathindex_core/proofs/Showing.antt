@@ -22,6 +22,7 @@ use Rattle.index_api.specs.Meanings.{Meaning}
 use Rattle.index_api.specs.Kept.{KeptIndexes, is_kept, Relates, kinds_of, has_kind, index_of, kept_view, kept_of, blocks_in}
 use Rattle.extent_report.specs.Listing.{DecidesEach, extents_text, block_total, joined_total, size_line}
 use Rattle.extent_report.specs.Summaries.{LabelsHaveTexts, IsSummaryOf}
+use Rattle.index_eval.specs.Exactness.{FitsVia}
 use Rattle.extent_report.specs.Shown.{ShowsIndex, ListsIndex, IsSizeLine, ShowsSize, AreSizes}
 use Rattle.pathindex_core.specs.Engines.{Opened, IsKeptFor}
 use Rattle.pathindex_core.specs.Boxes.{IsFbComputed, via_view}
@@ -39,6 +40,7 @@ pub record IsShownBy (g : Graph) (kept : KeptIndexes) (via : Via) (v : View) : T
 pub record IsThere (g : Graph) (kept : KeptIndexes) (via : Via) (o : Option View) : Type 0 where
   pub view : View
   pub is : o ≡ Some view
+  pub fits_via : FitsVia via g view
   pub kept_is : is_kept kept via ≡ true
   pub shown : IsShape (shape_of g) → IsShownBy g kept via view
 
@@ -82,6 +84,7 @@ module _ (o : Opened) (boxes : List Meaning) (all : All (IsKeptFor o) boxes) whe
       record {
         view = v.0;
         is = rw (f.is) v.1;
+        fits_via = v.2;
         kept_is = kept;
         shown = λ s. record {
           test = bis (shape_of o.graph) level;
@@ -114,6 +117,7 @@ module _ (o : Opened) (boxes : List Meaning) (all : All (IsKeptFor o) boxes) whe
       record {
         view = v.0;
         is = here;
+        fits_via = one;
         kept_is = f.has;
         shown = λ s. record {
           test = together (v.0).block_of;
@@ -135,6 +139,7 @@ module _ (o : Opened) (boxes : List Meaning) (all : All (IsKeptFor o) boxes) whe
       record {
         view = v.0;
         is = rw (f.is) v.1;
+        fits_via = v.2;
         kept_is = f.has;
         shown = λ s. record {
           test = fb (shape_of o.graph);
@@ -196,6 +201,9 @@ labelled g q f b l e =
 
 some_view : (v w : View) → Some v ≡ Some w → w ≡ v
 some_view v w e = cc
+
+pub fits_here : (g : Graph) (kept : KeptIndexes) (via : Via) (q : Quotient) → IsThere g kept via (Some (view_of q)) → FitsVia via g (view_of q)
+fits_here g kept via q t = subst (FitsVia via g) (some_view (view_of q) t.view t.is) t.fits_via
 
 module _ (g : Graph) (kept : KeptIndexes) (via : Via) (q : Quotient) (t : IsThere g kept via (Some (view_of q))) (s : IsShape (shape_of g)) where
   pub shown_here : IsShownBy g kept via (view_of q)

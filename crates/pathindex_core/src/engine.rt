@@ -1,29 +1,31 @@
 // The engine.
 ghost use Rattle.std.specs.Prelude.{◌≡◌, ◌≢◌, ◌+◌, ◌<◌, ◌≤◌, ◌↔◌, not, Ok, Err, Some, None, true, false, List, ℕ, map, OnOk, OnErr, IfOk, IsSome};
 ghost use Rattle.std.specs.List.{AllPairs, filter};
-ghost use Rattle.px_spec.specs.Shapes.{shape_of};
 ghost use Rattle.label_graph.specs.Views.{live_count, edge_count};
 ghost use Rattle.graph_update.specs.NewChanges.{is_same};
 ghost use Rattle.graph_update.specs.Judging.{change_of};
 ghost use Rattle.graph_update.specs.Staging.{applied_of};
-ghost use Rattle.path_spec.specs.Answers.{AreAnswers};
+ghost use Rattle.branch_query.specs.Queries.{path};
+ghost use Rattle.index_eval.specs.Exactness.{IsExact};
+ghost use Rattle.pathindex_core.specs.QueryAnswers.{IsAnswered, IsUnkept};
 ghost use Rattle.index_api.specs.declared.kinds.Via.TheVariants.{Data as TheGraph, Fb as TheFb};
-ghost use Rattle.index_api.specs.declared.answers.How.TheVariants.{Data as InGraph};
 ghost use Rattle.index_api.specs.Meanings.{IsBuilt, KeepsViews};
 ghost use Rattle.index_api.specs.Kept.{is_kind, is_kept, kept_of, kinds_of, has_kind};
 ghost use Rattle.extent_report.specs.Shown.{ListsIndex, ListsSizes};
 ghost use Rattle.pathindex_core.specs.Engines.{engine_seen, opened_of, graph_in, level_in, EachBecomes, IsSound};
 ghost use Rattle.pathindex_core.specs.Updates.{outcome_in, opened_after, IsUpdated};
 
+use crate::asking::ask;
 use crate::boxes::{build_all, place_of, take_out};
 use crate::errors::{AskError, UpdateError};
 use crate::lists::{list, measure};
 use crate::state::Open;
 use crate::updates::update;
+use branch_query::Query;
 use graph_update::{Applied, Change};
-use index_api::{Answer, How, Kind, PathIndex, Via};
+use index_api::{Answer, Kind, PathIndex, Via};
 use label_graph::Graph;
-use path_query::{PathExpr, eval};
+use path_query::PathExpr;
 use px_base::{Limits, Memory, Refusal, Steps, Text};
 use std::alloc::Global;
 use std::marker::Brand;
@@ -150,8 +152,10 @@ impl Engine {
         }
     }
 
-    /// The nodes in which a walk ends whose labels match the expression, asked of the graph itself. `NoIndex` doesn't come, and an error leaves all as it was. It
-    /// costs one view of the graph.
+    /// The nodes in which a walk ends whose labels match the expression, asked of the graph itself or through an index, and how they
+    /// were found. `NoIndex` comes exactly where the index isn't kept, memory or not. The view of the forward and backward index
+    /// is first computed, where it isn't. Of the graph itself a query costs one view of the graph; through an index that is exact
+    /// for it, it reads nothing of the graph. An error leaves the graph and each view that is computed.
     pub fn path<L: Ledger>(
         &mut self,
         alloc: Global,
@@ -161,16 +165,18 @@ impl Engine {
     ) -> Result<Answer, AskError>
         requires open { IsSome (opened_of self.old.state) }
         requires sound { IsSound (engine_seen (map meaning self.old.boxes.items) self.old.state) }
-        requires graph { via ≡ TheGraph }
         ensures sound { IsSound (engine_seen (map meaning self.new.boxes.items) self.new.state) }
-        ensures seen { engine_seen (map meaning self.new.boxes.items) self.new.state ≡ engine_seen (map meaning self.old.boxes.items) self.old.state }
-        ensures nodes { IfOk result (λ answer. AreAnswers (shape_of (graph_in (opened_of self.old.state))) expr.now answer.nodes.members) }
-        ensures how { IfOk result (λ answer. answer.how ≡ InGraph) }
-        ensures no_index { result ≢ Err AskError.NoIndex }
-        ensures cost { steps.new ≡ steps.old + 1 + live_count (graph_in (opened_of self.old.state)) + edge_count (graph_in (opened_of self.old.state)) }
+        ensures opened { opened_of self.new.state ≡ opened_of self.old.state }
+        ensures keeps { EachBecomes KeepsViews (map meaning self.old.boxes.items) (map meaning self.new.boxes.items) }
+        ensures kept { kept_of (map meaning self.new.boxes.items) (level_in (opened_of self.old.state)) ≡ kept_of (map meaning self.old.boxes.items) (level_in (opened_of self.old.state)) }
+        ensures answered { IfOk result (λ answer. IsAnswered (graph_in (opened_of self.old.state)) (kept_of (map meaning self.old.boxes.items) (level_in (opened_of self.old.state))) via (path expr.now) answer.how answer.nodes.members) }
+        ensures no_index { (result ≡ Err AskError.NoIndex) ↔ IsUnkept (kept_of (map meaning self.old.boxes.items) (level_in (opened_of self.old.state))) via }
+        ensures graph { via ≡ TheGraph → steps.new ≡ steps.old + 1 + live_count (graph_in (opened_of self.old.state)) + edge_count (graph_in (opened_of self.old.state)) }
+        ensures cost { IsExact via (path expr.now) → steps.new ≤ steps.old + 1 + live_count (graph_in (opened_of self.old.state)) + edge_count (graph_in (opened_of self.old.state)) }
+        ensures free { IsExact via (path expr.now) → via ≢ TheFb → steps.new ≡ steps.old }
     {
         match &self.state {
-            Some(open) => ask(alloc, &open.graph, expr, steps),
+            Some(open) => ask(alloc, &mut self.boxes, open, via, &Query::Path(expr), steps),
             None => unreachable!(),
         }
     }
@@ -218,27 +224,5 @@ impl Engine {
             Some(open) => measure(alloc, &mut self.boxes, open, steps),
             None => unreachable!(),
         }
-    }
-}
-
-/// Asks the graph itself.
-fn ask<L: Ledger>(
-    alloc: Global,
-    graph: &Graph,
-    expr: &PathExpr,
-    steps: &mut Steps<L>,
-) -> Result<Answer, AskError>
-    ensures nodes { IfOk result (λ answer. AreAnswers (shape_of graph.now.graph) expr.now answer.nodes.members) }
-    ensures how { IfOk result (λ answer. answer.how ≡ InGraph) }
-    ensures no_index { result ≢ Err AskError.NoIndex }
-    ensures cost { steps.new ≡ steps.old + 1 + live_count graph.now.graph + edge_count graph.now.graph }
-{
-    let view = graph.view(steps);
-    match eval(alloc, &view, graph.labels(), expr) {
-        Ok(nodes) => Ok(Answer {
-            nodes,
-            how: How::Data,
-        }),
-        Err(Memory) => Err(AskError::Memory),
     }
 }

@@ -67,6 +67,7 @@ pub(crate) fn refresh_for<L: Ledger>(
     ensures computed { OnOk result (via ≡ Fb → IsFbComputed (map meaning boxes.new.items)) }
     ensures others { via ≢ Fb → map meaning boxes.new.items ≡ map meaning boxes.old.items }
     ensures err { OnErr result ((via ≡ Fb) × (has_kind (kinds_of (map meaning boxes.old.items)) Kind.Fb ≡ true)) }
+    ensures free { via ≢ Fb → steps.new ≡ steps.old }
     ensures cost { steps.new ≤ steps.old + 1 + live_count graph.now.graph + edge_count graph.now.graph }
 {
     match via {

@@ -1,0 +1,157 @@
+// Queries that are asked of an engine.
+ghost use Rattle.std.specs.Prelude.{◌≡◌, ◌≢◌, ◌≤◌, ◌+◌, ◌↔◌, ℕ, Bool, Err, true, false, map, length, All, IfOk, IsTrue};
+ghost use Rattle.px_spec.specs.Graphs.{IsGraph};
+ghost use Rattle.px_spec.specs.Shapes.{shape_of};
+ghost use Rattle.label_graph.specs.Views.{live_count, edge_count};
+ghost use Rattle.bisim_spec.specs.Partitions.{Agrees};
+ghost use Rattle.quotient.specs.Quotients.{view_of};
+ghost use Rattle.index_api.specs.declared.kinds.Via.TheVariants.{Data, Fb};
+ghost use Rattle.index_api.specs.declared.answers.How.TheVariants.{Data as InGraph};
+ghost use Rattle.index_api.specs.Meanings.{KeepsViews};
+ghost use Rattle.index_api.specs.Kept.{is_kept, kept_of};
+ghost use Rattle.branch_query.specs.Queries.{query_of, AreQueryAnswers};
+ghost use Rattle.index_eval.specs.Exactness.{FitsVia, IsExact};
+ghost use Rattle.extent_report.specs.Summaries.{LabelsHaveTexts};
+ghost use Rattle.pathindex_core.specs.Engines.{EachBecomes, IsKeptFor, opened};
+ghost use Rattle.pathindex_core.specs.QueryAnswers.{IsFoundBy, IsAnswered, IsUnkept};
+ghost use Rattle.pathindex_core.specs.Boxes.{IsFbComputed};
+
+use crate::errors::AskError;
+use crate::state::Open;
+use crate::views::{refresh_for, summary_of};
+use branch_query::Query;
+use data_validate::check;
+use index_api::{Answer, How, PathIndex, Via};
+use index_eval::{candidates, is_exact};
+use label_graph::Graph;
+use px_base::{Memory, Steps};
+use quotient::Summary;
+use std::alloc::Global;
+use std::sync::ledger::Ledger;
+
+/// Asks the graph itself.
+fn ask_graph<L: Ledger>(
+    alloc: Global,
+    graph: &Graph,
+    query: &Query<'_>,
+    steps: &mut Steps<L>,
+) -> Result<Answer, Memory>
+    ensures answers { IfOk result (λ answer. AreQueryAnswers (shape_of graph.now.graph) (query_of query.now) answer.nodes.members) }
+    ensures how { IfOk result (λ answer. answer.how ≡ InGraph) }
+    ensures cost { steps.new ≡ steps.old + 1 + live_count graph.now.graph + edge_count graph.now.graph }
+{
+    let view = graph.view(steps);
+    let nodes = query.answers(alloc, &view, graph.labels())?;
+    Ok(Answer {
+        nodes,
+        how: How::Data,
+    })
+}
+
+/// Asks an index by its view: the candidates are the answers, or are looked up in the graph.
+fn ask_view<L: Ledger>(
+    alloc: Global,
+    graph: &Graph,
+    summary: &Summary,
+    via: Via,
+    query: &Query<'_>,
+    steps: &mut Steps<L>,
+) -> Result<Answer, Memory>
+    requires fits { FitsVia via graph.now.graph (view_of summary.now) }
+    requires texts { LabelsHaveTexts graph.now.graph.seen summary.now.blocks }
+    ensures answers { IfOk result (λ answer. AreQueryAnswers (shape_of graph.now.graph) (query_of query.now) answer.nodes.members) }
+    ensures how { IfOk result (λ answer. (test : ℕ → ℕ → Bool) → Agrees (shape_of graph.now.graph) summary.now.blocks.block_of (λ u v. IsTrue (test u v)) → IsFoundBy graph.now.graph test via (query_of query.now) answer.how) }
+    ensures cost { IsExact via (query_of query.now) → steps.new ≡ steps.old }
+    ensures graph { IfOk result (λ _. IsGraph graph.now.graph) }
+{
+    let whole = is_exact(via, query);
+    let set = candidates(alloc, summary, graph.labels(), query, whole)?;
+    let count = set.count();
+    if whole {
+        return Ok(Answer {
+            nodes: set,
+            how: How::Exact(count),
+        });
+    }
+    let nodes = check(alloc, graph, query, &set, steps)?;
+    Ok(Answer {
+        nodes,
+        how: How::Checked(count),
+    })
+}
+
+/// Asks an index whose view is computed, where it is kept.
+fn ask_index<L: Ledger>(
+    alloc: Global,
+    boxes: &Vec<Box<dyn PathIndex>>,
+    state: &Open,
+    via: Via,
+    query: &Query<'_>,
+    steps: &mut Steps<L>,
+) -> Result<Answer, AskError>
+    requires kept { All (IsKeptFor (opened state.now)) (map meaning boxes.now.items) }
+    requires computed { via ≡ Fb → IsFbComputed (map meaning boxes.now.items) }
+    requires index { via ≢ Data }
+    ensures answered { IfOk result (λ answer. IsAnswered state.now.graph.graph (kept_of (map meaning boxes.now.items) state.now.k) via (query_of query.now) answer.how answer.nodes.members) }
+    ensures no_index { (result ≡ Err AskError.NoIndex) ↔ (is_kept (kept_of (map meaning boxes.now.items) state.now.k) via ≡ false) }
+    ensures cost { IsExact via (query_of query.now) → steps.new ≡ steps.old }
+{
+    match summary_of(boxes, via) {
+        Some(summary) => match ask_view(alloc, &state.graph, summary, via, query, steps) {
+            Ok(answer) => Ok(answer),
+            Err(Memory) => Err(AskError::Memory),
+        },
+        None => Err(AskError::NoIndex),
+    }
+}
+
+/// Asks an index, where it is kept. The view of the forward and backward index is first computed, where it isn't.
+fn ask_kept<L: Ledger>(
+    alloc: Global,
+    boxes: &mut Vec<Box<dyn PathIndex>>,
+    state: &Open,
+    via: Via,
+    query: &Query<'_>,
+    steps: &mut Steps<L>,
+) -> Result<Answer, AskError>
+    requires kept { All (IsKeptFor (opened state.now)) (map meaning boxes.old.items) }
+    requires index { via ≢ Data }
+    ensures keeps { EachBecomes KeepsViews (map meaning boxes.old.items) (map meaning boxes.new.items) }
+    ensures kept { All (IsKeptFor (opened state.now)) (map meaning boxes.new.items) }
+    ensures answered { IfOk result (λ answer. IsAnswered state.now.graph.graph (kept_of (map meaning boxes.old.items) state.now.k) via (query_of query.now) answer.how answer.nodes.members) }
+    ensures no_index { (result ≡ Err AskError.NoIndex) ↔ (is_kept (kept_of (map meaning boxes.old.items) state.now.k) via ≡ false) }
+    ensures cost { IsExact via (query_of query.now) → steps.new ≤ steps.old + 1 + live_count state.now.graph.graph + edge_count state.now.graph.graph }
+    ensures free { IsExact via (query_of query.now) → via ≢ Fb → steps.new ≡ steps.old }
+{
+    match refresh_for(boxes, via, &state.graph, steps) {
+        Ok(()) => ask_index(alloc, boxes, state, via, query, steps),
+        Err(Memory) => Err(AskError::Memory),
+    }
+}
+
+/// Asks the graph itself, or an index where it is kept.
+pub(crate) fn ask<L: Ledger>(
+    alloc: Global,
+    boxes: &mut Vec<Box<dyn PathIndex>>,
+    state: &Open,
+    via: Via,
+    query: &Query<'_>,
+    steps: &mut Steps<L>,
+) -> Result<Answer, AskError>
+    requires kept { All (IsKeptFor (opened state.now)) (map meaning boxes.old.items) }
+    ensures keeps { EachBecomes KeepsViews (map meaning boxes.old.items) (map meaning boxes.new.items) }
+    ensures kept { All (IsKeptFor (opened state.now)) (map meaning boxes.new.items) }
+    ensures answered { IfOk result (λ answer. IsAnswered state.now.graph.graph (kept_of (map meaning boxes.old.items) state.now.k) via (query_of query.now) answer.how answer.nodes.members) }
+    ensures no_index { (result ≡ Err AskError.NoIndex) ↔ IsUnkept (kept_of (map meaning boxes.old.items) state.now.k) via }
+    ensures graph { via ≡ Data → steps.new ≡ steps.old + 1 + live_count state.now.graph.graph + edge_count state.now.graph.graph }
+    ensures cost { IsExact via (query_of query.now) → steps.new ≤ steps.old + 1 + live_count state.now.graph.graph + edge_count state.now.graph.graph }
+    ensures free { IsExact via (query_of query.now) → via ≢ Fb → steps.new ≡ steps.old }
+{
+    match via {
+        Via::Data => match ask_graph(alloc, &state.graph, query, steps) {
+            Ok(answer) => Ok(answer),
+            Err(Memory) => Err(AskError::Memory),
+        },
+        _ => ask_kept(alloc, boxes, state, via, query, steps),
+    }
+}
