@@ -1,0 +1,7 @@
+//! The A(k)-index, kept while its graph changes.
+#![tactic(auto)]
+
+mod index;
+mod rebuilding;
+
+pub use index::AkIndex;

@@ -1,0 +1,99 @@
+// The engine over an A(k)-index, alone and beside an index that finds no memory.
+ghost use Rattle.std.specs.Prelude.{◌≡◌, ◌<◌, [], ◌∷◌, Some, None, IsSome, map, if◌then◌else◌};
+ghost use Rattle.bisim_spec.specs.declared.kind.Kind.TheVariants.{Fb};
+ghost use Rattle.pathindex_core.specs.Engines.{engine_seen, opened_of, IsSound};
+
+use ak_maintain::AkIndex;
+use graph_update::{Applied, Change};
+use index_api::{Kind, PathIndex, Via};
+use label_graph::{Graph, GraphView};
+use pathindex_core::{AskError, Engine, UpdateError};
+use px_base::{Limits, Memory, Refusal, Steps, Text};
+use quotient::Summary;
+use std::alloc::Global;
+use std::marker::Brand;
+use std::process::Abort;
+use std::sync::ledger::{Blank, Ledger};
+use std::test::Fail;
+
+/// A forward and backward index that is built without its view, and then never finds memory.
+#[derive(Drop)]
+struct Tired {
+    is_built: bool,
+    is_staged: bool,
+}
+
+impl PathIndex for Tired {
+    ghost meaning = { λ t. record { kind = Fb; views = if t.is_built then None ∷ [] else []; staged = if t.is_staged then Some [] else None } };
+
+    fn kind(&self) -> Kind {
+        Kind::Fb
+    }
+
+    fn build(&mut self, _view: &GraphView<'_>, _k: u32) -> Result<(), Memory> {
+        self.is_built = true;
+        self.is_staged = false;
+        Ok(())
+    }
+
+    fn prepare(&mut self, _graph: &Graph, _change: &Change) -> Result<(), Memory> {
+        Err(Memory)
+    }
+
+    fn commit(&mut self) {
+        self.is_built = false;
+        self.is_staged = false;
+    }
+
+    fn cancel(&mut self) {
+        self.is_staged = false;
+    }
+
+    fn refresh(&mut self, _view: &GraphView<'_>) -> Result<(), Memory> {
+        Err(Memory)
+    }
+
+    fn summary(&self, _level: u32) -> Option<&Summary> {
+        None
+    }
+}
+
+const FEW: Limits = Limits {
+    nodes: 2,
+    edges: 2,
+    labels: 2,
+    expr_bytes: 9,
+    expr_depth: 9,
+};
+
+// Adds a node with the label `a`.
+fn node(engine: &mut Engine, alloc: Global) -> Result<Result<Applied, UpdateError>, Fail>
+    requires open { IsSome (opened_of engine.old.state) }
+    requires sound { IsSound (engine_seen (map (λ b. meaning (b.vtable, b.value)) engine.old.boxes.items) engine.old.state) }
+    ensures open { IsSome (opened_of engine.new.state) }
+    ensures sound { IsSound (engine_seen (map (λ b. meaning (b.vtable, b.value)) engine.new.boxes.items) engine.new.state) }
+{
+    let label = Text::from_bytes(alloc, b"a")?;
+    Ok(engine.update(alloc, Change::Node(label)))
+}
+
+#[test]
+fn a_tired_box_leaves_all(rt: HostRuntime) -> Result<(), Fail> {
+    let alloc = rt.alloc();
+    let mut boxes: Vec<Box<dyn PathIndex>> = Vec::new(alloc);
+    boxes.push(Box::new(alloc, AkIndex::new(alloc)?)?)?;
+    boxes.push(Box::new(
+        alloc,
+        Tired {
+            is_built: false,
+            is_staged: false,
+        },
+    )?)?;
+    let mut engine = Engine::new(boxes);
+    engine.open(Graph::new(alloc)?, FEW, 2)?;
+    assert!(rt; node(&mut engine, alloc)? == Err(UpdateError::Memory));
+    assert_eq!(rt; engine.graph().created(), 0);
+    assert!(rt; engine.forget(Kind::Fb).is_ok());
+    assert!(rt; node(&mut engine, alloc)? == Ok(Applied::Added(0)));
+    Ok(())
+}
