@@ -3,25 +3,29 @@ use Rattle.std.proofs.Common.{◌≡◌, ℕ, zero, suc, ◌≤◌, Bool, List, 
 use Rattle.std.specs.Prelude.{codes, slice_get, slice_index}
 use Rattle.index_api.specs.declared.kinds.Via.{Via}
 use Rattle.index_api.specs.declared.kinds.Via.TheVariants.{Data, A, One, Fb}
+use Rattle.bisim_spec.specs.declared.kind.Kind.{Kind}
+use Rattle.bisim_spec.specs.declared.kind.Kind.TheVariants as kind
 use Rattle.std.proofs.lemmas.Fmt.{decimal_digit}
 use Rattle.px_spec.specs.Lines.{Line, cut}
 use Rattle.px_spec.specs.declared.refusal.Refusal.TheVariants.{InUse}
 use Rattle.px_spec.specs.ProgramLimits.{program_limits}
 use Rattle.px_base.specs.declared.lines.TheConstants.{LINE_BYTES}
 use Rattle.px_spec.specs.Graphs.{Graph, empty_graph}
-use Rattle.px_spec.specs.Changes.{node, link, unlink, drop as drop_node, with_node}
+use Rattle.px_spec.specs.Changes.{Change, node, link, unlink, drop as drop_node, with_node}
 use Rattle.px_spec.specs.Words.{node_word}
 use Rattle.path_query.specs.Labels.{IsPlainLabel, SpellsLabel}
-use Rattle.pathindex_run.specs.Texts.{reply, nodes_line, answers_text, bad_line, graph_line}
-use Rattle.script_read.specs.Commands.{Command, change, path, extents, sizes, AsksPath, IsSpelled, PassesLimit, NoCommand, SpellsNothing, SpellsSomething}
+use Rattle.pathindex_run.specs.Texts.{reply, bad_line, graph_line}
+use Rattle.script_read.specs.Commands.{Command, change, path, extents, sizes, forget, IsSpelled, PassesLimit, NoCommand, SpellsNothing, SpellsSomething}
 use Rattle.command_line.specs.Forms.{Settings, runs}
 use Rattle.graph_load.specs.Loads.{syntax, limit}
 use Rattle.px_base.specs.Files.{File}
-use Rattle.pathindex_run.specs.States.{State, state_of}
+use Rattle.pathindex_run.specs.States.{State, IsFirst}
 use Rattle.pathindex_run.specs.Headline.{RunsScript, RunsLoaded, RunsOutcome, IsProper, HasStatus, Completes}
 use Rattle.pathindex_run.specs.Told.{RanTold}
-use Rattle.pathindex_run.specs.Indexes.{IsKept, ShowsIndex, ShowsExtents, unkept, ShowsSize, all_indexes}
-use Rattle.pathindex_run.specs.Runs.{Progress, start, TakesLine, TakesLines, IsRun, PrintsFront, Obeys, command, changes}
+use Rattle.index_api.specs.Kept.{is_kept}
+use Rattle.extent_report.specs.Shown.{ShowsIndex, ShowsSize}
+use Rattle.pathindex_run.specs.Indexes.{ShowsExtents, unkept}
+use Rattle.pathindex_run.specs.Runs.{Progress, start, TakesLine, TakesLines, IsRun, PrintsFront, IsChanged, Obeys, command, changes, forgets, lacks}
 
 plain_a : IsPlainLabel (codes "a")
 plain_a = (refl, (λ e. omega (arith, ap (λ l. slice_index l 1) e)), (λ e. omega (arith, ap (λ l. slice_index l 0) e)), (λ e. omega (arith, ap (λ l. slice_index l 0) e)))
@@ -33,18 +37,19 @@ label_a = inl (plain_a, refl)
 plain : Settings
 plain = record { script = codes "s"; graph = None; k = 2 }
 
+-- a state in which the A(k)-family is kept, and no other index
+abbrev family_of : Graph → ℕ → State
+family_of g k = record { graph = g; kept = record { kinds = kind.A ∷ []; k = k; one = [] } }
+
 abbrev first_state : State
-first_state = state_of empty_graph 2
+first_state = family_of empty_graph 2
 
--- printed lines
-answers_none : answers_text [] ≡ codes "answers 0\n"
-answers_none = ap (λ d. codes "answers " ++ d ++ 10 ∷ []) (decimal_digit 0 (lit< tt))
+-- a run may begin there, where that index is handed in, and not where another is
+begins_there : IsFirst empty_graph (kind.A ∷ []) 2 first_state
+begins_there = record { graph = refl; kinds = refl; level = refl; one = λ h. absurd (true≢false (sym h)); none = λ _. refl }
 
-answers_two : answers_text (1 ∷ 3 ∷ []) ≡ codes "answers 2\nn1 n3\n"
-answers_two =
-    ap (λ d. codes "answers " ++ d ++ 10 ∷ nodes_line (1 ∷ 3 ∷ [])) (decimal_digit 2 (lit< tt))
-    ∙ ap (λ d. codes "answers 2\n" ++ (((110 ∷ d) ++ (32 ∷ node_word 3)) ++ 10 ∷ [])) (decimal_digit 1 (lit< tt))
-    ∙ ap (λ d. codes "answers 2\n" ++ ((codes "n1" ++ (32 ∷ 110 ∷ d)) ++ 10 ∷ [])) (decimal_digit 3 (lit< tt))
+not_there : IsFirst empty_graph (kind.One ∷ []) 2 first_state → ⊥
+not_there h = (let same = h.kinds in cc)
 
 -- nothing is run, and that is a run
 run_empty : IsRun program_limits first_state [] [] 0 (start first_state)
@@ -60,14 +65,21 @@ run_empty = record {
 }
 
 after_one : Progress
-after_one = record { state = state_of (with_node empty_graph (codes "a")) 2; refused = false; lines = 1; bytes = 7 }
+after_one = record { state = family_of (with_node empty_graph (codes "a")) 2; refused = false; lines = 1; bytes = 7 }
+
+one_more : IsChanged first_state (node (codes "a")) (with_node empty_graph (codes "a")) (family_of (with_node empty_graph (codes "a")) 2)
+one_more = record { graph = refl; kinds = refl; level = refl; same = λ e. absurd (true≢false (sym e)); one = λ h. absurd (true≢false (sym h)); none = λ _. refl }
+
+-- a change forgets no index
+kept_on : (c : Change) (g : Graph) → IsChanged first_state c g (record { graph = g; kept = record { kinds = []; k = 2; one = [] } }) → ⊥
+kept_on c g h = (let same = h.kinds in cc)
 
 takes_one : TakesLine program_limits (start first_state) (record { text = codes "node a"; end = 10 ∷ [] }) (codes "added " ++ node_word 0 ++ 10 ∷ []) after_one
 unfolding after_one
 takes_one = record {
   within = (lit≤ tt, lit≤ tt);
   refuses = false;
-  does = command (change (node (codes "a"))) (codes "a", refl, label_a) (λ o. omega (arith, ap (λ l. slice_index l 0) o.0.0)) _ _ _ (changes (node (codes "a")));
+  does = command (change (node (codes "a"))) (codes "a", refl, label_a) (λ o. omega (arith, ap (λ l. slice_index l 0) o.0.1.0)) _ _ _ (changes (node (codes "a")) _ one_more);
   refused = refl;
   lines = refl;
   bytes = refl;
@@ -86,10 +98,10 @@ no_label = (λ q. omega (arith, q), other)
     other (change (link u v)) h = omega (arith, ap length h.0)
     other (change (unlink u v)) h = omega (arith, ap length h.0)
     other (change (drop_node u)) h = omega (arith, ap length h.0)
-    other (path Data e) h = omega (arith, ap (λ l. slice_index l 0) h.0.0)
-    other (path via e) h = absurd h
+    other (path via e) h = omega (arith, ap (λ l. slice_index l 0) h.0.0)
     other (extents via) h = omega (arith, ap length h.0)
     other sizes h = omega (arith, ap (λ ws. slice_index (first ws) 0) h)
+    other (forget kind) h = omega (arith, ap length h)
 
 -- the second line is no command, so the third isn't taken
 run_bad : IsRun program_limits first_state (codes "node a\nnode\nnode b\n") ((codes "added " ++ node_word 0 ++ 10 ∷ []) ++ bad_line 2) 4 after_one
@@ -101,7 +113,7 @@ run_bad = record {
   ending = bad_line 2;
   script_is = refl;
   takes = (codes "added " ++ node_word 0 ++ 10 ∷ [], [], after_one, takes_one, (refl, refl), sym (append-nil _));
-  ends = (λ _. (no_label, λ o. omega (arith, ap (λ l. slice_index l 0) o.0.0)), refl, refl);
+  ends = (λ _. (no_label, λ o. omega (arith, ap (λ l. slice_index l 0) o.0.1.0)), refl, refl);
   output_is = refl;
 }
 
@@ -164,12 +176,19 @@ not_proper : ¬ IsProper (codes "node\n")
 not_proper w = elim (w.lines 0 (record { text = codes "node"; end = 10 ∷ [] }) refl).1 [
   | inl q ↦ no_label.0 q
   | inr (inl c) ↦ no_label.1 c.0 c.1
-  | inr (inr o) ↦ omega (arith, ap (λ l. slice_index l 0) o.0.0)
+  | inr (inr o) ↦ omega (arith, ap (λ l. slice_index l 0) o.0.1.0)
 ]
 
 -- a change that is refused prints why, and leaves the state
 obeys_refused : Obeys program_limits first_state (change (unlink 0 1)) (codes "refused no-node\n") true first_state
-obeys_refused = changes (unlink 0 1)
+obeys_refused = changes (unlink 0 1) first_state refl
+
+-- what is forgotten is kept no longer, and what isn't kept can't be forgotten
+forgets_a : Obeys program_limits first_state (forget kind.A) (codes "ok\n") false (record { graph = empty_graph; kept = record { kinds = []; k = 2; one = [] } })
+forgets_a = forgets kind.A refl
+
+lacks_one : Obeys program_limits first_state (forget kind.One) (codes "refused no-index\n") true first_state
+lacks_one = lacks kind.One refl
 
 -- a proper script that is there doesn't end at a bad line where no call fails
 not_bad : ¬ Completes (runs plain) (Some (record { name = codes "s"; bytes = codes "node a\n" } ∷ [])) 0 0 0 0 4
@@ -198,65 +217,61 @@ refused_line_is : graph_line 3 (codes "syntax") ≡ codes "graph 3 syntax\n"
 refused_line_is = ap (λ d. codes "graph " ++ (d ++ codes " syntax\n")) (decimal_digit 3 (lit< tt))
 
 -- a graph file that isn't there is no empty one
-not_empty_graph : (s : Settings) (old : Option (List ℕ)) (Last : State → Type 0) → ¬ RunsLoaded s [] None old old 0 Last
-not_empty_graph s old Last r = elim r.1 [ inl e ↦ omega (arith, e) | inr e ↦ omega (arith, e) ]
+not_empty_graph : (s : Settings) (kinds : List Kind) (old : Option (List ℕ)) (Last : State → Type 0) → ¬ RunsLoaded s kinds [] None old old 0 Last
+not_empty_graph s kinds old Last r = elim r.1 [ inl e ↦ omega (arith, e) | inr e ↦ omega (arith, e) ]
 
--- a level above the highest one that is kept is refused, and so is an index that isn't built
-level_refused : ShowsExtents (state_of empty_graph 2) (A 3) (codes "refused no-index\n") true
-level_refused = unkept (A 3) (λ h. omega (arith, h))
+-- a level above the highest one that is kept is refused, and so is an index of a kind that isn't kept
+level_refused : ShowsExtents first_state (A 3) (codes "refused no-index\n") true
+level_refused = unkept (A 3) refl
 
-one_refused : ShowsExtents (state_of empty_graph 8) One (codes "refused no-index\n") true
-one_refused = unkept One (λ h. h)
+one_refused : ShowsExtents (family_of empty_graph 8) One (codes "refused no-index\n") true
+one_refused = unkept One refl
 
 -- no level is refused that is kept
-level_kept : (k : ℕ) (via : Via) (text : List ℕ) → ShowsExtents (state_of empty_graph k) via text true → ¬ IsKept (state_of empty_graph k) via
-level_kept k _ _ (unkept via h) = h
+level_kept : (s : State) (via : Via) (text : List ℕ) → ShowsExtents s via text true → is_kept s.kept via ≡ false
+level_kept s _ _ (unkept via h) = h
 
 -- in the empty graph no two numbers are bisimilar
-shows_none : ShowsIndex (state_of empty_graph 2) (A 0) (λ u v. false)
-shows_none = record { kept = lit≤ tt; decides = λ u v. ((λ e. absurd (true≢false (sym e))), (λ h. (let none : None ≡ Some h.0 = h.1 in cc))) }
+shows_none : ShowsIndex empty_graph first_state.kept (A 0) (λ u v. false)
+shows_none = record { is_kept = refl; decides = λ u v. ((λ e. absurd (true≢false (sym e))), (λ h. (let none : None ≡ Some h.0 = h.1 in cc))) }
 
-not_all : ¬ ShowsIndex (state_of empty_graph 2) (A 0) (λ u v. true)
+not_all : ¬ ShowsIndex empty_graph first_state.kept (A 0) (λ u v. true)
 not_all h = (let alike = (h.decides 0 0).0 refl in let none : None ≡ Some alike.0 = alike.1 in cc)
 
-no_level : (r : ℕ → ℕ → Bool) → ¬ ShowsIndex (state_of empty_graph 2) (A 3) r
-no_level r h = (let low = h.kept in omega (arith, low))
+no_level : (r : ℕ → ℕ → Bool) → ¬ ShowsIndex empty_graph first_state.kept (A 3) r
+no_level r h = true≢false (sym h.is_kept)
 
-no_graph_itself : (s : State) (r : ℕ → ℕ → Bool) → ¬ ShowsIndex s Data r
-no_graph_itself s r h = h.kept
+no_graph_itself : (s : State) (r : ℕ → ℕ → Bool) → ¬ ShowsIndex s.graph s.kept Data r
+no_graph_itself s r h = true≢false (sym h.is_kept)
 
--- the order of the lines of sizes; an index that isn't kept has none
-order_is : all_indexes 2 ≡ A 0 ∷ A 1 ∷ A 2 ∷ One ∷ Fb ∷ []
-order_is = refl
-
-no_line_of_one : (s : State) (text : List ℕ) → ShowsSize s One text → text ≡ []
-no_line_of_one s text (inl h) = absurd h.shows.kept
-no_line_of_one s text (inr h) = h.1
+no_line_of_one : (g : Graph) (text : List ℕ) → ShowsSize g first_state.kept One text → text ≡ []
+no_line_of_one g text (inl h) = (let kept = h.shows.is_kept in absurd (true≢false (sym kept)))
+no_line_of_one g text (inr h) = h.1
 
 -- a graph file
 with_graph : Settings
 with_graph = record { script = codes "s"; graph = Some (codes "g"); k = 2 }
 
 -- where its first line is refused, the run doesn't end as if there were no such line, and says which line it was
-not_done : (files : List File) (old new : Option (List ℕ)) (Last : State → Type 0) → ¬ RunsOutcome with_graph files (syntax 1) old new 0 Last
+not_done : (kinds : List Kind) (files : List File) (old new : Option (List ℕ)) (Last : State → Type 0) → ¬ RunsOutcome with_graph kinds files (syntax 1) old new 0 Last
 unfolding with_graph
-not_done files old new Last (inl e) = omega (arith, e.0)
-not_done files old new Last (inr (inl e)) = omega (arith, e.0)
-not_done files old new Last (inr (inr e)) = omega (arith, e.0)
+not_done kinds files old new Last (inl e) = omega (arith, e.0)
+not_done kinds files old new Last (inr (inl e)) = omega (arith, e.0)
+not_done kinds files old new Last (inr (inr e)) = omega (arith, e.0)
 
-says_which : (files : List File) (Last : State → Type 0) → RunsOutcome with_graph files (syntax 1) (Some []) (Some (graph_line 1 (codes "syntax"))) 3 Last
+says_which : (kinds : List Kind) (files : List File) (Last : State → Type 0) → RunsOutcome with_graph kinds files (syntax 1) (Some []) (Some (graph_line 1 (codes "syntax"))) 3 Last
 unfolding with_graph
-says_which files Last = inl (refl, refl)
+says_which kinds files Last = inl (refl, refl)
 
 -- a line past a limit isn't said to be misspelled
-not_syntax : (files : List File) (Last : State → Type 0) → ¬ RunsOutcome with_graph files (limit 1) (Some []) (Some (codes "graph 1 syntax\n")) 3 Last
+not_syntax : (kinds : List Kind) (files : List File) (Last : State → Type 0) → ¬ RunsOutcome with_graph kinds files (limit 1) (Some []) (Some (codes "graph 1 syntax\n")) 3 Last
 unfolding with_graph
-not_syntax files Last (inl e) = (let same = limit_is ∙ sym e.1 in omega (arith, ap (λ l. slice_index l 8) same))
+not_syntax kinds files Last (inl e) = (let same = limit_is ∙ sym e.1 in omega (arith, ap (λ l. slice_index l 8) same))
   where
     limit_is : codes "graph 1 limit\n" ≡ graph_line 1 (codes "limit")
     limit_is = sym (ap (λ d. codes "graph " ++ (d ++ codes " limit\n")) (decimal_digit 1 (lit< tt)))
-not_syntax files Last (inr (inl e)) = omega (arith, e.0)
-not_syntax files Last (inr (inr e)) = omega (arith, e.0)
+not_syntax kinds files Last (inr (inl e)) = omega (arith, e.0)
+not_syntax kinds files Last (inr (inr e)) = omega (arith, e.0)
 
 -- no run without a graph file ends with the status of a refused one
 no_graph : (files : Option (List File)) (h h2 k k2 : ℕ) → ¬ HasStatus (runs plain) files h h2 k k2 3

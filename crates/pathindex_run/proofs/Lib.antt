@@ -1,8 +1,8 @@
+pub mod EngineLemmas
+pub mod EngineCalls
 pub mod TakenLemmas
 pub mod FrontLemmas
 pub mod ReachedLemmas
 pub mod RunLemmas
-pub mod NodeTextLemmas
 pub mod Examples
 pub mod CompleteLemmas
-pub mod LevelLemmas

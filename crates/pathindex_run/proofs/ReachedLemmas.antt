@@ -9,7 +9,7 @@ use Rattle.px_base.specs.Files.{AppendsFront}
 use Rattle.px_base.specs.Reading.{IsFirst, IsOver}
 use Rattle.pathindex_run.specs.Texts.{bad_line}
 use Rattle.pathindex_run.specs.States.{State}
-use Rattle.pathindex_run.specs.Runs.{Progress, TakesLine, TakesLines, start, end_status, RunsFront}
+use Rattle.pathindex_run.specs.Runs.{Progress, TakesLine, TakesLines, start, end_text, end_status, RunsFront}
 use Rattle.pathindex_run.specs.Told.{RanTold, FrontTold}
 use Rattle.pathindex_run.specs.RunSteps.{FirstIsBad, Writes}
 use Rattle.pathindex_run.proofs.FrontLemmas.{front_of, front_of_taken}
@@ -84,24 +84,25 @@ reached-written {old = old} {new = new} {out = out} r newer left w = record {
   printed_is = r.printed_is ∙ ap (λ x. r.front ++ x) w.2 ∙ sym (append_assoc r.front w.0 left);
 }
 
--- The script is over, and all that was gathered is written.
+-- The script is over, and all that was gathered is written, what the end prints too.
 pub ran-over : {limits : Limits} {first : State} (a b : Option (List ℕ)) {old new : Option (List ℕ)} {out : List ℕ} {p : Progress} → Reached limits first a b old new out p
-    → IsOver b → (newer : Option (List ℕ)) → Appends new newer out → (Last : State → Type 0) → Last p.state → RanTold limits first a old newer (end_status p) Last
-ran-over None b r over newer w Last h = tt
-ran-over (Some x) None r over newer w Last h = absurd r.told
-ran-over (Some x) (Some y) {old = old} {new = new} {out = out} {p = p} r over newer w Last h = record {
-  output = r.front ++ out;
+    → IsOver b → (newer : Option (List ℕ)) (gathered : List ℕ) → gathered ≡ out ++ end_text p → Appends new newer gathered
+    → (Last : State → Type 0) → Last p.state → RanTold limits first a old newer (end_status p) Last
+ran-over None b r over newer gathered e w Last h = tt
+ran-over (Some x) None r over newer gathered e w Last h = absurd r.told
+ran-over (Some x) (Some y) {old = old} {new = new} {out = out} {p = p} r over newer gathered e w Last h = record {
+  output = r.front ++ gathered;
   last = p;
-  written = Appends-trans old new newer r.front out r.written w;
+  written = Appends-trans old new newer r.front gathered r.written w;
   is_run = record {
     before = r.lines;
     left = [];
     printed = r.printed;
-    ending = [];
+    ending = end_text p;
     script_is = r.told ∙ ap (λ t. r.lines ++ cut t) over;
     takes = r.takes;
     ends = (refl, refl);
-    output_is = sym r.printed_is ∙ sym (append-nil r.printed);
+    output_is = ap (λ g. r.front ++ g) e ∙ sym (append_assoc r.front out (end_text p)) ∙ ap (λ x. x ++ end_text p) (sym r.printed_is);
   };
   ends_in = h;
 }
@@ -169,6 +170,21 @@ front-bad {limits} {first} (Some x) (Some y) {old = old} {new = new} {out = out}
       (front_of (start first) r.lines r.printed p r.takes (bad.0 ∷ bad.1) (bad_line (p.lines + 1))
       (λ f m n. inr (m, inr (4, (bad.3, sym n, refl)))) (r.front ++ w.front) w.rest
       (ap (λ z. z ++ bad_line (p.lines + 1)) r.printed_is ∙ append_assoc r.front out (bad_line (p.lines + 1)) ∙ ap (λ g. r.front ++ g) (sym e ∙ w.gathered_is)
+      ∙ sym (append_assoc r.front w.front w.rest))),
+)
+
+-- the same, where what the end prints was gathered too
+pub front-over : {limits : Limits} {first : State} (a b : Option (List ℕ)) {old new : Option (List ℕ)} {out : List ℕ} {p : Progress} → Reached limits first a b old new out p
+    → IsOver b → (newer : Option (List ℕ)) (gathered : List ℕ) → gathered ≡ out ++ end_text p → PartWritten new newer gathered → FrontTold limits first a old newer
+front-over None b r over newer gathered e w = tt
+front-over (Some x) None r over newer gathered e w = absurd r.told
+front-over {limits} {first} (Some x) (Some y) {old = old} {new = new} {out = out} {p = p} r over newer gathered e w = (
+  r.front ++ w.front,
+  Appends-trans old new newer r.front w.front r.written w.written,
+  subst (λ ls. RunsFront limits (start first) ls (r.front ++ w.front)) (sym (r.told ∙ ap (λ t. r.lines ++ cut t) over))
+      (front_of (start first) r.lines r.printed p r.takes [] (end_text p)
+      (λ f m n. inr (m, inr (end_status p, (sym n, refl)))) (r.front ++ w.front) w.rest
+      (ap (λ z. z ++ end_text p) r.printed_is ∙ append_assoc r.front out (end_text p) ∙ ap (λ g. r.front ++ g) (sym e ∙ w.gathered_is)
       ∙ sym (append_assoc r.front w.front w.rest))),
 )
 

@@ -11,45 +11,36 @@ use Rattle.command_line.specs.Forms.{Settings, Form, runs, neither}
 use Rattle.pathindex_run.specs.declared.script.Ending.{Ending}
 use Rattle.pathindex_run.specs.declared.script.Ending.TheVariants.{Done, Refused, Bad}
 use Rattle.pathindex_run.specs.Endings.{status_at}
-use Rattle.pathindex_run.specs.States.{State, state_of}
+use Rattle.bisim_spec.specs.declared.kind.Kind.{Kind}
+use Rattle.pathindex_run.specs.States.{State, IsFirst}
 use Rattle.pathindex_run.specs.Told.{RanTold, FrontTold}
 use Rattle.pathindex_run.specs.ToldFiles.{BeginsTold, ScriptTold}
 use Rattle.pathindex_run.specs.Headline.{RunsScript, RunsOutcome, RunsLoaded, RunsFiles, Meets, BeginsWith, Lacks, LacksDueFile}
-use Rattle.pathindex_run.proofs.ReachedLemmas.{reached-start, front-part, nothing_written}
 
-high : (status : ℕ) → (status ≡ 5) ⊎ (status ≡ 7) → 5 ≤ status
-high status (inl e) = omega (arith, e)
-high status (inr e) = omega (arith, e)
+stopped_loaded : (s : Settings) (kinds : List Kind) (files : List File) (text old : Option (List ℕ)) (status : ℕ) (Last : State → Type 0) → (status ≡ 5) ⊎ (status ≡ 7) → RunsLoaded s kinds files text old old status Last
+stopped_loaded s kinds files None old status Last e = (Keeps-refl old, e)
+stopped_loaded s kinds files (Some t) old status Last e = inr (Keeps-refl old, e)
 
--- nothing was written of a script, since a call failed before it was open or memory ran out
-stopped_script : (first : State) (text old : Option (List ℕ)) (status : ℕ) (Last : State → Type 0) → (status ≡ 5) ⊎ (status ≡ 7) → RunsScript first text old old status Last
-stopped_script first None old status Last e = (Keeps-refl old, e)
-stopped_script first (Some s) old status Last e = inr (high status e, front-part _ _ (reached-start program_limits first (Some s) old) old (nothing_written old _))
-
-stopped_loaded : (s : Settings) (files : List File) (text old : Option (List ℕ)) (status : ℕ) (Last : State → Type 0) → (status ≡ 5) ⊎ (status ≡ 7) → RunsLoaded s files text old old status Last
-stopped_loaded s files None old status Last e = (Keeps-refl old, e)
-stopped_loaded s files (Some t) old status Last e = inr (Keeps-refl old, e)
-
-stopped_files : (s : Settings) (name : Option (List ℕ)) (files : List File) (old : Option (List ℕ)) (status : ℕ) (Last : State → Type 0) → (status ≡ 5) ⊎ (status ≡ 7) → RunsFiles s name files old old status Last
-stopped_files s None files old status Last e = stopped_script _ (content_of files s.script) old status Last e
-stopped_files s (Some name) files old status Last e = stopped_loaded s files (content_of files name) old status Last e
+stopped_files : (s : Settings) (kinds : List Kind) (name : Option (List ℕ)) (files : List File) (old : Option (List ℕ)) (status : ℕ) (Last : State → Type 0) → (status ≡ 5) ⊎ (status ≡ 7) → RunsFiles s kinds name files old old status Last
+stopped_files s kinds None files old status Last e = inr (Keeps-refl old, e)
+stopped_files s kinds (Some name) files old status Last e = stopped_loaded s kinds files (content_of files name) old status Last e
 
 -- nothing was written, since a call failed before anything was, or memory ran out
-pub stopped : (s : Settings) (files : Option (List File)) (old : Option (List ℕ)) (status : ℕ) (Last : State → Type 0) → (status ≡ 5) ⊎ (status ≡ 7) → Meets (runs s) files old old status Last
-stopped s None old status Last e = tt
-stopped s (Some fs) old status Last e = stopped_files s s.graph fs old status Last e
+pub stopped : (s : Settings) (kinds : List Kind) (files : Option (List File)) (old : Option (List ℕ)) (status : ℕ) (Last : State → Type 0) → (status ≡ 5) ⊎ (status ≡ 7) → Meets (runs s) kinds files old old status Last
+stopped s kinds None old status Last e = tt
+stopped s kinds (Some fs) old status Last e = stopped_files s kinds s.graph fs old status Last e
 
 -- nothing was written, since there was no memory for the words
-pub unread : (form : Form) (files : Option (List File)) (old : Option (List ℕ)) (Last : State → Type 0) → Meets form files old old 7 Last
-unread neither files old Last = inr (inr (refl, Keeps-refl old))
-unread (runs s) files old Last = stopped s files old 7 Last (inr refl)
+pub unread : (form : Form) (kinds : List Kind) (files : Option (List File)) (old : Option (List ℕ)) (Last : State → Type 0) → Meets form kinds files old old 7 Last
+unread neither kinds files old Last = inr (inr (refl, Keeps-refl old))
+unread (runs s) kinds files old Last = stopped s kinds files old 7 Last (inr refl)
 
 -- the script runs from the graph with which it begins
-script_files : (s : Settings) (name : Option (List ℕ)) (files : List File) (g : Graph) (old new : Option (List ℕ)) (status : ℕ) (Last : State → Type 0) → BeginsWith name files g
-    → RunsScript (state_of g s.k) (content_of files s.script) old new status Last → RunsFiles s name files old new status Last
-script_files s None files g old new status Last b r = subst (λ h. RunsScript (state_of h s.k) (content_of files s.script) old new status Last) b r
-script_files s (Some name) files g old new status Last b r =
-    subst (λ t. RunsLoaded s files t old new status Last) (sym b.1) (inl (loaded g, b.2, r))
+script_files : (s : Settings) (kinds : List Kind) (name : Option (List ℕ)) (files : List File) (first : State) (old new : Option (List ℕ)) (status : ℕ) (Last : State → Type 0)
+    → BeginsWith name files first.graph → IsFirst first.graph kinds s.k first → RunsScript first (content_of files s.script) old new status Last → RunsFiles s kinds name files old new status Last
+script_files s kinds None files first old new status Last b i r = inl (first, subst (λ g. IsFirst g kinds s.k first) b i, r)
+script_files s kinds (Some name) files first old new status Last b i r =
+    subst (λ t. RunsLoaded s kinds files t old new status Last) (sym b.1) (inl (loaded first.graph, b.2, inl (first, i, r)))
 
 ran_text : (first : State) (text old new : Option (List ℕ)) (status : ℕ) (Last : State → Type 0) → IsSome text → status ≤ 4 → RanTold program_limits first text old new status Last
     → RunsScript first text old new status Last
@@ -81,10 +72,11 @@ told_part first name (Some fs) left old new status Last f l r =
     subst (λ t. RunsScript first t old new status Last) f.1 (part_text first left old new status Last f.0 l r)
 
 -- what is run from the graph with which the run begins
-pub script_meets : (s : Settings) (files : Option (List File)) (g : Graph) (old new : Option (List ℕ)) (status : ℕ) (Last : State → Type 0) → BeginsTold s.graph files g
-    → ScriptTold (state_of g s.k) files s.script old new status Last → Meets (runs s) files old new status Last
-script_meets s None g old new status Last b r = tt
-script_meets s (Some fs) g old new status Last b r = script_files s s.graph fs g old new status Last b r
+pub script_meets : (s : Settings) (kinds : List Kind) (files : Option (List File)) (first : State) (old new : Option (List ℕ)) (status : ℕ) (Last : State → Type 0)
+    → BeginsTold s.graph files first.graph → IsFirst first.graph kinds s.k first
+    → ScriptTold first files s.script old new status Last → Meets (runs s) kinds files old new status Last
+script_meets s kinds None first old new status Last b i r = tt
+script_meets s kinds (Some fs) first old new status Last b i r = script_files s kinds s.graph fs first old new status Last b i r
 
 -- a script that isn't there
 lacks_script : (s : Settings) (files : List File) (g : Graph) → BeginsWith s.graph files g → content_of files s.script ≡ None → LacksDueFile (runs s) (Some files)
@@ -103,16 +95,16 @@ graph_missing s name None e l = tt
 graph_missing s name (Some fs) e l = inl (lacks_graph name s.graph fs e l)
 
 -- a line of the graph file was refused
-refused_files : (s : Settings) (name : List ℕ) (files : List File) (o : Outcome) (old new : Option (List ℕ)) (status : ℕ) (Last : State → Type 0)
-    → (text : List ℕ) × (content_of files name ≡ Some text) × Loads program_limits text o → RunsOutcome s files o old new status Last
-    → RunsFiles s (Some name) files old new status Last
-refused_files s name files o old new status Last l f = subst (λ t. RunsLoaded s files t old new status Last) (sym l.1) (inl (o, l.2, f))
+refused_files : (s : Settings) (kinds : List Kind) (name : List ℕ) (files : List File) (o : Outcome) (old new : Option (List ℕ)) (status : ℕ) (Last : State → Type 0)
+    → (text : List ℕ) × (content_of files name ≡ Some text) × Loads program_limits text o → RunsOutcome s kinds files o old new status Last
+    → RunsFiles s kinds (Some name) files old new status Last
+refused_files s kinds name files o old new status Last l f = subst (λ t. RunsLoaded s kinds files t old new status Last) (sym l.1) (inl (o, l.2, f))
 
-pub refused_meets : (s : Settings) (name : List ℕ) (files : Option (List File)) (o : Outcome) (old new : Option (List ℕ)) (status : ℕ) (Last : State → Type 0) → s.graph ≡ Some name
-    → LoadsTold program_limits files name o → ((fs : List File) → RunsOutcome s fs o old new status Last) → Meets (runs s) files old new status Last
-refused_meets s name None o old new status Last e l f = tt
-refused_meets s name (Some fs) o old new status Last e l f =
-    subst (λ n. RunsFiles s n fs old new status Last) (sym e) (refused_files s name fs o old new status Last l (f fs))
+pub refused_meets : (s : Settings) (kinds : List Kind) (name : List ℕ) (files : Option (List File)) (o : Outcome) (old new : Option (List ℕ)) (status : ℕ) (Last : State → Type 0) → s.graph ≡ Some name
+    → LoadsTold program_limits files name o → ((fs : List File) → RunsOutcome s kinds fs o old new status Last) → Meets (runs s) kinds files old new status Last
+refused_meets s kinds name None o old new status Last e l f = tt
+refused_meets s kinds name (Some fs) o old new status Last e l f =
+    subst (λ n. RunsFiles s kinds n fs old new status Last) (sym e) (refused_files s kinds name fs o old new status Last l (f fs))
 
 -- the graph of the file that is named is the one with which the run begins
 begins_with : (name : List ℕ) (graph : Option (List ℕ)) (files : List File) (g : Graph) → graph ≡ Some name

@@ -11,7 +11,8 @@ use Rattle.graph_load.specs.Loads.{Outcome, loaded, syntax, limit, Loads}
 use Rattle.script_read.specs.Commands.{SpellsSomething}
 use Rattle.command_line.specs.Forms.{Settings, Form, runs, neither}
 use Rattle.pathindex_run.specs.Texts.{usage_line, graph_line}
-use Rattle.pathindex_run.specs.States.{State, state_of}
+use Rattle.bisim_spec.specs.declared.kind.Kind.{Kind}
+use Rattle.pathindex_run.specs.States.{State, IsFirst}
 use Rattle.pathindex_run.specs.Told.{RanTold, FrontTold}
 
 -- nothing is written, since a file isn't there or wasn't read to its end, or memory ran out
@@ -32,30 +33,36 @@ RunsScript first (Some text) old new status Last =
     ((status ≤ 4) × RanTold program_limits first (Some text) old new status Last)
     ⊎ ((5 ≤ status) × FrontTold program_limits first (Some text) old new)
 
+-- A run from this graph on, with indexes of these kinds that are built of it, or nothing, where memory ran out or the script couldn't be
+-- read.
+abbrev pub RunsFrom : Settings → List Kind → Graph → Option (List ℕ) → Option (List ℕ) → Option (List ℕ) → ℕ → (State → Type 0) → Type 0
+RunsFrom s kinds g text old new status Last =
+    ((first : State) × IsFirst g kinds s.k first × RunsScript first text old new status Last) ⊎ StopsAtOnce old new status
+
 -- what follows, by what the graph file loads to
-abbrev pub RunsOutcome : Settings → List File → Outcome → Option (List ℕ) → Option (List ℕ) → ℕ → (State → Type 0) → Type 0
-RunsOutcome s files (loaded g) old new status Last = RunsScript (state_of g s.k) (content_of files s.script) old new status Last
-RunsOutcome s files (syntax l) old new status Last = ShowsLine (graph_line l (codes "syntax")) 3 old new status
-RunsOutcome s files (limit l) old new status Last = ShowsLine (graph_line l (codes "limit")) 3 old new status
+abbrev pub RunsOutcome : Settings → List Kind → List File → Outcome → Option (List ℕ) → Option (List ℕ) → ℕ → (State → Type 0) → Type 0
+RunsOutcome s kinds files (loaded g) old new status Last = RunsFrom s kinds g (content_of files s.script) old new status Last
+RunsOutcome s kinds files (syntax l) old new status Last = ShowsLine (graph_line l (codes "syntax")) 3 old new status
+RunsOutcome s kinds files (limit l) old new status Last = ShowsLine (graph_line l (codes "limit")) 3 old new status
 
 -- `text` is what the graph file holds, if it is there: it is loaded first
-abbrev pub RunsLoaded : Settings → List File → Option (List ℕ) → Option (List ℕ) → Option (List ℕ) → ℕ → (State → Type 0) → Type 0
-RunsLoaded s files None old new status Last = StopsAtOnce old new status
-RunsLoaded s files (Some text) old new status Last =
-    ((o : Outcome) × Loads program_limits text o × RunsOutcome s files o old new status Last)
+abbrev pub RunsLoaded : Settings → List Kind → List File → Option (List ℕ) → Option (List ℕ) → Option (List ℕ) → ℕ → (State → Type 0) → Type 0
+RunsLoaded s kinds files None old new status Last = StopsAtOnce old new status
+RunsLoaded s kinds files (Some text) old new status Last =
+    ((o : Outcome) × Loads program_limits text o × RunsOutcome s kinds files o old new status Last)
     ⊎ StopsAtOnce old new status
 
 -- the run begins with the empty graph, or with that of the file that is named
-abbrev pub RunsFiles : Settings → Option (List ℕ) → List File → Option (List ℕ) → Option (List ℕ) → ℕ → (State → Type 0) → Type 0
-RunsFiles s None files old new status Last = RunsScript (state_of empty_graph s.k) (content_of files s.script) old new status Last
-RunsFiles s (Some name) files old new status Last = RunsLoaded s files (content_of files name) old new status Last
+abbrev pub RunsFiles : Settings → List Kind → Option (List ℕ) → List File → Option (List ℕ) → Option (List ℕ) → ℕ → (State → Type 0) → Type 0
+RunsFiles s kinds None files old new status Last = RunsFrom s kinds empty_graph (content_of files s.script) old new status Last
+RunsFiles s kinds (Some name) files old new status Last = RunsLoaded s kinds files (content_of files name) old new status Last
 
--- What is written, from the bytes before to the bytes after, where the shelf tells its files, and the last state. Words of no
--- form give the usage line.
-abbrev pub Meets : Form → Option (List File) → Option (List ℕ) → Option (List ℕ) → ℕ → (State → Type 0) → Type 0
-Meets neither files old new status Last = ShowsLine usage_line 2 old new status
-Meets (runs s) None old new status Last = ⊤
-Meets (runs s) (Some files) old new status Last = RunsFiles s s.graph files old new status Last
+-- What is written, from the bytes before to the bytes after, where the shelf tells its files, and the last state. `kinds` are those
+-- of the indexes that are handed in. Words of no form give the usage line.
+abbrev pub Meets : Form → List Kind → Option (List File) → Option (List ℕ) → Option (List ℕ) → ℕ → (State → Type 0) → Type 0
+Meets neither kinds files old new status Last = ShowsLine usage_line 2 old new status
+Meets (runs s) kinds None old new status Last = ⊤
+Meets (runs s) kinds (Some files) old new status Last = RunsFiles s kinds s.graph files old new status Last
 
 -- the graph with which the run begins
 abbrev pub BeginsWith : Option (List ℕ) → List File → Graph → Type 0

@@ -1,11 +1,9 @@
 pub mod Texts
 pub mod States
+pub mod EngineStates
 pub mod Indexes
 pub mod Runs
-pub mod Kept
 pub mod RunSteps
-pub mod Families
-pub mod NodeTexts
 pub mod Endings
 pub mod Told
 pub mod Headline

@@ -1,39 +1,58 @@
 -- A run of a script: what it prints, its status, and its last state.
-use Rattle.std.specs.Prelude.{ℕ, ◌+◌, ◌≡◌, ◌≤◌, ◌⊎◌, Bool, true, false, ◌||◌, List, [], ◌∷◌, ◌++◌, length, if◌then◌else◌, Result, Ok, Err, is_err}
+use Rattle.std.specs.Prelude.{ℕ, ◌+◌, ◌≡◌, ◌≤◌, ◌⊎◌, Bool, true, false, ◌||◌, List, [], ◌∷◌, ◌++◌, length, if◌then◌else◌, Option, Result, Ok, Err, is_err, IsTrue}
 use Rattle.px_base.specs.declared.lines.TheConstants.{LINE_BYTES, SCRIPT_BYTES}
 use Rattle.px_spec.specs.declared.limits.Limits.{Limits}
 use Rattle.px_spec.specs.declared.refusal.Refusal.{Refusal}
-use Rattle.px_spec.specs.declared.refusal.Refusal.TheVariants.{Limit}
+use Rattle.px_spec.specs.declared.refusal.Refusal.TheVariants.{Limit, NoIndex}
 use Rattle.px_spec.specs.Lines.{Line, cut}
 use Rattle.px_spec.specs.Graphs.{Graph}
 use Rattle.px_spec.specs.Changes.{Change, apply}
 use Rattle.px_spec.specs.Shapes.{shape_of}
 use Rattle.index_api.specs.declared.kinds.Via.{Via}
-use Rattle.index_api.specs.declared.kinds.Via.TheVariants.{Data}
+use Rattle.bisim_spec.specs.declared.kind.Kind.{Kind}
+use Rattle.bisim_spec.specs.declared.kind.Kind.TheVariants.{One}
+use Rattle.bisim_spec.specs.Bisimilarity.{Bisim}
+use Rattle.bisim_spec.specs.Partitions.{Agrees}
+use Rattle.bisim_spec.specs.Stability.{Stable, Minimal}
+use Rattle.bisim_spec.specs.Reach.{Acyclic}
+use Rattle.graph_update.specs.NewChanges.{is_same}
 use Rattle.path_spec.specs.Trees.{Expr}
-use Rattle.path_spec.specs.Answers.{AreAnswers}
-use Rattle.pathindex_run.specs.Texts.{reply, refused_line, answers_text, bad_line}
-use Rattle.pathindex_run.specs.States.{State}
-use Rattle.pathindex_run.specs.Indexes.{ShowsExtents, ShowsSizes}
-use Rattle.script_read.specs.Commands.{Command, change, path, extents, sizes, IsQuiet, IsSpelled, PassesLimit, SpellsNothing}
+use Rattle.pathindex_run.specs.Texts.{reply, refused_line, ok_line, bad_line}
+use Rattle.pathindex_run.specs.States.{State, keeps, forgotten}
+use Rattle.pathindex_run.specs.Indexes.{ShowsAnswers, ShowsExtents, ShowsSizes}
+use Rattle.script_read.specs.Commands.{Command, change, path, extents, sizes, forget, IsQuiet, IsSpelled, PassesLimit, SpellsNothing}
 
--- the graph after a change, by its outcome: a refusal leaves it
-abbrev pub changed : Graph → Result Graph Refusal → Graph
-changed g (Ok h) = h
-changed g (Err r) = g
+-- A partition of the 1-index: it is stable, no two of its blocks can be merged, and where no walk comes back to its beginning it is
+-- full bisimilarity.
+pub record IsMinimalIndex (g : Graph) (block : List (Option ℕ)) : Type 0 where
+  pub stable : Stable (shape_of g) block
+  pub minimal : Minimal (shape_of g) block
+  pub whole : Acyclic (shape_of g) → Agrees (shape_of g) block (Bisim (shape_of g))
 
--- the state after it
-abbrev pub moved : State → Result Graph Refusal → State
-moved s outcome = record s { graph = changed s.graph outcome }
+-- An accepted change leads from the state s to t, whose graph is h. The same indexes are kept. Where the change alters nothing, all
+-- is as it was; else the blocks of the 1-index, where it is kept, are some that fit the graph after the change.
+pub record IsChanged (s : State) (c : Change) (h : Graph) (t : State) : Type 0 where
+  pub graph : t.graph ≡ h
+  pub kinds : t.kept.kinds ≡ s.kept.kinds
+  pub level : t.kept.k ≡ s.kept.k
+  pub same : is_same c s.graph ≡ true → t.kept.one ≡ s.kept.one
+  pub one : IsTrue (keeps s One) → IsMinimalIndex h t.kept.one
+  pub none : keeps s One ≡ false → t.kept.one ≡ s.kept.one
+
+-- what a change makes of the state, by its outcome: a refusal leaves it
+abbrev pub Becomes : State → Change → Result Graph Refusal → State → Type 0
+Becomes s c (Ok h) t = IsChanged s c h t
+Becomes s c (Err r) t = t ≡ s
 
 -- A command in a state may print this, tell whether it printed a refusal, and lead to that state.
 pub data Obeys (limits : Limits) (s : State) : Command → List ℕ → Bool → State → Type 0 where
-  changes : (c : Change)
-      → Obeys limits s (change c) (reply c s.graph (apply c s.graph limits)) (is_err (apply c s.graph limits))
-      (moved s (apply c s.graph limits))
-  answers : (e : Expr) (nodes : List ℕ) → AreAnswers (shape_of s.graph) e nodes → Obeys limits s (path Data e) (answers_text nodes) false s
+  changes : (c : Change) (t : State) → Becomes s c (apply c s.graph limits) t
+      → Obeys limits s (change c) (reply c s.graph (apply c s.graph limits)) (is_err (apply c s.graph limits)) t
+  asks : (via : Via) (e : Expr) (text : List ℕ) (refuses : Bool) → ShowsAnswers s e via text refuses → Obeys limits s (path via e) text refuses s
   lists : (via : Via) (text : List ℕ) (refuses : Bool) → ShowsExtents s via text refuses → Obeys limits s (extents via) text refuses s
   measures : (text : List ℕ) → ShowsSizes s text → Obeys limits s sizes text false s
+  forgets : (kind : Kind) → keeps s kind ≡ true → Obeys limits s (forget kind) ok_line false (forgotten kind s)
+  lacks : (kind : Kind) → keeps s kind ≡ false → Obeys limits s (forget kind) (refused_line NoIndex) true s
 
 -- So may a line. A query whose expression passes a limit is refused, whatever else it is.
 pub data Does (limits : Limits) (s : State) (line : List ℕ) : List ℕ → Bool → State → Type 0 where

@@ -1,17 +1,41 @@
 -- The state of a run.
-use Rattle.std.specs.Prelude.{ℕ, ⊤}
+use Rattle.std.specs.Prelude.{ℕ, ◌≡◌, Bool, true, false, not, List, [], IsTrue, if◌then◌else◌}
+use Rattle.std.specs.List.{filter}
 use Rattle.px_spec.specs.Graphs.{Graph}
+use Rattle.px_spec.specs.Shapes.{shape_of}
+use Rattle.bisim_spec.specs.declared.kind.Kind.{Kind}
+use Rattle.bisim_spec.specs.declared.kind.Kind.TheVariants.{One}
+use Rattle.bisim_spec.specs.Bisimilarity.{Bisim}
+use Rattle.bisim_spec.specs.Partitions.{Agrees}
+use Rattle.index_api.specs.Kept.{KeptIndexes, is_kind, has_kind}
 
 -- what commands change or ask
 pub record State : Type 0 where
   pub graph : Graph
-  -- the highest level of the A(k)-indexes that are kept
-  pub k : ℕ
+  -- the indexes that are kept: their kinds, the highest level of the A(k)-family, and the blocks of the 1-index
+  pub kept : KeptIndexes
 
--- the state with this graph, in which levels up to k are kept
-abbrev pub state_of : Graph → ℕ → State
-state_of g k = record { graph = g; k = k }
+-- whether an index of that kind is kept
+abbrev pub keeps : State → Kind → Bool
+keeps s kind = has_kind s.kept.kinds kind
 
--- any state is such a one
-abbrev pub AnyState : State → Type 0
-AnyState s = ⊤
+-- A state with which a run begins: this graph, and indexes of these kinds with levels up to k. The blocks of the 1-index, where it
+-- is kept, are full bisimilarity.
+pub record IsFirst (g : Graph) (given : List Kind) (k : ℕ) (s : State) : Type 0 where
+  pub graph : s.graph ≡ g
+  pub kinds : s.kept.kinds ≡ given
+  pub level : s.kept.k ≡ k
+  pub one : IsTrue (keeps s One) → Agrees (shape_of g) s.kept.one (Bisim (shape_of g))
+  pub none : keeps s One ≡ false → s.kept.one ≡ []
+
+-- the indexes without those of that kind
+abbrev pub without_kind : Kind → KeptIndexes → KeptIndexes
+without_kind kind kept = record {
+  kinds = filter (λ other. not (is_kind kind other)) kept.kinds;
+  k = kept.k;
+  one = if is_kind kind One then [] else kept.one;
+}
+
+-- the state in which no index of that kind is kept
+abbrev pub forgotten : Kind → State → State
+forgotten kind s = record s { kept = without_kind kind s.kept }

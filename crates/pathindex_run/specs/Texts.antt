@@ -1,11 +1,13 @@
 -- What is printed. Each printed line ends with LF (10).
-use Rattle.std.specs.Prelude.{ℕ, List, [], ◌∷◌, ◌++◌, length, codes, decimal, map, Result, Ok, Err}
-use Rattle.std.specs.List.{join_with_byte}
+use Rattle.std.specs.Prelude.{ℕ, List, [], ◌∷◌, ◌++◌, codes, decimal, Result, Ok, Err}
 use Rattle.px_spec.specs.declared.refusal.Refusal.{Refusal}
 use Rattle.px_spec.specs.Refusals.{word_of}
 use Rattle.px_spec.specs.Words.{node_word}
 use Rattle.px_spec.specs.Graphs.{Graph}
-use Rattle.px_spec.specs.Changes.{Change, node, link, unlink, drop}
+use Rattle.px_spec.specs.Changes.{Change}
+use Rattle.graph_update.specs.declared.changes.Applied.{Applied}
+use Rattle.graph_update.specs.declared.changes.Applied.TheVariants.{Added, Done}
+use Rattle.graph_update.specs.Staging.{applied_of}
 
 abbrev pub refused_line : Refusal → List ℕ
 refused_line r = codes "refused " ++ word_of r ++ 10 ∷ []
@@ -13,22 +15,15 @@ refused_line r = codes "refused " ++ word_of r ++ 10 ∷ []
 abbrev pub ok_line : List ℕ
 ok_line = codes "ok" ++ 10 ∷ []
 
+-- what an accepted change prints: the number of a new node, or that it is made
+abbrev pub applied_line : Applied → List ℕ
+applied_line (Added n) = codes "added " ++ node_word n ++ 10 ∷ []
+applied_line Done = ok_line
+
 -- what a change prints, from the graph before it and its outcome
 abbrev pub reply : Change → Graph → Result Graph Refusal → List ℕ
-reply (node t) g (Ok h) = codes "added " ++ node_word (length g.given) ++ 10 ∷ []
-reply (link u v) g (Ok h) = ok_line
-reply (unlink u v) g (Ok h) = ok_line
-reply (drop u) g (Ok h) = ok_line
+reply c g (Ok h) = applied_line (applied_of c g)
 reply c g (Err r) = refused_line r
-
--- the nodes, parted by one space; no line where there are none
-abbrev pub nodes_line : List ℕ → List ℕ
-nodes_line [] = []
-nodes_line (n ∷ ns) = join_with_byte 32 (map node_word (n ∷ ns)) ++ 10 ∷ []
-
--- how many answers there are, and then the answers
-abbrev pub answers_text : List ℕ → List ℕ
-answers_text nodes = codes "answers " ++ decimal (length nodes) ++ 10 ∷ nodes_line nodes
 
 abbrev pub bad_line : ℕ → List ℕ
 bad_line n = codes "bad " ++ decimal n ++ 10 ∷ []

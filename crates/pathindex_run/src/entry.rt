@@ -1,10 +1,14 @@
 // The top call.
-ghost use Rattle.std.specs.Prelude.{◌≡◌, ◌≢◌, ◌≤◌, ◌⊎◌, map, string_bytes, option_map, None, Some};
+ghost use Rattle.std.specs.Prelude.{List, ◌≡◌, ◌≢◌, ◌≤◌, ◌⊎◌, map, string_bytes, option_map, None, Some};
 ghost use Rattle.px_base.specs.Causes.{Rose};
 ghost use Rattle.command_line.specs.Forms.{runs, neither};
 ghost use Rattle.command_line.specs.Shown.{shown_settings};
 ghost use Rattle.command_line.specs.Words.{form_of};
-ghost use Rattle.pathindex_run.specs.States.{AnyState};
+ghost use Rattle.bisim_spec.specs.declared.kind.Kind.{Kind};
+ghost use Rattle.index_api.specs.Kept.{kinds_of};
+ghost use Rattle.pathindex_core.specs.Engines.{engine_seen, opened_of, IsSound};
+ghost use Rattle.pathindex_run.specs.EngineStates.{state_in, IsOpen, IsIn};
+ghost use Rattle.pathindex_run.specs.States.{IsFirst};
 ghost use Rattle.pathindex_run.specs.Headline.{Meets, HasStatus, Completes, ShowsLine};
 ghost use Rattle.pathindex_run.specs.ToldFiles.{BeginsTold};
 ghost use Rattle.pathindex_run.specs.Texts.{graph_line, usage_line};
@@ -15,6 +19,7 @@ use crate::status::Status;
 use command_line::{Form, Settings, read_words};
 use graph_load::{LoadError, load};
 use label_graph::Graph;
+use pathindex_core::Engine;
 use px_base::{Limits, Shelf, Sink, put_all};
 use std::alloc::Global;
 
@@ -67,15 +72,24 @@ fn show_refusal<K: Sink>(alloc: Global, line: u32, reason: &str, sink: &mut K) -
 /// Where the shelf tells its files, a graph file that loads and a script with no line that is bad give 0, 1 or 7 where
 /// no call fails and no count of faults stands at its last value. At 5, 6 and 7 a front of what the run prints is
 /// written. The cost is linear in the bytes of both files but for what the commands cost.
-pub fn run<H: Shelf, K: Sink>(alloc: Global, words: &[String], shelf: &mut H, sink: &mut K) -> u8
-    ensures meets { Meets (form_of (map string_bytes words.now)) (H.files shelf.old) (K.written sink.old) (K.written sink.new) result AnyState }
+pub fn run<H: Shelf, K: Sink>(
+    alloc: Global,
+    words: &[String],
+    engine: &mut Engine,
+    shelf: &mut H,
+    sink: &mut K,
+) -> u8
+    requires closed { opened_of engine.old.state ≡ None }
+    requires sound { IsSound (engine_seen (map (λ b. meaning (b.vtable, b.value)) engine.old.boxes.items) engine.old.state) }
+    ensures sound { IsSound (engine_seen (map (λ b. meaning (b.vtable, b.value)) engine.new.boxes.items) engine.new.state) }
+    ensures meets { Meets (form_of (map string_bytes words.now)) (kinds_of (map (λ b. meaning (b.vtable, b.value)) engine.old.boxes.items)) (H.files shelf.old) (K.written sink.old) (K.written sink.new) result (IsIn (engine_seen (map (λ b. meaning (b.vtable, b.value)) engine.new.boxes.items) engine.new.state)) }
     ensures status { HasStatus (form_of (map string_bytes words.now)) (H.files shelf.old) (H.faults shelf.old) (H.faults shelf.new) (K.faults sink.old) (K.faults sink.new) result }
     ensures complete { Completes (form_of (map string_bytes words.now)) (H.files shelf.old) (H.faults shelf.old) (H.faults shelf.new) (K.faults sink.old) (K.faults sink.new) result }
     ensures files { H.files shelf.new ≡ H.files shelf.old }
     ensures idle { form_of (map string_bytes words.now) ≡ neither → shelf.new ≡ shelf.old }
 {
     match read_words(alloc, words) {
-        Ok(Form::Run(settings)) => run_settings(alloc, &settings, shelf, sink),
+        Ok(Form::Run(settings)) => run_settings(alloc, &settings, engine, shelf, sink),
         Ok(Form::Neither) => show_usage(sink),
         Err(_) => Status::NoMemory as u8,
     }
@@ -85,19 +99,23 @@ pub fn run<H: Shelf, K: Sink>(alloc: Global, words: &[String], shelf: &mut H, si
 fn run_settings<H: Shelf, K: Sink>(
     alloc: Global,
     settings: &Settings<'_>,
+    engine: &mut Engine,
     shelf: &mut H,
     sink: &mut K,
 ) -> u8
+    requires closed { opened_of engine.old.state ≡ None }
+    requires sound { IsSound (engine_seen (map (λ b. meaning (b.vtable, b.value)) engine.old.boxes.items) engine.old.state) }
     requires level { settings.now.k ≤ 8 }
-    ensures meets { Meets (runs (shown_settings settings.now)) (H.files shelf.old) (K.written sink.old) (K.written sink.new) result AnyState }
+    ensures sound { IsSound (engine_seen (map (λ b. meaning (b.vtable, b.value)) engine.new.boxes.items) engine.new.state) }
+    ensures meets { Meets (runs (shown_settings settings.now)) (kinds_of (map (λ b. meaning (b.vtable, b.value)) engine.old.boxes.items)) (H.files shelf.old) (K.written sink.old) (K.written sink.new) result (IsIn (engine_seen (map (λ b. meaning (b.vtable, b.value)) engine.new.boxes.items) engine.new.state)) }
     ensures status { HasStatus (runs (shown_settings settings.now)) (H.files shelf.old) (H.faults shelf.old) (H.faults shelf.new) (K.faults sink.old) (K.faults sink.new) result }
     ensures complete { Completes (runs (shown_settings settings.now)) (H.files shelf.old) (H.faults shelf.old) (H.faults shelf.new) (K.faults sink.old) (K.faults sink.new) result }
     ensures files { H.files shelf.new ≡ H.files shelf.old }
 {
     match settings.graph {
-        Some(name) => run_loaded(alloc, settings, name, shelf, sink),
+        Some(name) => run_loaded(alloc, settings, name, engine, shelf, sink),
         None => match Graph::new(alloc) {
-            Ok(graph) => run_script(alloc, settings, graph, shelf, sink),
+            Ok(graph) => run_script(alloc, settings, graph, engine, shelf, sink),
             Err(_) => Status::NoMemory as u8,
         },
     }
@@ -108,18 +126,22 @@ fn run_loaded<H: Shelf, K: Sink>(
     alloc: Global,
     settings: &Settings<'_>,
     name: &str,
+    engine: &mut Engine,
     shelf: &mut H,
     sink: &mut K,
 ) -> u8
     requires named { option_map (λ t. t.now) settings.now.graph ≡ Some name.now }
+    requires closed { opened_of engine.old.state ≡ None }
+    requires sound { IsSound (engine_seen (map (λ b. meaning (b.vtable, b.value)) engine.old.boxes.items) engine.old.state) }
     requires level { settings.now.k ≤ 8 }
-    ensures meets { Meets (runs (shown_settings settings.now)) (H.files shelf.old) (K.written sink.old) (K.written sink.new) result AnyState }
+    ensures sound { IsSound (engine_seen (map (λ b. meaning (b.vtable, b.value)) engine.new.boxes.items) engine.new.state) }
+    ensures meets { Meets (runs (shown_settings settings.now)) (kinds_of (map (λ b. meaning (b.vtable, b.value)) engine.old.boxes.items)) (H.files shelf.old) (K.written sink.old) (K.written sink.new) result (IsIn (engine_seen (map (λ b. meaning (b.vtable, b.value)) engine.new.boxes.items) engine.new.state)) }
     ensures status { HasStatus (runs (shown_settings settings.now)) (H.files shelf.old) (H.faults shelf.old) (H.faults shelf.new) (K.faults sink.old) (K.faults sink.new) result }
     ensures complete { Completes (runs (shown_settings settings.now)) (H.files shelf.old) (H.faults shelf.old) (H.faults shelf.new) (K.faults sink.old) (K.faults sink.new) result }
     ensures files { H.files shelf.new ≡ H.files shelf.old }
 {
     match load(alloc, shelf, name, &Limits::program()) {
-        Ok(graph) => run_script(alloc, settings, graph, shelf, sink),
+        Ok(graph) => run_script(alloc, settings, graph, engine, shelf, sink),
         Err(LoadError::Syntax(line)) => show_refusal(alloc, line, "syntax", sink),
         Err(LoadError::Limit(line)) => show_refusal(alloc, line, "limit", sink),
         Err(LoadError::Missing) => Status::NoFile as u8,
@@ -128,23 +150,49 @@ fn run_loaded<H: Shelf, K: Sink>(
     }
 }
 
-/// Runs the script from that graph on.
+/// Opens the engine with that graph, and runs the script.
 fn run_script<H: Shelf, K: Sink>(
     alloc: Global,
     settings: &Settings<'_>,
     graph: Graph,
+    engine: &mut Engine,
     shelf: &mut H,
     sink: &mut K,
 ) -> u8
     requires begins { BeginsTold (shown_settings settings.now).graph (H.files shelf.old) graph.graph }
+    requires closed { opened_of engine.old.state ≡ None }
+    requires sound { IsSound (engine_seen (map (λ b. meaning (b.vtable, b.value)) engine.old.boxes.items) engine.old.state) }
     requires level { settings.now.k ≤ 8 }
-    ensures meets { Meets (runs (shown_settings settings.now)) (H.files shelf.old) (K.written sink.old) (K.written sink.new) result AnyState }
+    ensures sound { IsSound (engine_seen (map (λ b. meaning (b.vtable, b.value)) engine.new.boxes.items) engine.new.state) }
+    ensures meets { Meets (runs (shown_settings settings.now)) (kinds_of (map (λ b. meaning (b.vtable, b.value)) engine.old.boxes.items)) (H.files shelf.old) (K.written sink.old) (K.written sink.new) result (IsIn (engine_seen (map (λ b. meaning (b.vtable, b.value)) engine.new.boxes.items) engine.new.state)) }
+    ensures status { HasStatus (runs (shown_settings settings.now)) (H.files shelf.old) (H.faults shelf.old) (H.faults shelf.new) (K.faults sink.old) (K.faults sink.new) result }
+    ensures complete { Completes (runs (shown_settings settings.now)) (H.files shelf.old) (H.faults shelf.old) (H.faults shelf.new) (K.faults sink.old) (K.faults sink.new) result }
+    ensures files { H.files shelf.new ≡ H.files shelf.old }
+{
+    match engine.open(graph, Limits::program(), settings.k) {
+        Ok(()) => run_open(alloc, settings, engine, shelf, sink),
+        Err(_) => Status::NoMemory as u8,
+    }
+}
+
+/// Runs the script from the graph of the engine on.
+fn run_open<H: Shelf, K: Sink>(
+    alloc: Global,
+    settings: &Settings<'_>,
+    engine: &mut Engine,
+    shelf: &mut H,
+    sink: &mut K,
+) -> u8
+    requires begins { BeginsTold (shown_settings settings.now).graph (H.files shelf.old) (state_in (engine_seen (map (λ b. meaning (b.vtable, b.value)) engine.old.boxes.items) engine.old.state)).graph }
+    requires ready { IsOpen (engine_seen (map (λ b. meaning (b.vtable, b.value)) engine.old.boxes.items) engine.old.state) }
+    ensures sound { IsSound (engine_seen (map (λ b. meaning (b.vtable, b.value)) engine.new.boxes.items) engine.new.state) }
+    ensures meets { (kinds : List Kind) → IsFirst (state_in (engine_seen (map (λ b. meaning (b.vtable, b.value)) engine.old.boxes.items) engine.old.state)).graph kinds settings.now.k (state_in (engine_seen (map (λ b. meaning (b.vtable, b.value)) engine.old.boxes.items) engine.old.state)) → Meets (runs (shown_settings settings.now)) kinds (H.files shelf.old) (K.written sink.old) (K.written sink.new) result (IsIn (engine_seen (map (λ b. meaning (b.vtable, b.value)) engine.new.boxes.items) engine.new.state)) }
     ensures status { HasStatus (runs (shown_settings settings.now)) (H.files shelf.old) (H.faults shelf.old) (H.faults shelf.new) (K.faults sink.old) (K.faults sink.new) result }
     ensures complete { Completes (runs (shown_settings settings.now)) (H.files shelf.old) (H.faults shelf.old) (H.faults shelf.new) (K.faults sink.old) (K.faults sink.new) result }
     ensures files { H.files shelf.new ≡ H.files shelf.old }
 {
     match shelf.open(settings.script) {
-        Ok(true) => match run_lines(alloc, &Limits::program(), graph, settings.k, shelf, sink) {
+        Ok(true) => match run_lines(alloc, engine, shelf, sink) {
             Ok(ending) => ending.status(),
             Err(Stop::Shelf) => Status::NoFile as u8,
             Err(Stop::Sink) => Status::NoOutput as u8,

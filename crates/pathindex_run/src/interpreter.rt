@@ -1,180 +1,258 @@
 // Carrying out the lines of a script.
-ghost use Rattle.std.specs.Prelude.{◌≡◌, ◌≤◌, ◌++◌, ℕ, List, IfOk, OnOk, OnErr, false, true};
-ghost use Rattle.px_spec.specs.Shapes.{shape_of};
+ghost use Rattle.std.specs.Prelude.{◌≡◌, ◌≢◌, ◌<◌, ◌++◌, map, IfOk, OnOk, OnErr, false, true, if◌then◌else◌};
+ghost use Rattle.px_spec.specs.ProgramLimits.{program_limits};
 ghost use Rattle.graph_update.specs.Judging.{change_of};
-ghost use Rattle.path_spec.specs.Answers.{AreAnswers};
-ghost use Rattle.px_spec.specs.declared.limits.Limits.{Limits as LimitsSeen};
-ghost use Rattle.script_read.specs.Commands.{change as changing, extents as listing, sizes as measuring};
+ghost use Rattle.index_api.specs.declared.kinds.Via.TheVariants.{Data};
+ghost use Rattle.script_read.specs.Commands.{change as changing, path as asking, extents as listing, sizes as measuring, forget as forgetting};
 ghost use Rattle.script_read.specs.Reading.{command_of};
-ghost use Rattle.pathindex_run.specs.Texts.{answers_text, refused_line};
-ghost use Rattle.px_spec.specs.declared.refusal.Refusal.TheVariants.{Limit as OverLimit};
-ghost use Rattle.pathindex_run.specs.RunSteps.{Obeyed, AsksData, LineIsTaken};
+ghost use Rattle.pathindex_core.specs.Engines.{engine_seen};
+ghost use Rattle.pathindex_run.specs.Texts.{applied_line, refused_line};
+ghost use Rattle.pathindex_run.specs.EngineStates.{state_in, IsOpen};
+ghost use Rattle.pathindex_run.specs.RunSteps.{Obeyed, LineComes};
 
-use crate::changes::make_change;
-use crate::indexes::{push_extents, push_sizes};
-use crate::output::push_line;
-use crate::queries::{answers, push_answers};
-use graph_update::Change;
-use index_api::Via;
-use label_graph::Graph;
+use crate::output::{push_line, push_number};
+use extent_report::answer_text;
+use graph_update::{Applied, Change};
+use index_api::{Kind, Via};
 use path_query::PathExpr;
-use px_base::{Limits, Memory, Refusal};
+use pathindex_core::{AskError, Engine, UpdateError};
+use px_base::{Limits, Memory, Refusal, Steps};
 use script_read::{Command, ScriptError, read};
 use std::alloc::Global;
-use std::marker::Model;
+use std::marker::Brand;
+use std::sync::ledger::{Blank, Ledger};
 
 /// What a line came to.
 #[derive(Clone, Copy)]
 pub(crate) enum Outcome {
     /// The line was taken.
     Done,
+    /// It was taken, and printed a refusal.
+    Refused,
     /// The line is no command, and neither blank nor a comment.
     Bad,
 }
 
-/// What a run keeps from line to line.
-#[derive(Drop)]
-pub(crate) struct Interpreter {
-    graph: Graph,
-    k: u32,
-    refused: bool,
+/// Gathers why something is refused. Answers that it is.
+fn refuse(out: &mut Vec<u8>, refusal: Refusal) -> Result<bool, Memory>
+    ensures refuses { IfOk result (λ refuses. refuses ≡ true) }
+    ensures ok { OnOk result (out.new.items ≡ out.old.items ++ refused_line refusal) }
+    ensures err { OnErr result (out.new.items ≡ out.old.items) }
+{
+    push_line(out, b"refused ", refusal.word().as_bytes())?;
+    Ok(true)
 }
 
-impl Model for Interpreter {
-    ghost use Rattle.std.specs.Prelude.{◌≤◌};
-    ghost use Rattle.pathindex_run.specs.Kept.{Kept, kept_code};
-
-    ghost Value = { Kept };
-
-    ghost coded = { kept_code };
-
-    ghost view = { λ i. record { state = record { graph = i.graph.graph; k = i.k }; refused = i.refused } };
-
-    ghost invariant = { λ i. i.k ≤ 8 };
+/// Gathers what an accepted change did.
+fn push_applied(out: &mut Vec<u8>, applied: Applied) -> Result<(), Memory>
+    ensures ok { OnOk result (out.new.items ≡ out.old.items ++ applied_line applied) }
+    ensures err { OnErr result (out.new.items ≡ out.old.items) }
+{
+    match applied {
+        Applied::Added(node) => push_number(out, b"added n", node),
+        Applied::Done => push_line(out, b"ok", b""),
+    }
 }
 
-impl Interpreter {
-    /// Starts with that graph, and keeps indexes up to the level `k`.
-    pub(crate) fn new(graph: Graph, k: u32) -> Interpreter
-        requires few { k ≤ 8 }
-        ensures { result ≡ record { state = record { graph = graph.graph; k = k }; refused = false } }
-    {
-        Interpreter {
-            graph,
-            k,
-            refused: false,
+/// Makes a change where it is accepted, and gathers what that prints. Answers whether it was refused.
+fn change(
+    alloc: Global,
+    engine: &mut Engine,
+    change: Change,
+    out: &mut Vec<u8>,
+) -> Result<bool, Memory>
+    requires ready { IsOpen (engine_seen (map (λ b. meaning (b.vtable, b.value)) engine.old.boxes.items) engine.old.state) }
+    ensures ready { IsOpen (engine_seen (map (λ b. meaning (b.vtable, b.value)) engine.new.boxes.items) engine.new.state) }
+    ensures ok { IfOk result (λ refuses. Obeyed program_limits (state_in (engine_seen (map (λ b. meaning (b.vtable, b.value)) engine.old.boxes.items) engine.old.state)) (changing (change_of change)) out.old.items refuses (state_in (engine_seen (map (λ b. meaning (b.vtable, b.value)) engine.new.boxes.items) engine.new.state)) out.new.items) }
+    ensures err { OnErr result (out.new.items ≡ out.old.items) }
+{
+    match engine.update(alloc, change) {
+        Ok(applied) => {
+            push_applied(out, applied)?;
+            Ok(false)
         }
+        Err(UpdateError::Refused(refusal)) => refuse(out, refusal),
+        Err(UpdateError::Memory) => Err(Memory),
     }
+}
 
-    /// Whether some line printed a refusal.
-    pub(crate) fn refused(&self) -> bool
-        ensures { result ≡ self.now.refused }
-    {
-        self.refused
-    }
-
-    /// Makes a change where it is accepted, and gathers what that prints.
-    fn change(
-        &mut self,
-        alloc: Global,
-        limits: &Limits,
-        change: &Change,
-        out: &mut Vec<u8>,
-    ) -> Result<(), Memory>
-        ensures ok { OnOk result (Obeyed limits.now self.old (changing (change_of change.now)) out.old.items self.new out.new.items) }
-        ensures err { OnErr result (out.new.items ≡ out.old.items) }
-    {
-        let refuses = make_change(alloc, limits, &mut self.graph, change, out)?;
-        self.refused = self.refused || refuses;
-        Ok(())
-    }
-
-    /// Gathers the answers of the expression, asked of the graph itself.
-    fn ask(&self, alloc: Global, expr: &PathExpr, out: &mut Vec<u8>) -> Result<(), Memory>
-        ensures ok { OnOk result ((nodes : List ℕ) × AreAnswers (shape_of self.now.state.graph) expr.now nodes × (out.new.items ≡ out.old.items ++ answers_text nodes)) }
-        ensures err { OnErr result (out.new.items ≡ out.old.items) }
-    {
-        let answers = answers(alloc, &self.graph, expr)?;
-        push_answers(out, &answers)?;
-        Ok(())
-    }
-
-    /// Gathers the list of an index, or that it isn't kept.
-    fn list(&mut self, alloc: Global, via: Via, out: &mut Vec<u8>) -> Result<(), Memory>
-        ensures ok { (limits : LimitsSeen) → OnOk result (Obeyed limits self.old (listing via) out.old.items self.new out.new.items) }
-        ensures err { OnErr result (out.new.items ≡ out.old.items) }
-    {
-        let refuses = push_extents(alloc, &self.graph, self.k, via, out)?;
-        self.refused = self.refused || refuses;
-        Ok(())
-    }
-
-    /// Gathers the sizes of the graph and of the indexes that are kept.
-    fn measure(&self, alloc: Global, out: &mut Vec<u8>) -> Result<(), Memory>
-        ensures ok { (limits : LimitsSeen) → OnOk result (Obeyed limits self.now measuring out.old.items self.now out.new.items) }
-        ensures err { OnErr result (out.new.items ≡ out.old.items) }
-    {
-        push_sizes(alloc, &self.graph, self.k, out)?;
-        Ok(())
-    }
-
-    /// Carries out a command, and gathers what it prints.
-    fn obey(
-        &mut self,
-        alloc: Global,
-        limits: &Limits,
-        command: Command,
-        out: &mut Vec<u8>,
-    ) -> Result<(), Memory>
-        requires { AsksData (command_of command) }
-        ensures ok { OnOk result (Obeyed limits.now self.old (command_of command) out.old.items self.new out.new.items) }
-        ensures err { OnErr result (out.new.items ≡ out.old.items) }
-    {
-        match command {
-            Command::Node(label) => self.change(alloc, limits, &Change::Node(label), out),
-            Command::Link(from, to) => self.change(alloc, limits, &Change::Link(from, to), out),
-            Command::Unlink(from, to) => self.change(alloc, limits, &Change::Unlink(from, to), out),
-            Command::Drop(node) => self.change(alloc, limits, &Change::Drop(node), out),
-            Command::Path(Via::Data, expr) => self.ask(alloc, &expr, out),
-            Command::Path(_, _) => unreachable!(),
-            Command::Extents(via) => self.list(alloc, via, out),
-            Command::Sizes => self.measure(alloc, out),
+/// Gathers the answers of an expression, asked through an index or of the graph itself. Answers whether it was refused.
+fn ask<L: Ledger>(
+    alloc: Global,
+    engine: &mut Engine,
+    via: Via,
+    expr: &PathExpr,
+    steps: &mut Steps<L>,
+    out: &mut Vec<u8>,
+) -> Result<bool, Memory>
+    requires ready { IsOpen (engine_seen (map (λ b. meaning (b.vtable, b.value)) engine.old.boxes.items) engine.old.state) }
+    ensures ready { IsOpen (engine_seen (map (λ b. meaning (b.vtable, b.value)) engine.new.boxes.items) engine.new.state) }
+    ensures ok { IfOk result (λ refuses. Obeyed program_limits (state_in (engine_seen (map (λ b. meaning (b.vtable, b.value)) engine.old.boxes.items) engine.old.state)) (asking via expr.now) out.old.items refuses (state_in (engine_seen (map (λ b. meaning (b.vtable, b.value)) engine.new.boxes.items) engine.new.state)) out.new.items) }
+    ensures err { OnErr result (out.new.items ≡ out.old.items) }
+{
+    match engine.path(alloc, via, expr, steps) {
+        Ok(answer) => {
+            let text = answer_text(alloc, &answer, true)?;
+            out.extend_from_slice(text.as_bytes())?;
+            Ok(false)
         }
+        Err(AskError::NoIndex) => refuse(out, Refusal::NoIndex),
+        Err(AskError::Memory) => Err(Memory),
     }
+}
 
-    /// Gathers that the expression of a query passes a limit.
-    fn refuse(&mut self, out: &mut Vec<u8>) -> Result<(), Memory>
-        ensures ok { OnOk result ((self.new ≡ record self.old { refused = true }) × (out.new.items ≡ out.old.items ++ refused_line OverLimit)) }
-        ensures err { OnErr result (out.new.items ≡ out.old.items) }
-    {
-        push_line(out, b"refused ", Refusal::Limit.word().as_bytes())?;
-        self.refused = true;
-        Ok(())
-    }
-
-    /// Takes a line, and gathers what it prints. Where memory runs out, nothing is gathered.
-    pub(crate) fn take(
-        &mut self,
-        alloc: Global,
-        limits: &Limits,
-        line: &[u8],
-        out: &mut Vec<u8>,
-    ) -> Result<Outcome, Memory>
-        ensures ok { IfOk result (λ outcome. LineIsTaken limits.now self.old line.now out.old.items outcome self.new out.new.items) }
-        ensures err { OnErr result (out.new.items ≡ out.old.items) }
-    {
-        match read(alloc, line, limits) {
-            Ok(Some(command)) => {
-                self.obey(alloc, limits, command, out)?;
-                Ok(Outcome::Done)
-            }
-            Ok(None) => Ok(Outcome::Done),
-            Err(ScriptError::Limit) => {
-                self.refuse(out)?;
-                Ok(Outcome::Done)
-            }
-            Err(ScriptError::Bad) => Ok(Outcome::Bad),
-            Err(ScriptError::Memory) => Err(Memory),
+/// Gathers the list of an index, and nothing of the graph itself. Answers whether it was refused.
+fn list_index<L: Ledger>(
+    alloc: Global,
+    engine: &mut Engine,
+    via: Via,
+    steps: &mut Steps<L>,
+    out: &mut Vec<u8>,
+) -> Result<bool, Memory>
+    requires ready { IsOpen (engine_seen (map (λ b. meaning (b.vtable, b.value)) engine.old.boxes.items) engine.old.state) }
+    requires index { via ≢ Data }
+    ensures ready { IsOpen (engine_seen (map (λ b. meaning (b.vtable, b.value)) engine.new.boxes.items) engine.new.state) }
+    ensures ok { IfOk result (λ refuses. Obeyed program_limits (state_in (engine_seen (map (λ b. meaning (b.vtable, b.value)) engine.old.boxes.items) engine.old.state)) (listing via) out.old.items refuses (state_in (engine_seen (map (λ b. meaning (b.vtable, b.value)) engine.new.boxes.items) engine.new.state)) out.new.items) }
+    ensures err { OnErr result (out.new.items ≡ out.old.items) }
+{
+    match engine.extents(alloc, via, steps) {
+        Ok(text) => {
+            out.extend_from_slice(text.as_bytes())?;
+            Ok(false)
         }
+        Err(AskError::NoIndex) => refuse(out, Refusal::NoIndex),
+        Err(AskError::Memory) => Err(Memory),
+    }
+}
+
+/// Gathers the list of an index. Answers whether it was refused, as it is of the graph itself.
+fn list<L: Ledger>(
+    alloc: Global,
+    engine: &mut Engine,
+    via: Via,
+    steps: &mut Steps<L>,
+    out: &mut Vec<u8>,
+) -> Result<bool, Memory>
+    requires ready { IsOpen (engine_seen (map (λ b. meaning (b.vtable, b.value)) engine.old.boxes.items) engine.old.state) }
+    ensures ready { IsOpen (engine_seen (map (λ b. meaning (b.vtable, b.value)) engine.new.boxes.items) engine.new.state) }
+    ensures ok { IfOk result (λ refuses. Obeyed program_limits (state_in (engine_seen (map (λ b. meaning (b.vtable, b.value)) engine.old.boxes.items) engine.old.state)) (listing via) out.old.items refuses (state_in (engine_seen (map (λ b. meaning (b.vtable, b.value)) engine.new.boxes.items) engine.new.state)) out.new.items) }
+    ensures err { OnErr result (out.new.items ≡ out.old.items) }
+{
+    match via {
+        Via::Data => refuse(out, Refusal::NoIndex),
+        _ => list_index(alloc, engine, via, steps, out),
+    }
+}
+
+/// Gathers the sizes of the graph and of the indexes that are kept.
+fn measure<L: Ledger>(
+    alloc: Global,
+    engine: &mut Engine,
+    steps: &mut Steps<L>,
+    out: &mut Vec<u8>,
+) -> Result<bool, Memory>
+    requires ready { IsOpen (engine_seen (map (λ b. meaning (b.vtable, b.value)) engine.old.boxes.items) engine.old.state) }
+    ensures ready { IsOpen (engine_seen (map (λ b. meaning (b.vtable, b.value)) engine.new.boxes.items) engine.new.state) }
+    ensures ok { IfOk result (λ refuses. Obeyed program_limits (state_in (engine_seen (map (λ b. meaning (b.vtable, b.value)) engine.old.boxes.items) engine.old.state)) measuring out.old.items refuses (state_in (engine_seen (map (λ b. meaning (b.vtable, b.value)) engine.new.boxes.items) engine.new.state)) out.new.items) }
+    ensures err { OnErr result (out.new.items ≡ out.old.items) }
+{
+    let text = engine.sizes(alloc, steps)?;
+    out.extend_from_slice(text.as_bytes())?;
+    Ok(false)
+}
+
+/// Forgets the index of a kind, and gathers that. Answers whether it was refused.
+fn forget(engine: &mut Engine, kind: Kind, out: &mut Vec<u8>) -> Result<bool, Memory>
+    requires ready { IsOpen (engine_seen (map (λ b. meaning (b.vtable, b.value)) engine.old.boxes.items) engine.old.state) }
+    ensures ready { IsOpen (engine_seen (map (λ b. meaning (b.vtable, b.value)) engine.new.boxes.items) engine.new.state) }
+    ensures ok { IfOk result (λ refuses. Obeyed program_limits (state_in (engine_seen (map (λ b. meaning (b.vtable, b.value)) engine.old.boxes.items) engine.old.state)) (forgetting kind) out.old.items refuses (state_in (engine_seen (map (λ b. meaning (b.vtable, b.value)) engine.new.boxes.items) engine.new.state)) out.new.items) }
+    ensures err { OnErr result (out.new.items ≡ out.old.items) }
+{
+    match engine.forget(kind) {
+        Ok(()) => {
+            push_line(out, b"ok", b"")?;
+            Ok(false)
+        }
+        Err(refusal) => refuse(out, refusal),
+    }
+}
+
+fn obey_counted<L: Ledger>(
+    alloc: Global,
+    engine: &mut Engine,
+    command: Command,
+    out: &mut Vec<u8>,
+    blank: Blank,
+) -> Result<bool, Memory>
+    requires name { blank.name ≡ L.name }
+    requires parts { blank.parts ≡ L.parts }
+    requires some { 0 < blank.parts }
+    requires ready { IsOpen (engine_seen (map (λ b. meaning (b.vtable, b.value)) engine.old.boxes.items) engine.old.state) }
+    ensures ready { IsOpen (engine_seen (map (λ b. meaning (b.vtable, b.value)) engine.new.boxes.items) engine.new.state) }
+    ensures ok { IfOk result (λ refuses. Obeyed program_limits (state_in (engine_seen (map (λ b. meaning (b.vtable, b.value)) engine.old.boxes.items) engine.old.state)) (command_of command) out.old.items refuses (state_in (engine_seen (map (λ b. meaning (b.vtable, b.value)) engine.new.boxes.items) engine.new.state)) out.new.items) }
+    ensures err { OnErr result (out.new.items ≡ out.old.items) }
+{
+    let mut steps = Steps::<L>::new(blank);
+    match command {
+        Command::Node(label) => change(alloc, engine, Change::Node(label), out),
+        Command::Link(from, to) => change(alloc, engine, Change::Link(from, to), out),
+        Command::Unlink(from, to) => change(alloc, engine, Change::Unlink(from, to), out),
+        Command::Drop(node) => change(alloc, engine, Change::Drop(node), out),
+        Command::Path(via, expr) => ask(alloc, engine, via, &expr, &mut steps, out),
+        Command::Extents(via) => list(alloc, engine, via, &mut steps, out),
+        Command::Sizes => measure(alloc, engine, &mut steps, out),
+        Command::Forget(kind) => forget(engine, kind, out),
+    }
+}
+
+/// Carries out a command, and gathers what it prints. Answers whether it was refused.
+fn obey(
+    alloc: Global,
+    engine: &mut Engine,
+    command: Command,
+    out: &mut Vec<u8>,
+) -> Result<bool, Memory>
+    requires ready { IsOpen (engine_seen (map (λ b. meaning (b.vtable, b.value)) engine.old.boxes.items) engine.old.state) }
+    ensures ready { IsOpen (engine_seen (map (λ b. meaning (b.vtable, b.value)) engine.new.boxes.items) engine.new.state) }
+    ensures ok { IfOk result (λ refuses. Obeyed program_limits (state_in (engine_seen (map (λ b. meaning (b.vtable, b.value)) engine.old.boxes.items) engine.old.state)) (command_of command) out.old.items refuses (state_in (engine_seen (map (λ b. meaning (b.vtable, b.value)) engine.new.boxes.items) engine.new.state)) out.new.items) }
+    ensures err { OnErr result (out.new.items ≡ out.old.items) }
+{
+    obey_counted::<Brand>(alloc, engine, command, out, Blank::new(1))
+}
+
+fn outcome_of(refuses: bool) -> Outcome
+    ensures { result ≡ (if refuses then Outcome.Refused else Outcome.Done) }
+{
+    if refuses {
+        Outcome::Refused
+    } else {
+        Outcome::Done
+    }
+}
+
+/// Takes a line, and gathers what it prints. Where memory runs out, nothing is gathered.
+pub(crate) fn take(
+    alloc: Global,
+    engine: &mut Engine,
+    line: &[u8],
+    out: &mut Vec<u8>,
+) -> Result<Outcome, Memory>
+    requires ready { IsOpen (engine_seen (map (λ b. meaning (b.vtable, b.value)) engine.old.boxes.items) engine.old.state) }
+    ensures ready { IsOpen (engine_seen (map (λ b. meaning (b.vtable, b.value)) engine.new.boxes.items) engine.new.state) }
+    ensures ok { IfOk result (λ outcome. LineComes program_limits (state_in (engine_seen (map (λ b. meaning (b.vtable, b.value)) engine.old.boxes.items) engine.old.state)) line.now out.old.items outcome (state_in (engine_seen (map (λ b. meaning (b.vtable, b.value)) engine.new.boxes.items) engine.new.state)) out.new.items) }
+    ensures err { OnErr result (out.new.items ≡ out.old.items) }
+{
+    match read(alloc, line, &Limits::program()) {
+        Ok(Some(command)) => {
+            let refuses = obey(alloc, engine, command, out)?;
+            Ok(outcome_of(refuses))
+        }
+        Ok(None) => Ok(Outcome::Done),
+        Err(ScriptError::Limit) => {
+            refuse(out, Refusal::Limit)?;
+            Ok(Outcome::Refused)
+        }
+        Err(ScriptError::Bad) => Ok(Outcome::Bad),
+        Err(ScriptError::Memory) => Err(Memory),
     }
 }

@@ -2,13 +2,10 @@
 //! the exit status.
 #![tactic(auto)]
 
-mod changes;
 mod entry;
 mod host;
-mod indexes;
 mod interpreter;
 mod output;
-mod queries;
 mod script;
 mod status;
 #[cfg(test)]

@@ -1,23 +1,24 @@
 // The run of a script, line by line.
-ghost use Rattle.std.specs.Prelude.{◌≡◌, ◌≢◌, ◌<◌, ◌≤◌, ◌++◌, IfOk, OnOk, OnErr, IsErrOf, IsTrue, Err, if◌then◌else◌};
+ghost use Rattle.std.specs.Prelude.{map, ◌≡◌, ◌≢◌, ◌<◌, ◌≤◌, ◌++◌, IfOk, OnOk, OnErr, IsErrOf, IsTrue, Err};
 ghost use Rattle.std.specs.Io.KnownBytes.{Appends};
 ghost use Rattle.px_base.specs.Causes.{Rose, HasCause};
 ghost use Rattle.px_base.specs.Files.{AppendsFront};
 ghost use Rattle.px_base.specs.Reading.{stream};
+ghost use Rattle.px_spec.specs.ProgramLimits.{program_limits};
+ghost use Rattle.pathindex_core.specs.Engines.{engine_seen};
 ghost use Rattle.pathindex_run.specs.RunSteps.{progress, Goes, OnTaken, CanRead, Writes};
+ghost use Rattle.pathindex_run.specs.Runs.{Progress, end_status};
 ghost use Rattle.pathindex_run.specs.Endings.{status_at};
-ghost use Rattle.pathindex_run.specs.States.{AnyState, state_of};
+ghost use Rattle.pathindex_run.specs.EngineStates.{state_in, IsOpen, IsIn};
 ghost use Rattle.pathindex_run.specs.Texts.{bad_line};
 ghost use Rattle.pathindex_run.specs.Told.{RanTold, FrontTold};
 ghost use Rattle.pathindex_run.specs.declared.script.Stop.TheVariants.{Sink as SinkStop, Memory as MemoryStop};
 
-use crate::interpreter::{Interpreter, Outcome};
+use crate::interpreter::{Outcome, take};
 use crate::output::{flush, push_number};
 use crate::status::Status;
-use label_graph::Graph;
-use px_base::{
-    Failed, LINE_BYTES, Limits, LineFault, LineReader, Memory, SCRIPT_BYTES, Shelf, Sink,
-};
+use pathindex_core::Engine;
+use px_base::{Failed, LINE_BYTES, LineFault, LineReader, Memory, SCRIPT_BYTES, Shelf, Sink};
 use std::alloc::Global;
 
 /// How many gathered bytes are written at once.
@@ -97,14 +98,16 @@ fn push_bad(out: &mut Vec<u8>, line: u32) -> Result<Next, Stop>
 /// Reads a line, and takes it.
 fn next_line<H: Shelf>(
     alloc: Global,
-    limits: &Limits,
     reader: &mut LineReader,
-    interpreter: &mut Interpreter,
+    engine: &mut Engine,
+    refused: &mut bool,
     shelf: &mut H,
     out: &mut Vec<u8>,
 ) -> Result<Next, Stop>
-    requires { CanRead reader.old (H.is_open shelf.old) }
-    ensures goes { IfOk result (λ next. Goes limits.now (progress interpreter.old reader.old) (stream reader.old (H.left shelf.old)) out.old.items next (progress interpreter.new reader.new) (stream reader.new (H.left shelf.new)) out.new.items) }
+    requires can { CanRead reader.old (H.is_open shelf.old) }
+    requires ready { IsOpen (engine_seen (map (λ b. meaning (b.vtable, b.value)) engine.old.boxes.items) engine.old.state) }
+    ensures ready { IsOpen (engine_seen (map (λ b. meaning (b.vtable, b.value)) engine.new.boxes.items) engine.new.state) }
+    ensures goes { IfOk result (λ next. Goes program_limits (progress (state_in (engine_seen (map (λ b. meaning (b.vtable, b.value)) engine.old.boxes.items) engine.old.state)) refused.old reader.old) (stream reader.old (H.left shelf.old)) out.old.items next (progress (state_in (engine_seen (map (λ b. meaning (b.vtable, b.value)) engine.new.boxes.items) engine.new.state)) refused.new reader.new) (stream reader.new (H.left shelf.new)) out.new.items) }
     ensures can { IfOk result (λ next. OnTaken next (CanRead reader.new (H.is_open shelf.new))) }
     ensures nearer { IfOk result (λ next. OnTaken next ((reader.old.taken < reader.new.taken) × (reader.new.taken ≤ SCRIPT_BYTES))) }
     ensures gathered { OnErr result (out.new.items ≡ out.old.items) }
@@ -114,8 +117,12 @@ fn next_line<H: Shelf>(
     ensures no_sink { result ≢ Err Stop.Sink }
 {
     match reader.next(shelf) {
-        Ok(true) => match interpreter.take(alloc, limits, reader.line(), out) {
+        Ok(true) => match take(alloc, engine, reader.line(), out) {
             Ok(Outcome::Done) => Ok(Next::Taken),
+            Ok(Outcome::Refused) => {
+                *refused = true;
+                Ok(Next::Taken)
+            }
             Ok(Outcome::Bad) => push_bad(out, reader.number()),
             Err(_) => Err(Stop::Memory),
         },
@@ -156,7 +163,7 @@ fn finish<K: Sink>(ending: Ending, out: &mut Vec<u8>, sink: &mut K) -> Result<En
 
 /// How a run ends at the end of its script.
 fn ending_of(refused: bool) -> Ending
-    ensures { status_at result ≡ (if refused then 1 else 0) }
+    ensures { (p : Progress) → p.refused ≡ refused → status_at result ≡ end_status p }
 {
     if refused {
         Ending::Refused
@@ -165,20 +172,18 @@ fn ending_of(refused: bool) -> Ending
     }
 }
 
-/// Runs the script that is open from that graph on, to its end or to a line that is bad. Indexes are kept up to the
-/// level `k`.
+/// Runs the script that is open from the graph of the engine on, to its end or to a line that is bad.
 pub(crate) fn run_lines<H: Shelf, K: Sink>(
     alloc: Global,
-    limits: &Limits,
-    graph: Graph,
-    k: u32,
+    engine: &mut Engine,
     shelf: &mut H,
     sink: &mut K,
 ) -> Result<Ending, Stop>
-    requires open { IsTrue (H.is_open shelf.old) }
-    requires few { k ≤ 8 }
-    ensures ran { IfOk result (λ ending. RanTold limits.now (state_of graph.graph k) (H.left shelf.old) (K.written sink.old) (K.written sink.new) (status_at ending) AnyState) }
-    ensures part { OnErr result (FrontTold limits.now (state_of graph.graph k) (H.left shelf.old) (K.written sink.old) (K.written sink.new)) }
+    requires file { IsTrue (H.is_open shelf.old) }
+    requires ready { IsOpen (engine_seen (map (λ b. meaning (b.vtable, b.value)) engine.old.boxes.items) engine.old.state) }
+    ensures ready { IsOpen (engine_seen (map (λ b. meaning (b.vtable, b.value)) engine.new.boxes.items) engine.new.state) }
+    ensures ran { IfOk result (λ ending. RanTold program_limits (state_in (engine_seen (map (λ b. meaning (b.vtable, b.value)) engine.old.boxes.items) engine.old.state)) (H.left shelf.old) (K.written sink.old) (K.written sink.new) (status_at ending) (IsIn (engine_seen (map (λ b. meaning (b.vtable, b.value)) engine.new.boxes.items) engine.new.state))) }
+    ensures part { OnErr result (FrontTold program_limits (state_in (engine_seen (map (λ b. meaning (b.vtable, b.value)) engine.old.boxes.items) engine.old.state)) (H.left shelf.old) (K.written sink.old) (K.written sink.new)) }
     ensures files { H.files shelf.new ≡ H.files shelf.old }
     ensures shelf_fault { IsErrOf result Stop.Shelf → Rose (H.faults shelf.old) (H.faults shelf.new) }
     ensures no_shelf_fault { result ≢ Err Stop.Shelf → H.faults shelf.new ≡ H.faults shelf.old }
@@ -186,21 +191,14 @@ pub(crate) fn run_lines<H: Shelf, K: Sink>(
     ensures no_sink_fault { result ≢ Err Stop.Sink → K.faults sink.new ≡ K.faults sink.old }
 {
     let mut reader = LineReader::new(alloc, LINE_BYTES, SCRIPT_BYTES)?;
-    let mut interpreter = Interpreter::new(graph, k);
+    let mut refused = false;
     let mut out = Vec::new(alloc);
     'lines: loop {
         flush_if_due(&reader, &mut out, sink)?;
-        match next_line(
-            alloc,
-            limits,
-            &mut reader,
-            &mut interpreter,
-            shelf,
-            &mut out,
-        ) {
+        match next_line(alloc, &mut reader, engine, &mut refused, shelf, &mut out) {
             Ok(Next::Taken) => (),
             Ok(Next::AtBad) => return finish(Ending::Bad, &mut out, sink),
-            Ok(Next::AtEnd) => return finish(ending_of(interpreter.refused()), &mut out, sink),
+            Ok(Next::AtEnd) => return finish(ending_of(refused), &mut out, sink),
             Err(Stop::Memory) => {
                 flush(&mut out, sink)?;
                 return Err(Stop::Memory);

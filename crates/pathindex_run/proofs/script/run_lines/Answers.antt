@@ -1,22 +1,25 @@
-use Rattle.std.proofs.Common.{◌≡◌, ◌∙◌, ap, rules}
-use Rattle.std.specs.Prelude.{if◌then◌else◌}
+use Rattle.std.proofs.Common.{◌≡◌, ◌∙◌, ap, rules, refl, map}
+use Rattle.std.specs.Prelude.{is_some}
 use Rattle.std.proofs.lemmas.Result.{err_from_is_err_and}
 use Rattle.pathindex_run.specs.declared.script.Ending.TheVariants.{Bad}
 use Rattle.pathindex_run.specs.Endings.{status_at}
-use Rattle.pathindex_run.specs.States.{AnyState, state_of}
+use Rattle.px_spec.specs.ProgramLimits.{program_limits}
+use Rattle.pathindex_core.specs.Engines.{engine_seen}
+use Rattle.pathindex_run.specs.EngineStates.{state_in}
 use Rattle.pathindex_run.specs.Runs.{end_status}
 use Rattle.pathindex_run.specs.RunSteps.{progress}
-use Rattle.pathindex_run.proofs.ReachedLemmas.{reached-start, reached-more, reached-written, ran-over, ran-bad, front-part, front-bad, part_written, nothing_written, all_written, ok_fact, err_fact}
+use Rattle.pathindex_run.proofs.ReachedLemmas.{reached-start, reached-more, reached-written, ran-over, ran-bad, front-part, front-bad, front-over, part_written, nothing_written, all_written, ok_fact, err_fact}
 use Rattle.pathindex_run.proofs.script.run_lines.Goals as goal
 
 pub returns-in_err-reader-clause-part : goal.returns-in_err-reader-clause-part
 returns-in_err-reader-clause-part g c =
     let p = err_from_is_err_and c.from_residual.result c.from_residual.ensures.1 in
-    rw p.1 (front-part _ _ (reached-start c.args.limits.now (state_of c.args.graph.graph c.args.k) (g.H.Shelf.left c.args.shelf.now) (g.K.Sink.written c.args.sink.now)) _ (nothing_written _ _))
+    rw p.1 (front-part _ _ (reached-start program_limits (state_in (engine_seen (map (λ b. (goal.PathIndex-dyn g (b.vtable, b.value)).meaning b.value) c.args.engine.now.boxes.items) c.args.engine.now.state)) (g.H.Shelf.left c.args.shelf.now) (g.K.Sink.written c.args.sink.now)) _ (nothing_written _ _))
 
 pub lines-init : goal.lines-init
 lines-init g c = record {
-  reached = rw (c.in_ok-reader.ensures, c.new-interpreter.ensures, c.new-out.ensures.items) (reached-start c.args.limits.now (state_of c.args.graph.graph c.args.k) (g.H.Shelf.left c.args.shelf.now) (g.K.Sink.written c.args.sink.now));
+  reached = rw (c.in_ok-reader.ensures, c.new-out.ensures.items) (reached-start program_limits (state_in (engine_seen (map (λ b. (goal.PathIndex-dyn g (b.vtable, b.value)).meaning b.value) c.args.engine.now.boxes.items) c.args.engine.now.state)) (g.H.Shelf.left c.args.shelf.now) (g.K.Sink.written c.args.sink.now));
+  ready = c.requires.ready;
   can = rw c.in_ok-reader.ensures (search rules);
   taken = rw c.in_ok-reader.ensures (search rules);
   files = search rules;
@@ -34,6 +37,7 @@ lines-preserved g c =
     let goes = rw c.in-Ok-Taken.field-0-is at c.in-Ok-Taken.ensures.goes in
     record {
       reached = reached-more (reached-written c.lines.invariant.reached _ _ c.in_ok-flush_if_due.ensures.written) goes.0 goes.1 _ _ _ goes.2 goes.3 goes.4;
+      ready = c.next_line.ensures.ready;
       can = rw c.in-Ok-Taken.field-0-is at c.in-Ok-Taken.ensures.can;
       taken = (rw c.in-Ok-Taken.field-0-is at c.in-Ok-Taken.ensures.nearer).1;
       files = search rules;
@@ -45,27 +49,28 @@ pub returns-in-Ok-AtBad-clause-ran : goal.returns-in-Ok-AtBad-clause-ran
 returns-in-Ok-AtBad-clause-ran g c =
     let goes = rw c.in-Ok-AtBad.field-0-is at c.in-Ok-AtBad.ensures.goes in
     ok_fact c.finish.result Bad _ _ c.finish.ensures.ending c.finish.ensures.all
-    (λ w. ran-bad _ _ (reached-written c.lines.invariant.reached _ _ c.in_ok-flush_if_due.ensures.written) goes.0 _ _ goes.1 w AnyState tt)
+    (λ w. ran-bad _ _ (reached-written c.lines.invariant.reached _ _ c.in_ok-flush_if_due.ensures.written) goes.0 _ _ goes.2 w _ (record { is_open = ap is_some c.next_line.ensures.ready.opened_is; state = goes.1 }))
 
 pub returns-in-Ok-AtBad-clause-part : goal.returns-in-Ok-AtBad-clause-part
 returns-in-Ok-AtBad-clause-part g c =
     let goes = rw c.in-Ok-AtBad.field-0-is at c.in-Ok-AtBad.ensures.goes in
     err_fact c.finish.result _ _ c.finish.ensures.part
-    (λ w. front-bad _ _ (reached-written c.lines.invariant.reached _ _ c.in_ok-flush_if_due.ensures.written) goes.0 _ _ goes.1 (part_written _ _ _ w))
+    (λ w. front-bad _ _ (reached-written c.lines.invariant.reached _ _ c.in_ok-flush_if_due.ensures.written) goes.0 _ _ goes.2 (part_written _ _ _ w))
 
 pub returns-in-Ok-AtEnd-clause-ran : goal.returns-in-Ok-AtEnd-clause-ran
 returns-in-Ok-AtEnd-clause-ran g c =
     let goes = rw c.in-Ok-AtEnd.field-0-is at c.in-Ok-AtEnd.ensures.goes in
-    let p = progress c.lines.interpreter c.lines.reader in
-    let e : status_at c.ending_of.result ≡ end_status p = c.ending_of.ensures ∙ ap (λ b. if b then 1 else 0) (c.refused.ensures ∙ goes.1) in
+    let p = progress (state_in (engine_seen (map (λ b. (goal.PathIndex-dyn g (b.vtable, b.value)).meaning b.value) c.lines.engine.boxes.items) c.lines.engine.state)) c.lines.refused c.lines.reader in
+    let q = progress (state_in (engine_seen (map (λ b. (goal.PathIndex-dyn g (b.vtable, b.value)).meaning b.value) c.next_line.new.engine.boxes.items) c.next_line.new.engine.state)) c.next_line.new.refused c.next_line.new.reader in
+    let e : status_at c.ending_of.result ≡ end_status p = c.ending_of.ensures q refl ∙ goes.2 in
     ok_fact c.finish-in-Ok-AtEnd.result c.ending_of.result _ _ c.finish-in-Ok-AtEnd.ensures.ending c.finish-in-Ok-AtEnd.ensures.all
-    (λ w. rw e (ran-over _ _ (reached-written c.lines.invariant.reached _ _ c.in_ok-flush_if_due.ensures.written) goes.0 _ (rw goes.2 at w) AnyState tt))
+    (λ w. rw e (ran-over _ _ (reached-written c.lines.invariant.reached _ _ c.in_ok-flush_if_due.ensures.written) goes.0 _ _ goes.3 w _ (record { is_open = ap is_some c.next_line.ensures.ready.opened_is; state = goes.1 })))
 
 pub returns-in-Ok-AtEnd-clause-part : goal.returns-in-Ok-AtEnd-clause-part
 returns-in-Ok-AtEnd-clause-part g c =
     let goes = rw c.in-Ok-AtEnd.field-0-is at c.in-Ok-AtEnd.ensures.goes in
     err_fact c.finish-in-Ok-AtEnd.result _ _ c.finish-in-Ok-AtEnd.ensures.part
-    (λ w. front-part _ _ (reached-written c.lines.invariant.reached _ _ c.in_ok-flush_if_due.ensures.written) _ (part_written _ _ _ (rw goes.2 at w)))
+    (λ w. front-over _ _ (reached-written c.lines.invariant.reached _ _ c.in_ok-flush_if_due.ensures.written) goes.0 _ _ goes.3 (part_written _ _ _ w))
 
 pub returns-in_err-flush-in-Err-Memory-clause-part : goal.returns-in_err-flush-in-Err-Memory-clause-part
 returns-in_err-flush-in-Err-Memory-clause-part g c =

@@ -1,14 +1,18 @@
-use Rattle.std.proofs.Common.{◌≡◌, ◌-◌, ◌≤◌}
+use Rattle.std.proofs.Common.{◌≡◌, ◌-◌, ◌≤◌, map}
 use Rattle.px_base.specs.declared.lines.TheConstants.{SCRIPT_BYTES}
 use Rattle.px_base.specs.Reading.{stream}
-use Rattle.pathindex_run.specs.States.{state_of}
+use Rattle.px_spec.specs.ProgramLimits.{program_limits}
+use Rattle.pathindex_core.specs.Engines.{engine_seen}
+use Rattle.pathindex_run.specs.EngineStates.{IsOpen, state_in}
 use Rattle.pathindex_run.specs.RunSteps.{progress, CanRead}
 use Rattle.pathindex_run.proofs.ReachedLemmas.{Reached}
 use Rattle.pathindex_run.proofs.script.run_lines.Given as goal
 
 abbrev pub invariant-lines : goal.invariant-lines
 invariant-lines g l = record {
-  reached : Reached l.limits (state_of l.fn.graph.graph l.fn.k) (g.H.Shelf.left l.fn.shelf) (stream l.reader (g.H.Shelf.left l.shelf)) (g.K.Sink.written l.fn.sink) (g.K.Sink.written l.sink) l.out.items (progress l.interpreter l.reader);
+  reached : Reached program_limits (state_in (engine_seen (map (λ b. (goal.PathIndex-dyn g (b.vtable, b.value)).meaning b.value) l.fn.engine.boxes.items) l.fn.engine.state)) (g.H.Shelf.left l.fn.shelf) (stream l.reader (g.H.Shelf.left l.shelf)) (g.K.Sink.written l.fn.sink) (g.K.Sink.written l.sink) l.out.items
+      (progress (state_in (engine_seen (map (λ b. (goal.PathIndex-dyn g (b.vtable, b.value)).meaning b.value) l.engine.boxes.items) l.engine.state)) l.refused l.reader);
+  ready : IsOpen (engine_seen (map (λ b. (goal.PathIndex-dyn g (b.vtable, b.value)).meaning b.value) l.engine.boxes.items) l.engine.state);
   can : CanRead l.reader (g.H.Shelf.is_open l.shelf);
   taken : l.reader.taken ≤ SCRIPT_BYTES;
   files : g.H.Shelf.files l.shelf ≡ g.H.Shelf.files l.fn.shelf;

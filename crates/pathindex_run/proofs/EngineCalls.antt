@@ -1,0 +1,186 @@
+-- What each call of the engine makes of the state of a run.
+use Rattle.std.proofs.Common.{◌≡◌, Bool, true, false, List, [], ◌∷◌, Option, Some, Ok, Err, refl, sym, ap, ◌∙◌, subst, cond, true≢false}
+use Rattle.std.specs.Prelude.{◌++◌, ◌||◌, ◌↔◌, ℕ, All, is_err, not}
+use Rattle.std.specs.List.{filter}
+use Rattle.px_spec.specs.declared.refusal.Refusal.{Refusal}
+use Rattle.px_spec.specs.declared.refusal.Refusal.TheVariants.{NoIndex}
+use Rattle.px_spec.specs.ProgramLimits.{program_limits}
+use Rattle.px_spec.specs.Changes.{Change, apply}
+use Rattle.bisim_spec.specs.declared.kind.Kind.{Kind}
+use Rattle.graph_update.specs.declared.changes.Applied.{Applied}
+use Rattle.graph_update.specs.Staging.{applied_of}
+use Rattle.index_api.specs.declared.kinds.Via.{Via}
+use Rattle.index_api.specs.declared.kinds.Via.TheVariants.{Data}
+use Rattle.index_api.specs.Meanings.{Meaning, IsBuilt, KeepsViews}
+use Rattle.index_api.specs.Kept.{is_kind, has_kind, kinds_of, is_kept}
+use Rattle.path_spec.specs.Trees.{Expr}
+use Rattle.script_read.specs.Commands.{change, path, extents, sizes, forget}
+use Rattle.pathindex_core.specs.Engines.{Opened, EngineSeen, EachBecomes, IsKeptFor, AreKeptFor, IsSound, graph_in}
+use Rattle.pathindex_core.specs.Updates.{IsUpdated, graph_or, outcome_in, opened_after}
+use Rattle.pathindex_run.specs.Texts.{applied_line, refused_line, ok_line, reply}
+use Rattle.pathindex_run.specs.States.{State, IsFirst, forgotten}
+use Rattle.pathindex_run.specs.EngineStates.{IsOpen, state_in}
+use Rattle.pathindex_run.specs.Indexes.{ShowsAnswers, ShowsExtents, unkept, ShowsSizes}
+use Rattle.pathindex_run.specs.Runs.{IsChanged, Becomes, Obeys, changes, asks, lists, measures, forgets, lacks}
+use Rattle.pathindex_run.specs.RunSteps.{Obeyed}
+use Rattle.pathindex_run.proofs.EngineLemmas.{first_state, changed_state, kept_state, forgotten_state}
+
+pub open_same : (e f : EngineSeen) → f ≡ e → IsOpen e → IsOpen f
+open_same e f h o = subst IsOpen (sym h) o
+
+-- the indexes of an open engine
+fits_in : (e : EngineSeen) (o : Opened) → e.opened ≡ Some o → IsSound e → All (IsKeptFor o) e.boxes
+fits_in e o h s = (subst (λ x. AreKeptFor x e.boxes) h s.fit).1
+
+seen_as : (e : EngineSeen) (o : Opened) → e.opened ≡ Some o → state_in (record { boxes = e.boxes; opened = Some o }) ≡ state_in e
+seen_as e o h i = state_in (record { boxes = e.boxes; opened = sym h i })
+
+-- what is an answer is no error
+pub no_refusal : {T E P : Type 0} (x : T) (e : E) → (P → Ok x ≡ Err e) → P → ⊥
+no_refusal x e f p = (let z = f p in cc)
+
+-- an accepted change was made
+pub record IsMade (c : Change) (e f : EngineSeen) : Type 0 where
+  pub sound : IsSound f
+  pub opened : f.opened ≡ opened_after c e.opened
+  pub updated : EachBecomes (IsUpdated c (graph_in e.opened)) e.boxes f.boxes
+  pub kinds : kinds_of f.boxes ≡ kinds_of e.boxes
+  pub accepted : (r : Refusal) → outcome_in c e.opened ≡ Err r → ⊥
+
+pub open_made : (c : Change) (e f : EngineSeen) → IsOpen e → IsMade c e f → IsOpen f
+open_made c e f o m = record {
+  sound = m.sound;
+  opened = record o.opened { graph = graph_or o.opened.graph (apply c o.opened.graph o.opened.limits) };
+  opened_is = m.opened ∙ ap (opened_after c) o.opened_is;
+  limits_are = o.limits_are;
+}
+
+pub made_obeyed : (c : Change) (e f : EngineSeen) (applied : Applied) (out gathered : List ℕ) → IsOpen e → IsMade c e f → applied ≡ applied_of c (graph_in e.opened)
+    → gathered ≡ out ++ applied_line applied → Obeyed program_limits (state_in e) (change c) out false (state_in f) gathered
+made_obeyed c e f applied out gathered ready m is g =
+    let o = ready.opened in
+    elim (apply c o.graph o.limits) as (λ x. apply c o.graph o.limits ≡ x → Obeyed program_limits (state_in e) (change c) out false (state_in f) gathered) [
+      | Ok h ↦ λ q.
+          (let p : Opened = record o { graph = h } in
+          let f_is : f.opened ≡ Some p = m.opened ∙ ap (opened_after c) ready.opened_is ∙ ap (λ x. Some (record o { graph = graph_or o.graph x })) q in
+          let updated = subst (λ x. EachBecomes (IsUpdated c (graph_in x)) e.boxes f.boxes) ready.opened_is m.updated in
+          let moved = changed_state c o p h e.boxes f.boxes q refl updated m.kinds (fits_in f p f_is m.sound) in
+          let changed : IsChanged (state_in e) c h (state_in f) = subst (λ t. IsChanged (state_in e) c h t) (seen_as f p f_is) (subst (λ s. IsChanged s c h (state_in (record { boxes = f.boxes; opened = Some p }))) (seen_as e o ready.opened_is) moved) in
+          let outcome : apply c (state_in e).graph program_limits ≡ Ok h = ap (λ x. apply c (graph_in x) program_limits) ready.opened_is ∙ ap (apply c o.graph) (sym ready.limits_are) ∙ q in
+          record {
+            printed = applied_line (applied_of c (state_in e).graph);
+            obeys = subst (λ x. Obeys program_limits (state_in e) (change c) (reply c (state_in e).graph x) (is_err x) (state_in f)) outcome
+                (changes c (state_in f) (subst (λ x. Becomes (state_in e) c x (state_in f)) (sym outcome) changed));
+            gathered_is = g ∙ ap (λ a. out ++ applied_line a) is;
+          })
+      | Err r ↦ λ q. absurd (m.accepted r (ap (outcome_in c) ready.opened_is ∙ q))
+    ] refl
+
+-- a change was refused, and all is as it was
+pub refused_obeyed : (c : Change) (e f : EngineSeen) (r : Refusal) (out gathered : List ℕ) → IsOpen e → f ≡ e → outcome_in c e.opened ≡ Err r
+    → gathered ≡ out ++ refused_line r → Obeyed program_limits (state_in e) (change c) out true (state_in f) gathered
+refused_obeyed c e f r out gathered ready same q g =
+    let o = ready.opened in
+    let outcome : apply c (state_in e).graph program_limits ≡ Err r =
+    ap (λ x. apply c (graph_in x) program_limits) ready.opened_is ∙ ap (apply c o.graph) (sym ready.limits_are) ∙ ap (outcome_in c) (sym ready.opened_is) ∙ q in
+    record {
+      printed = refused_line r;
+      obeys = subst (λ x. Obeys program_limits (state_in e) (change c) (reply c (state_in e).graph x) (is_err x) (state_in f)) outcome
+          (changes c (state_in f) (subst (λ x. Becomes (state_in e) c x (state_in f)) (sym outcome) (ap state_in same)));
+      gathered_is = g;
+    }
+
+-- nothing but a view that wasn't computed changed
+pub record IsAsked (e f : EngineSeen) : Type 0 where
+  pub sound : IsSound f
+  pub opened : f.opened ≡ e.opened
+  pub keeps : EachBecomes KeepsViews e.boxes f.boxes
+
+pub open_asked : (e f : EngineSeen) → IsOpen e → IsAsked e f → IsOpen f
+open_asked e f o a = record { sound = a.sound; opened = o.opened; opened_is = a.opened ∙ o.opened_is; limits_are = o.limits_are }
+
+pub same_asked : (e f : EngineSeen) → IsOpen e → IsAsked e f → state_in f ≡ state_in e
+same_asked e f o a =
+    sym (seen_as f o.opened (a.opened ∙ o.opened_is))
+    ∙ kept_state o.opened e.boxes f.boxes (fits_in e o.opened o.opened_is o.sound) a.keeps
+    ∙ seen_as e o.opened o.opened_is
+
+pub path_obeyed : (e f : EngineSeen) (via : Via) (x : Expr) (text out gathered : List ℕ) (refuses : Bool) → IsOpen e → IsAsked e f
+    → ShowsAnswers (state_in e) x via text refuses → gathered ≡ out ++ text → Obeyed program_limits (state_in e) (path via x) out refuses (state_in f) gathered
+path_obeyed e f via x text out gathered refuses o a s g = record {
+  printed = text;
+  obeys = subst (Obeys program_limits (state_in e) (path via x) text refuses) (sym (same_asked e f o a)) (asks via x text refuses s);
+  gathered_is = g;
+}
+
+pub list_obeyed : (e f : EngineSeen) (via : Via) (text out gathered : List ℕ) (refuses : Bool) → IsOpen e → IsAsked e f
+    → ShowsExtents (state_in e) via text refuses → gathered ≡ out ++ text → Obeyed program_limits (state_in e) (extents via) out refuses (state_in f) gathered
+list_obeyed e f via text out gathered refuses o a s g = record {
+  printed = text;
+  obeys = subst (Obeys program_limits (state_in e) (extents via) text refuses) (sym (same_asked e f o a)) (lists via text refuses s);
+  gathered_is = g;
+}
+
+pub sizes_obeyed : (e f : EngineSeen) (text out gathered : List ℕ) → IsOpen e → IsAsked e f
+    → ShowsSizes (state_in e) text → gathered ≡ out ++ text → Obeyed program_limits (state_in e) sizes out false (state_in f) gathered
+sizes_obeyed e f text out gathered o a s g = record {
+  printed = text;
+  obeys = subst (Obeys program_limits (state_in e) sizes text false) (sym (same_asked e f o a)) (measures text s);
+  gathered_is = g;
+}
+
+-- the index of a kind was taken out
+pub record IsForgotten (kind : Kind) (e f : EngineSeen) : Type 0 where
+  pub sound : IsSound f
+  pub opened : f.opened ≡ e.opened
+  pub boxes : f.boxes ≡ filter (λ m. not (is_kind kind m.kind)) e.boxes
+
+pub open_forgotten : (kind : Kind) (e f : EngineSeen) → IsOpen e → IsForgotten kind e f → IsOpen f
+open_forgotten kind e f o a = record { sound = a.sound; opened = o.opened; opened_is = a.opened ∙ o.opened_is; limits_are = o.limits_are }
+
+pub forget_obeyed : (kind : Kind) (e f : EngineSeen) (out gathered : List ℕ) → IsForgotten kind e f → has_kind (kinds_of e.boxes) kind ≡ true → gathered ≡ out ++ ok_line
+    → Obeyed program_limits (state_in e) (forget kind) out false (state_in f) gathered
+forget_obeyed kind e f out gathered a h g = record {
+  printed = ok_line;
+  obeys = subst (Obeys program_limits (state_in e) (forget kind) ok_line false) (sym (forgotten_state kind e f a.opened a.boxes)) (forgets kind h);
+  gathered_is = g;
+}
+
+all_left : (kind : Kind) (boxes : List Meaning) → has_kind (kinds_of boxes) kind ≡ false → filter (λ m. not (is_kind kind m.kind)) boxes ≡ boxes
+all_left kind [] h = refl
+all_left kind (m ∷ ms) h =
+    elim (is_kind kind m.kind) as (λ t. (t || has_kind (kinds_of ms) kind) ≡ false → cond (not t) (m ∷ filter (λ x. not (is_kind kind x.kind)) ms) (filter (λ x. not (is_kind kind x.kind)) ms) ≡ m ∷ ms) [
+      | true ↦ λ e. absurd (true≢false e)
+      | false ↦ λ e. ap (λ xs. m ∷ xs) (all_left kind ms e)
+    ] h
+
+-- none of that kind is kept, and all is as it was
+pub lacks_obeyed : (kind : Kind) (e f : EngineSeen) (out gathered : List ℕ) → IsForgotten kind e f → has_kind (kinds_of e.boxes) kind ≡ false → gathered ≡ out ++ refused_line NoIndex
+    → Obeyed program_limits (state_in e) (forget kind) out true (state_in f) gathered
+lacks_obeyed kind e f out gathered a h g = record {
+  printed = refused_line NoIndex;
+  obeys = subst (Obeys program_limits (state_in e) (forget kind) (refused_line NoIndex) true) (sym (ap state_in same)) (lacks kind h);
+  gathered_is = g;
+}
+  where
+    same : f ≡ e
+    same i = record { boxes = (a.boxes ∙ all_left kind e.boxes h) i; opened = a.opened i }
+
+-- what was forgotten was kept
+pub kept_kind : {T E : Type 0} (b : Bool) (x : T) (e : E) → (Ok x ≡ Err e) ↔ (b ≡ false) → b ≡ true
+kept_kind true x e h = refl
+kept_kind false x e h = absurd (no_refusal x e h.1 refl)
+
+-- the list of the graph itself is refused
+pub data_obeyed : (e : EngineSeen) (via : Via) (out gathered : List ℕ) → via ≡ Data → gathered ≡ out ++ refused_line NoIndex → Obeyed program_limits (state_in e) (extents via) out true (state_in e) gathered
+data_obeyed e via out gathered d g = record {
+  printed = refused_line NoIndex;
+  obeys = lists via (refused_line NoIndex) true (unkept via (ap (is_kept (state_in e).kept) d));
+  gathered_is = g;
+}
+
+-- the state with which a run begins
+pub opened_first : (e f : EngineSeen) (o : Opened) → f.opened ≡ Some o → EachBecomes (λ a b. IsBuilt a b o.graph o.k) e.boxes f.boxes → kinds_of f.boxes ≡ kinds_of e.boxes → IsSound f
+    → IsFirst (state_in f).graph (kinds_of e.boxes) o.k (state_in f)
+opened_first e f o h built kinds s =
+    subst (λ x. IsFirst x.graph (kinds_of e.boxes) o.k x) (seen_as f o h) (first_state o.graph o e.boxes f.boxes refl built kinds (fits_in f o h s))

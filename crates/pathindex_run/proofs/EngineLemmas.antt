@@ -1,0 +1,256 @@
+-- What the calls of an engine make of the state of a run.
+use Rattle.std.proofs.Common.{◌≡◌, ℕ, zero, suc, ◌<◌, Bool, true, false, List, [], ◌∷◌, length, Option, None, Some, refl, sym, ap, ◌∙◌, subst, arith, cond, true≢false, Ok, Err}
+use Rattle.std.specs.Prelude.{⊤, not, ◌||◌, All, IsTrue, Result, map, slice_index_or, option_and_then, if◌then◌else◌}
+use Rattle.std.specs.List.{filter, find}
+use Rattle.px_spec.specs.Graphs.{Graph}
+use Rattle.px_spec.specs.Changes.{Change, apply}
+use Rattle.px_spec.specs.declared.refusal.Refusal.{Refusal}
+use Rattle.px_spec.specs.Shapes.{shape_of}
+use Rattle.bisim_spec.specs.declared.kind.Kind.{Kind}
+use Rattle.bisim_spec.specs.declared.kind.Kind.TheVariants as kind
+use Rattle.bisim_spec.specs.Bisimilarity.{Bisim}
+use Rattle.bisim_spec.specs.Partitions.{Agrees}
+use Rattle.bisim_spec.specs.Views.{View}
+use Rattle.bisim_spec.specs.Fits.{Fits, FitsAt, FitsOne, view_at}
+use Rattle.graph_update.specs.NewChanges.{is_same}
+use Rattle.index_api.specs.Meanings.{Meaning, IsReady, IsBuilt, BeginsWhole, KeepsViews}
+use Rattle.index_api.specs.Kept.{KeptIndexes, is_kind, has_kind, kinds_of, index_of, kept_view, blocks_in, kept_of}
+use Rattle.pathindex_core.specs.Engines.{Opened, EngineSeen, EachBecomes, IsKeptFor, AreKeptFor, IsSound, graph_in, level_in}
+use Rattle.pathindex_core.specs.Updates.{IsUpdated, graph_or, opened_after}
+use Rattle.pathindex_run.specs.States.{State, IsFirst, forgotten}
+use Rattle.pathindex_run.specs.Runs.{IsMinimalIndex, IsChanged}
+use Rattle.pathindex_run.specs.EngineStates.{state_in}
+
+-- R holds between the indexes of two lists, one by one
+abbrev Pairwise : (R : Meaning → Meaning → Type 0) → List Meaning → List Meaning → Type 0
+Pairwise R [] [] = ⊤
+Pairwise R [] (b ∷ bs) = ⊥
+Pairwise R (a ∷ xs) [] = ⊥
+Pairwise R (a ∷ xs) (b ∷ bs) = R a b × Pairwise R xs bs
+
+pairwise : (R : Meaning → Meaning → Type 0) (olds news : List Meaning) → EachBecomes R olds news → Pairwise R olds news
+pairwise R [] [] h = tt
+pairwise R [] (b ∷ bs) h = let e = h.length_kept in absurd (omega (arith, e))
+pairwise R (a ∷ xs) [] h = let e = h.length_kept in absurd (omega (arith, e))
+pairwise R (a ∷ xs) (b ∷ bs) h = (
+  h.each 0 a (omega arith),
+  pairwise R xs bs (record { length_kept = (let e = h.length_kept in omega (arith, e)); each = λ i d l. h.each (suc i) d (omega (arith, l)) }),
+)
+
+-- of two indexes that are found, or of none, R holds
+pub data Both (R : Meaning → Meaning → Type 0) : Option Meaning → Option Meaning → Type 0 where
+  neither : Both R None None
+  both : (a b : Meaning) → R a b → Both R (Some a) (Some b)
+
+-- what is found of one kind before and after
+found : (R : Meaning → Meaning → Type 0) (k : Kind) → ((a b : Meaning) → R a b → b.kind ≡ a.kind) → (olds news : List Meaning) → Pairwise R olds news → Both R (index_of olds k) (index_of news k)
+found R k same [] [] h = neither
+found R k same [] (b ∷ bs) h = absurd h
+found R k same (a ∷ xs) [] h = absurd h
+found R k same (a ∷ xs) (b ∷ bs) h =
+    elim (is_kind k a.kind) as (λ t. is_kind k b.kind ≡ t → Both R (cond t (Some a) (index_of xs k)) (cond (is_kind k b.kind) (Some b) (index_of bs k))) [
+      | true ↦ λ e. subst (λ t. Both R (Some a) (cond t (Some b) (index_of bs k))) (sym e) (both a b h.0)
+      | false ↦ λ e. subst (λ t. Both R (index_of xs k) (cond t (Some b) (index_of bs k))) (sym e) (found R k same xs bs h.1)
+    ] (ap (is_kind k) (same a b h.0))
+
+-- what is found is of that kind, and P holds of it where it holds of each
+found_all : (P : Meaning → Type 0) (k : Kind) (boxes : List Meaning) → All P boxes → (m : Meaning) → index_of boxes k ≡ Some m → P m × (is_kind k m.kind ≡ true)
+found_all P k [] all m e = absurd (cc)
+found_all P k (a ∷ xs) all m e =
+    elim (is_kind k a.kind) as (λ t. is_kind k a.kind ≡ t → cond t (Some a) (index_of xs k) ≡ Some m → P m × (is_kind k m.kind ≡ true)) [
+      | true ↦ λ t f. (let same : a ≡ m = cc in (subst P same (all 0 a (omega arith)), ap (λ x. is_kind k x.kind) (sym same) ∙ t))
+      | false ↦ λ t f. found_all P k xs (λ i d l. all (suc i) d (omega (arith, l))) m f
+    ] refl e
+
+none_found : (k : Kind) (boxes : List Meaning) → has_kind (kinds_of boxes) k ≡ false → index_of boxes k ≡ None
+none_found k [] h = refl
+none_found k (a ∷ xs) h =
+    elim (is_kind k a.kind) as (λ t. (t || has_kind (kinds_of xs) k) ≡ false → cond t (Some a) (index_of xs k) ≡ None) [
+      | true ↦ λ e. absurd (true≢false e)
+      | false ↦ λ e. none_found k xs e
+    ] h
+
+some_found : (k : Kind) (boxes : List Meaning) → has_kind (kinds_of boxes) k ≡ true → (m : Meaning) × (index_of boxes k ≡ Some m)
+some_found k [] h = absurd (true≢false (sym h))
+some_found k (a ∷ xs) h =
+    elim (is_kind k a.kind) as (λ t. (t || has_kind (kinds_of xs) k) ≡ true → (m : Meaning) × (cond t (Some a) (index_of xs k) ≡ Some m)) [
+      | true ↦ λ e. (a, refl)
+      | false ↦ λ e. some_found k xs e
+    ] h
+
+is_one : (k : Kind) → is_kind kind.One k ≡ true → k ≡ kind.One
+is_one kind.A h = absurd (true≢false (sym h))
+is_one kind.One h = refl
+is_one kind.Fb h = absurd (true≢false (sym h))
+
+-- the blocks of the 1-index among the boxes
+abbrev one_in : List Meaning → List (Option ℕ)
+one_in boxes = blocks_in (kept_view boxes kind.One 0)
+
+view_fits : (g : Graph) (o : Option View) → FitsAt kind.One g 0 o → (v : View) × (o ≡ Some v) × FitsOne g v
+view_fits g None h = absurd h
+view_fits g (Some v) h = (v, refl, h)
+
+-- the 1-index that is kept for a graph has a view of it
+record HasOne (g : Graph) (boxes : List Meaning) : Type 0 where
+  index : Meaning
+  index_is : index_of boxes kind.One ≡ Some index
+  of_kind : index.kind ≡ kind.One
+  view : View
+  view_is : view_at index.views 0 ≡ Some view
+  fits : FitsOne g view
+  blocks : one_in boxes ≡ view.block_of
+
+has_one : (o : Opened) (boxes : List Meaning) → All (IsKeptFor o) boxes → has_kind (kinds_of boxes) kind.One ≡ true → HasOne o.graph boxes
+has_one o boxes all h =
+    let m = some_found kind.One boxes h in
+    let f = found_all (IsKeptFor o) kind.One boxes all m.0 m.1 in
+    let one = is_one m.0.kind f.1 in
+    let fits = f.0.ready.fits in
+    let count : length m.0.views ≡ 1 = subst (λ k. Fits k m.0.views o.graph → length m.0.views ≡ 1) (sym one) (λ x. x.count) fits in
+    let v = view_fits o.graph (view_at m.0.views 0) (subst (λ k. FitsAt k o.graph 0 (view_at m.0.views 0)) one (fits.each 0 (omega (arith, count)))) in
+    record {
+      index = m.0;
+      index_is = m.1;
+      of_kind = one;
+      view = v.0;
+      view_is = v.1;
+      fits = v.2;
+      blocks = ap (λ x. blocks_in (option_and_then (λ b. view_at b.views 0) x)) m.1 ∙ ap blocks_in v.1;
+    }
+
+-- the state in which a run begins, once the engine is open
+pub first_state : (g : Graph) (o : Opened) (olds news : List Meaning) → o.graph ≡ g → EachBecomes (λ a b. IsBuilt a b g o.k) olds news
+    → kinds_of news ≡ kinds_of olds → All (IsKeptFor o) news → IsFirst g (kinds_of olds) o.k (state_in (record { boxes = news; opened = Some o }))
+first_state g o olds news same built kinds all = record {
+  graph = same;
+  kinds = kinds;
+  level = refl;
+  one = λ h. whole (has_one o news all h) (found (λ a b. IsBuilt a b g o.k) kind.One (λ a b r. r.kind) olds news (pairwise _ olds news built));
+  none = λ h. ap (λ x. blocks_in (option_and_then (λ b. view_at b.views 0) x)) (none_found kind.One news h);
+}
+  where
+    begins : (k : Kind) (x : Option View) (v : View) → k ≡ kind.One → x ≡ Some v → BeginsWhole k g x → Agrees (shape_of g) v.block_of (Bisim (shape_of g))
+    begins k x v e f w = subst (λ y. BeginsWhole kind.One g y) f (subst (λ z. BeginsWhole z g x) e w)
+
+    by_found : (one : HasOne o.graph news) (x y : Option Meaning) → Both (λ a b. IsBuilt a b g o.k) x y → y ≡ Some one.index → Agrees (shape_of g) one.view.block_of (Bisim (shape_of g))
+    by_found one None None neither e = absurd (cc)
+    by_found one None (Some b) f e = elim f [ ]
+    by_found one (Some a) None f e = elim f [ ]
+    by_found one (Some a) (Some b) (both _ _ r) e =
+        let same : b ≡ one.index = cc in
+        begins a.kind (view_at b.views 0) one.view (sym r.kind ∙ ap (λ m. m.kind) same ∙ one.of_kind) (ap (λ m. view_at m.views 0) same ∙ one.view_is) r.whole
+
+    whole : (one : HasOne o.graph news) → Both (λ a b. IsBuilt a b g o.k) (index_of olds kind.One) (index_of news kind.One) → Agrees (shape_of g) (one_in news) (Bisim (shape_of g))
+    whole one f = subst (λ p. Agrees (shape_of g) p (Bisim (shape_of g))) (sym one.blocks) (by_found one _ _ f one.index_is)
+
+all_same : (olds news : List Meaning) → Pairwise (λ a b. b ≡ a) olds news → news ≡ olds
+all_same [] [] h = refl
+all_same [] (b ∷ bs) h = absurd h
+all_same (a ∷ xs) [] h = absurd h
+all_same (a ∷ xs) (b ∷ bs) h = ap (λ y. y ∷ bs) h.0 ∙ ap (λ ys. a ∷ ys) (all_same xs bs h.1)
+
+weaker : (R Q : Meaning → Meaning → Type 0) → ((a b : Meaning) → R a b → Q a b) → (olds news : List Meaning) → Pairwise R olds news → Pairwise Q olds news
+weaker R Q f [] [] h = tt
+weaker R Q f [] (b ∷ bs) h = absurd h
+weaker R Q f (a ∷ xs) [] h = absurd h
+weaker R Q f (a ∷ xs) (b ∷ bs) h = (f a b h.0, weaker R Q f xs bs h.1)
+
+-- what an accepted change makes of the state
+pub changed_state : (c : Change) (o p : Opened) (h : Graph) (olds news : List Meaning) → apply c o.graph o.limits ≡ Ok h → p ≡ record o { graph = h }
+    → EachBecomes (IsUpdated c o.graph) olds news → kinds_of news ≡ kinds_of olds → All (IsKeptFor p) news
+    → IsChanged (state_in (record { boxes = olds; opened = Some o })) c h (state_in (record { boxes = news; opened = Some p }))
+changed_state c o p h olds news outcome is updated kinds all = record {
+  graph = ap (λ x. x.graph) is;
+  kinds = kinds;
+  level = ap (λ x. x.k) is;
+  same = λ e. ap one_in (all_same olds news (weaker (IsUpdated c o.graph) (λ a b. b ≡ a) (λ a b u. u.same e) olds news (pairwise _ olds news updated)));
+  one = λ e.
+      let one = has_one p news all (ap (λ ks. has_kind ks kind.One) kinds ∙ e) in
+      subst (IsMinimalIndex h) (sym one.blocks) (subst (λ g. IsMinimalIndex g one.view.block_of) (ap (λ x. x.graph) is) (record { stable = one.fits.stable; minimal = one.fits.minimal; whole = one.fits.whole }));
+  none = λ e.
+      let empty : (boxes : List Meaning) → has_kind (kinds_of boxes) kind.One ≡ false → one_in boxes ≡ [] =
+      λ boxes f. ap (λ x. blocks_in (option_and_then (λ b. view_at b.views 0) x)) (none_found kind.One boxes f) in
+      empty news (ap (λ ks. has_kind ks kind.One) kinds ∙ e) ∙ sym (empty olds e);
+}
+
+-- what is computed stays, and so does the state
+kept_blocks : (g : Graph) (olds news : List Meaning) → EachBecomes KeepsViews olds news → (has_kind (kinds_of olds) kind.One ≡ true → HasOne g olds) → one_in news ≡ one_in olds
+kept_blocks g olds news stay has = by_found (index_of olds kind.One) (index_of news kind.One) refl refl (found KeepsViews kind.One (λ a b r. r.kind) olds news (pairwise _ olds news stay))
+  where
+    by_found : (x y : Option Meaning) → index_of olds kind.One ≡ x → index_of news kind.One ≡ y → Both KeepsViews x y → one_in news ≡ one_in olds
+    by_found None None e f neither = ap (λ x. blocks_in (option_and_then (λ b. view_at b.views 0) x)) (f ∙ sym e)
+    by_found None (Some b) e f h = elim h [ ]
+    by_found (Some a) None e f h = elim h [ ]
+    by_found (Some a) (Some b) e f (both _ _ r) =
+        let one = has (has_found olds a e) in
+        let same : a ≡ one.index = (let z = sym e ∙ one.index_is in cc) in
+        let after : view_at b.views 0 ≡ Some one.view = r.kept 0 one.view (ap (λ m. view_at m.views 0) same ∙ one.view_is) in
+        ap (λ x. blocks_in (option_and_then (λ m. view_at m.views 0) x)) f ∙ ap blocks_in after ∙ sym one.blocks
+      where
+        has_found : (boxes : List Meaning) (m : Meaning) → index_of boxes kind.One ≡ Some m → has_kind (kinds_of boxes) kind.One ≡ true
+        has_found [] m e = absurd (cc)
+        has_found (d ∷ ds) m e = elim (is_kind kind.One d.kind) as (λ t. cond t (Some d) (index_of ds kind.One) ≡ Some m → (t || has_kind (kinds_of ds) kind.One) ≡ true) [
+          | true ↦ λ f. refl
+          | false ↦ λ f. has_found ds m f
+        ] e
+
+pairwise_kinds : (olds news : List Meaning) → Pairwise KeepsViews olds news → kinds_of news ≡ kinds_of olds
+pairwise_kinds [] [] h = refl
+pairwise_kinds [] (b ∷ bs) h = absurd h
+pairwise_kinds (a ∷ xs) [] h = absurd h
+pairwise_kinds (a ∷ xs) (b ∷ bs) h = ap (λ k. k ∷ kinds_of bs) h.0.kind ∙ ap (λ ks. a.kind ∷ ks) (pairwise_kinds xs bs h.1)
+
+pub kept_state : (o : Opened) (olds news : List Meaning) → All (IsKeptFor o) olds → EachBecomes KeepsViews olds news
+    → state_in (record { boxes = news; opened = Some o }) ≡ state_in (record { boxes = olds; opened = Some o })
+kept_state o olds news all stay i = record {
+  graph = o.graph;
+  kept = record {
+    kinds = pairwise_kinds olds news (pairwise _ olds news stay) i;
+    k = o.k;
+    one = kept_blocks o.graph olds news stay (has_one o olds all) i;
+  };
+}
+
+kinds_without : (k : Kind) (boxes : List Meaning) → kinds_of (filter (λ m. not (is_kind k m.kind)) boxes) ≡ filter (λ other. not (is_kind k other)) (kinds_of boxes)
+kinds_without k [] = refl
+kinds_without k (m ∷ ms) =
+    elim (is_kind k m.kind) as (λ t. kinds_of (cond (not t) (m ∷ filter (λ x. not (is_kind k x.kind)) ms) (filter (λ x. not (is_kind k x.kind)) ms)) ≡ cond (not t) (m.kind ∷ filter (λ other. not (is_kind k other)) (kinds_of ms)) (filter (λ other. not (is_kind k other)) (kinds_of ms))) [
+      | true ↦ kinds_without k ms
+      | false ↦ ap (λ ks. m.kind ∷ ks) (kinds_without k ms)
+    ]
+
+found_without : (k : Kind) (boxes : List Meaning) → index_of (filter (λ m. not (is_kind k m.kind)) boxes) kind.One ≡ (if is_kind k kind.One then None else index_of boxes kind.One)
+found_without k [] = none_left (is_kind k kind.One)
+  where
+    nothing : Option Meaning
+    nothing = None
+
+    none_left : (t : Bool) → nothing ≡ (if t then nothing else nothing)
+    none_left true = refl
+    none_left false = refl
+found_without k (m ∷ ms) = by (found_without k ms) (is_kind k m.kind) (is_kind kind.One m.kind) refl refl
+  where
+    by : index_of (filter (λ x. not (is_kind k x.kind)) ms) kind.One ≡ (if is_kind k kind.One then None else index_of ms kind.One) → (t u : Bool) → is_kind k m.kind ≡ t → is_kind kind.One m.kind ≡ u
+        → index_of (cond (not t) (m ∷ filter (λ x. not (is_kind k x.kind)) ms) (filter (λ x. not (is_kind k x.kind)) ms)) kind.One ≡ (if is_kind k kind.One then None else cond u (Some m) (index_of ms kind.One))
+    by rest true true e f = (let z : is_kind k kind.One ≡ true = ap (is_kind k) (sym (is_one m.kind f)) ∙ e in
+        rest ∙ ap (λ b. if b then None else index_of ms kind.One) z ∙ ap (λ b. if b then None else Some m) (sym z))
+    by rest true false e f = rest
+    by rest false true e f = (let z : is_kind k kind.One ≡ false = ap (is_kind k) (sym (is_one m.kind f)) ∙ e in
+        ap (λ b. cond b (Some m) (index_of (filter (λ x. not (is_kind k x.kind)) ms) kind.One)) f ∙ ap (λ b. if b then None else Some m) (sym z))
+    by rest false false e f = ap (λ b. cond b (Some m) (index_of (filter (λ x. not (is_kind k x.kind)) ms) kind.One)) f ∙ rest
+
+-- the state without an index of that kind
+pub forgotten_state : (k : Kind) (e f : EngineSeen) → f.opened ≡ e.opened → f.boxes ≡ filter (λ m. not (is_kind k m.kind)) e.boxes → state_in f ≡ forgotten k (state_in e)
+forgotten_state k e f opened boxes i = record {
+  graph = graph_in (opened i);
+  kept = record {
+    kinds = (ap kinds_of boxes ∙ kinds_without k e.boxes) i;
+    k = level_in (opened i);
+    one = (ap one_in boxes ∙ ap (λ x. blocks_in (option_and_then (λ b. view_at b.views 0) x)) (found_without k e.boxes) ∙ split (is_kind k kind.One)) i;
+  };
+}
+  where
+    split : (t : Bool) → blocks_in (option_and_then (λ b. view_at b.views 0) (if t then None else index_of e.boxes kind.One)) ≡ (if t then [] else one_in e.boxes)
+    split true = refl
+    split false = refl
