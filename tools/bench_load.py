@@ -1,11 +1,11 @@
 #!/usr/bin/env python3
 """Has bin/pathindex load generated graph files, and serdi read and write the same files, in turns, and prints how fast
-each is and how much memory the load holds. Then it has the sizes of the indexes printed, and prints what that takes
-above the load. The gate doesn't run this.
+each is and how much memory the load holds. Then it has the indexes of levels 0 to 2 kept and their sizes printed, and prints
+what that takes above the load, and what a change takes while they are kept. The gate doesn't run this.
 
     bench_load.py [PROGRAM]
 
-PROGRAM is run in place of bin/pathindex. A load is a run of an empty script. Times are the best of some turns, and of
+PROGRAM is run in place of bin/pathindex. A load is a run of an empty script that keeps the index of level 0 alone. Times are the best of some turns, and of
 whole processes.
 """
 import os
@@ -23,6 +23,8 @@ TURNS = {20_000: 15, 200_000: 15, 1_600_000: 5}
 LOAD_MARK = 2.5
 # megabytes, at the most triples
 MEMORY_MARK = 450
+# how many changes are made while indexes are kept
+CHANGES = 4
 # by the count of triples
 SIZES_MARKS = {200_000: 0.55, 1_600_000: 0.8}
 
@@ -53,8 +55,9 @@ def measure(program, folder, count):
     with open(text, "wb") as out:
         subprocess.run([sys.executable, MAKE, str(count)], stdout=out, check=True)
     return os.path.getsize(text) / 1e6, best_of({
-        "load": [program, os.path.join(folder, "empty"), "--graph", text],
+        "load": [program, os.path.join(folder, "empty"), "--graph", text, "--k", "0"],
         "sizes": [program, os.path.join(folder, "sizes"), "--graph", text, "--k", "2"],
+        "changes": [program, os.path.join(folder, "changes"), "--graph", text, "--k", "2"],
         "serdi": ["serdi", "-b", text],
     }, TURNS[count])
 
@@ -66,6 +69,7 @@ def write_script(folder, name, text):
 
 def show(count, size, taken):
     (load, peak), (sizes, sizes_peak), (serdi, _) = taken["load"], taken["sizes"], taken["serdi"]
+    change = (taken["changes"][0] - sizes) / CHANGES
     print(f"{count:>9,} triples, {size:.1f} MB; serdi -b {serdi:.3f} s, {size / serdi:.0f} MB/s")
     print(f"    load   {load:>7.3f} s, {count / load:>9,.0f} triples/s, {size / load:>5.1f} MB/s, peak {peak:.0f} MB")
     print(f"           {load / serdi:.2f} times as long as serdi -b; the mark is {LOAD_MARK}")
@@ -74,7 +78,8 @@ def show(count, size, taken):
     above = sizes - load
     mark = f"; the mark is {SIZES_MARKS[count]}" if count in SIZES_MARKS else ""
     print(f"    sizes  {above:>7.3f} s above the load, {above / serdi:.2f} times as long as serdi -b{mark}")
-    print(f"           peak {sizes_peak:.0f} MB", flush=True)
+    print(f"           peak {sizes_peak:.0f} MB")
+    print(f"    change {change * 1000:>7.1f} ms each, while they are kept", flush=True)
 
 
 def main():
@@ -88,6 +93,7 @@ def main():
     with tempfile.TemporaryDirectory() as folder:
         write_script(folder, "empty", "")
         write_script(folder, "sizes", "sizes\n")
+        write_script(folder, "changes", "unlink n0 n1\nlink n0 n1\n" * (CHANGES // 2))
         for count in TURNS:
             show(count, *measure(program, folder, count))
 
