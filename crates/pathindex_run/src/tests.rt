@@ -318,20 +318,29 @@ fn graph_files_are_loaded(rt: HostRuntime) {
     assert!(rt; ends(rt.alloc(), unnamed, b"answers 0\n", 0));
 }
 
-// A comment of one byte more than a line may have, in either file.
-#[test]
-fn long_lines_are_refused(rt: HostRuntime) -> Result<(), Fail> {
-    let long = b"#".repeat(rt.alloc(), 1_048_577)?;
+/// A comment of that many bytes.
+fn comment(alloc: Global, len: usize) -> Result<Vec<u8>, Fail> {
+    Ok(b"#".repeat(alloc, len)?)
+}
+
+/// Whether a line of the graph file is refused, and so is one of the script.
+fn is_refused(alloc: Global, line: &[u8]) -> bool {
     let graph = Given {
-        graph: Some(&long),
+        graph: Some(line),
         ..with_graph(Some(""), None)
     };
-    assert!(rt; ends(rt.alloc(), graph, b"graph 1 limit\n", 3));
     let bad = Given {
-        script: Some(&long),
+        script: Some(line),
         ..script("")
     };
-    assert!(rt; ends(rt.alloc(), bad, b"bad 1\n", 4));
+    ends(alloc, graph, b"graph 1 limit\n", 3) && ends(alloc, bad, b"bad 1\n", 4)
+}
+
+// A comment of one byte more than a line may have.
+#[test]
+fn long_lines_are_refused(rt: HostRuntime) -> Result<(), Fail> {
+    let long = comment(rt.alloc(), 1_048_577)?;
+    assert!(rt; is_refused(rt.alloc(), &long));
     Ok(())
 }
 
