@@ -18,7 +18,7 @@ use Rattle.script_read.specs.Commands.{change, path, extents, sizes, forget}
 use Rattle.pathindex_core.specs.Engines.{Opened, EngineSeen, EachBecomes, IsKeptFor, AreKeptFor, IsSound, graph_in}
 use Rattle.pathindex_core.specs.Updates.{IsUpdated, graph_or, outcome_in, opened_after}
 use Rattle.pathindex_run.specs.Texts.{applied_line, refused_line, ok_line, reply}
-use Rattle.pathindex_run.specs.States.{State, IsFirst, forgotten}
+use Rattle.pathindex_run.specs.States.{State, BeginsRun, forgotten}
 use Rattle.pathindex_run.specs.EngineStates.{IsOpen, state_in}
 use Rattle.pathindex_run.specs.Indexes.{ShowsAnswers, ShowsExtents, unkept, ShowsSizes}
 use Rattle.pathindex_run.specs.Runs.{IsChanged, Becomes, Obeys, changes, asks, lists, measures, forgets, lacks}
@@ -181,6 +181,6 @@ data_obeyed e via out gathered d g = record {
 
 -- the state with which a run begins
 pub opened_first : (e f : EngineSeen) (o : Opened) → f.opened ≡ Some o → EachBecomes (λ a b. IsBuilt a b o.graph o.k) e.boxes f.boxes → kinds_of f.boxes ≡ kinds_of e.boxes → IsSound f
-    → IsFirst (state_in f).graph (kinds_of e.boxes) o.k (state_in f)
+    → BeginsRun (state_in f).graph (kinds_of e.boxes) o.k (state_in f)
 opened_first e f o h built kinds s =
-    subst (λ x. IsFirst x.graph (kinds_of e.boxes) o.k x) (seen_as f o h) (first_state o.graph o e.boxes f.boxes refl built kinds (fits_in f o h s))
+    subst (λ x. BeginsRun x.graph (kinds_of e.boxes) o.k x) (seen_as f o h) (first_state o.graph o e.boxes f.boxes refl built kinds (fits_in f o h s))

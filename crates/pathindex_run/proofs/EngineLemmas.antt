@@ -17,7 +17,7 @@ use Rattle.index_api.specs.Meanings.{Meaning, IsReady, IsBuilt, BeginsWhole, Kee
 use Rattle.index_api.specs.Kept.{KeptIndexes, is_kind, has_kind, kinds_of, index_of, kept_view, blocks_in, kept_of}
 use Rattle.pathindex_core.specs.Engines.{Opened, EngineSeen, EachBecomes, IsKeptFor, AreKeptFor, IsSound, graph_in, level_in}
 use Rattle.pathindex_core.specs.Updates.{IsUpdated, graph_or, opened_after}
-use Rattle.pathindex_run.specs.States.{State, IsFirst, forgotten}
+use Rattle.pathindex_run.specs.States.{State, BeginsRun, forgotten}
 use Rattle.pathindex_run.specs.Runs.{IsMinimalIndex, IsChanged}
 use Rattle.pathindex_run.specs.EngineStates.{state_in}
 
@@ -121,7 +121,7 @@ has_one o boxes all h =
 
 -- the state in which a run begins, once the engine is open
 pub first_state : (g : Graph) (o : Opened) (olds news : List Meaning) → o.graph ≡ g → EachBecomes (λ a b. IsBuilt a b g o.k) olds news
-    → kinds_of news ≡ kinds_of olds → All (IsKeptFor o) news → IsFirst g (kinds_of olds) o.k (state_in (record { boxes = news; opened = Some o }))
+    → kinds_of news ≡ kinds_of olds → All (IsKeptFor o) news → BeginsRun g (kinds_of olds) o.k (state_in (record { boxes = news; opened = Some o }))
 first_state g o olds news same built kinds all = record {
   graph = same;
   kinds = kinds;

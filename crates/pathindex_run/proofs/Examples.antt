@@ -19,7 +19,7 @@ use Rattle.script_read.specs.Commands.{Command, change, path, extents, sizes, fo
 use Rattle.command_line.specs.Forms.{Settings, runs}
 use Rattle.graph_load.specs.Loads.{syntax, limit}
 use Rattle.px_base.specs.Files.{File}
-use Rattle.pathindex_run.specs.States.{State, IsFirst}
+use Rattle.pathindex_run.specs.States.{State, BeginsRun}
 use Rattle.pathindex_run.specs.Headline.{RunsScript, RunsLoaded, RunsOutcome, IsProper, HasStatus, Completes}
 use Rattle.pathindex_run.specs.Told.{RanTold}
 use Rattle.index_api.specs.Kept.{is_kept}
@@ -45,10 +45,10 @@ abbrev first_state : State
 first_state = family_of empty_graph 2
 
 -- a run may begin there, where that index is handed in, and not where another is
-begins_there : IsFirst empty_graph (kind.A ∷ []) 2 first_state
+begins_there : BeginsRun empty_graph (kind.A ∷ []) 2 first_state
 begins_there = record { graph = refl; kinds = refl; level = refl; one = λ h. absurd (true≢false (sym h)); none = λ _. refl }
 
-not_there : IsFirst empty_graph (kind.One ∷ []) 2 first_state → ⊥
+not_there : BeginsRun empty_graph (kind.One ∷ []) 2 first_state → ⊥
 not_there h = (let same = h.kinds in cc)
 
 -- nothing is run, and that is a run

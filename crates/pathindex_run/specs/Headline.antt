@@ -12,7 +12,7 @@ use Rattle.script_read.specs.Commands.{SpellsSomething}
 use Rattle.command_line.specs.Forms.{Settings, Form, runs, neither}
 use Rattle.pathindex_run.specs.Texts.{usage_line, graph_line}
 use Rattle.bisim_spec.specs.declared.kind.Kind.{Kind}
-use Rattle.pathindex_run.specs.States.{State, IsFirst}
+use Rattle.pathindex_run.specs.States.{State, BeginsRun}
 use Rattle.pathindex_run.specs.Told.{RanTold, FrontTold}
 
 -- nothing is written, since a file isn't there or wasn't read to its end, or memory ran out
@@ -37,7 +37,7 @@ RunsScript first (Some text) old new status Last =
 -- read.
 abbrev pub RunsFrom : Settings → List Kind → Graph → Option (List ℕ) → Option (List ℕ) → Option (List ℕ) → ℕ → (State → Type 0) → Type 0
 RunsFrom s kinds g text old new status Last =
-    ((first : State) × IsFirst g kinds s.k first × RunsScript first text old new status Last) ⊎ StopsAtOnce old new status
+    ((first : State) × BeginsRun g kinds s.k first × RunsScript first text old new status Last) ⊎ StopsAtOnce old new status
 
 -- what follows, by what the graph file loads to
 abbrev pub RunsOutcome : Settings → List Kind → List File → Outcome → Option (List ℕ) → Option (List ℕ) → ℕ → (State → Type 0) → Type 0

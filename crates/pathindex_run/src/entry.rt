@@ -8,7 +8,7 @@ ghost use Rattle.bisim_spec.specs.declared.kind.Kind.{Kind};
 ghost use Rattle.index_api.specs.Kept.{kinds_of};
 ghost use Rattle.pathindex_core.specs.Engines.{engine_seen, opened_of, IsSound};
 ghost use Rattle.pathindex_run.specs.EngineStates.{state_in, IsOpen, IsIn};
-ghost use Rattle.pathindex_run.specs.States.{IsFirst};
+ghost use Rattle.pathindex_run.specs.States.{BeginsRun};
 ghost use Rattle.pathindex_run.specs.Headline.{Meets, HasStatus, Completes, ShowsLine};
 ghost use Rattle.pathindex_run.specs.ToldFiles.{BeginsTold};
 ghost use Rattle.pathindex_run.specs.Texts.{graph_line, usage_line};
@@ -186,7 +186,7 @@ fn run_open<H: Shelf, K: Sink>(
     requires begins { BeginsTold (shown_settings settings.now).graph (H.files shelf.old) (state_in (engine_seen (map (λ b. meaning (b.vtable, b.value)) engine.old.boxes.items) engine.old.state)).graph }
     requires ready { IsOpen (engine_seen (map (λ b. meaning (b.vtable, b.value)) engine.old.boxes.items) engine.old.state) }
     ensures sound { IsSound (engine_seen (map (λ b. meaning (b.vtable, b.value)) engine.new.boxes.items) engine.new.state) }
-    ensures meets { (kinds : List Kind) → IsFirst (state_in (engine_seen (map (λ b. meaning (b.vtable, b.value)) engine.old.boxes.items) engine.old.state)).graph kinds settings.now.k (state_in (engine_seen (map (λ b. meaning (b.vtable, b.value)) engine.old.boxes.items) engine.old.state)) → Meets (runs (shown_settings settings.now)) kinds (H.files shelf.old) (K.written sink.old) (K.written sink.new) result (IsIn (engine_seen (map (λ b. meaning (b.vtable, b.value)) engine.new.boxes.items) engine.new.state)) }
+    ensures meets { (kinds : List Kind) → BeginsRun (state_in (engine_seen (map (λ b. meaning (b.vtable, b.value)) engine.old.boxes.items) engine.old.state)).graph kinds settings.now.k (state_in (engine_seen (map (λ b. meaning (b.vtable, b.value)) engine.old.boxes.items) engine.old.state)) → Meets (runs (shown_settings settings.now)) kinds (H.files shelf.old) (K.written sink.old) (K.written sink.new) result (IsIn (engine_seen (map (λ b. meaning (b.vtable, b.value)) engine.new.boxes.items) engine.new.state)) }
     ensures status { HasStatus (runs (shown_settings settings.now)) (H.files shelf.old) (H.faults shelf.old) (H.faults shelf.new) (K.faults sink.old) (K.faults sink.new) result }
     ensures complete { Completes (runs (shown_settings settings.now)) (H.files shelf.old) (H.faults shelf.old) (H.faults shelf.new) (K.faults sink.old) (K.faults sink.new) result }
     ensures files { H.files shelf.new ≡ H.files shelf.old }
