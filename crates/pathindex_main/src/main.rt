@@ -1,18 +1,15 @@
 //! The program `pathindex`: it carries out a script over a graph, as its words ask for.
 #![tactic(auto)]
 
-ghost use Rattle.std.specs.Prelude.{◌≡◌, None, IfOk, map};
-ghost use Rattle.pathindex_core.specs.Engines.{engine_seen, opened_of, IsSound};
-
 use ak_maintain::AkIndex;
 use index_api::PathIndex;
 use pathindex_core::Engine;
 use pathindex_run::{HostShelf, HostSink, Status, break_reason, run};
 use px_base::Memory;
-use std::alloc::Global;
 use std::env::Env;
 use std::io::ErrorKind;
 use std::process::ExitCode;
+use std::rt::Files;
 use std::{env, io};
 
 /// The words after the program's name.
@@ -28,24 +25,21 @@ fn tell(rt: &impl Eprint, status: u8) {
     }
 }
 
-/// An engine with an index of each kind.
-fn engine(alloc: Global) -> Result<Engine, Memory>
-    ensures closed { IfOk result (λ engine. opened_of engine.state ≡ None) }
-    ensures sound { IfOk result (λ engine. IsSound (engine_seen (map (λ b. meaning (b.vtable, b.value)) engine.boxes.items) engine.state)) }
-{
+/// Carries out what the words ask for, on an engine with an index of each kind, and answers the exit status.
+fn run_words(rt: &(impl Files + Print + AllocGlobal), words: &[String]) -> Result<u8, Memory> {
+    let alloc = rt.alloc();
     let mut boxes: Vec<Box<dyn PathIndex>> = Vec::new(alloc);
     boxes.push(Box::new(alloc, AkIndex::new(alloc)?)?)?;
-    Ok(Engine::new(boxes))
+    let mut engine = Engine::new(boxes);
+    let mut shelf = HostShelf::new(rt);
+    let mut sink = HostSink::new(rt);
+    Ok(run(alloc, words, &mut engine, &mut shelf, &mut sink))
 }
 
 fn main(rt: HostRuntime) -> ExitCode {
     let status = match words(&rt) {
-        Ok(words) => match engine(rt.alloc()) {
-            Ok(mut engine) => {
-                let mut shelf = HostShelf::new(&rt);
-                let mut sink = HostSink::new(&rt);
-                run(rt.alloc(), &words, &mut engine, &mut shelf, &mut sink)
-            }
+        Ok(words) => match run_words(&rt, &words) {
+            Ok(status) => status,
             Err(_) => Status::NoMemory as u8,
         },
         Err(error) if error.kind() == ErrorKind::OutOfMemory => Status::NoMemory as u8,
