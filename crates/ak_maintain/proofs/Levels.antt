@@ -8,7 +8,7 @@ use Rattle.bisim_spec.specs.Views.{View}
 use Rattle.bisim_spec.specs.Fits.{Fits, FitsAt, FitsLevel, view_at}
 use Rattle.quotient.specs.Quotients.{view_of}
 use Rattle.ak_family.specs.Families.{KeyedQuotient, level_at, no_level}
-use Rattle.index_api.specs.Meanings.{Meaning, IsReady, IsRefreshed, IsStaged}
+use Rattle.index_api.specs.Meanings.{Meaning, IsReady, IsRefreshed, IsPrepared}
 use Rattle.ak_maintain.specs.Fitting.{views_of, kept_views, meaning_of, AreLevelsOf}
 
 -- the view of a level
@@ -47,7 +47,7 @@ all_there old g e r = record {
 
 -- a family is staged beside the one that is kept
 pub family_staged : (family staged : Option (List KeyedQuotient)) (levels next : List KeyedQuotient) (k : ℕ) (c : Change) (g : Graph) → family ≡ Some levels → length levels ≡ k + 1
-    → AreLevelsOf (after c g) k next → IsStaged (meaning_of family staged) (meaning_of family (Some next)) c g
+    → AreLevelsOf (after c g) k next → IsPrepared (meaning_of family staged) (meaning_of family (Some next)) c g
 family_staged family staged levels next k c g e count h = record {
   kind = refl;
   views = refl;

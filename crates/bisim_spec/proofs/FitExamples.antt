@@ -177,9 +177,11 @@ one_index = record { count = refl; each = at_each }
     at_each : (i : ℕ) → i < 1 → FitsAt One one_left i (view_at (Some one_block ∷ []) i)
     at_each zero h = record {
       view = one_fits;
-      stable = one_stable;
-      minimal = one_minimal;
-      whole = λ acyclic. acyclic_full (shape_of one_left) one_block.block_of left_shape acyclic one_stable one_minimal;
+      index = record {
+        stable = one_stable;
+        minimal = one_minimal;
+        whole = λ acyclic. acyclic_full (shape_of one_left) one_block.block_of left_shape acyclic one_stable one_minimal;
+      };
     }
     at_each (suc i) h = absurd (omega (arith, h))
 

@@ -25,9 +25,11 @@ count_lawful Fb k = refl
 pub fits_one : (g : Graph) (v : View) → IsGraph g → ViewFits g v → Stable (shape_of g) v.block_of → Minimal (shape_of g) v.block_of → FitsOne g v
 fits_one g v graph view stable minimal = record {
   view = view;
-  stable = stable;
-  minimal = minimal;
-  whole = λ acyclic. acyclic_full (shape_of g) v.block_of (is_shape g graph) acyclic stable minimal;
+  index = record {
+    stable = stable;
+    minimal = minimal;
+    whole = λ acyclic. acyclic_full (shape_of g) v.block_of (is_shape g graph) acyclic stable minimal;
+  };
 }
 
 -- so is full bisimilarity
@@ -37,4 +39,4 @@ fits_full g v graph view agrees =
 
 -- and what a partition moves to with a change
 pub fits_moved : (g : Graph) (p : List (Option ℕ)) (c : Change) (g2 : Graph) (v : View) → ViewFits g2 v → OneStep g p c g2 v.block_of → FitsOne g2 v
-fits_moved g p c g2 v view step = record { view = view; stable = step.stable; minimal = step.minimal; whole = step.whole }
+fits_moved g p c g2 v view step = record { view = view; index = step.index }

@@ -4,10 +4,10 @@ use Rattle.std.specs.Prelude.{IsFalse, ◌||◌, codes, nat_eq}
 use Rattle.std.proofs.lemmas.Bool.{and_parts, or_cases}
 use Rattle.std.proofs.lemmas.Bool.Decides.{Decides-eqb}
 use Rattle.px_spec.specs.Graphs.{Graph}
-use Rattle.px_spec.specs.Changes.{node, link, after}
+use Rattle.px_spec.specs.Changes.{node, link, unlink, after}
 use Rattle.px_spec.specs.Shapes.{Shape, IsShape, shape_of}
-use Rattle.bisim_spec.specs.declared.kind.Kind.TheVariants.{A}
-use Rattle.bisim_spec.specs.Bisimilarity.{Bis, Bisim}
+use Rattle.bisim_spec.specs.declared.kind.Kind.TheVariants.{A, One, Fb}
+use Rattle.bisim_spec.specs.Bisimilarity.{Bis, Bisim, FB}
 use Rattle.bisim_spec.specs.Partitions.{Together, Agrees}
 use Rattle.bisim_spec.specs.Stability.{Stable, Minimal}
 use Rattle.bisim_spec.specs.Reach.{reach}
@@ -18,7 +18,7 @@ use Rattle.bisim_spec.specs.Fits.{Fits}
 use Rattle.bisim_spec.proofs.StabilityTests.{stable_decides, minimal_decides}
 use Rattle.bisim_spec.proofs.Drawn.{drawn, drawn_shape, is_edge}
 use Rattle.bisim_spec.proofs.DrawnGraphs.{drawn_graph, shape_drawn}
-use Rattle.bisim_spec.proofs.Examples.{refuted, level_decides, full_decides}
+use Rattle.bisim_spec.proofs.Examples.{refuted, level_decides, full_decides, fb_full_decides}
 
 -- two a, and a b to which an edge leads from the first of them, and then from the second too
 
@@ -76,15 +76,30 @@ apart_adds h =
     first_alone : Together apart 0 1 → ⊥
     first_alone (b, x, y) = absurd (cc)
 
+-- one of the two edges goes, and the b still has a parent in the block of the two a
+keeps_unlink : KeepsParents (unlink 1 2) (pair one_edge) by_label
+keeps_unlink = record {
+  parent = 0;
+  other = λ e. absurd (omega (arith, e));
+  is_parent = ap (λ s. s.edge 0 2) (shape_drawn (codes "a" ∷ codes "b" ∷ []) pair_labels one_edge);
+  together = (0, refl, refl);
+}
+
+-- the last edge takes it
+last_takes : KeepsParents (unlink 0 2) (pair []) by_label → ⊥
+last_takes h = true≢false (sym (sym (ap (λ s. s.edge h.parent 2) (shape_drawn (codes "a" ∷ codes "b" ∷ []) pair_labels [])) ∙ h.is_parent))
+
 linked : OneStep (pair one_edge) by_label (link 1 2) (pair two_edges) by_label
 linked =
     let same = sym (shape_drawn (codes "a" ∷ codes "b" ∷ []) pair_labels two_edges) in
     let stable = (stable_decides (drawn pair_labels two_edges) pair_shape by_label).0 refl in
     record {
       made = refl;
-      stable = subst (λ s. Stable s by_label) same stable;
-      minimal = subst (λ s. Minimal s by_label) same ((minimal_decides (drawn pair_labels two_edges) pair_shape by_label stable.partition).0 refl);
-      whole = λ acyclic. subst (λ s. Agrees s by_label (Bisim s)) same ((full_decides (drawn pair_labels two_edges) pair_shape by_label).0 refl);
+      index = record {
+        stable = subst (λ s. Stable s by_label) same stable;
+        minimal = subst (λ s. Minimal s by_label) same ((minimal_decides (drawn pair_labels two_edges) pair_shape by_label stable.partition).0 refl);
+        whole = λ acyclic. subst (λ s. Agrees s by_label (Bisim s)) same ((full_decides (drawn pair_labels two_edges) pair_shape by_label).0 refl);
+      };
       outside = λ u v gu gv hu hv ru rv. (λ t. t, λ t. t);
       still = λ keeps u v hu hv. (λ t. t, λ t. t);
     }
@@ -93,8 +108,8 @@ linked =
 not_made : OneStep (pair one_edge) by_label (node (codes "a")) (pair one_edge) by_label → ⊥
 not_made h = let e = ap (λ g. length g.given) h.made in omega (arith, e)
 
--- Two rings of an a and a b, in two blocks. With rings a partition of four blocks is stable and unmergeable too, but none that
--- a change may lead to unless it reaches what is parted.
+-- Two rings of an a and a b, in two blocks. With rings a partition of four blocks is stable and unmergeable too, but a change may
+-- lead to it only where it reaches what is parted, and where it doesn't keep the parent blocks of its target.
 
 abbrev ring_labels : List (List ℕ)
 ring_labels = codes "a" ∷ codes "b" ∷ codes "a" ∷ codes "b" ∷ []
@@ -182,3 +197,32 @@ levels_swapped v w e f h =
     let same = shape_drawn (codes "a" ∷ codes "b" ∷ []) lone_labels ((0, 1) ∷ []) in
     let a = subst (λ s. Agrees s v.block_of (Bis s 0)) same (h.each 0 (omega arith)).agrees in
     refuted (level_decides lone_drawn lone_shape all_alone 0) refl (subst (λ p. Agrees lone_drawn p (Bis lone_drawn 0)) e a)
+
+-- Blocks that are too coarse, and too fine, for the 1-index and for the forward and backward index: the second b has no parent, and
+-- the two a with one child are alike.
+
+one_too_coarse : (v : View) → v.block_of ≡ two_blocks → Fits One (Some v ∷ []) lone → ⊥
+one_too_coarse v e h =
+    let same = shape_drawn (codes "a" ∷ codes "b" ∷ []) lone_labels ((0, 1) ∷ []) in
+    let s = subst (λ s. Stable s v.block_of) same (h.each 0 (omega arith)).index.stable in
+    refuted (stable_decides lone_drawn lone_shape two_blocks) refl (subst (Stable lone_drawn) e s)
+
+one_too_fine : (v : View) → v.block_of ≡ apart → Fits One (Some v ∷ []) (pair two_edges) → ⊥
+one_too_fine v e h =
+    let same = shape_drawn (codes "a" ∷ codes "b" ∷ []) pair_labels two_edges in
+    let s = subst (λ s. Stable s v.block_of) same (h.each 0 (omega arith)).index.stable in
+    let m = subst (λ s. Minimal s v.block_of) same (h.each 0 (omega arith)).index.minimal in
+    refuted (minimal_decides (drawn pair_labels two_edges) pair_shape apart (subst (Stable (drawn pair_labels two_edges)) e s).partition) refl
+    (subst (Minimal (drawn pair_labels two_edges)) e m)
+
+fb_too_coarse : (v : View) → v.block_of ≡ two_blocks → Fits Fb (Some v ∷ []) lone → ⊥
+fb_too_coarse v e h =
+    let same = shape_drawn (codes "a" ∷ codes "b" ∷ []) lone_labels ((0, 1) ∷ []) in
+    let a = subst (λ s. Agrees s v.block_of (FB s)) same (h.each 0 (omega arith)).agrees in
+    refuted (fb_full_decides lone_drawn lone_shape two_blocks) refl (subst (λ p. Agrees lone_drawn p (FB lone_drawn)) e a)
+
+fb_too_fine : (v : View) → v.block_of ≡ apart → Fits Fb (Some v ∷ []) (pair two_edges) → ⊥
+fb_too_fine v e h =
+    let same = shape_drawn (codes "a" ∷ codes "b" ∷ []) pair_labels two_edges in
+    let a = subst (λ s. Agrees s v.block_of (FB s)) same (h.each 0 (omega arith)).agrees in
+    refuted (fb_full_decides (drawn pair_labels two_edges) pair_shape apart) refl (subst (λ p. Agrees (drawn pair_labels two_edges) p (FB (drawn pair_labels two_edges))) e a)

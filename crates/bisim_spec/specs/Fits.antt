@@ -7,10 +7,9 @@ use Rattle.px_spec.specs.Graphs.{Graph}
 use Rattle.px_spec.specs.Shapes.{shape_of}
 use Rattle.bisim_spec.specs.declared.kind.Kind.{Kind}
 use Rattle.bisim_spec.specs.declared.kind.Kind.TheVariants.{A, One, Fb}
-use Rattle.bisim_spec.specs.Bisimilarity.{Bis, Bisim, FB}
+use Rattle.bisim_spec.specs.Bisimilarity.{Bis, FB}
 use Rattle.bisim_spec.specs.Partitions.{Agrees}
-use Rattle.bisim_spec.specs.Stability.{Stable, Minimal}
-use Rattle.bisim_spec.specs.Reach.{Acyclic}
+use Rattle.bisim_spec.specs.MinimalIndex.{IsMinimalIndex}
 use Rattle.bisim_spec.specs.Views.{View, ViewFits}
 
 -- the view of a level; none where it isn't computed, and past the end
@@ -22,13 +21,10 @@ pub record FitsLevel (g : Graph) (i : ℕ) (v : View) : Type 0 where
   pub view : ViewFits g v
   pub agrees : Agrees (shape_of g) v.block_of (Bis (shape_of g) i)
 
--- a view of the 1-index: it is stable, no two of its blocks can be merged, and where no walk of the graph comes back to its
--- beginning it is full bisimilarity
+-- a view of the 1-index, whose partition is minimal
 pub record FitsOne (g : Graph) (v : View) : Type 0 where
   pub view : ViewFits g v
-  pub stable : Stable (shape_of g) v.block_of
-  pub minimal : Minimal (shape_of g) v.block_of
-  pub whole : Acyclic (shape_of g) → Agrees (shape_of g) v.block_of (Bisim (shape_of g))
+  pub index : IsMinimalIndex (shape_of g) v.block_of
 
 -- a view of the forward and backward index: its blocks are the nodes that are bisimilar by parents and children
 pub record FitsFb (g : Graph) (v : View) : Type 0 where

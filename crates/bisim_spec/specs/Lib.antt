@@ -8,6 +8,7 @@ pub mod Views
 pub mod Tests
 pub mod Weights
 pub mod Targets
+pub mod MinimalIndex
 pub mod OneStep
 pub mod Fits
 pub mod Touching

@@ -47,7 +47,7 @@ pub record AreNext (old : Meaning) (c : Change) (g : Graph) (views : List (Optio
   pub fits : Fits old.kind views (after c g)
 
 -- the change of the graph is prepared, and nothing else has happened
-pub record IsStaged (old new : Meaning) (c : Change) (g : Graph) : Type 0 where
+pub record IsPrepared (old new : Meaning) (c : Change) (g : Graph) : Type 0 where
   pub kind : new.kind ≡ old.kind
   pub views : new.views ≡ old.views
   pub next : List (Option View)

@@ -5,7 +5,7 @@ ghost use Rattle.graph_update.specs.NewChanges.{IsNew};
 ghost use Rattle.graph_update.specs.Judging.{change_of};
 ghost use Rattle.quotient.specs.Quotients.{view_of};
 ghost use Rattle.bisim_spec.specs.Fits.{view_at};
-ghost use Rattle.index_api.specs.Meanings.{Meaning, IsReady, IsBuilt, IsStaged, IsCommitted, IsRefreshed, unstaged};
+ghost use Rattle.index_api.specs.Meanings.{Meaning, IsReady, IsBuilt, IsPrepared, IsCommitted, IsRefreshed, unstaged};
 
 use bisim_spec::Kind;
 use graph_update::Change;
@@ -38,7 +38,7 @@ pub trait PathIndex: Drop {
     fn prepare(&mut self, graph: &Graph, change: &Change) -> Result<(), Memory>
         requires ready { IsReady (meaning self.old) graph.now.graph }
         requires new { IsNew (change_of change.now) graph.now.graph }
-        ensures staged { OnOk result (IsStaged (meaning self.old) (meaning self.new) (change_of change.now) graph.now.graph) }
+        ensures staged { OnOk result (IsPrepared (meaning self.old) (meaning self.new) (change_of change.now) graph.now.graph) }
         ensures err { OnErr result (meaning self.new ≡ meaning self.old) };
 
     /// Puts what is staged in force.

@@ -83,6 +83,6 @@ pub exact_answers : (g : Graph) → IsGraph g → (v : View) (via : Via) → Fit
     → AreOfBlocks v.block_of (IsQueryAnswer (shape_of_view g.seen v) q) nodes → AreQueryAnswers (shape_of g) q nodes
 exact_answers g is_graph v Data f q x nodes h = absurd x
 exact_answers g is_graph v (A i) f (path e) x nodes h = level_exact g is_graph v f.view nodes i f.agrees e x h
-exact_answers g is_graph v One f (path e) x nodes h = stable_exact g is_graph v f.view nodes f.stable e h
+exact_answers g is_graph v One f (path e) x nodes h = stable_exact g is_graph v f.view nodes f.index.stable e h
 exact_answers g is_graph v Fb f (path e) x nodes h =
     stable_exact g is_graph v f.view nodes (fb_stable (shape_of g) v.block_of (is_shape g is_graph) f.agrees).stable e h

@@ -9,7 +9,7 @@ use Rattle.std.proofs.lemmas.Bool.{cases_lt}
 use Rattle.px_spec.specs.Graphs.{Graph}
 use Rattle.px_spec.specs.Changes.{Change}
 use Rattle.bisim_spec.specs.declared.kind.Kind.TheVariants.{A}
-use Rattle.index_api.specs.Meanings.{Meaning, IsReady, IsStaged, unstaged}
+use Rattle.index_api.specs.Meanings.{Meaning, IsReady, IsPrepared, unstaged}
 use Rattle.index_api.specs.Kept.{kinds_of}
 use Rattle.pathindex_core.specs.Engines.{EachBecomes}
 use Rattle.pathindex_core.specs.Boxes.{BecomeBelow}
@@ -62,7 +62,7 @@ unstaged_back : (a b : Meaning) → b.kind ≡ a.kind → b.views ≡ a.views �
 unstaged_back a b e1 e2 e3 = rw (e1, e2, ← e3) refl
 
 -- what is staged in some boxes is as before once it is cancelled
-pub cancelled : (i : ℕ) (olds news : List Meaning) (g : Graph) (c : Change) → All (λ m. IsReady m g) olds → BecomeBelow (λ a b. IsStaged a b c g) i olds news → map unstaged news ≡ olds
+pub cancelled : (i : ℕ) (olds news : List Meaning) (g : Graph) (c : Change) → All (λ m. IsReady m g) olds → BecomeBelow (λ a b. IsPrepared a b c g) i olds news → map unstaged news ≡ olds
 cancelled i olds news g c ready s =
     ext_get_or nothing (map unstaged news) olds (length-map news unstaged ∙ s.length_kept) (λ k h.
     let in_new : k < length news = let e = length-map news unstaged in omega arith in

@@ -124,7 +124,7 @@ module _ (o : Opened) (boxes : List Meaning) (all : All (IsKeptFor o) boxes) whe
           shows = record { is_kept = f.has; decides = λ a b. rw blocks (together_decides (v.0).block_of a b) };
           fits = one.view;
           agrees = record {
-            partition = one.stable.partition;
+            partition = one.index.stable.partition;
             related = λ a b t. (together_decides (v.0).block_of a b).1 t;
             grouped = λ a b m n t. (together_decides (v.0).block_of a b).0 t;
           };

@@ -10,7 +10,7 @@ use Rattle.px_spec.specs.Changes.{Change, after}
 use Rattle.bisim_spec.specs.declared.kind.Kind.{Kind}
 use Rattle.bisim_spec.specs.Views.{View}
 use Rattle.bisim_spec.specs.Fits.{Fits, view_count}
-use Rattle.index_api.specs.Meanings.{Meaning, IsReady, IsBuilt, IsStaged, IsCommitted, AreNext, KeepsViews}
+use Rattle.index_api.specs.Meanings.{Meaning, IsReady, IsBuilt, IsPrepared, IsCommitted, AreNext, KeepsViews}
 use Rattle.index_api.specs.Kept.{is_kind, kinds_of}
 use Rattle.graph_update.specs.NewChanges.{is_same}
 use Rattle.pathindex_core.specs.Engines.{Opened, EngineSeen, IsKeptFor, AreKeptFor, IsSound, EachBecomes}
@@ -45,7 +45,7 @@ sound_built o olds news few h apart = record {
 }
 
 -- staged, and then committed
-join_moved : (c : Change) (g : Graph) (a b d : Meaning) → IsStaged a b c g → IsCommitted b d → IsMoved a d c g
+join_moved : (c : Change) (g : Graph) (a b d : Meaning) → IsPrepared a b c g → IsCommitted b d → IsMoved a d c g
 join_moved c g a b d s m =
     let same : s.next ≡ d.views = some_same (sym s.staged ∙ m.views) in
     record { kind = m.kind ∙ s.kind; next = subst (AreNext a c g) same s.are_next; unstaged = m.unstaged }
@@ -53,13 +53,13 @@ join_moved c g a b d s m =
     some_same : {x y : List (Option View)} → Some x ≡ Some y → x ≡ y
     some_same e = cc
 
-pub moved : (c : Change) (g : Graph) (olds mids news : List Meaning) → EachBecomes (λ a b. IsStaged a b c g) olds mids → EachBecomes IsCommitted mids news
+pub moved : (c : Change) (g : Graph) (olds mids news : List Meaning) → EachBecomes (λ a b. IsPrepared a b c g) olds mids → EachBecomes IsCommitted mids news
     → EachBecomes (λ a b. IsMoved a b c g) olds news
-moved c g olds mids news s m = become_twice (λ a b. IsStaged a b c g) IsCommitted (λ a b. IsMoved a b c g) (join_moved c g) olds mids news s m
+moved c g olds mids news s m = become_twice (λ a b. IsPrepared a b c g) IsCommitted (λ a b. IsMoved a b c g) (join_moved c g) olds mids news s m
 
 -- each has something staged
-pub all_staged : (c : Change) (g : Graph) (olds mids : List Meaning) → EachBecomes (λ a b. IsStaged a b c g) olds mids → All (λ m. IsSome m.staged) mids
-all_staged c g olds mids s = all_become (λ a b. IsStaged a b c g) (λ m. ⊤) (λ m. IsSome m.staged) (λ a b t r. rw r.staged refl) olds mids (λ k d w. tt) s
+pub all_staged : (c : Change) (g : Graph) (olds mids : List Meaning) → EachBecomes (λ a b. IsPrepared a b c g) olds mids → All (λ m. IsSome m.staged) mids
+all_staged c g olds mids s = all_become (λ a b. IsPrepared a b c g) (λ m. ⊤) (λ m. IsSome m.staged) (λ a b t r. rw r.staged refl) olds mids (λ k d w. tt) s
 
 -- the boxes are ready for the graph
 pub all_ready : (o : Opened) (boxes : List Meaning) → AreKeptFor (Some o) boxes → All (λ m. IsReady m o.graph) boxes

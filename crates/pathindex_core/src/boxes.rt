@@ -3,7 +3,7 @@ ghost use Rattle.std.specs.Prelude.{◌≡◌, ◌≢◌, ◌≤◌, not, true, 
 ghost use Rattle.std.specs.List.{AllPairs, filter};
 ghost use Rattle.graph_update.specs.NewChanges.{IsNew};
 ghost use Rattle.graph_update.specs.Judging.{change_of};
-ghost use Rattle.index_api.specs.Meanings.{IsReady, IsBuilt, IsStaged, IsCommitted, unstaged};
+ghost use Rattle.index_api.specs.Meanings.{IsReady, IsBuilt, IsPrepared, IsCommitted, unstaged};
 ghost use Rattle.index_api.specs.Kept.{is_kind, kinds_of, has_kind};
 ghost use Rattle.pathindex_core.specs.Engines.{EachBecomes};
 ghost use Rattle.pathindex_core.specs.Boxes.{StandsAt};
@@ -74,7 +74,7 @@ pub(crate) fn prepare_all(
 ) -> Result<(), Memory>
     requires ready { All (λ m. IsReady m graph.now.graph) (map meaning boxes.old.items) }
     requires new { IsNew (change_of change.now) graph.now.graph }
-    ensures ok { OnOk result (EachBecomes (λ a b. IsStaged a b (change_of change.now) graph.now.graph) (map meaning boxes.old.items) (map meaning boxes.new.items)) }
+    ensures ok { OnOk result (EachBecomes (λ a b. IsPrepared a b (change_of change.now) graph.now.graph) (map meaning boxes.old.items) (map meaning boxes.new.items)) }
     ensures err { OnErr result (map meaning boxes.new.items ≡ map meaning boxes.old.items) }
 {
     for i in 0..boxes.len() {

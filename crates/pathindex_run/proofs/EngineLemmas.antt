@@ -18,7 +18,8 @@ use Rattle.index_api.specs.Kept.{KeptIndexes, is_kind, has_kind, kinds_of, index
 use Rattle.pathindex_core.specs.Engines.{Opened, EngineSeen, EachBecomes, IsKeptFor, AreKeptFor, IsSound, graph_in, level_in}
 use Rattle.pathindex_core.specs.Updates.{IsUpdated, graph_or, opened_after}
 use Rattle.pathindex_run.specs.States.{State, BeginsRun, forgotten}
-use Rattle.pathindex_run.specs.Runs.{IsMinimalIndex, IsChanged}
+use Rattle.bisim_spec.specs.MinimalIndex.{IsMinimalIndex}
+use Rattle.pathindex_run.specs.Runs.{IsChanged}
 use Rattle.pathindex_run.specs.EngineStates.{state_in}
 
 -- R holds between the indexes of two lists, one by one
@@ -167,7 +168,7 @@ changed_state c o p h olds news outcome is updated kinds all = record {
   same = λ e. ap one_in (all_same olds news (weaker (IsUpdated c o.graph) (λ a b. b ≡ a) (λ a b u. u.same e) olds news (pairwise _ olds news updated)));
   one = λ e.
       let one = has_one p news all (ap (λ ks. has_kind ks kind.One) kinds ∙ e) in
-      subst (IsMinimalIndex h) (sym one.blocks) (subst (λ g. IsMinimalIndex g one.view.block_of) (ap (λ x. x.graph) is) (record { stable = one.fits.stable; minimal = one.fits.minimal; whole = one.fits.whole }));
+      subst (IsMinimalIndex (shape_of h)) (sym one.blocks) (subst (λ g. IsMinimalIndex (shape_of g) one.view.block_of) (ap (λ x. x.graph) is) one.fits.index);
   none = λ e.
       let empty : (boxes : List Meaning) → has_kind (kinds_of boxes) kind.One ≡ false → one_in boxes ≡ [] =
       λ boxes f. ap (λ x. blocks_in (option_and_then (λ b. view_at b.views 0) x)) (none_found kind.One boxes f) in

@@ -11,23 +11,13 @@ use Rattle.px_spec.specs.Shapes.{shape_of}
 use Rattle.index_api.specs.declared.kinds.Via.{Via}
 use Rattle.bisim_spec.specs.declared.kind.Kind.{Kind}
 use Rattle.bisim_spec.specs.declared.kind.Kind.TheVariants.{One}
-use Rattle.bisim_spec.specs.Bisimilarity.{Bisim}
-use Rattle.bisim_spec.specs.Partitions.{Agrees}
-use Rattle.bisim_spec.specs.Stability.{Stable, Minimal}
-use Rattle.bisim_spec.specs.Reach.{Acyclic}
+use Rattle.bisim_spec.specs.MinimalIndex.{IsMinimalIndex}
 use Rattle.graph_update.specs.NewChanges.{is_same}
 use Rattle.path_spec.specs.Trees.{Expr}
 use Rattle.pathindex_run.specs.Texts.{reply, refused_line, ok_line, bad_line}
 use Rattle.pathindex_run.specs.States.{State, keeps, forgotten}
 use Rattle.pathindex_run.specs.Indexes.{ShowsAnswers, ShowsExtents, ShowsSizes}
 use Rattle.script_read.specs.Commands.{Command, change, path, extents, sizes, forget, IsQuiet, IsSpelled, PassesLimit, SpellsNothing}
-
--- A partition of the 1-index: it is stable, no two of its blocks can be merged, and where no walk comes back to its beginning it is
--- full bisimilarity.
-pub record IsMinimalIndex (g : Graph) (block : List (Option ℕ)) : Type 0 where
-  pub stable : Stable (shape_of g) block
-  pub minimal : Minimal (shape_of g) block
-  pub whole : Acyclic (shape_of g) → Agrees (shape_of g) block (Bisim (shape_of g))
 
 -- An accepted change leads from the state s to t, whose graph is h. The same indexes are kept. Where the change alters nothing, all
 -- is as it was; else the blocks of the 1-index, where it is kept, are some that fit the graph after the change.
@@ -36,7 +26,7 @@ pub record IsChanged (s : State) (c : Change) (h : Graph) (t : State) : Type 0 w
   pub kinds : t.kept.kinds ≡ s.kept.kinds
   pub level : t.kept.k ≡ s.kept.k
   pub same : is_same c s.graph ≡ true → t.kept.one ≡ s.kept.one
-  pub one : IsTrue (keeps s One) → IsMinimalIndex h t.kept.one
+  pub one : IsTrue (keeps s One) → IsMinimalIndex (shape_of h) t.kept.one
   pub none : keeps s One ≡ false → t.kept.one ≡ s.kept.one
 
 -- what a change makes of the state, by its outcome: a refusal leaves it

@@ -157,3 +157,7 @@ unseen_label s = true≢false (sym (s.labelled 0 (codes "a") refl))
 -- nor an edge to a node that is gone
 gone_end : IsGraph (without_node (twins (codes "a" ∷ [])) 1) → ⊥
 gone_end s = true≢false (sym (s.onto 0 1 (set.contains-insert edge_cmp_total set.empty (0, 1) (0, 1))))
+
+-- nor one from a node that is gone
+gone_beginning : IsGraph (without_node (twins (codes "a" ∷ [])) 0) → ⊥
+gone_beginning s = true≢false (sym (s.from 0 1 (set.contains-insert edge_cmp_total set.empty (0, 1) (0, 1))))
