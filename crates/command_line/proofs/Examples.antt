@@ -11,7 +11,7 @@ use Rattle.command_line.proofs.Usages.{plain_form}
 -- ---- worked words
 
 abbrev run_of : Option (List ℕ) → ℕ → Form
-run_of graph k = runs (record { script = codes "s"; graph = graph; k = k })
+run_of graph k = runs (record { script = codes "s"; graph = graph; k = k; without_one = false; without_fb = false })
 
 script_alone : form_of (codes "s" ∷ []) ≡ run_of None 2
 unfolding clap_on_literals
@@ -29,18 +29,27 @@ graph_first : form_of (codes "--graph" ∷ codes "g" ∷ codes "s" ∷ []) ≡ r
 unfolding clap_on_literals
 graph_first = refl
 
+both_flags : form_of (codes "s" ∷ codes "--without-one" ∷ codes "--without-fb" ∷ [])
+    ≡ runs (record { script = codes "s"; graph = None; k = 2; without_one = true; without_fb = true })
+unfolding clap_on_literals
+both_flags = refl
+
+flag_first : form_of (codes "--without-fb" ∷ codes "s" ∷ []) ≡ runs (record { script = codes "s"; graph = None; k = 2; without_one = false; without_fb = true })
+unfolding clap_on_literals
+flag_first = refl
+
 -- what clap offers beside the usage line's words
 with_equals_sign : form_of (codes "s" ∷ codes "--graph=g" ∷ []) ≡ run_of (Some (codes "g")) 2
 unfolding clap_on_literals
 with_equals_sign = refl
 
 -- a script may be named as a subcommand would be
-named_help : form_of (codes "help" ∷ []) ≡ runs (record { script = codes "help"; graph = None; k = 2 })
+named_help : form_of (codes "help" ∷ []) ≡ runs (record { script = codes "help"; graph = None; k = 2; without_one = false; without_fb = false })
 unfolding clap_on_literals
 named_help = refl
 
 -- to clap an empty word is a text like others
-empty_name : form_of ([] ∷ []) ≡ runs (record { script = []; graph = None; k = 2 })
+empty_name : form_of ([] ∷ []) ≡ runs (record { script = []; graph = None; k = 2; without_one = false; without_fb = false })
 unfolding clap_on_literals
 empty_name = refl
 
@@ -69,6 +78,14 @@ two_digits = refl
 unknown_option : form_of (codes "--make" ∷ codes "1" ∷ []) ≡ neither
 unfolding clap_on_literals
 unknown_option = refl
+
+flag_with_text : form_of (codes "s" ∷ codes "--without-one=false" ∷ []) ≡ neither
+unfolding clap_on_literals
+flag_with_text = refl
+
+flag_twice : form_of (codes "s" ∷ codes "--without-one" ∷ codes "--without-one" ∷ []) ≡ neither
+unfolding clap_on_literals
+flag_twice = refl
 
 no_script : form_of (codes "--graph" ∷ codes "g" ∷ []) ≡ neither
 unfolding clap_on_literals
@@ -103,4 +120,4 @@ repeated_level s m n p q r =
 -- a text that names no level
 no_level : (s n : List ℕ) → IsPlainText s → IsPlainText n → level_of n ≡ None → form_of (s ∷ codes "--k" ∷ n ∷ []) ≡ neither
 no_level s n p q none =
-    plain_form (record { script = s; graph = None; k = Some n }) (p, tt, q) ∙ ap (run_with (Some s) None) none
+    plain_form (record { script = s; graph = None; k = Some n; without_one = false; without_fb = false }) (p, tt, q) ∙ ap (λ level. run_with (Some s) None level false false) none

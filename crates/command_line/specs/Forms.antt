@@ -1,5 +1,5 @@
 -- What the words of the command line can ask for.
-use Rattle.std.specs.Prelude.{ℕ, ◌≤◌, ⊤, List, Option}
+use Rattle.std.specs.Prelude.{ℕ, ◌≤◌, ⊤, Bool, List, Option}
 
 -- what a script is run with
 pub record Settings : Type 0 where
@@ -9,6 +9,9 @@ pub record Settings : Type 0 where
   pub graph : Option (List ℕ)
   -- the highest level of the indexes that are kept
   pub k : ℕ
+  -- whether no 1-index is kept, and no forward and backward index
+  pub without_one : Bool
+  pub without_fb : Bool
 
 pub data Form : Type 0 where
   -- a script is run

@@ -11,7 +11,7 @@ use Rattle.command_line.specs.declared.form.Settings.{Settings as SettingsSeen}
 use Rattle.command_line.specs.declared.given.Given.{Given as GivenSeen}
 
 abbrev pub shown_settings : SettingsSeen → Settings
-shown_settings s = record { script = s.script.now; graph = option_map (λ t. t.now) s.graph; k = s.k }
+shown_settings s = record { script = s.script.now; graph = option_map (λ t. t.now) s.graph; k = s.k; without_one = s.without_one; without_fb = s.without_fb }
 
 abbrev pub shown_form : FormSeen → Form
 shown_form (Run s) = runs (shown_settings s)
@@ -22,6 +22,8 @@ shown_given g = record {
   script = option_map (λ t. t.now) g.script;
   graph = option_map (λ t. t.now) g.graph;
   k = option_map (λ t. t.now) g.k;
+  without_one = g.without_one;
+  without_fb = g.without_fb;
 }
 
 -- clap's matches of the words; none where it refuses them, and only there

@@ -1,17 +1,24 @@
 -- The words of the usage line, and the same in another order.
-use Rattle.std.specs.Prelude.{ℕ, ◌≢◌, List, [], ◌∷◌, ◌++◌, Option, Some, None, IfSome, codes}
+use Rattle.std.specs.Prelude.{ℕ, ◌≢◌, Bool, true, false, List, [], ◌∷◌, ◌++◌, Option, Some, None, IfSome, codes}
 use Rattle.command_line.specs.Givens.{Given}
 
--- SCRIPT [--graph FILE] [--k N]
+-- SCRIPT [--graph FILE] [--k N] [--without-one] [--without-fb]
 pub record Usage : Type 0 where
   pub script : List ℕ
   pub graph : Option (List ℕ)
   pub k : Option (List ℕ)
+  pub without_one : Bool
+  pub without_fb : Bool
 
 -- an option and its text
 abbrev pub option_words : List ℕ → Option (List ℕ) → List (List ℕ)
 option_words name None = []
 option_words name (Some text) = name ∷ text ∷ []
+
+-- a flag, where it is there
+abbrev pub flag_words : List ℕ → Bool → List (List ℕ)
+flag_words name false = []
+flag_words name true = name ∷ []
 
 abbrev pub script_words : Usage → List (List ℕ)
 script_words u = u.script ∷ []
@@ -22,11 +29,17 @@ graph_words u = option_words (codes "--graph") u.graph
 abbrev pub level_words : Usage → List (List ℕ)
 level_words u = option_words (codes "--k") u.k
 
+abbrev pub one_words : Usage → List (List ℕ)
+one_words u = flag_words (codes "--without-one") u.without_one
+
+abbrev pub fb_words : Usage → List (List ℕ)
+fb_words u = flag_words (codes "--without-fb") u.without_fb
+
 -- in the order of the usage line
 abbrev pub words_of : Usage → List (List ℕ)
-words_of u = script_words u ++ (graph_words u ++ level_words u)
+words_of u = script_words u ++ (graph_words u ++ (level_words u ++ (one_words u ++ fb_words u)))
 
--- the other orders
+-- the other orders of words without flags
 pub data Order : Type 0 where
   script_level_graph : Order
   graph_script_level : Order
@@ -41,9 +54,13 @@ words_in graph_level_script u = graph_words u ++ (level_words u ++ script_words 
 words_in level_script_graph u = level_words u ++ (script_words u ++ graph_words u)
 words_in level_graph_script u = level_words u ++ (graph_words u ++ script_words u)
 
--- just these texts
+-- just these texts and flags
 abbrev pub given_by : Usage → Given
-given_by u = record { script = Some u.script; graph = u.graph; k = u.k }
+given_by u = record { script = Some u.script; graph = u.graph; k = u.k; without_one = u.without_one; without_fb = u.without_fb }
+
+-- the texts without the flags
+abbrev pub flagless : Usage → Usage
+flagless u = record u { without_one = false; without_fb = false }
 
 -- not empty, and no hyphen (45) first
 abbrev pub IsPlainText : List ℕ → Type 0

@@ -1,8 +1,9 @@
 -- What the words of the command line say, by clap's definition of a simple command: `App` is what it is told of
 -- a command, `fault_of` why it refuses words, and `matches_of` what it finds in them.
-use Rattle.std.specs.Prelude.{ℕ, Bool, true, false, List, [], ◌∷◌, Option, Some, None, if◌then◌else◌, codes}
+use Rattle.std.specs.Prelude.{ℕ, Bool, true, false, List, [], ◌∷◌, Option, Some, None, if◌then◌else◌, codes, bytes_eq}
 use Rattle.clap.specs.Kinds.{Kinds}
 use Rattle.clap.specs.Simple.{on_top}
+use Rattle.clap.specs.declared.builder.action.ArgAction.TheVariants.{SetTrue}
 use Rattle.clap.specs.Words.{App, Row, Rule, fault_of, first_of, matches_of, new_app, new_rule, with_rule}
 use Rattle.command_line.specs.Forms.{Form, neither}
 use Rattle.command_line.specs.Givens.{Given, form_given}
@@ -11,13 +12,21 @@ use Rattle.command_line.specs.Givens.{Given, form_given}
 abbrev pub option_rule : List ℕ → Rule
 option_rule name = record (new_rule name) { long = Some name }
 
+-- a flag: its word is the name behind two hyphens, and takes no text
+abbrev pub flag_rule : List ℕ → Rule
+flag_rule name = record (option_rule name) { action = Some SetTrue }
+
 -- the words are those after the program's name
 abbrev pub bare : App
 bare = on_top (λ s. record s { no_binary_name = true }) (new_app (codes "pathindex"))
 
 -- a script, and the options --graph and --k, none of them required
+abbrev pub texts : App
+texts = with_rule (with_rule (with_rule bare (new_rule (codes "script"))) (option_rule (codes "graph"))) (option_rule (codes "k"))
+
+-- and two flags
 abbrev pub command : App
-command = with_rule (with_rule (with_rule bare (new_rule (codes "script"))) (option_rule (codes "graph"))) (option_rule (codes "k"))
+command = with_rule (with_rule texts (flag_rule (codes "without-one"))) (flag_rule (codes "without-fb"))
 
 abbrev pub is_no_fault : Kinds → Bool
 is_no_fault [] = true
@@ -27,12 +36,19 @@ is_no_fault (k ∷ ks) = false
 abbrev pub is_accepted : List (List ℕ) → Bool
 is_accepted words = is_no_fault (fault_of command words)
 
--- the texts, by what clap found for each argument
+-- clap gives a flag that is there the text `true`
+abbrev pub is_set : Option (List ℕ) → Bool
+is_set None = false
+is_set (Some text) = bytes_eq text (codes "true")
+
+-- the texts and the flags, by what clap found for each argument
 abbrev pub given_in : List Row → Given
 given_in rows = record {
   script = first_of (codes "script") rows;
   graph = first_of (codes "graph") rows;
   k = first_of (codes "k") rows;
+  without_one = is_set (first_of (codes "without-one") rows);
+  without_fb = is_set (first_of (codes "without-fb") rows);
 }
 
 -- what the words give, if clap takes them

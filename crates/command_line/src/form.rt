@@ -4,7 +4,7 @@ ghost use Rattle.command_line.specs.Forms.{neither, HasLevel};
 ghost use Rattle.command_line.specs.Givens.{form_given, level_or_default as level_given, level_of as level_in};
 ghost use Rattle.command_line.specs.Words.{form_of, form_read, is_accepted};
 ghost use Rattle.command_line.specs.Shown.{shown_form, shown_given};
-ghost use Rattle.command_line.specs.Usage.{HasPlainTexts, Order, Usage, given_by, words_in, words_of};
+ghost use Rattle.command_line.specs.Usage.{HasPlainTexts, Order, Usage, flagless, given_by, words_in, words_of};
 
 use crate::given::{Given, read_given};
 use px_base::Memory;
@@ -19,6 +19,10 @@ pub struct Settings<'a> {
     pub graph: Option<&'a str>,
     /// The highest level of the A(k)-indexes that are kept, from 0 to 8.
     pub k: u32,
+    /// Whether no 1-index is kept.
+    pub without_one: bool,
+    /// Whether no forward and backward index is kept.
+    pub without_fb: bool,
 }
 
 /// What the words of the command line ask for.
@@ -61,6 +65,8 @@ fn run_with<'a>(given: &Given<'a>) -> Form<'a>
             script,
             graph: given.graph,
             k,
+            without_one: given.without_one,
+            without_fb: given.without_fb,
         }),
         None => Form::Neither,
     }
@@ -75,15 +81,15 @@ fn judge<'a>(given: Option<Given<'a>>) -> Form<'a>
     }
 }
 
-/// What the words after the program's name ask for: `SCRIPT [--graph FILE] [--k N]`, where N is one of the
-/// words `0` to `8`, and 2 where the option isn't there. The words are those that `clap` reads for this
-/// command. All that it refuses are of no form, a call for help too. The time is linear in the words.
+/// What the words after the program's name ask for: `SCRIPT [--graph FILE] [--k N] [--without-one] [--without-fb]`,
+/// where N is one of the words `0` to `8`, and 2 where the option isn't there. The words are those that `clap` reads
+/// for this command. All that it refuses are of no form, a call for help too. The time is linear in the words.
 pub fn read_words<'a>(alloc: Global, words: &'a [String]) -> Result<Form<'a>, Memory>
     ensures exact { IfOk result (λ f. shown_form f ≡ form_of (map string_bytes words.entry.now)) }
     // The words of the usage line, with texts that aren't empty and don't begin with a hyphen, give those texts.
     ensures plain { (u : Usage) → map string_bytes words.entry.now ≡ words_of u → HasPlainTexts u → IfOk result (λ f. shown_form f ≡ form_given (given_by u)) }
-    // So they do in another order.
-    ensures reordered { (u : Usage) (o : Order) → map string_bytes words.entry.now ≡ words_in o u → HasPlainTexts u → IfOk result (λ f. shown_form f ≡ form_given (given_by u)) }
+    // So do those without flags in another order.
+    ensures reordered { (u : Usage) (o : Order) → map string_bytes words.entry.now ≡ words_in o u → HasPlainTexts u → IfOk result (λ f. shown_form f ≡ form_given (given_by (flagless u))) }
     ensures refused { is_accepted (map string_bytes words.entry.now) ≡ false → IfOk result (λ f. shown_form f ≡ neither) }
     ensures level { IfOk result (λ f. HasLevel (shown_form f)) }
 {

@@ -1,7 +1,7 @@
 // What stands on the command line, before it is judged.
 ghost use Rattle.std.specs.Prelude.{◌≡◌, IfOk, map, option_map, string_bytes};
 ghost use Rattle.clap.specs.Words.{first_of, found_of, rows_of};
-ghost use Rattle.command_line.specs.Words.{given_in, read};
+ghost use Rattle.command_line.specs.Words.{given_in, is_set, read};
 ghost use Rattle.command_line.specs.Shown.{Matches, shown_given};
 
 use crate::rules::make_command;
@@ -10,12 +10,14 @@ use clap::error::ErrorKind;
 use px_base::Memory;
 use std::alloc::Global;
 
-/// The text of each argument that is there.
+/// The text of each argument that is there, and which flags are.
 #[derive(Drop)]
 pub(crate) struct Given<'a> {
     pub(crate) script: Option<&'a str>,
     pub(crate) graph: Option<&'a str>,
     pub(crate) k: Option<&'a str>,
+    pub(crate) without_one: bool,
+    pub(crate) without_fb: bool,
 }
 
 // What clap makes of the words; none where it refuses them. Its want of memory is no refusal.
@@ -38,6 +40,16 @@ fn text_of<'a>(matches: &ArgMatches<'a>, id: &str) -> Option<&'a str>
     matches.get_str(id)
 }
 
+// Whether the flag is there.
+fn has_flag<'a>(matches: &ArgMatches<'a>, id: &str) -> bool
+    ensures { result ≡ is_set (first_of id.now (rows_of (found_of matches.now))) }
+{
+    match text_of(matches, id) {
+        Some(text) => text == "true",
+        None => false,
+    }
+}
+
 fn gather<'a>(matches: &ArgMatches<'a>) -> Given<'a>
     ensures { shown_given result ≡ given_in (rows_of (found_of matches.now)) }
 {
@@ -45,6 +57,8 @@ fn gather<'a>(matches: &ArgMatches<'a>) -> Given<'a>
         script: text_of(matches, "script"),
         graph: text_of(matches, "graph"),
         k: text_of(matches, "k"),
+        without_one: has_flag(matches, "without-one"),
+        without_fb: has_flag(matches, "without-fb"),
     }
 }
 

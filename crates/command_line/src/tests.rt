@@ -19,6 +19,18 @@ fn run<'a>(graph: Option<&'a str>, k: u32) -> Form<'a> {
         script: "s",
         graph,
         k,
+        without_one: false,
+        without_fb: false,
+    })
+}
+
+fn run_without<'a>(without_one: bool, without_fb: bool) -> Form<'a> {
+    Form::Run(Settings {
+        script: "s",
+        graph: None,
+        k: 2,
+        without_one,
+        without_fb,
     })
 }
 
@@ -30,6 +42,8 @@ fn plain_words_name_a_script(rt: HostRuntime) -> Result<(), Fail> {
         ("s --k 0", run(None, 0)),
         ("s --graph g --k 8", run(Some("g"), 8)),
         ("--graph g s", run(Some("g"), 2)),
+        ("s --without-one", run_without(true, false)),
+        ("s --without-one --without-fb", run_without(true, true)),
     ];
     for (line, form) in rows {
         assert!(rt; is_read_as(rt.alloc(), line, form)?, "at {line}");

@@ -12,4 +12,4 @@ returns-clause-plain c u is plain =
 pub returns-clause-reordered : goal.returns-clause-reordered
 returns-clause-reordered c u o is plain =
     let exact : shown_form c.judge.result ≡ form_of (map string_bytes c.args.words.now) = search rules in
-    exact ∙ ap form_of is ∙ reordered_form o u plain ∙ plain_form u plain
+    exact ∙ ap form_of is ∙ reordered_form o u plain
