@@ -2,8 +2,9 @@
 """Compares the program with slow, plain definitions: check_by_definition.py PROGRAM [RUNS].
 
 Each run makes a small random script of changes, queries, lists and sizes. What the program writes must be what the definitions
-below give, which work on pairs of nodes and know neither blocks of an index nor automata. The first script that differs is
-printed with both outputs, and the exit status is 1.
+below give, which work on pairs of nodes and know neither splitting of blocks nor automata. Where walks come back to their beginning
+several partitions of the 1-index are lawful, so of that which the program lists the demands are tested. The first script whose
+output is wrong is printed with it, and the exit status is 1.
 """
 import random
 import subprocess
@@ -33,15 +34,36 @@ class Graph:
     def parents(self, node):
         return [u for u, v in self.edges if v == node]
 
+    def children(self, node):
+        return [v for u, v in self.edges if u == node]
+
+    def copy(self):
+        other = Graph()
+        other.labels, other.edges = list(self.labels), set(self.edges)
+        return other
+
+
+def refined(graph, related, sides):
+    """The pairs that stay related when on each side each neighbour must have a partner."""
+    def partners(side, u, v):
+        return all(any((p, q) in related for q in side(v)) for p in side(u))
+    return {(u, v) for u, v in related if all(partners(s, u, v) and partners(s, v, u) for s in sides)}
+
 
 def level(graph, i):
     """The pairs of nodes that are bisimilar to level i: labels agree, and below it each parent has a partner."""
     live = graph.live()
     related = {(u, v) for u in live for v in live if graph.labels[u] == graph.labels[v]}
     for _ in range(i):
-        def partners(u, v):
-            return all(any((p, q) in related for q in graph.parents(v)) for p in graph.parents(u))
-        related = {(u, v) for u, v in related if partners(u, v) and partners(v, u)}
+        related = refined(graph, related, [graph.parents])
+    return related
+
+
+def both_ways(graph):
+    """The pairs of nodes that are bisimilar by parents and children."""
+    related = level(graph, 0)
+    for _ in graph.live():
+        related = refined(graph, related, [graph.parents, graph.children])
     return related
 
 
@@ -51,6 +73,37 @@ def classes(graph, related):
         [v for v in graph.live() if (u, v) in related]
         for u in graph.live() if all(v >= u for v in graph.live() if (u, v) in related)
     ]
+
+
+def pairs_of(graph, blocks):
+    """The number of pairs of blocks with an edge from the one to the other."""
+    return sum(any((u, v) in graph.edges for u in b for v in c) for b in blocks for c in blocks)
+
+
+def has_ring(graph):
+    left = set(graph.live())
+    while True:
+        ends = {n for n in left if not any(p in left for p in graph.parents(n))}
+        if not ends:
+            return bool(left)
+        left -= ends
+
+
+def fault_of_one(graph, blocks):
+    """What these blocks lack as a partition of the 1-index, None where they lack nothing."""
+    if sorted(n for b in blocks for n in b) != graph.live():
+        return "not each live node in one block"
+    block_of = {n: i for i, b in enumerate(blocks) for n in b}
+
+    def key(n, merged=()):
+        return graph.labels[n], frozenset(-1 if block_of[p] in merged else block_of[p] for p in graph.parents(n))
+    if any(key(n) != key(b[0]) for b in blocks for n in b):
+        return "not stable"
+    if any(key(b[0], (i, j)) == key(c[0], (i, j)) for i, b in enumerate(blocks) for j, c in enumerate(blocks) if i < j):
+        return "two blocks can be merged"
+    if not has_ring(graph) and len(blocks) != len(classes(graph, level(graph, len(graph.labels)))):
+        return "not full bisimilarity"
+    return None
 
 
 def loosened(graph, related):
@@ -136,42 +189,91 @@ def expression(pick, depth):
     return sort, expression(pick, depth - 1), expression(pick, depth - 1)
 
 
+class Output:
+    """What the program wrote, read line by line, and the blocks of the 1-index when they were last listed."""
+
+    def __init__(self, text):
+        self.lines = text.splitlines()
+        self.at = 0
+        self.one = []
+
+    def next(self):
+        self.at += 1
+        return self.lines[self.at - 1] if self.at <= len(self.lines) else "(the end)"
+
+
+def writes(*wanted):
+    """The test that just these lines are written."""
+    def test(output):
+        for line in wanted:
+            written = output.next()
+            if written != line:
+                return f"wanted {line!r}, written {written!r}"
+        return None
+    return test
+
+
+def lists(graph, blocks):
+    lines = [" ".join([graph.labels[b[0]]] + [f"n{n}" for n in b]) for b in blocks]
+    return writes(f"blocks {len(blocks)}", *lines)
+
+
+def lists_one(graph):
+    """The test that a lawful partition of the 1-index is listed."""
+    def test(output):
+        head = output.next().split()
+        if head[:1] != ["blocks"]:
+            return f"wanted blocks, written {head}"
+        rows = [output.next() for _ in range(int(head[1]))]
+        output.one = [[int(word[1:]) for word in row.split()[1:]] for row in rows]
+        fault = fault_of_one(graph, output.one)
+        output.at -= len(rows) + 1
+        return fault or lists(graph, output.one)(output)
+    return test
+
+
+def sizes_one(graph):
+    return lambda output: writes(f"one blocks {len(output.one)} edges {pairs_of(graph, output.one)}")(output)
+
+
 class Run:
-    """A random script, and what it must write."""
+    """A random script, and a test for what each of its lines writes."""
 
     def __init__(self, seed):
         self.pick = random.Random(seed)
         self.k = self.pick.randrange(4)
-        self.kept = True
+        self.kept = {"a", "one", "fb"} - {kind for kind in ("one", "fb") if self.pick.randrange(8) == 0}
+        self.words = ["--k", str(self.k)] + [f"--without-{kind}" for kind in ("one", "fb") if kind not in self.kept]
         self.graph = Graph()
         self.script = []
-        self.output = []
+        self.tests = []
         for change in [self.node] * NODES + [self.link] * LINKS:
             change()
         for _ in range(LINES):
             self.pick.choice([self.node, self.link, self.link, self.link, self.unlink, self.drop,
                               self.path, self.path, self.extents, self.sizes])()
-            if self.pick.randrange(2 * LINES) == 0:
-                self.say("forget a", ["ok" if self.kept else "refused no-index"])
-                self.kept = False
+            if self.pick.randrange(LINES) == 0:
+                kind = self.pick.choice(["a", "one", "fb"])
+                self.say(f"forget {kind}", writes("ok" if kind in self.kept else "refused no-index"))
+                self.kept.discard(kind)
 
-    def say(self, line, written):
+    def say(self, line, *tests):
         self.script.append(line)
-        self.output += written
+        self.tests += tests
 
     def any_node(self):
         return self.pick.randrange(len(self.graph.labels) + 1)
 
     def node(self):
         self.graph.labels.append(self.pick.choice(LABELS))
-        self.say(f"node {self.graph.labels[-1]}", [f"added n{len(self.graph.labels) - 1}"])
+        self.say(f"node {self.graph.labels[-1]}", writes(f"added n{len(self.graph.labels) - 1}"))
 
     def link(self):
         edge = self.any_node(), self.any_node()
         are_live = all(map(self.graph.is_live, edge))
         if are_live:
             self.graph.edges.add(edge)
-        self.say("link n%d n%d" % edge, ["ok" if are_live else "refused no-node"])
+        self.say("link n%d n%d" % edge, writes("ok" if are_live else "refused no-node"))
 
     def unlink(self):
         edge = self.pick.choice(sorted(self.graph.edges) + [(self.any_node(), self.any_node())])
@@ -180,7 +282,7 @@ class Run:
         else:
             reply = "ok" if edge in self.graph.edges else "refused no-edge"
         self.graph.edges.discard(edge)
-        self.say("unlink n%d n%d" % edge, [reply])
+        self.say("unlink n%d n%d" % edge, writes(reply))
 
     def drop(self):
         node = self.any_node()
@@ -191,41 +293,69 @@ class Run:
         else:
             reply = "ok"
             self.graph.labels[node] = None
-        self.say(f"drop n{node}", [reply])
+        self.say(f"drop n{node}", writes(reply))
+
+    def index(self):
+        """The word of an index, and its level where it is an A(k)-index; the index may not be kept."""
+        i = self.pick.randrange(self.k + 2)
+        return self.pick.choice([(f"a{i}", i), (f"a{i}", i), ("one", None), ("fb", None)])
+
+    def is_kept(self, word, i):
+        return word in self.kept if i is None else "a" in self.kept and i <= self.k
 
     def path(self):
         e = expression(self.pick, 3)
         found = answers(self.graph, self.graph.edges, e)
         nodes = [" ".join(f"n{n}" for n in found)] if found else []
         if self.pick.randrange(2):
-            self.say(f"path data {spelled(e)}", [f"answers {len(found)}"] + nodes)
+            self.say(f"path data {spelled(e)}", writes(f"answers {len(found)}", *nodes))
             return
-        i = self.pick.randrange(self.k + 2)
-        if not self.kept or i > self.k:
+        word, i = self.index()
+        if not self.is_kept(word, i):
             written = ["refused no-index"]
+        elif i is None or longest(e) <= i + 1:
+            written = [f"answers {len(found)} candidates {len(found)} exact"] + nodes
         else:
             candidates = answers(self.graph, loosened(self.graph, level(self.graph, i)), e)
-            how = "exact" if longest(e) <= i + 1 else "checked"
-            written = [f"answers {len(found)} candidates {len(candidates)} {how}"] + nodes
-        self.say(f"path a{i} {spelled(e)}", written)
+            written = [f"answers {len(found)} candidates {len(candidates)} checked"] + nodes
+        self.say(f"path {word} {spelled(e)}", writes(*written))
 
     def extents(self):
-        i = self.pick.randrange(self.k + 2)
-        if not self.kept or i > self.k:
-            written = ["refused no-index"]
+        word, i = self.index()
+        if not self.is_kept(word, i):
+            test = writes("refused no-index")
+        elif word == "one":
+            test = lists_one(self.graph.copy())
         else:
-            blocks = classes(self.graph, level(self.graph, i))
-            written = [f"blocks {len(blocks)}"]
-            written += [" ".join([self.graph.labels[b[0]]] + [f"n{n}" for n in b]) for b in blocks]
-        self.say(f"extents a{i}", written)
+            test = lists(self.graph.copy(), classes(self.graph, both_ways(self.graph) if i is None else level(self.graph, i)))
+        self.say(f"extents {word}", test)
 
     def sizes(self):
-        written = [f"nodes {len(self.graph.live())} edges {len(self.graph.edges)}"]
-        for i in range(self.k + 1 if self.kept else 0):
-            blocks = classes(self.graph, level(self.graph, i))
-            pairs = sum(any((u, v) in self.graph.edges for u in b for v in c) for b in blocks for c in blocks)
-            written.append(f"a{i} blocks {len(blocks)} edges {pairs}")
-        self.say("sizes", written)
+        graph = self.graph.copy()
+        if "one" in self.kept:
+            self.say("extents one", lists_one(graph))
+        tests = [writes(f"nodes {len(graph.live())} edges {len(graph.edges)}")]
+        for i in range(self.k + 1 if "a" in self.kept else 0):
+            blocks = classes(graph, level(graph, i))
+            tests.append(writes(f"a{i} blocks {len(blocks)} edges {pairs_of(graph, blocks)}"))
+        if "one" in self.kept:
+            tests.append(sizes_one(graph))
+        if "fb" in self.kept:
+            blocks = classes(graph, both_ways(graph))
+            tests.append(writes(f"fb blocks {len(blocks)} edges {pairs_of(graph, blocks)}"))
+        self.say("sizes", *tests)
+
+    def fault(self, written, status):
+        """What is wrong with the output, None where nothing is."""
+        output = Output(written)
+        for test in self.tests:
+            fault = test(output)
+            if fault:
+                return f"line {output.at} of the output: {fault}"
+        if output.at != len(output.lines):
+            return "more is written"
+        wanted = 1 if any(line.startswith("refused") for line in output.lines) else 0
+        return None if status == wanted else f"wanted status {wanted}, got {status}"
 
 
 def main():
@@ -237,13 +367,11 @@ def main():
         with tempfile.NamedTemporaryFile("w", suffix=".script") as script:
             script.write("".join(line + "\n" for line in run.script))
             script.flush()
-            done = subprocess.run([sys.argv[1], script.name, "--k", str(run.k)], capture_output=True, text=True)
-        wanted = "".join(line + "\n" for line in run.output)
-        status = 1 if any(line.startswith("refused") for line in run.output) else 0
-        if (done.stdout, done.returncode) != (wanted, status):
-            print("\n".join(run.script), f"\n--k {run.k}, wanted, with status {status}:\n{wanted}"
-                  f"written, with status {done.returncode}:\n{done.stdout}")
-            sys.exit(f"run {seed} differs")
+            done = subprocess.run([sys.argv[1], script.name] + run.words, capture_output=True, text=True)
+        fault = run.fault(done.stdout, done.returncode)
+        if fault:
+            print("\n".join(run.script), f"\n{' '.join(run.words)}, written, with status {done.returncode}:\n{done.stdout}")
+            sys.exit(f"run {seed}: {fault}")
     print(f"ok: {runs} runs")
 
 

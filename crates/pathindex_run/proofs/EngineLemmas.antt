@@ -213,7 +213,7 @@ kept_state o olds news all stay i = record {
   };
 }
 
-kinds_without : (k : Kind) (boxes : List Meaning) → kinds_of (filter (λ m. not (is_kind k m.kind)) boxes) ≡ filter (λ other. not (is_kind k other)) (kinds_of boxes)
+pub kinds_without : (k : Kind) (boxes : List Meaning) → kinds_of (filter (λ m. not (is_kind k m.kind)) boxes) ≡ filter (λ other. not (is_kind k other)) (kinds_of boxes)
 kinds_without k [] = refl
 kinds_without k (m ∷ ms) =
     elim (is_kind k m.kind) as (λ t. kinds_of (cond (not t) (m ∷ filter (λ x. not (is_kind k x.kind)) ms) (filter (λ x. not (is_kind k x.kind)) ms)) ≡ cond (not t) (m.kind ∷ filter (λ other. not (is_kind k other)) (kinds_of ms)) (filter (λ other. not (is_kind k other)) (kinds_of ms))) [

@@ -20,7 +20,7 @@ use Rattle.command_line.specs.Forms.{Settings, runs}
 use Rattle.graph_load.specs.Loads.{syntax, limit}
 use Rattle.px_base.specs.Files.{File}
 use Rattle.pathindex_run.specs.States.{State, BeginsRun}
-use Rattle.pathindex_run.specs.Headline.{RunsScript, RunsLoaded, RunsOutcome, IsProper, HasStatus, Completes}
+use Rattle.pathindex_run.specs.Headline.{RunsScript, RunsLoaded, RunsOutcome, IsProper, HasStatus, Completes, kinds_for}
 use Rattle.pathindex_run.specs.Told.{RanTold}
 use Rattle.index_api.specs.Kept.{is_kept}
 use Rattle.extent_report.specs.Shown.{ShowsIndex, ShowsSize}
@@ -35,7 +35,7 @@ label_a = inl (plain_a, refl)
 
 -- a run of the script s, with no graph file
 plain : Settings
-plain = record { script = codes "s"; graph = None; k = 2 }
+plain = record { script = codes "s"; graph = None; k = 2; without_one = false; without_fb = false }
 
 -- a state in which the A(k)-family is kept, and no other index
 abbrev family_of : Graph → ℕ → State
@@ -50,6 +50,19 @@ begins_there = record { graph = refl; kinds = refl; level = refl; one = λ h. ab
 
 not_there : BeginsRun empty_graph (kind.One ∷ []) 2 first_state → ⊥
 not_there h = (let same = h.kinds in cc)
+
+-- of three indexes that are handed in, those are kept that no flag leaves out, in their order
+all_kept : kinds_for plain (kind.A ∷ kind.One ∷ kind.Fb ∷ []) ≡ kind.A ∷ kind.One ∷ kind.Fb ∷ []
+unfolding plain
+all_kept = refl
+
+without_one : kinds_for (record plain { without_one = true }) (kind.A ∷ kind.One ∷ kind.Fb ∷ []) ≡ kind.A ∷ kind.Fb ∷ []
+unfolding plain
+without_one = refl
+
+without_fb : kinds_for (record plain { without_fb = true }) (kind.A ∷ kind.One ∷ kind.Fb ∷ []) ≡ kind.A ∷ kind.One ∷ []
+unfolding plain
+without_fb = refl
 
 -- nothing is run, and that is a run
 run_empty : IsRun program_limits first_state [] [] 0 (start first_state)
@@ -250,7 +263,7 @@ no_line_of_one g text (inr h) = h.1
 
 -- a graph file
 with_graph : Settings
-with_graph = record { script = codes "s"; graph = Some (codes "g"); k = 2 }
+with_graph = record { script = codes "s"; graph = Some (codes "g"); k = 2; without_one = false; without_fb = false }
 
 -- where its first line is refused, the run doesn't end as if there were no such line, and says which line it was
 not_done : (kinds : List Kind) (files : List File) (old new : Option (List ℕ)) (Last : State → Type 0) → ¬ RunsOutcome with_graph kinds files (syntax 1) old new 0 Last

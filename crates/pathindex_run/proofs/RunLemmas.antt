@@ -15,7 +15,7 @@ use Rattle.bisim_spec.specs.declared.kind.Kind.{Kind}
 use Rattle.pathindex_run.specs.States.{State, BeginsRun}
 use Rattle.pathindex_run.specs.Told.{RanTold, FrontTold}
 use Rattle.pathindex_run.specs.ToldFiles.{BeginsTold, ScriptTold}
-use Rattle.pathindex_run.specs.Headline.{RunsScript, RunsOutcome, RunsLoaded, RunsFiles, Meets, BeginsWith, Lacks, LacksDueFile}
+use Rattle.pathindex_run.specs.Headline.{RunsScript, RunsOutcome, RunsLoaded, RunsFiles, Meets, BeginsWith, Lacks, LacksDueFile, kinds_for}
 
 stopped_loaded : (s : Settings) (kinds : List Kind) (files : List File) (text old : Option (List ℕ)) (status : ℕ) (Last : State → Type 0) → (status ≡ 5) ⊎ (status ≡ 7) → RunsLoaded s kinds files text old old status Last
 stopped_loaded s kinds files None old status Last e = (Keeps-refl old, e)
@@ -37,8 +37,8 @@ unread (runs s) kinds files old Last = stopped s kinds files old 7 Last (inr ref
 
 -- the script runs from the graph with which it begins
 script_files : (s : Settings) (kinds : List Kind) (name : Option (List ℕ)) (files : List File) (first : State) (old new : Option (List ℕ)) (status : ℕ) (Last : State → Type 0)
-    → BeginsWith name files first.graph → BeginsRun first.graph kinds s.k first → RunsScript first (content_of files s.script) old new status Last → RunsFiles s kinds name files old new status Last
-script_files s kinds None files first old new status Last b i r = inl (first, subst (λ g. BeginsRun g kinds s.k first) b i, r)
+    → BeginsWith name files first.graph → BeginsRun first.graph (kinds_for s kinds) s.k first → RunsScript first (content_of files s.script) old new status Last → RunsFiles s kinds name files old new status Last
+script_files s kinds None files first old new status Last b i r = inl (first, subst (λ g. BeginsRun g (kinds_for s kinds) s.k first) b i, r)
 script_files s kinds (Some name) files first old new status Last b i r =
     subst (λ t. RunsLoaded s kinds files t old new status Last) (sym b.1) (inl (loaded first.graph, b.2, inl (first, i, r)))
 
@@ -73,7 +73,7 @@ told_part first name (Some fs) left old new status Last f l r =
 
 -- what is run from the graph with which the run begins
 pub script_meets : (s : Settings) (kinds : List Kind) (files : Option (List File)) (first : State) (old new : Option (List ℕ)) (status : ℕ) (Last : State → Type 0)
-    → BeginsTold s.graph files first.graph → BeginsRun first.graph kinds s.k first
+    → BeginsTold s.graph files first.graph → BeginsRun first.graph (kinds_for s kinds) s.k first
     → ScriptTold first files s.script old new status Last → Meets (runs s) kinds files old new status Last
 script_meets s kinds None first old new status Last b i r = tt
 script_meets s kinds (Some fs) first old new status Last b i r = script_files s kinds s.graph fs first old new status Last b i r

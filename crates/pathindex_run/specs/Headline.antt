@@ -12,7 +12,8 @@ use Rattle.script_read.specs.Commands.{SpellsSomething}
 use Rattle.command_line.specs.Forms.{Settings, Form, runs, neither}
 use Rattle.pathindex_run.specs.Texts.{usage_line, graph_line}
 use Rattle.bisim_spec.specs.declared.kind.Kind.{Kind}
-use Rattle.pathindex_run.specs.States.{State, BeginsRun}
+use Rattle.bisim_spec.specs.declared.kind.Kind.TheVariants.{One, Fb}
+use Rattle.pathindex_run.specs.States.{State, BeginsRun, left_out}
 use Rattle.pathindex_run.specs.Told.{RanTold, FrontTold}
 
 -- nothing is written, since a file isn't there or wasn't read to its end, or memory ran out
@@ -33,11 +34,15 @@ RunsScript first (Some text) old new status Last =
     ((status ≤ 4) × RanTold program_limits first (Some text) old new status Last)
     ⊎ ((5 ≤ status) × FrontTold program_limits first (Some text) old new)
 
--- A run from this graph on, with indexes of these kinds that are built of it, or nothing, where memory ran out or the script couldn't be
--- read.
+-- the kinds of the indexes that a run keeps, of those that are handed in
+abbrev pub kinds_for : Settings → List Kind → List Kind
+kinds_for s kinds = left_out s.without_fb Fb (left_out s.without_one One kinds)
+
+-- A run from this graph on, with indexes that are built of it, of the kinds that are handed in without those that a flag leaves out; or
+-- nothing, where memory ran out or the script couldn't be read.
 abbrev pub RunsFrom : Settings → List Kind → Graph → Option (List ℕ) → Option (List ℕ) → Option (List ℕ) → ℕ → (State → Type 0) → Type 0
 RunsFrom s kinds g text old new status Last =
-    ((first : State) × BeginsRun g kinds s.k first × RunsScript first text old new status Last) ⊎ StopsAtOnce old new status
+    ((first : State) × BeginsRun g (kinds_for s kinds) s.k first × RunsScript first text old new status Last) ⊎ StopsAtOnce old new status
 
 -- what follows, by what the graph file loads to
 abbrev pub RunsOutcome : Settings → List Kind → List File → Outcome → Option (List ℕ) → Option (List ℕ) → ℕ → (State → Type 0) → Type 0

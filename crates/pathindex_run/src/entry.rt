@@ -8,8 +8,8 @@ ghost use Rattle.bisim_spec.specs.declared.kind.Kind.{Kind};
 ghost use Rattle.index_api.specs.Kept.{kinds_of};
 ghost use Rattle.pathindex_core.specs.Engines.{engine_seen, opened_of, IsSound};
 ghost use Rattle.pathindex_run.specs.EngineStates.{state_in, IsOpen, IsIn};
-ghost use Rattle.pathindex_run.specs.States.{BeginsRun};
-ghost use Rattle.pathindex_run.specs.Headline.{Meets, HasStatus, Completes, ShowsLine};
+ghost use Rattle.pathindex_run.specs.States.{BeginsRun, left_out};
+ghost use Rattle.pathindex_run.specs.Headline.{Meets, HasStatus, Completes, ShowsLine, kinds_for};
 ghost use Rattle.pathindex_run.specs.ToldFiles.{BeginsTold};
 ghost use Rattle.pathindex_run.specs.Texts.{graph_line, usage_line};
 
@@ -18,6 +18,7 @@ use crate::script::{Stop, run_lines};
 use crate::status::Status;
 use command_line::{Form, Settings, read_words};
 use graph_load::{LoadError, load};
+use index_api::Kind;
 use label_graph::Graph;
 use pathindex_core::Engine;
 use px_base::{Limits, Shelf, Sink, put_all};
@@ -56,8 +57,8 @@ fn show_refusal<K: Sink>(alloc: Global, line: u32, reason: &str, sink: &mut K) -
 }
 
 /// Carries out what the words ask for, and answers the exit status. The words are those after the
-/// program's name: `SCRIPT [--graph FILE] [--k N]`. The graph file, where one is named, is loaded first; it is RDF
-/// 1.1 N-Triples. Then the script's lines are read from the shelf, and what they print is written to the sink.
+/// program's name: `SCRIPT [--graph FILE] [--k N] [--without-one] [--without-fb]`. The graph file, where one is named, is
+/// loaded first; it is RDF 1.1 N-Triples. The engine drops the indexes that a flag leaves out, and builds the others. Then the script's lines are read from the shelf, and what they print is written to the sink.
 ///
 /// | Status | Comes |
 /// |---|---|
@@ -150,7 +151,20 @@ fn run_loaded<H: Shelf, K: Sink>(
     }
 }
 
-/// Opens the engine with that graph, and runs the script.
+/// Drops the index of that kind where it is left out.
+fn leave_out(engine: &mut Engine, kind: Kind, is_left_out: bool)
+    requires closed { opened_of engine.old.state ≡ None }
+    requires sound { IsSound (engine_seen (map (λ b. meaning (b.vtable, b.value)) engine.old.boxes.items) engine.old.state) }
+    ensures closed { opened_of engine.new.state ≡ None }
+    ensures sound { IsSound (engine_seen (map (λ b. meaning (b.vtable, b.value)) engine.new.boxes.items) engine.new.state) }
+    ensures kinds { kinds_of (map (λ b. meaning (b.vtable, b.value)) engine.new.boxes.items) ≡ left_out is_left_out kind (kinds_of (map (λ b. meaning (b.vtable, b.value)) engine.old.boxes.items)) }
+{
+    if is_left_out {
+        let _ = engine.forget(kind);
+    }
+}
+
+/// Opens the engine with that graph and without the indexes that a flag leaves out, and runs the script.
 fn run_script<H: Shelf, K: Sink>(
     alloc: Global,
     settings: &Settings<'_>,
@@ -169,6 +183,8 @@ fn run_script<H: Shelf, K: Sink>(
     ensures complete { Completes (runs (shown_settings settings.now)) (H.files shelf.old) (H.faults shelf.old) (H.faults shelf.new) (K.faults sink.old) (K.faults sink.new) result }
     ensures files { H.files shelf.new ≡ H.files shelf.old }
 {
+    leave_out(engine, Kind::One, settings.without_one);
+    leave_out(engine, Kind::Fb, settings.without_fb);
     match engine.open(graph, Limits::program(), settings.k) {
         Ok(()) => run_open(alloc, settings, engine, shelf, sink),
         Err(_) => Status::NoMemory as u8,
@@ -186,7 +202,7 @@ fn run_open<H: Shelf, K: Sink>(
     requires begins { BeginsTold (shown_settings settings.now).graph (H.files shelf.old) (state_in (engine_seen (map (λ b. meaning (b.vtable, b.value)) engine.old.boxes.items) engine.old.state)).graph }
     requires ready { IsOpen (engine_seen (map (λ b. meaning (b.vtable, b.value)) engine.old.boxes.items) engine.old.state) }
     ensures sound { IsSound (engine_seen (map (λ b. meaning (b.vtable, b.value)) engine.new.boxes.items) engine.new.state) }
-    ensures meets { (kinds : List Kind) → BeginsRun (state_in (engine_seen (map (λ b. meaning (b.vtable, b.value)) engine.old.boxes.items) engine.old.state)).graph kinds settings.now.k (state_in (engine_seen (map (λ b. meaning (b.vtable, b.value)) engine.old.boxes.items) engine.old.state)) → Meets (runs (shown_settings settings.now)) kinds (H.files shelf.old) (K.written sink.old) (K.written sink.new) result (IsIn (engine_seen (map (λ b. meaning (b.vtable, b.value)) engine.new.boxes.items) engine.new.state)) }
+    ensures meets { (kinds : List Kind) → BeginsRun (state_in (engine_seen (map (λ b. meaning (b.vtable, b.value)) engine.old.boxes.items) engine.old.state)).graph (kinds_for (shown_settings settings.now) kinds) settings.now.k (state_in (engine_seen (map (λ b. meaning (b.vtable, b.value)) engine.old.boxes.items) engine.old.state)) → Meets (runs (shown_settings settings.now)) kinds (H.files shelf.old) (K.written sink.old) (K.written sink.new) result (IsIn (engine_seen (map (λ b. meaning (b.vtable, b.value)) engine.new.boxes.items) engine.new.state)) }
     ensures status { HasStatus (runs (shown_settings settings.now)) (H.files shelf.old) (H.faults shelf.old) (H.faults shelf.new) (K.faults sink.old) (K.faults sink.new) result }
     ensures complete { Completes (runs (shown_settings settings.now)) (H.files shelf.old) (H.faults shelf.old) (H.faults shelf.new) (K.faults sink.old) (K.faults sink.new) result }
     ensures files { H.files shelf.new ≡ H.files shelf.old }
