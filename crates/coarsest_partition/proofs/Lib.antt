@@ -1,0 +1,6 @@
+pub mod StepLaws
+pub mod RoundLaws
+pub mod BothLaws
+pub mod Alone
+pub mod Filled
+pub mod Starts
