@@ -8,6 +8,7 @@ ghost use Rattle.bisim_spec.specs.Partitions.{IsPartition, Agrees};
 ghost use Rattle.px_spec.specs.Shapes.{shape_of};
 ghost use Rattle.block_partition.specs.Partitions.{block_count};
 ghost use Rattle.block_splitting.specs.Splits.{AreLabelled, AreInhabited};
+ghost use Rattle.coarsest_partition.specs.Fitting.{FitsWithSupports};
 ghost use Rattle.coarsest_partition.specs.Refined.{both_sides, IsRefined, IsStep};
 ghost use Rattle.coarsest_partition.specs.Sides.{two, by_side, other_of};
 
@@ -82,6 +83,7 @@ fn settle_both_ways(
     mut blocks: Blocks,
 ) -> Result<Blocks, Memory>
     requires labels { Agrees (shape_of view.now) blocks.block_of (SameLabel (shape_of view.now)) }
+    ensures graph { IfOk result (λ _. IsGraph view.now) }
     ensures labelled { IfOk result (λ p. AreLabelled view.now blocks → AreLabelled view.now p) }
     ensures inhabited { IfOk result (λ p. AreInhabited blocks → AreInhabited p) }
     ensures agrees { IfOk result (λ p. Agrees (shape_of view.now) p.block_of (FB (shape_of view.now))) }
@@ -119,8 +121,7 @@ fn settle_both_ways(
 /// side where a neighbour there went to another block, unless it is alone in its own.
 pub fn full_bisimulation_both_ways(alloc: Global, view: &GraphView<'_>) -> Result<Blocks, Memory>
     ensures agrees { IfOk result (λ p. Agrees (shape_of view.now) p.block_of (FB (shape_of view.now))) }
-    ensures labelled { IfOk result (AreLabelled view.now) }
-    ensures inhabited { IfOk result AreInhabited }
+    ensures fits { IfOk result (FitsWithSupports view.now) }
 {
     let labels = by_labels(alloc, view)?;
     let blocks = settle_both_ways(alloc, view, labels)?;

@@ -8,6 +8,7 @@ ghost use Rattle.bisim_spec.specs.Partitions.{IsPartition, Agrees};
 ghost use Rattle.px_spec.specs.Shapes.{shape_of};
 ghost use Rattle.block_partition.specs.Partitions.{block_count};
 ghost use Rattle.block_splitting.specs.Splits.{AreLabelled, AreInhabited};
+ghost use Rattle.coarsest_partition.specs.Fitting.{FitsWithSupports};
 ghost use Rattle.coarsest_partition.specs.Refined.{parents_alone, IsRefined, IsStep};
 
 use crate::labels::by_labels;
@@ -110,8 +111,7 @@ fn settle_by_parents(
 /// keeps the block's number, where no other member is left. There are at most as many rounds as blocks.
 pub fn full_bisimulation(alloc: Global, view: &GraphView<'_>) -> Result<Blocks, Memory>
     ensures agrees { IfOk result (λ p. Agrees (shape_of view.now) p.block_of (Bisim (shape_of view.now))) }
-    ensures labelled { IfOk result (AreLabelled view.now) }
-    ensures inhabited { IfOk result AreInhabited }
+    ensures fits { IfOk result (FitsWithSupports view.now) }
 {
     let labels = by_labels(alloc, view)?;
     let waiting = all_waiting(alloc, view, &labels)?;
