@@ -1,0 +1,80 @@
+// The index.
+ghost use Rattle.std.specs.Prelude.{◌≡◌, IfOk, None, false};
+ghost use Rattle.fb_index.specs.Fitting.{meaning_of};
+
+use crate::building::summary_of_view;
+use graph_update::Change;
+use index_api::{Kind, PathIndex};
+use label_graph::{Graph, GraphView};
+use px_base::Memory;
+use quotient::Summary;
+use std::alloc::Global;
+
+/// The forward and backward index of a graph. A change leaves no view of it, which takes no time and no memory, and the next `refresh`
+/// computes the view of the graph as it then is. A build or a refresh keys each node at first, and then in rounds those next to
+/// nodes that moved; its tables take O(nodes + edges) memory.
+#[derive(Drop)]
+pub struct FbIndex {
+    alloc: Global,
+    summary: Option<Summary>,
+    is_staged: bool,
+}
+
+impl FbIndex {
+    /// An index without a view. It takes no memory until it is built.
+    pub fn new(alloc: Global) -> Result<FbIndex, Memory>
+        ensures { IfOk result (λ index. meaning_of index.summary index.is_staged ≡ meaning_of None false) }
+    {
+        Ok(FbIndex {
+            alloc,
+            summary: None,
+            is_staged: false,
+        })
+    }
+}
+
+impl PathIndex for FbIndex {
+    ghost use Rattle.fb_index.specs.Fitting.{meaning_of as the_meaning_of};
+
+    ghost meaning = { λ index. the_meaning_of index.summary index.is_staged };
+
+    fn kind(&self) -> Kind {
+        Kind::Fb
+    }
+
+    fn build(&mut self, view: &GraphView<'_>, _k: u32) -> Result<(), Memory> {
+        let summary = summary_of_view(self.alloc, view)?;
+        self.summary = Some(summary);
+        self.is_staged = false;
+        Ok(())
+    }
+
+    fn prepare(&mut self, _graph: &Graph, _change: &Change) -> Result<(), Memory> {
+        self.is_staged = true;
+        Ok(())
+    }
+
+    fn commit(&mut self) {
+        self.summary = None;
+        self.is_staged = false;
+    }
+
+    fn cancel(&mut self) {
+        self.is_staged = false;
+    }
+
+    fn refresh(&mut self, view: &GraphView<'_>) -> Result<(), Memory> {
+        if self.summary.is_none() {
+            let summary = summary_of_view(self.alloc, view)?;
+            self.summary = Some(summary);
+        }
+        Ok(())
+    }
+
+    fn summary(&self, level: u32) -> Option<&Summary> {
+        if level == 0 {
+            return self.summary.as_ref();
+        }
+        None
+    }
+}
