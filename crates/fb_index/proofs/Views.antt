@@ -1,13 +1,13 @@
 -- The view of the forward and backward index as one that fits.
-use Rattle.std.proofs.Common.{◌≡◌, ℕ, zero, suc, ◌<◌, Bool, List, [], ◌∷◌, Option, Some, None, IsSome, length, arith, refl, ap, ◌∙◌, subst}
-use Rattle.std.specs.Prelude.{option_map}
+use Rattle.std.proofs.Common.{◌≡◌, ℕ, zero, suc, ◌<◌, Bool, true, false, [], ◌∷◌, Option, Some, None, IsSome, arith, refl, sym, ap, subst, true≢false}
+use Rattle.std.specs.Prelude.{is_none, is_some}
 use Rattle.px_spec.specs.Graphs.{Graph}
 use Rattle.px_spec.specs.Changes.{Change, after}
 use Rattle.bisim_spec.specs.declared.kind.Kind.TheVariants.{Fb}
 use Rattle.bisim_spec.specs.Views.{View}
 use Rattle.bisim_spec.specs.Fits.{Fits, FitsAt, FitsFb, view_at}
 use Rattle.quotient.specs.Quotients.{Quotient, view_of}
-use Rattle.index_api.specs.Meanings.{Meaning, IsReady, IsBuilt, IsPrepared, IsRefreshed}
+use Rattle.index_api.specs.Meanings.{IsReady, IsPrepared, IsRefreshed}
 use Rattle.fb_index.specs.Fitting.{views_of, staged_of, meaning_of}
 
 -- one view that is what it must be
@@ -34,3 +34,21 @@ prepared summary staged c g = record {
   staged = refl;
   are_next = record { count = refl; fits = one_fits (after c g) None tt };
 }
+
+-- the view that wasn't computed, and is now
+pub refreshed : (summary : Option Quotient) (q : Quotient) (staged : Bool) (g : Graph) → is_none summary ≡ true → staged_of staged ≡ None → FitsFb g (view_of q)
+    → IsRefreshed (meaning_of summary staged) (meaning_of (Some q) staged) g
+refreshed (Some p) q staged g n u fits = absurd (true≢false (sym n))
+refreshed None q staged g n u fits = record {
+  keeps = record { kind = refl; count = refl; kept = none };
+  ready = record { fits = one_fits g (Some (view_of q)) fits; unstaged = u };
+  computed = there;
+}
+  where
+    none : (i : ℕ) (v : View) → view_at (None ∷ []) i ≡ Some v → view_at (views_of (Some q)) i ≡ Some v
+    none zero v h = absurd (true≢false (sym (ap is_some h)))
+    none (suc i) v h = absurd (true≢false (sym (ap is_some h)))
+
+    there : (i : ℕ) → i < 1 → IsSome (view_at (views_of (Some q)) i)
+    there zero w = refl
+    there (suc i) w = absurd (omega (arith, w))

@@ -1,0 +1,77 @@
+-- Keys of nodes that wait.
+use Rattle.std.proofs.Common.{◌≡◌, ℕ, ◌+◌, ◌<◌, ◌≤◌, ◌⊎◌, List, [], ◌∷◌, length, Option, Some, IsSome, IsTrue, is_some, refl, sym, ◌∙◌, ap, subst, arith, inl, inr, true, false, Bool, slice_get, slice_index, get_or, count_by}
+use Rattle.std.specs.List.{list_any}
+use Rattle.std.proofs.lemmas.Option.{slice_get_within}
+use Rattle.px_spec.specs.Graphs.{Graph, IsGraph}
+use Rattle.px_spec.specs.Shapes.{shape_of}
+use Rattle.px_spec.specs.Members.{has, at}
+use Rattle.label_graph.specs.Views.{label_number}
+use Rattle.label_graph.specs.ViewLaws.{below_span}
+use Rattle.bisim_spec.specs.Partitions.{Together, IsPartition}
+use Rattle.bisim_levels.specs.declared.sides.Side.{Side}
+use Rattle.bisim_levels.specs.declared.sides.Side.TheVariants.{Parents, Children}
+use Rattle.bisim_levels.specs.Sides.{is_near}
+use Rattle.bisim_levels.proofs.Views.{near_block, node_number, number_node}
+use Rattle.bisim_levels.proofs.Written.{key_from_together}
+use Rattle.block_partition.specs.Partitions.{Partition, IsBlock}
+use Rattle.block_splitting.specs.Splits.{Near}
+use Rattle.block_splitting.specs.Groups.{AreReady, AreGrouped, NearKey}
+use Rattle.block_splitting.specs.Chosen.{BeginsWith}
+use Rattle.block_splitting.specs.Moved.{CanPart}
+use Rattle.block_splitting.proofs.Lists.{any_get}
+
+-- nodes that wait have blocks, and are below the size
+pub ready : (g : Graph) (block : List (Option ℕ)) (list waiting : List ℕ) (size : ℕ) → list ≡ waiting → IsPartition (shape_of g) block
+    → ((n : ℕ) → has waiting n ≡ true → IsSome (label_number g n)) → length g.given ≤ size → AreReady g block (has list) size
+ready g block list waiting size e p nodes room = subst (λ (xs : List ℕ). AreReady g block (has xs) size) (sym e) (record {
+  node = nodes;
+  has_block = λ n h. p.live n (number_node g n (nodes n h));
+  below = λ n h. let l = below_span g n (nodes n h) in omega (arith, l, room);
+})
+
+-- Of the keys that K gives to nodes: a key begins with the node's block, and a node has one key at most.
+pub record AreKeys (K : ℕ → List ℕ → Type 0) (block : List (Option ℕ)) : Type 0 where
+  pub owner : (n : ℕ) (key : List ℕ) → K n key → (own : ℕ) × BeginsWith key own × (at block n ≡ Some own)
+  pub unique : (n : ℕ) (x y : List ℕ) → K n x → K n y → x ≡ y
+
+-- the keys of neighbours' blocks are such
+pub near_keys : (g : Graph) → IsGraph g → (side : Side) (block : List (Option ℕ)) → IsPartition (shape_of g) block → AreKeys (NearKey g side block) block
+near_keys g s side block part = record {
+  owner = λ n key k. (k.number, record { around = k.around; is = k.is }, k.own_is);
+  unique = λ n x y k l. key_from_together (at block) block (is_near side g) n n x y (record {
+    one_number = (k.number, k.own_is, k.own_is);
+    neighbours = record { there = λ p e. (p, e, itself n p e); back = λ p e. (p, e, itself n p e) };
+  }) k l;
+}
+  where
+    itself : (n p : ℕ) → Near side g p n → Together block p p
+    itself n p e = let b = near_block g s side block part p n e in (b.0, b.1, b.1)
+
+-- each key begins with the number of a block
+keyed : (K : ℕ → List ℕ → Type 0) (p : Partition) (seen : ℕ → Bool) (keys : List (List ℕ)) (group : List ℕ) → AreKeys K p.block_of → AreGrouped K seen keys group
+    → ((n b : ℕ) → at p.block_of n ≡ Some b → IsBlock p b) → (k : ℕ) (key : List ℕ) → slice_get keys k ≡ Some key → (own : ℕ) × BeginsWith key own × IsBlock p own
+keyed K p seen keys group a w live k key e =
+    let n = w.inhabited k key e in
+    let o = a.owner n.0 key n.2 in
+    (o.0, o.1, live n.0 o.0 o.2)
+
+-- blocks can be split by these groups
+pub can_part : (g : Graph) (K : ℕ → List ℕ → Type 0) (p : Partition) (list waiting : List ℕ) (keys : List (List ℕ)) (size : ℕ) (group group2 : List ℕ) → list ≡ waiting → group2 ≡ group → AreKeys K p.block_of
+    → AreReady g p.block_of (has list) size → size ≡ length group → ((n b : ℕ) → at p.block_of n ≡ Some b → IsBlock p b) → AreGrouped K (has list) keys group → CanPart p (has waiting) keys group2
+can_part g K p list waiting keys size group group2 e eg a r long live w =
+    subst (λ (xs : List ℕ). CanPart p (has xs) keys group2) e
+    (subst (λ (gs : List ℕ). CanPart p (has list) keys gs) (sym eg) (record {
+      has_block = r.has_block;
+      below = λ n h. let l = r.below n h in omega (arith, l, long);
+      grouped = λ n h. let key = w.each n h in slice_get_within keys (slice_index group n) key.0 key.1;
+      keyed = keyed K p (has list) keys group a w live;
+    }))
+
+-- what has a neighbour is a node
+near_node : (g : Graph) → IsGraph g → (t : Side) (p n : ℕ) → IsTrue (is_near t g p n) → IsSome (label_number g n)
+near_node g s Parents p n e = node_number g s n (s.onto p n e)
+near_node g s Children p n e = node_number g s n (s.from n p e)
+
+-- those that have a neighbour among these are nodes
+pub around_nodes : (g : Graph) → IsGraph g → (side : Side) (nodes : List ℕ) (n : ℕ) → list_any (λ q. is_near side g q n) nodes ≡ true → IsSome (label_number g n)
+around_nodes g s side nodes n h = let q = any_get (λ x. is_near side g x n) nodes h in near_node g s side q.0 n q.2

@@ -1,0 +1,8 @@
+pub mod Lists
+pub mod Grouped
+pub mod Choices
+pub mod Moves
+pub mod Keyed
+pub mod Parts
+pub mod SplitLaws
+pub mod SplitterLaws

@@ -1,0 +1,11 @@
+use Rattle.std.proofs.Common.{◌≡◌, take, vec_len}
+use Rattle.px_spec.specs.Members.{has}
+use Rattle.block_splitting.specs.Groups.{AreGrouped}
+use Rattle.block_splitting.specs.Splitters.{FlagKey}
+use Rattle.block_splitting.proofs.splitter.group_touched.Given as goal
+
+abbrev pub invariant-loop-n : goal.invariant-loop-n
+invariant-loop-n l = record {
+  long : vec_len l.group ≡ vec_len l.initial.group;
+  grouped : AreGrouped (FlagKey (has l.touched.parents.nodes) (has l.touched.children.nodes) l.blocks.block_of) (has (take l.n-index l.nodes)) l.keys l.group.items;
+}

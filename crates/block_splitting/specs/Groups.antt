@@ -1,0 +1,26 @@
+-- Nodes that are grouped by their keys.
+use Rattle.std.specs.Prelude.{ℕ, ◌≡◌, ◌<◌, Bool, true, List, Option, Some, IsSome, slice_get, slice_index}
+use Rattle.px_spec.specs.Graphs.{Graph}
+use Rattle.px_spec.specs.Members.{at}
+use Rattle.label_graph.specs.Views.{label_number}
+use Rattle.key_table.specs.Interning.{AreDistinct}
+use Rattle.bisim_levels.specs.declared.sides.Side.{Side}
+use Rattle.bisim_levels.specs.Sides.{is_near}
+use Rattle.bisim_levels.specs.Keys.{IsKey}
+
+-- those that are seen are nodes with blocks, below a size
+pub record AreReady (g : Graph) (block : List (Option ℕ)) (seen : ℕ → Bool) (size : ℕ) : Type 0 where
+  pub node : (n : ℕ) → seen n ≡ true → IsSome (label_number g n)
+  pub has_block : (n : ℕ) → seen n ≡ true → IsSome (at block n)
+  pub below : (n : ℕ) → seen n ≡ true → n < size
+
+-- each that is seen has the number of its key, keys are distinct, and each is that of one that is seen; K says which keys a
+-- node has
+pub record AreGrouped (K : ℕ → List ℕ → Type 0) (seen : ℕ → Bool) (keys : List (List ℕ)) (group : List ℕ) : Type 0 where
+  pub distinct : AreDistinct keys
+  pub each : (n : ℕ) → seen n ≡ true → (key : List ℕ) × (slice_get keys (slice_index group n) ≡ Some key) × K n key
+  pub inhabited : (k : ℕ) (key : List ℕ) → slice_get keys k ≡ Some key → (n : ℕ) × (seen n ≡ true) × K n key
+
+-- the key of a node: its own block, and then the blocks of its neighbours on a side, rising, each once
+abbrev pub NearKey : Graph → Side → List (Option ℕ) → ℕ → List ℕ → Type 0
+NearKey g side block n key = IsKey (at block) block (is_near side g) n key

@@ -1,0 +1,33 @@
+-- Blocks that are split by the blocks of their members' neighbours (the refinement step of R. Paige and R. E. Tarjan, "Three
+-- Partition Refinement Algorithms", SIAM Journal on Computing 16, 1987, done for all members that wait at once).
+use Rattle.std.specs.Prelude.{ℕ, ◌≡◌, ◌⊎◌, Bool, true, false, List, Option, Some, IsTrue}
+use Rattle.px_spec.specs.Graphs.{Graph}
+use Rattle.px_spec.specs.Members.{at}
+use Rattle.label_graph.specs.Views.{label_number}
+use Rattle.bisim_spec.specs.Bisimilarity.{Matched}
+use Rattle.bisim_spec.specs.Partitions.{Together}
+use Rattle.bisim_levels.specs.declared.sides.Side.{Side}
+use Rattle.bisim_levels.specs.Sides.{is_near}
+use Rattle.block_partition.specs.Partitions.{Partition, IsBlock}
+
+-- p is a neighbour of n on this side
+abbrev pub Near : Side → Graph → ℕ → ℕ → Type 0
+Near t g p n = IsTrue (is_near t g p n)
+
+-- Those that waited are parted by the blocks of their neighbours on the side, and from the others; and which nodes moved.
+pub record IsSplit (g : Graph) (side : Side) (waits : ℕ → Bool) (old new : List (Option ℕ)) (moved : ℕ → Bool) : Type 0 where
+  pub finer : (u v : ℕ) → Together new u v → Together old u v
+  pub parted : (u v : ℕ) → Together new u v → ((waits u ≡ false) × (waits v ≡ false)) ⊎ Matched (Near side g) (Together old) u v
+  pub grouped : (u v : ℕ) → Together old u v → Matched (Near side g) (Together old) u v → (waits u ≡ true → waits v ≡ true)
+      → (waits v ≡ true → waits u ≡ true) → Together new u v
+  pub still : (n : ℕ) → moved n ≡ false → at new n ≡ at old n
+  pub went : (n : ℕ) → moved n ≡ true → at new n ≡ at old n → ⊥
+  pub waited : (n : ℕ) → moved n ≡ true → waits n ≡ true
+
+-- each block has the label of its members
+pub record AreLabelled (g : Graph) (p : Partition) : Type 0 where
+  pub each : (n b : ℕ) → at p.block_of n ≡ Some b → at p.labels b ≡ label_number g n
+
+-- each block has a member
+pub record AreInhabited (p : Partition) : Type 0 where
+  pub each : (b : ℕ) → IsBlock p b → (n : ℕ) × (at p.block_of n ≡ Some b)

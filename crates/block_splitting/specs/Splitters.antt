@@ -1,0 +1,42 @@
+-- Blocks that are split by a set of nodes, the splitter (R. Paige and R. E. Tarjan, SIAM Journal on Computing 16, 1987).
+use Rattle.std.specs.Prelude.{ℕ, ◌≡◌, [], ◌∷◌, ◌||◌, Bool, true, false, List, Option, Some}
+use Rattle.std.specs.List.{list_any}
+use Rattle.px_spec.specs.Graphs.{Graph}
+use Rattle.px_spec.specs.Members.{has, at}
+use Rattle.bisim_spec.specs.Partitions.{Together}
+use Rattle.bisim_levels.specs.declared.sides.Side.{Side}
+use Rattle.bisim_levels.specs.declared.sides.Side.TheVariants.{Parents, Children}
+use Rattle.bisim_levels.specs.Sides.{is_near}
+use Rattle.block_partition.specs.Partitions.{Partition}
+use Rattle.block_splitting.specs.Splits.{Near}
+
+-- both nodes have a neighbour in the splitter on the side, or neither has one
+pub record BothOrNeither (t : Side) (g : Graph) (splitter : ℕ → Bool) (u v : ℕ) : Type 0 where
+  pub there : (p : ℕ) → Near t g p u → splitter p ≡ true → (q : ℕ) × Near t g q v × (splitter q ≡ true)
+  pub back : (p : ℕ) → Near t g p v → splitter p ≡ true → (q : ℕ) × Near t g q u × (splitter q ≡ true)
+
+-- two nodes are together exactly where they were, and both or neither have a parent in the splitter, and a child
+pub record IsSplitBy (g : Graph) (old new : List (Option ℕ)) (splitter : ℕ → Bool) : Type 0 where
+  pub finer : (u v : ℕ) → Together new u v → Together old u v
+  pub parted : (t : Side) (u v : ℕ) → Together new u v → BothOrNeither t g splitter u v
+  pub grouped : (u v : ℕ) → Together old u v → BothOrNeither Parents g splitter u v → BothOrNeither Children g splitter u v → Together new u v
+
+-- each node's block has the label that its block had before
+pub record KeepLabels (old new : Partition) : Type 0 where
+  pub each : (n a b : ℕ) → at old.block_of n ≡ Some a → at new.block_of n ≡ Some b → at new.labels b ≡ at old.labels a
+
+-- the nodes that have a parent in the splitter, those that have a child there, and both together
+pub record AreTouched (g : Graph) (splitter parents children touched : List ℕ) : Type 0 where
+  pub by_parents : (n : ℕ) → has parents n ≡ list_any (λ q. is_near Parents g q n) splitter
+  pub by_children : (n : ℕ) → has children n ≡ list_any (λ q. is_near Children g q n) splitter
+  pub all : (n : ℕ) → has touched n ≡ (has parents n || has children n)
+
+abbrev pub bit_of : Bool → ℕ
+bit_of true = 1
+bit_of false = 0
+
+-- the key of a node: its own block, whether it is of the one set, and whether of the other
+pub record FlagKey (parents children : ℕ → Bool) (block : List (Option ℕ)) (n : ℕ) (key : List ℕ) : Type 0 where
+  pub own : ℕ
+  pub own_is : at block n ≡ Some own
+  pub is : key ≡ own ∷ bit_of (parents n) ∷ bit_of (children n) ∷ []

@@ -1,0 +1,74 @@
+// One round over the nodes that wait.
+ghost use Rattle.std.specs.Prelude.{◌≡◌, ◌<◌, ◌≤◌, ◌⊎◌, ℕ, [], true, IsSome, IfOk, length, vec_len};
+ghost use Rattle.px_spec.specs.Graphs.{IsGraph};
+ghost use Rattle.px_spec.specs.Shapes.{shape_of};
+ghost use Rattle.px_spec.specs.Members.{has};
+ghost use Rattle.label_graph.specs.Views.{label_number};
+ghost use Rattle.bisim_spec.specs.Partitions.{IsPartition};
+ghost use Rattle.block_partition.specs.Partitions.{block_count};
+ghost use Rattle.block_splitting.specs.Splits.{IsSplit, AreLabelled, AreInhabited};
+
+use crate::grouping::group_nodes;
+use crate::nodes::NodeSet;
+use crate::parting::part;
+use bisim_levels::Side;
+use block_partition::Blocks;
+use key_table::KeyTable;
+use label_graph::GraphView;
+use px_base::{Memory, NodeId};
+use std::alloc::Global;
+
+/// Memory that each round uses again: for one key, for the group of each node, and for the group of each
+/// block that may keep the block's number.
+#[derive(Drop)]
+pub struct Tables {
+    pub(crate) key: Vec<u32>,
+    pub(crate) group: Vec<u32>,
+    pub(crate) keeper: Vec<u32>,
+}
+
+impl Tables {
+    /// Tables for nodes below a size.
+    pub fn new(alloc: Global, size: u32) -> Result<Tables, Memory>
+        ensures { IfOk result (λ t. vec_len t.group ≡ size) }
+    {
+        Ok(Tables {
+            key: Vec::new(alloc),
+            group: vec![in alloc; 0; size as usize]?,
+            keeper: Vec::new(alloc),
+        })
+    }
+}
+
+/// Parts the nodes that wait by the blocks of their neighbours on a side, and from the others of their
+/// block. It gives those that went to another block.
+///
+/// It takes the time to sort the neighbours' blocks of each node that waits, and a step for each block
+/// number. On want of memory the partition may be finer or not.
+pub fn split(
+    alloc: Global,
+    view: &GraphView<'_>,
+    side: Side,
+    blocks: &mut Blocks,
+    waiting: &NodeSet,
+    tables: &mut Tables,
+) -> Result<Vec<NodeId>, Memory>
+    requires graph { IsGraph view.now }
+    requires partition { IsPartition (shape_of view.now) blocks.old.block_of }
+    requires nodes { (n : ℕ) → has waiting.now.nodes n ≡ true → IsSome (label_number view.now n) }
+    requires room { length view.now.given ≤ vec_len tables.old.group }
+    ensures room { vec_len tables.new.group ≡ vec_len tables.old.group }
+    ensures split { IfOk result (λ moved. IsSplit view.now side (has waiting.now.nodes) blocks.old.block_of blocks.new.block_of (has moved.items)) }
+    ensures labelled { IfOk result (λ moved. AreLabelled view.now blocks.old → AreLabelled view.now blocks.new) }
+    ensures inhabited { IfOk result (λ moved. AreInhabited blocks.old → AreInhabited blocks.new) }
+    ensures more { IfOk result (λ moved. ((moved.items ≡ []) × (block_count blocks.old ≤ block_count blocks.new)) ⊎ (block_count blocks.old < block_count blocks.new)) }
+{
+    // It tells that nodes have live blocks.
+    let _ = blocks.span();
+    let nodes = waiting.nodes();
+    let mut keys = KeyTable::new(alloc)?;
+    let Tables { key, group, keeper } = tables;
+    group_nodes(&mut keys, key, group, view, side, blocks, nodes)?;
+    let moved = part(alloc, blocks, waiting, &keys, group, keeper)?;
+    Ok(moved)
+}

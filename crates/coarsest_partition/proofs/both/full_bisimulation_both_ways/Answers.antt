@@ -1,0 +1,7 @@
+use Rattle.coarsest_partition.proofs.Fitting.{fits_with}
+use Rattle.coarsest_partition.proofs.both.full_bisimulation_both_ways.Goals as goal
+
+pub returns-clause-fits : goal.returns-clause-fits
+returns-clause-fits c =
+    fits_with _ _ c.in_ok-blocks.ensures.graph c.in_ok-blocks.ensures.agrees.partition (c.in_ok-blocks.ensures.labelled c.in_ok-labels.ensures.labelled)
+    (c.in_ok-blocks.ensures.inhabited c.in_ok-labels.ensures.inhabited)

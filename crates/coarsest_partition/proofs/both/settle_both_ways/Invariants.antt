@@ -1,0 +1,26 @@
+use Rattle.std.proofs.Common.{◌≡◌, ◌≤◌, ◌+◌, ◌*◌, ◌-◌, ◌^◌, ℕ, length, vec_len, true, IsSome, cond}
+use Rattle.std.specs.Prelude.{nat_eq, ◌&&◌}
+use Rattle.px_spec.specs.Members.{has}
+use Rattle.label_graph.specs.Views.{label_number}
+use Rattle.bisim_spec.specs.Bisimilarity.{FB}
+use Rattle.px_spec.specs.Shapes.{shape_of}
+use Rattle.block_partition.specs.Partitions.{block_count}
+use Rattle.block_splitting.specs.Splits.{AreLabelled, AreInhabited}
+use Rattle.coarsest_partition.specs.Refined.{both_sides, IsRefined}
+use Rattle.coarsest_partition.specs.Sides.{two}
+use Rattle.coarsest_partition.proofs.both.settle_both_ways.Given as goal
+
+abbrev pub invariant-rounds : goal.invariant-rounds
+invariant-rounds l = record {
+  refined : IsRefined l.view both_sides (FB (shape_of l.view)) l.blocks.block_of (two (has l.parents.nodes) (has l.children.nodes));
+  parents_are : (n : ℕ) → has l.parents.nodes n ≡ true → IsSome (label_number l.view n);
+  children_are : (n : ℕ) → has l.children.nodes n ≡ true → IsSome (label_number l.view n);
+  parents_size : l.parents.size ≡ length l.view.given;
+  children_size : l.children.size ≡ length l.view.given;
+  labelled : AreLabelled l.view l.fn.blocks → AreLabelled l.view l.blocks;
+  inhabited : AreInhabited l.fn.blocks → AreInhabited l.blocks;
+  room : length l.view.given ≤ vec_len l.tables.group;
+}
+
+abbrev pub decreases-rounds : goal.decreases-rounds
+decreases-rounds l = 2 * (2 ^ 31 - block_count l.blocks) + cond (nat_eq (length l.parents.nodes) 0 && nat_eq (length l.children.nodes) 0) 0 1

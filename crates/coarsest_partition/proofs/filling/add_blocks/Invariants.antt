@@ -1,0 +1,11 @@
+use Rattle.std.proofs.Common.{◌≡◌, ◌+◌, ℕ, None, nat_lt, if◌then◌else◌, slice_get}
+use Rattle.px_spec.specs.Members.{at}
+use Rattle.coarsest_partition.proofs.filling.add_blocks.Given as goal
+
+abbrev pub invariant-loop-count : goal.invariant-loop-count
+invariant-loop-count l = record {
+  labels : (b : ℕ) → at l.blocks.labels b ≡ (if nat_lt b l.count then slice_get l.labels b else None);
+  room : l.blocks.room.blocks + l.count ≡ l.fn.blocks.room.blocks;
+  nodes : l.blocks.block_of ≡ l.fn.blocks.block_of;
+  node_room : l.blocks.room.nodes ≡ l.fn.blocks.room.nodes;
+}

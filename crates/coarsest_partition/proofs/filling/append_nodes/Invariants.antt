@@ -1,0 +1,11 @@
+use Rattle.std.proofs.Common.{◌≡◌, ◌+◌, length}
+use Rattle.coarsest_partition.specs.Filling.{SameBelow}
+use Rattle.coarsest_partition.proofs.filling.append_nodes.Given as goal
+
+abbrev pub invariant-loop-n : goal.invariant-loop-n
+invariant-loop-n l = record {
+  blocks : SameBelow l.n l.blocks.block_of l.block;
+  count : length l.blocks.block_of ≡ l.n;
+  labels : l.blocks.labels ≡ l.fn.blocks.labels;
+  room : l.blocks.room.nodes + l.n ≡ l.fn.blocks.room.nodes;
+}

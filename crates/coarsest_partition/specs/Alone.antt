@@ -1,0 +1,13 @@
+-- Nodes that are alone in their block.
+use Rattle.std.specs.Prelude.{ℕ, Bool, false, Option, None, Some, nat_eq}
+use Rattle.px_spec.specs.Members.{at}
+use Rattle.block_partition.specs.Partitions.{Partition, member_count}
+
+-- whether the block has one member
+abbrev pub has_one : Partition → Option ℕ → Bool
+has_one p None = false
+has_one p (Some b) = nat_eq (member_count p b) 1
+
+-- whether the node is alone in its block
+abbrev pub is_alone : Partition → ℕ → Bool
+is_alone p n = has_one p (at p.block_of n)

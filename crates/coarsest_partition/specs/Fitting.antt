@@ -1,0 +1,11 @@
+-- Partitions that are the blocks of an index graph.
+use Rattle.std.specs.Prelude.{ℕ, ◌≡◌}
+use Rattle.px_spec.specs.Graphs.{Graph}
+use Rattle.block_partition.specs.Partitions.{Partition}
+use Rattle.bisim_spec.specs.Supports.{edges_between}
+use Rattle.bisim_spec.specs.Views.{SupportTable, ViewFits, support_at}
+
+-- with the numbers of edges as supports, it is a view of the graph: each block has a member, and its members' label
+abbrev pub FitsWithSupports : Graph → Partition → Type 0
+FitsWithSupports g p = (supports : SupportTable) → ((a b : ℕ) → support_at supports a b ≡ edges_between g.edges p.block_of a b)
+    → ViewFits g (record { block_of = p.block_of; labels = p.labels; supports = supports })

@@ -1,0 +1,54 @@
+-- Partitions on the way to the coarsest stable one (R. Paige and R. E. Tarjan, "Three Partition Refinement Algorithms", SIAM
+-- Journal on Computing 16, 1987; here a round looks again at the nodes next to those that moved).
+use Rattle.std.specs.Prelude.{ℕ, ◌≡◌, ◌⊎◌, Bool, true, false, List, Option}
+use Rattle.px_spec.specs.Graphs.{Graph}
+use Rattle.bisim_spec.specs.Bisimilarity.{SameLabel, Matched}
+use Rattle.px_spec.specs.Members.{at}
+use Rattle.bisim_spec.specs.Partitions.{Together}
+use Rattle.bisim_levels.specs.declared.sides.Side.{Side}
+use Rattle.block_splitting.specs.Splits.{Near}
+use Rattle.bisim_levels.specs.declared.sides.Side.TheVariants.{Parents, Children}
+use Rattle.px_spec.specs.Shapes.{shape_of}
+
+-- the sides at which bisimilarity looks
+abbrev pub parents_alone : Side → Bool
+parents_alone Parents = true
+parents_alone Children = false
+
+abbrev pub both_sides : Side → Bool
+both_sides t = true
+
+-- What refinement needs of the relation that it comes to: it is symmetric, neighbours are related to themselves, related
+-- nodes have one label, and on each side that is kept the neighbours of related nodes are related.
+pub record IsTarget (g : Graph) (kept : Side → Bool) (R : ℕ → ℕ → Type 0) : Type 0 where
+  pub symm : (u v : ℕ) → R u v → R v u
+  pub self : (t : Side) (q n : ℕ) → Near t g q n → R q q
+  pub label : (u v : ℕ) → R u v → SameLabel (shape_of g) u v
+  pub matched : (t : Side) → kept t ≡ true → (u v : ℕ) → R u v → Matched (Near t g) R u v
+
+-- A partition on the way to R, and on each side the nodes that wait: it is no finer than R, the nodes that wait are classes
+-- of R, and of two nodes in one block that don't wait the neighbours are in the same blocks.
+pub record IsRefined (g : Graph) (kept : Side → Bool) (R : ℕ → ℕ → Type 0) (block : List (Option ℕ)) (waits : Side → ℕ → Bool) : Type 0 where
+  pub coarse : (u v : ℕ) → R u v → Together block u v
+  pub label : (u v : ℕ) → Together block u v → SameLabel (shape_of g) u v
+  pub closed : (t : Side) → kept t ≡ true → (u v : ℕ) → R u v → waits t u ≡ true → waits t v ≡ true
+  pub settled : (t : Side) → kept t ≡ true → (u v : ℕ) → waits t u ≡ false → waits t v ≡ false → Together block u v
+      → Matched (Near t g) (Together block) u v
+
+-- One step: blocks are split alone; two nodes that wait no more were settled, or have neighbours in the same blocks of the
+-- old partition; nodes stay together that agree in this and in whether they waited; and those wait that have a neighbour
+-- which moved and aren't alone in their block, or that waited and were left, by whole blocks.
+pub record IsStep (g : Graph) (kept : Side → Bool) (old new : List (Option ℕ)) (waits next : Side → ℕ → Bool) : Type 0 where
+  pub finer : (u v : ℕ) → Together new u v → Together old u v
+  pub side : Side
+  pub side_kept : kept side ≡ true
+  pub grouped : (u v : ℕ) → Together old u v → Matched (Near side g) (Together old) u v → (waits side u ≡ true → waits side v ≡ true)
+      → (waits side v ≡ true → waits side u ≡ true) → Together new u v
+  pub parted : (t : Side) → kept t ≡ true → (u v : ℕ) → next t u ≡ false → next t v ≡ false → Together new u v
+      → ((waits t u ≡ false) × (waits t v ≡ false)) ⊎ Matched (Near t g) (Together old) u v
+  pub still : (t : Side) → kept t ≡ true → (q n v : ℕ) → next t n ≡ false → Together new n v → (n ≡ v → ⊥) → Near t g q n → at new q ≡ at old q
+  pub left : Side → ℕ → Bool
+  pub left_same : (t : Side) (u v : ℕ) → Together old u v → left t u ≡ true → left t v ≡ true
+  pub left_wait : (t : Side) → kept t ≡ true → (n : ℕ) → left t n ≡ true → waits t n ≡ true → next t n ≡ true
+  pub wait_why : (t : Side) → kept t ≡ true → (n : ℕ) → next t n ≡ true
+      → ((left t n ≡ true) × (waits t n ≡ true)) ⊎ ((q : ℕ) × Near t g q n × (at new q ≡ at old q → ⊥))

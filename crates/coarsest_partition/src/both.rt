@@ -1,0 +1,129 @@
+// Rounds by parents and by children in turn.
+ghost use Rattle.std.specs.Prelude.{◌≡◌, ◌<◌, ◌≤◌, ◌^◌, ◌⊎◌, ◌&&◌, ℕ, [], true, nat_eq, IsSome, IfOk, OnOk, length, vec_len};
+ghost use Rattle.px_spec.specs.Graphs.{IsGraph};
+ghost use Rattle.px_spec.specs.Members.{has, at};
+ghost use Rattle.label_graph.specs.Views.{label_number};
+ghost use Rattle.bisim_spec.specs.Bisimilarity.{SameLabel, FB};
+ghost use Rattle.bisim_spec.specs.Partitions.{IsPartition, Agrees};
+ghost use Rattle.px_spec.specs.Shapes.{shape_of};
+ghost use Rattle.block_partition.specs.Partitions.{block_count};
+ghost use Rattle.block_splitting.specs.Splits.{AreLabelled, AreInhabited};
+ghost use Rattle.coarsest_partition.specs.Fitting.{FitsWithSupports};
+ghost use Rattle.coarsest_partition.specs.Refined.{both_sides, IsRefined, IsStep};
+ghost use Rattle.coarsest_partition.specs.Sides.{two, by_side, other_of};
+
+use crate::labels::by_labels;
+use crate::rounds::all_waiting;
+use crate::waking::wake_moved;
+use bisim_levels::Side;
+use block_partition::Blocks;
+use block_splitting::{NodeSet, Tables, split};
+use label_graph::{Digraph, GraphView};
+use px_base::Memory;
+use std::alloc::Global;
+
+// The other side.
+fn opposite(side: Side) -> Side
+    ensures { result ≡ other_of side }
+{
+    match side {
+        Side::Parents => Side::Children,
+        Side::Children => Side::Parents,
+    }
+}
+
+// Whether nothing waits on either side.
+fn are_empty(parents: &NodeSet, children: &NodeSet) -> bool
+    ensures { result ≡ (nat_eq (length parents.now.nodes) 0 && nat_eq (length children.now.nodes) 0) }
+{
+    parents.is_empty() && children.is_empty()
+}
+
+// One round on a side, where some nodes wait on this one and others on the other.
+fn round_on(
+    alloc: Global,
+    view: &GraphView<'_>,
+    side: Side,
+    blocks: &mut Blocks,
+    own: &mut NodeSet,
+    other: &mut NodeSet,
+    tables: &mut Tables,
+) -> Result<(), Memory>
+    requires graph { IsGraph view.now }
+    requires partition { IsPartition (shape_of view.now) blocks.old.block_of }
+    requires own { (n : ℕ) → has own.old.nodes n ≡ true → IsSome (label_number view.now n) }
+    requires other { (n : ℕ) → has other.old.nodes n ≡ true → IsSome (label_number view.now n) }
+    requires own_size { own.old.size ≡ length view.now.given }
+    requires other_size { other.old.size ≡ length view.now.given }
+    requires room { length view.now.given ≤ vec_len tables.old.group }
+    ensures step { OnOk result (IsStep view.now both_sides blocks.old.block_of blocks.new.block_of (by_side side (has own.old.nodes) (has other.old.nodes)) (by_side side (has own.new.nodes) (has other.new.nodes))) }
+    ensures own { OnOk result ((n : ℕ) → has own.new.nodes n ≡ true → IsSome (label_number view.now n)) }
+    ensures other { OnOk result ((n : ℕ) → has other.new.nodes n ≡ true → IsSome (label_number view.now n)) }
+    ensures own_size { own.new.size ≡ own.old.size }
+    ensures other_size { other.new.size ≡ other.old.size }
+    ensures room { vec_len tables.new.group ≡ vec_len tables.old.group }
+    ensures few { OnOk result (block_count blocks.new ≤ 2 ^ 31) }
+    ensures labelled { OnOk result (AreLabelled view.now blocks.old → AreLabelled view.now blocks.new) }
+    ensures inhabited { OnOk result (AreInhabited blocks.old → AreInhabited blocks.new) }
+    ensures more { OnOk result (((own.new.nodes ≡ []) × ((m : ℕ) → has other.new.nodes m ≡ has other.old.nodes m) × (block_count blocks.old ≤ block_count blocks.new)) ⊎ (block_count blocks.old < block_count blocks.new)) }
+{
+    let moved = split(alloc, view, side, blocks, own, tables)?;
+    own.clear();
+    wake_moved(own, blocks, view, side, &moved)?;
+    wake_moved(other, blocks, view, opposite(side), &moved)?;
+    // It tells that there are few blocks.
+    let _ = blocks.count();
+    Ok(())
+}
+
+// The partition into classes of bisimilarity both ways, from the one by labels.
+fn settle_both_ways(
+    alloc: Global,
+    view: &GraphView<'_>,
+    mut blocks: Blocks,
+) -> Result<Blocks, Memory>
+    requires labels { Agrees (shape_of view.now) blocks.block_of (SameLabel (shape_of view.now)) }
+    ensures graph { IfOk result (λ _. IsGraph view.now) }
+    ensures labelled { IfOk result (λ p. AreLabelled view.now blocks → AreLabelled view.now p) }
+    ensures inhabited { IfOk result (λ p. AreInhabited blocks → AreInhabited p) }
+    ensures agrees { IfOk result (λ p. Agrees (shape_of view.now) p.block_of (FB (shape_of view.now))) }
+{
+    let mut parents = all_waiting(alloc, view, &blocks)?;
+    let mut children = all_waiting(alloc, view, &blocks)?;
+    let mut tables = Tables::new(alloc, view.size())?;
+    'rounds: while !are_empty(&parents, &children) {
+        round_on(
+            alloc,
+            view,
+            Side::Parents,
+            &mut blocks,
+            &mut parents,
+            &mut children,
+            &mut tables,
+        )?;
+        round_on(
+            alloc,
+            view,
+            Side::Children,
+            &mut blocks,
+            &mut children,
+            &mut parents,
+            &mut tables,
+        )?;
+    }
+    Ok(blocks)
+}
+
+/// The coarsest partition that is stable under parents and under children: its blocks are the classes of full
+/// bisimilarity both ways.
+///
+/// Rounds by parents and rounds by children take turns, each over the nodes that wait on its side; a node waits on a
+/// side where a neighbour there went to another block, unless it is alone in its own.
+pub fn full_bisimulation_both_ways(alloc: Global, view: &GraphView<'_>) -> Result<Blocks, Memory>
+    ensures agrees { IfOk result (λ p. Agrees (shape_of view.now) p.block_of (FB (shape_of view.now))) }
+    ensures fits { IfOk result (FitsWithSupports view.now) }
+{
+    let labels = by_labels(alloc, view)?;
+    let blocks = settle_both_ways(alloc, view, labels)?;
+    Ok(blocks)
+}

@@ -1,0 +1,12 @@
+//! The coarsest stable partition of a graph's nodes, under parents alone and under both parents and children, by
+//! rounds over the nodes whose neighbours moved.
+#![tactic(auto)]
+
+mod both;
+mod filling;
+mod labels;
+mod rounds;
+mod waking;
+
+pub use both::full_bisimulation_both_ways;
+pub use rounds::full_bisimulation;

@@ -1,0 +1,120 @@
+// Rounds until no node waits.
+ghost use Rattle.std.specs.Prelude.{◌≡◌, ◌<◌, ◌≤◌, ◌^◌, ◌⊎◌, ℕ, [], true, IsSome, IfOk, OnOk, length, vec_len};
+ghost use Rattle.px_spec.specs.Graphs.{IsGraph};
+ghost use Rattle.px_spec.specs.Members.{has, at};
+ghost use Rattle.label_graph.specs.Views.{label_number};
+ghost use Rattle.bisim_spec.specs.Bisimilarity.{Bisim};
+ghost use Rattle.bisim_spec.specs.Partitions.{IsPartition, Agrees};
+ghost use Rattle.px_spec.specs.Shapes.{shape_of};
+ghost use Rattle.block_partition.specs.Partitions.{block_count};
+ghost use Rattle.block_splitting.specs.Splits.{AreLabelled, AreInhabited};
+ghost use Rattle.coarsest_partition.specs.Fitting.{FitsWithSupports};
+ghost use Rattle.coarsest_partition.specs.Refined.{parents_alone, IsRefined, IsStep};
+
+use crate::labels::by_labels;
+use crate::waking::wake_moved;
+use bisim_levels::Side;
+use block_partition::Blocks;
+use block_splitting::{NodeSet, Tables, split};
+use label_graph::{Digraph, GraphView};
+use px_base::{Memory, NodeId};
+use std::alloc::Global;
+
+// Lets a node wait if it has a block.
+fn add_placed(waiting: &mut NodeSet, blocks: &Blocks, n: NodeId) -> Result<(), Memory>
+    requires size { n < waiting.old.size }
+    ensures size { waiting.new.size ≡ waiting.old.size }
+    ensures here { OnOk result (IsSome (at blocks.now.block_of n) → has waiting.new.nodes n ≡ true) }
+    ensures stay { OnOk result ((m : ℕ) → has waiting.old.nodes m ≡ true → has waiting.new.nodes m ≡ true) }
+    ensures only { OnOk result ((m : ℕ) → has waiting.new.nodes m ≡ true → (has waiting.old.nodes m ≡ true) ⊎ IsSome (at blocks.now.block_of m)) }
+{
+    if blocks.block_of(n).is_some() {
+        return waiting.add(n);
+    }
+    Ok(())
+}
+
+/// All nodes wait.
+pub(crate) fn all_waiting(
+    alloc: Global,
+    view: &GraphView<'_>,
+    blocks: &Blocks,
+) -> Result<NodeSet, Memory>
+    requires partition { IsPartition (shape_of view.now) blocks.now.block_of }
+    ensures graph { IfOk result (λ w. IsGraph view.now) }
+    ensures size { IfOk result (λ w. w.size ≡ length view.now.given) }
+    ensures nodes { IfOk result (λ w. (n : ℕ) → has w.nodes n ≡ true → IsSome (label_number view.now n)) }
+    ensures all { IfOk result (λ w. (n : ℕ) → IsSome (at blocks.now.block_of n) → has w.nodes n ≡ true) }
+{
+    let mut waiting = NodeSet::new(alloc, view.size())?;
+    for n in 0..view.size() {
+        add_placed(&mut waiting, blocks, n)?;
+    }
+    Ok(waiting)
+}
+
+// One round by parents.
+fn round(
+    alloc: Global,
+    view: &GraphView<'_>,
+    blocks: &mut Blocks,
+    waiting: &mut NodeSet,
+    tables: &mut Tables,
+) -> Result<(), Memory>
+    requires graph { IsGraph view.now }
+    requires partition { IsPartition (shape_of view.now) blocks.old.block_of }
+    requires nodes { (n : ℕ) → has waiting.old.nodes n ≡ true → IsSome (label_number view.now n) }
+    requires size { waiting.old.size ≡ length view.now.given }
+    requires room { length view.now.given ≤ vec_len tables.old.group }
+    ensures step { OnOk result (IsStep view.now parents_alone blocks.old.block_of blocks.new.block_of (λ t. has waiting.old.nodes) (λ t. has waiting.new.nodes)) }
+    ensures nodes { OnOk result ((n : ℕ) → has waiting.new.nodes n ≡ true → IsSome (label_number view.now n)) }
+    ensures size { waiting.new.size ≡ waiting.old.size }
+    ensures room { vec_len tables.new.group ≡ vec_len tables.old.group }
+    ensures few { OnOk result (block_count blocks.new ≤ 2 ^ 31) }
+    ensures labelled { OnOk result (AreLabelled view.now blocks.old → AreLabelled view.now blocks.new) }
+    ensures inhabited { OnOk result (AreInhabited blocks.old → AreInhabited blocks.new) }
+    ensures more { OnOk result (((waiting.new.nodes ≡ []) × (block_count blocks.old ≤ block_count blocks.new)) ⊎ (block_count blocks.old < block_count blocks.new)) }
+{
+    let moved = split(alloc, view, Side::Parents, blocks, waiting, tables)?;
+    waiting.clear();
+    wake_moved(waiting, blocks, view, Side::Parents, &moved)?;
+    // It tells that there are few blocks.
+    let _ = blocks.count();
+    Ok(())
+}
+
+// The partition into classes of full bisimilarity, from one on the way there.
+fn settle_by_parents(
+    alloc: Global,
+    view: &GraphView<'_>,
+    mut blocks: Blocks,
+    mut waiting: NodeSet,
+) -> Result<Blocks, Memory>
+    requires refined { IsRefined view.now parents_alone (Bisim (shape_of view.now)) blocks.block_of (λ t. has waiting.nodes) }
+    requires nodes { (n : ℕ) → has waiting.nodes n ≡ true → IsSome (label_number view.now n) }
+    requires size { waiting.size ≡ length view.now.given }
+    ensures labelled { IfOk result (λ p. AreLabelled view.now blocks → AreLabelled view.now p) }
+    ensures inhabited { IfOk result (λ p. AreInhabited blocks → AreInhabited p) }
+    ensures agrees { IfOk result (λ p. Agrees (shape_of view.now) p.block_of (Bisim (shape_of view.now))) }
+{
+    let mut tables = Tables::new(alloc, view.size())?;
+    'rounds: while !waiting.is_empty() {
+        round(alloc, view, &mut blocks, &mut waiting, &mut tables)?;
+    }
+    Ok(blocks)
+}
+
+/// The coarsest partition that is stable under parents: its blocks are the classes of full bisimilarity.
+///
+/// At first nodes of one label are together. A round looks at the nodes of which a parent went to another
+/// block in the round before, unless they are alone in theirs. In each block the largest group of them
+/// keeps the block's number, where no other member is left. There are at most as many rounds as blocks.
+pub fn full_bisimulation(alloc: Global, view: &GraphView<'_>) -> Result<Blocks, Memory>
+    ensures agrees { IfOk result (λ p. Agrees (shape_of view.now) p.block_of (Bisim (shape_of view.now))) }
+    ensures fits { IfOk result (FitsWithSupports view.now) }
+{
+    let labels = by_labels(alloc, view)?;
+    let waiting = all_waiting(alloc, view, &labels)?;
+    let blocks = settle_by_parents(alloc, view, labels, waiting)?;
+    Ok(blocks)
+}

@@ -1,0 +1,4 @@
+mod LabelPlaces
+mod MergeLaws
+mod Neighbours
+mod Uniform

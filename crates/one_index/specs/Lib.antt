@@ -1,0 +1,3 @@
+pub mod StableViews
+pub mod MergeTest
+pub mod Alike

@@ -1,0 +1,15 @@
+-- Index graphs of stable partitions.
+use Rattle.std.specs.Prelude.{ℕ, ◌≡◌, List, Option, Some, slice_get}
+use Rattle.px_spec.specs.Graphs.{Graph, label_of}
+use Rattle.px_spec.specs.Shapes.{shape_of}
+use Rattle.px_spec.specs.Members.{at}
+use Rattle.bisim_spec.specs.Stability.{Stable}
+use Rattle.bisim_spec.specs.Supports.{edges_between}
+use Rattle.bisim_spec.specs.Views.{View, support_at}
+
+-- The partition is stable, members have their block's label, and supports are the numbers of edges. Blocks may have no members.
+pub record IsStableView (g : Graph) (v : View) : Type 0 where
+  pub stable : Stable (shape_of g) v.block_of
+  pub labelled : (n b : ℕ) → at v.block_of n ≡ Some b
+      → (l : ℕ) × (t : List ℕ) × (at v.labels b ≡ Some l) × (slice_get g.seen l ≡ Some t) × (label_of g n ≡ Some t)
+  pub supports : (a b : ℕ) → support_at v.supports a b ≡ edges_between g.edges v.block_of a b

@@ -1,0 +1,11 @@
+//! The 1-index: a stable partition of a graph's nodes of which no two blocks can be merged.
+#![tactic(auto)]
+
+mod members;
+mod merging;
+mod stability;
+#[cfg(test)]
+mod tests;
+
+pub use merging::{is_minimal, mergeable};
+pub use stability::is_stable;

@@ -1,0 +1,207 @@
+// Worked partitions of small graphs.
+ghost use Rattle.std.specs.Prelude.{◌≡◌, ◌<◌, ◌≤◌, length};
+
+use super::*;
+use block_partition::Blocks;
+use label_graph::{Digraph, Graph, GraphView};
+use px_base::{NodeId, Steps, Text};
+use quotient::Summary;
+use std::alloc::Global;
+use std::marker::Brand;
+use std::process::Abort;
+use std::sync::ledger::{Blank, Ledger};
+use std::test::Fail;
+
+const MOST: u32 = 1 << 30;
+
+// Adds a node with that label.
+fn put_node(rt: &impl Abort, alloc: Global, graph: &mut Graph, label: u8) -> Result<(), Fail> {
+    assert!(rt; graph.created() < MOST);
+    graph.reserve_node(alloc, &Text::from_bytes(alloc, &[label])?)?;
+    graph.add_node();
+    Ok(())
+}
+
+// Adds an edge between live nodes that isn't there yet.
+fn put_edge<L: Ledger>(
+    rt: &impl Abort,
+    graph: &mut Graph,
+    u: NodeId,
+    v: NodeId,
+    steps: &mut Steps<L>,
+) -> Result<(), Fail> {
+    assert!(rt; graph.is_live(u));
+    assert!(rt; graph.is_live(v));
+    assert!(rt; graph.edge_count() < MOST);
+    assert!(rt; !graph.has_edge(u, v, steps));
+    graph.reserve_edge(u, v)?;
+    graph.add_edge(u, v);
+    Ok(())
+}
+
+// A graph whose nodes have these labels, a byte each.
+fn drawn<L: Ledger>(
+    rt: &impl Abort,
+    alloc: Global,
+    labels: &[u8],
+    edges: &[(NodeId, NodeId)],
+    steps: &mut Steps<L>,
+) -> Result<Graph, Fail> {
+    let mut graph = Graph::new(alloc)?;
+    for label in labels {
+        put_node(rt, alloc, &mut graph, *label)?;
+    }
+    for (u, v) in edges {
+        put_edge(rt, &mut graph, *u, *v, steps)?;
+    }
+    Ok(graph)
+}
+
+// Makes blocks with these labels.
+fn put_blocks(blocks: &mut Blocks, labels: &[u32])
+    requires { length labels.now ≤ blocks.old.room.blocks }
+    ensures { blocks.new.room.nodes ≡ blocks.old.room.nodes }
+{
+    for label in labels {
+        let _ = blocks.new_block(*label);
+    }
+}
+
+// Puts the next nodes into these blocks.
+fn put_members(rt: &impl Abort, blocks: &mut Blocks, members: &[u32])
+    requires { length members.now ≤ blocks.old.room.nodes }
+{
+    for b in members {
+        assert!(rt; blocks.is_block(*b));
+        blocks.append(Some(*b));
+    }
+}
+
+// A partition: the label of each block, and the block of each node.
+fn parted(rt: &impl Abort, alloc: Global, labels: &[u32], members: &[u32]) -> Result<Blocks, Fail> {
+    let mut blocks = Blocks::new(alloc)?;
+    assert!(rt; labels.len() < 9);
+    assert!(rt; members.len() < 9);
+    blocks.reserve(members.len() as u32, labels.len() as u32)?;
+    put_blocks(&mut blocks, labels);
+    put_members(rt, &mut blocks, members);
+    Ok(blocks)
+}
+
+// A graph with a partition of its nodes, and what is to be said of that.
+struct Row<'a> {
+    // the label of each node, a byte each
+    nodes: &'a [u8],
+    edges: &'a [(NodeId, NodeId)],
+    // the label of each block
+    labels: &'a [u32],
+    // the block of each node
+    members: &'a [u32],
+    is_stable: bool,
+    is_minimal: bool,
+}
+
+// Two rings of an a and a b: the two a can be in one block where the two b are, and apart where they are apart.
+const RINGS: &[(NodeId, NodeId)] = &[(0, 1), (1, 0), (2, 3), (3, 2)];
+
+const ROWS: &[Row<'static>] = &[
+    Row {
+        nodes: b"abab",
+        edges: RINGS,
+        labels: &[0, 1],
+        members: &[0, 1, 0, 1],
+        is_stable: true,
+        is_minimal: true,
+    },
+    Row {
+        nodes: b"abab",
+        edges: RINGS,
+        labels: &[0, 1, 0, 1],
+        members: &[0, 1, 2, 3],
+        is_stable: true,
+        is_minimal: true,
+    },
+    Row {
+        nodes: b"abab",
+        edges: RINGS,
+        labels: &[0, 1, 1],
+        members: &[0, 1, 0, 2],
+        is_stable: false,
+        is_minimal: false,
+    },
+    // Two nodes with a loop each have the same parent blocks once they count as one.
+    Row {
+        nodes: b"aa",
+        edges: &[(0, 0), (1, 1)],
+        labels: &[0, 0],
+        members: &[0, 1],
+        is_stable: true,
+        is_minimal: false,
+    },
+    // Two leaves below one node.
+    Row {
+        nodes: b"abb",
+        edges: &[(0, 1), (0, 2)],
+        labels: &[0, 1, 1],
+        members: &[0, 1, 2],
+        is_stable: true,
+        is_minimal: false,
+    },
+    // A leaf below a node, and one without parents.
+    Row {
+        nodes: b"abb",
+        edges: &[(0, 2)],
+        labels: &[0, 1],
+        members: &[0, 1, 1],
+        is_stable: false,
+        is_minimal: true,
+    },
+    Row {
+        nodes: b"ab",
+        edges: &[],
+        labels: &[0],
+        members: &[0, 0],
+        is_stable: false,
+        is_minimal: true,
+    },
+    // The last node has no block.
+    Row {
+        nodes: b"ab",
+        edges: &[],
+        labels: &[0],
+        members: &[0],
+        is_stable: false,
+        is_minimal: true,
+    },
+];
+
+// Whether the answers to a row are those that it has.
+fn is_right(summary: &Summary, view: &GraphView<'_>, row: &Row<'_>) -> bool {
+    is_stable(summary, view) == row.is_stable && is_minimal(summary) == row.is_minimal
+}
+
+fn check_row<L: Ledger>(
+    rt: &impl Abort,
+    alloc: Global,
+    row: &Row<'_>,
+    blank: Blank,
+) -> Result<(), Fail>
+    requires name { blank.name ≡ L.name }
+    requires parts { blank.parts ≡ L.parts }
+    requires some { 0 < blank.parts }
+{
+    let mut steps = Steps::<L>::new(blank);
+    let graph = drawn(rt, alloc, row.nodes, row.edges, &mut steps)?;
+    let view = graph.view(&mut steps);
+    let summary = Summary::of(alloc, parted(rt, alloc, row.labels, row.members)?, &view)?;
+    assert!(rt; is_right(&summary, &view, row));
+    Ok(())
+}
+
+#[test]
+fn worked_partitions(rt: HostRuntime) -> Result<(), Fail> {
+    for row in ROWS {
+        check_row::<Brand>(&rt, rt.alloc(), row, Blank::new(1))?;
+    }
+    Ok(())
+}
