@@ -1,0 +1,37 @@
+// The answers of a branching query over a graph.
+ghost use Rattle.std.specs.Prelude.{◌≡◌, ◌<◌, ℕ, Some, length, IfOk};
+ghost use Rattle.px_spec.specs.Shapes.{shape_by};
+ghost use Rattle.branch_spec.specs.Answers.{AreBranchAnswers};
+
+use crate::holding::step_set;
+use crate::tree::BranchTree;
+use branch_sets::{along, intersection};
+use label_graph::{Digraph, Labels};
+use px_base::{Bits, Memory};
+use std::alloc::Global;
+
+/// The nodes in which a list of nodes ends whose first node meets the first step and that leads along the axes, each node
+/// meeting its step: a set of numbers below the graph's size. `Memory` comes at want of memory alone. For a query with m
+/// labels, axes and words the time is at most in proportion to m times the nodes and edges; no memory is taken for a single
+/// node or edge.
+pub fn eval<G: Digraph>(
+    alloc: Global,
+    g: &G,
+    labels: &Labels,
+    query: &BranchTree,
+) -> Result<Bits, Memory>
+    requires labelled { (n l : ℕ) → G.label_at g.now n ≡ Some l → l < length labels.now.texts }
+    ensures size { IfOk result (λ b. b.size ≡ G.span g.now) }
+    ensures answers { IfOk result (λ b. AreBranchAnswers (shape_by labels.now.texts (G.span g.now) (G.label_at g.now) (G.edge g.now)) query.now b.members) }
+{
+    let mut set = step_set(alloc, g, labels, &query.first)?;
+    for j in 0..query.rest.len() {
+        let hop = &query.rest[j];
+        let reached = along(alloc, g, hop.axis, &set)?;
+        let step = step_set(alloc, g, labels, &hop.step)?;
+        set = intersection(alloc, &step, &reached)?;
+    }
+    // The members rise, which this call says.
+    let _size = set.size();
+    Ok(set)
+}

@@ -1,0 +1,84 @@
+// Where a set of nodes leads along an axis.
+ghost use Rattle.std.specs.Prelude.{◌≡◌, ◌↔◌, ℕ, ◌∷◌, [], true, length, IsTrue, IsSome, IfOk};
+ghost use Rattle.px_spec.specs.Members.{has};
+ghost use Rattle.path_search.specs.declared.state.State.TheVariants.{End, Any, Fork};
+ghost use Rattle.branch_spec.specs.Answers.{Along, Reaches};
+ghost use Rattle.branch_sets.specs.Axes.{axis_of};
+ghost use Rattle.branch_sets.specs.Automata.{near_states, far_states};
+
+use crate::axis::Axis;
+use crate::mirror::Mirror;
+use label_graph::Digraph;
+use path_search::{Program, State, search};
+use px_base::{Bits, Memory};
+use std::alloc::Global;
+
+/// The automaton that reads one label from state 1 on.
+fn near_program(alloc: Global) -> Result<Program, Memory>
+    ensures { IfOk result (λ p. p ≡ near_states) }
+{
+    let mut program = Program::new(alloc)?;
+    program.push(State::Any(0))?;
+    Ok(program)
+}
+
+/// The automaton that reads one label or more from state 1 on.
+fn far_program(alloc: Global) -> Result<Program, Memory>
+    ensures { IfOk result (λ p. p ≡ far_states) }
+{
+    let mut program = Program::new(alloc)?;
+    program.push(State::Any(0))?;
+    program.push(State::Fork(0, 1))?;
+    program.set(1, State::Any(2));
+    Ok(program)
+}
+
+/// The members of the set, rising.
+fn members(alloc: Global, set: &Bits) -> Result<Vec<u32>, Memory>
+    ensures { IfOk result (λ l. (n : ℕ) → IsTrue (has l.items n) ↔ IsTrue (has set.now.members n)) }
+{
+    let mut list = Vec::new(alloc);
+    for n in 0..set.size() {
+        if set.contains(n) {
+            list.push(n)?;
+        }
+    }
+    Ok(list)
+}
+
+/// The children of the members.
+fn near<G: Digraph>(alloc: Global, g: &G, set: &Bits) -> Result<Bits, Memory>
+    requires { (v : ℕ) → IsTrue (has set.now.members v) → IsSome (G.label_at g.now v) }
+    ensures size { IfOk result (λ b. b.size ≡ G.span g.now) }
+    ensures image { IfOk result (λ b. (c : ℕ) → IsTrue (has b.members c) ↔ ((v : ℕ) × IsTrue (has set.now.members v) × IsTrue (G.edge g.now v c))) }
+{
+    let program = near_program(alloc)?;
+    let places = members(alloc, set)?;
+    search(alloc, g, &program, 1, &places)
+}
+
+/// What is reached from a member by one edge or more.
+fn far<G: Digraph>(alloc: Global, g: &G, set: &Bits) -> Result<Bits, Memory>
+    requires { (v : ℕ) → IsTrue (has set.now.members v) → IsSome (G.label_at g.now v) }
+    ensures size { IfOk result (λ b. b.size ≡ G.span g.now) }
+    ensures image { IfOk result (λ b. (c : ℕ) → IsTrue (has b.members c) ↔ ((v : ℕ) × IsTrue (has set.now.members v) × Reaches (G.edge g.now) v c)) }
+{
+    let program = far_program(alloc)?;
+    let places = members(alloc, set)?;
+    search(alloc, g, &program, 1, &places)
+}
+
+/// The nodes to which the axis leads from a member of the set: a set of numbers below the graph's size. `Memory` comes at
+/// want of memory alone. One search: it takes time and memory in proportion to the nodes and edges at most.
+pub fn along<G: Digraph>(alloc: Global, g: &G, axis: Axis, set: &Bits) -> Result<Bits, Memory>
+    requires { (v : ℕ) → IsTrue (has set.now.members v) → IsSome (G.label_at g.now v) }
+    ensures size { IfOk result (λ b. b.size ≡ G.span g.now) }
+    ensures image { IfOk result (λ b. (c : ℕ) → IsTrue (has b.members c) ↔ ((v : ℕ) × IsTrue (has set.now.members v) × Along (G.edge g.now) (axis_of axis) v c)) }
+{
+    match axis {
+        Axis::Child => near(alloc, g, set),
+        Axis::Below => far(alloc, g, set),
+        Axis::Parent => near(alloc, &Mirror { graph: g }, set),
+        Axis::Above => far(alloc, &Mirror { graph: g }, set),
+    }
+}

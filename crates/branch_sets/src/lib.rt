@@ -1,0 +1,12 @@
+//! Sets of nodes of any graph, and where they lead along an axis. It knows no query.
+#![tactic(auto)]
+
+mod axis;
+mod leading;
+mod mirror;
+mod sets;
+
+pub use axis::Axis;
+pub use leading::along;
+pub use mirror::Mirror;
+pub use sets::{complement, intersection, passing, union};

@@ -1,0 +1,5 @@
+pub mod Relaxing
+pub mod Alike
+pub mod OneReading
+pub mod Writing
+pub mod Examples
