@@ -1,0 +1,5 @@
+mod Puts
+mod Scanned
+mod Written
+mod Over
+mod Examples

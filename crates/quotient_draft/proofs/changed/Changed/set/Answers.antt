@@ -1,0 +1,17 @@
+use Rattle.std.proofs.Common.{◌∙◌, ℕ, List, Some, ap, cond}
+use Rattle.std.specs.Map.{lookup}
+use Rattle.bisim_spec.specs.Views.{support_at}
+use Rattle.quotient_draft.specs.Drafts.{with_supports, is_pair}
+use Rattle.quotient_draft.proofs.Written.{supports_written, pair_turned}
+use Rattle.quotient_draft.proofs.changed.Changed.set.Goals as goal
+
+pub returns-clause-looked : goal.returns-clause-looked
+returns-clause-looked c = λ p.
+    c.in_ok-insert.ensures.updates.0 p ∙ ap (λ b. cond b (Some c.args.n) (lookup (is_pair p) c.self.inside.pairs.entries)) (pair_turned (c.args.a, c.args.b) p)
+    ∙ ap (λ (es : List ((ℕ × ℕ) × ℕ)). cond (is_pair p (c.args.a, c.args.b)) (Some c.args.n) (lookup (is_pair p) es)) c.self.view_is
+
+pub returns-clause-shown : goal.returns-clause-shown
+returns-clause-shown c = λ t x y.
+    supports_written t c.self.inside.pairs.entries c.insert.new.self.entries (c.args.a, c.args.b) c.args.n c.self.invariant c.in_ok-insert.ensures.unique
+    (λ p. c.in_ok-insert.ensures.updates.0 p ∙ ap (λ b. cond b (Some c.args.n) (lookup (is_pair p) c.self.inside.pairs.entries)) (pair_turned (c.args.a, c.args.b) p)) x y
+    ∙ ap (λ (es : List ((ℕ × ℕ) × ℕ)). cond (is_pair (x, y) (c.args.a, c.args.b)) c.args.n (support_at (with_supports t es) x y)) c.self.view_is

@@ -1,0 +1,64 @@
+-- What is drafted over an index graph. It shows the partition and the supports that come of writing it into the base.
+use Rattle.std.specs.Prelude.{ℕ, ◌&&◌, Bool, List, [], ◌∷◌, Option, None, Some, cond, nat_eq, slice_set}
+use Rattle.std.specs.FinMap as table
+use Rattle.block_partition.specs.Partitions.{put}
+use Rattle.bisim_spec.specs.Views.{View, SupportTable, support_at}
+use Rattle.quotient.specs.Quotients.{Quotient}
+
+pub record Drafted : Type 0 where
+  -- the number and the label of each further block, in the order in which they were made
+  pub added : List (ℕ × ℕ)
+  -- nodes, each once, with the block, or none, into which they are put
+  pub moves : List (ℕ × Option ℕ)
+  -- pairs of blocks, each once, with their supports
+  pub supports : List ((ℕ × ℕ) × ℕ)
+
+abbrev pub no_changes : Drafted
+no_changes = record { added = []; moves = []; supports = [] }
+
+-- the labels, once these blocks are made
+abbrev pub with_added : List (Option ℕ) → List (ℕ × ℕ) → List (Option ℕ)
+with_added labels [] = labels
+with_added labels (e ∷ es) = with_added (put labels e.0 e.1) es
+
+-- the blocks of nodes, with a node in this block or in none. Only a node that is put into a block lets the list grow
+abbrev pub with_put : List (Option ℕ) → ℕ → Option ℕ → List (Option ℕ)
+with_put block n None = slice_set block n None
+with_put block n (Some b) = put block n b
+
+-- the blocks of nodes, once these moves are made
+abbrev pub with_moves : List (Option ℕ) → List (ℕ × Option ℕ) → List (Option ℕ)
+with_moves block [] = block
+with_moves block (e ∷ es) = with_moves (with_put block e.0 e.1) es
+
+-- the supports, with this one for the pair; a pair without support isn't in the table
+abbrev pub with_support : SupportTable → ℕ × ℕ → ℕ → SupportTable
+with_support t p n = cond (nat_eq n 0) (table.remove t p) (table.insert t p n)
+
+-- the supports, once these are written
+abbrev pub with_supports : SupportTable → List ((ℕ × ℕ) × ℕ) → SupportTable
+with_supports t [] = t
+with_supports t (e ∷ es) = with_supports (with_support t e.0 e.1) es
+
+-- the label of each block as shown
+abbrev pub shown_labels : Quotient → Drafted → List (Option ℕ)
+shown_labels q d = with_added q.blocks.labels d.added
+
+-- the block of each node as shown
+abbrev pub shown_blocks : Quotient → Drafted → List (Option ℕ)
+shown_blocks q d = with_moves q.blocks.block_of d.moves
+
+abbrev pub shown_supports : Quotient → Drafted → SupportTable
+shown_supports q d = with_supports q.supports d.supports
+
+-- the support of a pair of blocks as shown
+abbrev pub shown_support : Quotient → Drafted → ℕ → ℕ → ℕ
+shown_support q d a b = support_at (shown_supports q d) a b
+
+-- the index graph as shown
+abbrev pub shown_view : Quotient → Drafted → View
+shown_view q d = record { block_of = shown_blocks q d; labels = shown_labels q d; supports = shown_supports q d }
+
+-- whether two pairs are the same
+abbrev pub is_pair : ℕ × ℕ → ℕ × ℕ → Bool
+is_pair p q = nat_eq p.0 q.0 && nat_eq p.1 q.1

@@ -1,0 +1,108 @@
+// Blocks that are drafted.
+ghost use Rattle.std.specs.Prelude.{◌≡◌, ◌+◌, ◌-◌, ◌<◌, ◌≤◌, ◌^◌, ◌++◌, ◌∷◌, [], ℕ, Some, None, IsSome, is_some, IfOk, OnErr, IfSome, IfNone, length, slice_get, count_by};
+ghost use Rattle.px_spec.specs.Members.{at};
+ghost use Rattle.block_partition.specs.Partitions.{IsLeastFree};
+ghost use Rattle.quotient_draft.specs.Drafts.{with_added};
+ghost use Rattle.quotient_draft.specs.Basis.{AreLeastFree};
+ghost use Rattle.quotient_draft.specs.Scans.{from_after};
+
+use indexmap::IndexMap;
+use label_graph::Digraph;
+use px_base::Memory;
+use quotient::Summary;
+use std::alloc::Global;
+use std::marker::Model;
+
+/// Blocks that are drafted over a base, by their numbers: the label of each.
+#[derive(Drop)]
+pub(crate) struct Added {
+    blocks: IndexMap<u32, u32>,
+}
+
+impl Model for Added {
+    ghost use Rattle.std.specs.Prelude.{ℕ, List};
+
+    ghost Value = { List (ℕ × ℕ) };
+
+    ghost view = { λ a. a.blocks.entries };
+}
+
+impl Added {
+    pub(crate) fn new(alloc: Global) -> Added
+        ensures { result ≡ [] }
+    {
+        Added {
+            blocks: IndexMap::new(alloc),
+        }
+    }
+
+    /// The label of a block as shown, and none where the number is no block as shown.
+    pub(crate) fn label(&self, base: &Summary, b: u32) -> Option<u32>
+        requires { AreLeastFree base.now.blocks.labels self.now }
+        ensures { result ≡ at (with_added base.now.blocks.labels self.now) b }
+    {
+        match self.blocks.get(&b) {
+            Some(label) => Some(*label),
+            None => base_label(base, b),
+        }
+    }
+
+    /// Drafts a block with this label, under the least number that is no block as shown.
+    pub(crate) fn new_block(&mut self, base: &Summary, label: u32) -> Result<u32, Memory>
+        requires least { AreLeastFree base.now.blocks.labels self.old }
+        requires few { count_by is_some (with_added base.now.blocks.labels self.old) < 2 ^ 31 }
+        ensures least { IfOk result (IsLeastFree (with_added base.now.blocks.labels self.old)) }
+        ensures ok { IfOk result (λ b. self.new ≡ self.old ++ (b, label) ∷ []) }
+        ensures err { OnErr result (self.new ≡ self.old) }
+    {
+        let b = next_free(base, self.from());
+        self.blocks.insert(b, label)?;
+        Ok(b)
+    }
+
+    /// Drops all.
+    pub(crate) fn clear(&mut self)
+        ensures { self.new ≡ [] }
+    {
+        self.blocks.clear();
+    }
+
+    // The number behind that of the last block, below which all are blocks as shown.
+    fn from(&self) -> u32
+        requires { from_after 0 self.now ≤ 2 ^ 31 }
+        ensures { result ≡ from_after 0 self.now }
+    {
+        match self.blocks.last() {
+            Some((b, _)) => *b + 1,
+            None => 0,
+        }
+    }
+}
+
+// The label of a block of the base, and none where the number is no block of it.
+fn base_label(base: &Summary, b: u32) -> Option<u32>
+    ensures { result ≡ at base.now.blocks.labels b }
+{
+    if base.is_node(b) {
+        return Some(base.label(b));
+    }
+    None
+}
+
+// The least number from one on that is no block of the base.
+fn next_free(base: &Summary, from: u32) -> u32
+    requires { from ≤ 2 ^ 31 }
+    ensures free { at base.now.blocks.labels result ≡ None }
+    ensures from { from ≤ result }
+    ensures passed { (c : ℕ) → from ≤ c → c < result → IsSome (at base.now.blocks.labels c) }
+{
+    let end = base.size();
+    let mut b = from;
+    'numbers: while b < end {
+        if !base.is_node(b) {
+            return b;
+        }
+        b += 1;
+    }
+    b
+}

@@ -1,0 +1,159 @@
+// A draft over the quotient of a graph.
+ghost use Rattle.std.specs.Prelude.{◌≡◌, ◌+◌, ◌<◌, ◌^◌, ◌&&◌, ◌++◌, ◌∷◌, [], ℕ, List, Option, Some, IsSome, is_some, IfOk, OnOk, OnErr, IfSome, nat_eq, if◌then◌else◌, count_by};
+ghost use Rattle.px_spec.specs.Members.{at};
+ghost use Rattle.block_partition.specs.Partitions.{IsLeastFree, put};
+ghost use Rattle.quotient.specs.Joined.{one_if};
+ghost use Rattle.quotient_draft.specs.Drafts.{no_changes, shown_labels, shown_blocks, shown_support};
+ghost use Rattle.quotient_draft.specs.Basis.{IsOver};
+
+use crate::added::Added;
+use crate::changed::Changed;
+use crate::moves::Moves;
+use px_base::{Memory, NodeId};
+use quotient::Summary;
+use std::alloc::Global;
+use std::marker::Model;
+
+/// What is drafted over a base, which is the quotient of a graph: further blocks, moves of nodes, and
+/// supports. Reads show the base as it will be once the draft is settled. Each call is given the base; its
+/// labels must stay while something is drafted, and what is shown follows the base's blocks and supports.
+///
+/// Each call takes constant time but for hashing, and `new_block` a search for the next free number.
+#[derive(Drop)]
+pub struct Draft {
+    pub(crate) added: Added,
+    pub(crate) moves: Moves,
+    pub(crate) changed: Changed,
+}
+
+impl Model for Draft {
+    ghost use Rattle.quotient_draft.specs.Drafts.{Drafted};
+
+    ghost Value = { Drafted };
+
+    ghost view = { λ d. record { added = d.added; moves = d.moves; supports = d.changed } };
+}
+
+// Reading.
+impl Draft {
+    /// Nothing is drafted. It takes no memory until something is.
+    pub fn new(alloc: Global) -> Result<Draft, Memory>
+        ensures empty { IfOk result (λ d. d ≡ no_changes) }
+        ensures over { (labels : List (Option ℕ)) → IfOk result (IsOver labels) }
+    {
+        Ok(Draft {
+            added: Added::new(alloc),
+            moves: Moves::new(alloc),
+            changed: Changed::new(alloc),
+        })
+    }
+
+    /// The block of a node as shown, and none where it has none.
+    pub fn block_of(&self, base: &Summary, n: NodeId) -> Option<u32>
+        requires over { IsOver base.now.blocks.labels self.now }
+        ensures block { result ≡ at (shown_blocks base.now self.now) n }
+        ensures live { IfSome result (λ b. IsSome (at (shown_labels base.now self.now) b)) }
+    {
+        self.moves.block_of(base, n)
+    }
+
+    /// Whether the number is that of a block as shown.
+    pub fn is_block(&self, base: &Summary, b: u32) -> bool
+        requires over { IsOver base.now.blocks.labels self.now }
+        ensures { result ≡ is_some (at (shown_labels base.now self.now) b) }
+    {
+        self.added.label(base, b).is_some()
+    }
+
+    /// The label of a block as shown.
+    pub fn label(&self, base: &Summary, b: u32) -> u32
+        requires over { IsOver base.now.blocks.labels self.now }
+        requires block { IsSome (at (shown_labels base.now self.now) b) }
+        ensures { at (shown_labels base.now self.now) b ≡ Some result }
+    {
+        self.added.label(base, b).unwrap()
+    }
+
+    /// How many edges lead from a member of `a` to a member of `b` as shown.
+    pub fn support(&self, base: &Summary, a: u32, b: u32) -> u32
+        ensures { result ≡ shown_support base.now self.now a b }
+    {
+        self.changed.get(base, a, b)
+    }
+}
+
+// Drafting.
+impl Draft {
+    /// Drafts a block without members, and gives its number, the least that is no block as shown.
+    pub fn new_block(&mut self, base: &Summary, label: u32) -> Result<u32, Memory>
+        requires over { IsOver base.now.blocks.labels self.old }
+        requires few { count_by is_some (shown_labels base.now self.old) < 2 ^ 31 }
+        ensures least { IfOk result (IsLeastFree (shown_labels base.now self.old)) }
+        ensures ok { IfOk result (λ b. self.new ≡ record self.old { added = self.old.added ++ (b, label) ∷ [] }) }
+        ensures labels { IfOk result (λ b. shown_labels base.now self.new ≡ put (shown_labels base.now self.old) b label) }
+        ensures over { OnOk result (IsOver base.now.blocks.labels self.new) }
+        ensures err { OnErr result (self.new ≡ self.old) }
+    {
+        let b = self.added.new_block(base, label)?;
+        Ok(b)
+    }
+
+    /// Drafts the move of a node, which is below 2^31, to a block as shown, or out of its block.
+    pub fn put(&mut self, base: &Summary, n: NodeId, b: Option<u32>) -> Result<(), Memory>
+        requires over { IsOver base.now.blocks.labels self.old }
+        requires small { n < 2 ^ 31 }
+        requires block { IfSome b (λ b. IsSome (at (shown_labels base.now self.old) b)) }
+        ensures blocks { OnOk result ((m : ℕ) → at (shown_blocks base.now self.new) m ≡ (if nat_eq m n then b else at (shown_blocks base.now self.old) m)) }
+        ensures added { self.new.added ≡ self.old.added }
+        ensures supports { self.new.supports ≡ self.old.supports }
+        ensures over { OnOk result (IsOver base.now.blocks.labels self.new) }
+        ensures err { OnErr result (self.new ≡ self.old) }
+    {
+        self.moves.put(n, b)?;
+        Ok(())
+    }
+
+    /// Drafts that one more edge leads from `a` to `b`, both blocks as shown.
+    pub fn raise(&mut self, base: &Summary, a: u32, b: u32) -> Result<(), Memory>
+        requires over { IsOver base.now.blocks.labels self.old }
+        requires from { IsSome (at (shown_labels base.now self.old) a) }
+        requires onto { IsSome (at (shown_labels base.now self.old) b) }
+        requires few { shown_support base.now self.old a b < 2 ^ 31 }
+        ensures raised { OnOk result ((x y : ℕ) → shown_support base.now self.new x y ≡ shown_support base.now self.old x y + one_if (nat_eq x a && nat_eq y b)) }
+        ensures added { self.new.added ≡ self.old.added }
+        ensures moves { self.new.moves ≡ self.old.moves }
+        ensures over { OnOk result (IsOver base.now.blocks.labels self.new) }
+        ensures err { OnErr result (self.new ≡ self.old) }
+    {
+        let n = self.changed.get(base, a, b);
+        self.changed.set(a, b, n + 1)?;
+        Ok(())
+    }
+
+    /// Drafts that one edge fewer leads from `a` to `b`, both blocks as shown, which have support.
+    pub fn lower(&mut self, base: &Summary, a: u32, b: u32) -> Result<(), Memory>
+        requires over { IsOver base.now.blocks.labels self.old }
+        requires from { IsSome (at (shown_labels base.now self.old) a) }
+        requires onto { IsSome (at (shown_labels base.now self.old) b) }
+        requires some { 0 < shown_support base.now self.old a b }
+        ensures lowered { OnOk result ((x y : ℕ) → shown_support base.now self.new x y + one_if (nat_eq x a && nat_eq y b) ≡ shown_support base.now self.old x y) }
+        ensures added { self.new.added ≡ self.old.added }
+        ensures moves { self.new.moves ≡ self.old.moves }
+        ensures over { OnOk result (IsOver base.now.blocks.labels self.new) }
+        ensures err { OnErr result (self.new ≡ self.old) }
+    {
+        let n = self.changed.get(base, a, b);
+        self.changed.set(a, b, n - 1)?;
+        Ok(())
+    }
+
+    /// Drops all that is drafted. It takes no memory.
+    pub fn clear(&mut self)
+        ensures empty { self.new ≡ no_changes }
+        ensures over { (labels : List (Option ℕ)) → IsOver labels self.new }
+    {
+        self.added.clear();
+        self.moves.clear();
+        self.changed.clear();
+    }
+}

@@ -1,0 +1,9 @@
+//! What is drafted over the quotient of a graph: further blocks, moves of nodes, and supports.
+#![tactic(auto)]
+
+mod added;
+mod changed;
+mod draft;
+mod moves;
+
+pub use draft::Draft;
