@@ -1,7 +1,7 @@
 -- What is known of nodes once blocks are split by the keys of their members.
-use Rattle.std.proofs.Common.{◌≡◌, ℕ, ◌+◌, ◌<◌, ◌≤◌, ◌⊎◌, List, [], ◌∷◌, length, Option, Some, IsSome, IsTrue, is_some, refl, sym, ◌∙◌, ap, subst, arith, inl, inr, true, false, Bool, slice_get, slice_index, get_or, count_by}
-use Rattle.std.proofs.lemmas.Bool.{cases_lt, cases_Bool, both_ways}
-use Rattle.std.proofs.lemmas.Option.{slice_get_within, slice_get-get_or}
+use Rattle.std.proofs.Common.{◌≡◌, ℕ, ◌<◌, ◌≤◌, ◌⊎◌, List, length, Option, Some, IsSome, sym, ◌∙◌, ap, subst, arith, inl, inr, true, false, Bool, slice_get, slice_index}
+use Rattle.std.proofs.lemmas.Bool.{cases_Bool, both_ways}
+use Rattle.std.proofs.lemmas.Option.{slice_get_within}
 use Rattle.px_spec.specs.Members.{has, at}
 use Rattle.bisim_spec.specs.Partitions.{Together}
 use Rattle.bisim_spec.proofs.Bisimilar.{some_of}

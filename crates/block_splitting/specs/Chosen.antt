@@ -1,5 +1,5 @@
 -- Blocks that are chosen for groups of nodes.
-use Rattle.std.specs.Prelude.{ℕ, ◌≡◌, ◌+◌, ◌<◌, ◌≤◌, ◌∷◌, ◌⊎◌, Bool, true, false, List, length, Option, Some, None, IsSome, slice_get, slice_index}
+use Rattle.std.specs.Prelude.{ℕ, ◌≡◌, ◌+◌, ◌<◌, ◌≤◌, ◌∷◌, ◌⊎◌, Bool, true, false, List, length, Option, Some, None, slice_get, slice_index}
 use Rattle.px_spec.specs.Members.{at}
 use Rattle.block_partition.specs.Partitions.{Partition, IsBlock, block_count}
 

@@ -1,6 +1,8 @@
 -- Sets of nodes.
-use Rattle.std.specs.Prelude.{ℕ, ◌≡◌, List}
+use Rattle.std.specs.Prelude.{ℕ, ◌≡◌, true, List, IsSome}
+use Rattle.px_spec.specs.Graphs.{Graph}
 use Rattle.px_spec.specs.Members.{has}
+use Rattle.label_graph.specs.Views.{label_number}
 
 -- nodes below a size, each once, in the order in which they came
 pub record NodeList : Type 0 where
@@ -10,3 +12,7 @@ pub record NodeList : Type 0 where
 -- the same numbers stand in both lists
 pub record AreMarked (members nodes : List ℕ) : Type 0 where
   pub same : (n : ℕ) → has members n ≡ has nodes n
+
+-- all in the list are nodes of the graph
+abbrev pub AreNodes : Graph → List ℕ → Type 0
+AreNodes g nodes = (n : ℕ) → has nodes n ≡ true → IsSome (label_number g n)

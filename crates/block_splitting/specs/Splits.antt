@@ -1,6 +1,6 @@
 -- Blocks that are split by the blocks of their members' neighbours (the refinement step of R. Paige and R. E. Tarjan, "Three
 -- Partition Refinement Algorithms", SIAM Journal on Computing 16, 1987, done for all members that wait at once).
-use Rattle.std.specs.Prelude.{ℕ, ◌≡◌, ◌⊎◌, Bool, true, false, List, Option, Some, IsTrue}
+use Rattle.std.specs.Prelude.{ℕ, ◌≡◌, ◌<◌, ◌≤◌, ◌⊎◌, [], Bool, true, false, List, Option, Some, IsTrue}
 use Rattle.px_spec.specs.Graphs.{Graph}
 use Rattle.px_spec.specs.Members.{at}
 use Rattle.label_graph.specs.Views.{label_number}
@@ -8,7 +8,7 @@ use Rattle.bisim_spec.specs.Bisimilarity.{Matched}
 use Rattle.bisim_spec.specs.Partitions.{Together}
 use Rattle.bisim_levels.specs.declared.sides.Side.{Side}
 use Rattle.bisim_levels.specs.Sides.{is_near}
-use Rattle.block_partition.specs.Partitions.{Partition, IsBlock}
+use Rattle.block_partition.specs.Partitions.{Partition, IsBlock, block_count}
 
 -- p is a neighbour of n on this side
 abbrev pub Near : Side → Graph → ℕ → ℕ → Type 0
@@ -23,6 +23,10 @@ pub record IsSplit (g : Graph) (side : Side) (waits : ℕ → Bool) (old new : L
   pub still : (n : ℕ) → moved n ≡ false → at new n ≡ at old n
   pub went : (n : ℕ) → moved n ≡ true → at new n ≡ at old n → ⊥
   pub waited : (n : ℕ) → moved n ≡ true → waits n ≡ true
+
+-- there are more blocks than before, or nothing moved
+abbrev pub HasMore : Partition → Partition → List ℕ → Type 0
+HasMore old new moved = ((moved ≡ []) × (block_count old ≤ block_count new)) ⊎ (block_count old < block_count new)
 
 -- each block has the label of its members
 pub record AreLabelled (g : Graph) (p : Partition) : Type 0 where

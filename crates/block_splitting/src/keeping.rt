@@ -15,6 +15,7 @@ fn count_at(sizes: &mut Vec<u32>, k: u32) {
     }
 }
 
+// The number at a place, and 0 past the end.
 #[inline(always)]
 fn number_at(numbers: &[u32], i: u32) -> u32 {
     if (i as usize) < numbers.len() {
@@ -41,7 +42,7 @@ pub(crate) fn sizes_of(
 // Makes the next group the keeper of its block, if that has none or one that is smaller.
 fn note_keeper(keeper: &mut Vec<u32>, keys: &KeyTable, sizes: &[u32], k: u32)
     requires within { k < length keys.now }
-    requires ends { (i : ℕ) (key : List ℕ) → slice_get keys.now i ≡ Some key → (own : ℕ) × BeginsWith key own × (own < vec_len keeper.old) }
+    requires keyed { (i : ℕ) (key : List ℕ) → slice_get keys.now i ≡ Some key → (own : ℕ) × BeginsWith key own × (own < vec_len keeper.old) }
     requires keepers { KeepersBelow keys.now k keeper.old.items }
     ensures length { vec_len keeper.new ≡ vec_len keeper.old }
     ensures keepers { KeepersBelow keys.now (k + 1) keeper.new.items }
@@ -79,7 +80,7 @@ pub(crate) fn note_keepers(
     keys: &KeyTable,
     sizes: &[u32],
 ) -> Result<(), Memory>
-    requires ends { (i : ℕ) (key : List ℕ) → slice_get keys.now i ≡ Some key → (own : ℕ) × BeginsWith key own × (own < span) }
+    requires keyed { (i : ℕ) (key : List ℕ) → slice_get keys.now i ≡ Some key → (own : ℕ) × BeginsWith key own × (own < span) }
     ensures long { OnOk result (span ≤ vec_len keeper.new) }
     ensures keepers { OnOk result (KeepersBelow keys.now (length keys.now) keeper.new.items) }
 {

@@ -5,6 +5,7 @@ ghost use Rattle.px_spec.specs.Graphs.{IsGraph};
 ghost use Rattle.px_spec.specs.Members.{has, Lists};
 ghost use Rattle.label_graph.specs.Views.{label_number};
 ghost use Rattle.bisim_levels.specs.Sides.{is_near};
+ghost use Rattle.block_splitting.specs.Nodes.{AreNodes};
 
 use crate::nodes::NodeSet;
 use bisim_levels::Side;
@@ -54,7 +55,7 @@ pub(crate) fn add_around(
     nodes: &[NodeId],
 ) -> Result<(), Memory>
     requires graph { IsGraph view.now }
-    requires nodes { (q : ℕ) → has nodes.now q ≡ true → IsSome (label_number view.now q) }
+    requires nodes { AreNodes view.now nodes.now }
     requires size { set.old.size ≡ length view.now.given }
     ensures size { set.new.size ≡ set.old.size }
     ensures nodes { OnOk result ((m : ℕ) → has set.new.nodes m ≡ (has set.old.nodes m || list_any (λ q. is_near side view.now q m) nodes.now)) }

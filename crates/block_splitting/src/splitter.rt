@@ -3,9 +3,9 @@ ghost use Rattle.std.specs.Prelude.{◌≡◌, ◌<◌, ◌≤◌, ℕ, List, []
 ghost use Rattle.px_spec.specs.Graphs.{IsGraph};
 ghost use Rattle.px_spec.specs.Shapes.{shape_of};
 ghost use Rattle.px_spec.specs.Members.{has, at};
-ghost use Rattle.label_graph.specs.Views.{label_number};
 ghost use Rattle.key_table.specs.Interning.{AreDistinct, Interns};
 ghost use Rattle.bisim_spec.specs.Partitions.{IsPartition};
+ghost use Rattle.block_splitting.specs.Nodes.{AreNodes};
 ghost use Rattle.block_splitting.specs.Groups.{AreReady, AreGrouped};
 ghost use Rattle.block_splitting.specs.Splits.{AreInhabited};
 ghost use Rattle.block_splitting.specs.Splitters.{bit_of, FlagKey, AreTouched, IsSplitBy, KeepLabels};
@@ -20,7 +20,8 @@ use label_graph::{Digraph, GraphView};
 use px_base::{Memory, NodeId};
 use std::alloc::Global;
 
-// The nodes that have a parent in a splitter, those that have a child there, and both together.
+// What a splitter touches: the nodes that have a parent in it, those that have a child there, and both
+// together.
 #[derive(Drop)]
 struct Touched {
     parents: NodeSet,
@@ -29,7 +30,7 @@ struct Touched {
 }
 
 fn touch(alloc: Global, view: &GraphView<'_>, splitter: &[NodeId]) -> Result<Touched, Memory>
-    requires nodes { (q : ℕ) → has splitter.now q ≡ true → IsSome (label_number view.now q) }
+    requires nodes { AreNodes view.now splitter.now }
     ensures { IfOk result (λ t. AreTouched view.now splitter.now t.parents.nodes t.children.nodes t.all.nodes) }
 {
     let mut parents = NodeSet::new(alloc, view.size())?;
@@ -103,7 +104,7 @@ pub fn split_by(
     splitter: &[NodeId],
 ) -> Result<(), Memory>
     requires partition { IsPartition (shape_of view.now) blocks.old.block_of }
-    requires nodes { (q : ℕ) → has splitter.now q ≡ true → IsSome (label_number view.now q) }
+    requires nodes { AreNodes view.now splitter.now }
     ensures split { OnOk result (IsSplitBy view.now blocks.old.block_of blocks.new.block_of (has splitter.now)) }
     ensures partition { OnOk result (IsPartition (shape_of view.now) blocks.new.block_of) }
     ensures labels { OnOk result (KeepLabels blocks.old blocks.new) }

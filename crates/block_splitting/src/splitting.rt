@@ -1,12 +1,11 @@
 // One round over the nodes that wait.
-ghost use Rattle.std.specs.Prelude.{◌≡◌, ◌<◌, ◌≤◌, ◌⊎◌, ℕ, [], true, IsSome, IfOk, length, vec_len};
+ghost use Rattle.std.specs.Prelude.{◌≡◌, ◌≤◌, IfOk, OnErr, length, vec_len};
 ghost use Rattle.px_spec.specs.Graphs.{IsGraph};
 ghost use Rattle.px_spec.specs.Shapes.{shape_of};
 ghost use Rattle.px_spec.specs.Members.{has};
-ghost use Rattle.label_graph.specs.Views.{label_number};
 ghost use Rattle.bisim_spec.specs.Partitions.{IsPartition};
-ghost use Rattle.block_partition.specs.Partitions.{block_count};
-ghost use Rattle.block_splitting.specs.Splits.{IsSplit, AreLabelled, AreInhabited};
+ghost use Rattle.block_splitting.specs.Nodes.{AreNodes};
+ghost use Rattle.block_splitting.specs.Splits.{IsSplit, HasMore, AreLabelled, AreInhabited};
 
 use crate::grouping::group_nodes;
 use crate::nodes::NodeSet;
@@ -18,8 +17,8 @@ use label_graph::GraphView;
 use px_base::{Memory, NodeId};
 use std::alloc::Global;
 
-/// Memory that each round uses again: for one key, for the group of each node, and for the group of each
-/// block that may keep the block's number.
+/// Memory that each round uses again: one key, the group of each node, and for each block the group that
+/// may keep the block's number. It takes 4 bytes for each node number, and 4 to 8 for each block number.
 #[derive(Drop)]
 pub struct Tables {
     pub(crate) key: Vec<u32>,
@@ -41,10 +40,10 @@ impl Tables {
 }
 
 /// Parts the nodes that wait by the blocks of their neighbours on a side, and from the others of their
-/// block. It gives those that went to another block.
+/// block. It gives those that went to another block. On want of memory the partition stays.
 ///
-/// It takes the time to sort the neighbours' blocks of each node that waits, and a step for each block
-/// number. On want of memory the partition may be finer or not.
+/// It takes the time to sort the neighbours' blocks of each node that waits. The largest part of a block
+/// keeps its number, where all members waited.
 pub fn split(
     alloc: Global,
     view: &GraphView<'_>,
@@ -55,13 +54,14 @@ pub fn split(
 ) -> Result<Vec<NodeId>, Memory>
     requires graph { IsGraph view.now }
     requires partition { IsPartition (shape_of view.now) blocks.old.block_of }
-    requires nodes { (n : ℕ) → has waiting.now.nodes n ≡ true → IsSome (label_number view.now n) }
+    requires nodes { AreNodes view.now waiting.now.nodes }
     requires room { length view.now.given ≤ vec_len tables.old.group }
     ensures room { vec_len tables.new.group ≡ vec_len tables.old.group }
     ensures split { IfOk result (λ moved. IsSplit view.now side (has waiting.now.nodes) blocks.old.block_of blocks.new.block_of (has moved.items)) }
     ensures labelled { IfOk result (λ moved. AreLabelled view.now blocks.old → AreLabelled view.now blocks.new) }
     ensures inhabited { IfOk result (λ moved. AreInhabited blocks.old → AreInhabited blocks.new) }
-    ensures more { IfOk result (λ moved. ((moved.items ≡ []) × (block_count blocks.old ≤ block_count blocks.new)) ⊎ (block_count blocks.old < block_count blocks.new)) }
+    ensures more { IfOk result (λ moved. HasMore blocks.old blocks.new moved.items) }
+    ensures err { OnErr result (blocks.new ≡ blocks.old) }
 {
     // It tells that nodes have live blocks.
     let _ = blocks.span();

@@ -100,8 +100,7 @@ step_of g kept side old new waits next moved alone kept_side split lone woken = 
         (elim (cases_Bool (alone n)) [ inl a ↦ absurd (apart (lone.each n v a e)) | inr f ↦ not_from_false (alone n) f ])))
     | inr f ↦ split.still q f
   ];
-  left = λ t n. not (is_side side t);
-  left_same = λ t u v e l. l;
+  left = λ t. not (is_side side t);
   left_wait = λ t k n l w.
       woken t k n ∙ or_left (not (is_side side t) && waits t n) (list_any (λ x. is_near t g x n) moved && not (alone n)) (and_from (not (is_side side t)) (waits t n) l w);
   wait_why = λ t k n h. elim (or_cases (not (is_side side t) && waits t n) (list_any (λ x. is_near t g x n) moved && not (alone n)) (sym (woken t k n) ∙ h)) [

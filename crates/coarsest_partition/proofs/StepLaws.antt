@@ -83,7 +83,7 @@ step g kept R old new waits next target w s = record {
   coarse = together;
   label = λ u v t. w.label u v (s.finer u v t);
   closed = λ t k u v r e. elim (s.wait_why t k u e) [
-    | inl (l, before) ↦ s.left_wait t k v (s.left_same t u v (w.coarse u v r) l) (w.closed t k u v r before)
+    | inl (l, before) ↦ s.left_wait t k v l (w.closed t k u v r before)
     | inr (q, near, moved) ↦ waiting t k u v q r near moved e ((target.matched t k u v r).there q near)
   ];
   settled = λ t k u v nu nv e. elim (eqb_tells u v) [

@@ -10,11 +10,12 @@ use Rattle.block_splitting.specs.Splits.{Near}
 use Rattle.bisim_levels.specs.declared.sides.Side.TheVariants.{Parents, Children}
 use Rattle.px_spec.specs.Shapes.{shape_of}
 
--- the sides at which bisimilarity looks
+-- the sides at which bisimilarity looks: by parents
 abbrev pub parents_alone : Side → Bool
 parents_alone Parents = true
 parents_alone Children = false
 
+-- both ways
 abbrev pub both_sides : Side → Bool
 both_sides t = true
 
@@ -35,9 +36,9 @@ pub record IsRefined (g : Graph) (kept : Side → Bool) (R : ℕ → ℕ → Typ
   pub settled : (t : Side) → kept t ≡ true → (u v : ℕ) → waits t u ≡ false → waits t v ≡ false → Together block u v
       → Matched (Near t g) (Together block) u v
 
--- One step: blocks are split alone; two nodes that wait no more were settled, or have neighbours in the same blocks of the
--- old partition; nodes stay together that agree in this and in whether they waited; and those wait that have a neighbour
--- which moved and aren't alone in their block, or that waited and were left, by whole blocks.
+-- One step, on one side: blocks are only split; two nodes that wait no more were settled, or have neighbours in the same blocks
+-- of the old partition; nodes stay together that agree in this and in whether they waited; and those wait that have a neighbour
+-- which moved and aren't alone in their block, and on a side that is left those that waited there.
 pub record IsStep (g : Graph) (kept : Side → Bool) (old new : List (Option ℕ)) (waits next : Side → ℕ → Bool) : Type 0 where
   pub finer : (u v : ℕ) → Together new u v → Together old u v
   pub side : Side
@@ -47,8 +48,7 @@ pub record IsStep (g : Graph) (kept : Side → Bool) (old new : List (Option ℕ
   pub parted : (t : Side) → kept t ≡ true → (u v : ℕ) → next t u ≡ false → next t v ≡ false → Together new u v
       → ((waits t u ≡ false) × (waits t v ≡ false)) ⊎ Matched (Near t g) (Together old) u v
   pub still : (t : Side) → kept t ≡ true → (q n v : ℕ) → next t n ≡ false → Together new n v → (n ≡ v → ⊥) → Near t g q n → at new q ≡ at old q
-  pub left : Side → ℕ → Bool
-  pub left_same : (t : Side) (u v : ℕ) → Together old u v → left t u ≡ true → left t v ≡ true
-  pub left_wait : (t : Side) → kept t ≡ true → (n : ℕ) → left t n ≡ true → waits t n ≡ true → next t n ≡ true
+  pub left : Side → Bool
+  pub left_wait : (t : Side) → kept t ≡ true → (n : ℕ) → left t ≡ true → waits t n ≡ true → next t n ≡ true
   pub wait_why : (t : Side) → kept t ≡ true → (n : ℕ) → next t n ≡ true
-      → ((left t n ≡ true) × (waits t n ≡ true)) ⊎ ((q : ℕ) × Near t g q n × (at new q ≡ at old q → ⊥))
+      → ((left t ≡ true) × (waits t n ≡ true)) ⊎ ((q : ℕ) × Near t g q n × (at new q ≡ at old q → ⊥))

@@ -2,11 +2,11 @@
 ghost use Rattle.std.specs.Prelude.{◌≡◌, ◌<◌, ◌≤◌, ◌^◌, ◌⊎◌, ◌&&◌, ℕ, [], true, nat_eq, IsSome, IfOk, OnOk, length, vec_len};
 ghost use Rattle.px_spec.specs.Graphs.{IsGraph};
 ghost use Rattle.px_spec.specs.Members.{has, at};
-ghost use Rattle.label_graph.specs.Views.{label_number};
 ghost use Rattle.bisim_spec.specs.Bisimilarity.{SameLabel, FB};
 ghost use Rattle.bisim_spec.specs.Partitions.{IsPartition, Agrees};
 ghost use Rattle.px_spec.specs.Shapes.{shape_of};
 ghost use Rattle.block_partition.specs.Partitions.{block_count};
+ghost use Rattle.block_splitting.specs.Nodes.{AreNodes};
 ghost use Rattle.block_splitting.specs.Splits.{AreLabelled, AreInhabited};
 ghost use Rattle.coarsest_partition.specs.Fitting.{FitsWithSupports};
 ghost use Rattle.coarsest_partition.specs.Refined.{both_sides, IsRefined, IsStep};
@@ -51,14 +51,14 @@ fn round_on(
 ) -> Result<(), Memory>
     requires graph { IsGraph view.now }
     requires partition { IsPartition (shape_of view.now) blocks.old.block_of }
-    requires own { (n : ℕ) → has own.old.nodes n ≡ true → IsSome (label_number view.now n) }
-    requires other { (n : ℕ) → has other.old.nodes n ≡ true → IsSome (label_number view.now n) }
+    requires own { AreNodes view.now own.old.nodes }
+    requires other { AreNodes view.now other.old.nodes }
     requires own_size { own.old.size ≡ length view.now.given }
     requires other_size { other.old.size ≡ length view.now.given }
     requires room { length view.now.given ≤ vec_len tables.old.group }
     ensures step { OnOk result (IsStep view.now both_sides blocks.old.block_of blocks.new.block_of (by_side side (has own.old.nodes) (has other.old.nodes)) (by_side side (has own.new.nodes) (has other.new.nodes))) }
-    ensures own { OnOk result ((n : ℕ) → has own.new.nodes n ≡ true → IsSome (label_number view.now n)) }
-    ensures other { OnOk result ((n : ℕ) → has other.new.nodes n ≡ true → IsSome (label_number view.now n)) }
+    ensures own { OnOk result (AreNodes view.now own.new.nodes) }
+    ensures other { OnOk result (AreNodes view.now other.new.nodes) }
     ensures own_size { own.new.size ≡ own.old.size }
     ensures other_size { other.new.size ≡ other.old.size }
     ensures room { vec_len tables.new.group ≡ vec_len tables.old.group }

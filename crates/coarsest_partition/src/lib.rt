@@ -6,6 +6,8 @@ mod both;
 mod filling;
 mod labels;
 mod rounds;
+#[cfg(test)]
+mod tests;
 mod waking;
 
 pub use both::full_bisimulation_both_ways;

@@ -2,12 +2,12 @@
 ghost use Rattle.std.specs.Prelude.{◌≡◌, ◌<◌, ◌≤◌, ◌^◌, ◌⊎◌, ℕ, [], true, IsSome, IfOk, OnOk, length, vec_len};
 ghost use Rattle.px_spec.specs.Graphs.{IsGraph};
 ghost use Rattle.px_spec.specs.Members.{has, at};
-ghost use Rattle.label_graph.specs.Views.{label_number};
 ghost use Rattle.bisim_spec.specs.Bisimilarity.{Bisim};
 ghost use Rattle.bisim_spec.specs.Partitions.{IsPartition, Agrees};
 ghost use Rattle.px_spec.specs.Shapes.{shape_of};
 ghost use Rattle.block_partition.specs.Partitions.{block_count};
-ghost use Rattle.block_splitting.specs.Splits.{AreLabelled, AreInhabited};
+ghost use Rattle.block_splitting.specs.Nodes.{AreNodes};
+ghost use Rattle.block_splitting.specs.Splits.{HasMore, AreLabelled, AreInhabited};
 ghost use Rattle.coarsest_partition.specs.Fitting.{FitsWithSupports};
 ghost use Rattle.coarsest_partition.specs.Refined.{parents_alone, IsRefined, IsStep};
 
@@ -43,7 +43,7 @@ pub(crate) fn all_waiting(
     requires partition { IsPartition (shape_of view.now) blocks.now.block_of }
     ensures graph { IfOk result (λ w. IsGraph view.now) }
     ensures size { IfOk result (λ w. w.size ≡ length view.now.given) }
-    ensures nodes { IfOk result (λ w. (n : ℕ) → has w.nodes n ≡ true → IsSome (label_number view.now n)) }
+    ensures nodes { IfOk result (λ w. AreNodes view.now w.nodes) }
     ensures all { IfOk result (λ w. (n : ℕ) → IsSome (at blocks.now.block_of n) → has w.nodes n ≡ true) }
 {
     let mut waiting = NodeSet::new(alloc, view.size())?;
@@ -63,17 +63,17 @@ fn round(
 ) -> Result<(), Memory>
     requires graph { IsGraph view.now }
     requires partition { IsPartition (shape_of view.now) blocks.old.block_of }
-    requires nodes { (n : ℕ) → has waiting.old.nodes n ≡ true → IsSome (label_number view.now n) }
+    requires nodes { AreNodes view.now waiting.old.nodes }
     requires size { waiting.old.size ≡ length view.now.given }
     requires room { length view.now.given ≤ vec_len tables.old.group }
     ensures step { OnOk result (IsStep view.now parents_alone blocks.old.block_of blocks.new.block_of (λ t. has waiting.old.nodes) (λ t. has waiting.new.nodes)) }
-    ensures nodes { OnOk result ((n : ℕ) → has waiting.new.nodes n ≡ true → IsSome (label_number view.now n)) }
+    ensures nodes { OnOk result (AreNodes view.now waiting.new.nodes) }
     ensures size { waiting.new.size ≡ waiting.old.size }
     ensures room { vec_len tables.new.group ≡ vec_len tables.old.group }
     ensures few { OnOk result (block_count blocks.new ≤ 2 ^ 31) }
     ensures labelled { OnOk result (AreLabelled view.now blocks.old → AreLabelled view.now blocks.new) }
     ensures inhabited { OnOk result (AreInhabited blocks.old → AreInhabited blocks.new) }
-    ensures more { OnOk result (((waiting.new.nodes ≡ []) × (block_count blocks.old ≤ block_count blocks.new)) ⊎ (block_count blocks.old < block_count blocks.new)) }
+    ensures more { OnOk result (HasMore blocks.old blocks.new waiting.new.nodes) }
 {
     let moved = split(alloc, view, Side::Parents, blocks, waiting, tables)?;
     waiting.clear();
@@ -91,7 +91,7 @@ fn settle_by_parents(
     mut waiting: NodeSet,
 ) -> Result<Blocks, Memory>
     requires refined { IsRefined view.now parents_alone (Bisim (shape_of view.now)) blocks.block_of (λ t. has waiting.nodes) }
-    requires nodes { (n : ℕ) → has waiting.nodes n ≡ true → IsSome (label_number view.now n) }
+    requires nodes { AreNodes view.now waiting.nodes }
     requires size { waiting.size ≡ length view.now.given }
     ensures labelled { IfOk result (λ p. AreLabelled view.now blocks → AreLabelled view.now p) }
     ensures inhabited { IfOk result (λ p. AreInhabited blocks → AreInhabited p) }

@@ -4,6 +4,7 @@ ghost use Rattle.std.specs.List.{list_any};
 ghost use Rattle.px_spec.specs.Graphs.{IsGraph};
 ghost use Rattle.px_spec.specs.Members.{has, Lists};
 ghost use Rattle.label_graph.specs.Views.{label_number};
+ghost use Rattle.block_splitting.specs.Nodes.{AreNodes};
 ghost use Rattle.coarsest_partition.specs.Alone.{is_alone};
 ghost use Rattle.bisim_levels.specs.Sides.{is_near};
 
@@ -74,7 +75,7 @@ pub(crate) fn wake_moved(
     moved: &[NodeId],
 ) -> Result<(), Memory>
     requires graph { IsGraph view.now }
-    requires nodes { (q : ℕ) → has moved.now q ≡ true → IsSome (label_number view.now q) }
+    requires nodes { AreNodes view.now moved.now }
     requires size { waiting.old.size ≡ length view.now.given }
     ensures size { waiting.new.size ≡ waiting.old.size }
     ensures nodes { OnOk result ((m : ℕ) → has waiting.new.nodes m ≡ (has waiting.old.nodes m || (list_any (λ q. is_near side view.now q m) moved.now && not (is_alone blocks.now m)))) }

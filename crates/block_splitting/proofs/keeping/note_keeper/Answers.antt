@@ -4,33 +4,33 @@ use Rattle.block_splitting.proofs.Choices.{keepers_set, keepers_stay, get_any}
 use Rattle.block_splitting.proofs.keeping.note_keeper.Goals as goal
 
 pub index-before-requires : goal.index-before-requires
-index-before-requires c = let o = c.requires.ends c.args.k _ c.key.ensures in let e = c.own_number-own.ensures o.0 o.1 in let l = o.2 in omega (arith, e, l)
+index-before-requires c = let o = c.requires.keyed c.args.k _ c.key.ensures in let e = c.own_number-own.ensures o.0 o.1 in let l = o.2 in omega (arith, e, l)
 
 pub index_mut-requires : goal.index_mut-requires
-index_mut-requires c = let o = c.requires.ends c.args.k _ c.key.ensures in let e = c.own_number-own.ensures o.0 o.1 in let l = o.2 in omega (arith, e, l)
+index_mut-requires c = let o = c.requires.keyed c.args.k _ c.key.ensures in let e = c.own_number-own.ensures o.0 o.1 in let l = o.2 in omega (arith, e, l)
 
 pub index_mut-requires-then-other-own : goal.index_mut-requires-then-other-own
-index_mut-requires-then-other-own c = let o = c.requires.ends c.args.k _ c.key.ensures in let e = c.own_number-own.ensures o.0 o.1 in let l = o.2 in omega (arith, e, l)
+index_mut-requires-then-other-own c = let o = c.requires.keyed c.args.k _ c.key.ensures in let e = c.own_number-own.ensures o.0 o.1 in let l = o.2 in omega (arith, e, l)
 
 pub returns-then-before-k-clause-keepers : goal.returns-then-before-k-clause-keepers
 returns-then-before-k-clause-keepers c =
-    let o = c.requires.ends c.args.k _ c.key.ensures in
+    let o = c.requires.keyed c.args.k _ c.key.ensures in
     let e = c.own_number-own.ensures o.0 o.1 in
     keepers_set c.args.keys.now c.args.k c.own_number-own.result c.args.keeper.now.items c.key.result.now c.requires.keepers c.key.ensures (subst (BeginsWith c.key.result.now) (sym e) o.1)
     (let l = o.2 in let ok = c.args.keeper.now.ok in omega (arith, e, l, ok))
 
 pub returns-then-other-own-clause-keepers : goal.returns-then-other-own-clause-keepers
 returns-then-other-own-clause-keepers c =
-    let o = c.requires.ends c.args.k _ c.key.ensures in
+    let o = c.requires.keyed c.args.k _ c.key.ensures in
     let e = c.own_number-own.ensures o.0 o.1 in
     keepers_set c.args.keys.now c.args.k c.own_number-own.result c.args.keeper.now.items c.key.result.now c.requires.keepers c.key.ensures (subst (BeginsWith c.key.result.now) (sym e) o.1)
     (let l = o.2 in let ok = c.args.keeper.now.ok in omega (arith, e, l, ok))
 
 pub returns-clause-keepers : goal.returns-clause-keepers
 returns-clause-keepers c =
-    let o = c.requires.ends c.args.k _ c.key.ensures in
+    let o = c.requires.keyed c.args.k _ c.key.ensures in
     let e = c.own_number-own.ensures o.0 o.1 in
-    let other = c.requires.ends _ _ c.key-2.ensures in
+    let other = c.requires.keyed _ _ c.key-2.ensures in
     let f = c.own_number-other.ensures other.0 other.1 in
     let within : c.own_number-own.result < length c.args.keeper.now.items = (let l = o.2 in let ok = c.args.keeper.now.ok in omega (arith, e, l, ok)) in
     keepers_stay c.args.keys.now c.args.k c.own_number-own.result c.index-before.result.now c.args.keeper.now.items c.key.result.now c.key-2.result.now c.requires.keepers c.key.ensures

@@ -2,7 +2,7 @@ use Rattle.block_splitting.proofs.Parts.{keyed_below, can_move, parted}
 use Rattle.block_splitting.proofs.parting.part.Goals as goal
 
 pub note_keepers-requires : goal.note_keepers-requires
-note_keepers-requires c = record { ends = keyed_below _ _ _ _ _ c.requires.can c.span.ensures.span }
+note_keepers-requires c = record { keyed = keyed_below _ _ _ _ _ c.requires.can c.span.ensures.span }
 
 pub choose-requires-clause-keyed : goal.choose-requires-clause-keyed
 choose-requires-clause-keyed c = c.requires.can.keyed

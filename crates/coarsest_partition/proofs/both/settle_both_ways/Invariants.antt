@@ -1,7 +1,7 @@
-use Rattle.std.proofs.Common.{◌≡◌, ◌≤◌, ◌+◌, ◌*◌, ◌-◌, ◌^◌, ℕ, length, vec_len, true, IsSome, cond}
+use Rattle.std.proofs.Common.{◌≡◌, ◌≤◌, ◌+◌, ◌*◌, ◌-◌, ◌^◌, length, vec_len, cond}
 use Rattle.std.specs.Prelude.{nat_eq, ◌&&◌}
 use Rattle.px_spec.specs.Members.{has}
-use Rattle.label_graph.specs.Views.{label_number}
+use Rattle.block_splitting.specs.Nodes.{AreNodes}
 use Rattle.bisim_spec.specs.Bisimilarity.{FB}
 use Rattle.px_spec.specs.Shapes.{shape_of}
 use Rattle.block_partition.specs.Partitions.{block_count}
@@ -13,8 +13,8 @@ use Rattle.coarsest_partition.proofs.both.settle_both_ways.Given as goal
 abbrev pub invariant-rounds : goal.invariant-rounds
 invariant-rounds l = record {
   refined : IsRefined l.view both_sides (FB (shape_of l.view)) l.blocks.block_of (two (has l.parents.nodes) (has l.children.nodes));
-  parents_are : (n : ℕ) → has l.parents.nodes n ≡ true → IsSome (label_number l.view n);
-  children_are : (n : ℕ) → has l.children.nodes n ≡ true → IsSome (label_number l.view n);
+  parents_are : AreNodes l.view l.parents.nodes;
+  children_are : AreNodes l.view l.children.nodes;
   parents_size : l.parents.size ≡ length l.view.given;
   children_size : l.children.size ≡ length l.view.given;
   labelled : AreLabelled l.view l.fn.blocks → AreLabelled l.view l.blocks;

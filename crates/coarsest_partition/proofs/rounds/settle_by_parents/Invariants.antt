@@ -1,7 +1,7 @@
-use Rattle.std.proofs.Common.{◌≡◌, ◌≤◌, ◌+◌, ◌*◌, ◌-◌, ◌^◌, ℕ, length, vec_len, true, IsSome, cond}
+use Rattle.std.proofs.Common.{◌≡◌, ◌≤◌, ◌+◌, ◌*◌, ◌-◌, ◌^◌, length, vec_len, cond}
 use Rattle.std.specs.Prelude.{nat_eq}
 use Rattle.px_spec.specs.Members.{has}
-use Rattle.label_graph.specs.Views.{label_number}
+use Rattle.block_splitting.specs.Nodes.{AreNodes}
 use Rattle.bisim_spec.specs.Bisimilarity.{Bisim}
 use Rattle.px_spec.specs.Shapes.{shape_of}
 use Rattle.block_partition.specs.Partitions.{block_count}
@@ -12,7 +12,7 @@ use Rattle.coarsest_partition.proofs.rounds.settle_by_parents.Given as goal
 abbrev pub invariant-rounds : goal.invariant-rounds
 invariant-rounds l = record {
   refined : IsRefined l.view parents_alone (Bisim (shape_of l.view)) l.blocks.block_of (λ t. has l.waiting.nodes);
-  nodes : (n : ℕ) → has l.waiting.nodes n ≡ true → IsSome (label_number l.view n);
+  nodes : AreNodes l.view l.waiting.nodes;
   size : l.waiting.size ≡ length l.view.given;
   labelled : AreLabelled l.view l.fn.blocks → AreLabelled l.view l.blocks;
   inhabited : AreInhabited l.fn.blocks → AreInhabited l.blocks;

@@ -1,0 +1,125 @@
+// Partitions of small graphs.
+ghost use Rattle.std.specs.Prelude.{◌≡◌, ◌<◌, IsSome};
+ghost use Rattle.label_graph.specs.Views.{label_number};
+
+use super::*;
+use crate::labels::by_labels;
+use block_partition::Blocks;
+use block_splitting::split_by;
+use label_graph::{Digraph, Graph, GraphView};
+use px_base::{NodeId, Steps, Text};
+use std::alloc::Global;
+use std::marker::Brand;
+use std::process::Abort;
+use std::sync::ledger::{Blank, Ledger};
+use std::test::Fail;
+
+const MOST: u32 = 1 << 30;
+
+fn put_node(rt: &impl Abort, alloc: Global, graph: &mut Graph, label: u8) -> Result<(), Fail> {
+    assert!(rt; graph.created() < MOST);
+    graph.reserve_node(alloc, &Text::from_bytes(alloc, &[label])?)?;
+    graph.add_node();
+    Ok(())
+}
+
+fn put_edge<L: Ledger>(
+    rt: &impl Abort,
+    graph: &mut Graph,
+    u: NodeId,
+    v: NodeId,
+    steps: &mut Steps<L>,
+) -> Result<(), Fail> {
+    assert!(rt; graph.is_live(u));
+    assert!(rt; graph.is_live(v));
+    assert!(rt; graph.edge_count() < MOST);
+    assert!(rt; !graph.has_edge(u, v, steps));
+    graph.reserve_edge(u, v)?;
+    graph.add_edge(u, v);
+    Ok(())
+}
+
+// A graph whose nodes have these labels, a byte each.
+fn drawn<L: Ledger>(
+    rt: &impl Abort,
+    alloc: Global,
+    labels: &[u8],
+    edges: &[(NodeId, NodeId)],
+    steps: &mut Steps<L>,
+) -> Result<Graph, Fail> {
+    let mut graph = Graph::new(alloc)?;
+    for label in labels {
+        put_node(rt, alloc, &mut graph, *label)?;
+    }
+    for (u, v) in edges {
+        put_edge(rt, &mut graph, *u, *v, steps)?;
+    }
+    Ok(graph)
+}
+
+// Whether there are so many blocks, and the nodes of each pair are in one block. Where all nodes that are to be
+// together are joined by pairs, this says what the partition is.
+fn is_parted(blocks: &Blocks, count: u32, pairs: &[(NodeId, NodeId)]) -> bool {
+    let together = pairs
+        .iter()
+        .all(|(u, v)| blocks.block_of(*u) == blocks.block_of(*v));
+    together && blocks.count() == count
+}
+
+// A chain of three, a chain of two and a node alone.
+const CHAINS: &[(NodeId, NodeId)] = &[(0, 1), (1, 2), (3, 4)];
+
+fn check_chains(rt: &impl Abort, alloc: Global, view: &GraphView<'_>) -> Result<(), Fail> {
+    let parents = full_bisimulation(alloc, view)?;
+    assert!(rt; is_parted(&parents, 3, &[(0, 3), (3, 5), (1, 4)]));
+    let both = full_bisimulation_both_ways(alloc, view)?;
+    assert!(rt; is_parted(&both, 6, &[]));
+    Ok(())
+}
+
+// By the nodes that have node 1 as a parent or as a child: 2, and 0.
+fn check_splitter(rt: &impl Abort, alloc: Global, view: &GraphView<'_>) -> Result<(), Fail> {
+    let mut blocks = by_labels(alloc, view)?;
+    assert!(rt; is_parted(&blocks, 1, &[]));
+    assert!(rt; view.is_node(1));
+    split_by(alloc, &mut blocks, view, &[1])?;
+    assert!(rt; is_parted(&blocks, 3, &[(1, 3), (3, 4), (4, 5)]));
+    Ok(())
+}
+
+fn check_both<L: Ledger>(rt: &impl Abort, alloc: Global, blank: Blank) -> Result<(), Fail>
+    requires name { blank.name ≡ L.name }
+    requires parts { blank.parts ≡ L.parts }
+    requires some { 0 < blank.parts }
+{
+    let mut steps = Steps::<L>::new(blank);
+    let graph = drawn(rt, alloc, b"llllll", CHAINS, &mut steps)?;
+    let view = graph.view(&mut steps);
+    check_chains(rt, alloc, &view)?;
+    check_splitter(rt, alloc, &view)
+}
+
+#[test]
+fn chains(rt: HostRuntime) -> Result<(), Fail> {
+    check_both::<Brand>(&rt, rt.alloc(), Blank::new(1))
+}
+
+// A ring of two and a ring of one: no walk tells their nodes apart.
+const RINGS: &[(NodeId, NodeId)] = &[(0, 1), (1, 0), (2, 2)];
+
+fn check_rings<L: Ledger>(rt: &impl Abort, alloc: Global, blank: Blank) -> Result<(), Fail>
+    requires name { blank.name ≡ L.name }
+    requires parts { blank.parts ≡ L.parts }
+    requires some { 0 < blank.parts }
+{
+    let mut steps = Steps::<L>::new(blank);
+    let graph = drawn(rt, alloc, b"aaa", RINGS, &mut steps)?;
+    let both = full_bisimulation_both_ways(alloc, &graph.view(&mut steps))?;
+    assert!(rt; is_parted(&both, 1, &[(0, 1), (1, 2)]));
+    Ok(())
+}
+
+#[test]
+fn rings(rt: HostRuntime) -> Result<(), Fail> {
+    check_rings::<Brand>(&rt, rt.alloc(), Blank::new(1))
+}
