@@ -2,7 +2,9 @@
 #![tactic(auto)]
 
 use ak_maintain::AkIndex;
+use fb_index::FbIndex;
 use index_api::PathIndex;
+use one_maintain::OneKept;
 use pathindex_core::Engine;
 use pathindex_run::{HostShelf, HostSink, Status, break_reason, run};
 use px_base::Memory;
@@ -30,6 +32,8 @@ fn run_words(rt: &(impl Files + Print + AllocGlobal), words: &[String]) -> Resul
     let alloc = rt.alloc();
     let mut boxes: Vec<Box<dyn PathIndex>> = Vec::new(alloc);
     boxes.push(Box::new(alloc, AkIndex::new(alloc)?)?)?;
+    boxes.push(Box::new(alloc, OneKept::new(alloc)?)?)?;
+    boxes.push(Box::new(alloc, FbIndex::new(alloc)?)?)?;
     let mut engine = Engine::new(boxes);
     let mut shelf = HostShelf::new(rt);
     let mut sink = HostSink::new(rt);
