@@ -2,3 +2,4 @@ mod LabelPlaces
 mod MergeLaws
 mod Neighbours
 mod Uniform
+mod Built

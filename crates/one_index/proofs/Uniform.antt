@@ -25,7 +25,7 @@ use Rattle.one_index.proofs.Neighbours.{all_get, all_from, any_get, any_from}
 
 -- what the view of a graph shows
 
-label_shown : (g : Graph) → IsGraph g → (n : ℕ) → option_and_then (λ l. slice_get g.seen l) (label_number g n) ≡ label_of g n
+pub label_shown : (g : Graph) → IsGraph g → (n : ℕ) → option_and_then (λ l. slice_get g.seen l) (label_number g n) ≡ label_of g n
 label_shown g graph n = ap (λ (s : Shape). s.label n) (viewed_shape g graph)
 
 pub node_number : (g : Graph) → IsGraph g → (n : ℕ) → IsNode (shape_of g) n → IsSome (label_number g n)

@@ -1,11 +1,13 @@
 //! The 1-index: a stable partition of a graph's nodes of which no two blocks can be merged.
 #![tactic(auto)]
 
+mod building;
 mod members;
 mod merging;
 mod stability;
 #[cfg(test)]
 mod tests;
 
+pub use building::OneIndex;
 pub use merging::{is_minimal, mergeable};
 pub use stability::is_stable;

@@ -4,7 +4,7 @@ ghost use Rattle.std.specs.Prelude.{◌≡◌, ◌<◌, ◌≤◌, length};
 use super::*;
 use block_partition::Blocks;
 use label_graph::{Digraph, Graph, GraphView};
-use px_base::{NodeId, Steps, Text};
+use px_base::{Memory, NodeId, Steps, Text};
 use quotient::Summary;
 use std::alloc::Global;
 use std::marker::Brand;
@@ -99,6 +99,8 @@ struct Row<'a> {
     members: &'a [u32],
     is_stable: bool,
     is_minimal: bool,
+    // how many blocks a build makes
+    built: u32,
 }
 
 // Two rings of an a and a b: the two a can be in one block where the two b are, and apart where they are apart.
@@ -112,6 +114,7 @@ const ROWS: &[Row<'static>] = &[
         members: &[0, 1, 0, 1],
         is_stable: true,
         is_minimal: true,
+        built: 2,
     },
     Row {
         nodes: b"abab",
@@ -120,6 +123,7 @@ const ROWS: &[Row<'static>] = &[
         members: &[0, 1, 2, 3],
         is_stable: true,
         is_minimal: true,
+        built: 2,
     },
     Row {
         nodes: b"abab",
@@ -128,6 +132,7 @@ const ROWS: &[Row<'static>] = &[
         members: &[0, 1, 0, 2],
         is_stable: false,
         is_minimal: false,
+        built: 2,
     },
     // Two nodes with a loop each have the same parent blocks once they count as one.
     Row {
@@ -137,6 +142,7 @@ const ROWS: &[Row<'static>] = &[
         members: &[0, 1],
         is_stable: true,
         is_minimal: false,
+        built: 1,
     },
     // Two leaves below one node.
     Row {
@@ -146,6 +152,7 @@ const ROWS: &[Row<'static>] = &[
         members: &[0, 1, 2],
         is_stable: true,
         is_minimal: false,
+        built: 2,
     },
     // A leaf below a node, and one without parents.
     Row {
@@ -155,6 +162,7 @@ const ROWS: &[Row<'static>] = &[
         members: &[0, 1, 1],
         is_stable: false,
         is_minimal: true,
+        built: 3,
     },
     Row {
         nodes: b"ab",
@@ -163,6 +171,7 @@ const ROWS: &[Row<'static>] = &[
         members: &[0, 0],
         is_stable: false,
         is_minimal: true,
+        built: 2,
     },
     // The last node has no block.
     Row {
@@ -172,12 +181,19 @@ const ROWS: &[Row<'static>] = &[
         members: &[0],
         is_stable: false,
         is_minimal: true,
+        built: 2,
     },
 ];
 
 // Whether the answers to a row are those that it has.
 fn is_right(summary: &Summary, view: &GraphView<'_>, row: &Row<'_>) -> bool {
     is_stable(summary, view) == row.is_stable && is_minimal(summary) == row.is_minimal
+}
+
+// Whether a build makes so many blocks, of a partition that is stable and of which no two can be merged.
+fn builds(alloc: Global, view: &GraphView<'_>, built: u32) -> Result<bool, Memory> {
+    let summary = OneIndex::build(alloc, view)?;
+    Ok(summary.blocks() == built && is_stable(&summary, view) && is_minimal(&summary))
 }
 
 fn check_row<L: Ledger>(
@@ -195,6 +211,7 @@ fn check_row<L: Ledger>(
     let view = graph.view(&mut steps);
     let summary = Summary::of(alloc, parted(rt, alloc, row.labels, row.members)?, &view)?;
     assert!(rt; is_right(&summary, &view, row));
+    assert!(rt; builds(alloc, &view, row.built)?);
     Ok(())
 }
 

@@ -1,0 +1,34 @@
+// The 1-index of a graph.
+ghost use Rattle.std.specs.Prelude.{IfOk};
+ghost use Rattle.px_spec.specs.Shapes.{shape_of};
+ghost use Rattle.bisim_spec.specs.Bisimilarity.{Bisim};
+ghost use Rattle.bisim_spec.specs.Partitions.{Agrees};
+ghost use Rattle.bisim_spec.specs.Fits.{FitsOne};
+ghost use Rattle.quotient.specs.Quotients.{view_of};
+
+use coarsest_partition::full_bisimulation;
+use label_graph::GraphView;
+use px_base::Memory;
+use quotient::Summary;
+use std::alloc::Global;
+
+/// The 1-index of a graph, as a build makes it (T. Milo and D. Suciu, "Index Structures for Path Expressions",
+/// ICDT 1999).
+pub struct OneIndex;
+
+impl OneIndex {
+    /// The index graph of the classes of full bisimilarity. Among the stable partitions it has the fewest
+    /// blocks. `Memory` comes at want of memory alone.
+    ///
+    /// It takes the rounds of `full_bisimulation`, and then one pass over the edges.
+    pub fn build(alloc: Global, view: &GraphView<'_>) -> Result<Summary, Memory>
+        ensures fits { IfOk result (λ s. FitsOne view.now (view_of s)) }
+        ensures whole { IfOk result (λ s. Agrees (shape_of view.now) s.blocks.block_of (Bisim (shape_of view.now))) }
+    {
+        // What is seen is a graph, which this call says.
+        let _created = view.created();
+        let blocks = full_bisimulation(alloc, view)?;
+        let summary = Summary::of(alloc, blocks, view)?;
+        Ok(summary)
+    }
+}
