@@ -5,7 +5,8 @@ what that takes above the load, and what a change takes while they are kept. The
 
     bench_load.py [PROGRAM]
 
-PROGRAM is run in place of bin/pathindex. A load is a run of an empty script that keeps the index of level 0 alone. Times are the best of some turns, and of
+PROGRAM is run in place of bin/pathindex. No 1-index and no forward and backward index is kept; bench_indexes.py measures them. A
+load is a run of an empty script that keeps the index of level 0 alone. Times are the best of some turns, and of
 whole processes.
 """
 import os
@@ -25,6 +26,8 @@ LOAD_MARK = 2.5
 MEMORY_MARK = 450
 # how many changes are made while indexes are kept
 CHANGES = 4
+# words that leave the other indexes out
+ALONE = ["--without-one", "--without-fb"]
 # by the count of triples
 SIZES_MARKS = {200_000: 0.55, 1_600_000: 0.8}
 
@@ -55,9 +58,9 @@ def measure(program, folder, count):
     with open(text, "wb") as out:
         subprocess.run([sys.executable, MAKE, str(count)], stdout=out, check=True)
     return os.path.getsize(text) / 1e6, best_of({
-        "load": [program, os.path.join(folder, "empty"), "--graph", text, "--k", "0"],
-        "sizes": [program, os.path.join(folder, "sizes"), "--graph", text, "--k", "2"],
-        "changes": [program, os.path.join(folder, "changes"), "--graph", text, "--k", "2"],
+        "load": [program, os.path.join(folder, "empty"), "--graph", text, "--k", "0", *ALONE],
+        "sizes": [program, os.path.join(folder, "sizes"), "--graph", text, "--k", "2", *ALONE],
+        "changes": [program, os.path.join(folder, "changes"), "--graph", text, "--k", "2", *ALONE],
         "serdi": ["serdi", "-b", text],
     }, TURNS[count])
 

@@ -1,6 +1,6 @@
 #!/usr/bin/env python3
-"""Writes a generated script to standard output: make_script.py KIND COUNT. Its first line forgets the A(k)-index, so that
-what is measured is the graph alone.
+"""Writes a generated script to standard output: make_script.py KIND COUNT. Its first lines forget the A(k)-index and the
+1-index, so that what is measured is the graph alone.
 
 nodes   COUNT nodes over 1,000 labels
 links   4,000 nodes, and then COUNT links between random ones
@@ -89,7 +89,7 @@ KINDS = {"nodes": nodes, "links": links, "paths": paths, "graph": graph, "turns"
 def main():
     if len(sys.argv) != 3 or sys.argv[1] not in KINDS or not sys.argv[2].isdigit():
         sys.exit("usage: make_script.py " + "|".join(KINDS) + " COUNT")
-    print("forget a")
+    print("forget a\nforget one")
     sys.stdout.writelines(KINDS[sys.argv[1]](int(sys.argv[2])))
 
 

@@ -1,7 +1,13 @@
 #!/usr/bin/env python3
 """Writes generated triples to standard output.
 
-    make_triples.py COUNT [SEED]
+    make_triples.py COUNT [SEED [KIND]]
+
+KIND is `dag` where none is given.
+
+dag     no walk comes back to its beginning
+cyclic  the same, but half of the edges to a literal go back to a subject
+deep    a chain of all subjects, and then literals at random ones
 
 A state of 64 bits starts as the seed (1 where none is given). A draw below m sets the state x to
 x * 6364136223846793005 + 1442695040888963407 modulo 2^64, and gives (x // 2^33) modulo m. Each line draws A,
@@ -14,10 +20,11 @@ MODULUS = 1 << 64
 
 
 def main():
-    if len(sys.argv) not in (2, 3):
+    if len(sys.argv) not in (2, 3, 4) or sys.argv[3:] not in ([], ["dag"], ["cyclic"], ["deep"]):
         sys.exit(__doc__)
     count = int(sys.argv[1])
-    state = int(sys.argv[2]) if len(sys.argv) == 3 else 1
+    state = int(sys.argv[2]) if len(sys.argv) > 2 else 1
+    kind = sys.argv[3] if len(sys.argv) == 4 else "dag"
     subjects = max(1, count // 5)
     literals = max(1, count // 40)
 
@@ -26,15 +33,26 @@ def main():
         state = (state * 6364136223846793005 + 1442695040888963407) % MODULUS
         return (state >> 33) % m
 
+    def subject(a, p, b):
+        return f"<http://e/s{a}> <http://e/p{p}> <http://e/s{b}> .\n"
+
+    def literal(a, p, v):
+        return f'<http://e/s{a}> <http://e/p{p}> "v{v}" .\n'
+
     lines = []
-    for _ in range(count):
-        a = draw(subjects)
-        p = draw(8)
+    if kind == "deep":
+        lines = [subject(b - 1, 0, b) for b in range(1, subjects)]
+    while len(lines) < count:
+        a, p = draw(subjects), draw(8)
+        if kind == "deep":
+            lines.append(literal(a, p, draw(literals)))
+            continue
         b = 8 * a + 1 + draw(16)
-        if b < subjects:
-            lines.append(f"<http://e/s{a}> <http://e/p{p}> <http://e/s{b}> .\n")
+        v = draw(literals) if b >= subjects else 0
+        if b < subjects or kind == "cyclic" and v % 2 == 0:
+            lines.append(subject(a, p, b % subjects))
         else:
-            lines.append(f'<http://e/s{a}> <http://e/p{p}> "v{draw(literals)}" .\n')
+            lines.append(literal(a, p, v))
     sys.stdout.write("".join(lines))
 
 

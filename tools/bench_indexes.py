@@ -1,0 +1,82 @@
+#!/usr/bin/env python3
+"""Has bin/pathindex build the 1-index and the forward and backward index of generated graphs of three shapes, and prints what each
+build takes above a load, in time and in memory, and what a path query takes through each index. The gate doesn't run this.
+
+    bench_indexes.py [PROGRAM]
+
+PROGRAM is run in place of bin/pathindex. Times are the best of some turns, and differences of whole processes.
+"""
+import os
+import pathlib
+import subprocess
+import sys
+import tempfile
+import time
+
+ROOT = pathlib.Path(__file__).resolve().parent.parent
+MAKE = ROOT / "tools" / "make_triples.py"
+CASES = [("dag", 200_000, 7), ("cyclic", 200_000, 7), ("deep", 200_000, 7), ("dag", 1_600_000, 3)]
+QUERY = "<http://e/p0>/iri/<http://e/p1>"
+QUERIES = 200
+INDEXES = {"none": ["--without-one", "--without-fb"], "one": ["--without-fb"], "fb": ["--without-one"]}
+
+
+def run(command):
+    """The seconds that the command takes, and its peak megabytes of memory."""
+    start = time.monotonic()
+    child = subprocess.Popen(command, stdout=subprocess.DEVNULL)
+    _, status, usage = os.wait4(child.pid, 0)
+    seconds = time.monotonic() - start
+    child.returncode = os.waitstatus_to_exitcode(status)
+    if child.returncode != 0:
+        sys.exit(f"bench_indexes.py: {command} ended with the status {child.returncode}")
+    return seconds, usage.ru_maxrss * 1024 / 1e6
+
+
+def best_of(commands, turns):
+    """Of each command by its name the least seconds, and the most megabytes. They are run in turns."""
+    taken = {name: [] for name in commands}
+    for _ in range(turns):
+        for name, command in commands.items():
+            taken[name].append(run(command))
+    return {name: (min(s for s, _ in runs), max(m for _, m in runs)) for name, runs in taken.items()}
+
+
+def measure(program, folder, kind, count, turns):
+    text = os.path.join(folder, f"{kind}{count}.nt")
+    with open(text, "wb") as out:
+        subprocess.run([sys.executable, MAKE, str(count), "1", kind], stdout=out, check=True)
+    words = ["--graph", text, "--k", "0"]
+    commands = {name: [program, os.path.join(folder, "empty"), *words, *flags] for name, flags in INDEXES.items()}
+    for via, kept in [("data", "none"), ("one", "one"), ("fb", "fb")]:
+        commands[f"query {via}"] = [program, os.path.join(folder, via), *words, *INDEXES[kept]]
+    return best_of(commands, turns)
+
+
+def show(kind, count, taken):
+    load, peak = taken["none"]
+    print(f"{kind}, {count:,} triples: load {load * 1000:.0f} ms, peak {peak:.0f} MB")
+    for name, title in [("one", "1-index"), ("fb", "forward and backward index")]:
+        seconds, most = taken[name]
+        print(f"    {title:<28} {(seconds - load) * 1000:>8.0f} ms, peak {most:.0f} MB")
+    for via, kept in [("data", "none"), ("one", "one"), ("fb", "fb")]:
+        seconds = (taken[f"query {via}"][0] - taken[kept][0]) / QUERIES
+        print(f"    a query through {via:<12} {seconds * 1000:>8.2f} ms", flush=True)
+
+
+def main():
+    if len(sys.argv) > 2:
+        sys.exit(__doc__)
+    program = pathlib.Path(sys.argv[1]).resolve() if len(sys.argv) == 2 else ROOT / "bin" / "pathindex"
+    if not os.access(program, os.X_OK):
+        sys.exit(f"bench_indexes.py: {program} is missing; make run builds bin/pathindex")
+    with tempfile.TemporaryDirectory() as folder:
+        for name, text in [("empty", "")] + [(via, f"path {via} {QUERY}\n" * QUERIES) for via in ("data", "one", "fb")]:
+            with open(os.path.join(folder, name), "w") as out:
+                out.write(text)
+        for kind, count, turns in CASES:
+            show(kind, count, measure(program, folder, kind, count, turns))
+
+
+if __name__ == "__main__":
+    main()
