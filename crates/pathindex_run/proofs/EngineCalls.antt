@@ -19,6 +19,8 @@ use Rattle.pathindex_core.specs.Engines.{Opened, EngineSeen, EachBecomes, IsKept
 use Rattle.pathindex_core.specs.Updates.{IsUpdated, graph_or, outcome_in, opened_after}
 use Rattle.pathindex_run.specs.Texts.{applied_line, refused_line, ok_line, reply}
 use Rattle.pathindex_run.specs.States.{State, BeginsRun, forgotten}
+use Rattle.command_line.specs.Forms.{Settings}
+use Rattle.pathindex_run.specs.Headline.{kinds_for}
 use Rattle.pathindex_run.specs.EngineStates.{IsOpen, state_in}
 use Rattle.pathindex_run.specs.Indexes.{ShowsAnswers, ShowsExtents, unkept, ShowsSizes}
 use Rattle.pathindex_run.specs.Runs.{IsChanged, Becomes, Obeys, changes, asks, lists, measures, forgets, lacks}
@@ -180,7 +182,12 @@ data_obeyed e via out gathered d g = record {
 }
 
 -- the state with which a run begins
-pub opened_first : (e f : EngineSeen) (o : Opened) → f.opened ≡ Some o → EachBecomes (λ a b. IsBuilt a b o.graph o.k) e.boxes f.boxes → kinds_of f.boxes ≡ kinds_of e.boxes → IsSound f
+opened_first : (e f : EngineSeen) (o : Opened) → f.opened ≡ Some o → EachBecomes (λ a b. IsBuilt a b o.graph o.k) e.boxes f.boxes → kinds_of f.boxes ≡ kinds_of e.boxes → IsSound f
     → BeginsRun (state_in f).graph (kinds_of e.boxes) o.k (state_in f)
 opened_first e f o h built kinds s =
     subst (λ x. BeginsRun x.graph (kinds_of e.boxes) o.k x) (seen_as f o h) (first_state o.graph o e.boxes f.boxes refl built kinds (fits_in f o h s))
+
+-- the same by the kinds that are kept for these settings
+pub opened_for : (settings : Settings) (kinds : List Kind) (e f : EngineSeen) (o : Opened) → f.opened ≡ Some o → EachBecomes (λ a b. IsBuilt a b o.graph o.k) e.boxes f.boxes
+    → kinds_of f.boxes ≡ kinds_of e.boxes → IsSound f → kinds_of e.boxes ≡ kinds_for settings kinds → BeginsRun (state_in f).graph (kinds_for settings kinds) o.k (state_in f)
+opened_for settings kinds e f o h built same s are = subst (λ ks. BeginsRun (state_in f).graph ks o.k (state_in f)) are (opened_first e f o h built same s)
