@@ -3,3 +3,4 @@ pub mod Tables
 pub mod Soundness
 pub mod Chains
 pub mod Appending
+pub mod Splitting

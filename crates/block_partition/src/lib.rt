@@ -5,6 +5,7 @@ mod blocks;
 mod freed;
 mod members;
 mod slots;
+mod splitting;
 #[cfg(test)]
 mod tests;
 

@@ -107,3 +107,25 @@ fn least_number_again(rt: HostRuntime) -> Result<(), Fail> {
     assert_eq!(&rt; blocks.label(0), 5);
     Ok(())
 }
+
+// Nodes 5 and 0 leave the first block for one of their own.
+fn split_first(rt: &impl Abort, blocks: &mut Blocks) -> Result<(), Fail> {
+    if blocks.numbers() > 6 || blocks.count() > 2 {
+        return Err("too much".into());
+    }
+    blocks.reserve(0, 1)?;
+    assert!(rt; blocks.is_block(0));
+    assert_eq!(rt; blocks.block_of(5), Some(0));
+    assert_eq!(rt; blocks.block_of(0), Some(0));
+    let b = blocks.split_off(0, &[5, 0]);
+    assert!(rt; has_members(rt, blocks, b, &[0, 5]));
+    assert!(rt; has_members(rt, blocks, 0, &[1]));
+    Ok(())
+}
+
+#[test]
+fn splits(rt: HostRuntime) -> Result<(), Fail> {
+    let mut blocks = small(&rt, rt.alloc())?;
+    split_first(&rt, &mut blocks)?;
+    Ok(())
+}
