@@ -3,5 +3,7 @@
 
 mod index;
 mod rebuilding;
+#[cfg(test)]
+mod tests;
 
 pub use index::OneKept;
