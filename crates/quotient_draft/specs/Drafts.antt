@@ -3,7 +3,7 @@ use Rattle.std.specs.Prelude.{ℕ, ◌&&◌, Bool, List, [], ◌∷◌, Option, 
 use Rattle.std.specs.FinMap as table
 use Rattle.block_partition.specs.Partitions.{put}
 use Rattle.bisim_spec.specs.Views.{View, SupportTable, support_at}
-use Rattle.quotient.specs.Quotients.{Quotient}
+use Rattle.quotient.specs.Quotients.{Quotient, with_put, with_support}
 
 pub record Drafted : Type 0 where
   -- the number and the label of each further block, in the order in which they were made
@@ -21,19 +21,10 @@ abbrev pub with_added : List (Option ℕ) → List (ℕ × ℕ) → List (Option
 with_added labels [] = labels
 with_added labels (e ∷ es) = with_added (put labels e.0 e.1) es
 
--- the blocks of nodes, with a node in this block or in none. Only a node that is put into a block lets the list grow
-abbrev pub with_put : List (Option ℕ) → ℕ → Option ℕ → List (Option ℕ)
-with_put block n None = slice_set block n None
-with_put block n (Some b) = put block n b
-
 -- the blocks of nodes, once these moves are made
 abbrev pub with_moves : List (Option ℕ) → List (ℕ × Option ℕ) → List (Option ℕ)
 with_moves block [] = block
 with_moves block (e ∷ es) = with_moves (with_put block e.0 e.1) es
-
--- the supports, with this one for the pair; a pair without support isn't in the table
-abbrev pub with_support : SupportTable → ℕ × ℕ → ℕ → SupportTable
-with_support t p n = cond (nat_eq n 0) (table.remove t p) (table.insert t p n)
 
 -- the supports, once these are written
 abbrev pub with_supports : SupportTable → List ((ℕ × ℕ) × ℕ) → SupportTable
