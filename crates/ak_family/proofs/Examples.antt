@@ -1,4 +1,5 @@
 -- A family with a gap in the numbers of its blocks: block 1 of each level was retired, and its number is free.
+use Rattle.quotient.specs.Quotients.{no_pair_room}
 use Rattle.std.proofs.Common.{◌≡◌, ℕ, zero, suc, ◌*◌, List, [], ◌∷◌, Option, None, Some, IsTrue, is_some, refl, sym, ◌∙◌, ap, arith, true≢false, true, ◌&&◌, nat_eq, subst}
 use Rattle.std.specs.Prelude.{◌||◌}
 use Rattle.std.specs.FinMap as table
@@ -40,7 +41,7 @@ abbrev next_keys : List (Option (List ℕ))
 next_keys = Some (0 ∷ []) ∷ None ∷ Some (2 ∷ 0 ∷ []) ∷ []
 
 abbrev level : List (Option (List ℕ)) → KeyedQuotient
-level keys = record { quotient = record { blocks = record { block_of = blocks; labels = labels; room = record { nodes = 0; blocks = 0 } }; supports = table.empty }; keys = keys }
+level keys = record { quotient = record { blocks = record { block_of = blocks; labels = labels; room = record { nodes = 0; blocks = 0 } }; supports = table.empty; room = no_pair_room }; keys = keys }
 
 abbrev gapped : List KeyedQuotient
 gapped = level lowest_keys ∷ level next_keys ∷ []

@@ -10,7 +10,7 @@ use Rattle.block_partition.specs.Partitions.{no_blocks}
 use Rattle.px_spec.specs.Members.{at}
 use Rattle.bisim_levels.specs.Sides.{no_neighbours}
 use Rattle.bisim_levels.specs.Refining.{AreNumbered}
-use Rattle.quotient.specs.Quotients.{Quotient, quotient_code}
+use Rattle.quotient.specs.Quotients.{Quotient, quotient_code, no_pair_room}
 
 pub record KeyedQuotient : Type 0 where
   pub quotient : Quotient
@@ -24,7 +24,7 @@ keyed_code =
     (λ k. (k.quotient, k.keys)) (λ p. record { quotient = p.0; keys = p.1 }) (λ _. refl)
 
 abbrev pub no_level : KeyedQuotient
-no_level = record { quotient = record { blocks = no_blocks; supports = table.empty {R = edge_cmp} }; keys = [] }
+no_level = record { quotient = record { blocks = no_blocks; supports = table.empty {R = edge_cmp}; room = no_pair_room }; keys = [] }
 
 -- a level of the family, and one without blocks past its end
 abbrev pub level_at : List KeyedQuotient → ℕ → KeyedQuotient

@@ -3,3 +3,6 @@ mod Near
 mod Pairs
 mod Between
 mod Listed
+mod Rooms
+mod Taken
+mod Edited

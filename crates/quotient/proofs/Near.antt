@@ -14,7 +14,7 @@ use Rattle.bisim_spec.specs.Views.{SupportTable, support_at}
 use Rattle.quotient.specs.Joined.{AreNear, list_at, is_supported, with_one_more, one_if}
 use Rattle.quotient.proofs.Looked.{same, same_is, same_refl, test_is, support_with}
 
-lists_same : (p q : ℕ → Bool) (xs : List ℕ) → ((m : ℕ) → q m ≡ p m) → Lists p xs → Lists q xs
+pub lists_same : (p q : ℕ → Bool) (xs : List ℕ) → ((m : ℕ) → q m ≡ p m) → Lists p xs → Lists q xs
 lists_same p q xs e l = record { once = l.once; members = λ m. l.members m ∙ sym (e m) }
 
 -- pairs other than this one have the support that they had
@@ -40,14 +40,14 @@ or_false : (t : Bool) → (t || false) ≡ t
 or_false true = refl
 or_false false = refl
 
-apart_first : (a b x y : ℕ) → x ≢ a → same (x, y) (a, b) ≡ false
+pub apart_first : (a b x y : ℕ) → x ≢ a → same (x, y) (a, b) ≡ false
 apart_first a b x y d = elim (eqb_tells x a) [ inl s ↦ absurd (d s.1) | inr f ↦ rw f.0 refl ]
 
-apart_second : (a b x y : ℕ) → y ≢ b → same (x, y) (a, b) ≡ false
+pub apart_second : (a b x y : ℕ) → y ≢ b → same (x, y) (a, b) ≡ false
 apart_second a b x y d = elim (eqb_tells y b) [ inl s ↦ absurd (d s.1) | inr f ↦ rw f.0 (and_false (nat_eq x a)) ]
 
 -- one more number behind a list
-lists_pushed : (p q : ℕ → Bool) (xs : List ℕ) (b : ℕ) → Lists p xs → p b ≡ false → q b ≡ true → ((m : ℕ) → m ≢ b → q m ≡ p m) → Lists q (xs ++ b ∷ [])
+pub lists_pushed : (p q : ℕ → Bool) (xs : List ℕ) (b : ℕ) → Lists p xs → p b ≡ false → q b ≡ true → ((m : ℕ) → m ≢ b → q m ≡ p m) → Lists q (xs ++ b ∷ [])
 lists_pushed p q xs b l out here other = record {
   once = IsDistinct-push nat_eq_equiv xs b l.once (l.members b ∙ out);
   members = λ m. list_any-append (nat_eq m) xs (b ∷ []) ∙ elim (eqb_tells m b) [

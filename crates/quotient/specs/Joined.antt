@@ -68,5 +68,5 @@ AreLive p t = (a b : ℕ) → 0 < support_at t a b → IsSome (at p.labels a) ×
 pub record IsSoundQuotient (p : Partition) (t : SupportTable) (children parents : List (List ℕ)) : Type 0 where
   pub near : AreNear t children parents
   pub live : AreLive p t
-  pub length_children : length children ≡ length p.labels
-  pub length_parents : length parents ≡ length p.labels
+  pub length_children : length p.labels ≤ length children
+  pub length_parents : length children ≤ length parents

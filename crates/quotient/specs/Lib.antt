@@ -1,3 +1,4 @@
 pub mod Quotients
 pub mod Laws
 pub mod Joined
+pub mod Kept

@@ -1,28 +1,43 @@
 -- The quotient of a graph by a partition of its nodes: how many edges lead from one block to another. It is the index graph
 -- of the partition (T. Milo and D. Suciu, ICDT 1999; support counts: K. Yi, H. He, I. Stanoi and J. Yang, SIGMOD 2004).
-use Rattle.std.specs.Prelude.{ℕ, ◌≡◌, ◌&&◌, Bool, List, Option, is_some, nat_lt, refl}
+use Rattle.std.specs.Prelude.{ℕ, ◌≡◌, ◌&&◌, Bool, List, [], Option, None, Some, is_some, cond, slice_set, nat_eq, nat_lt, refl}
 use Rattle.std.specs.Coded.{Coded, code_by, coded×, coded_ℕ, coded_list, coded_option}
 use Rattle.std.specs.FinMap as table
 use Rattle.px_spec.specs.Graphs.{Edges, edge_cmp}
 use Rattle.px_spec.specs.Members.{at}
-use Rattle.block_partition.specs.Partitions.{Partition}
+use Rattle.block_partition.specs.Partitions.{Partition, put}
 use Rattle.bisim_spec.specs.Supports.{edges_between}
 use Rattle.bisim_spec.specs.Views.{View, SupportTable, support_at}
+
+-- what there is room for
+pub record PairRoom : Type 0 where
+  -- blocks with numbers below this one
+  pub span : ℕ
+  -- that many more pairs with support
+  pub pairs : ℕ
+  -- for each block number in turn, that many more children, and that many more parents
+  pub children : List ℕ
+  pub parents : List ℕ
 
 pub record Quotient : Type 0 where
   pub blocks : Partition
   pub supports : SupportTable
+  pub room : PairRoom
+
+abbrev pub no_pair_room : PairRoom
+no_pair_room = record { span = 0; pairs = 0; children = []; parents = [] }
 
 -- a quotient is stored as its parts
 abbrev pub quotient_code : Coded Quotient
 quotient_code =
-    code_by ((List (Option ℕ) × (List (Option ℕ) × (ℕ × ℕ))) × SupportTable)
+    code_by ((List (Option ℕ) × (List (Option ℕ) × (ℕ × ℕ))) × (SupportTable × ((ℕ × ℕ) × (List ℕ × List ℕ))))
     (coded× (coded× (coded_list (coded_option coded_ℕ)) (coded× (coded_list (coded_option coded_ℕ)) (coded× coded_ℕ coded_ℕ)))
-    (table.code {R = edge_cmp} (coded× coded_ℕ coded_ℕ) coded_ℕ))
-    (λ q. ((q.blocks.block_of, (q.blocks.labels, (q.blocks.room.nodes, q.blocks.room.blocks))), q.supports))
+    (coded× (table.code {R = edge_cmp} (coded× coded_ℕ coded_ℕ) coded_ℕ) (coded× (coded× coded_ℕ coded_ℕ) (coded× (coded_list coded_ℕ) (coded_list coded_ℕ)))))
+    (λ q. ((q.blocks.block_of, (q.blocks.labels, (q.blocks.room.nodes, q.blocks.room.blocks))), (q.supports, ((q.room.span, q.room.pairs), (q.room.children, q.room.parents)))))
     (λ p. record {
       blocks = record { block_of = p.0.0; labels = p.0.1.0; room = record { nodes = p.0.1.1.0; blocks = p.0.1.1.1 } };
-      supports = p.1;
+      supports = p.1.0;
+      room = record { span = p.1.1.0.0; pairs = p.1.1.0.1; children = p.1.1.1.0; parents = p.1.1.1.1 };
     })
     (λ _. refl)
 
@@ -41,3 +56,12 @@ pair_count supports = table.len (table.retain_keys supports (λ p. nat_lt 0 (sup
 -- whether an edge of the index graph leads from a to b: both are blocks, and they have support
 abbrev pub is_joined : Quotient → ℕ → ℕ → Bool
 is_joined q a b = nat_lt 0 (support_at q.supports a b) && (is_some (at q.blocks.labels a) && is_some (at q.blocks.labels b))
+
+-- the supports, with this one for the pair; a pair without support isn't in the table
+abbrev pub with_support : SupportTable → ℕ × ℕ → ℕ → SupportTable
+with_support t p n = cond (nat_eq n 0) (table.remove t p) (table.insert t p n)
+
+-- the blocks of nodes, with a node in this block or in none. Only a node that is put into a block lets the list grow
+abbrev pub with_put : List (Option ℕ) → ℕ → Option ℕ → List (Option ℕ)
+with_put block n None = slice_set block n None
+with_put block n (Some b) = put block n b

@@ -52,14 +52,14 @@ fn gather_edge(
 
 // Counts the pairs of blocks.
 fn count_pairs(joins: &mut Joins, hand: &mut Vec<usize>, pairs: &[(u32, u32)]) -> Result<(), Memory>
-    requires few { (x y : ℕ) → support_at joins.old.supports x y + pairs_with pairs.now x y ≤ 2 ^ 30 }
-    requires below { AreBelow (length joins.old.children) pairs.now }
-    requires near { AreNear joins.old.supports joins.old.children joins.old.parents }
-    requires lengths { length joins.old.parents ≡ length joins.old.children }
-    ensures supports { OnOk result ((x y : ℕ) → support_at joins.new.supports x y ≡ support_at joins.old.supports x y + pairs_with pairs.now x y) }
-    ensures near { OnOk result (AreNear joins.new.supports joins.new.children joins.new.parents) }
-    ensures children { OnOk result (length joins.new.children ≡ length joins.old.children) }
-    ensures parents { OnOk result (length joins.new.parents ≡ length joins.old.parents) }
+    requires few { (x y : ℕ) → support_at joins.old.supports.pairs x y + pairs_with pairs.now x y ≤ 2 ^ 30 }
+    requires below { AreBelow (length joins.old.children.lists) pairs.now }
+    requires near { AreNear joins.old.supports.pairs joins.old.children.lists joins.old.parents.lists }
+    requires lengths { length joins.old.parents.lists ≡ length joins.old.children.lists }
+    ensures supports { OnOk result ((x y : ℕ) → support_at joins.new.supports.pairs x y ≡ support_at joins.old.supports.pairs x y + pairs_with pairs.now x y) }
+    ensures near { OnOk result (AreNear joins.new.supports.pairs joins.new.children.lists joins.new.parents.lists) }
+    ensures children { OnOk result (length joins.new.children.lists ≡ length joins.old.children.lists) }
+    ensures parents { OnOk result (length joins.new.parents.lists ≡ length joins.old.parents.lists) }
 {
     for (a, b) in pairs {
         joins.count(hand, *a, *b)?;
@@ -74,15 +74,15 @@ fn count_batch(
     hand: &mut Vec<usize>,
     pairs: &mut Vec<(u32, u32)>,
 ) -> Result<(), Memory>
-    requires few { (x y : ℕ) → support_at joins.old.supports x y + pairs_with pairs.old.items x y ≤ 2 ^ 30 }
-    requires below { AreBelow (length joins.old.children) pairs.old.items }
-    requires near { AreNear joins.old.supports joins.old.children joins.old.parents }
-    requires lengths { length joins.old.parents ≡ length joins.old.children }
-    ensures supports { OnOk result ((x y : ℕ) → support_at joins.new.supports x y + pairs_with pairs.new.items x y ≡ support_at joins.old.supports x y + pairs_with pairs.old.items x y) }
-    ensures below { OnOk result (AreBelow (length joins.new.children) pairs.new.items) }
-    ensures near { OnOk result (AreNear joins.new.supports joins.new.children joins.new.parents) }
-    ensures children { OnOk result (length joins.new.children ≡ length joins.old.children) }
-    ensures parents { OnOk result (length joins.new.parents ≡ length joins.old.parents) }
+    requires few { (x y : ℕ) → support_at joins.old.supports.pairs x y + pairs_with pairs.old.items x y ≤ 2 ^ 30 }
+    requires below { AreBelow (length joins.old.children.lists) pairs.old.items }
+    requires near { AreNear joins.old.supports.pairs joins.old.children.lists joins.old.parents.lists }
+    requires lengths { length joins.old.parents.lists ≡ length joins.old.children.lists }
+    ensures supports { OnOk result ((x y : ℕ) → support_at joins.new.supports.pairs x y + pairs_with pairs.new.items x y ≡ support_at joins.old.supports.pairs x y + pairs_with pairs.old.items x y) }
+    ensures below { OnOk result (AreBelow (length joins.new.children.lists) pairs.new.items) }
+    ensures near { OnOk result (AreNear joins.new.supports.pairs joins.new.children.lists joins.new.parents.lists) }
+    ensures children { OnOk result (length joins.new.children.lists ≡ length joins.old.children.lists) }
+    ensures parents { OnOk result (length joins.new.parents.lists ≡ length joins.old.parents.lists) }
 {
     if pairs.len() < BATCH {
         return Ok(());
@@ -100,11 +100,11 @@ pub(crate) fn count_edges(
     edges: &[(NodeId, NodeId)],
 ) -> Result<Joins, Memory>
     requires few { AreFew edges.now }
-    ensures supports { IfOk result (λ j. (a b : ℕ) → support_at j.supports a b ≡ support edges.now blocks.now.block_of a b) }
-    ensures live { IfOk result (λ j. AreLive blocks.now j.supports) }
-    ensures near { IfOk result (λ j. AreNear j.supports j.children j.parents) }
-    ensures children { IfOk result (λ j. length j.children ≡ length blocks.now.labels) }
-    ensures parents { IfOk result (λ j. length j.parents ≡ length blocks.now.labels) }
+    ensures supports { IfOk result (λ j. (a b : ℕ) → support_at j.supports.pairs a b ≡ support edges.now blocks.now.block_of a b) }
+    ensures live { IfOk result (λ j. AreLive blocks.now j.supports.pairs) }
+    ensures near { IfOk result (λ j. AreNear j.supports.pairs j.children.lists j.parents.lists) }
+    ensures children { IfOk result (λ j. length j.children.lists ≡ length blocks.now.labels) }
+    ensures parents { IfOk result (λ j. length j.parents.lists ≡ length blocks.now.labels) }
 {
     let mut joins = Joins::new(alloc, blocks.span() as usize)?;
     let mut hand = empty_hand(alloc)?;

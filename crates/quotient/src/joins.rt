@@ -1,8 +1,9 @@
 // Edges between blocks: how many there are, and which blocks they join.
-ghost use Rattle.std.specs.Prelude.{◌≡◌, ◌+◌, ◌-◌, ◌<◌, ◌^◌, ◌&&◌, ℕ, IfOk, OnOk, nat_eq, length};
+ghost use Rattle.std.specs.Prelude.{◌≡◌, ◌+◌, ◌-◌, ◌<◌, ◌≤◌, ◌^◌, ◌&&◌, ℕ, IfOk, OnOk, nat_eq, length, slice_index};
 ghost use Rattle.std.specs.FinMap as table;
 ghost use Rattle.bisim_spec.specs.Views.{support_at};
-ghost use Rattle.quotient.specs.Joined.{AreNear, one_if};
+ghost use Rattle.quotient.specs.Joined.{AreNear, list_at, one_if};
+ghost use Rattle.quotient.specs.Kept.{IsWritten};
 
 use crate::neighbours::Neighbours;
 use crate::supports::Supports;
@@ -20,10 +21,10 @@ pub(crate) struct Joins {
 impl Joins {
     /// No edges, between that many blocks.
     pub(crate) fn new(alloc: Global, blocks: usize) -> Result<Joins, Memory>
-        ensures supports { IfOk result (λ j. j.supports ≡ table.empty) }
-        ensures near { IfOk result (λ j. AreNear j.supports j.children j.parents) }
-        ensures children { IfOk result (λ j. length j.children ≡ blocks) }
-        ensures parents { IfOk result (λ j. length j.parents ≡ blocks) }
+        ensures supports { IfOk result (λ j. j.supports.pairs ≡ table.empty) }
+        ensures near { IfOk result (λ j. AreNear j.supports.pairs j.children.lists j.parents.lists) }
+        ensures children { IfOk result (λ j. length j.children.lists ≡ blocks) }
+        ensures parents { IfOk result (λ j. length j.parents.lists ≡ blocks) }
     {
         Ok(Joins {
             supports: Supports::new(alloc),
@@ -35,19 +36,86 @@ impl Joins {
     /// Counts an edge from one block to another, with pairs at hand.
     #[inline(always)]
     pub(crate) fn count(&mut self, hand: &mut Vec<usize>, a: u32, b: u32) -> Result<(), Memory>
-        requires from { a < length self.old.children }
-        requires onto { b < length self.old.parents }
-        requires few { support_at self.old.supports a b < 2 ^ 32 - 1 }
-        requires near { AreNear self.old.supports self.old.children self.old.parents }
-        ensures supports { OnOk result ((x y : ℕ) → support_at self.new.supports x y ≡ support_at self.old.supports x y + one_if (nat_eq x a && nat_eq y b)) }
-        ensures near { OnOk result (AreNear self.new.supports self.new.children self.new.parents) }
-        ensures children { OnOk result (length self.new.children ≡ length self.old.children) }
-        ensures parents { OnOk result (length self.new.parents ≡ length self.old.parents) }
+        requires from { a < length self.old.children.lists }
+        requires onto { b < length self.old.parents.lists }
+        requires few { support_at self.old.supports.pairs a b < 2 ^ 32 - 1 }
+        requires near { AreNear self.old.supports.pairs self.old.children.lists self.old.parents.lists }
+        ensures supports { OnOk result ((x y : ℕ) → support_at self.new.supports.pairs x y ≡ support_at self.old.supports.pairs x y + one_if (nat_eq x a && nat_eq y b)) }
+        ensures near { OnOk result (AreNear self.new.supports.pairs self.new.children.lists self.new.parents.lists) }
+        ensures children { OnOk result (length self.new.children.lists ≡ length self.old.children.lists) }
+        ensures parents { OnOk result (length self.new.parents.lists ≡ length self.old.parents.lists) }
     {
         if self.supports.raise(hand, a, b)? {
             self.children.push(a, b)?;
             self.parents.push(b, a)?;
         }
         Ok(())
+    }
+
+    /// Lets there be lists for that many block numbers at least.
+    pub(crate) fn grow(&mut self, blocks: usize) -> Result<(), Memory>
+        requires lengths { length self.old.children.lists ≤ length self.old.parents.lists }
+        ensures supports { self.new.supports ≡ self.old.supports }
+        ensures children { (m : ℕ) → list_at self.new.children.lists m ≡ list_at self.old.children.lists m }
+        ensures parents { (m : ℕ) → list_at self.new.parents.lists m ≡ list_at self.old.parents.lists m }
+        ensures more_children { length self.old.children.lists ≤ length self.new.children.lists }
+        ensures lengths { length self.new.children.lists ≤ length self.new.parents.lists }
+        ensures ok { OnOk result (blocks ≤ length self.new.children.lists) }
+    {
+        self.parents.grow(blocks)?;
+        self.children.grow(blocks)?;
+        Ok(())
+    }
+
+    /// Writes the support of a pair of blocks, for which there is room. It takes no memory; where the pair loses
+    /// its support it looks through the neighbours of both blocks.
+    pub(crate) fn set(&mut self, a: u32, b: u32, n: u32)
+        requires from { a < length self.old.children.lists }
+        requires onto { b < length self.old.parents.lists }
+        requires pairs { 0 < self.old.supports.room }
+        requires children { 0 < slice_index self.old.children.room a }
+        requires parents { 0 < slice_index self.old.parents.room b }
+        requires near { AreNear self.old.supports.pairs self.old.children.lists self.old.parents.lists }
+        ensures { IsWritten a b n self.old.supports self.new.supports self.old.children self.new.children self.old.parents self.new.parents }
+    {
+        if self.supports.get(a, b) == 0 {
+            self.set_first(a, b, n);
+        } else {
+            self.set_more(a, b, n);
+        }
+    }
+
+    // Writes the support of a pair that has none.
+    fn set_first(&mut self, a: u32, b: u32, n: u32)
+        requires from { a < length self.old.children.lists }
+        requires onto { b < length self.old.parents.lists }
+        requires pairs { 0 < self.old.supports.room }
+        requires children { 0 < slice_index self.old.children.room a }
+        requires parents { 0 < slice_index self.old.parents.room b }
+        requires near { AreNear self.old.supports.pairs self.old.children.lists self.old.parents.lists }
+        requires none { support_at self.old.supports.pairs a b ≡ 0 }
+        ensures { IsWritten a b n self.old.supports self.new.supports self.old.children self.new.children self.old.parents self.new.parents }
+    {
+        self.supports.set(a, b, n);
+        if n > 0 {
+            self.children.add(a, b);
+            self.parents.add(b, a);
+        }
+    }
+
+    // Writes the support of a pair that has some.
+    fn set_more(&mut self, a: u32, b: u32, n: u32)
+        requires from { a < length self.old.children.lists }
+        requires onto { b < length self.old.parents.lists }
+        requires pairs { 0 < self.old.supports.room }
+        requires near { AreNear self.old.supports.pairs self.old.children.lists self.old.parents.lists }
+        requires some { 0 < support_at self.old.supports.pairs a b }
+        ensures { IsWritten a b n self.old.supports self.new.supports self.old.children self.new.children self.old.parents self.new.parents }
+    {
+        self.supports.set(a, b, n);
+        if n == 0 {
+            self.children.remove(a, b);
+            self.parents.remove(b, a);
+        }
     }
 }

@@ -3,6 +3,7 @@
 
 mod counting;
 mod edges;
+mod editing;
 mod joins;
 mod neighbours;
 mod summary;

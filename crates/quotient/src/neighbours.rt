@@ -1,7 +1,10 @@
 // Lists of neighbours.
-ghost use Rattle.std.specs.Prelude.{◌≡◌, ◌++◌, ◌∷◌, ◌<◌, [], IfOk, OnOk, length, slice_set};
+ghost use Rattle.std.specs.Prelude.{◌≡◌, ◌++◌, ◌∷◌, ◌<◌, ◌≤◌, [], ℕ, false, Some, IsTrue, IfOk, OnOk, OnErr, IfSome, IfNone, length, max, slice_set, slice_index, slice_get, nat_eq, position};
 ghost use Rattle.std.proofs.Math.ListN.{replicate};
+ghost use Rattle.std.specs.List.Sorted.{IsPermutation};
+ghost use Rattle.px_spec.specs.Members.{has};
 ghost use Rattle.quotient.specs.Joined.{list_at};
+ghost use Rattle.quotient.specs.Kept.{UsesOne, GivesMore};
 
 use px_base::Memory;
 use smallvec::SmallVec;
@@ -15,17 +18,19 @@ pub(crate) struct Neighbours {
 }
 
 impl Model for Neighbours {
-    ghost use Rattle.std.specs.Prelude.{ℕ, List, map};
+    ghost use Rattle.std.specs.Prelude.{◌-◌, map};
+    ghost use Rattle.smallvec.specs.SmallVec.{small_vec_len};
+    ghost use Rattle.quotient.specs.Kept.{KeptLists};
 
-    ghost Value = { List (List ℕ) };
+    ghost Value = { KeptLists };
 
-    ghost view = { λ n. map (λ list. list.items) n.lists.items };
+    ghost view = { λ n. record { lists = map (λ list. list.items) n.lists.items; room = map (λ list. list.capacity - small_vec_len list) n.lists.items } };
 }
 
 impl Neighbours {
     /// That many empty lists.
     pub(crate) fn new(alloc: Global, len: usize) -> Result<Neighbours, Memory>
-        ensures { IfOk result (λ n. n ≡ replicate len []) }
+        ensures { IfOk result (λ n. n.lists ≡ replicate len []) }
     {
         let mut lists = Vec::with_capacity(alloc, len)?;
         for _ in 0..len {
@@ -36,18 +41,91 @@ impl Neighbours {
 
     /// The list with this number.
     pub(crate) fn get(&self, n: u32) -> &[u32]
-        requires { n < length self.now }
-        ensures { result.now ≡ list_at self.now n }
+        requires { n < length self.now.lists }
+        ensures { result.now ≡ list_at self.now.lists n }
     {
         self.lists[n as usize].as_slice()
     }
 
     /// Puts a neighbour behind the list with this number.
     pub(crate) fn push(&mut self, n: u32, b: u32) -> Result<(), Memory>
-        requires { n < length self.old }
-        ensures { OnOk result (self.new ≡ slice_set self.old n (list_at self.old n ++ b ∷ [])) }
+        requires { n < length self.old.lists }
+        ensures { OnOk result (self.new.lists ≡ slice_set self.old.lists n (list_at self.old.lists n ++ b ∷ [])) }
     {
         self.lists[n as usize].push(b)?;
         Ok(())
     }
+
+    /// Lets the lists be that many at least, with empty ones.
+    pub(crate) fn grow(&mut self, len: usize) -> Result<(), Memory>
+        ensures lists { (m : ℕ) → list_at self.new.lists m ≡ list_at self.old.lists m }
+        ensures len { length self.old.lists ≤ length self.new.lists }
+        ensures most { length self.new.lists ≤ max len (length self.old.lists) }
+        ensures ok { OnOk result (len ≤ length self.new.lists) }
+        ensures room { GivesMore self.old.room self.new.room }
+    {
+        while self.lists.len() < len {
+            self.push_empty()?;
+        }
+        Ok(())
+    }
+
+    fn push_empty(&mut self) -> Result<(), Memory>
+        ensures lists { OnOk result (self.new.lists ≡ self.old.lists ++ [] ∷ []) }
+        ensures room { OnOk result (GivesMore self.old.room self.new.room) }
+        ensures err { OnErr result (self.new ≡ self.old) }
+    {
+        let list = SmallVec::new(*self.lists.allocator());
+        self.lists.push(list)?;
+        Ok(())
+    }
+
+    /// Makes room for that many further neighbours in the list with this number.
+    pub(crate) fn reserve(&mut self, n: u32, more: usize) -> Result<(), Memory>
+        requires { n < length self.old.lists }
+        ensures lists { self.new.lists ≡ self.old.lists }
+        ensures room { GivesMore self.old.room self.new.room }
+        ensures ok { OnOk result (more ≤ slice_index self.new.room n) }
+    {
+        self.lists[n as usize].reserve(more)?;
+        Ok(())
+    }
+
+    /// Puts a neighbour behind the list with this number, by the room of one. It takes no memory.
+    pub(crate) fn add(&mut self, n: u32, b: u32)
+        requires within { n < length self.old.lists }
+        requires room { 0 < slice_index self.old.room n }
+        ensures lists { self.new.lists ≡ slice_set self.old.lists n (list_at self.old.lists n ++ b ∷ []) }
+        ensures room { UsesOne n self.old.room self.new.room }
+    {
+        self.lists[n as usize].push_reserved(b);
+    }
+
+    /// Takes a neighbour out of the list with this number. It looks through the list, and takes no memory.
+    pub(crate) fn remove(&mut self, n: u32, b: u32)
+        requires within { n < length self.old.lists }
+        requires member { IsTrue (has (list_at self.old.lists n) b) }
+        ensures lists { self.new.lists ≡ slice_set self.old.lists n (list_at self.new.lists n) }
+        ensures taken { IsPermutation (list_at self.old.lists n) (b ∷ list_at self.new.lists n) }
+        ensures room { UsesOne n self.old.room self.new.room }
+    {
+        let Some(i) = find_in(self.get(n), b) else {
+            unreachable!()
+        };
+        self.lists[n as usize].swap_remove(i);
+    }
+}
+
+// Where a number stands in a list, if it does.
+fn find_in(list: &[u32], b: u32) -> Option<usize>
+    ensures at { IfSome result (λ i. slice_get list.now i ≡ Some b) }
+    ensures none { IfNone result (has list.now b ≡ false) }
+{
+    place_in(list, b)
+}
+
+fn place_in(list: &[u32], b: u32) -> Option<usize>
+    ensures { result ≡ position (nat_eq b) list.now }
+{
+    list.iter().position(|x| b == *x)
 }

@@ -2,7 +2,7 @@
 ghost use Rattle.std.specs.Prelude.{◌≡◌, ◌<◌, ◌≤◌, ◌^◌, ℕ, List, is_some, IsSome, IfOk, IfSome, length};
 ghost use Rattle.px_spec.specs.Members.{Lists, at};
 ghost use Rattle.px_spec.specs.Shapes.{shape_by};
-ghost use Rattle.block_partition.specs.Partitions.{is_member, block_count};
+ghost use Rattle.block_partition.specs.Partitions.{is_member, member_count, block_count};
 ghost use Rattle.bisim_spec.specs.Supports.{support};
 ghost use Rattle.bisim_spec.specs.Views.{support_at, shape_of_view};
 ghost use Rattle.quotient.specs.Quotients.{AreSupports, pair_count, is_joined, view_of};
@@ -22,8 +22,8 @@ use std::marker::Model;
 /// partition.
 #[derive(Drop)]
 pub struct Summary {
-    blocks: Blocks,
-    joins: Joins,
+    pub(crate) blocks: Blocks,
+    pub(crate) joins: Joins,
 }
 
 impl Model for Summary {
@@ -34,10 +34,11 @@ impl Model for Summary {
     ghost coded = { quotient_code };
 
     ghost use Rattle.quotient.specs.Joined.{IsSoundQuotient};
+    ghost use Rattle.std.specs.Prelude.{length};
 
-    ghost view = { λ s. record { blocks = s.blocks; supports = s.joins.supports } };
+    ghost view = { λ s. record { blocks = s.blocks; supports = s.joins.supports.pairs; room = record { span = length s.joins.children.lists; pairs = s.joins.supports.room; children = s.joins.children.room; parents = s.joins.parents.room } } };
 
-    ghost invariant = { λ s. IsSoundQuotient s.blocks s.joins.supports s.joins.children s.joins.parents };
+    ghost invariant = { λ s. IsSoundQuotient s.blocks s.joins.supports.pairs s.joins.children.lists s.joins.parents.lists };
 }
 
 impl Summary {
@@ -77,6 +78,14 @@ impl Summary {
         ensures { Lists (is_member self.now.blocks b) result }
     {
         self.blocks.members(b)
+    }
+
+    /// How many members a block has. O(1).
+    pub fn member_count(&self, b: u32) -> u32
+        requires block { IsSome (at self.now.blocks.labels b) }
+        ensures { result ≡ member_count self.now.blocks b }
+    {
+        self.blocks.member_count(b)
     }
 
     /// How many edges lead from a member of `a` to a member of `b`; none where one of them is no block.

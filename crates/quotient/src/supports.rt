@@ -1,9 +1,9 @@
 // How many edges lead from one block to another.
-ghost use Rattle.std.specs.Prelude.{◌≡◌, ◌+◌, ◌-◌, ◌<◌, ◌^◌, ◌&&◌, ℕ, false, Some, None, IsTrue, IsFalse, IfOk, OnOk, IfSome, IfNone, nat_eq, slice_get};
+ghost use Rattle.std.specs.Prelude.{◌≡◌, ◌+◌, ◌-◌, ◌<◌, ◌≤◌, ◌^◌, ◌&&◌, ℕ, false, Some, None, IsTrue, IsFalse, IfOk, OnOk, IfSome, IfNone, nat_eq, slice_get};
 ghost use Rattle.std.specs.FinMap as map;
 ghost use Rattle.indexmap.specs.IndexMap.{get};
 ghost use Rattle.bisim_spec.specs.Views.{support_at};
-ghost use Rattle.quotient.specs.Quotients.{pair_count};
+ghost use Rattle.quotient.specs.Quotients.{pair_count, with_support};
 ghost use Rattle.quotient.specs.Joined.{with_one_more};
 
 use indexmap::IndexMap;
@@ -18,24 +18,23 @@ pub(crate) struct Supports {
 }
 
 impl Model for Supports {
-    ghost use Rattle.std.specs.Coded.{coded_ℕ, coded×};
     ghost use Rattle.std.specs.FinMap as map;
-    ghost use Rattle.px_spec.specs.Graphs.{edge_cmp};
-    ghost use Rattle.bisim_spec.specs.Views.{SupportTable};
+    ghost use Rattle.indexmap.specs.IndexMap.{spare};
+    ghost use Rattle.quotient.specs.Kept.{KeptPairs, pairs_code};
     ghost use Rattle.quotient.specs.Joined.{IsPositive};
 
-    ghost Value = { SupportTable };
+    ghost Value = { KeptPairs };
 
-    ghost coded = { map.code {R = edge_cmp} (coded× coded_ℕ coded_ℕ) coded_ℕ };
+    ghost coded = { pairs_code };
 
-    ghost view = { λ s. map.from_entries s.table.entries };
+    ghost view = { λ s. record { pairs = map.from_entries s.table.entries; room = spare s.table } };
 
     ghost invariant = { λ s. IsPositive (map.from_entries s.table.entries) };
 }
 
 impl Supports {
     pub(crate) fn new(alloc: Global) -> Supports
-        ensures { result ≡ map.empty }
+        ensures { result.pairs ≡ map.empty }
     {
         Supports {
             table: IndexMap::new(alloc),
@@ -44,7 +43,7 @@ impl Supports {
 
     /// The support of a pair, found by hash.
     pub(crate) fn get(&self, a: u32, b: u32) -> u32
-        ensures { result ≡ support_at self.now a b }
+        ensures { result ≡ support_at self.now.pairs a b }
     {
         match self.table.get(&(a, b)) {
             Some(n) => *n,
@@ -54,18 +53,61 @@ impl Supports {
 
     /// How many pairs have edges.
     pub(crate) fn pairs(&self) -> usize
-        ensures { result ≡ pair_count self.now }
+        ensures { result ≡ pair_count self.now.pairs }
     {
         self.table.len()
+    }
+
+    /// Makes room for that many further pairs.
+    pub(crate) fn reserve(&mut self, more: usize) -> Result<(), Memory>
+        ensures pairs { self.new.pairs ≡ self.old.pairs }
+        ensures room { OnOk result (more ≤ self.new.room) }
+    {
+        self.table.reserve(more)?;
+        Ok(())
+    }
+
+    /// Writes the support of a pair, for which there is room. It takes no memory.
+    pub(crate) fn set(&mut self, a: u32, b: u32, n: u32)
+        requires room { 0 < self.old.room }
+        ensures pairs { self.new.pairs ≡ with_support self.old.pairs (a, b) n }
+        ensures room { self.old.room ≤ self.new.room + 1 }
+    {
+        if n == 0 {
+            self.remove(a, b);
+        } else {
+            self.write(a, b, n);
+        }
+    }
+
+    // Takes a pair out, where it is in.
+    fn remove(&mut self, a: u32, b: u32)
+        ensures pairs { self.new.pairs ≡ map.remove self.old.pairs (a, b) }
+        ensures room { self.old.room ≤ self.new.room }
+    {
+        self.table.swap_remove(&(a, b));
+    }
+
+    // Writes the support of a pair, which isn't 0.
+    fn write(&mut self, a: u32, b: u32, n: u32)
+        requires some { 0 < n }
+        requires room { 0 < self.old.room }
+        ensures pairs { self.new.pairs ≡ map.insert self.old.pairs (a, b) n }
+        ensures room { self.old.room ≤ self.new.room + 1 }
+    {
+        match self.table.insert((a, b), n) {
+            Ok(_) => {}
+            Err(_) => unreachable!(),
+        }
     }
 
     /// Counts one more edge, and answers whether it is the first of its pair. Where the pair stands is
     /// taken from those at hand, if it is one of them.
     #[inline(always)]
     pub(crate) fn raise(&mut self, hand: &mut Vec<usize>, a: u32, b: u32) -> Result<bool, Memory>
-        requires few { support_at self.old a b < 2 ^ 32 - 1 }
-        ensures raised { OnOk result (self.new ≡ with_one_more self.old a b) }
-        ensures first { IfOk result (λ first. first ≡ nat_eq (support_at self.old a b) 0) }
+        requires few { support_at self.old.pairs a b < 2 ^ 32 - 1 }
+        ensures raised { OnOk result (self.new.pairs ≡ with_one_more self.old.pairs a b) }
+        ensures first { IfOk result (λ first. first ≡ nat_eq (support_at self.old.pairs a b) 0) }
     {
         let place = place_of(a, b);
         if !self.raise_at(read_hand(hand, place), a, b) {
@@ -77,9 +119,9 @@ impl Supports {
     // Counts one more edge, if the pair stands at this index.
     #[inline(always)]
     fn raise_at(&mut self, i: usize, a: u32, b: u32) -> bool
-        requires few { support_at self.old a b < 2 ^ 32 - 1 }
-        ensures raised { IsTrue result → self.new ≡ with_one_more self.old a b }
-        ensures some { IsTrue result → false ≡ nat_eq (support_at self.old a b) 0 }
+        requires few { support_at self.old.pairs a b < 2 ^ 32 - 1 }
+        ensures raised { IsTrue result → self.new.pairs ≡ with_one_more self.old.pairs a b }
+        ensures some { IsTrue result → false ≡ nat_eq (support_at self.old.pairs a b) 0 }
         ensures left { IsFalse result → self.new ≡ self.old }
     {
         if !is_at(&self.table, i, a, b) {
@@ -101,9 +143,9 @@ impl Supports {
         a: u32,
         b: u32,
     ) -> Result<bool, Memory>
-        requires few { support_at self.old a b < 2 ^ 32 - 1 }
-        ensures raised { OnOk result (self.new ≡ with_one_more self.old a b) }
-        ensures first { IfOk result (λ first. first ≡ nat_eq (support_at self.old a b) 0) }
+        requires few { support_at self.old.pairs a b < 2 ^ 32 - 1 }
+        ensures raised { OnOk result (self.new.pairs ≡ with_one_more self.old.pairs a b) }
+        ensures first { IfOk result (λ first. first ≡ nat_eq (support_at self.old.pairs a b) 0) }
     {
         if let Some(i) = index_of(&self.table, a, b) {
             write_hand(hand, place, i);

@@ -3,3 +3,7 @@ mod Scanned
 mod Written
 mod Over
 mod Examples
+mod Making
+mod Counting
+mod Gone
+mod Settled

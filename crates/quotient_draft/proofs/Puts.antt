@@ -6,7 +6,7 @@ use Rattle.std.proofs.lemmas.Bool.Decides.{eqb_tells}
 use Rattle.std.proofs.lemmas.List.{get_or-set_same, get_or-set_other, get_or_past, set_past}
 use Rattle.px_spec.specs.Members.{at}
 use Rattle.block_partition.specs.Partitions.{put}
-use Rattle.quotient_draft.specs.Drafts.{with_put}
+use Rattle.quotient.specs.Quotients.{with_put}
 
 put_here : (xs : List (Option ℕ)) (n v : ℕ) → at (put xs n v) n ≡ Some v
 put_here [] zero v = refl

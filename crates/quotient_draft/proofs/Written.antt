@@ -11,7 +11,8 @@ use Rattle.px_spec.specs.Graphs.{edge_cmp}
 use Rattle.px_spec.proofs.EdgeOrder.{edge_cmp_total, eq_pair}
 use Rattle.px_spec.specs.Members.{at}
 use Rattle.bisim_spec.specs.Views.{SupportTable, support_at}
-use Rattle.quotient_draft.specs.Drafts.{with_put, with_moves, with_support, with_supports, is_pair}
+use Rattle.quotient_draft.specs.Drafts.{with_moves, with_supports, is_pair}
+use Rattle.quotient.specs.Quotients.{with_put, with_support}
 use Rattle.quotient_draft.proofs.Puts.{at_with_put}
 
 pub test_is : (b : Bool) → (b ≡ true) ⊎ (b ≡ false)
@@ -27,7 +28,7 @@ absent_key same k (e ∷ es) h = rw h.0 (absent_key same k es h.1)
 number_is : (m n : ℕ) → nat_eq m n ≡ true → m ≡ n
 number_is m n h = elim (eqb_tells m n) [ inl s ↦ s.1 | inr d ↦ absurd (true≢false (sym h ∙ d.0)) ]
 
-moves_absent : (block : List (Option ℕ)) (es : List (ℕ × Option ℕ)) (n : ℕ) → lookup (nat_eq n) es ≡ None → at (with_moves block es) n ≡ at block n
+pub moves_absent : (block : List (Option ℕ)) (es : List (ℕ × Option ℕ)) (n : ℕ) → lookup (nat_eq n) es ≡ None → at (with_moves block es) n ≡ at block n
 moves_absent block [] n none = refl
 moves_absent block (e ∷ es) n none = elim (test_is (nat_eq n e.0)) [
   | inl s ↦ absurd (let found : lookup (nat_eq n) (e ∷ es) ≡ Some e.1 = rw s refl in let clash : Some e.1 ≡ None = sym found ∙ none in cc)

@@ -1,39 +1,33 @@
 -- What is drafted over an index graph. It shows the partition and the supports that come of writing it into the base.
-use Rattle.std.specs.Prelude.{ℕ, ◌&&◌, Bool, List, [], ◌∷◌, Option, None, Some, cond, nat_eq, slice_set}
-use Rattle.std.specs.FinMap as table
+use Rattle.std.specs.Prelude.{ℕ, ◌+◌, ◌&&◌, Bool, List, [], ◌∷◌, ◌++◌, Option, None, Some, cond, nat_eq}
+use Rattle.std.specs.List.{list_any}
+use Rattle.px_spec.specs.Members.{is_this}
 use Rattle.block_partition.specs.Partitions.{put}
 use Rattle.bisim_spec.specs.Views.{View, SupportTable, support_at}
-use Rattle.quotient.specs.Quotients.{Quotient}
+use Rattle.quotient.specs.Quotients.{Quotient, with_put, with_support}
 
 pub record Drafted : Type 0 where
   -- the number and the label of each further block, in the order in which they were made
   pub added : List (ℕ × ℕ)
   -- nodes, each once, with the block, or none, into which they are put
   pub moves : List (ℕ × Option ℕ)
+  -- the blocks, as shown at the time, from which nodes were taken
+  pub left : List ℕ
   -- pairs of blocks, each once, with their supports
   pub supports : List ((ℕ × ℕ) × ℕ)
 
 abbrev pub no_changes : Drafted
-no_changes = record { added = []; moves = []; supports = [] }
+no_changes = record { added = []; moves = []; left = []; supports = [] }
 
 -- the labels, once these blocks are made
 abbrev pub with_added : List (Option ℕ) → List (ℕ × ℕ) → List (Option ℕ)
 with_added labels [] = labels
 with_added labels (e ∷ es) = with_added (put labels e.0 e.1) es
 
--- the blocks of nodes, with a node in this block or in none. Only a node that is put into a block lets the list grow
-abbrev pub with_put : List (Option ℕ) → ℕ → Option ℕ → List (Option ℕ)
-with_put block n None = slice_set block n None
-with_put block n (Some b) = put block n b
-
 -- the blocks of nodes, once these moves are made
 abbrev pub with_moves : List (Option ℕ) → List (ℕ × Option ℕ) → List (Option ℕ)
 with_moves block [] = block
 with_moves block (e ∷ es) = with_moves (with_put block e.0 e.1) es
-
--- the supports, with this one for the pair; a pair without support isn't in the table
-abbrev pub with_support : SupportTable → ℕ × ℕ → ℕ → SupportTable
-with_support t p n = cond (nat_eq n 0) (table.remove t p) (table.insert t p n)
 
 -- the supports, once these are written
 abbrev pub with_supports : SupportTable → List ((ℕ × ℕ) × ℕ) → SupportTable
@@ -62,3 +56,20 @@ shown_view q d = record { block_of = shown_blocks q d; labels = shown_labels q d
 -- whether two pairs are the same
 abbrev pub is_pair : ℕ × ℕ → ℕ × ℕ → Bool
 is_pair p q = nat_eq p.0 q.0 && nat_eq p.1 q.1
+
+-- a list to which a block is added, if there is one
+abbrev pub with_left : List ℕ → Option ℕ → List ℕ
+with_left left None = left
+with_left left (Some b) = left ++ b ∷ []
+
+abbrev pub has_member : List (Option ℕ) → ℕ → Bool
+has_member block b = list_any (is_this b) block
+
+-- the labels of blocks from this number on, without blocks that have no members
+abbrev pub inhabited_from : List (Option ℕ) → ℕ → List (Option ℕ) → List (Option ℕ)
+inhabited_from block b [] = []
+inhabited_from block b (label ∷ labels) = cond (has_member block b) label None ∷ inhabited_from block (b + 1) labels
+
+-- the index graph once the draft is settled: as it is shown, without blocks that have no members
+abbrev pub settled_view : Quotient → Drafted → View
+settled_view q d = record { block_of = shown_blocks q d; labels = inhabited_from (shown_blocks q d) 0 (shown_labels q d); supports = shown_supports q d }

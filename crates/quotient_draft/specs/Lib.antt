@@ -1,3 +1,6 @@
 pub mod Drafts
 pub mod Basis
 pub mod Scans
+pub mod Rooms
+pub mod Kept
+pub mod Retired

@@ -1,11 +1,15 @@
 // Blocks that are drafted.
-ghost use Rattle.std.specs.Prelude.{◌≡◌, ◌+◌, ◌-◌, ◌<◌, ◌≤◌, ◌^◌, ◌++◌, ◌∷◌, [], ℕ, Some, None, IsSome, is_some, IfOk, OnErr, IfSome, IfNone, length, slice_get, count_by};
+ghost use Rattle.std.specs.Prelude.{◌≡◌, ◌+◌, ◌-◌, ◌<◌, ◌≤◌, ◌^◌, ◌++◌, ◌∷◌, [], ℕ, Some, None, IsSome, is_some, false, IfOk, OnErr, IfSome, IfNone, length, slice_get, count_by};
+ghost use Rattle.std.specs.Map.{keys_of};
 ghost use Rattle.px_spec.specs.Members.{at};
+ghost use Rattle.bisim_spec.specs.Views.{support_at};
 ghost use Rattle.block_partition.specs.Partitions.{IsLeastFree};
-ghost use Rattle.quotient_draft.specs.Drafts.{with_added};
+ghost use Rattle.quotient_draft.specs.Drafts.{with_added, has_member};
+ghost use Rattle.quotient_draft.specs.Retired.{IsRetired};
 ghost use Rattle.quotient_draft.specs.Basis.{AreLeastFree};
 ghost use Rattle.quotient_draft.specs.Scans.{from_after};
 
+use crate::retiring::retire_if_empty;
 use indexmap::IndexMap;
 use label_graph::Digraph;
 use px_base::Memory;
@@ -60,6 +64,46 @@ impl Added {
         Ok(b)
     }
 
+    /// How many blocks there are.
+    pub(crate) fn len(&self) -> usize
+        ensures { result ≡ length self.now }
+    {
+        self.blocks.len()
+    }
+
+    /// Makes the blocks in the base, which has room for them, under the same numbers.
+    pub(crate) fn make_in(&self, base: &mut Summary)
+        requires least { AreLeastFree base.old.blocks.labels self.now }
+        requires room { length self.now ≤ base.old.blocks.room.blocks }
+        requires span { (i : ℕ) (e : ℕ × ℕ) → slice_get self.now i ≡ Some e → e.0 < base.old.room.span }
+        ensures labels { base.new.blocks.labels ≡ with_added base.old.blocks.labels self.now }
+        ensures blocks { base.new.blocks.block_of ≡ base.old.blocks.block_of }
+        ensures nodes { base.new.blocks.room.nodes ≡ base.old.blocks.room.nodes }
+        ensures supports { base.new.supports ≡ base.old.supports }
+        ensures room { base.new.room ≡ base.old.room }
+    {
+        for i in 0..self.blocks.len() {
+            let Some((_, label)) = self.blocks.get_index(i) else {
+                unreachable!()
+            };
+            base.new_block(*label);
+        }
+    }
+
+    /// Takes those of the blocks away that have no members in the base.
+    pub(crate) fn retire_in(&self, base: &mut Summary)
+        requires from { (b c : ℕ) → has_member base.old.blocks.block_of b ≡ false → support_at base.old.supports b c ≡ 0 }
+        requires onto { (b c : ℕ) → has_member base.old.blocks.block_of b ≡ false → support_at base.old.supports c b ≡ 0 }
+        ensures { IsRetired (keys_of self.now) base.old base.new }
+    {
+        for i in 0..self.blocks.len() {
+            let Some((b, _)) = self.blocks.get_index(i) else {
+                unreachable!()
+            };
+            retire_if_empty(base, *b);
+        }
+    }
+
     /// Drops all.
     pub(crate) fn clear(&mut self)
         ensures { self.new ≡ [] }
@@ -67,8 +111,8 @@ impl Added {
         self.blocks.clear();
     }
 
-    // The number behind that of the last block, below which all are blocks as shown.
-    fn from(&self) -> u32
+    /// The number behind that of the last block, below which all are blocks as shown.
+    pub(crate) fn from(&self) -> u32
         requires { from_after 0 self.now ≤ 2 ^ 31 }
         ensures { result ≡ from_after 0 self.now }
     {

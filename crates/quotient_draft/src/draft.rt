@@ -3,7 +3,7 @@ ghost use Rattle.std.specs.Prelude.{◌≡◌, ◌+◌, ◌<◌, ◌^◌, ◌&&�
 ghost use Rattle.px_spec.specs.Members.{at};
 ghost use Rattle.block_partition.specs.Partitions.{IsLeastFree, put};
 ghost use Rattle.quotient.specs.Joined.{one_if};
-ghost use Rattle.quotient_draft.specs.Drafts.{no_changes, shown_labels, shown_blocks, shown_support};
+ghost use Rattle.quotient_draft.specs.Drafts.{no_changes, shown_labels, shown_blocks, shown_support, with_left};
 ghost use Rattle.quotient_draft.specs.Basis.{IsOver};
 
 use crate::added::Added;
@@ -31,7 +31,7 @@ impl Model for Draft {
 
     ghost Value = { Drafted };
 
-    ghost view = { λ d. record { added = d.added; moves = d.moves; supports = d.changed } };
+    ghost view = { λ d. record { added = d.added; moves = d.moves.moves; left = d.moves.left; supports = d.changed } };
 }
 
 // Reading.
@@ -39,7 +39,7 @@ impl Draft {
     /// Nothing is drafted. It takes no memory until something is.
     pub fn new(alloc: Global) -> Result<Draft, Memory>
         ensures empty { IfOk result (λ d. d ≡ no_changes) }
-        ensures over { (labels : List (Option ℕ)) → IfOk result (IsOver labels) }
+        ensures over { (block labels : List (Option ℕ)) → IfOk result (IsOver block labels) }
     {
         Ok(Draft {
             added: Added::new(alloc),
@@ -50,7 +50,7 @@ impl Draft {
 
     /// The block of a node as shown, and none where it has none.
     pub fn block_of(&self, base: &Summary, n: NodeId) -> Option<u32>
-        requires over { IsOver base.now.blocks.labels self.now }
+        requires over { IsOver base.now.blocks.block_of base.now.blocks.labels self.now }
         ensures block { result ≡ at (shown_blocks base.now self.now) n }
         ensures live { IfSome result (λ b. IsSome (at (shown_labels base.now self.now) b)) }
     {
@@ -59,7 +59,7 @@ impl Draft {
 
     /// Whether the number is that of a block as shown.
     pub fn is_block(&self, base: &Summary, b: u32) -> bool
-        requires over { IsOver base.now.blocks.labels self.now }
+        requires over { IsOver base.now.blocks.block_of base.now.blocks.labels self.now }
         ensures { result ≡ is_some (at (shown_labels base.now self.now) b) }
     {
         self.added.label(base, b).is_some()
@@ -67,7 +67,7 @@ impl Draft {
 
     /// The label of a block as shown.
     pub fn label(&self, base: &Summary, b: u32) -> u32
-        requires over { IsOver base.now.blocks.labels self.now }
+        requires over { IsOver base.now.blocks.block_of base.now.blocks.labels self.now }
         requires block { IsSome (at (shown_labels base.now self.now) b) }
         ensures { at (shown_labels base.now self.now) b ≡ Some result }
     {
@@ -86,12 +86,12 @@ impl Draft {
 impl Draft {
     /// Drafts a block without members, and gives its number, the least that is no block as shown.
     pub fn new_block(&mut self, base: &Summary, label: u32) -> Result<u32, Memory>
-        requires over { IsOver base.now.blocks.labels self.old }
+        requires over { IsOver base.now.blocks.block_of base.now.blocks.labels self.old }
         requires few { count_by is_some (shown_labels base.now self.old) < 2 ^ 31 }
         ensures least { IfOk result (IsLeastFree (shown_labels base.now self.old)) }
         ensures ok { IfOk result (λ b. self.new ≡ record self.old { added = self.old.added ++ (b, label) ∷ [] }) }
         ensures labels { IfOk result (λ b. shown_labels base.now self.new ≡ put (shown_labels base.now self.old) b label) }
-        ensures over { OnOk result (IsOver base.now.blocks.labels self.new) }
+        ensures over { OnOk result (IsOver base.now.blocks.block_of base.now.blocks.labels self.new) }
         ensures err { OnErr result (self.new ≡ self.old) }
     {
         let b = self.added.new_block(base, label)?;
@@ -100,29 +100,31 @@ impl Draft {
 
     /// Drafts the move of a node, which is below 2^31, to a block as shown, or out of its block.
     pub fn put(&mut self, base: &Summary, n: NodeId, b: Option<u32>) -> Result<(), Memory>
-        requires over { IsOver base.now.blocks.labels self.old }
+        requires over { IsOver base.now.blocks.block_of base.now.blocks.labels self.old }
         requires small { n < 2 ^ 31 }
         requires block { IfSome b (λ b. IsSome (at (shown_labels base.now self.old) b)) }
         ensures blocks { OnOk result ((m : ℕ) → at (shown_blocks base.now self.new) m ≡ (if nat_eq m n then b else at (shown_blocks base.now self.old) m)) }
         ensures added { self.new.added ≡ self.old.added }
+        ensures left { OnOk result (self.new.left ≡ with_left self.old.left (at (shown_blocks base.now self.old) n)) }
         ensures supports { self.new.supports ≡ self.old.supports }
-        ensures over { OnOk result (IsOver base.now.blocks.labels self.new) }
+        ensures over { OnOk result (IsOver base.now.blocks.block_of base.now.blocks.labels self.new) }
         ensures err { OnErr result (self.new ≡ self.old) }
     {
-        self.moves.put(n, b)?;
+        self.moves.put(base, n, b)?;
         Ok(())
     }
 
     /// Drafts that one more edge leads from `a` to `b`, both blocks as shown.
     pub fn raise(&mut self, base: &Summary, a: u32, b: u32) -> Result<(), Memory>
-        requires over { IsOver base.now.blocks.labels self.old }
+        requires over { IsOver base.now.blocks.block_of base.now.blocks.labels self.old }
         requires from { IsSome (at (shown_labels base.now self.old) a) }
         requires onto { IsSome (at (shown_labels base.now self.old) b) }
         requires few { shown_support base.now self.old a b < 2 ^ 31 }
         ensures raised { OnOk result ((x y : ℕ) → shown_support base.now self.new x y ≡ shown_support base.now self.old x y + one_if (nat_eq x a && nat_eq y b)) }
         ensures added { self.new.added ≡ self.old.added }
         ensures moves { self.new.moves ≡ self.old.moves }
-        ensures over { OnOk result (IsOver base.now.blocks.labels self.new) }
+        ensures left { self.new.left ≡ self.old.left }
+        ensures over { OnOk result (IsOver base.now.blocks.block_of base.now.blocks.labels self.new) }
         ensures err { OnErr result (self.new ≡ self.old) }
     {
         let n = self.changed.get(base, a, b);
@@ -132,14 +134,15 @@ impl Draft {
 
     /// Drafts that one edge fewer leads from `a` to `b`, both blocks as shown, which have support.
     pub fn lower(&mut self, base: &Summary, a: u32, b: u32) -> Result<(), Memory>
-        requires over { IsOver base.now.blocks.labels self.old }
+        requires over { IsOver base.now.blocks.block_of base.now.blocks.labels self.old }
         requires from { IsSome (at (shown_labels base.now self.old) a) }
         requires onto { IsSome (at (shown_labels base.now self.old) b) }
         requires some { 0 < shown_support base.now self.old a b }
         ensures lowered { OnOk result ((x y : ℕ) → shown_support base.now self.new x y + one_if (nat_eq x a && nat_eq y b) ≡ shown_support base.now self.old x y) }
         ensures added { self.new.added ≡ self.old.added }
         ensures moves { self.new.moves ≡ self.old.moves }
-        ensures over { OnOk result (IsOver base.now.blocks.labels self.new) }
+        ensures left { self.new.left ≡ self.old.left }
+        ensures over { OnOk result (IsOver base.now.blocks.block_of base.now.blocks.labels self.new) }
         ensures err { OnErr result (self.new ≡ self.old) }
     {
         let n = self.changed.get(base, a, b);
@@ -150,7 +153,7 @@ impl Draft {
     /// Drops all that is drafted. It takes no memory.
     pub fn clear(&mut self)
         ensures empty { self.new ≡ no_changes }
-        ensures over { (labels : List (Option ℕ)) → IsOver labels self.new }
+        ensures over { (block labels : List (Option ℕ)) → IsOver block labels self.new }
     {
         self.added.clear();
         self.moves.clear();

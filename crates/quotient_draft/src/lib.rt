@@ -5,5 +5,7 @@ mod added;
 mod changed;
 mod draft;
 mod moves;
+mod retiring;
+mod settling;
 
 pub use draft::Draft;

@@ -10,10 +10,10 @@ use Rattle.quotient.proofs.counting.count_edges.Goals as goal
 pub loop-from-init : goal.loop-from-init
 loop-from-init c = record {
   supports = λ x y.
-      let none = support_none c.in_ok-joins.joins.supports x y c.in_ok-joins.ensures.supports in
+      let none = support_none c.in_ok-joins.joins.supports.pairs x y c.in_ok-joins.ensures.supports in
       let waits = no_pairs c.in_ok-pairs.pairs.items x y c.in_ok-pairs.ensures.items in
       omega (arith, none, waits);
-  below = none_below (length c.in_ok-joins.joins.children) c.in_ok-pairs.pairs.items c.in_ok-pairs.ensures.items;
+  below = none_below (length c.in_ok-joins.joins.children.lists) c.in_ok-pairs.pairs.items c.in_ok-pairs.ensures.items;
   near = c.in_ok-joins.ensures.near;
   children = c.in_ok-joins.ensures.children ∙ c.span.ensures.span;
   parents = c.in_ok-joins.ensures.parents ∙ c.span.ensures.span;

@@ -8,12 +8,12 @@ pub returns-in-Some : goal.returns-in-Some
 returns-in-Some c =
     let t = c.args.base.now.supports in
     let es = c.self.inside.pairs.entries in
-    ap (λ o. unwrap_or o (support_at t c.args.a c.args.b)) c.in-Some.ensures.value ∙ sym (at_supports t es c.args.a c.args.b c.self.invariant)
+    ap (λ o. unwrap_or o (support_at t c.args.a c.args.b)) c.in-Some.ensures.value ∙ sym (at_supports t es c.args.a c.args.b c.self.invariant.once)
     ∙ ap (λ (fs : List ((ℕ × ℕ) × ℕ)). support_at (with_supports t fs) c.args.a c.args.b) c.self.view_is
 
 pub returns-in-None : goal.returns-in-None
 returns-in-None c =
     let t = c.args.base.now.supports in
     let es = c.self.inside.pairs.entries in
-    c.support.ensures ∙ ap (λ o. unwrap_or o (support_at t c.args.a c.args.b)) c.in-None.ensures.value ∙ sym (at_supports t es c.args.a c.args.b c.self.invariant)
+    c.support.ensures ∙ ap (λ o. unwrap_or o (support_at t c.args.a c.args.b)) c.in-None.ensures.value ∙ sym (at_supports t es c.args.a c.args.b c.self.invariant.once)
     ∙ ap (λ (fs : List ((ℕ × ℕ) × ℕ)). support_at (with_supports t fs) c.args.a c.args.b) c.self.view_is

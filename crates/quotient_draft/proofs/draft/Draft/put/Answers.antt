@@ -1,5 +1,7 @@
 use Rattle.std.proofs.Common.{sym, subst}
-use Rattle.std.specs.Prelude.{IsSome, IfSome}
+use Rattle.std.specs.Prelude.{IsSome, IfSome, nat_eq, unwrap_or}
+use Rattle.std.specs.Map.{lookup}
+use Rattle.std.proofs.Common.{refl}
 use Rattle.px_spec.specs.Members.{at}
 use Rattle.quotient_draft.specs.Drafts.{Drafted, with_added}
 use Rattle.quotient_draft.specs.Basis.{IsOver}
@@ -9,7 +11,9 @@ use Rattle.quotient_draft.proofs.draft.Draft.put.Goals as goal
 pub returns-clause-over : goal.returns-clause-over
 returns-clause-over c =
     let labels = c.args.base.now.blocks.labels in
-    let d : Drafted = record { added = c.self.inside.added; moves = c.self.inside.moves; supports = c.self.inside.changed } in
-    over_moved labels d c.put.new.self c.args.n c.args.b (subst (IsOver labels) (sym c.self.view_is) c.requires.over) c.requires.small
+    let block = c.args.base.now.blocks.block_of in
+    let d : Drafted = record { added = c.self.inside.added; moves = c.self.inside.moves.moves; left = c.self.inside.moves.left; supports = c.self.inside.changed } in
+    over_moved block labels d c.put.new.self.moves c.put.new.self.left c.args.n c.args.b (unwrap_or (lookup (nat_eq c.args.n) d.moves) (at block c.args.n))
+    (subst (IsOver block labels) (sym c.self.view_is) c.requires.over) c.requires.small
     (subst (λ (e : Drafted). IfSome c.args.b (λ b. IsSome (at (with_added labels e.added) b))) (sym c.self.view_is) c.requires.block)
-    c.in_ok-put.ensures.looked
+    refl c.in_ok-put.ensures.own c.in_ok-put.ensures.looked

@@ -1,0 +1,43 @@
+use Rattle.std.proofs.Common.{◌≡◌, ◌∙◌, refl, sym, subst, ap, arith, length}
+use Rattle.std.specs.Prelude.{nat_lt}
+use Rattle.std.proofs.lemmas.List.{length-set}
+use Rattle.bisim_spec.specs.Views.{SupportTable}
+use Rattle.quotient.specs.Joined.{AreNear, is_supported}
+use Rattle.quotient.proofs.Rooms.{uses_none}
+use Rattle.quotient.proofs.Taken.{near_added, near_still}
+use Rattle.quotient.proofs.joins.Joins.set_first.Goals as goal
+
+pub returns-then-n-gt0 : goal.returns-then-n-gt0
+returns-then-n-gt0 c =
+    let old = c.args.self.now in
+    let cs = old.children.lists in
+    let ps = old.parents.lists in
+    record {
+      pairs = c.set.ensures.pairs;
+      pair_room = c.set.ensures.room;
+      near = subst (λ (t : SupportTable). AreNear t c.add.new.self.lists c.add-then-n-gt0.new.self.lists) (sym c.set.ensures.pairs)
+          (near_added old.supports.pairs cs ps c.add.new.self.lists c.add-then-n-gt0.new.self.lists c.args.a c.args.b c.args.n c.requires.none c.if-n-gt0.true c.requires.from c.requires.onto
+          c.add.ensures.lists c.add-then-n-gt0.ensures.lists c.requires.near);
+      length_children = ap length c.add.ensures.lists ∙ length-set cs c.args.a _;
+      length_parents = ap length c.add-then-n-gt0.ensures.lists ∙ length-set ps c.args.b _;
+      child_room = c.add.ensures.room;
+      parent_room = c.add-then-n-gt0.ensures.room;
+    }
+
+pub returns-else-n-gt0 : goal.returns-else-n-gt0
+returns-else-n-gt0 c =
+    let old = c.args.self.now in
+    let cs = old.children.lists in
+    let ps = old.parents.lists in
+    let least = c.if-n-gt0.false in
+    let n_zero : c.args.n ≡ 0 = omega (arith, least) in
+    let same : nat_lt 0 c.args.n ≡ is_supported old.supports.pairs c.args.a c.args.b = ap (nat_lt 0) (n_zero ∙ sym c.requires.none) in
+    record {
+      pairs = c.set.ensures.pairs;
+      pair_room = c.set.ensures.room;
+      near = subst (λ (t : SupportTable). AreNear t cs ps) (sym c.set.ensures.pairs) (near_still old.supports.pairs cs ps c.args.a c.args.b c.args.n same c.requires.near);
+      length_children = refl;
+      length_parents = refl;
+      child_room = uses_none c.args.a old.children.room;
+      parent_room = uses_none c.args.b old.parents.room;
+    }

@@ -1,0 +1,17 @@
+use Rattle.std.proofs.Common.{◌∙◌, sym, subst, ap}
+use Rattle.std.specs.FinMap as map
+use Rattle.quotient.specs.Joined.{IsPositive}
+use Rattle.quotient.specs.Kept.{KeptPairs}
+use Rattle.quotient.proofs.Taken.{removed, positive_removed}
+use Rattle.quotient.proofs.supports.Supports.remove.Goals as goal
+
+pub invariant_of-self : goal.invariant_of-self
+invariant_of-self c =
+    let es = c.self.inside.table.entries in
+    let now = removed es c.swap_remove.new.self.entries (c.args.a, c.args.b) c.swap_remove.ensures.updates.0 in
+    subst IsPositive (sym now) (positive_removed (map.from_entries es) (c.args.a, c.args.b) c.self.invariant)
+
+pub returns-clause-pairs : goal.returns-clause-pairs
+returns-clause-pairs c =
+    removed c.self.inside.table.entries c.swap_remove.new.self.entries (c.args.a, c.args.b) c.swap_remove.ensures.updates.0
+    ∙ ap (λ (k : KeptPairs). map.remove k.pairs (c.args.a, c.args.b)) c.self.view_is

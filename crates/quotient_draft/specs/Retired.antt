@@ -1,0 +1,12 @@
+-- Blocks without members that are taken away.
+use Rattle.std.specs.Prelude.{◌≡◌, ℕ, ◌&&◌, not, List, length, None, cond}
+use Rattle.px_spec.specs.Members.{at, has}
+use Rattle.quotient.specs.Quotients.{Quotient}
+use Rattle.quotient_draft.specs.Drafts.{has_member}
+
+-- those of the blocks that have no members are taken away, and all else is as it was
+pub record IsRetired (among : List ℕ) (old new : Quotient) : Type 0 where
+  pub block_of : new.blocks.block_of ≡ old.blocks.block_of
+  pub supports : new.supports ≡ old.supports
+  pub len : length new.blocks.labels ≡ length old.blocks.labels
+  pub labels : (b : ℕ) → at new.blocks.labels b ≡ cond (has among b && not (has_member old.blocks.block_of b)) None (at old.blocks.labels b)
