@@ -1,5 +1,5 @@
 -- The classes of full bisimilarity as an index that fits.
-use Rattle.std.proofs.Common.{◌≡◌, ℕ, List, Option, Some, refl, sym, ◌∙◌, ap, subst}
+use Rattle.std.proofs.Common.{◌≡◌, sym, ◌∙◌, ap, subst}
 use Rattle.std.specs.Prelude.{option_and_then, slice_get}
 use Rattle.px_spec.specs.Graphs.{Graph, IsGraph, label_of}
 use Rattle.px_spec.specs.Shapes.{shape_of}
