@@ -1,23 +1,23 @@
 -- Two blocks of a stable partition with members can be merged exactly where they have one label, and the same parent blocks
 -- where they count as one.
-use Rattle.std.proofs.Common.{◌≡◌, ◌≢◌, ℕ, ◌<◌, ◌⊎◌, ◌↔◌, List, Option, None, Some, IsSome, IsTrue, IsFalse, length, refl, sym, ◌∙◌, ap, subst, arith, inl, inr, true, false, Bool, ltb-true, lt-ltb}
-use Rattle.std.specs.Prelude.{nat_eq, nat_lt, ◌||◌, ◌&&◌, is_some, slice_get}
+use Rattle.std.proofs.Common.{◌≡◌, ◌≢◌, ℕ, ◌<◌, ◌⊎◌, ◌↔◌, List, Option, Some, IsTrue, IsFalse, length, refl, sym, ◌∙◌, ap, subst, arith, inl, inr, true, false, Bool, ltb-true, lt-ltb}
+use Rattle.std.specs.Prelude.{nat_eq, ◌||◌, ◌&&◌, is_some, slice_get}
 use Rattle.std.proofs.lemmas.Bool.{cases_Bool, cases_lt, and_parts, and_from, or_cases, or_left, or_right, both_ways}
 use Rattle.std.proofs.lemmas.Bool.Decides.{Decides-eqb}
 use Rattle.px_spec.specs.Graphs.{Graph, IsGraph, label_of}
-use Rattle.px_spec.specs.Shapes.{IsParent, IsShape, shape_of}
+use Rattle.px_spec.specs.Shapes.{IsParent, shape_of}
 use Rattle.px_spec.specs.Members.{at}
 use Rattle.px_spec.proofs.GraphLaws.{is_shape}
-use Rattle.bisim_spec.specs.Bisimilarity.{Covers, Matched}
+use Rattle.bisim_spec.specs.Bisimilarity.{Covers}
 use Rattle.bisim_spec.specs.Partitions.{Together}
-use Rattle.bisim_spec.specs.Stability.{Stable, Mergeable, Minimal, merged}
+use Rattle.bisim_spec.specs.Stability.{Mergeable, Minimal, merged}
 use Rattle.bisim_spec.specs.Supports.{Joined}
 use Rattle.bisim_spec.specs.Views.{SupportTable, support_at}
 use Rattle.bisim_spec.proofs.Bisimilar.{some_of, is_some_at}
 use Rattle.bisim_spec.proofs.Stable.{stable_label, stable_parents}
 use Rattle.bisim_spec.proofs.Supported.{support_joined, joined_support}
-use Rattle.bisim_spec.proofs.Together.{together_at, together_sym, merged_keeps, merged_a, merged_b, merged_cases, merged_partition}
-use Rattle.bisim_spec.proofs.Merging.{Merges, mergeable_from, merges_from}
+use Rattle.bisim_spec.proofs.Together.{together_at, merged_keeps, merged_a, merged_b, merged_cases, merged_partition}
+use Rattle.bisim_spec.proofs.Merging.{mergeable_from, merges_from}
 use Rattle.quotient.specs.Quotients.{Quotient, is_joined, view_of}
 use Rattle.quotient.specs.Joined.{is_supported}
 use Rattle.quotient.specs.Laws.{below_span}

@@ -1,12 +1,12 @@
 -- A partition is stable exactly where the members of each block are alike.
-use Rattle.std.proofs.Common.{◌≡◌, ℕ, ◌<◌, ◌≤◌, List, length, arith, Option, None, Some, IsSome, IsTrue, IsFalse, is_some, refl, sym, ◌∙◌, ap, inl, inr, true, false, Bool, not, true≢false}
+use Rattle.std.proofs.Common.{◌≡◌, ℕ, ◌<◌, ◌≤◌, List, length, arith, Option, None, Some, IsSome, is_some, refl, sym, ◌∙◌, ap, inl, inr, true, false, Bool, not, true≢false}
 use mathlib.Core.Bool.{beq}
 use Rattle.std.specs.Prelude.{option_and_then, slice_get}
 use Rattle.std.specs.List.{list_all}
 use Rattle.std.proofs.lemmas.Bool.{cases_Bool, both_ways}
 use Rattle.px_spec.proofs.GraphLaws.{is_shape}
-use Rattle.px_spec.specs.Graphs.{Graph, IsGraph, label_of, has_edge}
-use Rattle.px_spec.specs.Shapes.{Shape, IsNode, IsParent, IsShape, shape_of}
+use Rattle.px_spec.specs.Graphs.{Graph, IsGraph, label_of}
+use Rattle.px_spec.specs.Shapes.{Shape, IsNode, IsParent, shape_of}
 use Rattle.px_spec.specs.Members.{Lists, at, has}
 use Rattle.label_graph.specs.Views.{label_number, is_linked}
 use Rattle.label_graph.proofs.Viewed.{viewed_shape, linked_is}

@@ -2,7 +2,7 @@
 use Rattle.std.specs.Prelude.{◌≡◌, ℕ, Bool, false, List, Option, None, Some}
 use Rattle.std.specs.List.{list_any}
 use Rattle.px_spec.specs.Shapes.{Shape, IsParent}
-use Rattle.px_spec.specs.Members.{at, is_this}
+use Rattle.px_spec.specs.Members.{at}
 use Rattle.bisim_spec.specs.Bisimilarity.{Matched}
 use Rattle.bisim_spec.specs.Partitions.{Together}
 use Rattle.block_partition.specs.Partitions.{Partition, is_member}

@@ -1,6 +1,6 @@
 -- Which blocks can be merged, by labels and supports. Source: K. Yi, H. He, I. Stanoi and J. Yang, "Incremental Maintenance of
 -- XML Structural Indexes", SIGMOD 2004.
-use Rattle.std.specs.Prelude.{◌≡◌, ◌<◌, ℕ, ◌||◌, Bool, Option, Some, IsSome, IsTrue, nat_eq, if◌then◌else◌}
+use Rattle.std.specs.Prelude.{◌≡◌, ◌<◌, ℕ, ◌||◌, Bool, Some, IsSome, IsTrue, nat_eq, if◌then◌else◌}
 use Rattle.px_spec.specs.Members.{at}
 use Rattle.bisim_spec.specs.Views.{SupportTable}
 use Rattle.quotient.specs.Quotients.{Quotient, is_joined}

@@ -1,5 +1,5 @@
 -- Index graphs of stable partitions.
-use Rattle.std.specs.Prelude.{ℕ, ◌≡◌, List, Option, Some, slice_get}
+use Rattle.std.specs.Prelude.{ℕ, ◌≡◌, List, Some, slice_get}
 use Rattle.px_spec.specs.Graphs.{Graph, label_of}
 use Rattle.px_spec.specs.Shapes.{shape_of}
 use Rattle.px_spec.specs.Members.{at}

@@ -1,7 +1,5 @@
-use Rattle.std.proofs.Common.{true, sym, ◌∙◌}
+use Rattle.std.proofs.Common.{sym, ◌∙◌}
 use Rattle.std.proofs.lemmas.Bool.{both_ways}
-use Rattle.std.specs.List.{list_all}
-use Rattle.quotient.specs.Quotients.{is_joined}
 use Rattle.one_index.specs.MergeTest.{is_parent_of_one}
 use Rattle.one_index.proofs.Neighbours.{all_get, all_from}
 use Rattle.one_index.proofs.merging.is_covered.Goals as goal

@@ -1,8 +1,3 @@
-use Rattle.std.proofs.Common.{sym, subst}
-use Rattle.px_spec.specs.Shapes.{shape_of}
-use Rattle.bisim_spec.specs.Bisimilarity.{Bisim}
-use Rattle.bisim_spec.specs.Partitions.{Agrees}
-use Rattle.block_partition.specs.Partitions.{Partition}
 use Rattle.one_index.proofs.Built.{full_fits}
 use Rattle.one_index.proofs.building.OneIndex.build.Goals as goal
 
