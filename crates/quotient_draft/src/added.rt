@@ -133,7 +133,18 @@ fn base_label(base: &Summary, b: u32) -> Option<u32>
     None
 }
 
-// The least number from one on that is no block of the base.
+// A number from this one on up to which all are blocks of the base: where each number below its end is one, the end.
+fn past_full(base: &Summary, from: u32) -> u32
+    ensures from { from ≤ result }
+    ensures passed { (c : ℕ) → from ≤ c → c < result → IsSome (at base.now.blocks.labels c) }
+{
+    if base.blocks() == base.size() {
+        return from.max(base.size());
+    }
+    from
+}
+
+// The least number from one on that is no block of the base. Where the base has no gaps it isn't looked for.
 fn next_free(base: &Summary, from: u32) -> u32
     requires { from ≤ 2 ^ 31 }
     ensures free { at base.now.blocks.labels result ≡ None }
@@ -141,7 +152,7 @@ fn next_free(base: &Summary, from: u32) -> u32
     ensures passed { (c : ℕ) → from ≤ c → c < result → IsSome (at base.now.blocks.labels c) }
 {
     let end = base.size();
-    let mut b = from;
+    let mut b = past_full(base, from);
     'numbers: while b < end {
         if !base.is_node(b) {
             return b;
