@@ -13,7 +13,7 @@ use Rattle.path_query.specs.Parsed.{Spells}
 use Rattle.path_query.proofs.Lexing.{label_first}
 
 -- a label is spelled by its own text
-label_again : (w t : List ℕ) → SpellsLabel w t → SpellsLabel t t
+pub label_again : (w t : List ℕ) → SpellsLabel w t → SpellsLabel t t
 label_again w t (inl (l, e)) = inl (subst (λ x. IsPlainLabel x) (sym e) l, refl)
 label_again w t (inr (iri, (le, s, front, is), e)) =
     let again = iri_canonical s iri is in

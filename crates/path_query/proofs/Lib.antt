@@ -1,4 +1,4 @@
-mod Cuts
+pub mod Cuts
 pub mod LabelBytes
 pub mod LabelLaws
 pub mod Readings

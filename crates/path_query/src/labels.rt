@@ -46,8 +46,8 @@ fn is_plain_label(word: &[u8]) -> bool
         && word != b"not".as_slice()
 }
 
-/// How many bytes of a name stand in front.
-fn name_len(bytes: &[u8]) -> usize
+/// How many bytes of a name stand in front, as many as can be. Linear in that number.
+pub fn name_len(bytes: &[u8]) -> usize
     ensures count { result ≡ prefix_len is_name_byte bytes.now }
     ensures within { result ≤ length bytes.now }
 {
@@ -91,8 +91,8 @@ fn opens_iri(text: &[u8]) -> bool
 }
 
 /// The label at the front of the text, and how many bytes spell it. Where a label stands there and no
-/// name goes on behind it, that one is read.
-pub(crate) fn read_front(alloc: Global, text: &[u8]) -> Result<Option<(Text, usize)>, Memory>
+/// name goes on behind it, that one is read. None where no label stands there. Linear in what it reads.
+pub fn read_front(alloc: Global, text: &[u8]) -> Result<Option<(Text, usize)>, Memory>
     ensures found { IfOk result (λ r. IfSome r (λ f. IsLabelFront text.now f.1 f.0)) }
     ensures only { (n : ℕ) (t : List ℕ) → IsLabelFront text.now n t → EndsName (drop n text.now) → IfOk result (λ r. IsSomeAnd r (λ f. (f.0 ≡ t) × (f.1 ≡ n))) }
 {

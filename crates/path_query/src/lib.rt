@@ -15,7 +15,9 @@ mod writing;
 
 pub use answers::eval;
 pub use expr::{ExprError, PathExpr};
-pub use labels::read_label;
+pub use labels::{name_len, read_front, read_label};
+pub use marks::ends_name;
+pub use parsing::is_past;
 pub use words::{skip_blanks, split_word, trim_end_blanks};
 
 #[cfg(test)]

@@ -10,8 +10,8 @@ use path_expr::Expr;
 use px_spec::Limits;
 use std::alloc::Global;
 
-/// Whether the text has more bytes than the limit, or nests deeper.
-pub(crate) fn is_past(limits: &Limits, text: &[u8]) -> bool
+/// Whether the text has more bytes than `expr_bytes`, or its brackets nest deeper than `expr_depth`. Linear in the text.
+pub fn is_past(limits: &Limits, text: &[u8]) -> bool
     ensures { result ≡ is_past limits.now text.now }
 {
     (limits.expr_bytes as usize) < text.len() || (limits.expr_depth as usize) < depth_of(text)

@@ -1,0 +1,8 @@
+use Rattle.std.proofs.Common.{sym, subst}
+use Rattle.branch_spec.specs.Tokens.{tokens}
+use Rattle.branch_text.specs.Parsed.{AreLabels}
+use Rattle.branch_text.proofs.Again.{labels_relaxed}
+use Rattle.branch_text.proofs.branch.Branch.relax.Goals as goal
+
+pub invariant_of-result : goal.invariant_of-result
+invariant_of-result c = subst (λ q. AreLabels (tokens q)) (sym c.in_ok-tree.ensures) (labels_relaxed c.self.inside.tree c.self.invariant)

@@ -1,0 +1,48 @@
+-- The token in front of a text.
+use Rattle.std.specs.Prelude.{ℕ, ◌≡◌, ◌==◌, List, [], ◌∷◌, ◌++◌, take, drop, codes, bytes_eq, Option, None, Some, option_map, if◌then◌else◌}
+use Rattle.std.specs.List.{prefix_len}
+use Rattle.px_spec.specs.Words.{is_name_byte}
+use Rattle.branch_spec.specs.Trees.{Axis, child, below, parent, above}
+use Rattle.branch_spec.specs.Tokens.{Token, underscore, axis, left, right, opening, closing, not_word, and_word, or_word}
+use Rattle.branch_spec.specs.Spelling.{EndsToken, SpellsToken}
+use Rattle.path_query.specs.Labels.{SpellsLabel}
+
+-- a token stands in front, as long as can be
+abbrev pub IsTokenFront : List ℕ → Token → List ℕ → Type 0
+IsTokenFront text t rest = (word : List ℕ) × SpellsToken SpellsLabel word t × EndsToken t rest × (text ≡ word ++ rest)
+
+-- the token of one byte, but for those of axes
+abbrev pub mark_at : ℕ → Option Token
+mark_at b =
+    if b == 95 then Some underscore else (if b == 91 then Some left else (if b == 93 then Some right
+    else (if b == 40 then Some opening else (if b == 41 then Some closing else None))))
+
+-- behind the first byte of an axis: the further one where it stands there again
+abbrev pub axis_front : ℕ → Axis → Axis → List ℕ → Token × List ℕ
+axis_front k near far [] = (axis near, [])
+axis_front k near far (b ∷ bs) = if b == k then (axis far, bs) else (axis near, b ∷ bs)
+
+-- the token in front that is no word
+abbrev pub sign_front : List ℕ → Option (Token × List ℕ)
+sign_front [] = None
+sign_front (b ∷ bs) =
+    if b == 47 then Some (axis_front 47 child below bs) else (if b == 92 then Some (axis_front 92 parent above bs)
+    else option_map (λ t. (t, bs)) (mark_at b))
+
+-- the token of a word that is no label
+abbrev pub word_token : List ℕ → Option Token
+word_token w =
+    if bytes_eq w (codes "not") then Some not_word else (if bytes_eq w (codes "and") then Some and_word
+    else (if bytes_eq w (codes "or") then Some or_word else None))
+
+-- the word in front that is no label
+abbrev pub word_front : List ℕ → Option (Token × List ℕ)
+word_front text = option_map (λ t. (t, drop (prefix_len is_name_byte text) text)) (word_token (take (prefix_len is_name_byte text) text))
+
+abbrev pub or_else : Option (Token × List ℕ) → Option (Token × List ℕ) → Option (Token × List ℕ)
+or_else None o = o
+or_else (Some p) o = Some p
+
+-- the token in front that is no label
+abbrev pub mark_front : List ℕ → Option (Token × List ℕ)
+mark_front text = or_else (sign_front text) (word_front text)

@@ -1,0 +1,4 @@
+pub mod Parsed
+pub mod Seen
+pub mod Fronts
+pub mod Written

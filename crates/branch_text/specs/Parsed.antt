@@ -1,0 +1,42 @@
+-- What a text spells, and which trees have a text.
+use Rattle.std.specs.Prelude.{ℕ, Bool, true, false, List, [], ◌∷◌}
+use Rattle.std.specs.List.{list_all}
+use Rattle.branch_spec.specs.Trees.{Branch}
+use Rattle.branch_spec.specs.Tokens.{Token, lab, underscore, axis, left, right, opening, closing, not_word, and_word, or_word, nothing, tokens}
+use Rattle.branch_spec.specs.Spelling as spelling
+use Rattle.path_query.specs.Labels.{SpellsLabel}
+
+abbrev pub Spells : List ℕ → Branch → Type 0
+Spells text q = spelling.Spells SpellsLabel text q
+
+abbrev pub is_spelled : Token → Bool
+is_spelled (lab t) = true
+is_spelled underscore = true
+is_spelled (axis a) = true
+is_spelled left = true
+is_spelled right = true
+is_spelled opening = true
+is_spelled closing = true
+is_spelled not_word = true
+is_spelled and_word = true
+is_spelled or_word = true
+is_spelled nothing = false
+
+-- no part holds everywhere, which has no text
+abbrev pub has_text : Branch → Bool
+has_text q = list_all is_spelled (tokens q)
+
+-- each label is spelled by its own text
+abbrev pub AreLabels : List Token → Type 0
+AreLabels [] = Unit {0}
+AreLabels (lab t ∷ r) = SpellsLabel t t × AreLabels r
+AreLabels (underscore ∷ r) = AreLabels r
+AreLabels (axis a ∷ r) = AreLabels r
+AreLabels (left ∷ r) = AreLabels r
+AreLabels (right ∷ r) = AreLabels r
+AreLabels (opening ∷ r) = AreLabels r
+AreLabels (closing ∷ r) = AreLabels r
+AreLabels (not_word ∷ r) = AreLabels r
+AreLabels (and_word ∷ r) = AreLabels r
+AreLabels (or_word ∷ r) = AreLabels r
+AreLabels (nothing ∷ r) = AreLabels r

@@ -1,0 +1,25 @@
+// The answers of a branching query over a graph.
+ghost use Rattle.std.specs.Prelude.{◌≡◌, ◌<◌, ℕ, length, Some, IfOk};
+ghost use Rattle.px_spec.specs.Shapes.{shape_by};
+ghost use Rattle.branch_spec.specs.Answers.{AreBranchAnswers};
+
+use crate::branch::Branch;
+use label_graph::{Digraph, Labels};
+use px_base::{Bits, Memory};
+use std::alloc::Global;
+
+/// The nodes in which a list of nodes ends whose first node meets the first step and that leads along the axes, each node
+/// meeting its step: a set of numbers below the graph's size. `Memory` comes at want of memory alone. For a query with m
+/// labels, axes and words the time is at most in proportion to m times the nodes and edges.
+pub fn eval<G: Digraph>(
+    alloc: Global,
+    g: &G,
+    labels: &Labels,
+    query: &Branch,
+) -> Result<Bits, Memory>
+    requires labelled { (n l : ℕ) → G.label_at g.now n ≡ Some l → l < length labels.now.texts }
+    ensures size { IfOk result (λ b. b.size ≡ G.span g.now) }
+    ensures answers { IfOk result (λ b. AreBranchAnswers (shape_by labels.now.texts (G.span g.now) (G.label_at g.now) (G.edge g.now)) query.now b.members) }
+{
+    branch_expr::eval(alloc, g, labels, query.tree())
+}

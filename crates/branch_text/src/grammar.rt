@@ -1,0 +1,273 @@
+// The grammar of branching queries, over tokens.
+ghost use Rattle.std.specs.Prelude.{◌≡◌, ◌<◌, ◌≤◌, ℕ, List, ◌∷◌, length, IfOk, IsErrOf};
+ghost use Rattle.branch_spec.specs.Trees as tree;
+ghost use Rattle.branch_spec.specs.Tokens as tokens;
+ghost use Rattle.branch_expr.specs.Views.{test_of, step_of, chain_of, cond_of, and_of};
+ghost use Rattle.branch_text.specs.Seen.{seen};
+
+use crate::token::{
+    Token, after_and, after_close, after_left, after_open, after_or, after_right, ends_cond,
+    ends_step, first_axis, first_token,
+};
+use branch_expr::{And, BranchTree, Cond, Hop, Or, Rel, Step, Test};
+use px_base::Memory;
+use std::alloc::{AllocFailed, Global};
+
+/// Why tokens make no query.
+#[derive(Clone, Copy, Debug, PartialEq, Eq)]
+pub(crate) enum ReadError {
+    /// They spell none.
+    Syntax,
+    /// Want of memory.
+    Memory,
+}
+
+impl<T: Drop> From<AllocFailed<T>> for ReadError {
+    ghost use Rattle.std.specs.Prelude.{◌≡◌};
+    ghost use Rattle.branch_text.specs.declared.grammar.ReadError.TheVariants as variants;
+
+    ghost from_gives = { λ _ e. e ≡ variants.Memory };
+
+    fn from(_: AllocFailed<T>) -> Self {
+        ReadError::Memory
+    }
+}
+
+impl From<Memory> for ReadError {
+    ghost use Rattle.std.specs.Prelude.{◌≡◌};
+    ghost use Rattle.branch_text.specs.declared.grammar.ReadError.TheVariants as variants;
+
+    ghost from_gives = { λ _ e. e ≡ variants.Memory };
+
+    fn from(_: Memory) -> Self {
+        ReadError::Memory
+    }
+}
+
+/// The test in front, and what follows it.
+fn read_test<'t>(alloc: Global, left: &'t [Token]) -> Result<(Test, &'t [Token]), ReadError>
+    ensures ok { IfOk result (λ r. seen left.now ≡ tokens.test_onto (test_of r.0) (seen r.1.now)) }
+    ensures shorter { IfOk result (λ r. length r.1.now < length left.now) }
+    ensures syntax { IsErrOf result ReadError.Syntax → (t : tree.Test) (r : List tokens.Token) → seen left.now ≡ tokens.test_onto t r → ⊥ }
+{
+    let Some((token, rest)) = first_token(left) else {
+        return Err(ReadError::Syntax);
+    };
+    match token {
+        Token::Label(label) => Ok((Test::Label(label.copy(alloc)?), rest)),
+        Token::Any => Ok((Test::Any, rest)),
+        _ => Err(ReadError::Syntax),
+    }
+}
+
+/// What stands in brackets in front, and what follows these.
+#[cycle(read)]
+fn read_pred<'t>(alloc: Global, left: &'t [Token]) -> Result<(Or, &'t [Token]), ReadError>
+    ensures ok { IfOk result (λ r. seen left.now ≡ tokens.or_onto r.0 (tokens.right ∷ seen r.1.now)) }
+    ensures shorter { IfOk result (λ r. length r.1.now < length left.now) }
+    ensures syntax { IsErrOf result ReadError.Syntax → (o : tree.Or) (r : List tokens.Token) → seen left.now ≡ tokens.or_onto o (tokens.right ∷ r) → ⊥ }
+{
+    let (or, inside) = read_or(alloc, left)?;
+    let Some(after) = after_right(inside) else {
+        return Err(ReadError::Syntax);
+    };
+    Ok((or, after))
+}
+
+/// The step in front, and what follows it.
+#[cycle(read)]
+fn read_step<'t>(alloc: Global, left: &'t [Token]) -> Result<(Step, &'t [Token]), ReadError>
+    ensures ok { IfOk result (λ r. seen left.now ≡ tokens.step_onto (step_of r.0) (seen r.1.now)) }
+    ensures ends { IfOk result (λ r. tokens.EndsStep (seen r.1.now)) }
+    ensures shorter { IfOk result (λ r. length r.1.now < length left.now) }
+    ensures syntax { IsErrOf result ReadError.Syntax → (s : tree.Step) (r : List tokens.Token) → tokens.EndsStep r → seen left.now ≡ tokens.step_onto s r → ⊥ }
+{
+    let (test, mut behind) = read_test(alloc, left)?;
+    let mut preds = Vec::new(alloc);
+    'predicates: while let Some(after) = after_left(behind) {
+        let (pred, next) = read_pred(alloc, after)?;
+        preds.push(pred)?;
+        behind = next;
+    }
+    if ends_step(behind) {
+        Ok((Step { test, preds }, behind))
+    } else {
+        Err(ReadError::Syntax)
+    }
+}
+
+/// The steps after their axes in front, none or more, and what follows them.
+#[cycle(read)]
+fn read_hops<'t>(alloc: Global, left: &'t [Token]) -> Result<(Vec<Hop>, &'t [Token]), ReadError>
+    requires { tokens.EndsStep (seen left.now) }
+    ensures ok { IfOk result (λ r. seen left.now ≡ tokens.chain_onto (chain_of r.0.items) (seen r.1.now)) }
+    ensures ends { IfOk result (λ r. tokens.EndsChain (seen r.1.now)) }
+    ensures shorter { IfOk result (λ r. length r.1.now ≤ length left.now) }
+    ensures syntax { IsErrOf result ReadError.Syntax → (ch : tree.Chain) (r : List tokens.Token) → tokens.EndsChain r → seen left.now ≡ tokens.chain_onto ch r → ⊥ }
+{
+    let mut hops = Vec::new(alloc);
+    let mut behind = left;
+    'steps: while let Some((axis, after)) = first_axis(behind) {
+        let (step, next) = read_step(alloc, after)?;
+        hops.push(Hop { axis, step })?;
+        behind = next;
+    }
+    Ok((hops, behind))
+}
+
+/// The step after its axis in front, with more, and what follows them.
+#[cycle(read)]
+fn read_rel<'t>(alloc: Global, left: &'t [Token]) -> Result<(Rel, &'t [Token]), ReadError>
+    ensures ok { IfOk result (λ r. seen left.now ≡ tokens.chain_onto (chain_of (r.0.first ∷ r.0.rest.items)) (seen r.1.now)) }
+    ensures ends { IfOk result (λ r. tokens.EndsChain (seen r.1.now)) }
+    ensures shorter { IfOk result (λ r. length r.1.now < length left.now) }
+    ensures syntax { IsErrOf result ReadError.Syntax → (a : tree.Axis) (s : tree.Step) (ch : tree.Chain) (r : List tokens.Token) → tokens.EndsChain r → seen left.now ≡ tokens.chain_onto (tree.go a s ch) r → ⊥ }
+{
+    let Some((axis, after)) = first_axis(left) else {
+        return Err(ReadError::Syntax);
+    };
+    let (step, behind) = read_step(alloc, after)?;
+    let (rest, next) = read_hops(alloc, behind)?;
+    let first = Hop { axis, step };
+    Ok((Rel { first, rest }, next))
+}
+
+/// What stands in parentheses in front, and what follows these.
+#[cycle(read)]
+fn read_group<'t>(alloc: Global, left: &'t [Token]) -> Result<(Or, &'t [Token]), ReadError>
+    ensures ok { IfOk result (λ r. seen left.now ≡ tokens.opening ∷ tokens.or_onto r.0 (tokens.closing ∷ seen r.1.now)) }
+    ensures shorter { IfOk result (λ r. length r.1.now < length left.now) }
+    ensures syntax { IsErrOf result ReadError.Syntax → (o : tree.Or) (r : List tokens.Token) → seen left.now ≡ tokens.opening ∷ tokens.or_onto o (tokens.closing ∷ r) → ⊥ }
+{
+    let Some(start) = after_open(left) else {
+        return Err(ReadError::Syntax);
+    };
+    let (or, inside) = read_or(alloc, start)?;
+    let Some(after) = after_close(inside) else {
+        return Err(ReadError::Syntax);
+    };
+    Ok((or, after))
+}
+
+/// What is denied in front, behind its `not`, and what follows it.
+#[cycle(read)]
+fn read_not<'t>(alloc: Global, left: &'t [Token]) -> Result<(Cond, &'t [Token]), ReadError>
+    ensures ok { IfOk result (λ r. tokens.not_word ∷ seen left.now ≡ tokens.cond_onto (cond_of r.0) (seen r.1.now)) }
+    ensures shorter { IfOk result (λ r. length r.1.now < length left.now) }
+    ensures only { IfOk result (λ p. (c : tree.Cond) (r : List tokens.Token) → tokens.not_word ∷ seen left.now ≡ tokens.cond_onto c r → r ≡ seen p.1.now) }
+    ensures syntax { IsErrOf result ReadError.Syntax → (c : tree.Cond) (r : List tokens.Token) → tokens.not_word ∷ seen left.now ≡ tokens.cond_onto c r → ⊥ }
+{
+    let (or, after) = read_group(alloc, left)?;
+    Ok((Cond::Not(Box::new(alloc, or)?), after))
+}
+
+/// The condition in parentheses in front, and what follows it.
+#[cycle(read)]
+fn read_parentheses<'t>(alloc: Global, left: &'t [Token]) -> Result<(Cond, &'t [Token]), ReadError>
+    requires { (q : List tokens.Token) × (seen left.now ≡ tokens.opening ∷ q) }
+    ensures ok { IfOk result (λ r. seen left.now ≡ tokens.cond_onto (cond_of r.0) (seen r.1.now)) }
+    ensures shorter { IfOk result (λ r. length r.1.now < length left.now) }
+    ensures only { IfOk result (λ p. (c : tree.Cond) (r : List tokens.Token) → seen left.now ≡ tokens.cond_onto c r → r ≡ seen p.1.now) }
+    ensures syntax { IsErrOf result ReadError.Syntax → (c : tree.Cond) (r : List tokens.Token) → seen left.now ≡ tokens.cond_onto c r → ⊥ }
+{
+    let (or, after) = read_group(alloc, left)?;
+    Ok((Cond::Group(Box::new(alloc, or)?), after))
+}
+
+/// The steps in front as a condition, and what follows it.
+#[cycle(read)]
+fn read_steps<'t>(alloc: Global, left: &'t [Token]) -> Result<(Cond, &'t [Token]), ReadError>
+    requires { (a : tree.Axis) × (q : List tokens.Token) × (seen left.now ≡ tokens.axis a ∷ q) }
+    ensures ok { IfOk result (λ r. seen left.now ≡ tokens.cond_onto (cond_of r.0) (seen r.1.now)) }
+    ensures shorter { IfOk result (λ r. length r.1.now < length left.now) }
+    ensures only { IfOk result (λ p. (c : tree.Cond) (r : List tokens.Token) → tokens.EndsChain r → seen left.now ≡ tokens.cond_onto c r → r ≡ seen p.1.now) }
+    ensures syntax { IsErrOf result ReadError.Syntax → (c : tree.Cond) (r : List tokens.Token) → tokens.EndsChain r → seen left.now ≡ tokens.cond_onto c r → ⊥ }
+{
+    let (rel, after) = read_rel(alloc, left)?;
+    Ok((Cond::Rel(rel), after))
+}
+
+/// The condition in front, whatever follows it, and that.
+#[cycle(read)]
+fn read_unit<'t>(alloc: Global, left: &'t [Token]) -> Result<(Cond, &'t [Token]), ReadError>
+    ensures ok { IfOk result (λ r. seen left.now ≡ tokens.cond_onto (cond_of r.0) (seen r.1.now)) }
+    ensures shorter { IfOk result (λ r. length r.1.now < length left.now) }
+    ensures only { IfOk result (λ p. (c : tree.Cond) (r : List tokens.Token) → tokens.EndsChain r → seen left.now ≡ tokens.cond_onto c r → r ≡ seen p.1.now) }
+    ensures syntax { IsErrOf result ReadError.Syntax → (c : tree.Cond) (r : List tokens.Token) → tokens.EndsChain r → seen left.now ≡ tokens.cond_onto c r → ⊥ }
+{
+    let Some((token, rest)) = first_token(left) else {
+        return Err(ReadError::Syntax);
+    };
+    match token {
+        Token::Not => read_not(alloc, rest),
+        Token::Open => read_parentheses(alloc, left),
+        Token::Along(_) => read_steps(alloc, left),
+        _ => Err(ReadError::Syntax),
+    }
+}
+
+/// The condition in front, and what follows it.
+#[cycle(read)]
+fn read_cond<'t>(alloc: Global, left: &'t [Token]) -> Result<(Cond, &'t [Token]), ReadError>
+    ensures ok { IfOk result (λ r. seen left.now ≡ tokens.cond_onto (cond_of r.0) (seen r.1.now)) }
+    ensures ends { IfOk result (λ r. tokens.EndsChain (seen r.1.now)) }
+    ensures shorter { IfOk result (λ r. length r.1.now < length left.now) }
+    ensures syntax { IsErrOf result ReadError.Syntax → (c : tree.Cond) (r : List tokens.Token) → tokens.EndsChain r → seen left.now ≡ tokens.cond_onto c r → ⊥ }
+{
+    let (cond, behind) = read_unit(alloc, left)?;
+    if ends_cond(behind) {
+        Ok((cond, behind))
+    } else {
+        Err(ReadError::Syntax)
+    }
+}
+
+/// The conditions with `and` between them in front, and what follows them.
+#[cycle(read)]
+fn read_and<'t>(alloc: Global, left: &'t [Token]) -> Result<(And, &'t [Token]), ReadError>
+    ensures ok { IfOk result (λ r. seen left.now ≡ tokens.and_onto (and_of r.0) (seen r.1.now)) }
+    ensures ends { IfOk result (λ r. tokens.EndsAnd (seen r.1.now)) }
+    ensures shorter { IfOk result (λ r. length r.1.now < length left.now) }
+    ensures syntax { IsErrOf result ReadError.Syntax → (a : tree.And) (r : List tokens.Token) → tokens.EndsAnd r → seen left.now ≡ tokens.and_onto a r → ⊥ }
+{
+    let (first, mut behind) = read_cond(alloc, left)?;
+    let mut more = Vec::new(alloc);
+    'conditions: while let Some(after) = after_and(behind) {
+        let (cond, next) = read_cond(alloc, after)?;
+        more.push(cond)?;
+        behind = next;
+    }
+    Ok((And { first, more }, behind))
+}
+
+/// The alternatives with `or` between them in front, and what follows them.
+#[cycle(read)]
+fn read_or<'t>(alloc: Global, left: &'t [Token]) -> Result<(Or, &'t [Token]), ReadError>
+    ensures ok { IfOk result (λ r. seen left.now ≡ tokens.or_onto r.0 (seen r.1.now)) }
+    ensures ends { IfOk result (λ r. tokens.EndsOr (seen r.1.now)) }
+    ensures shorter { IfOk result (λ r. length r.1.now < length left.now) }
+    ensures syntax { IsErrOf result ReadError.Syntax → (o : tree.Or) (r : List tokens.Token) → tokens.EndsOr r → seen left.now ≡ tokens.or_onto o r → ⊥ }
+{
+    let (first, mut behind) = read_and(alloc, left)?;
+    let mut more = Vec::new(alloc);
+    'alternatives: while let Some(after) = after_or(behind) {
+        let (and, next) = read_and(alloc, after)?;
+        more.push(and)?;
+        behind = next;
+    }
+    Ok((Or { first, more }, behind))
+}
+
+/// The query of which these are the tokens.
+pub(crate) fn read_tokens(alloc: Global, all: &[Token]) -> Result<BranchTree, ReadError>
+    ensures ok { IfOk result (λ q. seen all.now ≡ tokens.tokens q) }
+    ensures syntax { IsErrOf result ReadError.Syntax → (q : tree.Branch) → seen all.now ≡ tokens.tokens q → ⊥ }
+{
+    let (first, behind) = read_step(alloc, all)?;
+    let (rest, last) = read_hops(alloc, behind)?;
+    if last.is_empty() {
+        Ok(BranchTree { first, rest })
+    } else {
+        Err(ReadError::Syntax)
+    }
+}

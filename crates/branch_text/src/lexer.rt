@@ -1,0 +1,59 @@
+// A text as its tokens.
+ghost use Rattle.std.specs.Prelude.{◌≡◌, ◌<◌, ℕ, List, [], length, None, IfOk, IsErrOf};
+ghost use Rattle.branch_spec.specs.Tokens as tokens;
+ghost use Rattle.branch_spec.specs.Spelling.{SpellsTokens};
+ghost use Rattle.path_query.specs.Labels.{SpellsLabel};
+ghost use Rattle.branch_text.specs.Seen.{token_of, seen};
+ghost use Rattle.branch_text.specs.Fronts.{IsTokenFront, mark_front};
+
+use crate::grammar::ReadError;
+use crate::marks::mark_front;
+use crate::token::Token;
+use path_query::{ends_name, read_front, skip_blanks};
+use std::alloc::Global;
+
+/// The label in front, where no other token stands, and what follows it.
+fn read_label(alloc: Global, text: &[u8]) -> Result<(Token, &[u8]), ReadError>
+    requires { mark_front text.now ≡ None }
+    ensures ok { IfOk result (λ r. IsTokenFront text.now (token_of r.0) r.1.now) }
+    ensures only { IfOk result (λ r. (t : tokens.Token) (q : List ℕ) → IsTokenFront text.now t q → (t ≡ token_of r.0) × (q ≡ r.1.now)) }
+    ensures syntax { IsErrOf result ReadError.Syntax → (t : tokens.Token) (q : List ℕ) → IsTokenFront text.now t q → ⊥ }
+{
+    let Some((label, len)) = read_front(alloc, text)? else {
+        return Err(ReadError::Syntax);
+    };
+    let (_, rest) = text.split_at(len);
+    if ends_name(rest) {
+        Ok((Token::Label(label), rest))
+    } else {
+        Err(ReadError::Syntax)
+    }
+}
+
+/// The token in front, and what follows it.
+fn read_token(alloc: Global, text: &[u8]) -> Result<(Token, &[u8]), ReadError>
+    ensures ok { IfOk result (λ r. IsTokenFront text.now (token_of r.0) r.1.now) }
+    ensures only { IfOk result (λ r. (t : tokens.Token) (q : List ℕ) → IsTokenFront text.now t q → (t ≡ token_of r.0) × (q ≡ r.1.now)) }
+    ensures syntax { IsErrOf result ReadError.Syntax → (t : tokens.Token) (q : List ℕ) → IsTokenFront text.now t q → ⊥ }
+{
+    match mark_front(text) {
+        Some(found) => Ok(found),
+        None => read_label(alloc, text),
+    }
+}
+
+/// The tokens of the text, with blanks between them and at both ends. Linear in the text.
+pub(crate) fn lex(alloc: Global, text: &[u8]) -> Result<Vec<Token>, ReadError>
+    ensures ok { IfOk result (λ ts. SpellsTokens SpellsLabel text.now (seen ts.items)) }
+    ensures only { IfOk result (λ ts. (us : List tokens.Token) → SpellsTokens SpellsLabel text.now us → us ≡ seen ts.items) }
+    ensures syntax { IsErrOf result ReadError.Syntax → (us : List tokens.Token) → SpellsTokens SpellsLabel text.now us → ⊥ }
+{
+    let mut all = Vec::new(alloc);
+    let mut left = skip_blanks(text);
+    'tokens: while !left.is_empty() {
+        let (token, rest) = read_token(alloc, left)?;
+        all.push(token)?;
+        left = skip_blanks(rest);
+    }
+    Ok(all)
+}

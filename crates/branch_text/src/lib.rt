@@ -1,0 +1,17 @@
+//! Branching queries as texts: read within limits, written, relaxed, and asked of any graph.
+#![tactic(auto)]
+
+mod answers;
+mod branch;
+mod grammar;
+mod lexer;
+mod marks;
+mod parsing;
+mod token;
+mod writing;
+
+pub use answers::eval;
+pub use branch::Branch;
+
+#[cfg(test)]
+mod tests;

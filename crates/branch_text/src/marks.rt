@@ -1,0 +1,87 @@
+// The tokens that are no labels.
+ghost use Rattle.std.specs.Prelude.{◌≡◌, List, ℕ, Option, option_map};
+ghost use Rattle.branch_sets.specs.Axes.{axis_of};
+ghost use Rattle.branch_text.specs.Seen.{token_of};
+ghost use Rattle.branch_text.specs.Fronts.{mark_at, axis_front, sign_front, word_token, word_front, mark_front};
+
+use crate::token::Token;
+use branch_sets::Axis;
+use path_query::name_len;
+
+/// The token of the byte.
+fn mark_at(byte: u8) -> Option<Token>
+    ensures { option_map token_of result ≡ mark_at byte }
+{
+    if byte == b'_' {
+        Some(Token::Any)
+    } else if byte == b'[' {
+        Some(Token::Left)
+    } else if byte == b']' {
+        Some(Token::Right)
+    } else if byte == b'(' {
+        Some(Token::Open)
+    } else if byte == b')' {
+        Some(Token::Close)
+    } else {
+        None
+    }
+}
+
+/// The token of an axis whose first byte is this one, with what follows it: the further one where the byte comes again.
+fn axis_front(byte: u8, near: Axis, far: Axis, rest: &[u8]) -> (Token, &[u8])
+    ensures { (token_of result.0, result.1.now) ≡ axis_front byte (axis_of near) (axis_of far) rest.now }
+{
+    match rest.split_first() {
+        Some((next, after)) if *next == byte => (Token::Along(far), after),
+        _ => (Token::Along(near), rest),
+    }
+}
+
+/// The token in front that is no word, and what follows it.
+fn sign_front(text: &[u8]) -> Option<(Token, &[u8])>
+    ensures { option_map (λ r. (token_of r.0, r.1.now)) result ≡ sign_front text.now }
+{
+    let (byte, rest) = text.split_first()?;
+    if *byte == b'/' {
+        return Some(axis_front(b'/', Axis::Child, Axis::Below, rest));
+    }
+    if *byte == b'\\' {
+        return Some(axis_front(b'\\', Axis::Parent, Axis::Above, rest));
+    }
+    let token = mark_at(*byte)?;
+    Some((token, rest))
+}
+
+/// The token of a word that is no label.
+fn word_token(word: &[u8]) -> Option<Token>
+    ensures { option_map token_of result ≡ word_token word.now }
+{
+    if word == b"not".as_slice() {
+        Some(Token::Not)
+    } else if word == b"and".as_slice() {
+        Some(Token::And)
+    } else if word == b"or".as_slice() {
+        Some(Token::Or)
+    } else {
+        None
+    }
+}
+
+/// The word in front that is no label, and what follows it.
+fn word_front(text: &[u8]) -> Option<(Token, &[u8])>
+    ensures { option_map (λ r. (token_of r.0, r.1.now)) result ≡ word_front text.now }
+{
+    let (word, rest) = text.split_at(name_len(text));
+    let token = word_token(word)?;
+    Some((token, rest))
+}
+
+/// The token in front that is no label, and what follows it.
+pub(crate) fn mark_front(text: &[u8]) -> Option<(Token, &[u8])>
+    ensures { option_map (λ r. (token_of r.0, r.1.now)) result ≡ mark_front text.now }
+{
+    match sign_front(text) {
+        Some(found) => Some(found),
+        None => word_front(text),
+    }
+}

@@ -1,0 +1,261 @@
+// Texts of branching queries, good and bad, and the answers over a small graph.
+ghost use Rattle.std.specs.Prelude.{◌≡◌, ◌<◌, ℕ, Some, length, IsTrue};
+ghost use Rattle.label_graph.specs.Views.{label_number};
+ghost use Rattle.branch_text.specs.Parsed.{has_text};
+
+use super::*;
+use label_graph::{Graph, GraphView};
+use path_query::ExprError;
+use px_base::{Bits, NodeId, Steps, Text};
+use px_spec::Limits;
+use std::alloc::Global;
+use std::marker::Brand;
+use std::process::Abort;
+use std::sync::ledger::{Blank, Ledger};
+use std::test::Fail;
+
+/// Texts, and what they are read as: the canonical text of a query, or the name of another answer.
+const TEXTS: &[(&str, &str)] = &[
+    (" a / b\t", "a/b"),
+    ("_//_\\b\\\\<http://e/\\u0061>", "_//_\\b\\\\<http://e/a>"),
+    ("a[ /b and//c ]", "a[/b and //c]"),
+    ("a[/b or/c and(\\d)]", "a[/b or /c and (\\d)]"),
+    ("a[not ( /b[/c] )]/d", "a[not(/b[/c])]/d"),
+    ("a[/b][\\\\c/d]//e", "a[/b][\\\\c/d]//e"),
+    ("a[((/b))]", "a[((/b))]"),
+    ("android[/nota]", "android[/nota]"),
+    ("a[not(not(/b))]", "a[not(not(/b))]"),
+    ("a[/bor/c]", "a[/bor/c]"),
+    ("", "syntax"),
+    ("a[]", "syntax"),
+    ("a[b]", "syntax"),
+    ("a[/b", "syntax"),
+    ("a/b]", "syntax"),
+    ("/a", "syntax"),
+    ("a/", "syntax"),
+    ("a / /b", "syntax"),
+    ("a\\\\\\b", "syntax"),
+    ("a[/b and]", "syntax"),
+    ("a[/b and not /c]", "syntax"),
+    ("a[/b or/c", "syntax"),
+    ("a[(/b)/c]", "syntax"),
+    ("a[/b](/c)", "syntax"),
+    ("not", "syntax"),
+    ("a/or", "syntax"),
+    ("a*", "syntax"),
+    ("a|b", "syntax"),
+];
+
+/// Whether this is how the query is written.
+fn is_written(alloc: Global, query: &Branch, text: &str) -> bool
+    requires { IsTrue (has_text query.now) }
+{
+    match query.write(alloc) {
+        Ok(found) => found.as_str() == text,
+        Err(_) => false,
+    }
+}
+
+/// Whether the text is read as this.
+fn is_read_as(alloc: Global, text: &str, answer: &str) -> bool {
+    match Branch::parse(alloc, text.as_bytes(), &Limits::program()) {
+        Ok(query) => is_written(alloc, &query, answer),
+        Err(ExprError::Syntax) => answer == "syntax",
+        Err(ExprError::Limit) => answer == "limit",
+        Err(ExprError::Memory) => false,
+    }
+}
+
+#[test]
+fn texts_are_read(rt: HostRuntime) {
+    for (text, answer) in TEXTS {
+        assert!(rt; is_read_as(rt.alloc(), text, answer), "at {text}");
+    }
+}
+
+const FEW: Limits = Limits {
+    nodes: 1,
+    edges: 1,
+    labels: 1,
+    expr_bytes: 9,
+    expr_depth: 2,
+};
+
+/// Texts, and whether they pass a limit of `FEW`.
+const PAST: &[(&str, bool)] = &[
+    ("abcdefghi", false),
+    ("abcdefghij", true),
+    ("a[(/b)]", false),
+    ("a[((/b))]", true),
+    ("a[/b[/c]]", false),
+    ("[[[", true),
+    ("<[[[>", false),
+];
+
+/// Whether the text passes one of the few limits.
+fn passes_limit(alloc: Global, text: &str) -> bool {
+    matches!(
+        Branch::parse(alloc, text.as_bytes(), &FEW),
+        Err(ExprError::Limit)
+    )
+}
+
+#[test]
+fn limits_come_first(rt: HostRuntime) {
+    for (text, past) in PAST {
+        assert!(rt; passes_limit(rt.alloc(), text) == *past, "at {text}");
+    }
+}
+
+const MOST: u32 = 100;
+
+/// The labels of six nodes, a byte each, and their edges.
+const NODES: &[u8] = b"abccad";
+
+const EDGES: &[(NodeId, NodeId)] = &[(0, 1), (1, 2), (0, 3), (3, 4), (4, 4)];
+
+fn add_node(rt: &impl Abort, alloc: Global, graph: &mut Graph, label: u8) -> Result<(), Fail> {
+    assert!(rt; graph.created() < MOST);
+    graph.reserve_node(alloc, &Text::from_bytes(alloc, &[label])?)?;
+    graph.add_node();
+    Ok(())
+}
+
+fn add_edge<L: Ledger>(
+    rt: &impl Abort,
+    graph: &mut Graph,
+    from: NodeId,
+    to: NodeId,
+    steps: &mut Steps<L>,
+) -> Result<(), Fail> {
+    assert!(rt; graph.is_live(from));
+    assert!(rt; graph.is_live(to));
+    assert!(rt; !graph.has_edge(from, to, steps));
+    assert!(rt; graph.edge_count() < MOST);
+    graph.reserve_edge(from, to)?;
+    graph.add_edge(from, to);
+    Ok(())
+}
+
+fn small_graph<L: Ledger>(
+    rt: &impl Abort,
+    alloc: Global,
+    steps: &mut Steps<L>,
+) -> Result<Graph, Fail> {
+    let mut graph = Graph::new(alloc)?;
+    for label in NODES {
+        add_node(rt, alloc, &mut graph, *label)?;
+    }
+    for (from, to) in EDGES {
+        add_edge(rt, &mut graph, *from, *to, steps)?;
+    }
+    Ok(graph)
+}
+
+/// Queries, their answers over the small graph, and those of their relaxed forms.
+const ANSWERS: &[(&str, &[NodeId], &[NodeId])] = &[
+    ("a/c", &[3], &[3]),
+    ("a//c", &[2, 3], &[2, 3]),
+    ("c\\a", &[0], &[0]),
+    ("c\\\\_", &[0, 1], &[0, 1]),
+    ("a[/a]", &[4], &[4]),
+    ("_[\\\\b]", &[2], &[2]),
+    ("a//c[not(/a)]", &[2], &[2, 3]),
+    ("_[not(/_ or \\_)]", &[5], &[0, 1, 2, 3, 4, 5]),
+    ("c[/a and \\a]", &[3], &[3]),
+    ("c[/b or \\b]", &[2], &[2]),
+    ("_[(/b or /a) and not(/c)]/_", &[4], &[1, 3, 4]),
+    ("a[/b//c]/c", &[3], &[3]),
+    ("a[not(not(/b))]", &[0], &[0, 4]),
+    ("a[/e]", &[], &[]),
+    ("d//_", &[], &[]),
+];
+
+/// Whether these are the marked nodes.
+fn are(marked: &Bits, nodes: &[NodeId]) -> bool {
+    marked.count() as usize == nodes.len() && nodes.iter().all(|n| marked.contains(*n))
+}
+
+/// Whether these are the answers to the query.
+fn answers_are(
+    alloc: Global,
+    graph: &Graph,
+    view: &GraphView<'_>,
+    query: &Branch,
+    answers: &[NodeId],
+) -> bool
+    requires same { view.now ≡ graph.now.graph }
+    requires labelled { (n l : ℕ) → label_number graph.now.graph n ≡ Some l → l < length graph.now.graph.seen }
+{
+    match eval(alloc, view, graph.labels(), query) {
+        Ok(marked) => are(&marked, answers),
+        Err(_) => false,
+    }
+}
+
+/// Whether these are the answers to the relaxed query.
+fn relaxed_answers_are(
+    alloc: Global,
+    graph: &Graph,
+    view: &GraphView<'_>,
+    query: &Branch,
+    answers: &[NodeId],
+) -> bool
+    requires same { view.now ≡ graph.now.graph }
+    requires labelled { (n l : ℕ) → label_number graph.now.graph n ≡ Some l → l < length graph.now.graph.seen }
+{
+    match query.relax(alloc) {
+        Ok(relaxed) => answers_are(alloc, graph, view, &relaxed, answers),
+        Err(_) => false,
+    }
+}
+
+/// Whether these are the answers to the text, and to its relaxed form.
+fn has_answers(
+    alloc: Global,
+    graph: &Graph,
+    view: &GraphView<'_>,
+    text: &str,
+    answers: &[NodeId],
+    relaxed: &[NodeId],
+) -> bool
+    requires same { view.now ≡ graph.now.graph }
+    requires labelled { (n l : ℕ) → label_number graph.now.graph n ≡ Some l → l < length graph.now.graph.seen }
+{
+    match Branch::parse(alloc, text.as_bytes(), &Limits::program()) {
+        Ok(query) => {
+            answers_are(alloc, graph, view, &query, answers)
+                && relaxed_answers_are(alloc, graph, view, &query, relaxed)
+        }
+        Err(_) => false,
+    }
+}
+
+fn check_answers(rt: &impl Abort, alloc: Global, graph: &Graph, view: &GraphView<'_>)
+    requires same { view.now ≡ graph.now.graph }
+    requires labelled { (n l : ℕ) → label_number graph.now.graph n ≡ Some l → l < length graph.now.graph.seen }
+{
+    for (text, answers, relaxed) in ANSWERS {
+        assert!(rt;
+            has_answers(alloc, graph, view, text, answers, relaxed),
+            "at {text}"
+        );
+    }
+}
+
+fn check_small_graph<L: Ledger>(rt: &impl Abort, alloc: Global, blank: Blank) -> Result<(), Fail>
+    requires name { blank.name ≡ L.name }
+    requires parts { blank.parts ≡ L.parts }
+    requires some { 0 < blank.parts }
+{
+    let mut steps = Steps::<L>::new(blank);
+    let graph = small_graph(rt, alloc, &mut steps)?;
+    let view = graph.view(&mut steps);
+    check_answers(rt, alloc, &graph, &view);
+    Ok(())
+}
+
+#[test]
+fn answers_end_the_lists_of_nodes(rt: HostRuntime) -> Result<(), Fail> {
+    check_small_graph::<Brand>(&rt, rt.alloc(), Blank::new(1))
+}
