@@ -11,8 +11,8 @@ use Rattle.index_api.specs.declared.kinds.Via.{Via}
 use Rattle.index_api.specs.declared.kinds.Via.TheVariants.{Data, A, One, Fb}
 use Rattle.index_api.specs.Spelling.{via_word, kind_word}
 use Rattle.script_read.specs.Parts.{first_word, expression_text}
-use Rattle.script_read.specs.Commands.{Command, change, path, extents, sizes, forget, IsIndex, IsVia, IsQuiet, IsSpelled, SpellsPair, Asks, NoCommand, SpellsOnce, LabelsOnce, PathsOnce}
-use Rattle.script_read.specs.Saying.{SaysNode, SaysPath}
+use Rattle.script_read.specs.Commands.{Command, change, path, branch, extents, sizes, forget, IsIndex, IsVia, IsQuiet, IsSpelled, SpellsPair, AsksWith, Asks, NoCommand, SpellsOnce, LabelsOnce, PathsOnce, BranchesOnce}
+use Rattle.script_read.specs.Saying.{SaysNode, SaysQuery}
 use Rattle.script_read.proofs.WordLemmas.{head_word, is_split}
 use Rattle.script_read.proofs.CommandLemmas.{second_same, no_query, apart, begins, silent}
 
@@ -44,6 +44,9 @@ via_one Fb Fb h k e = refl
 via_one Data Data h k e = refl
 via_one v w h k e = absurd (let first = ap (λ l. slice_index l 0) e in omega (arith, first))
 
+one_way : (line word : List ℕ) (v w : Via) → AsksWith word line v → AsksWith word line w → v ≡ w
+one_way line word v w h k = via_one v w h.2 k.2 (sym h.1 ∙ k.1)
+
 index_via : (v : Via) → IsIndex v → IsVia v
 index_via (A m) h = h
 index_via One h = h
@@ -60,6 +63,7 @@ kind_one v w e = absurd (let first = ap (λ l. slice_index l 0) e in omega (arit
 record PartsOnce (line : List ℕ) : Type 0 where
   label : (word : List ℕ) → SaysNode line word → LabelsOnce word
   expression : first_word line ≡ codes "path" → PathsOnce (expression_text line)
+  query : first_word line ≡ codes "branch" → BranchesOnce (expression_text line)
 
 command_one : (line : List ℕ) → PartsOnce line → (c d : Command) → IsSpelled line c → IsSpelled line d → c ≡ d
 command_one line o (change (node t)) (change (node u)) h k =
@@ -69,25 +73,30 @@ command_one line o (change (link u v)) (change (link x y)) h k = pair_one line _
 command_one line o (change (unlink u v)) (change (unlink x y)) h k = pair_one line _ u v x y (λ a b. change (unlink a b)) h k
 command_one line o (change (drop u)) (change (drop x)) h k = ap (λ n. change (drop n)) (node_number u x h.1 k.1 (ap second (sym h.0 ∙ k.0)))
 command_one line o (path v e) (path w f) h k =
-    ap (λ v. path v e) (via_one v w h.0.2 k.0.2 (sym h.0.1 ∙ k.0.1)) ∙ ap (path w) (o.expression h.0.0 e f h.1 k.1)
+    ap (λ v. path v e) (one_way line _ v w h.0 k.0) ∙ ap (path w) (o.expression h.0.0 e f h.1 k.1)
+command_one line o (branch v e) (branch w f) h k =
+    ap (λ v. branch v e) (one_way line _ v w h.0 k.0) ∙ ap (branch w) (o.query h.0.0 e f h.1 k.1)
 command_one line o (extents v) (extents w) h k = ap extents (via_one v w (index_via v h.1) (index_via w k.1) (second_same (sym h.0 ∙ k.0)))
 command_one line o sizes sizes h k = refl
 command_one line o (forget v) (forget w) h k = ap forget (kind_one v w (second_same (sym h ∙ k)))
 command_one line o (change c) (path v e) h k = absurd (apart (first_word line) _ _ (begins line (change c) h) (begins line (path v e) k) (no_query c).no_path)
+command_one line o (change c) (branch v e) h k = absurd (apart (first_word line) _ _ (begins line (change c) h) (begins line (branch v e) k) (no_query c).no_branch)
 command_one line o (change c) (extents v) h k = absurd (apart (first_word line) _ _ (begins line (change c) h) (begins line (extents v) k) (no_query c).no_extents)
 command_one line o (change c) sizes h k = absurd (apart (first_word line) _ _ (begins line (change c) h) (begins line sizes k) (no_query c).no_sizes)
 command_one line o (change c) (forget v) h k = absurd (apart (first_word line) _ _ (begins line (change c) h) (begins line (forget v) k) (no_query c).no_forget)
 command_one line o (path v e) (change c) h k = absurd (apart (first_word line) _ _ (begins line (change c) k) (begins line (path v e) h) (no_query c).no_path)
+command_one line o (branch v e) (change c) h k = absurd (apart (first_word line) _ _ (begins line (change c) k) (begins line (branch v e) h) (no_query c).no_branch)
 command_one line o (extents v) (change c) h k = absurd (apart (first_word line) _ _ (begins line (change c) k) (begins line (extents v) h) (no_query c).no_extents)
 command_one line o sizes (change c) h k = absurd (apart (first_word line) _ _ (begins line (change c) k) (begins line sizes h) (no_query c).no_sizes)
 command_one line o (forget v) (change c) h k = absurd (apart (first_word line) _ _ (begins line (change c) k) (begins line (forget v) h) (no_query c).no_forget)
 command_one line o c d h k = absurd (apart (first_word line) _ _ (begins line c h) (begins line d k) (λ e. omega (arith, e)))
 
--- a first byte other than that of `node` (110) and of `path` (112)
-no_parts : (line word : List ℕ) → first_word line ≡ word → slice_index word 0 ≢ 110 → slice_index word 0 ≢ 112 → PartsOnce line
-no_parts line word e n p = record {
+-- a first byte other than that of `node` (110), of `path` (112) and of `branch` (98)
+no_parts : (line word : List ℕ) → first_word line ≡ word → slice_index word 0 ≢ 110 → slice_index word 0 ≢ 112 → slice_index word 0 ≢ 98 → PartsOnce line
+no_parts line word e n p b = record {
   label = λ w s. absurd (n (ap (λ l. slice_index l 0) (sym e ∙ (head_word line _ _ _ _ (is_split line) s).0)));
   expression = λ f. absurd (p (ap (λ l. slice_index l 0) (sym e ∙ f)));
+  query = λ f. absurd (b (ap (λ l. slice_index l 0) (sym e ∙ f)));
 }
 
 -- one lemma for each thing that a line can say
@@ -101,31 +110,40 @@ pub node_once : (line word : List ℕ) → SaysNode line word → LabelsOnce wor
 node_once line word s once = command_one line (record {
   label = λ w t. subst LabelsOnce (second_same (sym s ∙ t)) once;
   expression = λ f. absurd (apart (first_word line) _ _ (head_word line _ _ _ _ (is_split line) s).0 f (λ e. omega (arith, e)));
+  query = λ f. absurd (apart (first_word line) _ _ (head_word line _ _ _ _ (is_split line) s).0 f (λ e. omega (arith, e)));
 })
 
-pub path_once : (line : List ℕ) (via : Via) (text : List ℕ) → SaysPath line via text → PathsOnce text → SpellsOnce line
+pub path_once : (line : List ℕ) (via : Via) (text : List ℕ) → SaysQuery (codes "path") line via text → PathsOnce text → SpellsOnce line
 path_once line via text s once = command_one line (record {
   label = λ w t. absurd (apart (first_word line) _ _ (head_word line _ _ _ _ (is_split line) t).0 s.0.0 (λ e. omega (arith, e)));
   expression = λ f. subst PathsOnce s.1 once;
+  query = λ f. absurd (apart (first_word line) _ _ s.0.0 f (λ e. omega (arith, e)));
+})
+
+pub branch_once : (line : List ℕ) (via : Via) (text : List ℕ) → SaysQuery (codes "branch") line via text → BranchesOnce text → SpellsOnce line
+branch_once line via text s once = command_one line (record {
+  label = λ w t. absurd (apart (first_word line) _ _ (head_word line _ _ _ _ (is_split line) t).0 s.0.0 (λ e. omega (arith, e)));
+  expression = λ f. absurd (apart (first_word line) _ _ s.0.0 f (λ e. omega (arith, e)));
+  query = λ f. subst BranchesOnce s.1 once;
 })
 
 pub link_once : (line : List ℕ) (u v : ℕ) → IsSpelled line (change (link u v)) → SpellsOnce line
-link_once line u v h = command_one line (no_parts line _ (begins line (change (link u v)) h) (λ e. omega (arith, e)) (λ e. omega (arith, e)))
+link_once line u v h = command_one line (no_parts line _ (begins line (change (link u v)) h) (λ e. omega (arith, e)) (λ e. omega (arith, e)) (λ e. omega (arith, e)))
 
 pub unlink_once : (line : List ℕ) (u v : ℕ) → IsSpelled line (change (unlink u v)) → SpellsOnce line
-unlink_once line u v h = command_one line (no_parts line _ (begins line (change (unlink u v)) h) (λ e. omega (arith, e)) (λ e. omega (arith, e)))
+unlink_once line u v h = command_one line (no_parts line _ (begins line (change (unlink u v)) h) (λ e. omega (arith, e)) (λ e. omega (arith, e)) (λ e. omega (arith, e)))
 
 pub drop_once : (line : List ℕ) (u : ℕ) → IsSpelled line (change (drop u)) → SpellsOnce line
-drop_once line u h = command_one line (no_parts line _ (begins line (change (drop u)) h) (λ e. omega (arith, e)) (λ e. omega (arith, e)))
+drop_once line u h = command_one line (no_parts line _ (begins line (change (drop u)) h) (λ e. omega (arith, e)) (λ e. omega (arith, e)) (λ e. omega (arith, e)))
 
 pub extents_once : (line : List ℕ) (via : Via) → IsSpelled line (extents via) → SpellsOnce line
-extents_once line via h = command_one line (no_parts line _ (begins line (extents via) h) (λ e. omega (arith, e)) (λ e. omega (arith, e)))
+extents_once line via h = command_one line (no_parts line _ (begins line (extents via) h) (λ e. omega (arith, e)) (λ e. omega (arith, e)) (λ e. omega (arith, e)))
 
 pub sizes_once : (line : List ℕ) → IsSpelled line sizes → SpellsOnce line
-sizes_once line h = command_one line (no_parts line _ (begins line sizes h) (λ e. omega (arith, e)) (λ e. omega (arith, e)))
+sizes_once line h = command_one line (no_parts line _ (begins line sizes h) (λ e. omega (arith, e)) (λ e. omega (arith, e)) (λ e. omega (arith, e)))
 
 pub forget_once : (line : List ℕ) (kind : Kind) → IsSpelled line (forget kind) → SpellsOnce line
-forget_once line kind h = command_one line (no_parts line _ (begins line (forget kind) h) (λ e. omega (arith, e)) (λ e. omega (arith, e)))
+forget_once line kind h = command_one line (no_parts line _ (begins line (forget kind) h) (λ e. omega (arith, e)) (λ e. omega (arith, e)) (λ e. omega (arith, e)))
 
 pub ruleset reading_laws =
-    (silent, quiet_once, bad_once, node_once, path_once, link_once, unlink_once, drop_once, extents_once, sizes_once, forget_once)
+    (silent, quiet_once, bad_once, node_once, path_once, branch_once, link_once, unlink_once, drop_once, extents_once, sizes_once, forget_once)

@@ -6,12 +6,13 @@ use Rattle.px_spec.specs.Words.{node_word}
 use Rattle.px_spec.specs.Changes.{node, link, unlink, drop as drop_node}
 use Rattle.path_query.specs.Labels.{SpellsLabel}
 use Rattle.path_spec.specs.Trees.{Expr, only, last, once, label}
+use Rattle.branch_spec.specs.Trees as tree
 use Rattle.path_query.proofs.Examples.{plain_a, iri_a, iri_escaped, no_label_and}
 use Rattle.bisim_spec.specs.declared.kind.Kind.{Kind}
 use Rattle.bisim_spec.specs.declared.kind.Kind.TheVariants as kind
 use Rattle.index_api.specs.declared.kinds.Via.{Via}
 use Rattle.index_api.specs.declared.kinds.Via.TheVariants.{Data, A, One, Fb}
-use Rattle.script_read.specs.Commands.{Command, change, path, extents, sizes, forget, IsQuiet, IsSpelled, NoCommand}
+use Rattle.script_read.specs.Commands.{Command, change, path, branch, extents, sizes, forget, IsQuiet, IsSpelled, NoCommand}
 use Rattle.script_read.specs.Parts.{expression_text}
 
 -- blanks may stand at both ends and between the words
@@ -107,6 +108,19 @@ no_other_way (A level) e h = omega (arith, ap (λ l. slice_index l 0) h.0.1)
 no_other_way One e h = omega (arith, ap (λ l. slice_index l 0) h.0.1)
 no_other_way Fb e h = omega (arith, ap (λ l. slice_index l 0) h.0.1)
 
+-- `branch` takes branching queries, and `path` doesn't
+branch_spelled : IsSpelled (codes "branch fb  a\t") (branch Fb (tree.branch (tree.step (tree.label (codes "a")) tree.none) tree.end))
+branch_spelled = ((refl, refl, tt), ([], codes "a", [], refl, inl (plain_a, refl), tt, refl, refl))
+
+up_spelled : IsSpelled (codes "branch data a\\_") (branch Data (tree.branch (tree.step (tree.label (codes "a")) tree.none) (tree.go tree.parent (tree.step tree.any tree.none) tree.end)))
+up_spelled = (
+  (refl, refl, tt),
+  ([], codes "a", codes "\\_", refl, inl (plain_a, refl), refl, ([], codes "\\", codes "_", refl, refl, refl, ([], codes "_", [], refl, refl, tt, refl, refl), refl), refl),
+)
+
+no_branch_of_path : (via : Via) (q : tree.Branch) → ¬ IsSpelled (codes "path data a") (branch via q)
+no_branch_of_path via q h = omega (arith, ap (λ l. slice_index l 0) h.0.0)
+
 -- a kind of indexes is named without a level, and the graph itself is no kind
 forget_spelled : IsSpelled (codes "forget a") (forget kind.A)
 forget_spelled = refl
@@ -170,6 +184,7 @@ bad_label = (λ q. omega (arith, q), other)
     other (change (unlink u v)) h = omega (arith, ap length h.0)
     other (change (drop_node u)) h = omega (arith, ap (λ ws. slice_index (first ws) 0) h.0)
     other (path via e) h = omega (arith, ap (λ l. slice_index l 0) h.0.0)
+    other (branch via q) h = omega (arith, ap (λ l. slice_index l 0) h.0.0)
     other (extents via) h = omega (arith, ap (λ ws. slice_index (first ws) 0) h.0)
     other sizes h = omega (arith, ap length h)
     other (forget kind) h = omega (arith, ap (λ ws. slice_index (first ws) 0) h)

@@ -6,6 +6,8 @@ use Rattle.px_spec.specs.Changes.{Change, node, link, unlink, drop}
 use Rattle.path_spec.specs.Trees.{Expr}
 use Rattle.path_query.specs.Labels.{SpellsLabel}
 use Rattle.path_query.specs.Parsed.{Spells, is_past}
+use Rattle.branch_spec.specs.Trees.{Branch}
+use Rattle.branch_text.specs.Parsed.{Spells as SpellsQuery}
 use Rattle.bisim_spec.specs.declared.kind.Kind.{Kind}
 use Rattle.index_api.specs.declared.kinds.Via.{Via}
 use Rattle.index_api.specs.declared.kinds.Via.TheVariants.{Data, A, One, Fb}
@@ -17,6 +19,8 @@ pub data Command : Type 0 where
   change : Change → Command
   -- the answers of a path expression, asked through this
   path : Via → Expr → Command
+  -- the answers of a branching query, asked through this
+  branch : Via → Branch → Command
   -- the blocks of this index, each with its nodes
   extents : Via → Command
   -- how many nodes and edges the graph and each index have
@@ -58,17 +62,26 @@ IsVia (A level) = IsIndex (A level)
 IsVia One = IsIndex One
 IsVia Fb = IsIndex Fb
 
--- the first words are `path` and through what it is asked
+-- the first words are this one and through what a query is asked
+abbrev pub AsksWith : List ℕ → List ℕ → Via → Type 0
+AsksWith word line via = (first_word line ≡ word) × (first_word (behind_word line) ≡ via_word via) × IsVia via
+
 abbrev pub AsksPath : List ℕ → Via → Type 0
-AsksPath line via = (first_word line ≡ codes "path") × (first_word (behind_word line) ≡ via_word via) × IsVia via
+AsksPath line via = AsksWith (codes "path") line via
+
+abbrev pub AsksBranch : List ℕ → Via → Type 0
+AsksBranch line via = AsksWith (codes "branch") line via
 
 -- so they are, and what follows them, without the blanks at both ends, spells the expression
 abbrev pub SpellsPath : List ℕ → Via → Expr → Type 0
 SpellsPath line via e = AsksPath line via × Spells (expression_text line) e
 
--- the line asks with a path expression, through the graph or some index
+abbrev pub SpellsBranch : List ℕ → Via → Branch → Type 0
+SpellsBranch line via q = AsksBranch line via × SpellsQuery (expression_text line) q
+
+-- the line asks with an expression of one of the two languages, through the graph or some index
 abbrev pub Asks : List ℕ → Type 0
-Asks line = (via : Via) × AsksPath line via
+Asks line = (via : Via) × (AsksPath line via ⊎ AsksBranch line via)
 
 -- so it does, and the text of the expression has more bytes than it may, or nests deeper
 abbrev pub PassesLimit : Limits → List ℕ → Type 0
@@ -84,6 +97,7 @@ SpellsForget line kind = words line ≡ codes "forget" ∷ kind_word kind ∷ []
 abbrev pub IsSpelled : List ℕ → Command → Type 0
 IsSpelled line (change c) = SpellsChange line c
 IsSpelled line (path via e) = SpellsPath line via e
+IsSpelled line (branch via q) = SpellsBranch line via q
 IsSpelled line (extents via) = SpellsExtents line via
 IsSpelled line sizes = words line ≡ codes "sizes" ∷ []
 IsSpelled line (forget kind) = SpellsForget line kind
@@ -107,6 +121,10 @@ LabelsOnce word = (t u : List ℕ) → SpellsLabel word t → SpellsLabel word u
 -- the text spells at most one path expression
 abbrev pub PathsOnce : List ℕ → Type 0
 PathsOnce text = (e f : Expr) → Spells text e → Spells text f → e ≡ f
+
+-- and at most one branching query
+abbrev pub BranchesOnce : List ℕ → Type 0
+BranchesOnce text = (p q : Branch) → SpellsQuery text p → SpellsQuery text q → p ≡ q
 
 -- the line spells at most one command
 abbrev pub SpellsOnce : List ℕ → Type 0

@@ -2,9 +2,9 @@
 use Rattle.std.specs.Prelude.{ℕ, ⊤, List, Option, None, Some, Result, Ok, Err}
 use Rattle.px_spec.specs.declared.limits.Limits.{Limits}
 use Rattle.px_spec.specs.Changes.{node, link, unlink, drop}
-use Rattle.script_read.specs.Commands.{Command, change, path, extents, sizes, forget, IsQuiet, IsSpelled, PassesLimit, SpellsNothing}
+use Rattle.script_read.specs.Commands.{Command, change, path, branch, extents, sizes, forget, IsQuiet, IsSpelled, PassesLimit, SpellsNothing}
 use Rattle.script_read.specs.declared.commands.Command.{Command as Asked}
-use Rattle.script_read.specs.declared.commands.Command.TheVariants.{Node, Link, Unlink, Drop, Path, Extents, Sizes, Forget}
+use Rattle.script_read.specs.declared.commands.Command.TheVariants.{Node, Link, Unlink, Drop, Path, Branch, Extents, Sizes, Forget}
 use Rattle.script_read.specs.declared.commands.ScriptError.{ScriptError}
 use Rattle.script_read.specs.declared.commands.ScriptError.TheVariants.{Bad, Limit, Memory}
 
@@ -15,6 +15,7 @@ command_of (Link u v) = change (link u v)
 command_of (Unlink u v) = change (unlink u v)
 command_of (Drop u) = change (drop u)
 command_of (Path via e) = path via e
+command_of (Branch via q) = branch via q
 command_of (Extents via) = extents via
 command_of Sizes = sizes
 command_of (Forget kind) = forget kind

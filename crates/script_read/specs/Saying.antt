@@ -3,18 +3,18 @@ use Rattle.std.specs.Prelude.{ℕ, ◌≡◌, ◌≢◌, List, [], ◌∷◌, co
 use Rattle.px_spec.specs.Words.{words}
 use Rattle.px_spec.specs.Changes.{link, unlink, drop}
 use Rattle.index_api.specs.declared.kinds.Via.{Via}
-use Rattle.script_read.specs.Commands.{change, extents, sizes, forget, AsksPath, Asks, IsQuiet, IsSpelled, NoCommand}
+use Rattle.script_read.specs.Commands.{change, extents, sizes, forget, AsksWith, Asks, IsQuiet, IsSpelled, NoCommand}
 use Rattle.script_read.specs.Parts.{expression_text, OpensNothing}
 use Rattle.script_read.specs.declared.scan.Said.{Said}
-use Rattle.script_read.specs.declared.scan.Said.TheVariants.{Quiet, Node, Link, Unlink, Drop, Path, Extents, Sizes, Forget, Bad}
+use Rattle.script_read.specs.declared.scan.Said.TheVariants.{Quiet, Node, Link, Unlink, Drop, Path, Branch, Extents, Sizes, Forget, Bad}
 
 -- the line adds a node with the label that this word spells
 abbrev pub SaysNode : List ℕ → List ℕ → Type 0
 SaysNode line word = words line ≡ codes "node" ∷ word ∷ []
 
--- the line asks through this for the answers of what this text spells
-abbrev pub SaysPath : List ℕ → Via → List ℕ → Type 0
-SaysPath line via text = AsksPath line via × (text ≡ expression_text line)
+-- the line begins with this word, and asks through this for the answers of what this text spells
+abbrev pub SaysQuery : List ℕ → List ℕ → Via → List ℕ → Type 0
+SaysQuery word line via text = AsksWith word line via × (text ≡ expression_text line)
 
 -- a first word, but of no change
 pub record OpensOther (word : List ℕ) : Type 0 where
@@ -31,7 +31,8 @@ Says line (Node word) = SaysNode line word.now
 Says line (Link u v) = IsSpelled line (change (link u v))
 Says line (Unlink u v) = IsSpelled line (change (unlink u v))
 Says line (Drop u) = IsSpelled line (change (drop u))
-Says line (Path via text) = SaysPath line via text.now
+Says line (Path via text) = SaysQuery (codes "path") line via text.now
+Says line (Branch via text) = SaysQuery (codes "branch") line via text.now
 Says line (Extents via) = IsSpelled line (extents via)
 Says line Sizes = IsSpelled line sizes
 Says line (Forget kind) = IsSpelled line (forget kind)

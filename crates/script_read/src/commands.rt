@@ -3,10 +3,13 @@ ghost use Rattle.std.specs.Prelude.{◌≡◌, ◌≢◌, ◌↔◌, ℕ, List, 
 ghost use Rattle.path_spec.specs.Trees.{Expr};
 ghost use Rattle.path_query.specs.Labels.{SpellsLabel};
 ghost use Rattle.path_query.specs.Parsed.{Spells, is_past};
-ghost use Rattle.script_read.specs.Commands.{Command as Spelled, IsQuiet, IsSpelled, LabelsOnce, PathsOnce, SpellsOnce};
+ghost use Rattle.branch_spec.specs.Trees.{Branch as Query};
+ghost use Rattle.branch_text.specs.Parsed.{Spells as SpellsQuery};
+ghost use Rattle.script_read.specs.Commands.{Command as Spelled, IsQuiet, IsSpelled, LabelsOnce, PathsOnce, BranchesOnce, SpellsOnce};
 ghost use Rattle.script_read.specs.Reading.{Reads};
 
 use crate::scan::{Said, scan};
+use branch_text::Branch;
 use index_api::{Kind, Via};
 use path_query::{ExprError, PathExpr, read_label};
 use px_base::{Limits, NodeId, Text};
@@ -27,6 +30,8 @@ pub enum Command {
     /// `path VIA EXPR`: the nodes in which the walks end that the expression matches, asked through the graph itself
     /// or an index.
     Path(Via, PathExpr),
+    /// `branch VIA EXPR`: the answers of the branching query, asked through the graph itself or an index.
+    Branch(Via, Branch),
     /// `extents INDEX`: the blocks of this index, which isn't the graph itself, each with its nodes.
     Extents(Via),
     /// `sizes`: how many nodes and edges the graph and each index have.
@@ -78,6 +83,21 @@ fn parse_path(alloc: Global, text: &[u8], limits: &Limits) -> Result<PathExpr, S
     }
 }
 
+/// The branching query that the text spells.
+fn parse_branch(alloc: Global, text: &[u8], limits: &Limits) -> Result<Branch, ScriptError>
+    ensures ok { IfOk result (SpellsQuery text.now) }
+    ensures limit { (result ≡ Err ScriptError.Limit) ↔ IsTrue (is_past limits.now text.now) }
+    ensures bad { IsErrOf result ScriptError.Bad → (q : Query) → SpellsQuery text.now q → ⊥ }
+    ensures once { BranchesOnce text.now }
+{
+    match Branch::parse(alloc, text, limits) {
+        Ok(query) => Ok(query),
+        Err(ExprError::Limit) => Err(ScriptError::Limit),
+        Err(ExprError::Syntax) => Err(ScriptError::Bad),
+        Err(ExprError::Memory) => Err(ScriptError::Memory),
+    }
+}
+
 /// The command that the line spells, which is one; None exactly for a blank or comment line. `Limit` comes exactly
 /// where the line asks with an expression that passes a limit, whether or not that is in the language; else `Bad`
 /// exactly where the line is neither a command nor blank nor a comment. `Memory` comes where memory runs out. The
@@ -95,6 +115,9 @@ pub fn read(alloc: Global, line: &[u8], limits: &Limits) -> Result<Option<Comman
         Said::Unlink(from, to) => Ok(Some(Command::Unlink(from, to))),
         Said::Drop(node) => Ok(Some(Command::Drop(node))),
         Said::Path(via, text) => Ok(Some(Command::Path(via, parse_path(alloc, text, limits)?))),
+        Said::Branch(via, text) => {
+            Ok(Some(Command::Branch(via, parse_branch(alloc, text, limits)?)))
+        }
         Said::Extents(via) => Ok(Some(Command::Extents(via))),
         Said::Sizes => Ok(Some(Command::Sizes)),
         Said::Forget(kind) => Ok(Some(Command::Forget(kind))),

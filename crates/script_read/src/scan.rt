@@ -24,14 +24,16 @@ pub(crate) enum Said<'a> {
     Drop(NodeId),
     /// Through what a path expression is asked, and its text.
     Path(Via, &'a [u8]),
+    /// The same of a branching query.
+    Branch(Via, &'a [u8]),
     Extents(Via),
     Sizes,
     Forget(Kind),
     Bad,
 }
 
-/// Through what a path expression is asked, and its text without the blanks at both ends.
-fn path_parts(rest: &[u8]) -> Option<(Via, &[u8])>
+/// Through what a query is asked, and the text of its expression without the blanks at both ends.
+fn query_parts(rest: &[u8]) -> Option<(Via, &[u8])>
     ensures via { IfSome result (λ p. (first_word rest.now ≡ via_word p.0) × IsVia p.0) }
     ensures text { IfSome result (λ p. p.1.now ≡ without_blanks (behind_word rest.now)) }
     ensures absent { IfNone result ((v : AnyVia) → IsVia v → first_word rest.now ≢ via_word v) }
@@ -56,8 +58,13 @@ fn scan_query<'a>(word: &'a [u8], rest: &'a [u8]) -> Said<'a>
     ensures { (line : List ℕ) → word.now ≡ first_word line → rest.now ≡ behind_word line → Says line result }
 {
     if is_word(word, "path") {
-        match path_parts(rest) {
+        match query_parts(rest) {
             Some((via, text)) => Said::Path(via, text),
+            None => Said::Bad,
+        }
+    } else if is_word(word, "branch") {
+        match query_parts(rest) {
+            Some((via, text)) => Said::Branch(via, text),
             None => Said::Bad,
         }
     } else if is_word(word, "extents") {

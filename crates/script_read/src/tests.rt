@@ -13,6 +13,7 @@ enum Short {
     Pair(char, u32, u32),
     Drop(u32),
     Path(Via),
+    Branch(Via),
     Extents(Via),
     Sizes,
     Forget(Kind),
@@ -29,6 +30,7 @@ fn shorten(read: Result<Option<Command>, ScriptError>) -> Short {
         Ok(Some(Command::Unlink(from, to))) => Short::Pair('u', from, to),
         Ok(Some(Command::Drop(node))) => Short::Drop(node),
         Ok(Some(Command::Path(via, _))) => Short::Path(via),
+        Ok(Some(Command::Branch(via, _))) => Short::Branch(via),
         Ok(Some(Command::Extents(via))) => Short::Extents(via),
         Ok(Some(Command::Sizes)) => Short::Sizes,
         Ok(Some(Command::Forget(kind))) => Short::Forget(kind),
@@ -40,7 +42,7 @@ fn shorten(read: Result<Option<Command>, ScriptError>) -> Short {
 
 #[test]
 fn lines_are_commands(rt: HostRuntime) -> Result<(), Fail> {
-    let rows: [(&[u8], Short); 18] = [
+    let rows: [(&[u8], Short); 21] = [
         (b"", Short::Quiet),
         (b" \t# node a", Short::Quiet),
         (b" node\ta ", Short::Node),
@@ -52,6 +54,12 @@ fn lines_are_commands(rt: HostRuntime) -> Result<(), Fail> {
         (b"path data (a|b)*//_ ", Short::Path(Via::Data)),
         (b"path one a", Short::Path(Via::One)),
         (b" path  a4294967295\ta/_ ", Short::Path(Via::A(4294967295))),
+        (b"branch data b\\a", Short::Branch(Via::Data)),
+        (
+            b" branch fb a[/b and not ( //c )]\\x ",
+            Short::Branch(Via::Fb),
+        ),
+        (b"branch a1 a[not(/b)]", Short::Branch(Via::A(1))),
         (b"extents one", Short::Extents(Via::One)),
         (b" extents\tfb ", Short::Extents(Via::Fb)),
         (b"extents a0", Short::Extents(Via::A(0))),
@@ -68,7 +76,7 @@ fn lines_are_commands(rt: HostRuntime) -> Result<(), Fail> {
 
 #[test]
 fn near_misses_are_bad(rt: HostRuntime) -> Result<(), Fail> {
-    let lines: [&[u8]; 25] = [
+    let lines: [&[u8]; 30] = [
         b"node",
         b"node and",
         b"node a b",
@@ -84,6 +92,11 @@ fn near_misses_are_bad(rt: HostRuntime) -> Result<(), Fail> {
         b"path two a",
         b"path a4294967296 a",
         b"path fb",
+        b"path data a[/b]",
+        b"branch data a[b]",
+        b"branch data a|b",
+        b"branch two a",
+        b"branch fb",
         b"Node a",
         b"extents",
         b"extents data",
@@ -123,7 +136,7 @@ fn limits_come_before_the_language(rt: HostRuntime) -> Result<(), Fail> {
         expr_bytes: 5,
         expr_depth: 1,
     };
-    let rows: [(&[u8], Short); 8] = [
+    let rows: [(&[u8], Short); 11] = [
         (b" path data  a//bc \t", Short::Path(Via::Data)),
         (b"path data a//bcd", Short::Limit),
         (b"path data a b c d", Short::Limit),
@@ -131,6 +144,9 @@ fn limits_come_before_the_language(rt: HostRuntime) -> Result<(), Fail> {
         (b"path data ((a", Short::Limit),
         (b"path two ((a", Short::Bad),
         (b"path one ((a", Short::Limit),
+        (b"branch fb  a[/b] ", Short::Branch(Via::Fb)),
+        (b"branch fb a[/bc]", Short::Limit),
+        (b"branch a3 [(", Short::Limit),
         (b"node abcdefgh", Short::Node),
     ];
     for (line, short) in rows {
