@@ -5,20 +5,27 @@ use Rattle.px_spec.specs.Members.{has}
 use Rattle.px_spec.specs.Shapes.{Shape}
 use Rattle.path_spec.specs.Trees.{Expr}
 use Rattle.path_spec.specs.Answers.{IsAnswer}
+use Rattle.branch_spec.specs.Trees.{Branch}
+use Rattle.branch_spec.specs.Answers.{IsBranchAnswer}
+use Rattle.branch_spec.specs.Relaxed.{relax}
 use Rattle.branch_query.specs.declared.queries.Query.{Query as Asked}
-use Rattle.branch_query.specs.declared.queries.Query.TheVariants.{Path}
+use Rattle.branch_query.specs.declared.queries.Query.TheVariants as asked
 
 pub data Query : Type 0 where
   -- a path expression
   path : Expr → Query
+  -- a branching query
+  branch : Branch → Query
 
 -- the query that the code's value stands for
 abbrev pub query_of : Asked → Query
-query_of (Path e) = path e.now
+query_of (asked.Path e) = path e.now
+query_of (asked.Branch q) = branch q.now
 
 -- the node answers the query
 abbrev pub IsQueryAnswer : Shape → Query → ℕ → Type 0
 IsQueryAnswer s (path e) v = IsAnswer s e v
+IsQueryAnswer s (branch q) v = IsBranchAnswer s q v
 
 -- the nodes are those that answer the query, each once, in the order of their numbers
 pub record AreQueryAnswers (s : Shape) (q : Query) (nodes : List ℕ) : Type 0 where
@@ -26,10 +33,11 @@ pub record AreQueryAnswers (s : Shape) (q : Query) (nodes : List ℕ) : Type 0 w
   pub sound : (v : ℕ) → IsTrue (has nodes v) → IsQueryAnswer s q v
   pub complete : (v : ℕ) → IsQueryAnswer s q v → IsTrue (has nodes v)
 
--- What a query asks where more edges may be seen than there are: what it denies is left out. A path expression denies
--- nothing, and is its own relaxed form.
+-- What a query asks where more edges may be seen than there are: what it denies is left out, as what holds everywhere. A path
+-- expression denies nothing, and is its own relaxed form.
 abbrev pub relaxed : Query → Query
 relaxed (path e) = path e
+relaxed (branch q) = branch (relax q)
 
 -- the whole query, or its relaxed form
 abbrev pub form_of : Bool → Query → Query

@@ -3,6 +3,7 @@ ghost use Rattle.std.specs.Prelude.{◌≡◌, ◌<◌, ℕ, length, Some, IfOk}
 ghost use Rattle.px_spec.specs.Shapes.{shape_by};
 ghost use Rattle.branch_query.specs.Queries.{query_of, relaxed, AreQueryAnswers};
 
+use branch_text::Branch;
 use label_graph::{Digraph, Labels};
 use path_query::{PathExpr, eval};
 use px_base::{Bits, Memory};
@@ -13,6 +14,8 @@ use std::alloc::Global;
 pub enum Query<'a> {
     /// The nodes in which the walks end that the path expression matches.
     Path(&'a PathExpr),
+    /// The nodes in which lists of nodes end that lead along the axes of the branching query, each node meeting its step.
+    Branch(&'a Branch),
 }
 
 impl Query<'_> {
@@ -26,10 +29,12 @@ impl Query<'_> {
     {
         match *self {
             Query::Path(expr) => eval(alloc, g, labels, expr),
+            Query::Branch(query) => branch_text::eval(alloc, g, labels, query),
         }
     }
 
-    /// The nodes of a graph that answer the query's relaxed form, likewise. A path expression is its own relaxed form.
+    /// The nodes of a graph that answer the query's relaxed form, likewise. A path expression is its own relaxed form; that
+    /// of a branching query is made first, in time and memory linear in the query.
     pub fn relaxed_answers<G: Digraph>(
         &self,
         alloc: Global,
@@ -42,6 +47,10 @@ impl Query<'_> {
     {
         match *self {
             Query::Path(_) => self.answers(alloc, g, labels),
+            Query::Branch(query) => {
+                let relaxed = query.relax(alloc)?;
+                branch_text::eval(alloc, g, labels, &relaxed)
+            }
         }
     }
 }

@@ -6,10 +6,9 @@ use Rattle.px_spec.specs.Members.{at}
 use Rattle.px_spec.proofs.GraphLaws.{is_shape}
 use Rattle.path_spec.specs.Trees.{Expr}
 use Rattle.path_spec.specs.Longest.{longest}
-use Rattle.path_spec.specs.Answers.{IsAnswer}
 use Rattle.bisim_spec.specs.Bisimilarity.{Bis, IsBisimulation}
 use Rattle.bisim_spec.specs.Partitions.{Together, IsPartition, Agrees}
-use Rattle.bisim_spec.specs.Stability.{Stable}
+use Rattle.bisim_spec.specs.Stability.{Stable, StableBoth}
 use Rattle.bisim_spec.specs.Tests.{together}
 use Rattle.bisim_spec.specs.Views.{View, ViewFits, shape_of_view}
 use Rattle.bisim_spec.proofs.Bisimilar.{some_of, bis_self}
@@ -18,11 +17,14 @@ use Rattle.bisim_spec.proofs.StabilityTests.{together_decides}
 use Rattle.bisim_spec.proofs.Together.{together_sym, together_trans, together_some}
 use Rattle.index_api.specs.declared.kinds.Via.{Via}
 use Rattle.index_api.specs.declared.kinds.Via.TheVariants.{Data, A, One, Fb}
-use Rattle.branch_query.specs.Queries.{Query, path, IsQueryAnswer, AreQueryAnswers}
+use Rattle.branch_spec.specs.Trees.{Branch}
+use Rattle.branch_spec.proofs.Alike.{Follows}
+use Rattle.branch_query.specs.Queries.{Query, path, branch, IsQueryAnswer, AreQueryAnswers}
 use Rattle.branch_query.specs.Candidates.{loose, AreCandidates}
 use Rattle.index_eval.specs.Exactness.{IsExact, IsWithin, FitsVia}
 use Rattle.index_eval.specs.Extents.{AreOfBlocks}
 use Rattle.index_eval.proofs.LooseWalks.{IsLoose, loose_is, path_kept, level_back, bisimilar_back}
+use Rattle.index_eval.proofs.LooseBranches.{branch_there, branch_back}
 use Rattle.index_eval.proofs.BlockAnswers.{are_candidates, agrees_together}
 
 -- the loose graph of a partition into the classes of a relation is that of the relation
@@ -46,10 +48,18 @@ stable_bisimulation s block st = record {
       (p.0, p.1, together_sym block q p.0 p.2);
 }
 
--- a set of candidates that are just the answers of an expression
-path_answers : (s : Shape) (r : ℕ → ℕ → Bool) (e : Expr) (nodes : List ℕ) → ((v : ℕ) → IsAnswer s e v → IsAnswer (loose s r) e v)
-    → ((v : ℕ) → IsAnswer (loose s r) e v → IsAnswer s e v) → AreCandidates s r (path e) true nodes → AreQueryAnswers s (path e) nodes
-path_answers s r e nodes there back h = record { rising = h.rising; sound = λ v m. back v (h.sound v m); complete = λ v a. h.complete v (there v a) }
+-- related nodes of a partition that is stable both ways have related parents and children
+stable_follows : (s : Shape) (block : List (Option ℕ)) → StableBoth s block → Follows s s (Together block)
+stable_follows s block st = record {
+  labels = λ u v t. stable_label s block st.stable u v t;
+  from = λ u v c t e. st.children u v t c e;
+  onto = λ u v p t e. stable_parents s block st.stable u v t p e;
+}
+
+-- a set of candidates that are just the answers of a query
+query_answers : (s : Shape) (r : ℕ → ℕ → Bool) (q : Query) (nodes : List ℕ) → ((v : ℕ) → IsQueryAnswer s q v → IsQueryAnswer (loose s r) q v)
+    → ((v : ℕ) → IsQueryAnswer (loose s r) q v → IsQueryAnswer s q v) → AreCandidates s r q true nodes → AreQueryAnswers s q nodes
+query_answers s r q nodes there back h = record { rising = h.rising; sound = λ v m. back v (h.sound v m); complete = λ v a. h.complete v (there v a) }
 
 module _ (g : Graph) (is_graph : IsGraph g) (v : View) (fits : ViewFits g v) (nodes : List ℕ) where
   abbrev s : Shape
@@ -64,7 +74,7 @@ module _ (g : Graph) (is_graph : IsGraph g) (v : View) (fits : ViewFits g v) (no
   level_exact i a e within h =
       let shape = is_shape g is_graph in
       let is_loose = blocks_loose s shape v.block_of (Bis s i) a in
-      path_answers s (together v.block_of) e nodes (path_kept s (loose s (together v.block_of)) shape (Bis s i) is_loose (bis_self s shape i) e)
+      query_answers s (together v.block_of) (path e) nodes (path_kept s (loose s (together v.block_of)) shape (Bis s i) is_loose (bis_self s shape i) e)
       (level_back s (loose s (together v.block_of)) shape i is_loose e within) (candidates_of a.partition (path e) h)
 
   -- through a stable partition
@@ -74,15 +84,31 @@ module _ (g : Graph) (is_graph : IsGraph g) (v : View) (fits : ViewFits g v) (no
       let block = v.block_of in
       let self = same_block s block st.partition in
       let is_loose = blocks_loose s shape block (Together block) (agrees_self s block st.partition) in
-      path_answers s (together block) e nodes (path_kept s (loose s (together block)) shape (Together block) is_loose self e)
+      query_answers s (together block) (path e) nodes (path_kept s (loose s (together block)) shape (Together block) is_loose self e)
       (bisimilar_back s (loose s (together block)) shape (Together block) is_loose (stable_bisimulation s block st) (together_sym block) (together_trans block) self e)
       (candidates_of st.partition (path e) h)
+
+  -- a branching query through one that is stable both ways
+  both_exact : StableBoth s v.block_of → (q : Branch) → AreOfBlocks v.block_of (IsQueryAnswer (shape_of_view g.seen v) (branch q)) nodes → AreQueryAnswers s (branch q) nodes
+  both_exact st q h =
+      let shape = is_shape g is_graph in
+      let block = v.block_of in
+      let self = same_block s block st.stable.partition in
+      let is_loose = blocks_loose s shape block (Together block) (agrees_self s block st.stable.partition) in
+      let same = stable_follows s block st in
+      query_answers s (together block) (branch q) nodes
+      (branch_there s (loose s (together block)) shape (Together block) is_loose self same (together_sym block) (together_trans block) q)
+      (branch_back s (loose s (together block)) shape (Together block) is_loose self same (together_sym block) (together_trans block) q)
+      (candidates_of st.stable.partition (branch q) h)
 
 -- where the index is exact for the query, and the view is that of the index
 pub exact_answers : (g : Graph) → IsGraph g → (v : View) (via : Via) → FitsVia via g v → (q : Query) → IsExact via q → (nodes : List ℕ)
     → AreOfBlocks v.block_of (IsQueryAnswer (shape_of_view g.seen v) q) nodes → AreQueryAnswers (shape_of g) q nodes
 exact_answers g is_graph v Data f q x nodes h = absurd x
 exact_answers g is_graph v (A i) f (path e) x nodes h = level_exact g is_graph v f.view nodes i f.agrees e x h
+exact_answers g is_graph v (A i) f (branch q) x nodes h = absurd x
 exact_answers g is_graph v One f (path e) x nodes h = stable_exact g is_graph v f.view nodes f.index.stable e h
+exact_answers g is_graph v One f (branch q) x nodes h = absurd x
 exact_answers g is_graph v Fb f (path e) x nodes h =
     stable_exact g is_graph v f.view nodes (fb_stable (shape_of g) v.block_of (is_shape g is_graph) f.agrees).stable e h
+exact_answers g is_graph v Fb f (branch q) x nodes h = both_exact g is_graph v f.view nodes (fb_stable (shape_of g) v.block_of (is_shape g is_graph) f.agrees) q h

@@ -3,7 +3,8 @@ use Rattle.std.proofs.Common.{ℕ, List, arith}
 use Rattle.std.specs.Prelude.{codes}
 use Rattle.path_spec.specs.Trees.{star, opt, child, below, Expr, only, or, last, then, Item, once, signed, label}
 use Rattle.index_api.specs.declared.kinds.Via.TheVariants.{Data, A, One, Fb}
-use Rattle.branch_query.specs.Queries.{path}
+use Rattle.branch_spec.specs.Trees as tree
+use Rattle.branch_query.specs.Queries.{path, branch}
 use Rattle.index_eval.specs.Exactness.{IsExact}
 
 abbrev item : List ℕ → Item
@@ -51,3 +52,17 @@ any_length_of_fb = tt
 -- the graph itself is no index
 not_data : ¬ IsExact Data (path three_labels)
 not_data h = h
+
+-- a[/b]: a branching query is exact through the forward and backward index alone, however short it is
+abbrev with_child : tree.Branch
+with_child =
+    tree.branch (tree.step (tree.label (codes "a")) (tree.pred (tree.one (tree.lone (tree.rel tree.child (tree.step (tree.label (codes "b")) tree.none) tree.end))) tree.none)) tree.end
+
+branching_of_fb : IsExact Fb (branch with_child)
+branching_of_fb = tt
+
+no_level_of_branching : (i : ℕ) → ¬ IsExact (A i) (branch with_child)
+no_level_of_branching i h = h
+
+branching_not_of_one : ¬ IsExact One (branch with_child)
+branching_not_of_one h = h

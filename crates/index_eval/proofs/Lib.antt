@@ -1,6 +1,7 @@
 pub mod BlockSets
 pub mod Walking
 pub mod LooseWalks
+pub mod LooseBranches
 pub mod Mapped
 pub mod BlockAnswers
 pub mod Exact

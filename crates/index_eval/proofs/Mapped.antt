@@ -8,14 +8,18 @@ use Rattle.px_spec.specs.Members.{at}
 use Rattle.px_spec.proofs.GraphLaws.{is_shape}
 use Rattle.path_spec.specs.Trees.{Expr}
 use Rattle.path_spec.specs.Answers.{IsAnswer}
+use Rattle.branch_spec.specs.Trees.{Branch}
+use Rattle.branch_spec.specs.Answers.{IsBranchAnswer}
+use Rattle.branch_spec.proofs.Alike.{Alike, alike}
 use Rattle.bisim_spec.specs.Partitions.{Agrees}
 use Rattle.bisim_spec.specs.Supports.{Joined}
 use Rattle.bisim_spec.specs.Views.{View, ViewFits, shape_of_view}
-use Rattle.bisim_spec.proofs.Bisimilar.{none_or_some, is_some_at}
+use Rattle.bisim_spec.proofs.Bisimilar.{none_or_some, some_of, is_some_at}
 use Rattle.bisim_spec.proofs.Supported.{view_edges}
 use Rattle.branch_query.specs.Candidates.{loose}
 use Rattle.index_eval.proofs.LooseWalks.{IsLoose, loose_is}
 use Rattle.index_eval.proofs.Walking.{answer_kept, answer_back}
+use Rattle.index_eval.proofs.LooseBranches.{branch_node}
 
 -- the block of a node; a number that is no block where it has none
 abbrev pub block_or_past : View → ℕ → ℕ
@@ -95,3 +99,56 @@ module _ (g : Graph) (is_graph : IsGraph g) (v : View) (fits : ViewFits g v) (r 
 
   pub node_answers : (e : Expr) (n : ℕ) → IsAnswer (shape_of_view g.seen v) e (block_or_past v n) → IsAnswer (loose (shape_of g) r) e n
   node_answers e n h = answer_back (loose (shape_of g) r) (shape_of_view g.seen v) (block_or_past v) labels onto e n h
+
+  -- the node is in the block
+  abbrev In : ℕ → ℕ → Type 0
+  In n b = at v.block_of n ≡ Some b
+
+  label_in : (n b : ℕ) → In n b → (loose (shape_of g) r).label n ≡ (shape_of_view g.seen v).label b
+  label_in n b e = sym (labels n) ∙ ap (shape_of_view g.seen v).label (block_is n b e)
+
+  -- a node has the neighbours over the loose graph that its block has over the index graph
+  blocks_alike : Alike (loose (shape_of g) r) (shape_of_view g.seen v) In
+  blocks_alike = record {
+    there = record {
+      labels = label_in;
+      from = λ x a y at_x e.
+          let b = some_of (at v.block_of y) (agrees.partition.live y (is_loose.ends x y e).1) in
+          (b.0, between x y a b.0 at_x b.1 e, b.1);
+      onto = λ x a y at_x e.
+          let b = some_of (at v.block_of y) (agrees.partition.live y (is_loose.ends y x e).0) in
+          (b.0, between y x b.0 a b.1 at_x e, b.1);
+    };
+    back = record {
+      labels = λ b n e. sym (label_in n b e);
+      from = λ a x b at_x e.
+          let j = (view_edges g.seen g v fits a b).0 e in
+          let edge = is_loose.onto x j.1 j.0 j.1 (node_of x a at_x) (node_of j.1 b j.4) (agrees.related x j.0 (a, at_x, j.3)) (related_self j.1 b j.4) j.2 in
+          (j.1, edge, j.4);
+      onto = λ a x b at_x e.
+          let j = (view_edges g.seen g v fits b a).0 e in
+          let edge = is_loose.onto j.0 x j.0 j.1 (node_of j.0 b j.3) (node_of x a at_x) (related_self j.0 b j.3) (agrees.related x j.1 (a, at_x, j.4)) j.2 in
+          (j.0, edge, j.3);
+    };
+  }
+    where
+      between : (x y a b : ℕ) → In x a → In y b → IsTrue ((loose (shape_of g) r).edge x y) → IsTrue ((shape_of_view g.seen v).edge a b)
+      between x y a b at_x at_y e =
+          subst (λ c. IsTrue ((shape_of_view g.seen v).edge c b)) (block_is x a at_x)
+          (subst (λ c. IsTrue ((shape_of_view g.seen v).edge (block_or_past v x) c)) (block_is y b at_y) (edges x y e))
+
+  -- so it answers a branching query exactly where its block does
+  pub block_branches : (q : Branch) (n : ℕ) → IsBranchAnswer (loose (shape_of g) r) q n → IsBranchAnswer (shape_of_view g.seen v) q (block_or_past v n)
+  block_branches q n h =
+      let b = some_of (at v.block_of n) (agrees.partition.live n (branch_node (loose (shape_of g) r) q n h)) in
+      subst (IsBranchAnswer (shape_of_view g.seen v) q) (sym (block_is n b.0 b.1)) (alike (loose (shape_of g) r) (shape_of_view g.seen v) In blocks_alike q n b.0 b.1 h)
+
+  pub node_branches : (q : Branch) (n : ℕ) → IsBranchAnswer (shape_of_view g.seen v) q (block_or_past v n) → IsBranchAnswer (loose (shape_of g) r) q n
+  node_branches q n h = elim (none_or_some (at v.block_of n)) [
+    | inl none ↦
+        (let node = branch_node (shape_of_view g.seen v) q (block_or_past v n) h in
+        absurd (true≢false (sym node ∙ ap (λ m. is_some ((shape_of_view g.seen v).label m)) (past_is n none) ∙ ap is_some no_label_past)))
+    | inr (b, some) ↦
+        (let is : In n (block_or_past v n) = some ∙ ap Some (sym (block_is n b some)) in
+        alike (shape_of_view g.seen v) (loose (shape_of g) r) (λ c m. In m c) (record { there = blocks_alike.back; back = blocks_alike.there }) q (block_or_past v n) n is h)
+  ]

@@ -9,7 +9,7 @@ use Rattle.bisim_spec.specs.Views.{View}
 use Rattle.bisim_spec.specs.Fits.{FitsAt}
 use Rattle.index_api.specs.declared.kinds.Via.{Via}
 use Rattle.index_api.specs.declared.kinds.Via.TheVariants.{Data, A, One, Fb}
-use Rattle.branch_query.specs.Queries.{Query, path}
+use Rattle.branch_query.specs.Queries.{Query, path, branch}
 
 -- there is a longest word, and it has at most so many labels
 abbrev pub IsWithin : Option ℕ → ℕ → Type 0
@@ -17,11 +17,14 @@ IsWithin None most = ⊥
 IsWithin (Some n) most = n ≤ most
 
 -- The index answers the query exactly: the 1-index each path expression, the forward and backward index each query, and
--- A(i) each path expression whose longest matching word has at most i + 1 labels. The graph itself is no index.
+-- A(i) each path expression whose longest matching word has at most i + 1 labels. So a branching query is exact through the
+-- forward and backward index alone, since the others don't tell nodes apart by their children. The graph itself is no index.
 abbrev pub IsExact : Via → Query → Type 0
 IsExact Data q = ⊥
 IsExact (A i) (path e) = IsWithin (longest e) (i + 1)
+IsExact (A i) (branch q) = ⊥
 IsExact One (path e) = Unit {0}
+IsExact One (branch q) = ⊥
 IsExact Fb q = Unit {0}
 
 -- the view is what that of the index has to be for the graph

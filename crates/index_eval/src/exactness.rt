@@ -21,8 +21,8 @@ fn is_short(expr: &PathExpr, level: u32) -> bool
 
 /// Whether the candidates of the query through the index are its answers, whatever the graph: a path expression through
 /// the 1-index, any query through the forward and backward index, and through the A(i)-index a path expression whose
-/// longest matching word has at most i + 1 labels. False for the graph itself, which has no candidates. It takes no
-/// memory, and time in proportion to the expression.
+/// longest matching word has at most i + 1 labels. A branching query is so through the forward and backward index alone.
+/// False for the graph itself, which has no candidates. It takes no memory, and time in proportion to the expression.
 pub fn is_exact(via: Via, q: &Query<'_>) -> bool
     ensures { IsTrue result ↔ IsExact via (query_of q.now) }
 {
@@ -30,10 +30,9 @@ pub fn is_exact(via: Via, q: &Query<'_>) -> bool
         Via::Data => false,
         Via::A(level) => match *q {
             Query::Path(expr) => is_short(expr, level),
+            Query::Branch(_) => false,
         },
-        Via::One => match *q {
-            Query::Path(_) => true,
-        },
+        Via::One => matches!(*q, Query::Path(_)),
         Via::Fb => true,
     }
 }

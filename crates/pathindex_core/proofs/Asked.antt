@@ -1,5 +1,5 @@
 -- Engines that were asked, and the errors that they answer.
-use Rattle.std.proofs.Common.{◌≡◌, ℕ, Bool, true, false, List, Option, Some, None, All, Result, Ok, Err, refl, sym, ◌∙◌, subst, true≢false}
+use Rattle.std.proofs.Common.{◌≡◌, ℕ, Bool, true, false, List, Option, Some, All, Result, Ok, Err, sym, ◌∙◌, subst, true≢false}
 use Rattle.std.specs.Prelude.{◌↔◌}
 use Rattle.index_api.specs.Meanings.{Meaning, KeepsViews}
 use Rattle.index_api.specs.Kept.{kept_of}

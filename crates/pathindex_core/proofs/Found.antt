@@ -1,9 +1,7 @@
 -- Look-ups of an index by its kind.
-use Rattle.std.proofs.Common.{◌≡◌, ◌≢◌, ℕ, zero, suc, ◌<◌, ◌≤◌, Bool, true, false, List, [], ◌∷◌, Option, Some, None, IsSome, All, ◌⊎◌, inl, inr, length, map, arith, refl, sym, ◌∙◌, ap, subst, get_or, option_and_then}
-use Rattle.std.specs.List.{find, list_any}
+use Rattle.std.proofs.Common.{◌≡◌, ℕ, zero, suc, ◌<◌, Bool, true, false, List, [], ◌∷◌, Option, Some, None, All, ◌⊎◌, inl, inr, length, map, arith, refl, sym, ◌∙◌, ap, subst, get_or}
 use Rattle.std.proofs.lemmas.List.{get_or-map, length-map}
 use Rattle.bisim_spec.specs.declared.kind.Kind.{Kind}
-use Rattle.bisim_spec.specs.declared.kind.Kind.TheVariants.{A, One, Fb}
 use Rattle.bisim_spec.specs.Views.{View}
 use Rattle.bisim_spec.specs.Fits.{view_at}
 use Rattle.index_api.specs.Meanings.{Meaning}

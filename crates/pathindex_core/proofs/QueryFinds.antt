@@ -1,5 +1,5 @@
 -- How the answers of a query were found in an index.
-use Rattle.std.proofs.Common.{◌≡◌, ◌≢◌, ℕ, Bool, true, false, List, length, refl, sym, ◌∙◌, ap, subst, IsTrue}
+use Rattle.std.proofs.Common.{◌≡◌, ◌≢◌, ℕ, Bool, List, length, refl, IsTrue}
 use Rattle.std.specs.Prelude.{◌↔◌}
 use Rattle.px_spec.specs.Graphs.{Graph}
 use Rattle.px_spec.specs.Shapes.{shape_of}

@@ -1,17 +1,17 @@
 -- An index whose view is computed.
-use Rattle.std.proofs.Common.{◌≡◌, ◌≢◌, ℕ, ◌<◌, ◌≤◌, Bool, true, false, List, Option, Some, None, IsSome, All, ◌⊎◌, inl, inr, Result, Ok, Err, length, map, arith, refl, sym, ◌∙◌, ap, subst, get_or}
+use Rattle.std.proofs.Common.{◌≡◌, ◌≢◌, ℕ, ◌<◌, false, List, Option, Some, None, IsSome, All, ◌⊎◌, inl, inr, Result, Ok, Err, length, map, arith, refl, sym, ◌∙◌, ap, subst, get_or}
 use Rattle.std.specs.Prelude.{OnOk, OnErr}
 use Rattle.std.proofs.Math.ListN.{set}
 use Rattle.std.proofs.Math.Seq.{map-set_same}
-use Rattle.std.proofs.lemmas.List.{get_or-map, length-map, get_or-set_same, get_or-set_other, length-set, map-set, get_or_default}
+use Rattle.std.proofs.lemmas.List.{get_or-map, length-map, get_or-set_same, get_or-set_other, length-set, map-set}
 use Rattle.std.proofs.lemmas.Bool.{cases_lt}
 use Rattle.px_spec.specs.Graphs.{Graph}
 use Rattle.bisim_spec.specs.declared.kind.Kind.{Kind}
 use Rattle.bisim_spec.specs.declared.kind.Kind.TheVariants.{A, One, Fb}
 use Rattle.bisim_spec.specs.Views.{View}
-use Rattle.bisim_spec.specs.Fits.{Fits, HasCount, FitsAt, FitsOne, view_at, view_count}
+use Rattle.bisim_spec.specs.Fits.{Fits, HasCount, FitsAt, view_at, view_count}
 use Rattle.index_api.specs.Meanings.{Meaning, IsReady, KeepsViews, IsRefreshed}
-use Rattle.index_api.specs.Kept.{KeptIndexes, is_kind, kinds_of, has_kind, index_of, kept_view, blocks_in, kept_of}
+use Rattle.index_api.specs.Kept.{KeptIndexes, kinds_of, has_kind, kept_view, blocks_in, kept_of}
 use Rattle.pathindex_core.specs.Engines.{Opened, EachBecomes, IsKeptFor}
 use Rattle.pathindex_core.specs.Boxes.{StandsAt, BecomesAt, HasFirst, IsFbComputed}
 use Rattle.pathindex_core.proofs.Becoming.{map_kept}

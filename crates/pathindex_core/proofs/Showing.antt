@@ -1,5 +1,5 @@
 -- What the index shows that is asked, by its view.
-use Rattle.std.proofs.Common.{◌≡◌, ◌≢◌, ℕ, zero, suc, ◌+◌, ◌<◌, ◌≤◌, ◌&&◌, Bool, true, false, nat_le, List, [], ◌∷◌, ◌++◌, Option, Some, None, IsSome, IsTrue, All, ◌⊎◌, inl, inr, length, map, take, arith, refl, sym, ◌∙◌, ap, subst, get_or, slice_get, append_assoc, append-nil, rules, true≢false}
+use Rattle.std.proofs.Common.{◌≡◌, ◌≢◌, ℕ, zero, suc, ◌+◌, ◌<◌, ◌≤◌, Bool, true, false, nat_le, List, [], ◌∷◌, ◌++◌, Option, Some, None, IsSome, IsTrue, All, ◌⊎◌, inl, inr, length, take, arith, refl, sym, ◌∙◌, ap, subst, slice_get, append_assoc, append-nil, rules, true≢false}
 use Rattle.std.proofs.lemmas.List.{get_or_past, take_more, take_all, length-append}
 use Rattle.std.proofs.lemmas.Option.{slice_get_within, get_or_from_slice_get, slice_get-get_or}
 use Rattle.std.proofs.lemmas.Bool.{cases_lt}
@@ -7,8 +7,7 @@ use Rattle.px_spec.specs.Graphs.{Graph}
 use Rattle.px_spec.specs.Shapes.{Shape, IsShape, shape_of}
 use Rattle.bisim_spec.specs.declared.kind.Kind.{Kind}
 use Rattle.bisim_spec.specs.declared.kind.Kind.TheVariants as kind
-use Rattle.bisim_spec.specs.Bisimilarity.{Bis, FB}
-use Rattle.bisim_spec.specs.Partitions.{Agrees, Together, IsPartition}
+use Rattle.bisim_spec.specs.Partitions.{Agrees}
 use Rattle.bisim_spec.specs.Tests.{bis, fb, together}
 use Rattle.bisim_spec.specs.Views.{View, ViewFits}
 use Rattle.bisim_spec.specs.Fits.{Fits, FitsAt, FitsLevel, FitsOne, FitsFb, view_at, view_count}
@@ -19,7 +18,7 @@ use Rattle.index_api.specs.declared.kinds.Via.{Via}
 use Rattle.index_api.specs.declared.kinds.Via.TheVariants.{Data, A, One, Fb}
 use Rattle.index_api.specs.Places.{levels_below, all_indexes}
 use Rattle.index_api.specs.Meanings.{Meaning}
-use Rattle.index_api.specs.Kept.{KeptIndexes, is_kept, Relates, kinds_of, has_kind, index_of, kept_view, kept_of, blocks_in}
+use Rattle.index_api.specs.Kept.{KeptIndexes, is_kept, kept_view, kept_of, blocks_in}
 use Rattle.extent_report.specs.Listing.{DecidesEach, extents_text, block_total, joined_total, size_line}
 use Rattle.extent_report.specs.Summaries.{LabelsHaveTexts, IsSummaryOf}
 use Rattle.index_eval.specs.Exactness.{FitsVia}

@@ -1,8 +1,8 @@
 -- What holds of an engine between two calls.
-use Rattle.std.proofs.Common.{◌≡◌, ◌≢◌, ℕ, ◌≤◌, ◌<◌, Bool, true, false, not, List, Option, Some, None, IsSome, Result, Ok, Err, length, map, All, arith, refl, sym, ◌∙◌, ap, subst, get_or}
+use Rattle.std.proofs.Common.{◌≡◌, ◌≢◌, ℕ, ◌≤◌, ◌<◌, Bool, not, List, Option, Some, None, IsSome, Result, Ok, Err, length, All, arith, refl, sym, ◌∙◌, ap, subst, get_or}
 use Rattle.std.specs.Prelude.{⊤, OnOk, OnErr}
 use Rattle.std.specs.List.{AllPairs, filter}
-use Rattle.std.proofs.lemmas.List.{ext_get_or, get_or-map, length-map}
+use Rattle.std.proofs.lemmas.List.{get_or-map, length-map}
 use Rattle.std.proofs.lemmas.List.Elements.{All-filter}
 use Rattle.std.proofs.lemmas.List.Kept.{AllPairs-filter}
 use Rattle.px_spec.specs.Graphs.{Graph}
@@ -12,10 +12,9 @@ use Rattle.bisim_spec.specs.Views.{View}
 use Rattle.bisim_spec.specs.Fits.{Fits, view_count}
 use Rattle.index_api.specs.Meanings.{Meaning, IsReady, IsBuilt, IsPrepared, IsCommitted, AreNext, KeepsViews}
 use Rattle.index_api.specs.Kept.{is_kind, kinds_of}
-use Rattle.graph_update.specs.NewChanges.{is_same}
-use Rattle.pathindex_core.specs.Engines.{Opened, EngineSeen, IsKeptFor, AreKeptFor, IsSound, EachBecomes}
-use Rattle.pathindex_core.specs.Updates.{IsMoved, IsUpdated, StaysReady}
-use Rattle.pathindex_core.proofs.Becoming.{map_kept, become_twice, become_so, all_become, unchanged}
+use Rattle.pathindex_core.specs.Engines.{Opened, IsKeptFor, AreKeptFor, IsSound, EachBecomes}
+use Rattle.pathindex_core.specs.Updates.{IsMoved, StaysReady}
+use Rattle.pathindex_core.proofs.Becoming.{map_kept, become_twice, become_so, all_become}
 
 -- that kinds are distinct is said of the list of kinds alone
 pub apart_by_kinds : (olds news : List Meaning) → kinds_of news ≡ kinds_of olds → AllPairs (λ a b. a.kind ≢ b.kind) olds → AllPairs (λ a b. a.kind ≢ b.kind) news

@@ -1,5 +1,5 @@
 -- What a change makes of an engine.
-use Rattle.std.specs.Prelude.{ℕ, ◌≡◌, Bool, true, false, List, length, Option, Some, None, Result, Ok, Err}
+use Rattle.std.specs.Prelude.{◌≡◌, true, false, length, Option, Some, None, Result, Ok, Err}
 use Rattle.px_spec.specs.declared.refusal.Refusal.{Refusal}
 use Rattle.px_spec.specs.Graphs.{Graph, empty_graph}
 use Rattle.px_spec.specs.Changes.{Change, apply}

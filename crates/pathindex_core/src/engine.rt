@@ -5,7 +5,7 @@ ghost use Rattle.label_graph.specs.Views.{live_count, edge_count};
 ghost use Rattle.graph_update.specs.NewChanges.{is_same};
 ghost use Rattle.graph_update.specs.Judging.{change_of};
 ghost use Rattle.graph_update.specs.Staging.{applied_of};
-ghost use Rattle.branch_query.specs.Queries.{path};
+ghost use Rattle.branch_query.specs.Queries.{path, branch};
 ghost use Rattle.index_eval.specs.Exactness.{IsExact};
 ghost use Rattle.pathindex_core.specs.QueryAnswers.{IsAnswered, IsUnkept};
 ghost use Rattle.index_api.specs.declared.kinds.Via.TheVariants.{Data as TheGraph, Fb as TheFb};
@@ -22,6 +22,7 @@ use crate::lists::{list, measure};
 use crate::state::Open;
 use crate::updates::update;
 use branch_query::Query;
+use branch_text::Branch;
 use graph_update::{Applied, Change};
 use index_api::{Answer, Kind, PathIndex, Via};
 use label_graph::Graph;
@@ -177,6 +178,34 @@ impl Engine {
     {
         match &self.state {
             Some(open) => ask(alloc, &mut self.boxes, open, via, &Query::Path(expr), steps),
+            None => unreachable!(),
+        }
+    }
+
+    /// The answers of a branching query, asked of the graph itself or through an index, and how they were found, as in `path`. The
+    /// forward and backward index alone is exact for it; through another one the candidates of its relaxed form are looked up in the graph.
+    pub fn branch<L: Ledger>(
+        &mut self,
+        alloc: Global,
+        via: Via,
+        query: &Branch,
+        steps: &mut Steps<L>,
+    ) -> Result<Answer, AskError>
+        requires open { IsSome (opened_of self.old.state) }
+        requires sound { IsSound (engine_seen (map meaning self.old.boxes.items) self.old.state) }
+        ensures sound { IsSound (engine_seen (map meaning self.new.boxes.items) self.new.state) }
+        ensures opened { opened_of self.new.state ≡ opened_of self.old.state }
+        ensures keeps { EachBecomes KeepsViews (map meaning self.old.boxes.items) (map meaning self.new.boxes.items) }
+        ensures kept { kept_of (map meaning self.new.boxes.items) (level_in (opened_of self.old.state)) ≡ kept_of (map meaning self.old.boxes.items) (level_in (opened_of self.old.state)) }
+        ensures answered { IfOk result (λ answer. IsAnswered (graph_in (opened_of self.old.state)) (kept_of (map meaning self.old.boxes.items) (level_in (opened_of self.old.state))) via (branch query.now) answer.how answer.nodes.members) }
+        ensures no_index { (result ≡ Err AskError.NoIndex) ↔ IsUnkept (kept_of (map meaning self.old.boxes.items) (level_in (opened_of self.old.state))) via }
+        ensures graph { via ≡ TheGraph → steps.new ≡ steps.old + 1 + live_count (graph_in (opened_of self.old.state)) + edge_count (graph_in (opened_of self.old.state)) }
+        ensures cost { IsExact via (branch query.now) → steps.new ≤ steps.old + 1 + live_count (graph_in (opened_of self.old.state)) + edge_count (graph_in (opened_of self.old.state)) }
+        ensures free { IsExact via (branch query.now) → via ≢ TheFb → steps.new ≡ steps.old }
+    {
+        let asked = Query::Branch(query);
+        match &self.state {
+            Some(open) => ask(alloc, &mut self.boxes, open, via, &asked, steps),
             None => unreachable!(),
         }
     }
