@@ -17,7 +17,7 @@ use Rattle.index_api.specs.Meanings.{Meaning, IsReady, IsBuilt, BeginsWhole, Kee
 use Rattle.index_api.specs.Kept.{KeptIndexes, is_kind, has_kind, kinds_of, index_of, kept_view, blocks_in, kept_of}
 use Rattle.pathindex_core.specs.Engines.{Opened, EngineSeen, EachBecomes, IsKeptFor, AreKeptFor, IsSound, graph_in, level_in}
 use Rattle.pathindex_core.specs.Updates.{IsUpdated, graph_or, opened_after}
-use Rattle.pathindex_run.specs.States.{State, BeginsRun, forgotten}
+use Rattle.pathindex_run.specs.States.{State, BeginsRun, forgotten, left_out}
 use Rattle.bisim_spec.specs.MinimalIndex.{IsMinimalIndex}
 use Rattle.pathindex_run.specs.Runs.{IsChanged}
 use Rattle.pathindex_run.specs.EngineStates.{state_in}
@@ -213,13 +213,18 @@ kept_state o olds news all stay i = record {
   };
 }
 
-pub kinds_without : (k : Kind) (boxes : List Meaning) → kinds_of (filter (λ m. not (is_kind k m.kind)) boxes) ≡ filter (λ other. not (is_kind k other)) (kinds_of boxes)
+kinds_without : (k : Kind) (boxes : List Meaning) → kinds_of (filter (λ m. not (is_kind k m.kind)) boxes) ≡ filter (λ other. not (is_kind k other)) (kinds_of boxes)
 kinds_without k [] = refl
 kinds_without k (m ∷ ms) =
     elim (is_kind k m.kind) as (λ t. kinds_of (cond (not t) (m ∷ filter (λ x. not (is_kind k x.kind)) ms) (filter (λ x. not (is_kind k x.kind)) ms)) ≡ cond (not t) (m.kind ∷ filter (λ other. not (is_kind k other)) (kinds_of ms)) (filter (λ other. not (is_kind k other)) (kinds_of ms))) [
       | true ↦ kinds_without k ms
       | false ↦ ap (λ ks. m.kind ∷ ks) (kinds_without k ms)
     ]
+
+-- the boxes without those of a kind, where it is left out
+pub left_out_kinds : (b : Bool) (k : Kind) (olds news : List Meaning) → b ≡ true → news ≡ filter (λ m. not (is_kind k m.kind)) olds → kinds_of news ≡ left_out b k (kinds_of olds)
+left_out_kinds false k olds news e f = absurd (true≢false (sym e))
+left_out_kinds true k olds news e f = ap kinds_of f ∙ kinds_without k olds
 
 found_without : (k : Kind) (boxes : List Meaning) → index_of (filter (λ m. not (is_kind k m.kind)) boxes) kind.One ≡ (if is_kind k kind.One then None else index_of boxes kind.One)
 found_without k [] = none_left (is_kind k kind.One)

@@ -1,7 +1,8 @@
-use Rattle.std.proofs.Common.{◌≡◌, ◌∙◌, ap, map}
-use Rattle.index_api.specs.Kept.{kinds_of}
-use Rattle.pathindex_run.proofs.EngineLemmas.{kinds_without}
+use Rattle.std.proofs.Common.{◌≡◌, true, rules}
+use Rattle.pathindex_run.proofs.EngineLemmas.{left_out_kinds}
 use Rattle.pathindex_run.proofs.entry.leave_out.Goals as goal
 
-pub returns-clause-kinds : goal.returns-clause-kinds
-returns-clause-kinds g c = ?
+pub returns-then-is_left_out-clause-kinds : goal.returns-then-is_left_out-clause-kinds
+returns-then-is_left_out-clause-kinds g c =
+    let is : c.args.is_left_out ≡ true = search rules in
+    left_out_kinds c.args.is_left_out c.args.kind _ _ is c.forget.ensures.boxes
