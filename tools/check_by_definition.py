@@ -2,7 +2,7 @@
 """Compares the program with slow, plain definitions: check_by_definition.py PROGRAM [RUNS].
 
 Each run makes a small random script of changes, queries, lists and sizes. What the program writes must be what the definitions
-below give, which work on pairs of nodes and know neither splitting of blocks nor automata. Where walks come back to their beginning
+below give, which work on pairs of nodes and know neither splitting of blocks nor automata nor sets that spread along an axis. Where walks come back to their beginning
 several partitions of the 1-index are lawful, so of that which the program lists the demands are tested. The first script whose
 output is wrong is printed with it, and the exit status is 1.
 """
@@ -189,6 +189,115 @@ def expression(pick, depth):
     return sort, expression(pick, depth - 1), expression(pick, depth - 1)
 
 
+# Branching queries: a step and a chain, which is a list of pairs of an axis and a step. A step is a label, or _, and its predicates:
+# ("rel", chain), ("not", p), ("group", p), ("and", p, q), ("or", p, q), and ("always",), which is never spelled.
+
+def steps_along(graph, edges, axis):
+    """The pairs of nodes such that the axis leads from the one to the other."""
+    related = set(edges)
+    while len(axis) == 2:
+        longer = related | {(u, w) for u, v in related for x, w in edges if x == v}
+        if longer == related:
+            break
+        related = longer
+    return {(v, u) for u, v in related} if axis[0] == "\\" else related
+
+
+def meets(graph, edges, step, node):
+    label, predicates = step
+    return label in ("_", graph.labels[node]) and all(holds(graph, edges, p, node) for p in predicates)
+
+
+def ends(graph, edges, chain, nodes):
+    """The nodes to which the chain leads from some of these."""
+    for axis, step in chain:
+        pairs = steps_along(graph, edges, axis)
+        nodes = {v for u, v in pairs if u in nodes and meets(graph, edges, step, v)}
+    return nodes
+
+
+def holds(graph, edges, p, node):
+    if p[0] == "rel":
+        return bool(ends(graph, edges, p[1], {node}))
+    if p[0] == "not":
+        return not holds(graph, edges, p[1], node)
+    if p[0] == "group":
+        return holds(graph, edges, p[1], node)
+    if p[0] == "and":
+        return holds(graph, edges, p[1], node) and holds(graph, edges, p[2], node)
+    if p[0] == "or":
+        return holds(graph, edges, p[1], node) or holds(graph, edges, p[2], node)
+    return True
+
+
+def branch_answers(graph, edges, query):
+    step, chain = query
+    return sorted(ends(graph, edges, chain, {n for n in graph.live() if meets(graph, edges, step, n)}))
+
+
+def relaxed_chain(chain):
+    return [(axis, relaxed_step(step)) for axis, step in chain]
+
+
+def relaxed_step(step):
+    return step[0], [relaxed_predicate(p) for p in step[1]]
+
+
+def relaxed_predicate(p):
+    if p[0] == "not":
+        return ("always",)
+    if p[0] == "rel":
+        return "rel", relaxed_chain(p[1])
+    return (p[0],) + tuple(relaxed_predicate(q) for q in p[1:])
+
+
+def relaxed(query):
+    return relaxed_step(query[0]), relaxed_chain(query[1])
+
+
+def spelled_chain(chain):
+    return "".join(axis + spelled_step(step) for axis, step in chain)
+
+
+def spelled_step(step):
+    return step[0] + "".join(f"[{spelled_predicate(p)}]" for p in step[1])
+
+
+def spelled_predicate(p):
+    if p[0] == "rel":
+        return spelled_chain(p[1])
+    if p[0] in ("not", "group"):
+        return ("not" if p[0] == "not" else "") + f"({spelled_predicate(p[1])})"
+    return f"{spelled_predicate(p[1])} {p[0]} {spelled_predicate(p[2])}"
+
+
+def chain_of(pick, depth, least):
+    return [(pick.choice(["/", "//", "\\", "\\\\"]), step_of(pick, depth)) for _ in range(pick.choice([least, 1, 1, 2]))]
+
+
+def step_of(pick, depth):
+    count = 0 if depth == 0 else pick.choice([0, 0, 1, 1, 2])
+    return pick.choice(LABELS + "_"), [predicate(pick, depth - 1, ["or", "and", "unit"]) for _ in range(count)]
+
+
+def predicate(pick, depth, sorts):
+    """A predicate, in which an "or" stands in no "and" but in parentheses."""
+    sort = pick.choice(sorts)
+    if sort == "unit":
+        sort = pick.choice(["rel", "rel", "not", "group"] if depth else ["rel"])
+    if sort == "rel":
+        return sort, chain_of(pick, depth, 1)
+    if sort in ("not", "group"):
+        return sort, predicate(pick, depth - 1, ["or", "and", "unit"])
+    if sort == "and":
+        return sort, predicate(pick, depth, ["unit"]), predicate(pick, depth, ["and", "unit"])
+    return sort, predicate(pick, depth, ["and", "unit"]), predicate(pick, depth, ["or", "and", "unit"])
+
+
+def branching_query(pick, depth):
+    return step_of(pick, depth), chain_of(pick, depth, 0)
+
+
 class Output:
     """What the program wrote, read line by line, and the blocks of the 1-index when they were last listed."""
 
@@ -232,6 +341,15 @@ def lists_one(graph):
     return test
 
 
+def asks_one(graph, query, found, nodes):
+    """The test of a branching query that is asked through the 1-index, as it was last listed."""
+    def test(output):
+        related = {(u, v) for block in output.one for u in block for v in block}
+        candidates = branch_answers(graph, loosened(graph, related), relaxed(query))
+        return writes(f"answers {len(found)} candidates {len(candidates)} checked", *nodes)(output)
+    return test
+
+
 def sizes_one(graph):
     return lambda output: writes(f"one blocks {len(output.one)} edges {pairs_of(graph, output.one)}")(output)
 
@@ -251,7 +369,7 @@ class Run:
             change()
         for _ in range(LINES):
             self.pick.choice([self.node, self.link, self.link, self.link, self.unlink, self.drop,
-                              self.path, self.path, self.extents, self.sizes])()
+                              self.path, self.path, self.branch, self.branch, self.extents, self.sizes])()
             if self.pick.randrange(LINES) == 0:
                 kind = self.pick.choice(["a", "one", "fb"])
                 self.say(f"forget {kind}", writes("ok" if kind in self.kept else "refused no-index"))
@@ -319,6 +437,28 @@ class Run:
             candidates = answers(self.graph, loosened(self.graph, level(self.graph, i)), e)
             written = [f"answers {len(found)} candidates {len(candidates)} checked"] + nodes
         self.say(f"path {word} {spelled(e)}", writes(*written))
+
+    def branch(self):
+        query = branching_query(self.pick, 2)
+        text = spelled_chain([("", query[0])] + query[1])
+        found = branch_answers(self.graph, self.graph.edges, query)
+        nodes = [" ".join(f"n{n}" for n in found)] if found else []
+        if self.pick.randrange(2):
+            self.say(f"branch data {text}", writes(f"answers {len(found)}", *nodes))
+            return
+        word, i = self.index()
+        if not self.is_kept(word, i):
+            test = writes("refused no-index")
+        elif word == "fb":
+            test = writes(f"answers {len(found)} candidates {len(found)} exact", *nodes)
+        elif word == "one":
+            graph = self.graph.copy()
+            self.say("extents one", lists_one(graph))
+            test = asks_one(graph, query, found, nodes)
+        else:
+            candidates = branch_answers(self.graph, loosened(self.graph, level(self.graph, i)), relaxed(query))
+            test = writes(f"answers {len(found)} candidates {len(candidates)} checked", *nodes)
+        self.say(f"branch {word} {text}", test)
 
     def extents(self):
         word, i = self.index()

@@ -13,18 +13,18 @@ use Rattle.index_api.specs.declared.kinds.Via.{Via}
 use Rattle.index_api.specs.declared.kinds.Via.TheVariants.{Data}
 use Rattle.index_api.specs.Meanings.{Meaning, IsBuilt, KeepsViews}
 use Rattle.index_api.specs.Kept.{is_kind, has_kind, kinds_of, is_kept}
-use Rattle.path_spec.specs.Trees.{Expr}
-use Rattle.script_read.specs.Commands.{change, path, extents, sizes, forget}
+use Rattle.branch_query.specs.Queries.{Query, path, branch}
+use Rattle.script_read.specs.Commands.{change, extents, sizes, forget}
 use Rattle.pathindex_core.specs.Engines.{Opened, EngineSeen, EachBecomes, IsKeptFor, AreKeptFor, IsSound, graph_in}
 use Rattle.pathindex_core.specs.Updates.{IsUpdated, graph_or, outcome_in, opened_after}
 use Rattle.pathindex_run.specs.Texts.{applied_line, refused_line, ok_line, reply}
 use Rattle.pathindex_run.specs.States.{State, BeginsRun, forgotten}
 use Rattle.command_line.specs.Forms.{Settings}
 use Rattle.pathindex_run.specs.Headline.{kinds_for}
-use Rattle.pathindex_run.specs.EngineStates.{IsOpen, state_in}
+use Rattle.pathindex_run.specs.EngineStates.{IsOpen, IsAsked, state_in}
 use Rattle.pathindex_run.specs.Indexes.{ShowsAnswers, ShowsExtents, unkept, ShowsSizes}
-use Rattle.pathindex_run.specs.Runs.{IsChanged, Becomes, Obeys, changes, asks, lists, measures, forgets, lacks}
-use Rattle.pathindex_run.specs.RunSteps.{Obeyed}
+use Rattle.pathindex_run.specs.Runs.{IsChanged, Becomes, Obeys, changes, asks_path, asks_branch, lists, measures, forgets, lacks}
+use Rattle.pathindex_run.specs.RunSteps.{asking, Obeyed}
 use Rattle.pathindex_run.proofs.EngineLemmas.{first_state, changed_state, kept_state, forgotten_state}
 
 pub open_same : (e f : EngineSeen) → f ≡ e → IsOpen e → IsOpen f
@@ -92,12 +92,6 @@ refused_obeyed c e f r out gathered ready same q g =
       gathered_is = g;
     }
 
--- nothing but a view that wasn't computed changed
-pub record IsAsked (e f : EngineSeen) : Type 0 where
-  pub sound : IsSound f
-  pub opened : f.opened ≡ e.opened
-  pub keeps : EachBecomes KeepsViews e.boxes f.boxes
-
 pub open_asked : (e f : EngineSeen) → IsOpen e → IsAsked e f → IsOpen f
 open_asked e f o a = record { sound = a.sound; opened = o.opened; opened_is = a.opened ∙ o.opened_is; limits_are = o.limits_are }
 
@@ -107,11 +101,15 @@ same_asked e f o a =
     ∙ kept_state o.opened e.boxes f.boxes (fits_in e o.opened o.opened_is o.sound) a.keeps
     ∙ seen_as e o.opened o.opened_is
 
-pub path_obeyed : (e f : EngineSeen) (via : Via) (x : Expr) (text out gathered : List ℕ) (refuses : Bool) → IsOpen e → IsAsked e f
-    → ShowsAnswers (state_in e) x via text refuses → gathered ≡ out ++ text → Obeyed program_limits (state_in e) (path via x) out refuses (state_in f) gathered
-path_obeyed e f via x text out gathered refuses o a s g = record {
+asks_query : (s : State) (via : Via) (q : Query) (text : List ℕ) (refuses : Bool) → ShowsAnswers s q via text refuses → Obeys program_limits s (asking via q) text refuses s
+asks_query s via (path e) text refuses h = asks_path via e text refuses h
+asks_query s via (branch q) text refuses h = asks_branch via q text refuses h
+
+pub query_obeyed : (e f : EngineSeen) (via : Via) (q : Query) (text out gathered : List ℕ) (refuses : Bool) → IsOpen e → IsAsked e f
+    → ShowsAnswers (state_in e) q via text refuses → gathered ≡ out ++ text → Obeyed program_limits (state_in e) (asking via q) out refuses (state_in f) gathered
+query_obeyed e f via q text out gathered refuses o a s g = record {
   printed = text;
-  obeys = subst (Obeys program_limits (state_in e) (path via x) text refuses) (sym (same_asked e f o a)) (asks via x text refuses s);
+  obeys = subst (Obeys program_limits (state_in e) (asking via q) text refuses) (sym (same_asked e f o a)) (asks_query (state_in e) via q text refuses s);
   gathered_is = g;
 }
 

@@ -1,5 +1,5 @@
 -- The definitions at worked lines, and at near misses.
-use Rattle.std.proofs.Common.{◌≡◌, ℕ, zero, suc, ◌≤◌, Bool, List, [], ◌∷◌, ◌++◌, length, subst, true, false, true≢false, refl, sym, ap, ◌∙◌, arith, append-nil, lit<, lit≤, Option, None, Some, inl, inr, Ok, Err}
+use Rattle.std.proofs.Common.{◌≡◌, ◌≢◌, ℕ, zero, suc, ◌≤◌, Bool, List, [], ◌∷◌, ◌++◌, length, subst, true, false, true≢false, refl, sym, ap, ◌∙◌, arith, append-nil, lit<, lit≤, Option, None, Some, inl, inr, Ok, Err}
 use Rattle.std.specs.Prelude.{codes, slice_get, slice_index}
 use Rattle.index_api.specs.declared.kinds.Via.{Via}
 use Rattle.index_api.specs.declared.kinds.Via.TheVariants.{Data, A, One, Fb}
@@ -15,7 +15,8 @@ use Rattle.px_spec.specs.Changes.{Change, node, link, unlink, drop as drop_node,
 use Rattle.px_spec.specs.Words.{node_word}
 use Rattle.path_query.specs.Labels.{IsPlainLabel, SpellsLabel}
 use Rattle.pathindex_run.specs.Texts.{reply, bad_line, graph_line}
-use Rattle.script_read.specs.Commands.{Command, change, path, extents, sizes, forget, IsSpelled, PassesLimit, NoCommand, SpellsNothing, SpellsSomething}
+use Rattle.script_read.specs.Commands.{Command, change, path, branch, extents, sizes, forget, IsSpelled, Asks, PassesLimit, NoCommand, SpellsNothing, SpellsSomething}
+use Rattle.script_read.specs.Parts.{first_word}
 use Rattle.command_line.specs.Forms.{Settings, runs}
 use Rattle.graph_load.specs.Loads.{syntax, limit}
 use Rattle.px_base.specs.Files.{File}
@@ -32,6 +33,10 @@ plain_a = (refl, (λ e. omega (arith, ap (λ l. slice_index l 1) e)), (λ e. ome
 
 label_a : SpellsLabel (codes "a") (codes "a")
 label_a = inl (plain_a, refl)
+
+-- a line that asks begins with the first byte of `path` (112) or of `branch` (98)
+asks_with : (line : List ℕ) → Asks line → (slice_index (first_word line) 0 ≢ 112) → (slice_index (first_word line) 0 ≢ 98) → ⊥
+asks_with line a p b = elim a.1 [ inl x ↦ p (ap (λ l. slice_index l 0) x.0) | inr x ↦ b (ap (λ l. slice_index l 0) x.0) ]
 
 -- a run of the script s, with no graph file
 plain : Settings
@@ -92,7 +97,7 @@ unfolding after_one
 takes_one = record {
   within = (lit≤ tt, lit≤ tt);
   refuses = false;
-  does = command (change (node (codes "a"))) (codes "a", refl, label_a) (λ o. omega (arith, ap (λ l. slice_index l 0) o.0.1.0)) _ _ _ (changes (node (codes "a")) _ one_more);
+  does = command (change (node (codes "a"))) (codes "a", refl, label_a) (λ o. asks_with (codes "node a") o.0 (λ e. omega (arith, e)) (λ e. omega (arith, e))) _ _ _ (changes (node (codes "a")) _ one_more);
   refused = refl;
   lines = refl;
   bytes = refl;
@@ -112,6 +117,7 @@ no_label = (λ q. omega (arith, q), other)
     other (change (unlink u v)) h = omega (arith, ap length h.0)
     other (change (drop_node u)) h = omega (arith, ap length h.0)
     other (path via e) h = omega (arith, ap (λ l. slice_index l 0) h.0.0)
+    other (branch via q) h = omega (arith, ap (λ l. slice_index l 0) h.0.0)
     other (extents via) h = omega (arith, ap length h.0)
     other sizes h = omega (arith, ap (λ ws. slice_index (first ws) 0) h)
     other (forget kind) h = omega (arith, ap length h)
@@ -126,7 +132,7 @@ run_bad = record {
   ending = bad_line 2;
   script_is = refl;
   takes = (codes "added " ++ node_word 0 ++ 10 ∷ [], [], after_one, takes_one, (refl, refl), sym (append-nil _));
-  ends = (λ _. (no_label, λ o. omega (arith, ap (λ l. slice_index l 0) o.0.1.0)), refl, refl);
+  ends = (λ _. (no_label, λ o. asks_with (codes "node") o.0 (λ e. omega (arith, e)) (λ e. omega (arith, e))), refl, refl);
   output_is = refl;
 }
 
@@ -189,7 +195,7 @@ not_proper : ¬ IsProper (codes "node\n")
 not_proper w = elim (w.lines 0 (record { text = codes "node"; end = 10 ∷ [] }) refl).1 [
   | inl q ↦ no_label.0 q
   | inr (inl c) ↦ no_label.1 c.0 c.1
-  | inr (inr o) ↦ omega (arith, ap (λ l. slice_index l 0) o.0.1.0)
+  | inr (inr o) ↦ asks_with (codes "node") o.0 (λ e. omega (arith, e)) (λ e. omega (arith, e))
 ]
 
 -- a change that is refused prints why, and leaves the state

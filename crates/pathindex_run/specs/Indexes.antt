@@ -1,22 +1,21 @@
 -- What is printed of the indexes of a state, and of queries that are asked through them.
 use Rattle.std.specs.Prelude.{ℕ, ◌≡◌, ◌≢◌, Bool, true, false, List}
 use Rattle.px_spec.specs.declared.refusal.Refusal.TheVariants.{NoIndex}
-use Rattle.path_spec.specs.Trees.{Expr}
 use Rattle.index_api.specs.declared.kinds.Via.{Via}
 use Rattle.index_api.specs.declared.kinds.Via.TheVariants.{Data}
 use Rattle.index_api.specs.declared.answers.How.{How}
 use Rattle.index_api.specs.Kept.{is_kept}
-use Rattle.branch_query.specs.Queries.{path}
+use Rattle.branch_query.specs.Queries.{Query}
 use Rattle.extent_report.specs.Answers.{answer_text}
 use Rattle.extent_report.specs.Shown.{ListsIndex, ListsSizes}
 use Rattle.pathindex_core.specs.QueryAnswers.{IsAnswered}
 use Rattle.pathindex_run.specs.Texts.{refused_line}
 use Rattle.pathindex_run.specs.States.{State}
 
--- what `path` prints of an expression, and whether that is a refusal
-pub data ShowsAnswers (s : State) (e : Expr) : Via → List ℕ → Bool → Type 0 where
-  answered : (via : Via) (how : How) (nodes : List ℕ) → IsAnswered s.graph s.kept via (path e) how nodes → ShowsAnswers s e via (answer_text how true nodes) false
-  not_asked : (via : Via) → via ≢ Data → is_kept s.kept via ≡ false → ShowsAnswers s e via (refused_line NoIndex) true
+-- what is printed of a query of any language, and whether that is a refusal
+pub data ShowsAnswers (s : State) (q : Query) : Via → List ℕ → Bool → Type 0 where
+  answered : (via : Via) (how : How) (nodes : List ℕ) → IsAnswered s.graph s.kept via q how nodes → ShowsAnswers s q via (answer_text how true nodes) false
+  not_asked : (via : Via) → via ≢ Data → is_kept s.kept via ≡ false → ShowsAnswers s q via (refused_line NoIndex) true
 
 -- what `extents` prints through an index, and whether that is a refusal
 pub data ShowsExtents (s : State) : Via → List ℕ → Bool → Type 0 where

@@ -6,7 +6,10 @@ use Rattle.px_base.specs.Reading.{Reading, IsFirst, IsOver}
 use Rattle.px_spec.specs.Lines.{Line, cut}
 use Rattle.px_spec.specs.declared.limits.Limits.{Limits}
 use Rattle.pathindex_run.specs.Texts.{bad_line}
-use Rattle.script_read.specs.Commands.{Command, SpellsNothing}
+use Rattle.index_api.specs.declared.kinds.Via.{Via}
+use Rattle.branch_query.specs.Queries as query
+use Rattle.branch_query.specs.Queries.{Query}
+use Rattle.script_read.specs.Commands.{Command, path, branch, SpellsNothing}
 use Rattle.pathindex_run.specs.declared.interpreter.Outcome.{Outcome}
 use Rattle.pathindex_run.specs.declared.interpreter.Outcome.TheVariants.{Done, Refused, Bad}
 use Rattle.pathindex_run.specs.declared.script.Next.{Next}
@@ -18,6 +21,11 @@ use Rattle.pathindex_run.specs.Runs.{Progress, Obeys, Does, TakesLine, IsBad, en
 pub record Extends (old new : List ℕ) : Type 0 where
   pub rest : List ℕ
   pub new_is : new ≡ old ++ rest
+
+-- the command that asks a query through this
+abbrev pub asking : Via → Query → Command
+asking via (query.path e) = path via e
+asking via (query.branch q) = branch via q
 
 -- A command was carried out, and what it prints is gathered; whether that is a refusal.
 pub record Obeyed (limits : Limits) (s : State) (c : Command) (out : List ℕ) (refuses : Bool) (t : State) (gathered : List ℕ) : Type 0 where

@@ -14,10 +14,12 @@ use Rattle.bisim_spec.specs.declared.kind.Kind.TheVariants.{One}
 use Rattle.bisim_spec.specs.MinimalIndex.{IsMinimalIndex}
 use Rattle.graph_update.specs.NewChanges.{is_same}
 use Rattle.path_spec.specs.Trees.{Expr}
+use Rattle.branch_spec.specs.Trees.{Branch}
+use Rattle.branch_query.specs.Queries as query
 use Rattle.pathindex_run.specs.Texts.{reply, refused_line, ok_line, bad_line}
 use Rattle.pathindex_run.specs.States.{State, keeps, forgotten}
 use Rattle.pathindex_run.specs.Indexes.{ShowsAnswers, ShowsExtents, ShowsSizes}
-use Rattle.script_read.specs.Commands.{Command, change, path, extents, sizes, forget, IsQuiet, IsSpelled, PassesLimit, SpellsNothing}
+use Rattle.script_read.specs.Commands.{Command, change, path, branch, extents, sizes, forget, IsQuiet, IsSpelled, PassesLimit, SpellsNothing}
 
 -- An accepted change leads from the state s to t, whose graph is h. The same indexes are kept. Where the change alters nothing, all
 -- is as it was; else the blocks of the 1-index, where it is kept, are some that fit the graph after the change.
@@ -38,7 +40,8 @@ Becomes s c (Err r) t = t ≡ s
 pub data Obeys (limits : Limits) (s : State) : Command → List ℕ → Bool → State → Type 0 where
   changes : (c : Change) (t : State) → Becomes s c (apply c s.graph limits) t
       → Obeys limits s (change c) (reply c s.graph (apply c s.graph limits)) (is_err (apply c s.graph limits)) t
-  asks : (via : Via) (e : Expr) (text : List ℕ) (refuses : Bool) → ShowsAnswers s e via text refuses → Obeys limits s (path via e) text refuses s
+  asks_path : (via : Via) (e : Expr) (text : List ℕ) (refuses : Bool) → ShowsAnswers s (query.path e) via text refuses → Obeys limits s (path via e) text refuses s
+  asks_branch : (via : Via) (q : Branch) (text : List ℕ) (refuses : Bool) → ShowsAnswers s (query.branch q) via text refuses → Obeys limits s (branch via q) text refuses s
   lists : (via : Via) (text : List ℕ) (refuses : Bool) → ShowsExtents s via text refuses → Obeys limits s (extents via) text refuses s
   measures : (text : List ℕ) → ShowsSizes s text → Obeys limits s sizes text false s
   forgets : (kind : Kind) → keeps s kind ≡ true → Obeys limits s (forget kind) ok_line false (forgotten kind s)

@@ -1,20 +1,22 @@
 // Carrying out the lines of a script.
-ghost use Rattle.std.specs.Prelude.{◌≡◌, ◌≢◌, ◌<◌, ◌++◌, map, IfOk, OnOk, OnErr, false, true, if◌then◌else◌};
+ghost use Rattle.std.specs.Prelude.{◌≡◌, ◌≢◌, ◌<◌, ◌↔◌, ◌++◌, map, Err, IfOk, OnOk, OnErr, false, true, if◌then◌else◌};
 ghost use Rattle.px_spec.specs.ProgramLimits.{program_limits};
 ghost use Rattle.graph_update.specs.Judging.{change_of};
 ghost use Rattle.index_api.specs.declared.kinds.Via.TheVariants.{Data};
-ghost use Rattle.script_read.specs.Commands.{change as changing, path as asking, extents as listing, sizes as measuring, forget as forgetting};
+ghost use Rattle.branch_query.specs.Queries.{query_of};
+ghost use Rattle.script_read.specs.Commands.{change as changing, extents as listing, sizes as measuring, forget as forgetting};
 ghost use Rattle.script_read.specs.Reading.{command_of};
 ghost use Rattle.pathindex_core.specs.Engines.{engine_seen};
+ghost use Rattle.pathindex_core.specs.QueryAnswers.{IsAnswered, IsUnkept};
 ghost use Rattle.pathindex_run.specs.Texts.{applied_line, refused_line};
-ghost use Rattle.pathindex_run.specs.EngineStates.{state_in, IsOpen};
-ghost use Rattle.pathindex_run.specs.RunSteps.{Obeyed, LineComes};
+ghost use Rattle.pathindex_run.specs.EngineStates.{state_in, IsAsked, IsOpen};
+ghost use Rattle.pathindex_run.specs.RunSteps.{asking, Obeyed, LineComes};
 
 use crate::output::{push_line, push_number};
+use branch_query::Query;
 use extent_report::answer_text;
 use graph_update::{Applied, Change};
-use index_api::{Kind, Via};
-use path_query::PathExpr;
+use index_api::{Answer, Kind, Via};
 use pathindex_core::{AskError, Engine, UpdateError};
 use px_base::{Limits, Memory, Refusal, Steps};
 use script_read::{Command, ScriptError, read};
@@ -76,21 +78,40 @@ fn change(
     }
 }
 
-/// Gathers the answers of an expression, asked through an index or of the graph itself. Answers whether it was refused.
+/// What the engine answers to a query of any language.
+fn answer_of<L: Ledger>(
+    alloc: Global,
+    engine: &mut Engine,
+    via: Via,
+    query: &Query<'_>,
+    steps: &mut Steps<L>,
+) -> Result<Answer, AskError>
+    requires ready { IsOpen (engine_seen (map (λ b. meaning (b.vtable, b.value)) engine.old.boxes.items) engine.old.state) }
+    ensures asked { IsAsked (engine_seen (map (λ b. meaning (b.vtable, b.value)) engine.old.boxes.items) engine.old.state) (engine_seen (map (λ b. meaning (b.vtable, b.value)) engine.new.boxes.items) engine.new.state) }
+    ensures answered { IfOk result (λ answer. IsAnswered (state_in (engine_seen (map (λ b. meaning (b.vtable, b.value)) engine.old.boxes.items) engine.old.state)).graph (state_in (engine_seen (map (λ b. meaning (b.vtable, b.value)) engine.old.boxes.items) engine.old.state)).kept via (query_of query.now) answer.how answer.nodes.members) }
+    ensures no_index { (result ≡ Err AskError.NoIndex) ↔ IsUnkept (state_in (engine_seen (map (λ b. meaning (b.vtable, b.value)) engine.old.boxes.items) engine.old.state)).kept via }
+{
+    match *query {
+        Query::Path(expr) => engine.path(alloc, via, expr, steps),
+        Query::Branch(branch) => engine.branch(alloc, via, branch, steps),
+    }
+}
+
+/// Gathers the answers of a query, asked through an index or of the graph itself. Answers whether it was refused.
 fn ask<L: Ledger>(
     alloc: Global,
     engine: &mut Engine,
     via: Via,
-    expr: &PathExpr,
+    query: &Query<'_>,
     steps: &mut Steps<L>,
     out: &mut Vec<u8>,
 ) -> Result<bool, Memory>
     requires ready { IsOpen (engine_seen (map (λ b. meaning (b.vtable, b.value)) engine.old.boxes.items) engine.old.state) }
     ensures ready { IsOpen (engine_seen (map (λ b. meaning (b.vtable, b.value)) engine.new.boxes.items) engine.new.state) }
-    ensures ok { IfOk result (λ refuses. Obeyed program_limits (state_in (engine_seen (map (λ b. meaning (b.vtable, b.value)) engine.old.boxes.items) engine.old.state)) (asking via expr.now) out.old.items refuses (state_in (engine_seen (map (λ b. meaning (b.vtable, b.value)) engine.new.boxes.items) engine.new.state)) out.new.items) }
+    ensures ok { IfOk result (λ refuses. Obeyed program_limits (state_in (engine_seen (map (λ b. meaning (b.vtable, b.value)) engine.old.boxes.items) engine.old.state)) (asking via (query_of query.now)) out.old.items refuses (state_in (engine_seen (map (λ b. meaning (b.vtable, b.value)) engine.new.boxes.items) engine.new.state)) out.new.items) }
     ensures err { OnErr result (out.new.items ≡ out.old.items) }
 {
-    match engine.path(alloc, via, expr, steps) {
+    match answer_of(alloc, engine, via, query, steps) {
         Ok(answer) => {
             let text = answer_text(alloc, &answer, true)?;
             out.extend_from_slice(text.as_bytes())?;
@@ -198,7 +219,12 @@ fn obey_counted<L: Ledger>(
         Command::Link(from, to) => change(alloc, engine, Change::Link(from, to), out),
         Command::Unlink(from, to) => change(alloc, engine, Change::Unlink(from, to), out),
         Command::Drop(node) => change(alloc, engine, Change::Drop(node), out),
-        Command::Path(via, expr) => ask(alloc, engine, via, &expr, &mut steps, out),
+        Command::Path(via, expr) => {
+            ask(alloc, engine, via, &Query::Path(&expr), &mut steps, out)
+        }
+        Command::Branch(via, query) => {
+            ask(alloc, engine, via, &Query::Branch(&query), &mut steps, out)
+        }
         Command::Extents(via) => list(alloc, engine, via, &mut steps, out),
         Command::Sizes => measure(alloc, engine, &mut steps, out),
         Command::Forget(kind) => forget(engine, kind, out),

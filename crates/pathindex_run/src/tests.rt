@@ -150,6 +150,12 @@ const SCRIPTS: &[(&str, &str, u8)] = &[
         "added n0\nadded n1\nadded n2\nok\nok\nadded n3\nadded n4\nadded n5\nok\nok\nanswers 1 candidates 2 checked\nn2\nanswers 1 candidates 1 exact\nn2\nanswers 1 candidates 1 checked\nn2\n",
         0,
     ),
+    // The first node has a child, which no level sees.
+    (
+        "node a\nnode b\nlink n0 n1\nnode a\nbranch a1 a[not(/b)]\nbranch data b\\a\nbranch fb a\nbranch data a|b\n",
+        "added n0\nadded n1\nok\nadded n2\nanswers 1 candidates 2 checked\nn2\nanswers 1\nn0\nrefused no-index\nbad 8\n",
+        4,
+    ),
     (
         "path a3 a\npath one a\n",
         "refused no-index\nrefused no-index\n",

@@ -1,35 +1,36 @@
 use Rattle.std.proofs.Common.{rules, ap, Err, true, false, sym, ◌∙◌}
 use Rattle.px_spec.specs.declared.refusal.Refusal.TheVariants.{NoIndex}
+use Rattle.branch_query.specs.Queries.{query_of}
 use Rattle.extent_report.specs.Answers.{answer_text}
 use Rattle.pathindex_run.specs.Texts.{refused_line}
 use Rattle.pathindex_run.specs.Indexes.{answered, not_asked}
-use Rattle.pathindex_run.proofs.EngineCalls.{open_asked, path_obeyed}
+use Rattle.pathindex_run.proofs.EngineCalls.{open_asked, query_obeyed}
 use Rattle.pathindex_run.proofs.ReachedLemmas.{ok_fact}
 use Rattle.pathindex_run.proofs.interpreter.ask.Goals as goal
 
 pub returns-in_err-text-in-Ok-clause-ready : goal.returns-in_err-text-in-Ok-clause-ready
-returns-in_err-text-in-Ok-clause-ready g c = open_asked _ _ c.requires.ready (record { sound = c.path.ensures.sound; opened = c.path.ensures.opened; keeps = c.path.ensures.keeps })
+returns-in_err-text-in-Ok-clause-ready g c = open_asked _ _ c.requires.ready c.answer_of.ensures.asked
 
 pub returns-in_err-extend_from_slice-in-Ok-clause-ready : goal.returns-in_err-extend_from_slice-in-Ok-clause-ready
-returns-in_err-extend_from_slice-in-Ok-clause-ready g c = open_asked _ _ c.requires.ready (record { sound = c.path.ensures.sound; opened = c.path.ensures.opened; keeps = c.path.ensures.keeps })
+returns-in_err-extend_from_slice-in-Ok-clause-ready g c = open_asked _ _ c.requires.ready c.answer_of.ensures.asked
 
 pub returns-in_ok-extend_from_slice-in-Ok-clause-ready : goal.returns-in_ok-extend_from_slice-in-Ok-clause-ready
-returns-in_ok-extend_from_slice-in-Ok-clause-ready g c = open_asked _ _ c.requires.ready (record { sound = c.path.ensures.sound; opened = c.path.ensures.opened; keeps = c.path.ensures.keeps })
+returns-in_ok-extend_from_slice-in-Ok-clause-ready g c = open_asked _ _ c.requires.ready c.answer_of.ensures.asked
 
 pub returns-in-Err-NoIndex-clause-ready : goal.returns-in-Err-NoIndex-clause-ready
-returns-in-Err-NoIndex-clause-ready g c = open_asked _ _ c.requires.ready (record { sound = c.path.ensures.sound; opened = c.path.ensures.opened; keeps = c.path.ensures.keeps })
+returns-in-Err-NoIndex-clause-ready g c = open_asked _ _ c.requires.ready c.answer_of.ensures.asked
 
 pub returns-in-Err-Memory-clause-ready : goal.returns-in-Err-Memory-clause-ready
-returns-in-Err-Memory-clause-ready g c = open_asked _ _ c.requires.ready (record { sound = c.path.ensures.sound; opened = c.path.ensures.opened; keeps = c.path.ensures.keeps })
+returns-in-Err-Memory-clause-ready g c = open_asked _ _ c.requires.ready c.answer_of.ensures.asked
 
 pub returns-in_ok-extend_from_slice-in-Ok-clause-ok : goal.returns-in_ok-extend_from_slice-in-Ok-clause-ok
 returns-in_ok-extend_from_slice-in-Ok-clause-ok g c =
     let a = c.in-Ok.answer in
-    path_obeyed _ _ c.args.via c.args.expr.now (answer_text a.how true a.nodes.members) _ _ false c.requires.ready (record { sound = c.path.ensures.sound; opened = c.path.ensures.opened; keeps = c.path.ensures.keeps })
+    query_obeyed _ _ c.args.via (query_of c.args.query.now) (answer_text a.how true a.nodes.members) _ _ false c.requires.ready c.answer_of.ensures.asked
     (answered c.args.via a.how a.nodes.members c.in-Ok.ensures.answered) (search rules)
 
 pub returns-in-Err-NoIndex-clause-ok : goal.returns-in-Err-NoIndex-clause-ok
 returns-in-Err-NoIndex-clause-ok g c =
     let n = c.in-Err-NoIndex.ensures.no_index.0 (ap Err c.in-Err-NoIndex.field-0-is) in
     ok_fact c.refuse.result true _ _ c.refuse.ensures.refuses c.refuse.ensures.ok
-    (λ t. path_obeyed _ _ c.args.via c.args.expr.now (refused_line NoIndex) _ _ true c.requires.ready (record { sound = c.path.ensures.sound; opened = c.path.ensures.opened; keeps = c.path.ensures.keeps }) (not_asked c.args.via n.0 n.1) t)
+    (λ t. query_obeyed _ _ c.args.via (query_of c.args.query.now) (refused_line NoIndex) _ _ true c.requires.ready c.answer_of.ensures.asked (not_asked c.args.via n.0 n.1) t)
