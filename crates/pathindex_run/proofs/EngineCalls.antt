@@ -1,5 +1,5 @@
 -- What each call of the engine makes of the state of a run.
-use Rattle.std.proofs.Common.{◌≡◌, Bool, true, false, List, [], ◌∷◌, Option, Some, Ok, Err, refl, sym, ap, ◌∙◌, subst, cond, true≢false}
+use Rattle.std.proofs.Common.{◌≡◌, Bool, true, false, List, [], ◌∷◌, Some, Ok, Err, refl, sym, ap, ◌∙◌, subst, cond, true≢false}
 use Rattle.std.specs.Prelude.{◌++◌, ◌||◌, ◌↔◌, ℕ, All, is_err, not}
 use Rattle.std.specs.List.{filter}
 use Rattle.px_spec.specs.declared.refusal.Refusal.{Refusal}
@@ -11,14 +11,14 @@ use Rattle.graph_update.specs.declared.changes.Applied.{Applied}
 use Rattle.graph_update.specs.Staging.{applied_of}
 use Rattle.index_api.specs.declared.kinds.Via.{Via}
 use Rattle.index_api.specs.declared.kinds.Via.TheVariants.{Data}
-use Rattle.index_api.specs.Meanings.{Meaning, IsBuilt, KeepsViews}
+use Rattle.index_api.specs.Meanings.{Meaning, IsBuilt}
 use Rattle.index_api.specs.Kept.{is_kind, has_kind, kinds_of, is_kept}
 use Rattle.branch_query.specs.Queries.{Query, path, branch}
 use Rattle.script_read.specs.Commands.{change, extents, sizes, forget}
 use Rattle.pathindex_core.specs.Engines.{Opened, EngineSeen, EachBecomes, IsKeptFor, AreKeptFor, IsSound, graph_in}
 use Rattle.pathindex_core.specs.Updates.{IsUpdated, graph_or, outcome_in, opened_after}
 use Rattle.pathindex_run.specs.Texts.{applied_line, refused_line, ok_line, reply}
-use Rattle.pathindex_run.specs.States.{State, BeginsRun, forgotten}
+use Rattle.pathindex_run.specs.States.{State, BeginsRun}
 use Rattle.command_line.specs.Forms.{Settings}
 use Rattle.pathindex_run.specs.Headline.{kinds_for}
 use Rattle.pathindex_run.specs.EngineStates.{IsOpen, IsAsked, state_in}

@@ -1,10 +1,9 @@
 -- What the calls of an engine make of the state of a run.
-use Rattle.std.proofs.Common.{◌≡◌, ℕ, zero, suc, ◌<◌, Bool, true, false, List, [], ◌∷◌, length, Option, None, Some, refl, sym, ap, ◌∙◌, subst, arith, cond, true≢false, Ok, Err}
-use Rattle.std.specs.Prelude.{⊤, not, ◌||◌, All, IsTrue, Result, map, slice_index_or, option_and_then, if◌then◌else◌}
-use Rattle.std.specs.List.{filter, find}
+use Rattle.std.proofs.Common.{◌≡◌, ℕ, suc, Bool, true, false, List, [], ◌∷◌, length, Option, None, Some, refl, sym, ap, ◌∙◌, subst, arith, cond, true≢false, Ok}
+use Rattle.std.specs.Prelude.{⊤, not, ◌||◌, All, option_and_then, if◌then◌else◌}
+use Rattle.std.specs.List.{filter}
 use Rattle.px_spec.specs.Graphs.{Graph}
 use Rattle.px_spec.specs.Changes.{Change, apply}
-use Rattle.px_spec.specs.declared.refusal.Refusal.{Refusal}
 use Rattle.px_spec.specs.Shapes.{shape_of}
 use Rattle.bisim_spec.specs.declared.kind.Kind.{Kind}
 use Rattle.bisim_spec.specs.declared.kind.Kind.TheVariants as kind
@@ -12,12 +11,11 @@ use Rattle.bisim_spec.specs.Bisimilarity.{Bisim}
 use Rattle.bisim_spec.specs.Partitions.{Agrees}
 use Rattle.bisim_spec.specs.Views.{View}
 use Rattle.bisim_spec.specs.Fits.{Fits, FitsAt, FitsOne, view_at}
-use Rattle.graph_update.specs.NewChanges.{is_same}
-use Rattle.index_api.specs.Meanings.{Meaning, IsReady, IsBuilt, BeginsWhole, KeepsViews}
-use Rattle.index_api.specs.Kept.{KeptIndexes, is_kind, has_kind, kinds_of, index_of, kept_view, blocks_in, kept_of}
-use Rattle.pathindex_core.specs.Engines.{Opened, EngineSeen, EachBecomes, IsKeptFor, AreKeptFor, IsSound, graph_in, level_in}
-use Rattle.pathindex_core.specs.Updates.{IsUpdated, graph_or, opened_after}
-use Rattle.pathindex_run.specs.States.{State, BeginsRun, forgotten, left_out}
+use Rattle.index_api.specs.Meanings.{Meaning, IsBuilt, BeginsWhole, KeepsViews}
+use Rattle.index_api.specs.Kept.{is_kind, has_kind, kinds_of, index_of, kept_view, blocks_in}
+use Rattle.pathindex_core.specs.Engines.{Opened, EngineSeen, EachBecomes, IsKeptFor, graph_in, level_in}
+use Rattle.pathindex_core.specs.Updates.{IsUpdated}
+use Rattle.pathindex_run.specs.States.{BeginsRun, forgotten, left_out}
 use Rattle.bisim_spec.specs.MinimalIndex.{IsMinimalIndex}
 use Rattle.pathindex_run.specs.Runs.{IsChanged}
 use Rattle.pathindex_run.specs.EngineStates.{state_in}

@@ -2,7 +2,7 @@
 use Rattle.std.proofs.Common.{◌≡◌, ◌≢◌, ℕ, zero, suc, ◌≤◌, Bool, List, [], ◌∷◌, ◌++◌, length, subst, true, false, true≢false, refl, sym, ap, ◌∙◌, arith, append-nil, lit<, lit≤, Option, None, Some, inl, inr, Ok, Err}
 use Rattle.std.specs.Prelude.{codes, slice_get, slice_index}
 use Rattle.index_api.specs.declared.kinds.Via.{Via}
-use Rattle.index_api.specs.declared.kinds.Via.TheVariants.{Data, A, One, Fb}
+use Rattle.index_api.specs.declared.kinds.Via.TheVariants.{Data, A, One}
 use Rattle.bisim_spec.specs.declared.kind.Kind.{Kind}
 use Rattle.bisim_spec.specs.declared.kind.Kind.TheVariants as kind
 use Rattle.std.proofs.lemmas.Fmt.{decimal_digit}
@@ -15,7 +15,7 @@ use Rattle.px_spec.specs.Changes.{Change, node, link, unlink, drop as drop_node,
 use Rattle.px_spec.specs.Words.{node_word}
 use Rattle.path_query.specs.Labels.{IsPlainLabel, SpellsLabel}
 use Rattle.pathindex_run.specs.Texts.{reply, bad_line, graph_line}
-use Rattle.script_read.specs.Commands.{Command, change, path, branch, extents, sizes, forget, IsSpelled, Asks, PassesLimit, NoCommand, SpellsNothing, SpellsSomething}
+use Rattle.script_read.specs.Commands.{Command, change, path, branch, extents, sizes, forget, IsSpelled, Asks, NoCommand, SpellsSomething}
 use Rattle.script_read.specs.Parts.{first_word}
 use Rattle.command_line.specs.Forms.{Settings, runs}
 use Rattle.graph_load.specs.Loads.{syntax, limit}

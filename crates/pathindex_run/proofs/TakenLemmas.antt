@@ -1,13 +1,13 @@
 -- Lines that are taken.
-use Rattle.std.proofs.Common.{◌≡◌, ℕ, Bool, true, false, List, [], sym, subst, append-nil}
+use Rattle.std.proofs.Common.{◌≡◌, ℕ, Bool, true, false, List, [], sym, append-nil}
 use Rattle.std.specs.Prelude.{◌++◌, if◌then◌else◌}
 use Rattle.px_spec.specs.declared.limits.Limits.{Limits}
 use Rattle.px_spec.specs.declared.refusal.Refusal.TheVariants.{Limit}
-use Rattle.script_read.specs.Commands.{Command, IsQuiet, IsSpelled, PassesLimit, SpellsNothing}
-use Rattle.pathindex_run.specs.declared.interpreter.Outcome.TheVariants.{Done, Refused, Bad}
+use Rattle.script_read.specs.Commands.{Command, IsQuiet, IsSpelled, PassesLimit}
+use Rattle.pathindex_run.specs.declared.interpreter.Outcome.TheVariants.{Done, Refused}
 use Rattle.pathindex_run.specs.Texts.{refused_line}
 use Rattle.pathindex_run.specs.States.{State}
-use Rattle.pathindex_run.specs.Runs.{nothing, over, command, Does}
+use Rattle.pathindex_run.specs.Runs.{nothing, over, command}
 use Rattle.pathindex_run.specs.RunSteps.{Obeyed, LineComes}
 
 -- a line whose command was carried out

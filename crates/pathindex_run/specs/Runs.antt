@@ -1,5 +1,5 @@
 -- A run of a script: what it prints, its status, and its last state.
-use Rattle.std.specs.Prelude.{ℕ, ◌+◌, ◌≡◌, ◌≤◌, ◌⊎◌, Bool, true, false, ◌||◌, List, [], ◌∷◌, ◌++◌, length, if◌then◌else◌, Option, Result, Ok, Err, is_err, IsTrue}
+use Rattle.std.specs.Prelude.{ℕ, ◌+◌, ◌≡◌, ◌≤◌, ◌⊎◌, Bool, true, false, ◌||◌, List, [], ◌∷◌, ◌++◌, length, if◌then◌else◌, Result, Ok, Err, is_err, IsTrue}
 use Rattle.px_base.specs.declared.lines.TheConstants.{LINE_BYTES, SCRIPT_BYTES}
 use Rattle.px_spec.specs.declared.limits.Limits.{Limits}
 use Rattle.px_spec.specs.declared.refusal.Refusal.{Refusal}

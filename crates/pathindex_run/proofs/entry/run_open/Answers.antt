@@ -1,4 +1,4 @@
-use Rattle.std.proofs.Common.{◌≡◌, inl, inr, refl, arith, rules, map}
+use Rattle.std.proofs.Common.{◌≡◌, inr, refl, arith, rules, map}
 use Rattle.command_line.specs.Forms.{runs}
 use Rattle.command_line.specs.Shown.{shown_settings}
 use Rattle.pathindex_core.specs.Engines.{engine_seen}

@@ -1,4 +1,4 @@
-use Rattle.std.proofs.Common.{◌≡◌, ◌∙◌, inr, refl, sym, ap, subst, map, Some}
+use Rattle.std.proofs.Common.{◌∙◌, inr, refl, sym, ap, subst, map}
 use Rattle.bisim_spec.specs.declared.kind.Kind.TheVariants.{Fb}
 use Rattle.command_line.specs.Shown.{shown_settings}
 use Rattle.pathindex_core.specs.Engines.{engine_seen, graph_in}

@@ -1,4 +1,4 @@
-use Rattle.std.proofs.Common.{rules, ap, Err, true, false, sym, ◌∙◌}
+use Rattle.std.proofs.Common.{rules, ap, Err, true, false}
 use Rattle.px_spec.specs.declared.refusal.Refusal.TheVariants.{NoIndex}
 use Rattle.branch_query.specs.Queries.{query_of}
 use Rattle.extent_report.specs.Answers.{answer_text}

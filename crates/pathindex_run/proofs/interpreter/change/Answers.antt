@@ -1,4 +1,4 @@
-use Rattle.std.proofs.Common.{rules, ap, Ok, Err, true, false, sym, ◌∙◌}
+use Rattle.std.proofs.Common.{ap, Err, true}
 use Rattle.graph_update.specs.Judging.{change_of}
 use Rattle.pathindex_run.proofs.EngineCalls.{open_made, open_same, made_obeyed, refused_obeyed, no_refusal}
 use Rattle.pathindex_run.proofs.ReachedLemmas.{ok_fact}

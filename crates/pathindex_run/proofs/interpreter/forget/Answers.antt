@@ -1,6 +1,4 @@
-use Rattle.std.proofs.Common.{rules, ap, Err, true, false, sym, ◌∙◌}
-use Rattle.px_spec.specs.declared.refusal.Refusal.TheVariants.{NoIndex}
-use Rattle.pathindex_run.specs.Texts.{refused_line}
+use Rattle.std.proofs.Common.{rules, ap, Err, true}
 use Rattle.pathindex_run.proofs.EngineCalls.{open_forgotten, forget_obeyed, lacks_obeyed, kept_kind}
 use Rattle.pathindex_run.proofs.ReachedLemmas.{ok_fact}
 use Rattle.pathindex_run.proofs.interpreter.forget.Goals as goal

@@ -1,6 +1,4 @@
 use Rattle.std.proofs.Common.{true, map}
-use Rattle.px_spec.specs.declared.refusal.Refusal.TheVariants.{NoIndex}
-use Rattle.pathindex_run.specs.Texts.{refused_line}
 use Rattle.pathindex_core.specs.Engines.{engine_seen}
 use Rattle.pathindex_run.proofs.EngineCalls.{data_obeyed}
 use Rattle.pathindex_run.proofs.ReachedLemmas.{ok_fact}
