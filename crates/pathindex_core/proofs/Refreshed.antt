@@ -13,7 +13,7 @@ use Rattle.bisim_spec.specs.Fits.{Fits, HasCount, FitsAt, view_at, view_count}
 use Rattle.index_api.specs.Meanings.{Meaning, IsReady, KeepsViews, IsRefreshed}
 use Rattle.index_api.specs.Kept.{KeptIndexes, kinds_of, has_kind, kept_view, blocks_in, kept_of}
 use Rattle.pathindex_core.specs.Engines.{Opened, EachBecomes, IsKeptFor}
-use Rattle.pathindex_core.specs.Boxes.{StandsAt, BecomesAt, HasFirst, IsFbComputed}
+use Rattle.pathindex_core.specs.Boxes.{StandsAt, BecomesAt, HasFirst, HasFirstView, IsFbComputed}
 use Rattle.pathindex_core.proofs.Becoming.{map_kept}
 use Rattle.pathindex_core.proofs.Found.{look_up, IsFound, IsMissed, found_at, none_found, become_found, AreFound, AreMissed, some_box}
 
@@ -167,3 +167,7 @@ on_err (Err x) P p = p
 pub err_both : {T E : Type 0} (r : Result T E) (P Q : Type 0) → P → OnErr r Q → OnErr r (P × Q)
 err_both (Ok x) P Q p q = tt
 err_both (Err x) P Q p q = (p, q)
+
+-- where the forward and backward index is computed, its box has its view
+pub fb_there : (boxes : List Meaning) (i : ℕ) → StandsAt boxes Fb i → IsFbComputed boxes → HasFirstView boxes i
+fb_there boxes i s h = record { there = λ d. h.computed (get_or boxes i d) (found_at boxes Fb i d s) }

@@ -122,6 +122,7 @@ fn ask_kept<L: Ledger>(
     ensures no_index { (result ≡ Err AskError.NoIndex) ↔ (is_kept (kept_of (map meaning boxes.old.items) state.now.k) via ≡ false) }
     ensures cost { IsExact via (query_of query.now) → steps.new ≤ steps.old + 1 + live_count state.now.graph.graph + edge_count state.now.graph.graph }
     ensures free { IsExact via (query_of query.now) → via ≢ Fb → steps.new ≡ steps.old }
+    ensures still { IsExact via (query_of query.now) → IsFbComputed (map meaning boxes.old.items) → steps.new ≡ steps.old }
 {
     match refresh_for(boxes, via, &state.graph, steps) {
         Ok(()) => ask_index(alloc, boxes, state, via, query, steps),
@@ -146,6 +147,7 @@ pub(crate) fn ask<L: Ledger>(
     ensures graph { via ≡ Data → steps.new ≡ steps.old + 1 + live_count state.now.graph.graph + edge_count state.now.graph.graph }
     ensures cost { IsExact via (query_of query.now) → steps.new ≤ steps.old + 1 + live_count state.now.graph.graph + edge_count state.now.graph.graph }
     ensures free { IsExact via (query_of query.now) → via ≢ Fb → steps.new ≡ steps.old }
+    ensures still { IsExact via (query_of query.now) → IsFbComputed (map meaning boxes.old.items) → steps.new ≡ steps.old }
 {
     match via {
         Via::Data => match ask_graph(alloc, &state.graph, query, steps) {

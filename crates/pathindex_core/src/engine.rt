@@ -12,6 +12,7 @@ ghost use Rattle.index_api.specs.declared.kinds.Via.TheVariants.{Data as TheGrap
 ghost use Rattle.index_api.specs.Meanings.{IsBuilt, KeepsViews};
 ghost use Rattle.index_api.specs.Kept.{is_kind, is_kept, kept_of, kinds_of, has_kind};
 ghost use Rattle.extent_report.specs.Shown.{ListsIndex, ListsSizes};
+ghost use Rattle.pathindex_core.specs.Boxes.{IsFbComputed};
 ghost use Rattle.pathindex_core.specs.Engines.{engine_seen, opened_of, graph_in, level_in, EachBecomes, IsSound};
 ghost use Rattle.pathindex_core.specs.Updates.{outcome_in, opened_after, IsUpdated};
 
@@ -156,7 +157,7 @@ impl Engine {
     /// The nodes in which a walk ends whose labels match the expression, asked of the graph itself or through an index, and how they
     /// were found. `NoIndex` comes exactly where the index isn't kept, memory or not. The view of the forward and backward index
     /// is first computed, where it isn't. Of the graph itself a query costs one view of the graph; through an index that is exact
-    /// for it, it reads nothing of the graph. An error leaves the graph and each view that is computed.
+    /// for it and computed, it reads nothing of the graph. An error leaves the graph and each view that is computed.
     pub fn path<L: Ledger>(
         &mut self,
         alloc: Global,
@@ -175,6 +176,7 @@ impl Engine {
         ensures graph { via ≡ TheGraph → steps.new ≡ steps.old + 1 + live_count (graph_in (opened_of self.old.state)) + edge_count (graph_in (opened_of self.old.state)) }
         ensures cost { IsExact via (path expr.now) → steps.new ≤ steps.old + 1 + live_count (graph_in (opened_of self.old.state)) + edge_count (graph_in (opened_of self.old.state)) }
         ensures free { IsExact via (path expr.now) → via ≢ TheFb → steps.new ≡ steps.old }
+        ensures still { IsExact via (path expr.now) → IsFbComputed (map meaning self.old.boxes.items) → steps.new ≡ steps.old }
     {
         match &self.state {
             Some(open) => ask(alloc, &mut self.boxes, open, via, &Query::Path(expr), steps),
@@ -202,6 +204,7 @@ impl Engine {
         ensures graph { via ≡ TheGraph → steps.new ≡ steps.old + 1 + live_count (graph_in (opened_of self.old.state)) + edge_count (graph_in (opened_of self.old.state)) }
         ensures cost { IsExact via (branch query.now) → steps.new ≤ steps.old + 1 + live_count (graph_in (opened_of self.old.state)) + edge_count (graph_in (opened_of self.old.state)) }
         ensures free { IsExact via (branch query.now) → via ≢ TheFb → steps.new ≡ steps.old }
+        ensures still { IsExact via (branch query.now) → IsFbComputed (map meaning self.old.boxes.items) → steps.new ≡ steps.old }
     {
         let asked = Query::Branch(query);
         match &self.state {

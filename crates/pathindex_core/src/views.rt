@@ -6,7 +6,7 @@ ghost use Rattle.index_api.specs.declared.kinds.Via.TheVariants.{Fb};
 ghost use Rattle.index_api.specs.Meanings.{IsReady, KeepsViews};
 ghost use Rattle.index_api.specs.Kept.{kinds_of, has_kind, kept_view};
 ghost use Rattle.pathindex_core.specs.Engines.{EachBecomes};
-ghost use Rattle.pathindex_core.specs.Boxes.{BecomesAt, HasFirst, IsFbComputed, via_view};
+ghost use Rattle.pathindex_core.specs.Boxes.{BecomesAt, HasFirst, IsFbComputed, via_view, HasFirstView};
 
 use crate::boxes::place_of;
 use index_api::{Kind, PathIndex, Via};
@@ -26,6 +26,7 @@ fn refresh_at<L: Ledger>(
     requires ready { All (λ m. IsReady m graph.now.graph) (map meaning boxes.old.items) }
     ensures ok { OnOk result (BecomesAt (λ a b. HasFirst a b graph.now.graph) i (map meaning boxes.old.items) (map meaning boxes.new.items)) }
     ensures err { OnErr result (map meaning boxes.new.items ≡ map meaning boxes.old.items) }
+    ensures still { HasFirstView (map meaning boxes.old.items) i → steps.new ≡ steps.old }
     ensures cost { steps.new ≤ steps.old + 1 + live_count graph.now.graph + edge_count graph.now.graph }
 {
     if boxes[i].summary(0).is_some() {
@@ -46,6 +47,7 @@ pub(crate) fn refresh_fb<L: Ledger>(
     ensures ready { All (λ m. IsReady m graph.now.graph) (map meaning boxes.new.items) }
     ensures computed { OnOk result (IsFbComputed (map meaning boxes.new.items)) }
     ensures err { OnErr result (has_kind (kinds_of (map meaning boxes.old.items)) Kind.Fb ≡ true) }
+    ensures still { IsFbComputed (map meaning boxes.old.items) → steps.new ≡ steps.old }
     ensures cost { steps.new ≤ steps.old + 1 + live_count graph.now.graph + edge_count graph.now.graph }
 {
     match place_of(boxes, Kind::Fb) {
@@ -68,6 +70,7 @@ pub(crate) fn refresh_for<L: Ledger>(
     ensures others { via ≢ Fb → map meaning boxes.new.items ≡ map meaning boxes.old.items }
     ensures err { OnErr result ((via ≡ Fb) × (has_kind (kinds_of (map meaning boxes.old.items)) Kind.Fb ≡ true)) }
     ensures free { via ≢ Fb → steps.new ≡ steps.old }
+    ensures still { IsFbComputed (map meaning boxes.old.items) → steps.new ≡ steps.old }
     ensures cost { steps.new ≤ steps.old + 1 + live_count graph.now.graph + edge_count graph.now.graph }
 {
     match via {

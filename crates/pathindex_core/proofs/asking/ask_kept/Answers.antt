@@ -29,3 +29,6 @@ returns-in-Err-clause-kept g c = kept_again (opened c.args.state.now) _ _ c.requ
 
 pub returns-in-Ok-clause-free : goal.returns-in-Ok-clause-free
 returns-in-Ok-clause-free g c e n = c.ask_index.ensures.cost e ∙ c.refresh_for.ensures.free n
+
+pub returns-in-Ok-clause-still : goal.returns-in-Ok-clause-still
+returns-in-Ok-clause-still g c e h = c.ask_index.ensures.cost e ∙ c.refresh_for.ensures.still h
