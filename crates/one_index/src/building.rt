@@ -17,15 +17,15 @@ use std::alloc::Global;
 pub struct OneIndex;
 
 impl OneIndex {
-    /// The index graph of the classes of full bisimilarity. Among the stable partitions it has the fewest
-    /// blocks. `Memory` comes at want of memory alone.
+    /// The index graph of the classes of full bisimilarity. It is the coarsest stable partition: each other
+    /// one lies within its blocks. `Memory` comes at want of memory alone.
     ///
     /// It takes the rounds of `full_bisimulation`, and then one pass over the edges.
     pub fn build(alloc: Global, view: &GraphView<'_>) -> Result<Summary, Memory>
         ensures fits { IfOk result (λ s. FitsOne view.now (view_of s)) }
         ensures whole { IfOk result (λ s. Agrees (shape_of view.now) s.blocks.block_of (Bisim (shape_of view.now))) }
     {
-        // What is seen is a graph, which this call says.
+        // Called for its contract: what is seen is a graph.
         let _created = view.created();
         let blocks = full_bisimulation(alloc, view)?;
         let summary = Summary::of(alloc, blocks, view)?;

@@ -55,9 +55,9 @@ fn can_merge(summary: &Summary, a: u32, b: u32) -> bool
     is_covered(summary, b, a)
 }
 
-/// Whether two distinct blocks can be merged: whether the partition stays stable if they become one. It is
-/// told by their labels and by their parent blocks alone, those of the block with fewer of them first, for
-/// each graph of which the summary is a stable one. A block without members can be merged with any.
+/// Whether two distinct blocks can be merged: whether the partition stays stable if they become one. Their
+/// labels and their parent blocks alone decide it, for each graph of which the summary is a stable one. A
+/// block without members can be merged with any.
 ///
 /// It takes no memory, and a look-up or two for each parent block of the two at most.
 pub fn mergeable(summary: &Summary, a: u32, b: u32) -> bool

@@ -12,8 +12,7 @@ use quotient::Summary;
 use std::alloc::Global;
 
 /// The 1-index of a graph, kept while it changes. So far a change is prepared by a build of the graph that it will
-/// leave, in a copy of the graph: O(nodes + edges) memory and a build for each change. So what is kept is
-/// always full bisimilarity.
+/// leave, in a copy of the graph: O(nodes + edges) memory and a build for each change.
 #[derive(Drop)]
 pub struct OneKept {
     alloc: Global,
