@@ -1,14 +1,12 @@
-// The engine over an index of each kind, and over an A(k)-index beside an index that finds no memory.
+// The engine over an A(k)-index, alone and beside an index that finds no memory.
 ghost use Rattle.std.specs.Prelude.{◌≡◌, ◌<◌, [], ◌∷◌, Some, None, IsSome, map, if◌then◌else◌};
 ghost use Rattle.bisim_spec.specs.declared.kind.Kind.TheVariants.{Fb};
 ghost use Rattle.pathindex_core.specs.Engines.{engine_seen, opened_of, IsSound};
 
 use ak_maintain::AkIndex;
-use fb_index::FbIndex;
 use graph_update::{Applied, Change};
 use index_api::{Kind, PathIndex, Via};
 use label_graph::{Graph, GraphView};
-use one_maintain::OneKept;
 use pathindex_core::{AskError, Engine, UpdateError};
 use px_base::{Limits, Memory, Refusal, Steps, Text};
 use quotient::Summary;
@@ -97,21 +95,5 @@ fn a_tired_box_leaves_all(rt: HostRuntime) -> Result<(), Fail> {
     assert_eq!(rt; engine.graph().created(), 0);
     assert!(rt; engine.forget(Kind::Fb).is_ok());
     assert!(rt; node(&mut engine, alloc)? == Ok(Applied::Added(0)));
-    Ok(())
-}
-
-#[test]
-fn limits_hold_over_three_indexes(rt: HostRuntime) -> Result<(), Fail> {
-    let alloc = rt.alloc();
-    let mut boxes: Vec<Box<dyn PathIndex>> = Vec::new(alloc);
-    boxes.push(Box::new(alloc, AkIndex::new(alloc)?)?)?;
-    boxes.push(Box::new(alloc, OneKept::new(alloc)?)?)?;
-    boxes.push(Box::new(alloc, FbIndex::new(alloc)?)?)?;
-    let mut engine = Engine::new(boxes);
-    engine.open(Graph::new(alloc)?, FEW, 2)?;
-    assert!(rt; node(&mut engine, alloc)? == Ok(Applied::Added(0)));
-    assert!(rt; node(&mut engine, alloc)? == Ok(Applied::Added(1)));
-    assert!(rt; node(&mut engine, alloc)? == Err(UpdateError::Refused(Refusal::Limit)));
-    assert_eq!(rt; engine.graph().created(), 2);
     Ok(())
 }
