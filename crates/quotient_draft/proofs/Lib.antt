@@ -1,9 +1,9 @@
-mod Puts
+pub mod Puts
 mod Scanned
 mod Written
 mod Over
 mod Examples
 mod Making
 mod Counting
-mod Gone
+pub mod Gone
 mod Settled

@@ -1,0 +1,6 @@
+pub mod Bases
+pub mod Settling
+pub mod NodeChanges
+pub mod EdgeChanges
+pub mod Stepping
+pub mod Pendings

@@ -1,0 +1,82 @@
+-- What is drafted for a change of the graph of a 1-index (K. Yi, H. He, I. Stanoi and J. Yang, "Incremental Maintenance of XML
+-- Structural Indexes", SIGMOD 2004).
+use Rattle.std.specs.Prelude.{◌≡◌, ◌<◌, ◌≤◌, ◌^◌, ℕ, ◌+◌, ◌*◌, Bool, List, [], ◌∷◌, length, Option, Some}
+use Rattle.std.specs.FinSet as set
+use Rattle.px_spec.specs.Graphs.{Graph, IsGraph}
+use Rattle.px_spec.specs.Changes.{Change, node, after}
+use Rattle.px_spec.specs.Shapes.{Shape, shape_of}
+use Rattle.px_spec.specs.Members.{at, has}
+use Rattle.label_graph.specs.Views.{label_number}
+use Rattle.bisim_spec.specs.Partitions.{IsPartition}
+use Rattle.bisim_spec.specs.Reach.{reach}
+use Rattle.bisim_spec.specs.Weights.{size_of, weight}
+use Rattle.bisim_spec.specs.Targets.{KeepsBlocks, target}
+use Rattle.bisim_spec.specs.OneStep.{OneStep}
+use Rattle.bisim_spec.specs.Views.{View, support_at}
+use Rattle.bisim_spec.specs.Fits.{FitsOne}
+use Rattle.graph_update.specs.NewChanges.{IsNew}
+use Rattle.graph_update.specs.Pending.{Pending}
+use Rattle.quotient.specs.Quotients.{Quotient, view_of}
+use Rattle.quotient_draft.specs.Drafts.{Drafted, shown_blocks, shown_labels, shown_support}
+use Rattle.quotient_draft.specs.Basis.{IsOver}
+use Rattle.upkeep_spec.specs.Named.{AreNamed}
+use Rattle.upkeep_spec.specs.Supported.{AreSupports}
+
+-- The draft shows the graph after the change, with nodes in the blocks in which they were: a new node has some block. The partition
+-- may be unstable at the target.
+pub record IsChanged (g : Graph) (c : Change) (q : Quotient) (d : Drafted) : Type 0 where
+  pub over : IsOver q.blocks.block_of q.blocks.labels d
+  pub partition : IsPartition (shape_of (after c g)) (shown_blocks q d)
+  pub keeps : KeepsBlocks (shape_of g) (shape_of (after c g)) q.blocks.block_of (shown_blocks q d)
+  pub named : AreNamed (shown_blocks q d) (at (shown_labels q d)) (label_number (after c g))
+  pub supports : AreSupports (after c g) (shown_blocks q d) (shown_support q d)
+
+-- the draft shows the next partition, with the labels of members and the numbers of edges
+pub record IsDrafted (g : Graph) (c : Change) (q : Quotient) (d : Drafted) : Type 0 where
+  pub over : IsOver q.blocks.block_of q.blocks.labels d
+  pub step : OneStep g q.blocks.block_of c (after c g) (shown_blocks q d)
+  pub named : AreNamed (shown_blocks q d) (at (shown_labels q d)) (label_number (after c g))
+  pub supports : AreSupports (after c g) (shown_blocks q d) (shown_support q d)
+
+-- the nodes that the change reaches, in the graph that it leaves
+abbrev pub reached : Graph → Change → ℕ → Bool
+reached g c = reach (shape_of (after c g)) (target c g)
+
+-- how many numbers the set has and one more, times what there is to read at them
+abbrev pub rounds_cost : Shape → (ℕ → Bool) → ℕ
+rounds_cost s inside = (size_of s inside + 1) * weight s inside
+
+-- how many steps a change may take
+abbrev pub most_steps : Graph → Change → ℕ
+most_steps g c = 8 * rounds_cost (shape_of (after c g)) (reached g c)
+
+-- the block of u has support to that of v
+pub record IsSupported (v : View) (from onto : ℕ) : Type 0 where
+  pub first : ℕ
+  pub second : ℕ
+  pub from_at : at v.block_of from ≡ Some first
+  pub onto_at : at v.block_of onto ≡ Some second
+  pub some : 0 < support_at v.supports first second
+
+-- the quotient is a 1-index of the graph before the change, and the change is new
+pub record IsBefore (a : Pending) (q : Quotient) : Type 0 where
+  pub fits : FitsOne a.before (view_of q)
+  pub new : IsNew a.change a.before
+  pub graph : IsGraph a.before
+  pub graph_after : IsGraph (after a.change a.before)
+  pub few : set.len a.before.edges ≤ 2 ^ 30
+
+-- a node comes
+pub record IsNodeChange (c : Change) : Type 0 where
+  pub label : List ℕ
+  pub is : c ≡ node label
+
+-- the change has this target and no other
+pub record IsTarget (g : Graph) (c : Change) (t : ℕ) : Type 0 where
+  pub is : (n : ℕ) → has (t ∷ []) n ≡ target c g n
+  pub given : t < length (after c g).given
+
+-- supports alone are drafted
+pub record AreSupportsAlone (d : Drafted) : Type 0 where
+  pub moves : d.moves ≡ []
+  pub added : d.added ≡ []

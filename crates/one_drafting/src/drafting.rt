@@ -1,0 +1,138 @@
+// What a change makes of a 1-index.
+ghost use Rattle.std.specs.Prelude.{◌≡◌, ◌+◌, ◌≤◌, ℕ, false, OnOk, IfOk, Some, IsTrue};
+ghost use Rattle.px_spec.specs.Graphs.{Graph};
+ghost use Rattle.px_spec.specs.Changes.{after, link, unlink, drop};
+ghost use Rattle.bisim_spec.specs.Fits.{FitsOne};
+ghost use Rattle.graph_update.specs.NewChanges.{IsNew};
+ghost use Rattle.graph_update.specs.Judging.{change_of};
+ghost use Rattle.quotient.specs.Quotients.{view_of};
+ghost use Rattle.quotient_draft.specs.Drafts.{no_changes, has_member, settled_view, shown_blocks, shown_support};
+ghost use Rattle.one_drafting.specs.Drafting.{IsBefore, IsDrafted, IsNodeChange, IsSupported, most_steps};
+
+use crate::linking::{draft_link, draft_unlink};
+use crate::nodes::{draft_drop, draft_node};
+use crate::resettling::resettle;
+use graph_update::{After, Change};
+use label_graph::Graph;
+use px_base::{Memory, NodeId, Steps};
+use quotient::Summary;
+use quotient_draft::Draft;
+use std::alloc::Global;
+use std::sync::ledger::Ledger;
+
+// A node comes.
+fn add_node<L: Ledger>(
+    alloc: Global,
+    base: &Summary,
+    draft: &mut Draft,
+    after: &After<'_>,
+    steps: &mut Steps<L>,
+) -> Result<(), Memory>
+    requires before { IsBefore after.now base.now }
+    requires empty { draft.old ≡ no_changes }
+    requires node { IsNodeChange after.now.change }
+    ensures drafted { OnOk result (IsDrafted after.now.before after.now.change base.now draft.new) }
+    ensures cost { steps.new ≤ steps.old + most_steps after.now.before after.now.change }
+{
+    let n = draft_node(base, draft, after)?;
+    resettle(alloc, base, draft, after, n, steps)
+}
+
+// A node goes.
+fn drop_node<L: Ledger>(
+    alloc: Global,
+    base: &Summary,
+    draft: &mut Draft,
+    after: &After<'_>,
+    u: NodeId,
+    steps: &mut Steps<L>,
+) -> Result<(), Memory>
+    requires before { IsBefore after.now base.now }
+    requires empty { draft.old ≡ no_changes }
+    requires drops { after.now.change ≡ drop u }
+    ensures drafted { OnOk result (IsDrafted after.now.before after.now.change base.now draft.new) }
+    ensures cost { steps.new ≤ steps.old + most_steps after.now.before after.now.change }
+{
+    draft_drop(base, draft, after, u)?;
+    resettle(alloc, base, draft, after, u, steps)
+}
+
+// An edge comes.
+fn add_edge<L: Ledger>(
+    alloc: Global,
+    base: &Summary,
+    draft: &mut Draft,
+    after: &After<'_>,
+    u: NodeId,
+    v: NodeId,
+    steps: &mut Steps<L>,
+) -> Result<(), Memory>
+    requires before { IsBefore after.now base.now }
+    requires empty { draft.old ≡ no_changes }
+    requires links { after.now.change ≡ link u v }
+    ensures drafted { OnOk result (IsDrafted after.now.before after.now.change base.now draft.new) }
+    ensures cost { steps.new ≤ steps.old + most_steps after.now.before after.now.change }
+    ensures free { IsSupported (view_of base.now) u v → steps.new ≡ steps.old }
+{
+    if draft_link(base, draft, after, u, v)? {
+        return Ok(());
+    }
+    resettle(alloc, base, draft, after, v, steps)
+}
+
+// An edge goes.
+fn drop_edge<L: Ledger>(
+    alloc: Global,
+    base: &Summary,
+    draft: &mut Draft,
+    after: &After<'_>,
+    u: NodeId,
+    v: NodeId,
+    steps: &mut Steps<L>,
+) -> Result<(), Memory>
+    requires before { IsBefore after.now base.now }
+    requires empty { draft.old ≡ no_changes }
+    requires unlinks { after.now.change ≡ unlink u v }
+    ensures drafted { OnOk result (IsDrafted after.now.before after.now.change base.now draft.new) }
+    ensures cost { steps.new ≤ steps.old + most_steps after.now.before after.now.change }
+{
+    if draft_unlink(base, draft, after, u, v, steps)? {
+        return Ok(());
+    }
+    resettle(alloc, base, draft, after, v, steps)
+}
+
+/// Drafts what a change, which `judge` accepts as new, will make of the 1-index of a graph: the next partition,
+/// its labels and its supports. The graph is as it was. Once the draft is settled, the 1-index is that of the graph
+/// after the change.
+///
+/// It takes at most `8 * (r + 1) * w` steps, where the change reaches `r` nodes with `w` edges and nodes at them,
+/// and no step for an edge between blocks that have support. At want of memory the draft is only good to be cleared.
+pub fn draft_change<L: Ledger>(
+    alloc: Global,
+    base: &Summary,
+    draft: &mut Draft,
+    graph: &Graph,
+    change: &Change,
+    steps: &mut Steps<L>,
+) -> Result<(), Memory>
+    requires fits { FitsOne graph.now.graph (view_of base.now) }
+    requires new { IsNew (change_of change.now) graph.now.graph }
+    requires empty { draft.old ≡ no_changes }
+    ensures drafted { OnOk result (IsDrafted graph.now.graph (change_of change.now) base.now draft.new) }
+    ensures fits { OnOk result (FitsOne (after (change_of change.now) graph.now.graph) (settled_view base.now draft.new)) }
+    ensures from { OnOk result ((b c : ℕ) → has_member (shown_blocks base.now draft.new) b ≡ false → shown_support base.now draft.new b c ≡ 0) }
+    ensures onto { OnOk result ((b c : ℕ) → has_member (shown_blocks base.now draft.new) b ≡ false → shown_support base.now draft.new c b ≡ 0) }
+    ensures cost { steps.new ≤ steps.old + most_steps graph.now.graph (change_of change.now) }
+    ensures free { (u v : ℕ) → change_of change.now ≡ link u v → IsSupported (view_of base.now) u v → steps.new ≡ steps.old }
+{
+    // Called for its contract: edges are few.
+    let _edges = graph.edge_count();
+    let after = After::new(graph, change);
+    match change {
+        Change::Node(_) => add_node(alloc, base, draft, &after, steps),
+        Change::Link(u, v) => add_edge(alloc, base, draft, &after, *u, *v, steps),
+        Change::Unlink(u, v) => drop_edge(alloc, base, draft, &after, *u, *v, steps),
+        Change::Drop(u) => drop_node(alloc, base, draft, &after, *u, steps),
+    }
+}

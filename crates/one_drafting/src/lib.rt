@@ -1,0 +1,9 @@
+//! What a change of a graph makes of its 1-index, as a draft over the old one: blocks are split and merged.
+#![tactic(auto)]
+
+mod drafting;
+mod linking;
+mod nodes;
+mod resettling;
+
+pub use drafting::draft_change;
