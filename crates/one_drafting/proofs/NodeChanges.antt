@@ -58,7 +58,7 @@ between_bare edges n o p p2 x y moved bare = same_len (set.retain edges (joins p
 ])
 
 -- a label that was seen keeps its number
-seen_stays : (seen : List (List ℕ)) (t : List ℕ) (b : Bool) (l : ℕ) (r : List ℕ) → slice_get seen l ≡ Some r → slice_get (if b then seen else seen ++ t ∷ []) l ≡ Some r
+seen_stays : (seen : List (List ℕ)) (t : List ℕ) (b : Bool) (l : ℕ) (r : List ℕ) → slice_get seen l ≡ Some r → slice_get (cond b seen (seen ++ t ∷ [])) l ≡ Some r
 seen_stays seen t true l r h = h
 seen_stays [] t false l r h = absurd (cc)
 seen_stays (x ∷ xs) t false zero r h = h

@@ -31,6 +31,14 @@ use Rattle.one_drafting.proofs.EdgeChanges.{AreAt, IsRaised, IsLowered, changed_
 
 -- ---- nodes
 
+-- the number before the count is that of the node that comes
+pub node_count : (a : Pending) (n : ℕ) → IsNodeChange a.change → n ≡ length (graph_after a).given → n - 1 + 1 ≡ length (graph_after a).given
+node_count a n kind count =
+    let t = kind.label in
+    let size : length (with_node a.before t).given ≡ length a.before.given + 1 = length-append a.before.given (Some t ∷ []) in
+    let given : length (after a.change a.before).given ≡ length (with_node a.before t).given = ap (λ c. length (after c a.before).given) kind.is in
+    omega (arith, count, size, given)
+
 pub node_changed : (a : Pending) (q : Quotient) (d0 d1 d : Drafted) (n b l : ℕ) → IsBefore a q → IsNodeChange a.change → d0 ≡ no_changes → n + 1 ≡ length (graph_after a).given
     → label_number (graph_after a) n ≡ Some l → IsLeastFree (shown_labels q d0) b → d1 ≡ record d0 { added = d0.added ++ (b, l) ∷ [] }
     → shown_labels q d1 ≡ put (shown_labels q d0) b l → ((m : ℕ) → at (shown_blocks q d) m ≡ cond (nat_eq m n) (Some b) (at (shown_blocks q d1) m))

@@ -102,6 +102,30 @@ fn drop_edge<L: Ledger>(
     resettle(alloc, base, draft, after, v, steps)
 }
 
+// What the change makes.
+fn draft_pending<L: Ledger>(
+    alloc: Global,
+    base: &Summary,
+    draft: &mut Draft,
+    after: &After<'_>,
+    change: &Change,
+    steps: &mut Steps<L>,
+) -> Result<(), Memory>
+    requires before { IsBefore after.now base.now }
+    requires empty { draft.old ≡ no_changes }
+    requires same { after.now.change ≡ change_of change.now }
+    ensures drafted { OnOk result (IsDrafted after.now.before after.now.change base.now draft.new) }
+    ensures cost { steps.new ≤ steps.old + most_steps after.now.before after.now.change }
+    ensures free { (u v : ℕ) → change_of change.now ≡ link u v → IsSupported (view_of base.now) u v → steps.new ≡ steps.old }
+{
+    match change {
+        Change::Node(_) => add_node(alloc, base, draft, after, steps),
+        Change::Link(u, v) => add_edge(alloc, base, draft, after, *u, *v, steps),
+        Change::Unlink(u, v) => drop_edge(alloc, base, draft, after, *u, *v, steps),
+        Change::Drop(u) => drop_node(alloc, base, draft, after, *u, steps),
+    }
+}
+
 /// Drafts what a change, which `judge` accepts as new, will make of the 1-index of a graph: the next partition,
 /// its labels and its supports. The graph is as it was. Once the draft is settled, the 1-index is that of the graph
 /// after the change.
@@ -129,10 +153,6 @@ pub fn draft_change<L: Ledger>(
     // Called for its contract: edges are few.
     let _edges = graph.edge_count();
     let after = After::new(graph, change);
-    match change {
-        Change::Node(_) => add_node(alloc, base, draft, &after, steps),
-        Change::Link(u, v) => add_edge(alloc, base, draft, &after, *u, *v, steps),
-        Change::Unlink(u, v) => drop_edge(alloc, base, draft, &after, *u, *v, steps),
-        Change::Drop(u) => drop_node(alloc, base, draft, &after, *u, steps),
-    }
+    draft_pending(alloc, base, draft, &after, change, steps)?;
+    Ok(())
 }

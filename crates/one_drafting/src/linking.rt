@@ -63,10 +63,15 @@ fn is_in(base: &Summary, n: NodeId, b: u32) -> bool
 }
 
 // Whether one of the nodes is in the block.
-fn any_in(base: &Summary, mut nodes: Neighbours<'_>, b: u32) -> bool
-    ensures { result ≡ list_any (λ n. is_this b (at base.now.blocks.block_of n)) nodes.entry }
+fn any_in(base: &Summary, nodes: Neighbours<'_>, b: u32) -> bool
+    ensures { result ≡ list_any (λ n. is_this b (at base.now.blocks.block_of n)) nodes }
 {
-    nodes.any(|n| is_in(base, n, b))
+    for n in nodes {
+        if is_in(base, n, b) {
+            return true;
+        }
+    }
+    false
 }
 
 // Whether a parent of the node, in the graph after the change, is in the block. The node's parents are read.

@@ -19,10 +19,10 @@ returns-clause-changed c =
 
 pub returns-clause-yes : goal.returns-clause-yes
 returns-clause-yes c = λ some.
-    link_yes c.args.after.now c.args.base.now c.args.u c.args.v c.own_block-a.result c.own_block-b.result c.support.result c.requires.before c.requires.links
-    (record { from = c.own_block-a.ensures.block; onto = c.own_block-b.ensures.block }) c.support.ensures some
+    link_yes c.args.after.now c.args.base.now c.args.u c.args.v c.own_block-a.result c.own_block-b.result c.support-supported.result c.requires.before c.requires.links
+    (record { from = c.own_block-a.ensures.block; onto = c.own_block-b.ensures.block }) c.support-supported.ensures some
 
 pub returns-clause-no : goal.returns-clause-no
 returns-clause-no c = λ none.
-    link_no c.args.after.now c.args.base.now c.args.u c.args.v c.own_block-a.result c.own_block-b.result c.support.result c.requires.before c.requires.links
-    (record { from = c.own_block-a.ensures.block; onto = c.own_block-b.ensures.block }) c.support.ensures none
+    link_no c.args.after.now c.args.base.now c.args.u c.args.v c.own_block-a.result c.own_block-b.result c.support-supported.result c.requires.before c.requires.links
+    (record { from = c.own_block-a.ensures.block; onto = c.own_block-b.ensures.block }) c.support-supported.ensures none
