@@ -64,7 +64,7 @@ fn is_in(base: &Summary, n: NodeId, b: u32) -> bool
 
 // Whether one of the nodes is in the block.
 fn any_in(base: &Summary, nodes: Neighbours<'_>, b: u32) -> bool
-    ensures { result ≡ list_any (λ n. is_this b (at base.now.blocks.block_of n)) nodes }
+    ensures { result ≡ list_any (λ n. is_this b (at base.now.blocks.block_of n)) nodes.entry }
 {
     for n in nodes {
         if is_in(base, n, b) {
