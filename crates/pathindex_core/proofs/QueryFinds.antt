@@ -36,5 +36,5 @@ pub answered_in : (g : Graph) (kept : KeptIndexes) (via : Via) (q : Query) (how 
     → AreQueryAnswers (shape_of g) q nodes → IsFoundBy g s.test via q how → IsAnswered g kept via q how nodes
 answered_in g kept via q how nodes v n s a f = record {
   answers = a;
-  found = found g kept via q how n (record { is_kept = s.shows.is_kept; test = s.test; decides = s.shows.decides; by_test = f });
+  found = found g kept via q how n (record { test = s.test; shows = s.shows; by_test = f });
 }

@@ -6,11 +6,11 @@ use Rattle.index_api.specs.declared.kinds.Via.{Via}
 use Rattle.index_api.specs.declared.kinds.Via.TheVariants.{Data, A, One, Fb}
 use Rattle.index_api.specs.declared.answers.How.{How}
 use Rattle.index_api.specs.declared.answers.How.TheVariants.{Data as InGraph, Exact, Checked}
-use Rattle.index_api.specs.Kept.{KeptIndexes, is_kept, Relates}
+use Rattle.index_api.specs.Kept.{KeptIndexes, is_kept}
 use Rattle.branch_query.specs.Queries.{Query, AreQueryAnswers}
 use Rattle.branch_query.specs.Candidates.{AreCandidates}
 use Rattle.index_eval.specs.Exactness.{IsExact}
-use Rattle.extent_report.specs.Listing.{DecidesEach}
+use Rattle.extent_report.specs.Shown.{ShowsIndex}
 
 -- an index that isn't kept
 abbrev pub IsUnkept : KeptIndexes → Via → Type 0
@@ -30,11 +30,10 @@ pub record IsFoundBy (g : Graph) (test : ℕ → ℕ → Bool) (via : Via) (q : 
   pub are_candidates : AreCandidates (shape_of g) test q whole candidates
   pub how_is : how ≡ how_of whole (length candidates)
 
--- the answers were found in an index that is kept, by its relation
+-- the answers were found in an index, by what it shows
 pub record IsFoundIn (g : Graph) (kept : KeptIndexes) (via : Via) (q : Query) (how : How) : Type 0 where
-  pub is_kept : is_kept kept via ≡ true
   pub test : ℕ → ℕ → Bool
-  pub decides : DecidesEach test (Relates g kept via)
+  pub shows : ShowsIndex g kept via test
   pub by_test : IsFoundBy g test via q how
 
 -- how the answers were found: in the graph itself, or in an index
