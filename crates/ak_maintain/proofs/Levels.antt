@@ -56,5 +56,6 @@ family_staged family staged levels next k c g e count h = record {
   are_next = record {
     count = view_total next ∙ h.count ∙ sym count ∙ sym (view_total levels) ∙ ap (λ f. length (kept_views f)) (sym e);
     fits = family_fits (after c g) k next h;
+    step = tt;
   };
 }

@@ -32,7 +32,7 @@ prepared summary staged c g = record {
   views = refl;
   next = None ∷ [];
   staged = refl;
-  are_next = record { count = refl; fits = one_fits (after c g) None tt };
+  are_next = record { count = refl; fits = one_fits (after c g) None tt; step = tt };
 }
 
 -- the view that wasn't computed, and is now

@@ -1,5 +1,5 @@
 -- Which indexes are kept, and what each of them groups together.
-use Rattle.std.specs.Prelude.{ℕ, ◌&&◌, Bool, true, false, List, [], Option, Some, None, map, nat_le, option_and_then}
+use Rattle.std.specs.Prelude.{ℕ, ◌&&◌, Bool, true, false, List, Option, map, nat_le, option_and_then}
 use Rattle.std.specs.List.{find, list_any}
 use Rattle.px_spec.specs.Graphs.{Graph}
 use Rattle.px_spec.specs.Shapes.{shape_of}
@@ -11,7 +11,7 @@ use Rattle.bisim_spec.specs.Views.{View}
 use Rattle.bisim_spec.specs.Fits.{view_at}
 use Rattle.index_api.specs.declared.kinds.Via.{Via}
 use Rattle.index_api.specs.declared.kinds.Via.TheVariants.{Data, A, One, Fb}
-use Rattle.index_api.specs.Meanings.{Meaning}
+use Rattle.index_api.specs.Meanings.{Meaning, blocks_in}
 
 pub record KeptIndexes : Type 0 where
   pub kinds : List Kind
@@ -62,11 +62,6 @@ index_of boxes k = find (λ m. is_kind k m.kind) boxes
 -- the view of that level of the index of this kind; none where it isn't kept or isn't computed
 abbrev pub kept_view : List Meaning → Kind → ℕ → Option View
 kept_view boxes k level = option_and_then (λ m. view_at m.views level) (index_of boxes k)
-
--- the blocks of a view; nothing where it isn't computed
-abbrev pub blocks_in : Option View → List (Option ℕ)
-blocks_in None = []
-blocks_in (Some v) = v.block_of
 
 -- what the boxes keep, with levels up to k
 abbrev pub kept_of : List Meaning → ℕ → KeptIndexes

@@ -1,6 +1,6 @@
 -- What an index means to those who use it: its kind, its views, and the views that it has staged; and what each call of an
 -- index leaves of that.
-use Rattle.std.specs.Prelude.{⊤, ℕ, ◌≡◌, ◌<◌, List, length, Option, Some, None, IsSome}
+use Rattle.std.specs.Prelude.{⊤, ℕ, ◌≡◌, ◌<◌, List, [], length, Option, Some, None, IsSome}
 use Rattle.px_spec.specs.Graphs.{Graph}
 use Rattle.px_spec.specs.Changes.{Change, after}
 use Rattle.px_spec.specs.Shapes.{shape_of}
@@ -10,6 +10,7 @@ use Rattle.bisim_spec.specs.Bisimilarity.{Bisim}
 use Rattle.bisim_spec.specs.Partitions.{Agrees}
 use Rattle.bisim_spec.specs.Views.{View}
 use Rattle.bisim_spec.specs.Fits.{Fits, view_at, view_count}
+use Rattle.bisim_spec.specs.OneStep.{OneStep}
 
 pub record Meaning : Type 0 where
   pub kind : Kind
@@ -17,6 +18,11 @@ pub record Meaning : Type 0 where
   pub views : List (Option View)
   -- the views that a change to come will leave, where one is prepared
   pub staged : Option (List (Option View))
+
+-- the blocks of a view; nothing where it isn't computed
+abbrev pub blocks_in : Option View → List (Option ℕ)
+blocks_in None = []
+blocks_in (Some v) = v.block_of
 
 -- the index without what it has staged
 abbrev pub unstaged : Meaning → Meaning
@@ -41,10 +47,18 @@ pub record IsBuilt (old new : Meaning) (g : Graph) (k : ℕ) : Type 0 where
   pub count : length new.views ≡ view_count old.kind k
   pub whole : BeginsWhole old.kind g (view_at new.views 0)
 
+-- How a change leads from one view to the next. The partition of the 1-index moves by one step. The others are told by the
+-- graph after the change alone.
+abbrev pub Steps : Kind → Graph → Option View → Change → Option View → Type 0
+Steps A g o c next = ⊤
+Steps One g o c next = OneStep g (blocks_in o) c (after c g) (blocks_in next)
+Steps Fb g o c next = ⊤
+
 -- these views are what a change makes of an index
 pub record AreNext (old : Meaning) (c : Change) (g : Graph) (views : List (Option View)) : Type 0 where
   pub count : length views ≡ length old.views
   pub fits : Fits old.kind views (after c g)
+  pub step : Steps old.kind g (view_at old.views 0) c (view_at views 0)
 
 -- the change of the graph is prepared, and nothing else has happened
 pub record IsPrepared (old new : Meaning) (c : Change) (g : Graph) : Type 0 where

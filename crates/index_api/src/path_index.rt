@@ -34,7 +34,8 @@ pub trait PathIndex: Drop {
         ensures built { OnOk result (IsBuilt (meaning self.old) (meaning self.new) view.now k) }
         ensures err { OnErr result (meaning self.new ≡ meaning self.old) };
 
-    /// Stages what a change will make of the index. The graph is as it was, and `judge` accepts the change as new within some limits.
+    /// Stages what a change will make of the index. The graph is as it was, and `judge` accepts the change as new within some limits. The
+    /// partition of the 1-index moves by one step (Yi, He, Stanoi and Yang 2004): nodes that the change doesn't reach stay together or apart.
     fn prepare(&mut self, graph: &Graph, change: &Change) -> Result<(), Memory>
         requires ready { IsReady (meaning self.old) graph.now.graph }
         requires new { IsNew (change_of change.now) graph.now.graph }

@@ -10,8 +10,8 @@ use Rattle.bisim_spec.specs.declared.kind.Kind.{Kind}
 use Rattle.bisim_spec.specs.declared.kind.Kind.TheVariants.{A, One, Fb}
 use Rattle.bisim_spec.specs.Views.{View}
 use Rattle.bisim_spec.specs.Fits.{Fits, HasCount, FitsAt, view_at, view_count}
-use Rattle.index_api.specs.Meanings.{Meaning, IsReady, KeepsViews, IsRefreshed}
-use Rattle.index_api.specs.Kept.{KeptIndexes, kinds_of, has_kind, kept_view, blocks_in, kept_of}
+use Rattle.index_api.specs.Meanings.{Meaning, IsReady, KeepsViews, IsRefreshed, blocks_in}
+use Rattle.index_api.specs.Kept.{KeptIndexes, kinds_of, has_kind, kept_view, kept_of}
 use Rattle.pathindex_core.specs.Engines.{Opened, EachBecomes, IsKeptFor}
 use Rattle.pathindex_core.specs.Boxes.{StandsAt, BecomesAt, HasFirst, HasFirstView, IsFbComputed}
 use Rattle.pathindex_core.proofs.Becoming.{map_kept}

@@ -17,8 +17,8 @@ use Rattle.quotient.specs.Quotients.{Quotient, view_of}
 use Rattle.index_api.specs.declared.kinds.Via.{Via}
 use Rattle.index_api.specs.declared.kinds.Via.TheVariants.{Data, A, One, Fb}
 use Rattle.index_api.specs.Places.{levels_below, all_indexes}
-use Rattle.index_api.specs.Meanings.{Meaning}
-use Rattle.index_api.specs.Kept.{KeptIndexes, is_kept, kept_view, kept_of, blocks_in}
+use Rattle.index_api.specs.Meanings.{Meaning, blocks_in}
+use Rattle.index_api.specs.Kept.{KeptIndexes, is_kept, kept_view, kept_of}
 use Rattle.extent_report.specs.Listing.{DecidesEach, extents_text, block_total, joined_total, size_line}
 use Rattle.extent_report.specs.Summaries.{LabelsHaveTexts, IsSummaryOf}
 use Rattle.index_eval.specs.Exactness.{FitsVia}

@@ -110,7 +110,8 @@ impl Engine {
 
     /// Makes a change in the graph and in each index, and says which number a new node got. `Refused` comes exactly where the change is refused within the
     /// engine's limits, memory or not. An error leaves all as it was. So does the link of an edge that is there, which takes no
-    /// memory. Each other change takes all its memory before the graph or an index changes.
+    /// memory. Each other change takes all its memory before the graph or an index changes, and the partition of the 1-index, where it is kept,
+    /// moves by one step (Yi, He, Stanoi and Yang 2004).
     pub fn update(&mut self, alloc: Global, change: Change) -> Result<Applied, UpdateError>
         requires open { IsSome (opened_of self.old.state) }
         requires sound { IsSound (engine_seen (map meaning self.old.boxes.items) self.old.state) }
@@ -120,6 +121,7 @@ impl Engine {
         ensures updated { OnOk result (EachBecomes (IsUpdated (change_of change) (graph_in (opened_of self.old.state))) (map meaning self.old.boxes.items) (map meaning self.new.boxes.items)) }
         ensures applied { IfOk result (λ applied. applied ≡ applied_of (change_of change) (graph_in (opened_of self.old.state))) }
         ensures same { is_same (change_of change) (graph_in (opened_of self.old.state)) ≡ true → result ≡ Ok Applied.Done }
+        ensures still { is_same (change_of change) (graph_in (opened_of self.old.state)) ≡ true → engine_seen (map meaning self.new.boxes.items) self.new.state ≡ engine_seen (map meaning self.old.boxes.items) self.old.state }
         ensures kinds { kinds_of (map meaning self.new.boxes.items) ≡ kinds_of (map meaning self.old.boxes.items) }
         ensures err { OnErr result (engine_seen (map meaning self.new.boxes.items) self.new.state ≡ engine_seen (map meaning self.old.boxes.items) self.old.state) }
     {

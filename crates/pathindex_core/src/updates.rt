@@ -55,6 +55,8 @@ pub(crate) fn update(
     ensures updated { OnOk result (EachBecomes (IsUpdated (change_of change.now) graph.old.graph) (map meaning boxes.old.items) (map meaning boxes.new.items)) }
     ensures applied { IfOk result (λ applied. applied ≡ applied_of (change_of change.now) graph.old.graph) }
     ensures same { is_same (change_of change.now) graph.old.graph ≡ true → result ≡ Ok Applied.Done }
+    ensures still_graph { is_same (change_of change.now) graph.old.graph ≡ true → graph.new.graph ≡ graph.old.graph }
+    ensures still_boxes { is_same (change_of change.now) graph.old.graph ≡ true → map meaning boxes.new.items ≡ map meaning boxes.old.items }
     ensures ready { OnOk result (EachBecomes (λ a b. StaysReady a b graph.new.graph) (map meaning boxes.old.items) (map meaning boxes.new.items)) }
     ensures err_graph { OnErr result (graph.new.graph ≡ graph.old.graph) }
     ensures err_boxes { OnErr result (map meaning boxes.new.items ≡ map meaning boxes.old.items) }
