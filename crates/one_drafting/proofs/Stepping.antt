@@ -20,12 +20,13 @@ use Rattle.bisim_spec.specs.OneStep.{OneStep}
 use Rattle.bisim_spec.specs.Fits.{FitsOne}
 use Rattle.bisim_spec.proofs.Changed.{stable_but_changed}
 use Rattle.bisim_spec.proofs.Differs.{differs_after}
-use Rattle.bisim_spec.proofs.Moves.{between_most}
+use Rattle.bisim_spec.proofs.Bisimilar.{is_some_at}
 use Rattle.bisim_spec.proofs.Reached.{reach_start}
 use Rattle.graph_update.specs.NewChanges.{IsNew}
 use Rattle.quotient.specs.Quotients.{Quotient, view_of}
 use Rattle.quotient_draft.specs.Drafts.{Drafted, shown_blocks, shown_labels, shown_support}
 use Rattle.quotient_draft.specs.Basis.{IsOver}
+use Rattle.block_joining.specs.Merged.{HasGraph}
 use Rattle.upkeep_spec.specs.Merges.{AreSuspects}
 use Rattle.upkeep_spec.specs.Named.{AreNamed, AreNamedOff}
 use Rattle.upkeep_spec.specs.Splits.{IsClosed, IsSplit}
@@ -109,12 +110,15 @@ stepped g c t q d d2 p3 made suspects graph graph2 fits target_is changed split 
     (stages g c t q d (shown_blocks q d2) made graph graph2 fits target_is changed split) (labelled_named (after c g) (shown_blocks q d2) (at (shown_labels q d2)) named) supports
     (λ x y. refl) (suspects_of g c t (shown_blocks q d2) made suspects target_is added) merge.merged moves
 
--- no more edges lead between two blocks than there are
-pub few_shown : (g : Graph) (p : List (Option ℕ)) (support : ℕ → ℕ → ℕ) → AreSupports g p support → set.len g.edges ≤ 2 ^ 30 → (x y : ℕ) → support x y ≤ 2 ^ 30
-few_shown g p support supports few x y =
-    let e = supports.each x y in
-    let most = between_most g.edges p x y in
-    omega (arith, e, most, few)
+-- the supports are those of a graph with few edges, and blocks with members have labels
+pub has_graph : (g : Graph) (p : List (Option ℕ)) (labels : ℕ → Option ℕ) (support : ℕ → ℕ → ℕ) → AreSupports g p support → set.len g.edges ≤ 2 ^ 30
+    → AreNamed p labels (label_number g) → HasGraph p labels support
+has_graph g p labels support supports few named = record {
+  graph = g;
+  supports = supports;
+  few = few;
+  live = λ n b e. let r = named.is n b e in is_some_at (labels b) r.0 r.1;
+}
 
 insert_most : (n : ℕ) (t : Bool) → n < 2 ^ 30 → cond t n (n + 1) ≤ 2 ^ 30
 insert_most n true h = omega (arith, h)

@@ -1,6 +1,6 @@
 //! Splitting of blocks (stub).
 #![tactic(auto)]
-ghost use Rattle.std.specs.Prelude.{◌≡◌, ◌+◌, ◌*◌, ◌≤◌, ◌<◌, [], ℕ, Bool, OnOk, IsSome, IsTrue, length, nat_eq};
+ghost use Rattle.std.specs.Prelude.{◌≡◌, ◌+◌, ◌*◌, ◌≤◌, [], ℕ, Bool, OnOk, IsSome, IsTrue, nat_eq};
 ghost use Rattle.std.specs.List.{IsDistinct};
 ghost use Rattle.px_spec.specs.Members.{has, at};
 ghost use Rattle.px_spec.specs.Shapes.{shape_of};
@@ -32,7 +32,6 @@ pub fn split<L: Ledger>(
 ) -> Result<(), Memory>
     requires over { IsOver base.now.blocks.block_of base.now.blocks.labels draft.old }
     requires once { IsDistinct nat_eq targets.now }
-    requires below { (n : ℕ) → IsTrue (has targets.now n) → n < length (graph_after after.now).given }
     requires stable { StableBut (shape_of (graph_after after.now)) (shown_blocks base.now draft.old) (has targets.now) }
     requires named { AreNamedOff (has targets.now) (shown_blocks base.now draft.old) (at (shown_labels base.now draft.old)) (label_number (graph_after after.now)) }
     requires none { made.old.items ≡ [] }

@@ -3,7 +3,7 @@ use Rattle.px_spec.specs.Members.{at}
 use Rattle.label_graph.specs.Views.{label_number}
 use Rattle.graph_update.specs.Pending.{graph_after}
 use Rattle.quotient_draft.specs.Drafts.{shown_blocks, shown_labels, shown_support}
-use Rattle.one_drafting.proofs.Stepping.{one_once, stable_there, few_after, few_shown, reach_cost, stepped, AreAdded}
+use Rattle.one_drafting.proofs.Stepping.{one_once, stable_there, few_after, has_graph, reach_cost, stepped, AreAdded}
 use Rattle.one_drafting.proofs.resettling.resettle.Goals as goal
 
 pub split-requires-clause-once : goal.split-requires-clause-once
@@ -30,10 +30,11 @@ pub returns-clause-cost : goal.returns-clause-cost
 returns-clause-cost g c =
     reach_cost c.args.after.now.before c.args.after.now.change c.args.target c.args.steps.now c.split.new.steps c.requires.before.graph_after c.requires.target c.split.ensures.cost
 
-pub merge-requires-clause-few : goal.merge-requires-clause-few
-merge-requires-clause-few g c =
-    few_shown (graph_after c.args.after.now) (shown_blocks c.args.base.now c.split.new.draft) (shown_support c.args.base.now c.split.new.draft) c.in_ok-split.ensures.supports
-    (few_after c.args.after.now.change c.args.after.now.before c.requires.before.new c.requires.before.few)
+pub merge-requires-clause-graph : goal.merge-requires-clause-graph
+merge-requires-clause-graph g c =
+    has_graph (graph_after c.args.after.now) (shown_blocks c.args.base.now c.split.new.draft) (at (shown_labels c.args.base.now c.split.new.draft))
+    (shown_support c.args.base.now c.split.new.draft) c.in_ok-split.ensures.supports (few_after c.args.after.now.change c.args.after.now.before c.requires.before.new c.requires.before.few)
+    c.in_ok-split.ensures.named
 
 pub returns-clause-drafted : goal.returns-clause-drafted
 returns-clause-drafted g c =

@@ -1,0 +1,2 @@
+//! Merging two blocks (stub).
+#![tactic(auto)]
