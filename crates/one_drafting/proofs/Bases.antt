@@ -1,5 +1,5 @@
 -- What a quotient that fits says of labels, and drafts in which nothing is drafted yet.
-use Rattle.std.proofs.Common.{◌≡◌, ℕ, List, Option, Some, sym, ◌∙◌, ap, arith, true≢false}
+use Rattle.std.proofs.Common.{◌≡◌, ℕ, List, Option, Some, refl, ◌∙◌, ap, arith, true≢false, sym}
 use Rattle.std.specs.Prelude.{slice_get, option_and_then, position, bytes_eq}
 use Rattle.px_spec.specs.Graphs.{Graph, IsGraph, label_of}
 use Rattle.px_spec.specs.Members.{at}
@@ -35,4 +35,5 @@ over_none block labels = record {
   numbers = λ n b e. absurd (cc);
   ends = λ p n e. absurd (cc);
   left = λ n b e h. absurd (true≢false (sym h));
+  taken = λ b. refl;
 }

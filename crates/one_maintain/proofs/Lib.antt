@@ -1,1 +1,2 @@
 pub mod OneView
+pub mod Staged

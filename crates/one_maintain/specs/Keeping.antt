@@ -1,19 +1,43 @@
--- A 1-index as the view of an index.
-use Rattle.std.specs.Prelude.{List, [], ◌∷◌, Option, Some, None, option_map}
+-- A 1-index that is kept: the quotient in force, and a draft over it of what a change to come will make of it.
+use Rattle.std.specs.Prelude.{◌≡◌, ℕ, Bool, true, false, IsTrue, IsSome, List, [], ◌∷◌, Option, Some, None}
+use Rattle.px_spec.specs.Members.{at}
 use Rattle.bisim_spec.specs.declared.kind.Kind.TheVariants.{One}
 use Rattle.bisim_spec.specs.Views.{View}
 use Rattle.quotient.specs.Quotients.{Quotient, view_of}
+use Rattle.quotient_draft.specs.Drafts.{Drafted, no_changes, has_member, shown_blocks, shown_support, settled_view}
+use Rattle.quotient_draft.specs.Basis.{IsOver}
+use Rattle.quotient_draft.specs.Rooms.{HasRoomFor}
 use Rattle.index_api.specs.Meanings.{Meaning}
+
+pub record KeptQuotient : Type 0 where
+  pub base : Quotient
+  pub draft : Drafted
+  -- whether the draft is what a change will make of the quotient
+  pub staged : Bool
+
+-- what the draft needs to be settled in its base: room, and members and supports that agree
+pub record CanSettle (q : Quotient) (d : Drafted) : Type 0 where
+  pub over : IsOver q.blocks.block_of q.blocks.labels d
+  pub room : HasRoomFor q d
+  pub inhabited : (b : ℕ) → IsSome (at q.blocks.labels b) → IsTrue (has_member q.blocks.block_of b)
+  pub from : (b c : ℕ) → has_member (shown_blocks q d) b ≡ false → shown_support q d b c ≡ 0
+  pub onto : (b c : ℕ) → has_member (shown_blocks q d) b ≡ false → shown_support q d c b ≡ 0
+
+-- a draft that is staged can be settled, and else nothing is drafted
+abbrev pub IsKeptDraft : Quotient → Drafted → Bool → Type 0
+IsKeptDraft q d true = CanSettle q d
+IsKeptDraft q d false = d ≡ no_changes
 
 -- its one view
 abbrev pub views_of : Quotient → List (Option View)
 views_of q = Some (view_of q) ∷ []
 
--- no view before the first build
-abbrev pub kept_views : Option Quotient → List (Option View)
-kept_views None = []
-kept_views (Some q) = views_of q
+-- the view that is staged, if one is: the draft once it is settled
+abbrev pub staged_views : Quotient → Drafted → Bool → Option (List (Option View))
+staged_views q d false = None
+staged_views q d true = Some (Some (settled_view q d) ∷ [])
 
--- what an index means that keeps one quotient and has staged another
-abbrev pub meaning_of : Option Quotient → Option Quotient → Meaning
-meaning_of kept staged = record { kind = One; views = kept_views kept; staged = option_map views_of staged }
+-- what an index means that keeps this quotient; no view before the first build
+abbrev pub meaning_of : Option KeptQuotient → Meaning
+meaning_of None = record { kind = One; views = []; staged = None }
+meaning_of (Some k) = record { kind = One; views = views_of k.base; staged = staged_views k.base k.draft k.staged }

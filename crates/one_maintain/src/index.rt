@@ -1,42 +1,80 @@
 // The index.
-ghost use Rattle.std.specs.Prelude.{◌≡◌, IfOk, None};
+ghost use Rattle.std.specs.Prelude.{◌≡◌, ◌+◌, ◌≤◌, ◌<◌, ℕ, Some, IfOk, OnOk, OnErr, None};
+ghost use Rattle.px_spec.specs.Changes.{link};
+ghost use Rattle.bisim_spec.specs.Views.{View};
+ghost use Rattle.bisim_spec.specs.Fits.{view_at};
+ghost use Rattle.graph_update.specs.NewChanges.{IsNew};
+ghost use Rattle.graph_update.specs.Judging.{change_of};
+ghost use Rattle.index_api.specs.Meanings.{IsReady, IsPrepared};
+ghost use Rattle.one_drafting.specs.Drafting.{IsSupported, most_steps};
 ghost use Rattle.one_maintain.specs.Keeping.{meaning_of};
 
-use crate::rebuilding::index_after;
+use crate::kept::Kept;
 use graph_update::Change;
 use index_api::{Kind, PathIndex};
 use label_graph::{Graph, GraphView};
 use one_index::OneIndex;
-use px_base::Memory;
+use px_base::{Memory, Steps};
 use quotient::Summary;
 use std::alloc::Global;
+use std::marker::Brand;
+use std::sync::ledger::{Blank, Ledger};
 
-/// The 1-index of a graph, kept while it changes. So far a change is prepared by a build of the graph that it will
-/// leave, in a copy of the graph: O(nodes + edges) memory and a build for each change.
+/// The 1-index of a graph, kept while it changes (K. Yi, H. He, I. Stanoi and J. Yang, "Incremental Maintenance of XML Structural
+/// Indexes", SIGMOD 2004). A change is drafted over the index in force: blocks are split from the change's target on, and then merged.
+/// Its cost depends on what the change reaches, and not on the size of the graph. An edge between blocks that have support costs
+/// no step.
 #[derive(Drop)]
 pub struct OneKept {
     alloc: Global,
-    summary: Option<Summary>,
-    staged: Option<Summary>,
+    kept: Option<Kept>,
 }
 
 impl OneKept {
     /// An index without a view. It takes no memory until it is built.
     pub fn new(alloc: Global) -> Result<OneKept, Memory>
-        ensures { IfOk result (λ index. meaning_of index.summary index.staged ≡ meaning_of None None) }
+        ensures { IfOk result (λ index. meaning_of index.kept ≡ meaning_of None) }
     {
-        Ok(OneKept {
-            alloc,
-            summary: None,
-            staged: None,
-        })
+        Ok(OneKept { alloc, kept: None })
     }
+
+    /// Stages what a change will make of the index, as `prepare` does, and counts steps: at most `8 * (r + 1) * w`, where the
+    /// change reaches `r` nodes, and `w` counts these and the edges at them. A link takes none where the blocks of its ends
+    /// have support already.
+    pub fn prepare_counted<L: Ledger>(&mut self, graph: &Graph, change: &Change, steps: &mut Steps<L>) -> Result<(), Memory>
+        requires ready { IsReady (meaning_of self.old.kept) graph.now.graph }
+        requires new { IsNew (change_of change.now) graph.now.graph }
+        ensures staged { OnOk result (IsPrepared (meaning_of self.old.kept) (meaning_of self.new.kept) (change_of change.now) graph.now.graph) }
+        ensures err { OnErr result (meaning_of self.new.kept ≡ meaning_of self.old.kept) }
+        ensures cost { steps.new ≤ steps.old + most_steps graph.now.graph (change_of change.now) }
+        ensures free { (u v : ℕ) (w : View) → change_of change.now ≡ link u v → view_at (meaning_of self.old.kept).views 0 ≡ Some w → IsSupported w u v → steps.new ≡ steps.old }
+    {
+        let alloc = self.alloc;
+        match &mut self.kept {
+            Some(kept) => kept.prepare(alloc, graph, change, steps),
+            None => unreachable!(),
+        }
+    }
+}
+
+// Stages what a change will make of the index, and forgets what it costs.
+fn prepare_uncounted<L: Ledger>(index: &mut OneKept, graph: &Graph, change: &Change, blank: Blank) -> Result<(), Memory>
+    requires name { blank.name ≡ L.name }
+    requires parts { blank.parts ≡ L.parts }
+    requires some { 0 < blank.parts }
+    requires ready { IsReady (meaning_of index.old.kept) graph.now.graph }
+    requires new { IsNew (change_of change.now) graph.now.graph }
+    ensures staged { OnOk result (IsPrepared (meaning_of index.old.kept) (meaning_of index.new.kept) (change_of change.now) graph.now.graph) }
+    ensures err { OnErr result (meaning_of index.new.kept ≡ meaning_of index.old.kept) }
+{
+    let mut steps = Steps::<L>::new(blank);
+    index.prepare_counted(graph, change, &mut steps)
 }
 
 impl PathIndex for OneKept {
     ghost use Rattle.one_maintain.specs.Keeping.{meaning_of as the_meaning_of};
 
-    ghost meaning = { λ index. the_meaning_of index.summary index.staged };
+    ghost meaning = { λ index. the_meaning_of index.kept };
 
     fn kind(&self) -> Kind {
         Kind::One
@@ -44,25 +82,25 @@ impl PathIndex for OneKept {
 
     fn build(&mut self, view: &GraphView<'_>, _k: u32) -> Result<(), Memory> {
         let summary = OneIndex::build(self.alloc, view)?;
-        self.summary = Some(summary);
-        self.staged = None;
+        let kept = Kept::of(self.alloc, summary)?;
+        self.kept = Some(kept);
         Ok(())
     }
 
     fn prepare(&mut self, graph: &Graph, change: &Change) -> Result<(), Memory> {
-        let next = index_after(self.alloc, graph, change)?;
-        self.staged = Some(next);
-        Ok(())
+        prepare_uncounted::<Brand>(self, graph, change, Blank::new(1))
     }
 
     fn commit(&mut self) {
-        if let Some(next) = self.staged.take() {
-            self.summary = Some(next);
+        if let Some(kept) = &mut self.kept {
+            kept.commit();
         }
     }
 
     fn cancel(&mut self) {
-        self.staged = None;
+        if let Some(kept) = &mut self.kept {
+            kept.cancel();
+        }
     }
 
     fn refresh(&mut self, _view: &GraphView<'_>) -> Result<(), Memory> {
@@ -70,8 +108,8 @@ impl PathIndex for OneKept {
     }
 
     fn summary(&self, level: u32) -> Option<&Summary> {
-        match &self.summary {
-            Some(summary) => if level == 0 { Some(summary) } else { None },
+        match &self.kept {
+            Some(kept) => if level == 0 { Some(kept.base()) } else { None },
             None => None,
         }
     }

@@ -2,7 +2,7 @@
 #![tactic(auto)]
 
 mod index;
-mod rebuilding;
+mod kept;
 #[cfg(test)]
 mod tests;
 

@@ -46,8 +46,8 @@ fn rings(alloc: Global) -> Result<Graph, Fail> {
 
 // Prepares a change that alters the graph.
 fn prepare(kept: &mut OneKept, graph: &Graph, change: &Change) -> Result<(), Fail>
-    requires ready { IsReady (meaning_of kept.old.summary kept.old.staged) graph.now.graph }
-    ensures { OnOk result (IsSome (meaning_of kept.new.summary kept.new.staged).staged) }
+    requires ready { IsReady (meaning_of kept.old.kept) graph.now.graph }
+    ensures { OnOk result (IsSome (meaning_of kept.new.kept).staged) }
 {
     let Ok(Verdict::New) = judge(graph, change, &Limits::program()) else {
         return Err("not new".into());
@@ -69,7 +69,7 @@ fn built<L: Ledger>(alloc: Global, graph: &Graph, blank: Blank) -> Result<OneKep
     requires name { blank.name ≡ L.name }
     requires parts { blank.parts ≡ L.parts }
     requires some { 0 < blank.parts }
-    ensures { IfOk result (λ kept. IsReady (meaning_of kept.summary kept.staged) graph.now.graph) }
+    ensures { IfOk result (λ kept. IsReady (meaning_of kept.kept) graph.now.graph) }
 {
     let mut steps = Steps::<L>::new(blank);
     let mut kept = OneKept::new(alloc)?;
@@ -79,8 +79,8 @@ fn built<L: Ledger>(alloc: Global, graph: &Graph, blank: Blank) -> Result<OneKep
 
 // Prepares that an edge is taken away.
 fn prepare_unlink(kept: &mut OneKept, graph: &Graph, u: NodeId, v: NodeId) -> Result<(), Fail>
-    requires ready { IsReady (meaning_of kept.old.summary kept.old.staged) graph.now.graph }
-    ensures { OnOk result (IsSome (meaning_of kept.new.summary kept.new.staged).staged) }
+    requires ready { IsReady (meaning_of kept.old.kept) graph.now.graph }
+    ensures { OnOk result (IsSome (meaning_of kept.new.kept).staged) }
 {
     let change = Change::Unlink(u, v);
     prepare(kept, graph, &change)
@@ -88,7 +88,7 @@ fn prepare_unlink(kept: &mut OneKept, graph: &Graph, u: NodeId, v: NodeId) -> Re
 
 // Full bisimilarity has two blocks, and once the edge is gone each node is alone.
 fn check_kept(rt: &impl Abort, kept: &mut OneKept, graph: &Graph) -> Result<(), Fail>
-    requires ready { IsReady (meaning_of kept.old.summary kept.old.staged) graph.now.graph }
+    requires ready { IsReady (meaning_of kept.old.kept) graph.now.graph }
 {
     prepare_unlink(kept, graph, 2, 3)?;
     assert!(rt; has_blocks(kept, 2));

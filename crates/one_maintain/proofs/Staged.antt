@@ -1,0 +1,106 @@
+-- What is staged, and what is in force once it is committed.
+use Rattle.std.proofs.Common.{◌≡◌, ℕ, List, [], ◌∷◌, Option, Some, None, IsSome, IsTrue, is_some, refl, sym, ◌∙◌, ap, subst, arith, true, false, Bool, true≢false}
+use Rattle.px_spec.specs.Graphs.{Graph}
+use Rattle.px_spec.specs.Changes.{Change, after}
+use Rattle.px_spec.specs.Members.{at}
+use Rattle.bisim_spec.specs.declared.kind.Kind.TheVariants.{One}
+use Rattle.bisim_spec.specs.Views.{View, support_at}
+use Rattle.bisim_spec.specs.Fits.{Fits, FitsOne}
+use Rattle.bisim_spec.specs.OneStep.{OneStep}
+use Rattle.quotient.specs.Quotients.{Quotient, view_of}
+use Rattle.quotient_draft.specs.Drafts.{Drafted, has_member, shown_blocks, shown_support, settled_view, inhabited_from, with_moves, with_added, with_supports}
+use Rattle.quotient_draft.specs.Basis.{IsOver}
+use Rattle.quotient_draft.specs.Rooms.{HasRoomFor}
+use Rattle.quotient_draft.proofs.Gone.{member_there}
+use Rattle.index_api.specs.Meanings.{IsReady, IsPrepared, IsCommitted, unstaged}
+use Rattle.one_maintain.specs.Keeping.{KeptQuotient, CanSettle, meaning_of, staged_views}
+use Rattle.one_maintain.proofs.OneView.{one_fits}
+
+-- the view that a draft will leave, from the view that it is over
+abbrev pub settled_by : View → Drafted → View
+settled_by v d = record {
+  block_of = with_moves v.block_of d.moves;
+  labels = inhabited_from (with_moves v.block_of d.moves) 0 (with_added v.labels d.added);
+  supports = with_supports v.supports d.supports;
+}
+
+pub settled_same : (q q2 : Quotient) (d : Drafted) → view_of q2 ≡ view_of q → settled_view q2 d ≡ settled_view q d
+settled_same q q2 d same = ap (λ v. settled_by v d) same
+
+abbrev from_by : View → Drafted → Type 0
+from_by v d = (b c : ℕ) → has_member (with_moves v.block_of d.moves) b ≡ false → support_at (with_supports v.supports d.supports) b c ≡ 0
+
+abbrev onto_by : View → Drafted → Type 0
+onto_by v d = (b c : ℕ) → has_member (with_moves v.block_of d.moves) b ≡ false → support_at (with_supports v.supports d.supports) c b ≡ 0
+
+pub can_settle : (g : Graph) (q q2 : Quotient) (d : Drafted) → view_of q2 ≡ view_of q → FitsOne g (view_of q) → IsOver q.blocks.block_of q.blocks.labels d → HasRoomFor q2 d
+    → ((b c : ℕ) → has_member (shown_blocks q d) b ≡ false → shown_support q d b c ≡ 0) → ((b c : ℕ) → has_member (shown_blocks q d) b ≡ false → shown_support q d c b ≡ 0)
+    → CanSettle q2 d
+can_settle g q q2 d same fits over room from onto =
+    let fits2 = subst (FitsOne g) (sym same) fits in
+    record {
+      over = subst (λ (v : View). IsOver v.block_of v.labels d) (sym same) over;
+      room = room;
+      inhabited = λ b h. let m = fits2.view.inhabited b h in member_there q2.blocks.block_of b m.0 m.1;
+      from = subst (λ v. from_by v d) (sym same) from;
+      onto = subst (λ v. onto_by v d) (sym same) onto;
+    }
+
+-- ---- the index as it is seen
+
+abbrev one_list : View → List (Option View)
+one_list v = Some v ∷ []
+
+-- an index that is ready has a quotient, with nothing staged
+pub record IsReadyKept (k : KeptQuotient) (g : Graph) : Type 0 where
+  pub fits : FitsOne g (view_of k.base)
+  pub unstaged : k.staged ≡ false
+
+none_staged : (q : Quotient) (d : Drafted) (t : Bool) → staged_views q d t ≡ None → t ≡ false
+none_staged q d false h = refl
+none_staged q d true h = absurd (cc)
+
+pub ready_kept : (k : KeptQuotient) (g : Graph) → IsReady (meaning_of (Some k)) g → IsReadyKept k g
+ready_kept k g ready = record { fits = ready.fits.each 0 (omega arith); unstaged = none_staged k.base k.draft k.staged ready.unstaged }
+
+pub none_ready : (g : Graph) → IsReady (meaning_of None) g → ⊥
+none_ready g ready = let count = ready.fits.count in omega (arith, count)
+
+pub some_staged : (q : Quotient) (d : Drafted) (t : Bool) → IsSome (staged_views q d t) → t ≡ true
+some_staged q d true h = refl
+some_staged q d false h = absurd (true≢false (sym h))
+
+pub none_some : IsSome (meaning_of None).staged → ⊥
+none_some h = true≢false (sym h)
+
+pub prepared : (k k2 : KeptQuotient) (g : Graph) (c : Change) → view_of k2.base ≡ view_of k.base → k2.staged ≡ true
+    → OneStep g k.base.blocks.block_of c (after c g) (settled_view k2.base k2.draft).block_of → FitsOne (after c g) (settled_view k2.base k2.draft)
+    → IsPrepared (meaning_of (Some k)) (meaning_of (Some k2)) c g
+prepared k k2 g c same staged step fits = record {
+  kind = refl;
+  views = ap one_list same;
+  next = Some (settled_view k2.base k2.draft) ∷ [];
+  staged = ap (staged_views k2.base k2.draft) staged;
+  are_next = record { count = refl; fits = one_fits (after c g) (settled_view k2.base k2.draft) fits; step = step };
+}
+
+-- nothing is staged after as before
+pub kept_meaning : (k k2 : KeptQuotient) → view_of k2.base ≡ view_of k.base → k.staged ≡ false → k2.staged ≡ false → meaning_of (Some k2) ≡ meaning_of (Some k)
+kept_meaning k k2 same was is =
+    let views = ap (λ v. one_list v) same in
+    let staged = ap (staged_views k2.base k2.draft) is ∙ sym (ap (staged_views k.base k.draft) was) in
+    λ j. record { kind = One; views = views j; staged = staged j }
+
+pub committed : (k k2 : KeptQuotient) → k.staged ≡ true → view_of k2.base ≡ settled_view k.base k.draft → k2.staged ≡ false
+    → IsCommitted (meaning_of (Some k)) (meaning_of (Some k2))
+committed k k2 was view is = record {
+  kind = refl;
+  views = ap (staged_views k.base k.draft) was ∙ sym (ap (λ v. Some (one_list v)) view);
+  unstaged = ap (staged_views k2.base k2.draft) is;
+}
+
+pub cancelled : (k k2 : KeptQuotient) → k2.base ≡ k.base → k2.staged ≡ false → meaning_of (Some k2) ≡ unstaged (meaning_of (Some k))
+cancelled k k2 base is =
+    let views = ap (λ q. one_list (view_of q)) base in
+    let staged = ap (staged_views k2.base k2.draft) is in
+    λ j. record { kind = One; views = views j; staged = staged j }

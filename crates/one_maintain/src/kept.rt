@@ -1,0 +1,135 @@
+// A quotient in force, with what a change to come will make of it.
+ghost use Rattle.std.specs.Prelude.{◌≡◌, ◌+◌, ◌≤◌, ℕ, Bool, true, false, IsTrue, IfOk, OnOk, OnErr};
+ghost use Rattle.px_spec.specs.Changes.{after, link};
+ghost use Rattle.bisim_spec.specs.Fits.{FitsOne};
+ghost use Rattle.bisim_spec.specs.OneStep.{OneStep};
+ghost use Rattle.graph_update.specs.NewChanges.{IsNew};
+ghost use Rattle.graph_update.specs.Judging.{change_of};
+ghost use Rattle.quotient.specs.Quotients.{view_of};
+ghost use Rattle.quotient_draft.specs.Drafts.{no_changes, settled_view};
+ghost use Rattle.one_drafting.specs.Drafting.{IsSupported, most_steps};
+ghost use Rattle.one_maintain.specs.Keeping.{CanSettle};
+
+use graph_update::Change;
+use label_graph::Graph;
+use one_drafting::draft_change;
+use px_base::{Memory, Steps};
+use quotient::Summary;
+use quotient_draft::Draft;
+use std::alloc::Global;
+use std::marker::Model;
+use std::sync::ledger::Ledger;
+
+/// A 1-index in force, and a draft of what a change to come will make of it. Where none is staged nothing is drafted.
+#[derive(Drop)]
+pub(crate) struct Kept {
+    base: Summary,
+    draft: Draft,
+    staged: bool,
+}
+
+impl Model for Kept {
+    ghost use Rattle.one_maintain.specs.Keeping.{KeptQuotient, IsKeptDraft};
+
+    ghost Value = { KeptQuotient };
+
+    ghost view = { λ k. record { base = k.base; draft = k.draft; staged = k.staged } };
+
+    ghost invariant = { λ k. record { kept : IsKeptDraft k.base k.draft k.staged } };
+}
+
+// Drafts what a change will make of a quotient, and makes the room that settling it needs.
+fn fill<L: Ledger>(
+    alloc: Global,
+    base: &mut Summary,
+    draft: &mut Draft,
+    graph: &Graph,
+    change: &Change,
+    steps: &mut Steps<L>,
+) -> Result<(), Memory>
+    requires fits { FitsOne graph.now.graph (view_of base.old) }
+    requires new { IsNew (change_of change.now) graph.now.graph }
+    requires empty { draft.old ≡ no_changes }
+    ensures same { view_of base.new ≡ view_of base.old }
+    ensures ready { OnOk result (CanSettle base.new draft.new) }
+    ensures step { OnOk result (OneStep graph.now.graph base.old.blocks.block_of (change_of change.now) (after (change_of change.now) graph.now.graph) (settled_view base.new draft.new).block_of) }
+    ensures fits { OnOk result (FitsOne (after (change_of change.now) graph.now.graph) (settled_view base.new draft.new)) }
+    ensures cost { steps.new ≤ steps.old + most_steps graph.now.graph (change_of change.now) }
+    ensures free { (u v : ℕ) → change_of change.now ≡ link u v → IsSupported (view_of base.old) u v → steps.new ≡ steps.old }
+{
+    draft_change(alloc, base, draft, graph, change, steps)?;
+    draft.reserve(base)?;
+    Ok(())
+}
+
+impl Kept {
+    /// The quotient, with nothing staged.
+    pub(crate) fn of(alloc: Global, base: Summary) -> Result<Kept, Memory>
+        ensures base { IfOk result (λ k. k.base ≡ base) }
+        ensures unstaged { IfOk result (λ k. k.staged ≡ false) }
+    {
+        let draft = Draft::new(alloc)?;
+        Ok(Kept {
+            base,
+            draft,
+            staged: false,
+        })
+    }
+
+    /// The quotient in force.
+    pub(crate) fn base(&self) -> &Summary
+        ensures { result.now ≡ self.now.base }
+    {
+        &self.base
+    }
+
+    /// Stages what a change will make of the index, which fits the graph as it is.
+    pub(crate) fn prepare<L: Ledger>(
+        &mut self,
+        alloc: Global,
+        graph: &Graph,
+        change: &Change,
+        steps: &mut Steps<L>,
+    ) -> Result<(), Memory>
+        requires fits { FitsOne graph.now.graph (view_of self.old.base) }
+        requires unstaged { self.old.staged ≡ false }
+        requires new { IsNew (change_of change.now) graph.now.graph }
+        ensures same { view_of self.new.base ≡ view_of self.old.base }
+        ensures staged { OnOk result (self.new.staged ≡ true) }
+        ensures step { OnOk result (OneStep graph.now.graph self.old.base.blocks.block_of (change_of change.now) (after (change_of change.now) graph.now.graph) (settled_view self.new.base self.new.draft).block_of) }
+        ensures fits { OnOk result (FitsOne (after (change_of change.now) graph.now.graph) (settled_view self.new.base self.new.draft)) }
+        ensures unstaged { OnErr result (self.new.staged ≡ false) }
+        ensures cost { steps.new ≤ steps.old + most_steps graph.now.graph (change_of change.now) }
+        ensures free { (u v : ℕ) → change_of change.now ≡ link u v → IsSupported (view_of self.old.base) u v → steps.new ≡ steps.old }
+    {
+        match fill(alloc, &mut self.base, &mut self.draft, graph, change, steps) {
+            Ok(()) => {
+                self.staged = true;
+                Ok(())
+            }
+            Err(error) => {
+                self.draft.clear();
+                Err(error)
+            }
+        }
+    }
+
+    /// Puts in force what is staged. It takes no memory.
+    pub(crate) fn commit(&mut self)
+        requires staged { self.old.staged ≡ true }
+        ensures view { view_of self.new.base ≡ settled_view self.old.base self.old.draft }
+        ensures unstaged { self.new.staged ≡ false }
+    {
+        self.draft.settle(&mut self.base);
+        self.staged = false;
+    }
+
+    /// Lets go of what is staged, if anything is.
+    pub(crate) fn cancel(&mut self)
+        ensures base { self.new.base ≡ self.old.base }
+        ensures unstaged { self.new.staged ≡ false }
+    {
+        self.draft.clear();
+        self.staged = false;
+    }
+}
