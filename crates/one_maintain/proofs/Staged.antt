@@ -2,18 +2,22 @@
 use Rattle.std.proofs.Common.{◌≡◌, ℕ, List, [], ◌∷◌, Option, Some, None, IsSome, IsTrue, is_some, refl, sym, ◌∙◌, ap, subst, arith, true, false, Bool, true≢false}
 use Rattle.px_spec.specs.Graphs.{Graph}
 use Rattle.px_spec.specs.Changes.{Change, after}
-use Rattle.px_spec.specs.Members.{at}
+use Rattle.std.specs.Prelude.{unwrap_or}
+use Rattle.px_spec.specs.Shapes.{shape_of}
 use Rattle.bisim_spec.specs.declared.kind.Kind.TheVariants.{One}
 use Rattle.bisim_spec.specs.Views.{View, support_at}
-use Rattle.bisim_spec.specs.Fits.{Fits, FitsOne}
+use Rattle.bisim_spec.specs.Fits.{Fits, FitsOne, view_at}
+use Rattle.bisim_spec.specs.Bisimilarity.{Bisim}
+use Rattle.bisim_spec.specs.Partitions.{Agrees}
 use Rattle.bisim_spec.specs.OneStep.{OneStep}
 use Rattle.quotient.specs.Quotients.{Quotient, view_of}
 use Rattle.quotient_draft.specs.Drafts.{Drafted, has_member, shown_blocks, shown_support, settled_view, inhabited_from, with_moves, with_added, with_supports}
 use Rattle.quotient_draft.specs.Basis.{IsOver}
 use Rattle.quotient_draft.specs.Rooms.{HasRoomFor}
 use Rattle.quotient_draft.proofs.Gone.{member_there}
-use Rattle.index_api.specs.Meanings.{IsReady, IsPrepared, IsCommitted, unstaged}
+use Rattle.index_api.specs.Meanings.{IsReady, IsBuilt, IsPrepared, IsCommitted, unstaged}
 use Rattle.one_maintain.specs.Keeping.{KeptQuotient, CanSettle, meaning_of, staged_views}
+use Rattle.one_drafting.specs.Drafting.{IsSupported}
 use Rattle.one_maintain.proofs.OneView.{one_fits}
 
 -- the view that a draft will leave, from the view that it is over
@@ -104,3 +108,26 @@ cancelled k k2 base is =
     let views = ap (λ q. one_list (view_of q)) base in
     let staged = ap (staged_views k2.base k2.draft) is in
     λ j. record { kind = One; views = views j; staged = staged j }
+
+-- the one view of an index that has a quotient
+pub same_view : (o : Option KeptQuotient) (k : KeptQuotient) (w : View) (u v : ℕ) → o ≡ Some k → view_at (meaning_of o).views 0 ≡ Some w → IsSupported w u v
+    → IsSupported (view_of k.base) u v
+same_view o k w u v is there supported =
+    let views : Some w ≡ Some (view_of k.base) = sym there ∙ ap (λ (x : Option KeptQuotient). view_at (meaning_of x).views 0) is in
+    subst (λ x. IsSupported x u v) (ap (λ x. unwrap_or x w) views) supported
+
+ready_new : (k : KeptQuotient) (q : Quotient) (g : Graph) → k.base ≡ q → k.staged ≡ false → FitsOne g (view_of q) → IsReady (meaning_of (Some k)) g
+ready_new k q g base is fits = record {
+  fits = one_fits g (view_of k.base) (subst (λ x. FitsOne g (view_of x)) (sym base) fits);
+  unstaged = ap (staged_views k.base k.draft) is;
+}
+
+whole_new : (k : KeptQuotient) (q : Quotient) (g : Graph) → k.base ≡ q → Agrees (shape_of g) q.blocks.block_of (Bisim (shape_of g))
+    → Agrees (shape_of g) k.base.blocks.block_of (Bisim (shape_of g))
+whole_new k q g base whole = subst (λ (x : Quotient). Agrees (shape_of g) x.blocks.block_of (Bisim (shape_of g))) (sym base) whole
+
+-- an index that is built, whatever it had before
+pub built : (o : Option KeptQuotient) (k : KeptQuotient) (q : Quotient) (g : Graph) (n : ℕ) → k.base ≡ q → k.staged ≡ false → FitsOne g (view_of q)
+    → Agrees (shape_of g) q.blocks.block_of (Bisim (shape_of g)) → IsBuilt (meaning_of o) (meaning_of (Some k)) g n
+built None k q g n base is fits whole = record { kind = refl; ready = ready_new k q g base is fits; count = refl; whole = whole_new k q g base whole }
+built (Some k0) k q g n base is fits whole = record { kind = refl; ready = ready_new k q g base is fits; count = refl; whole = whole_new k q g base whole }

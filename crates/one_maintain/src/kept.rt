@@ -29,9 +29,11 @@ pub(crate) struct Kept {
 }
 
 impl Model for Kept {
-    ghost use Rattle.one_maintain.specs.Keeping.{KeptQuotient, IsKeptDraft};
+    ghost use Rattle.one_maintain.specs.Keeping.{KeptQuotient, IsKeptDraft, kept_code};
 
     ghost Value = { KeptQuotient };
+
+    ghost coded = { kept_code };
 
     ghost view = { λ k. record { base = k.base; draft = k.draft; staged = k.staged } };
 

@@ -1,0 +1,11 @@
+use Rattle.std.proofs.Common.{sym, subst}
+use Rattle.quotient.specs.Quotients.{view_of}
+use Rattle.one_drafting.specs.Drafting.{IsSupported}
+use Rattle.one_maintain.specs.Keeping.{KeptQuotient}
+use Rattle.one_maintain.proofs.kept.Kept.prepare.Goals as goal
+
+pub returns-in-Ok-clause-free : goal.returns-in-Ok-clause-free
+returns-in-Ok-clause-free g c = λ u v e s. c.fill.ensures.free u v e (subst (λ (k : KeptQuotient). IsSupported (view_of k.base) u v) (sym c.self.view_is) s)
+
+pub returns-in-Err-clause-free : goal.returns-in-Err-clause-free
+returns-in-Err-clause-free g c = λ u v e s. c.fill.ensures.free u v e (subst (λ (k : KeptQuotient). IsSupported (view_of k.base) u v) (sym c.self.view_is) s)
