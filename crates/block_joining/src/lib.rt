@@ -1,2 +1,0 @@
-//! Merging two blocks (stub).
-#![tactic(auto)]
