@@ -12,13 +12,13 @@ use Rattle.px_spec.specs.Members.{at, is_this}
 use Rattle.block_partition.specs.Partitions.{put}
 use Rattle.quotient.specs.Joined.{one_if}
 use Rattle.quotient.specs.Quotients.{with_put}
-use Rattle.quotient_draft.specs.Drafts.{with_moves, has_member}
+use Rattle.quotient_draft.specs.Drafts.{with_moves}
 use Rattle.quotient_draft.specs.Kept.{into_count, taken_count}
 use Rattle.quotient_draft.specs.PutLogs.{has_put}
 use Rattle.quotient_draft.proofs.Puts.{at_with_put}
 use Rattle.quotient_draft.proofs.Making.{put_length}
 use Rattle.quotient_draft.proofs.Written.{test_is, absent_key, number_is, number_turned}
-use Rattle.quotient_draft.proofs.Gone.{member_first, some_counted, member_at}
+use Rattle.quotient_draft.proofs.Gone.{some_counted, member_at}
 
 -- counting goes item by item
 count_first : {X : Type 0} (p : X → Bool) (x : X) (xs : List X) → count_by p (x ∷ xs) ≡ one_if (p x) + count_by p xs

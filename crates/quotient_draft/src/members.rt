@@ -28,12 +28,7 @@ impl Draft {
 
     /// Lists the members of a block as shown, each once and rising, in place of what the list held; none where
     /// the number is no block. It takes the members in the base and the puts into the block, and their sort.
-    pub fn fill_members(
-        &self,
-        base: &Summary,
-        b: u32,
-        list: &mut Vec<NodeId>,
-    ) -> Result<(), Memory>
+    pub fn fill_members(&self, base: &Summary, b: u32, list: &mut Vec<NodeId>) -> Result<(), Memory>
         requires over { IsOver base.now.blocks.block_of base.now.blocks.labels self.now }
         ensures members { OnOk result (Lists (λ n. is_this b (at (shown_blocks base.now self.now) n)) list.new.items) }
     {

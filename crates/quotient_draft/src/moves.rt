@@ -273,7 +273,11 @@ fn push_block(left: &mut Vec<u32>, b: Option<u32>)
 fn held_in(base: &Summary, b: u32) -> u32
     ensures { result ≡ count_by (is_this b) base.now.blocks.block_of }
 {
-    if base.is_block(b) { base.member_count(b) } else { 0 }
+    if base.is_block(b) {
+        base.member_count(b)
+    } else {
+        0
+    }
 }
 
 // Adds a put into a block, if there is one.

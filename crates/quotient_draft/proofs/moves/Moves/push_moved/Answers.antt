@@ -1,4 +1,4 @@
-use Rattle.std.proofs.Common.{◌≡◌, ◌≤◌, ◌||◌, ◌&&◌, ◌+◌, ◌-◌, ◌∙◌, ℕ, suc, Bool, arith, sym, subst, ap, cond, take, length}
+use Rattle.std.proofs.Common.{◌≡◌, ◌||◌, ◌&&◌, ◌+◌, ◌-◌, ◌∙◌, suc, Bool, arith, sym, subst, ap, cond, take, length}
 use Rattle.std.specs.Prelude.{nat_eq}
 use Rattle.px_spec.specs.Members.{has}
 use Rattle.quotient_draft.specs.Kept.{KeptMoves}

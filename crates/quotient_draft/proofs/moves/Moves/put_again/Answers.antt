@@ -1,9 +1,8 @@
-use Rattle.std.proofs.Common.{◌≡◌, ◌∙◌, ℕ, List, Option, Some, sym, subst, ap, cond, ◌+◌, ◌<◌, ◌≤◌, ◌++◌, ◌∷◌, [], length, arith}
+use Rattle.std.proofs.Common.{◌∙◌, ℕ, List, Option, Some, sym, subst, ap, cond, ◌<◌, ◌≤◌, length, arith}
 use Rattle.std.specs.Prelude.{nat_eq}
 use Rattle.std.specs.Map.{lookup}
 use Rattle.quotient_draft.proofs.Making.{if_block}
 use Rattle.px_spec.specs.Members.{at, is_this}
-use Rattle.quotient.specs.Joined.{one_if}
 use Rattle.quotient_draft.specs.Drafts.{with_moves}
 use Rattle.quotient_draft.specs.Kept.{KeptMoves, counted, into_count, taken_count, AreTaken}
 use Rattle.quotient_draft.proofs.ShownCounts.{value_count, key_count, length_again, moved_counted, put_more}
