@@ -1,5 +1,6 @@
 mod Puts
 mod Scanned
+mod Spans
 mod Written
 mod Over
 mod Examples

@@ -7,5 +7,6 @@ mod draft;
 mod moves;
 mod retiring;
 mod settling;
+mod writing;
 
 pub use draft::Draft;

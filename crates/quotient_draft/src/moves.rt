@@ -53,6 +53,13 @@ impl Moves {
         }
     }
 
+    // Each node has one move, so the last is the one that a look-up finds. It takes no time.
+    pub(crate) fn know_lookups(&self)
+        ensures { (block : List (Option ℕ)) (n : ℕ) → at (with_moves block self.now.moves) n ≡ unwrap_or (lookup (nat_eq n) self.now.moves) (at block n) }
+    {
+        let _ = self.moves.len();
+    }
+
     /// Drafts a move, and notes the block from which the node is taken.
     pub(crate) fn put(&mut self, base: &Summary, n: NodeId, b: Option<u32>) -> Result<(), Memory>
         ensures looked { OnOk result ((m : ℕ) → lookup (nat_eq m) self.new.moves ≡ (if nat_eq m n then Some b else lookup (nat_eq m) self.old.moves)) }
