@@ -1,0 +1,12 @@
+pub mod Sums
+pub mod Splitting
+pub mod Goals
+pub mod Unmoved
+pub mod Merging
+pub mod Suspects
+pub mod SetLists
+pub mod Still
+pub mod Stills
+pub mod OneSteps
+pub mod Joining
+pub mod Labelled
