@@ -1,10 +1,12 @@
 #!/usr/bin/env python3
-"""Compares the program with slow, plain definitions: check_by_definition.py PROGRAM [RUNS].
+"""Compares the program with slow, plain definitions: check_by_definition.py PROGRAM [RUNS [changes]].
 
-Each run makes a small random script of changes, queries, lists and sizes. What the program writes must be what the definitions
-below give, which work on pairs of nodes and know neither splitting of blocks nor automata nor sets that spread along an axis. Where walks come back to their beginning
-several partitions of the 1-index are lawful, so of that which the program lists the demands are tested. The first script whose
-output is wrong is printed with it, and the exit status is 1.
+Each run makes a small random script of changes, queries, lists and sizes. With the word changes it is of changes alone, and after
+each the 1-index and the A(k)-indexes are listed. What the program writes must be what the definitions below give, which work on
+pairs of nodes and know neither splitting of blocks nor automata nor sets that spread along an axis. Where walks come back to
+their beginning several partitions of the 1-index are lawful, so of that which the program lists the demands are tested: it is
+stable, no two blocks can be merged, and since it was last listed nodes that no change reaches are together as before. The
+first script whose output is wrong is printed with it, and the exit status is 1.
 """
 import random
 import subprocess
@@ -104,6 +106,44 @@ def fault_of_one(graph, blocks):
     if not has_ring(graph) and len(blocks) != len(classes(graph, level(graph, len(graph.labels)))):
         return "not full bisimilarity"
     return None
+
+
+def reached(graph, node):
+    """The nodes to which a walk leads from this one, itself among them."""
+    found, waiting = {node}, [node]
+    while waiting:
+        for child in graph.children(waiting.pop()):
+            if child not in found:
+                found.add(child)
+                waiting.append(child)
+    return found
+
+
+class Moves:
+    """The changes since the 1-index was last listed: the nodes that they reach, and the edge of each that adds or takes one."""
+
+    def __init__(self):
+        self.reached = set()
+        self.edges = []
+
+    def add(self, graph, target, edge=None):
+        self.reached |= reached(graph, target)
+        self.edges.append(edge)
+
+    def fault(self, graph, before, blocks):
+        """What is wrong with these blocks as those that come after the ones before, None where nothing is."""
+        was, is_now = ({n: i for i, b in enumerate(bs) for n in b} for bs in (before, blocks))
+        kept = [n for n in was if n in is_now and (n not in self.reached or self.keep_parents(graph, was))]
+        if any((was[u] == was[v]) != (is_now[u] == is_now[v]) for u in kept for v in kept):
+            return "nodes that no change reaches are not together as before"
+        return None
+
+    def keep_parents(self, graph, was):
+        """Whether there was one change, of an edge, which gave its end no parent block and took none."""
+        if len(self.edges) != 1 or self.edges[0] is None:
+            return not self.edges
+        u, v = self.edges[0]
+        return any(p != u and was[p] == was[u] for p in graph.parents(v))
 
 
 def loosened(graph, related):
@@ -327,15 +367,15 @@ def lists(graph, blocks):
     return writes(f"blocks {len(blocks)}", *lines)
 
 
-def lists_one(graph):
-    """The test that a lawful partition of the 1-index is listed."""
+def lists_one(graph, moves):
+    """The test that a lawful partition of the 1-index is listed, after these changes since the last list."""
     def test(output):
         head = output.next().split()
         if head[:1] != ["blocks"]:
             return f"wanted blocks, written {head}"
         rows = [output.next() for _ in range(int(head[1]))]
-        output.one = [[int(word[1:]) for word in row.split()[1:]] for row in rows]
-        fault = fault_of_one(graph, output.one)
+        before, output.one = output.one, [[int(word[1:]) for word in row.split()[1:]] for row in rows]
+        fault = fault_of_one(graph, output.one) or moves.fault(graph, before, output.one)
         output.at -= len(rows) + 1
         return fault or lists(graph, output.one)(output)
     return test
@@ -357,20 +397,25 @@ def sizes_one(graph):
 class Run:
     """A random script, and a test for what each of its lines writes."""
 
-    def __init__(self, seed):
+    def __init__(self, seed, changes_alone):
         self.pick = random.Random(seed)
         self.k = self.pick.randrange(4)
         self.kept = {"a", "one", "fb"} - {kind for kind in ("one", "fb") if self.pick.randrange(8) == 0}
         self.words = ["--k", str(self.k)] + [f"--without-{kind}" for kind in ("one", "fb") if kind not in self.kept]
         self.graph = Graph()
+        self.may_have_rings = self.pick.randrange(2) == 0
+        self.moves = Moves()
         self.script = []
         self.tests = []
         for change in [self.node] * NODES + [self.link] * LINKS:
             change()
+        changes = [self.node, self.link, self.link, self.link, self.unlink, self.unlink, self.drop]
+        asks = [self.path, self.path, self.branch, self.branch, self.extents, self.sizes]
         for _ in range(LINES):
-            self.pick.choice([self.node, self.link, self.link, self.link, self.unlink, self.drop,
-                              self.path, self.path, self.branch, self.branch, self.extents, self.sizes])()
-            if self.pick.randrange(LINES) == 0:
+            self.pick.choice(changes if changes_alone else changes + asks)()
+            if changes_alone:
+                self.list_all()
+            elif self.pick.randrange(LINES) == 0:
                 kind = self.pick.choice(["a", "one", "fb"])
                 self.say(f"forget {kind}", writes("ok" if kind in self.kept else "refused no-index"))
                 self.kept.discard(kind)
@@ -382,15 +427,34 @@ class Run:
     def any_node(self):
         return self.pick.randrange(len(self.graph.labels) + 1)
 
+    def moved(self, target, edge=None):
+        """Notes a change that the graph has undergone."""
+        self.moves.add(self.graph, target, edge)
+
+    def list_one(self):
+        """The test of a list of the 1-index at this place."""
+        moves, self.moves = self.moves, Moves()
+        return lists_one(self.graph.copy(), moves)
+
+    def list_all(self):
+        if "one" in self.kept:
+            self.say("extents one", self.list_one())
+        for i in range(self.k + 1):
+            self.say(f"extents a{i}", lists(self.graph.copy(), classes(self.graph, level(self.graph, i))))
+
     def node(self):
         self.graph.labels.append(self.pick.choice(LABELS))
+        self.moved(len(self.graph.labels) - 1)
         self.say(f"node {self.graph.labels[-1]}", writes(f"added n{len(self.graph.labels) - 1}"))
 
     def link(self):
         edge = self.any_node(), self.any_node()
+        if not self.may_have_rings:
+            edge = min(edge), max(edge[1], min(edge) + 1)
         are_live = all(map(self.graph.is_live, edge))
-        if are_live:
+        if are_live and edge not in self.graph.edges:
             self.graph.edges.add(edge)
+            self.moved(edge[1], edge)
         self.say("link n%d n%d" % edge, writes("ok" if are_live else "refused no-node"))
 
     def unlink(self):
@@ -399,7 +463,9 @@ class Run:
             reply = "refused no-node"
         else:
             reply = "ok" if edge in self.graph.edges else "refused no-edge"
-        self.graph.edges.discard(edge)
+        if edge in self.graph.edges:
+            self.graph.edges.remove(edge)
+            self.moved(edge[1], edge)
         self.say("unlink n%d n%d" % edge, writes(reply))
 
     def drop(self):
@@ -411,6 +477,7 @@ class Run:
         else:
             reply = "ok"
             self.graph.labels[node] = None
+            self.moved(node)
         self.say(f"drop n{node}", writes(reply))
 
     def index(self):
@@ -453,7 +520,7 @@ class Run:
             test = writes(f"answers {len(found)} candidates {len(found)} exact", *nodes)
         elif word == "one":
             graph = self.graph.copy()
-            self.say("extents one", lists_one(graph))
+            self.say("extents one", self.list_one())
             test = asks_one(graph, query, found, nodes)
         else:
             candidates = branch_answers(self.graph, loosened(self.graph, level(self.graph, i)), relaxed(query))
@@ -465,7 +532,7 @@ class Run:
         if not self.is_kept(word, i):
             test = writes("refused no-index")
         elif word == "one":
-            test = lists_one(self.graph.copy())
+            test = self.list_one()
         else:
             test = lists(self.graph.copy(), classes(self.graph, both_ways(self.graph) if i is None else level(self.graph, i)))
         self.say(f"extents {word}", test)
@@ -473,7 +540,7 @@ class Run:
     def sizes(self):
         graph = self.graph.copy()
         if "one" in self.kept:
-            self.say("extents one", lists_one(graph))
+            self.say("extents one", self.list_one())
         tests = [writes(f"nodes {len(graph.live())} edges {len(graph.edges)}")]
         for i in range(self.k + 1 if "a" in self.kept else 0):
             blocks = classes(graph, level(graph, i))
@@ -499,11 +566,11 @@ class Run:
 
 
 def main():
-    if not 2 <= len(sys.argv) <= 3:
+    if not 2 <= len(sys.argv) <= 4 or sys.argv[3:] not in ([], ["changes"]):
         sys.exit(__doc__)
-    runs = int(sys.argv[2]) if len(sys.argv) == 3 else RUNS
+    runs = int(sys.argv[2]) if len(sys.argv) > 2 else RUNS
     for seed in range(runs):
-        run = Run(seed)
+        run = Run(seed, len(sys.argv) == 4)
         with tempfile.NamedTemporaryFile("w", suffix=".script") as script:
             script.write("".join(line + "\n" for line in run.script))
             script.flush()

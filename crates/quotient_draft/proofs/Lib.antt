@@ -8,3 +8,5 @@ mod Making
 mod Counting
 mod Gone
 mod Settled
+mod Noted
+mod Supported

@@ -4,3 +4,4 @@ pub mod Scans
 pub mod Rooms
 pub mod Kept
 pub mod Retired
+pub mod Ends

@@ -4,7 +4,9 @@
 mod added;
 mod changed;
 mod draft;
+mod ends;
 mod moves;
+mod near;
 mod retiring;
 mod settling;
 mod writing;
