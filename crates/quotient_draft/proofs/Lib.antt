@@ -7,6 +7,9 @@ mod Examples
 mod Making
 mod Counting
 mod Gone
+mod ShownCounts
+mod Linked
+mod Listing
 mod Settled
 mod Noted
 mod Supported

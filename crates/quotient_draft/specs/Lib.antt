@@ -3,5 +3,6 @@ pub mod Basis
 pub mod Scans
 pub mod Rooms
 pub mod Kept
+pub mod PutLogs
 pub mod Retired
 pub mod Ends

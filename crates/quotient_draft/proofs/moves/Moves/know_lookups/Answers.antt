@@ -9,4 +9,4 @@ use Rattle.quotient_draft.proofs.moves.Moves.know_lookups.Goals as goal
 
 pub returns : goal.returns
 returns c = λ block n.
-    subst (λ (k : KeptMoves). at (with_moves block k.moves) n ≡ unwrap_or (lookup (nat_eq n) k.moves) (at block n)) c.self.view_is (at_moves block c.self.inside.moves.entries n c.self.invariant)
+    subst (λ (k : KeptMoves). at (with_moves block k.moves) n ≡ unwrap_or (lookup (nat_eq n) k.moves) (at block n)) c.self.view_is (at_moves block c.self.inside.moves.entries n c.self.invariant.once)
