@@ -1,13 +1,12 @@
 -- Blocks that have members, and how many there are.
-use Rattle.std.proofs.Common.{◌≡◌, ◌≢◌, ℕ, zero, suc, ◌+◌, ◌<◌, ◌≤◌, List, [], ◌∷◌, Option, Some, None, IsSome, is_some, length, refl, sym, ◌∙◌, ap, subst, arith, inl, inr, true, false, Bool, cond, count_by, true≢false}
-use Rattle.std.specs.Prelude.{nat_eq, ◌||◌}
-use Rattle.std.proofs.lemmas.Bool.{cases_Bool, cases_lt, both_ways, or_cases, or_left, or_right, or_parts}
-use Rattle.std.proofs.lemmas.Bool.Decides.{eqb_tells, Decides-eqb}
+use Rattle.std.proofs.Common.{◌≡◌, ◌≢◌, ℕ, zero, suc, ◌<◌, List, [], ◌∷◌, Option, Some, None, IsSome, is_some, length, sym, ◌∙◌, ap, subst, arith, inl, inr, true, false, cond, count_by, true≢false}
+use Rattle.std.proofs.lemmas.Bool.{cases_Bool, cases_lt, both_ways, or_cases, or_left, or_right}
+use Rattle.std.proofs.lemmas.Bool.Decides.{eqb_tells}
 use Rattle.std.proofs.lemmas.List.{get_or_past}
 use Rattle.std.proofs.lemmas.List.Sums.{sum_by-cons}
 use Rattle.px_spec.specs.Members.{at, is_this}
 use Rattle.bisim_spec.specs.Below.{count_below}
-use Rattle.bisim_spec.proofs.BelowLaws.{count_strict}
+use Rattle.bisim_spec.proofs.BelowLaws.{bit_of, count_strict}
 use Rattle.bisim_spec.proofs.Moves.{block_get, block_from}
 use Rattle.upkeep_spec.specs.Merges.{IsMerged}
 use Rattle.upkeep_spec.proofs.Merging.{unmerged, merged_gone}
@@ -31,9 +30,9 @@ counted_member [] b h = absurd (omega (arith, h))
 counted_member (o ∷ p) b h = elim (cases_Bool (is_this b o)) [
   | inl on ↦ or_left (is_this b o) (has_member p b) on
   | inr off ↦ or_right (is_this b o) (has_member p b) (counted_member p b (
-    let e = sum_by-cons (λ (q : Option ℕ). cond (is_this b q) 1 0) o p in
-    let z : cond (is_this b o) 1 0 ≡ 0 = ap (λ t. cond t 1 0) off in
-    omega (arith, h, e, z)))
+      let e = sum_by-cons (λ (q : Option ℕ). cond (is_this b q) 1 0) o p in
+      let z : bit_of (is_this b o) ≡ 0 = ap bit_of off in
+      omega (arith, h, e, z)))
 ]
 
 pub member_counted : (p : List (Option ℕ)) (b : ℕ) → has_member p b ≡ true → 0 < count_by (is_this b) p
@@ -41,7 +40,7 @@ member_counted [] b h = absurd (cc)
 member_counted (o ∷ p) b h =
     let e = sum_by-cons (λ (q : Option ℕ). cond (is_this b q) 1 0) o p in
     elim (or_cases (is_this b o) (has_member p b) h) [
-      | inl here ↦ (let z : cond (is_this b o) 1 0 ≡ 1 = ap (λ t. cond t 1 0) here in omega (arith, e, z))
+      | inl here ↦ (let z : bit_of (is_this b o) ≡ 1 = ap bit_of here in omega (arith, e, z))
       | inr there ↦ (let k = member_counted p b there in omega (arith, e, k))
     ]
 

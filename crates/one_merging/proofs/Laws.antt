@@ -1,14 +1,13 @@
 -- What the tables say of pairs that can be merged.
-use Rattle.std.proofs.Common.{◌≡◌, ◌≢◌, ℕ, ◌+◌, ◌<◌, ◌≤◌, ◌⊎◌, List, [], ◌∷◌, ◌++◌, length, take, Option, Some, None, IsTrue, IsFalse, IsSome, refl, sym, ◌∙◌, ap, subst, arith, inl, inr, true, false, Bool, true≢false}
-use Rattle.std.specs.Prelude.{nat_eq, ◌||◌, IfNone, get_or, cond}
-use Rattle.std.proofs.lemmas.Bool.{cases_lt, cases_Bool, both_ways, or_cases, or_left, or_right}
+use Rattle.std.proofs.Common.{◌≡◌, ◌≢◌, ℕ, ◌+◌, ◌<◌, ◌≤◌, ◌⊎◌, List, [], ◌∷◌, ◌++◌, length, take, Option, Some, None, IsTrue, IsSome, refl, sym, ◌∙◌, ap, subst, inl, inr, true, false, Bool, true≢false}
+use Rattle.std.specs.Prelude.{nat_eq, ◌||◌, IfNone, IfSome, IfOk, Result, Ok, Err, get_or, cond}
+use Rattle.std.proofs.lemmas.Bool.{or_cases, or_right}
 use Rattle.std.proofs.lemmas.Bool.Decides.{Decides-eqb, eqb_tells}
-use Rattle.std.proofs.lemmas.List.{take_more}
+use Rattle.std.proofs.lemmas.List.{take_more, take_all}
 use Rattle.std.proofs.lemmas.List.Folds.{list_any-append}
 use Rattle.px_spec.specs.Members.{has, at, Lists}
 use Rattle.px_spec.specs.Shapes.{Shape}
-use Rattle.bisim_spec.specs.Stability.{Mergeable}
-use Rattle.upkeep_spec.specs.Merges.{CanMerge, IsMerged, Merges, one_more, none, AreSuspects}
+use Rattle.upkeep_spec.specs.Merges.{CanMerge, IsMerged, one_more, none, AreSuspects}
 use Rattle.upkeep_spec.specs.Viewed.{IsViewed, IsDone}
 use Rattle.upkeep_spec.proofs.Merging.{can_swap}
 use Rattle.upkeep_spec.proofs.Suspects.{partner, minimal_from, suspect_cleared, suspects_merged}
@@ -30,10 +29,10 @@ pub no_mates_same : (p : List (Option ℕ)) (labels : ℕ → Option ℕ) (joine
 no_mates_same p labels joined a b e s v can = can.apart e
 
 pub no_mates_empty : (p : List (Option ℕ)) (labels : ℕ → Option ℕ) (joined : ℕ → ℕ → Bool) (a b : ℕ) → ((n : ℕ) → at p n ≢ Some b) → AreNoMates p labels joined a b
-no_mates_empty p labels joined a b none s v can = none can.second.0 can.second.1
+no_mates_empty p labels joined a b empty s v can = empty can.second.0 can.second.1
 
 pub no_mates_alone : (p : List (Option ℕ)) (labels : ℕ → Option ℕ) (joined : ℕ → ℕ → Bool) (a : ℕ) → ((n : ℕ) → at p n ≢ Some a) → (b : ℕ) → AreNoMates p labels joined a b
-no_mates_alone p labels joined a none b s v can = none can.first.0 can.first.1
+no_mates_alone p labels joined a empty b s v can = empty can.first.0 can.first.1
 
 -- no partner among all blocks with members
 pub no_mates_all : (p : List (Option ℕ)) (labels : ℕ → Option ℕ) (joined : ℕ → ℕ → Bool) (a span : ℕ) → ((b : ℕ) → b < span → AreNoMates p labels joined a b)
@@ -48,12 +47,24 @@ no_mates_by p labels joined a x ne parent here children b = λ s v can. elim (pa
   | inr k ↦ children b (v.into x b k) s v can
 ]
 
-pub none_by : (o : Option ℕ) (p : List (Option ℕ)) (labels : ℕ → Option ℕ) (joined : ℕ → ℕ → Bool) (a x : ℕ) (xs ys : List ℕ) → Lists (λ z. joined z a) xs → IsTrue (has xs x) → x ≢ a
-    → AreNoMates p labels joined a x → Lists (joined x) ys
-    → IfNone o ((b : ℕ) → IsTrue (has ys b) → AreNoMates p labels joined a b) → IfNone o ((b : ℕ) → AreNoMates p labels joined a b)
-none_by None p labels joined a x xs ys parents there ne here children among =
+pub none_by : {E : Type 0} (r : Result (Option ℕ) E) (p : List (Option ℕ)) (labels : ℕ → Option ℕ) (joined : ℕ → ℕ → Bool) (a x : ℕ) (xs ys : List ℕ) → Lists (λ z. joined z a) xs
+    → IsTrue (has xs x) → x ≢ a → AreNoMates p labels joined a x → Lists (joined x) ys
+    → IfOk r (λ o. IfNone o ((b : ℕ) → IsTrue (has ys b) → AreNoMates p labels joined a b)) → IfOk r (λ o. IfNone o ((b : ℕ) → AreNoMates p labels joined a b))
+none_by (Ok None) p labels joined a x xs ys parents there ne here children among =
     no_mates_by p labels joined a x ne (sym (parents.members x) ∙ there) here (λ b j. among b (children.members b ∙ j))
-none_by (Some c) p labels joined a x xs ys parents there ne here children among = among
+none_by (Ok (Some c)) p labels joined a x xs ys parents there ne here children among = among
+none_by (Err e) p labels joined a x xs ys parents there ne here children among = among
+
+pub if_none : {X : Type 0} (o : Option X) (P : Type 0) → o ≡ None → IfNone o P → P
+if_none None P e h = h
+if_none (Some x) P e h = absurd (cc)
+
+pub if_some : {X : Type 0} (o : Option X) (x : X) (P : X → Type 0) → o ≡ Some x → IfSome o P → P x
+if_some None x P e h = absurd (cc)
+if_some (Some y) x P e h = subst P (let same : y ≡ x = cc in same) h
+
+pub take_end : (xs : List ℕ) (i n : ℕ) → length xs ≤ i → IsTrue (has xs n) → IsTrue (has (take i xs) n)
+take_end xs i n over h = ap (λ ys. has ys n) (take_all i xs over) ∙ h
 
 -- numbers in lists
 

@@ -23,7 +23,12 @@ use quotient_draft::Draft;
 use std::alloc::Global;
 
 // Takes suspects off until one has a partner. Of the pair the larger block is in front.
-fn next_pair(base: &Summary, draft: &Draft, suspects: &mut Suspects, rooms: &mut Rooms) -> Result<Option<(u32, u32)>, Memory>
+fn next_pair(
+    base: &Summary,
+    draft: &Draft,
+    suspects: &mut Suspects,
+    rooms: &mut Rooms,
+) -> Result<Option<(u32, u32)>, Memory>
     requires over { IsOver base.now.blocks.block_of base.now.blocks.labels draft.now }
     requires graph { HasShownGraph base.now draft.now }
     ensures some { IfOk result (λ pair. IfSome pair (λ r. AreShownMates base.now draft.now r.0 r.1)) }
@@ -39,7 +44,13 @@ fn next_pair(base: &Summary, draft: &Draft, suspects: &mut Suspects, rooms: &mut
 }
 
 // A block and its children wait too.
-fn push_near(base: &Summary, draft: &Draft, a: u32, suspects: &mut Suspects, children: &mut Vec<u32>) -> Result<(), Memory>
+fn push_near(
+    base: &Summary,
+    draft: &Draft,
+    a: u32,
+    suspects: &mut Suspects,
+    children: &mut Vec<u32>,
+) -> Result<(), Memory>
     ensures own { OnOk result (IsTrue (has suspects.new a)) }
     ensures kept { OnOk result ((b : ℕ) → IsTrue (has suspects.old b) → IsTrue (has suspects.new b)) }
     ensures children { OnOk result ((b : ℕ) → IsTrue (shown_joined base.now draft.now a b) → IsTrue (has suspects.new b)) }
@@ -51,7 +62,12 @@ fn push_near(base: &Summary, draft: &Draft, a: u32, suspects: &mut Suspects, chi
 }
 
 // Merges pairs until no two blocks can be merged. Each merge leaves one block fewer with members.
-fn merge_pairs(base: &Summary, draft: &mut Draft, suspects: &mut Suspects, rooms: &mut Rooms) -> Result<(), Memory>
+fn merge_pairs(
+    base: &Summary,
+    draft: &mut Draft,
+    suspects: &mut Suspects,
+    rooms: &mut Rooms,
+) -> Result<(), Memory>
     requires over { IsOver base.now.blocks.block_of base.now.blocks.labels draft.old }
     requires graph { HasShownGraph base.now draft.old }
     ensures over { OnOk result (IsOver base.now.blocks.block_of base.now.blocks.labels draft.new) }
@@ -74,7 +90,12 @@ fn merge_pairs(base: &Summary, draft: &mut Draft, suspects: &mut Suspects, rooms
 /// Of two blocks that are merged the smaller is moved, and each block next to it is written once. A suspect is
 /// compared with another parent of it and the children of that one; only where it has no other parent than
 /// itself, all blocks are looked through.
-pub fn merge(alloc: Global, base: &Summary, draft: &mut Draft, suspects: &[u32]) -> Result<(), Memory>
+pub fn merge(
+    alloc: Global,
+    base: &Summary,
+    draft: &mut Draft,
+    suspects: &[u32],
+) -> Result<(), Memory>
     requires over { IsOver base.now.blocks.block_of base.now.blocks.labels draft.old }
     requires graph { HasGraph (shown_blocks base.now draft.old) (at (shown_labels base.now draft.old)) (shown_support base.now draft.old) }
     ensures over { OnOk result (IsOver base.now.blocks.block_of base.now.blocks.labels draft.new) }

@@ -32,7 +32,14 @@ impl Rooms {
 }
 
 // Whether two blocks, of which the first has members and these parents, differ and can be merged.
-fn is_partner(base: &Summary, draft: &Draft, a: u32, b: u32, parents: &[u32], others: &mut Vec<u32>) -> Result<bool, Memory>
+fn is_partner(
+    base: &Summary,
+    draft: &Draft,
+    a: u32,
+    b: u32,
+    parents: &[u32],
+    others: &mut Vec<u32>,
+) -> Result<bool, Memory>
     requires over { IsOver base.now.blocks.block_of base.now.blocks.labels draft.now }
     requires graph { HasShownGraph base.now draft.now }
     requires members { (n : ℕ) × (at (shown_blocks base.now draft.now) n ≡ Some a) }
@@ -64,7 +71,14 @@ fn other_than(blocks: &[u32], a: u32) -> Option<u32>
 }
 
 // A partner of the first block among these.
-fn find_among(base: &Summary, draft: &Draft, a: u32, blocks: &[u32], parents: &[u32], others: &mut Vec<u32>) -> Result<Option<u32>, Memory>
+fn find_among(
+    base: &Summary,
+    draft: &Draft,
+    a: u32,
+    blocks: &[u32],
+    parents: &[u32],
+    others: &mut Vec<u32>,
+) -> Result<Option<u32>, Memory>
     requires over { IsOver base.now.blocks.block_of base.now.blocks.labels draft.now }
     requires graph { HasShownGraph base.now draft.now }
     requires members { (n : ℕ) × (at (shown_blocks base.now draft.now) n ≡ Some a) }
@@ -81,7 +95,13 @@ fn find_among(base: &Summary, draft: &Draft, a: u32, blocks: &[u32], parents: &[
 }
 
 // A partner of the block among all. This alone looks at blocks that aren't near the first one.
-fn find_anywhere(base: &Summary, draft: &Draft, a: u32, parents: &[u32], others: &mut Vec<u32>) -> Result<Option<u32>, Memory>
+fn find_anywhere(
+    base: &Summary,
+    draft: &Draft,
+    a: u32,
+    parents: &[u32],
+    others: &mut Vec<u32>,
+) -> Result<Option<u32>, Memory>
     requires over { IsOver base.now.blocks.block_of base.now.blocks.labels draft.now }
     requires graph { HasShownGraph base.now draft.now }
     requires members { (n : ℕ) × (at (shown_blocks base.now draft.now) n ≡ Some a) }
@@ -99,7 +119,14 @@ fn find_anywhere(base: &Summary, draft: &Draft, a: u32, parents: &[u32], others:
 
 // A partner of the block, which has members and these parents: another parent, or a child of that; only where
 // there is no other parent any block.
-fn find_partner(base: &Summary, draft: &Draft, a: u32, parents: &[u32], children: &mut Vec<u32>, others: &mut Vec<u32>) -> Result<Option<u32>, Memory>
+fn find_partner(
+    base: &Summary,
+    draft: &Draft,
+    a: u32,
+    parents: &[u32],
+    children: &mut Vec<u32>,
+    others: &mut Vec<u32>,
+) -> Result<Option<u32>, Memory>
     requires over { IsOver base.now.blocks.block_of base.now.blocks.labels draft.now }
     requires graph { HasShownGraph base.now draft.now }
     requires members { (n : ℕ) × (at (shown_blocks base.now draft.now) n ≡ Some a) }
@@ -118,7 +145,12 @@ fn find_partner(base: &Summary, draft: &Draft, a: u32, parents: &[u32], children
 }
 
 /// A partner of the block, where it has members and there is one.
-pub(crate) fn partner_of(base: &Summary, draft: &Draft, a: u32, rooms: &mut Rooms) -> Result<Option<u32>, Memory>
+pub(crate) fn partner_of(
+    base: &Summary,
+    draft: &Draft,
+    a: u32,
+    rooms: &mut Rooms,
+) -> Result<Option<u32>, Memory>
     requires over { IsOver base.now.blocks.block_of base.now.blocks.labels draft.now }
     requires graph { HasShownGraph base.now draft.now }
     ensures some { IfOk result (λ found. IfSome found (AreShownMates base.now draft.now a)) }
@@ -128,5 +160,12 @@ pub(crate) fn partner_of(base: &Summary, draft: &Draft, a: u32, rooms: &mut Room
         return Ok(None);
     }
     draft.fill_parents(base, a, &mut rooms.parents)?;
-    find_partner(base, draft, a, &rooms.parents, &mut rooms.children, &mut rooms.others)
+    find_partner(
+        base,
+        draft,
+        a,
+        &rooms.parents,
+        &mut rooms.children,
+        &mut rooms.others,
+    )
 }

@@ -1,4 +1,4 @@
-use Rattle.std.proofs.Common.{ℕ, IsTrue, length}
+use Rattle.std.proofs.Common.{IsTrue, length}
 use Rattle.px_spec.specs.Members.{has}
 use Rattle.px_spec.specs.Shapes.{Shape}
 use Rattle.one_merging.specs.Merging.{IsShown, AreShownSuspects}
