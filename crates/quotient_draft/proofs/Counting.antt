@@ -25,7 +25,7 @@ pub counts_take : (f : ℕ × ℕ → ℕ) (ps : List (ℕ × ℕ)) (i : ℕ) (p
     → count_by (λ q. nat_eq x (f q)) (take (i + 1) ps) ≡ count_by (λ q. nat_eq x (f q)) (take i ps) + one_if (nat_eq x (f p))
 counts_take f ps i p x e = ap (count_by (λ (q : ℕ × ℕ). nat_eq x (f q))) (take_next ps i p e) ∙ counts_more f (take i ps) p x
 
-counts_cons : (f : ℕ × ℕ → ℕ) (q : ℕ × ℕ) (ps : List (ℕ × ℕ)) (x : ℕ) → count_by (λ r. nat_eq x (f r)) (q ∷ ps) ≡ one_if (nat_eq x (f q)) + count_by (λ r. nat_eq x (f r)) ps
+pub counts_cons : (f : ℕ × ℕ → ℕ) (q : ℕ × ℕ) (ps : List (ℕ × ℕ)) (x : ℕ) → count_by (λ r. nat_eq x (f r)) (q ∷ ps) ≡ one_if (nat_eq x (f q)) + count_by (λ r. nat_eq x (f r)) ps
 counts_cons f q ps x =
     let parts = sum_by-append (λ (r : ℕ × ℕ). cond (nat_eq x (f r)) 1 0) (q ∷ []) ps in
     omega (arith, parts)

@@ -1,5 +1,6 @@
 pub mod Puts
 mod Scanned
+mod Spans
 mod Written
 mod Over
 mod Examples
@@ -10,3 +11,5 @@ mod ShownCounts
 mod Linked
 mod Listing
 mod Settled
+mod Noted
+mod Supported

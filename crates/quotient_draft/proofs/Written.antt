@@ -103,7 +103,7 @@ support_written t p n x y = elim (eqb_tells n 0) [
       ∙ or_else (is_pair (x, y) p) n (map.get t (x, y)) 0
 ]
 
-supports_absent : (t : SupportTable) (es : List ((ℕ × ℕ) × ℕ)) (x y : ℕ) → lookup (is_pair (x, y)) es ≡ None → support_at (with_supports t es) x y ≡ support_at t x y
+pub supports_absent : (t : SupportTable) (es : List ((ℕ × ℕ) × ℕ)) (x y : ℕ) → lookup (is_pair (x, y)) es ≡ None → support_at (with_supports t es) x y ≡ support_at t x y
 supports_absent t [] x y none = refl
 supports_absent t (e ∷ es) x y none = elim (test_is (is_pair (x, y) e.0)) [
   | inl s ↦ absurd (let found : lookup (is_pair (x, y)) (e ∷ es) ≡ Some e.1 = rw s refl in let clash : Some e.1 ≡ None = sym found ∙ none in cc)

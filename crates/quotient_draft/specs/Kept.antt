@@ -1,10 +1,7 @@
--- How moves and supports are kept.
+-- How moves are kept.
 use Rattle.std.specs.Prelude.{◌≡◌, ℕ, List, Option, nat_eq, unwrap_or, count_by}
-use Rattle.std.specs.List.{IsDistinct}
 use Rattle.std.specs.Map.{lookup}
 use Rattle.px_spec.specs.Members.{at, is_this}
-use Rattle.quotient_draft.specs.Drafts.{is_pair}
-use Rattle.quotient_draft.specs.Rooms.{from_count, onto_count}
 
 pub record KeptMoves : Type 0 where
   pub moves : List (ℕ × Option ℕ)
@@ -26,9 +23,3 @@ taken_count block moves b = count_by (λ e. is_this b (at block e.0)) moves
 -- the table has, for each block of the base, how many of its members are moved
 abbrev pub AreTaken : List (Option ℕ) → List (ℕ × Option ℕ) → List (ℕ × ℕ) → Type 0
 AreTaken block moves taken = (b : ℕ) → counted taken b ≡ taken_count block moves b
-
--- the pairs differ, and are counted by where they begin and by where they end
-pub record IsCounted (pairs : List (ℕ × ℕ)) (from onto : List (ℕ × ℕ)) : Type 0 where
-  pub once : IsDistinct is_pair pairs
-  pub from_are : (a : ℕ) → counted from a ≡ from_count pairs a
-  pub onto_are : (b : ℕ) → counted onto b ≡ onto_count pairs b

@@ -5,3 +5,4 @@ pub mod Rooms
 pub mod Kept
 pub mod PutLogs
 pub mod Retired
+pub mod Ends

@@ -111,6 +111,15 @@ impl Added {
         self.blocks.clear();
     }
 
+    /// A number past each block as shown.
+    pub(crate) fn past(&self, base: &Summary) -> u32
+        requires least { AreLeastFree base.now.blocks.labels self.now }
+        requires few { 0 < length self.now → count_by is_some (with_added base.now.blocks.labels self.now) ≤ 2 ^ 31 }
+        ensures { (b : ℕ) → IsSome (at (with_added base.now.blocks.labels self.now) b) → b < result }
+    {
+        base.size().max(self.from())
+    }
+
     /// The number behind that of the last block, below which all are blocks as shown.
     pub(crate) fn from(&self) -> u32
         requires { from_after 0 self.now ≤ 2 ^ 31 }

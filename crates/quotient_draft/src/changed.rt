@@ -1,15 +1,13 @@
 // Supports that are drafted.
-ghost use Rattle.std.specs.Prelude.{◌≡◌, ◌+◌, ◌<◌, ◌≤◌, ◌^◌, [], ℕ, None, Some, IsSome, OnOk, OnErr, length, nat_eq, slice_index, unwrap_or, if◌then◌else◌};
+ghost use Rattle.std.specs.Prelude.{◌≡◌, ◌<◌, ◌≤◌, [], ℕ, None, Some, IsSome, false, OnOk, OnErr, length, slice_index, if◌then◌else◌};
 ghost use Rattle.std.specs.Map.{lookup, keys_of};
-ghost use Rattle.indexmap.specs.IndexMap.{spare};
-ghost use Rattle.px_spec.specs.Members.{at};
+ghost use Rattle.px_spec.specs.Members.{at, has};
 ghost use Rattle.bisim_spec.specs.Views.{SupportTable, support_at};
-ghost use Rattle.quotient.specs.Joined.{one_if};
 ghost use Rattle.quotient.specs.Quotients.{view_of};
 ghost use Rattle.quotient_draft.specs.Drafts.{with_supports, is_pair};
 ghost use Rattle.quotient_draft.specs.Rooms.{from_count, onto_count};
-ghost use Rattle.quotient_draft.specs.Kept.{counted};
 
+use crate::ends::{Ends, ends_of, make_room, note};
 use indexmap::IndexMap;
 use px_base::Memory;
 use quotient::Summary;
@@ -17,24 +15,24 @@ use std::alloc::Global;
 use std::marker::Model;
 
 /// Supports that are drafted over a base: the last of each pair, which may be 0. Beside them it has, for each
-/// block, how many of the pairs begin there, and how many end there.
+/// block, the blocks at which pairs end that begin there, and those at which pairs begin that end there.
 #[derive(Drop)]
 pub(crate) struct Changed {
     pairs: IndexMap<(u32, u32), u32>,
-    from: IndexMap<u32, usize>,
-    onto: IndexMap<u32, usize>,
+    from: Ends,
+    onto: Ends,
 }
 
 impl Model for Changed {
     ghost use Rattle.std.specs.Prelude.{ℕ, List};
     ghost use Rattle.std.specs.Map.{keys_of};
-    ghost use Rattle.quotient_draft.specs.Kept.{IsCounted};
+    ghost use Rattle.quotient_draft.specs.Ends.{AreNoted};
 
     ghost Value = { List ((ℕ × ℕ) × ℕ) };
 
     ghost view = { λ c. c.pairs.entries };
 
-    ghost invariant = { λ c. IsCounted (keys_of c.pairs.entries) c.from.entries c.onto.entries };
+    ghost invariant = { λ c. AreNoted (keys_of c.pairs.entries) c.from.entries c.onto.entries };
 }
 
 impl Changed {
@@ -65,6 +63,20 @@ impl Changed {
         }
     }
 
+    /// The blocks at which drafted pairs end that begin at this one. To the others it has the support of the base.
+    pub(crate) fn children(&self, a: u32) -> &[u32]
+        ensures { (t : SupportTable) (b : ℕ) → has result.now b ≡ false → support_at (with_supports t self.now) a b ≡ support_at t a b }
+    {
+        ends_of(&self.from, a)
+    }
+
+    /// The blocks at which drafted pairs begin that end at this one. From the others it has the support of the base.
+    pub(crate) fn parents(&self, b: u32) -> &[u32]
+        ensures { (t : SupportTable) (a : ℕ) → has result.now a ≡ false → support_at (with_supports t self.now) a b ≡ support_at t a b }
+    {
+        ends_of(&self.onto, b)
+    }
+
     /// Drafts the support of a pair.
     pub(crate) fn set(&mut self, a: u32, b: u32, n: u32) -> Result<(), Memory>
         ensures looked { OnOk result ((p : ℕ × ℕ) → lookup (is_pair p) self.new ≡ (if is_pair p (a, b) then Some n else lookup (is_pair p) self.old)) }
@@ -88,19 +100,18 @@ impl Changed {
         Ok(())
     }
 
-    // Drafts the support of a pair that hasn't been drafted, and counts the pair.
+    // Drafts the support of a pair that hasn't been drafted, and notes its ends.
     fn set_first(&mut self, a: u32, b: u32, n: u32) -> Result<(), Memory>
         requires { lookup (is_pair (a, b)) self.old ≡ None }
         ensures looked { OnOk result ((p : ℕ × ℕ) → lookup (is_pair p) self.new ≡ (if is_pair p (a, b) then Some n else lookup (is_pair p) self.old)) }
         ensures shown { OnOk result ((t : SupportTable) (x y : ℕ) → support_at (with_supports t self.new) x y ≡ (if is_pair (x, y) (a, b) then n else support_at (with_supports t self.old) x y)) }
         ensures err { OnErr result (self.new ≡ self.old) }
     {
-        let pairs = self.pairs.len();
-        self.from.reserve(1)?;
-        self.onto.reserve(1)?;
+        make_room(&mut self.from, a)?;
+        make_room(&mut self.onto, b)?;
         self.pairs.insert((a, b), n)?;
-        count_one(&mut self.from, a, pairs);
-        count_one(&mut self.onto, b, pairs);
+        note(&mut self.from, a, b);
+        note(&mut self.onto, b, a);
         Ok(())
     }
 
@@ -118,8 +129,8 @@ impl Changed {
             let Some((p, _)) = self.pairs.get_index(i) else {
                 unreachable!()
             };
-            base.reserve_children(p.0, count_of(&self.from, p.0))?;
-            base.reserve_parents(p.1, count_of(&self.onto, p.1))?;
+            base.reserve_children(p.0, ends_of(&self.from, p.0).len())?;
+            base.reserve_parents(p.1, ends_of(&self.onto, p.1).len())?;
         }
         Ok(())
     }
@@ -148,29 +159,5 @@ impl Changed {
         self.pairs.clear();
         self.from.clear();
         self.onto.clear();
-    }
-}
-
-// How many pairs are counted for a block.
-pub(crate) fn count_of(counts: &IndexMap<u32, usize>, b: u32) -> usize
-    ensures { result ≡ counted counts.now.entries b }
-{
-    match counts.get(&b) {
-        Some(count) => *count,
-        None => 0,
-    }
-}
-
-// Counts one more pair for a block, of which no more than that many were counted.
-pub(crate) fn count_one(counts: &mut IndexMap<u32, usize>, b: u32, most: usize)
-    requires room { 0 < spare counts.old }
-    requires counted { counted counts.old.entries b ≤ most }
-    requires few { most < 2 ^ 63 }
-    ensures { (x : ℕ) → counted counts.new.entries x ≡ counted counts.old.entries x + one_if (nat_eq x b) }
-{
-    let count = count_of(counts, b).min(most) + 1;
-    match counts.insert(b, count) {
-        Ok(_) => {}
-        Err(_) => unreachable!(),
     }
 }

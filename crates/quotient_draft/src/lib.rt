@@ -3,11 +3,15 @@
 
 mod added;
 mod changed;
+mod counts;
 mod draft;
+mod ends;
 mod members;
 mod moves;
+mod near;
 mod put_log;
 mod retiring;
 mod settling;
+mod writing;
 
 pub use draft::Draft;

@@ -10,7 +10,7 @@ ghost use Rattle.quotient_draft.specs.Drafts.{with_moves, with_left};
 ghost use Rattle.quotient_draft.specs.Kept.{counted, AreTaken};
 ghost use Rattle.quotient_draft.specs.PutLogs.{has_put, is_kept, is_moved_to};
 
-use crate::changed::{count_of, count_one};
+use crate::counts::{count_of, count_one};
 use crate::put_log::PutLog;
 use indexmap::IndexMap;
 use px_base::{Memory, NodeId};
@@ -65,6 +65,13 @@ impl Moves {
             Some(b) => *b,
             None => base.block_of(n),
         }
+    }
+
+    // Each node has one move, so the last is the one that a look-up finds. It takes no time.
+    pub(crate) fn know_lookups(&self)
+        ensures { (block : List (Option ℕ)) (n : ℕ) → at (with_moves block self.now.moves) n ≡ unwrap_or (lookup (nat_eq n) self.now.moves) (at block n) }
+    {
+        let _ = self.moves.len();
     }
 
     /// Drafts a move, and notes the block from which the node is taken.

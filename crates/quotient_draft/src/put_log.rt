@@ -2,7 +2,7 @@
 ghost use Rattle.std.specs.Prelude.{◌≡◌, ◌<◌, ◌++◌, ◌∷◌, [], ℕ, Some, true, OnOk, OnErr, length, slice_get};
 ghost use Rattle.quotient_draft.specs.PutLogs.{goes_to, last_put};
 
-use crate::changed::count_of;
+use crate::counts::count_of;
 use indexmap::IndexMap;
 use px_base::{Memory, NodeId};
 use std::alloc::Global;

@@ -1,10 +1,11 @@
-use Rattle.std.proofs.Common.{◌<◌, ◌≤◌, ◌∙◌, ℕ, List, sym, subst, ap}
+use Rattle.std.proofs.Common.{◌<◌, ◌≤◌, ◌∙◌, ℕ, List, length, sym, subst, ap}
 use Rattle.std.specs.Prelude.{slice_index}
 use Rattle.std.specs.Map.{lookup, keys_of}
 use Rattle.quotient.specs.Kept.{GivesMore}
 use Rattle.quotient_draft.specs.Drafts.{is_pair}
 use Rattle.quotient_draft.specs.Rooms.{from_count}
 use Rattle.quotient_draft.proofs.Counting.{key_at, room_met}
+use Rattle.quotient_draft.proofs.Noted.{ends_count}
 use Rattle.quotient_draft.proofs.changed.Changed.reserve_in.Goals as goal
 
 pub reserve_children-requires : goal.reserve_children-requires
@@ -25,8 +26,8 @@ loop-i-preserved c =
     let key = key_at es c.loop-i.i p c.in-Some.field-0-1.now (sym c.in-Some.ensures.entry) in
     let first = c.in_ok-reserve_children.ensures in
     let second = c.in_ok-reserve_parents.ensures in
-    let from_is = c.count_of.ensures ∙ c.self.invariant.from_are p.0 in
-    let onto_is = c.count_of-in-loop-i.ensures ∙ c.self.invariant.onto_are p.1 in
+    let from_is = ap length (c.ends_of.ensures ∙ c.self.invariant.from_are p.0) ∙ ends_count (λ q. q.0) (λ q. q.1) (keys_of es) p.0 in
+    let onto_is = ap length (c.ends_of-in-loop-i.ensures ∙ c.self.invariant.onto_are p.1) ∙ ends_count (λ q. q.1) (λ q. q.0) (keys_of es) p.1 in
     record {
       same = second.same ∙ first.same ∙ inv.same;
       blocks = second.blocks ∙ first.blocks ∙ inv.blocks;

@@ -2,7 +2,7 @@ use Rattle.std.proofs.Common.{◌∙◌, ℕ, List, Some, sym, subst, ap, cond}
 use Rattle.std.specs.Map.{lookup, keys_of}
 use Rattle.std.specs.Prelude.{IsSome}
 use Rattle.indexmap.proofs.CallerLemmas.{keys-insert_entry-present}
-use Rattle.quotient_draft.specs.Kept.{IsCounted}
+use Rattle.quotient_draft.specs.Ends.{AreNoted}
 use Rattle.bisim_spec.specs.Views.{support_at}
 use Rattle.quotient_draft.specs.Drafts.{with_supports, is_pair}
 use Rattle.quotient_draft.proofs.Written.{supports_written, pair_turned}
@@ -24,4 +24,4 @@ invariant_of-self-2 c =
     let m = c.self.inside.pairs in
     let there = subst (λ (es : List ((ℕ × ℕ) × ℕ)). IsSome (lookup (is_pair (c.args.a, c.args.b)) es)) (sym c.self.view_is) c.requires in
     let keys = ap keys_of c.in_ok-insert.ensures.entries ∙ keys-insert_entry-present is_pair m (c.args.a, c.args.b) c.args.n there in
-    subst (λ (ks : List (ℕ × ℕ)). IsCounted ks c.self.inside.from.entries c.self.inside.onto.entries) (sym keys) c.self.invariant
+    subst (λ (ks : List (ℕ × ℕ)). AreNoted ks c.self.inside.from.entries c.self.inside.onto.entries) (sym keys) c.self.invariant

@@ -1,12 +1,10 @@
-use Rattle.std.proofs.Common.{◌≡◌, ◌∙◌, ℕ, List, Some, sym, ap, cond, ◌+◌, ◌∷◌, ◌++◌, []}
+use Rattle.std.proofs.Common.{◌≡◌, ◌∙◌, ℕ, List, Some, sym, ap, cond, ◌∷◌, ◌++◌, []}
 use Rattle.std.specs.Map.{lookup, keys_of}
 use Rattle.std.specs.Prelude.{nat_eq}
 use Rattle.std.proofs.lemmas.List.{map-append}
 use Rattle.indexmap.proofs.CallerLemmas.{insert_entry-new}
-use Rattle.quotient.specs.Joined.{one_if}
-use Rattle.quotient_draft.specs.Kept.{counted}
-use Rattle.quotient_draft.specs.Rooms.{from_count, onto_count}
-use Rattle.quotient_draft.proofs.Counting.{counts_more}
+use Rattle.quotient_draft.specs.Ends.{ends_from, ends_onto}
+use Rattle.quotient_draft.proofs.Noted.{ends_more}
 use Rattle.bisim_spec.specs.Views.{support_at}
 use Rattle.quotient_draft.specs.Drafts.{with_supports, is_pair}
 use Rattle.quotient_draft.proofs.Written.{supports_written, pair_turned}
@@ -33,11 +31,9 @@ invariant_of-self-2 c =
     record {
       once = c.in_ok-insert.ensures.unique;
       from_are = λ x.
-          c.count_one.ensures x ∙ ap (λ (es : List (ℕ × ℕ)). counted es x + one_if (nat_eq x c.args.a)) c.in_ok-reserve.ensures.entries
-          ∙ ap (λ k. k + one_if (nat_eq x c.args.a)) (c.self.invariant.from_are x) ∙ sym (counts_more (λ q. q.0) (keys_of m.entries) (c.args.a, c.args.b) x)
-          ∙ ap (λ (ks : List (ℕ × ℕ)). from_count ks x) (sym keys);
+          c.note.ensures x ∙ ap (λ ys. ys ++ cond (nat_eq x c.args.a) (c.args.b ∷ []) []) (c.make_room.ensures.same x ∙ c.self.invariant.from_are x)
+          ∙ sym (ends_more (λ q. q.0) (λ q. q.1) (keys_of m.entries) (c.args.a, c.args.b) x) ∙ ap (λ (ks : List (ℕ × ℕ)). ends_from ks x) (sym keys);
       onto_are = λ x.
-          c.count_one-2.ensures x ∙ ap (λ (es : List (ℕ × ℕ)). counted es x + one_if (nat_eq x c.args.b)) c.in_ok-reserve-2.ensures.entries
-          ∙ ap (λ k. k + one_if (nat_eq x c.args.b)) (c.self.invariant.onto_are x) ∙ sym (counts_more (λ q. q.1) (keys_of m.entries) (c.args.a, c.args.b) x)
-          ∙ ap (λ (ks : List (ℕ × ℕ)). onto_count ks x) (sym keys);
+          c.note-2.ensures x ∙ ap (λ ys. ys ++ cond (nat_eq x c.args.b) (c.args.a ∷ []) []) (c.make_room-2.ensures.same x ∙ c.self.invariant.onto_are x)
+          ∙ sym (ends_more (λ q. q.1) (λ q. q.0) (keys_of m.entries) (c.args.a, c.args.b) x) ∙ ap (λ (ks : List (ℕ × ℕ)). ends_onto ks x) (sym keys);
     }

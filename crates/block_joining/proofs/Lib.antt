@@ -1,0 +1,3 @@
+mod Columns
+mod Joined
+mod Mating

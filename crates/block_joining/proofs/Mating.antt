@@ -1,0 +1,170 @@
+-- Two blocks can be merged exactly where the tables say so.
+use Rattle.std.proofs.Common.{◌≡◌, ◌≢◌, ℕ, ◌+◌, ◌<◌, ◌≤◌, ◌⊎◌, ◌↔◌, List, [], ◌∷◌, Option, Some, None, IsTrue, IsFalse, refl, sym, ◌∙◌, ap, subst, arith, inl, inr, true, false, Bool, cond}
+use Rattle.std.specs.Prelude.{nat_eq, ◌||◌, ◌&&◌}
+use Rattle.std.specs.List.{list_all}
+use Rattle.std.proofs.lemmas.Bool.{cases_Bool, both_ways, or_cases, or_left, or_right, and_parts, and_from}
+use Rattle.std.proofs.lemmas.Bool.Decides.{Decides-eqb, eqb_tells}
+use Rattle.px_spec.specs.Shapes.{Shape}
+use Rattle.px_spec.specs.Members.{at, has, Lists}
+use Rattle.bisim_spec.specs.Stability.{Mergeable, merged_at}
+use Rattle.bisim_spec.proofs.Bisimilar.{none_or_some}
+use Rattle.bisim_spec.proofs.Together.{at_merged}
+use Rattle.bisim_spec.proofs.Merging.{IsParentBlock, mergeable_blocks}
+use Rattle.upkeep_spec.specs.Merges.{CanMerge}
+use Rattle.upkeep_spec.specs.Viewed.{IsViewed}
+use Rattle.block_joining.specs.Mates.{renamed, met, IsCovered, AreMates, AreNoMates}
+
+same_is : (x y : ℕ) → x ≡ y → nat_eq x y ≡ true
+same_is x y e = (Decides-eqb x y).1 e
+
+other_is : (x y : ℕ) → x ≢ y → nat_eq x y ≡ false
+other_is x y ne = elim (eqb_tells x y) [ inl s ↦ absurd (ne s.1) | inr d ↦ d.0 ]
+
+-- what is met is some block of the same name
+met_some : (joined : ℕ → ℕ → Bool) (a b d x : ℕ) → met joined a b d x ≡ true → (z : ℕ) × IsTrue (joined z d) × (renamed a b z ≡ renamed a b x)
+met_some joined a b d x h = elim (eqb_tells x b) [
+  | inl xb ↦ (
+      let at : renamed a b x ≡ a = ap (λ t. cond t a x) xb.0 in
+      let both : (joined a d || joined b d) ≡ true = sym (ap (λ t. cond (nat_eq x a || t) (joined a d || joined b d) (joined x d)) xb.0 ∙ ap (λ t. cond t (joined a d || joined b d) (joined x d)) (or_right (nat_eq x a) true refl)) ∙ h in
+      pick at both)
+  | inr xb ↦ elim (eqb_tells x a) [
+    | inl xa ↦ (
+        let at : renamed a b x ≡ a = ap (λ t. cond t a x) xb.0 ∙ xa.1 in
+        let both : (joined a d || joined b d) ≡ true = sym (ap (λ t. cond (t || nat_eq x b) (joined a d || joined b d) (joined x d)) xa.0) ∙ h in
+        pick at both)
+    | inr xa ↦ (
+        let one : joined x d ≡ true = sym (ap (λ t. cond (t || nat_eq x b) (joined a d || joined b d) (joined x d)) xa.0 ∙ ap (λ t. cond t (joined a d || joined b d) (joined x d)) xb.0) ∙ h in
+        (x, one, refl))
+  ]
+]
+  where
+    name_a : renamed a b a ≡ a
+    name_a = elim (cases_Bool (nat_eq a b)) [ inl t ↦ ap (λ c. cond c a a) t | inr f ↦ ap (λ c. cond c a a) f ]
+
+    pick : renamed a b x ≡ a → (joined a d || joined b d) ≡ true → (z : ℕ) × IsTrue (joined z d) × (renamed a b z ≡ renamed a b x)
+    pick at both = elim (or_cases (joined a d) (joined b d) both) [
+      | inl ja ↦ (a, ja, name_a ∙ sym at)
+      | inr jb ↦ (b, jb, ap (λ t. cond t a b) (same_is b b refl) ∙ sym at)
+    ]
+
+some_met : (joined : ℕ → ℕ → Bool) (a b d x z : ℕ) → IsTrue (joined z d) → renamed a b z ≡ renamed a b x → met joined a b d x ≡ true
+some_met joined a b d x z j e = elim (eqb_tells x b) [
+  | inl xb ↦ (
+      let at : renamed a b x ≡ a = ap (λ t. cond t a x) xb.0 in
+      let test : (nat_eq x a || nat_eq x b) ≡ true = or_right (nat_eq x a) (nat_eq x b) xb.0 in
+      ap (λ t. cond t (joined a d || joined b d) (joined x d)) test ∙ either (e ∙ at))
+  | inr xb ↦ elim (eqb_tells x a) [
+    | inl xa ↦ (
+        let at : renamed a b x ≡ a = ap (λ t. cond t a x) xb.0 ∙ xa.1 in
+        let test : (nat_eq x a || nat_eq x b) ≡ true = or_left (nat_eq x a) (nat_eq x b) xa.0 in
+        ap (λ t. cond t (joined a d || joined b d) (joined x d)) test ∙ either (e ∙ at))
+    | inr xa ↦ (
+        let at : renamed a b x ≡ x = ap (λ t. cond t a x) xb.0 in
+        let test : (nat_eq x a || nat_eq x b) ≡ false = ap (λ t. t || nat_eq x b) xa.0 ∙ xb.0 in
+        ap (λ t. cond t (joined a d || joined b d) (joined x d)) test ∙ ap (λ m. joined m d) (sym (one (e ∙ at) xa.1)) ∙ j)
+  ]
+]
+  where
+    either : renamed a b z ≡ a → (joined a d || joined b d) ≡ true
+    either at = elim (eqb_tells z b) [
+      | inl zb ↦ or_right (joined a d) (joined b d) (subst (λ m. joined m d ≡ true) zb.1 j)
+      | inr zb ↦ (
+          let za : z ≡ a = sym (ap (λ t. cond t a z) zb.0) ∙ at in
+          or_left (joined a d) (joined b d) (subst (λ m. joined m d ≡ true) za j))
+    ]
+
+    one : renamed a b z ≡ x → x ≢ a → z ≡ x
+    one at ne = elim (eqb_tells z b) [
+      | inl zb ↦ absurd (ne (sym (sym (ap (λ t. cond t a z) zb.0) ∙ at)))
+      | inr zb ↦ sym (ap (λ t. cond t a z) zb.0) ∙ at
+    ]
+
+module _ (s : Shape) (p : List (Option ℕ)) (labels : ℕ → Option ℕ) (joined : ℕ → ℕ → Bool) (a b : ℕ) (viewed : IsViewed s p labels joined) where
+  -- a parent block, once a and b count as one, is one of the tables under its new name
+  parent_seen : (c x : ℕ) → IsParentBlock s p a b c x → (y : ℕ) × IsTrue (joined y c) × (renamed a b y ≡ x)
+  parent_seen c x (q, n, e, hn, hx) =
+      let is = sym (at_merged a b p q) ∙ hx in
+      elim (none_or_some (at p q)) [
+        | inl none ↦ absurd (let f : None ≡ Some x = sym (ap (merged_at a b) none) ∙ is in cc)
+        | inr (y, own) ↦ (
+            let f : Some (renamed a b y) ≡ Some x = sym (ap (merged_at a b) own) ∙ is in
+            let g : renamed a b y ≡ x = cc in
+            (y, viewed.into y c (record { from = q; onto = n; edge = e; from_at = own; onto_at = hn }), g))
+      ]
+
+  seen_parent : (c y : ℕ) → IsTrue (joined y c) → IsParentBlock s p a b c (renamed a b y)
+  seen_parent c y j =
+      let k = viewed.from y c j in
+      (k.from, k.onto, k.edge, k.onto_at, at_merged a b p k.from ∙ ap (merged_at a b) k.from_at)
+
+  covered_there : (c d : ℕ) → IsCovered joined a b c d → (x : ℕ) → IsParentBlock s p a b c x → IsParentBlock s p a b d x
+  covered_there c d covered x h =
+      let y = parent_seen c x h in
+      let z = met_some joined a b d y.0 (covered.each y.0 y.1) in
+      subst (IsParentBlock s p a b d) (z.2 ∙ y.2) (seen_parent d z.0 z.1)
+
+  there_covered : (c d : ℕ) → ((x : ℕ) → IsParentBlock s p a b c x → IsParentBlock s p a b d x) → IsCovered joined a b c d
+  there_covered c d there = record {
+    each = λ x j.
+        let z = parent_seen d (renamed a b x) (there (renamed a b x) (seen_parent c x j)) in
+        some_met joined a b d x z.0 z.1 z.2;
+  }
+
+  -- exactly so
+  pub mates_by_tables : (u v : ℕ) → at p u ≡ Some a → at p v ≡ Some b → Mergeable s p a b ↔ ((labels a ≡ labels b) × IsCovered joined a b a b × IsCovered joined a b b a)
+  mates_by_tables u v hu hv =
+      let blocks = mergeable_blocks s p a b u v viewed.shape viewed.stable hu hv in (
+        λ can.
+            let m = blocks.0 can in
+            ((viewed.labelled.same u v a b hu hv).1 (m.label u v hu hv), there_covered a b m.there, there_covered b a m.back),
+        λ h. blocks.1 (record {
+          label = λ x y hx hy. (viewed.labelled.same x y a b hx hy).0 h.0;
+          there = covered_there a b h.1;
+          back = covered_there b a h.2;
+        }),
+      )
+
+all_get : (q : ℕ → Bool) (xs : List ℕ) (x : ℕ) → list_all q xs ≡ true → has xs x ≡ true → q x ≡ true
+all_get q [] x h k = absurd (cc)
+all_get q (y ∷ ys) x h k =
+    let both = and_parts (q y) (list_all q ys) h in
+    elim (or_cases (nat_eq x y) (has ys x) k) [
+      | inl here ↦ ap q ((Decides-eqb x y).0 here) ∙ both.0
+      | inr there ↦ all_get q ys x both.1 there
+    ]
+
+all_from : (q : ℕ → Bool) (xs : List ℕ) → ((x : ℕ) → has xs x ≡ true → q x ≡ true) → list_all q xs ≡ true
+all_from q [] h = refl
+all_from q (y ∷ ys) h = and_from (q y) (list_all q ys) (h y (or_left (nat_eq y y) (has ys y) (same_is y y refl))) (all_from q ys (λ x k. h x (or_right (nat_eq x y) (has ys x) k)))
+
+-- parents that are listed are all met, or not
+pub covered_listed : (joined : ℕ → ℕ → Bool) (a b c d : ℕ) (xs : List ℕ) → Lists (λ x. joined x c) xs → list_all (met joined a b d) xs ≡ true → IsCovered joined a b c d
+covered_listed joined a b c d xs lists all = record { each = λ x j. all_get (met joined a b d) xs x all (lists.members x ∙ j) }
+
+listed_covered : (joined : ℕ → ℕ → Bool) (a b c d : ℕ) (xs : List ℕ) → Lists (λ x. joined x c) xs → IsCovered joined a b c d → list_all (met joined a b d) xs ≡ true
+listed_covered joined a b c d xs lists covered = all_from (met joined a b d) xs (λ x h. covered.each x (sym (lists.members x) ∙ h))
+
+pub mates_from : (p : List (Option ℕ)) (labels : ℕ → Option ℕ) (joined : ℕ → ℕ → Bool) (a b : ℕ) → a ≢ b → ((n : ℕ) × (at p n ≡ Some a)) → ((n : ℕ) × (at p n ≡ Some b)) → labels a ≡ labels b
+    → IsCovered joined a b a b → IsCovered joined a b b a → AreMates p labels joined a b
+mates_from p labels joined a b ne first second label there back = record {
+  apart = ne;
+  first = first;
+  second = second;
+  label = label;
+  can = λ s v. (mates_by_tables s p labels joined a b v first.0 second.0 first.1 second.1).1 (label, there, back);
+}
+
+pub no_mates_label : (p : List (Option ℕ)) (labels : ℕ → Option ℕ) (joined : ℕ → ℕ → Bool) (a b : ℕ) → labels a ≢ labels b → AreNoMates p labels joined a b
+no_mates_label p labels joined a b ne s v can = ne ((mates_by_tables s p labels joined a b v can.first.0 can.second.0 can.first.1 can.second.1).0 can.can).0
+
+pub no_mates_there : (p : List (Option ℕ)) (labels : ℕ → Option ℕ) (joined : ℕ → ℕ → Bool) (a b : ℕ) (xs : List ℕ) → Lists (λ x. joined x a) xs → list_all (met joined a b b) xs ≡ false
+    → AreNoMates p labels joined a b
+no_mates_there p labels joined a b xs lists off s v can =
+    both_ways (list_all (met joined a b b) xs) off
+    (listed_covered joined a b a b xs lists ((mates_by_tables s p labels joined a b v can.first.0 can.second.0 can.first.1 can.second.1).0 can.can).1)
+
+pub no_mates_back : (p : List (Option ℕ)) (labels : ℕ → Option ℕ) (joined : ℕ → ℕ → Bool) (a b : ℕ) (xs : List ℕ) → Lists (λ x. joined x b) xs → list_all (met joined a b a) xs ≡ false
+    → AreNoMates p labels joined a b
+no_mates_back p labels joined a b xs lists off s v can =
+    both_ways (list_all (met joined a b a) xs) off
+    (listed_covered joined a b b a xs lists ((mates_by_tables s p labels joined a b v can.first.0 can.second.0 can.first.1 can.second.1).0 can.can).2)

@@ -1,0 +1,78 @@
+// Whether two blocks can be merged.
+ghost use Rattle.std.specs.Prelude.{◌≡◌, ◌≢◌, ℕ, Some, IsTrue, IsFalse, IfOk};
+ghost use Rattle.std.specs.List.{list_all};
+ghost use Rattle.px_spec.specs.Members.{at, Lists};
+ghost use Rattle.quotient_draft.specs.Drafts.{shown_labels, shown_blocks, shown_support};
+ghost use Rattle.quotient_draft.specs.Basis.{IsOver};
+ghost use Rattle.block_joining.specs.Mates.{shown_joined, met, AreMates, AreNoMates};
+ghost use Rattle.block_joining.specs.Merged.{HasGraph};
+
+use px_base::Memory;
+use quotient::Summary;
+use quotient_draft::Draft;
+
+// Whether x is joined to y.
+fn joins(base: &Summary, draft: &Draft, x: u32, y: u32) -> bool
+    ensures { result ≡ shown_joined base.now draft.now x y }
+{
+    draft.support(base, x, y) > 0
+}
+
+// Whether x is joined to d, where a and b count as one block.
+fn is_met(base: &Summary, draft: &Draft, a: u32, b: u32, d: u32, x: u32) -> bool
+    ensures { result ≡ met (shown_joined base.now draft.now) a b d x }
+{
+    if x == a || x == b {
+        return joins(base, draft, a, d) || joins(base, draft, b, d);
+    }
+    joins(base, draft, x, d)
+}
+
+// Whether each of the blocks is joined to d, where a and b count as one block. It stops at the first that isn't.
+fn are_met(base: &Summary, draft: &Draft, a: u32, b: u32, d: u32, blocks: &[u32]) -> bool
+    ensures { result ≡ list_all (met (shown_joined base.now draft.now) a b d) blocks.now }
+{
+    blocks.iter().all(|x| is_met(base, draft, a, b, d, *x))
+}
+
+// Whether two blocks have one label.
+fn same_label(base: &Summary, draft: &Draft, a: u32, b: u32) -> bool
+    requires over { IsOver base.now.blocks.block_of base.now.blocks.labels draft.now }
+    requires graph { HasGraph (shown_blocks base.now draft.now) (at (shown_labels base.now draft.now)) (shown_support base.now draft.now) }
+    requires first { (n : ℕ) × (at (shown_blocks base.now draft.now) n ≡ Some a) }
+    requires second { (n : ℕ) × (at (shown_blocks base.now draft.now) n ≡ Some b) }
+    ensures yes { IsTrue result → at (shown_labels base.now draft.now) a ≡ at (shown_labels base.now draft.now) b }
+    ensures no { IsFalse result → at (shown_labels base.now draft.now) a ≢ at (shown_labels base.now draft.now) b }
+{
+    draft.label(base, a) == draft.label(base, b)
+}
+
+/// Whether two blocks with members, of which the first has these parent blocks, can be merged: they have one
+/// label, and the same parent blocks once the two count as one. The parents of the second are read only where
+/// it has those of the first. `list` is room that is used again.
+pub fn mergeable(
+    base: &Summary,
+    draft: &Draft,
+    a: u32,
+    b: u32,
+    parents: &[u32],
+    list: &mut Vec<u32>,
+) -> Result<bool, Memory>
+    requires over { IsOver base.now.blocks.block_of base.now.blocks.labels draft.now }
+    requires graph { HasGraph (shown_blocks base.now draft.now) (at (shown_labels base.now draft.now)) (shown_support base.now draft.now) }
+    requires apart { a ≢ b }
+    requires first { (n : ℕ) × (at (shown_blocks base.now draft.now) n ≡ Some a) }
+    requires second { (n : ℕ) × (at (shown_blocks base.now draft.now) n ≡ Some b) }
+    requires parents { Lists (λ x. shown_joined base.now draft.now x a) parents.now }
+    ensures yes { IfOk result (λ can. IsTrue can → AreMates (shown_blocks base.now draft.now) (at (shown_labels base.now draft.now)) (shown_joined base.now draft.now) a b) }
+    ensures no { IfOk result (λ can. IsFalse can → AreNoMates (shown_blocks base.now draft.now) (at (shown_labels base.now draft.now)) (shown_joined base.now draft.now) a b) }
+{
+    if !same_label(base, draft, a, b) {
+        return Ok(false);
+    }
+    if !are_met(base, draft, a, b, b, parents) {
+        return Ok(false);
+    }
+    draft.fill_parents(base, b, list)?;
+    Ok(are_met(base, draft, a, b, a, list))
+}

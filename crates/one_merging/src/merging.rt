@@ -1,0 +1,111 @@
+// Pairs that are merged, one after another.
+ghost use Rattle.std.specs.Prelude.{◌≡◌, ◌⊎◌, ℕ, Option, IsTrue, IfSome, IfNone, IfOk, OnOk};
+ghost use Rattle.px_spec.specs.Members.{at, has};
+ghost use Rattle.px_spec.specs.Graphs.{Graph};
+ghost use Rattle.px_spec.specs.Shapes.{Shape};
+ghost use Rattle.upkeep_spec.specs.Merges.{AreSuspects};
+ghost use Rattle.upkeep_spec.specs.Named.{AreNamed};
+ghost use Rattle.upkeep_spec.specs.Supported.{AreSupports};
+ghost use Rattle.upkeep_spec.specs.Viewed.{IsViewed, IsDone};
+ghost use Rattle.quotient_draft.specs.Drafts.{shown_labels, shown_blocks, shown_support};
+ghost use Rattle.quotient_draft.specs.Basis.{IsOver};
+ghost use Rattle.block_joining.specs.Mates.{shown_joined};
+ghost use Rattle.block_joining.specs.Merged.{HasGraph};
+ghost use Rattle.one_merging.specs.Merging.{IsShown, HasShownGraph, AreShownMates, AreShownSuspects};
+
+use crate::members::larger_first;
+use crate::partners::{Rooms, partner_of};
+use crate::suspects::Suspects;
+use block_joining::join;
+use px_base::Memory;
+use quotient::Summary;
+use quotient_draft::Draft;
+use std::alloc::Global;
+
+// Takes suspects off until one has a partner. Of the pair the larger block is in front.
+fn next_pair(
+    base: &Summary,
+    draft: &Draft,
+    suspects: &mut Suspects,
+    rooms: &mut Rooms,
+) -> Result<Option<(u32, u32)>, Memory>
+    requires over { IsOver base.now.blocks.block_of base.now.blocks.labels draft.now }
+    requires graph { HasShownGraph base.now draft.now }
+    ensures some { IfOk result (λ pair. IfSome pair (λ r. AreShownMates base.now draft.now r.0 r.1)) }
+    ensures rest { IfOk result (λ pair. IfSome pair (λ r. (s : Shape) → IsShown s base.now draft.now → AreShownSuspects s base.now draft.now (λ b. IsTrue (has suspects.old b)) → AreShownSuspects s base.now draft.now (λ b. ((b ≡ r.0) ⊎ (b ≡ r.1)) ⊎ IsTrue (has suspects.new b)))) }
+    ensures none { IfOk result (λ pair. IfNone pair ((s : Shape) → IsShown s base.now draft.now → AreShownSuspects s base.now draft.now (λ b. IsTrue (has suspects.old b)) → AreShownSuspects s base.now draft.now (λ b. ⊥))) }
+{
+    'look: while let Some(a) = suspects.take() {
+        if let Some(b) = partner_of(base, draft, a, rooms)? {
+            return Ok(Some(larger_first(base, draft, a, b)));
+        }
+    }
+    Ok(None)
+}
+
+// A block and its children wait too.
+fn push_near(
+    base: &Summary,
+    draft: &Draft,
+    a: u32,
+    suspects: &mut Suspects,
+    children: &mut Vec<u32>,
+) -> Result<(), Memory>
+    ensures own { OnOk result (IsTrue (has suspects.new a)) }
+    ensures kept { OnOk result ((b : ℕ) → IsTrue (has suspects.old b) → IsTrue (has suspects.new b)) }
+    ensures children { OnOk result ((b : ℕ) → IsTrue (shown_joined base.now draft.now a b) → IsTrue (has suspects.new b)) }
+{
+    suspects.add(a)?;
+    draft.fill_children(base, a, children)?;
+    suspects.add_all(children)?;
+    Ok(())
+}
+
+// Merges pairs until no two blocks can be merged. Each merge leaves one block fewer with members.
+fn merge_pairs(
+    base: &Summary,
+    draft: &mut Draft,
+    suspects: &mut Suspects,
+    rooms: &mut Rooms,
+) -> Result<(), Memory>
+    requires over { IsOver base.now.blocks.block_of base.now.blocks.labels draft.old }
+    requires graph { HasShownGraph base.now draft.old }
+    ensures over { OnOk result (IsOver base.now.blocks.block_of base.now.blocks.labels draft.new) }
+    ensures merged { OnOk result ((s : Shape) → IsShown s base.now draft.old → AreShownSuspects s base.now draft.old (λ b. IsTrue (has suspects.old b)) → IsDone s (shown_blocks base.now draft.old) (shown_blocks base.now draft.new)) }
+    ensures supports { OnOk result ((g : Graph) → AreSupports g (shown_blocks base.now draft.old) (shown_support base.now draft.old) → AreSupports g (shown_blocks base.now draft.new) (shown_support base.now draft.new)) }
+    ensures named { OnOk result ((names : ℕ → Option ℕ) → AreNamed (shown_blocks base.now draft.old) (at (shown_labels base.now draft.old)) names → AreNamed (shown_blocks base.now draft.new) (at (shown_labels base.now draft.new)) names) }
+{
+    'pairs: while let Some((a, b)) = next_pair(base, draft, suspects, rooms)? {
+        join(base, draft, a, b, &mut rooms.others)?;
+        push_near(base, draft, a, suspects, &mut rooms.children)?;
+    }
+    Ok(())
+}
+
+/// Merges blocks as shown until no two can be merged, where of each two that can one is among the suspects.
+/// Numbers of no block, and of blocks without members, are passed by. The supports must be those of a graph
+/// with at most 2^30 edges, and blocks with members have labels. Where memory runs out, the draft may have a
+/// part of it.
+///
+/// Of two blocks that are merged the smaller is moved, and each block next to it is written once. A suspect is
+/// compared with another parent of it and the children of that one; only where it has no other parent than
+/// itself, all blocks are looked through.
+pub fn merge(
+    alloc: Global,
+    base: &Summary,
+    draft: &mut Draft,
+    suspects: &[u32],
+) -> Result<(), Memory>
+    requires over { IsOver base.now.blocks.block_of base.now.blocks.labels draft.old }
+    requires graph { HasGraph (shown_blocks base.now draft.old) (at (shown_labels base.now draft.old)) (shown_support base.now draft.old) }
+    ensures over { OnOk result (IsOver base.now.blocks.block_of base.now.blocks.labels draft.new) }
+    ensures merged { OnOk result ((s : Shape) → IsViewed s (shown_blocks base.now draft.old) (at (shown_labels base.now draft.old)) (shown_joined base.now draft.old) → AreSuspects s (shown_blocks base.now draft.old) (λ b. IsTrue (has suspects.now b)) → IsDone s (shown_blocks base.now draft.old) (shown_blocks base.now draft.new)) }
+    ensures supports { OnOk result ((g : Graph) → AreSupports g (shown_blocks base.now draft.old) (shown_support base.now draft.old) → AreSupports g (shown_blocks base.now draft.new) (shown_support base.now draft.new)) }
+    ensures named { OnOk result ((names : ℕ → Option ℕ) → AreNamed (shown_blocks base.now draft.old) (at (shown_labels base.now draft.old)) names → AreNamed (shown_blocks base.now draft.new) (at (shown_labels base.now draft.new)) names) }
+{
+    let mut waiting = Suspects::new(alloc);
+    waiting.add_all(suspects)?;
+    let mut rooms = Rooms::new(alloc);
+    merge_pairs(base, draft, &mut waiting, &mut rooms)?;
+    Ok(())
+}

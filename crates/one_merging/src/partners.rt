@@ -1,0 +1,171 @@
+// With which block one can be merged.
+ghost use Rattle.std.specs.Prelude.{◌≡◌, ◌≢◌, ℕ, Some, IsTrue, IsFalse, IfSome, IfNone, IfOk};
+ghost use Rattle.px_spec.specs.Members.{at, has, Lists};
+ghost use Rattle.quotient_draft.specs.Drafts.{shown_blocks};
+ghost use Rattle.quotient_draft.specs.Basis.{IsOver};
+ghost use Rattle.block_joining.specs.Mates.{shown_joined};
+ghost use Rattle.one_merging.specs.Merging.{HasShownGraph, AreShownMates, AreNoShownMates};
+
+use crate::members::has_members;
+use block_joining::mergeable;
+use px_base::Memory;
+use quotient::Summary;
+use quotient_draft::Draft;
+use std::alloc::Global;
+
+/// Lists of blocks, in memory that is used again.
+#[derive(Drop)]
+pub(crate) struct Rooms {
+    pub(crate) parents: Vec<u32>,
+    pub(crate) children: Vec<u32>,
+    pub(crate) others: Vec<u32>,
+}
+
+impl Rooms {
+    pub(crate) fn new(alloc: Global) -> Rooms {
+        Rooms {
+            parents: Vec::new(alloc),
+            children: Vec::new(alloc),
+            others: Vec::new(alloc),
+        }
+    }
+}
+
+// Whether two blocks, of which the first has members and these parents, differ and can be merged.
+fn is_partner(
+    base: &Summary,
+    draft: &Draft,
+    a: u32,
+    b: u32,
+    parents: &[u32],
+    others: &mut Vec<u32>,
+) -> Result<bool, Memory>
+    requires over { IsOver base.now.blocks.block_of base.now.blocks.labels draft.now }
+    requires graph { HasShownGraph base.now draft.now }
+    requires members { (n : ℕ) × (at (shown_blocks base.now draft.now) n ≡ Some a) }
+    requires parents { Lists (λ x. shown_joined base.now draft.now x a) parents.now }
+    ensures yes { IfOk result (λ can. IsTrue can → AreShownMates base.now draft.now a b) }
+    ensures no { IfOk result (λ can. IsFalse can → AreNoShownMates base.now draft.now a b) }
+{
+    if a == b {
+        return Ok(false);
+    }
+    if !has_members(base, draft, b) {
+        return Ok(false);
+    }
+    mergeable(base, draft, a, b, parents, others)
+}
+
+// A block of the list other than this one.
+fn other_than(blocks: &[u32], a: u32) -> Option<u32>
+    ensures some { IfSome result (λ x. IsTrue (has blocks.now x)) }
+    ensures other { IfSome result (λ x. x ≢ a) }
+    ensures none { IfNone result ((x : ℕ) → IsTrue (has blocks.now x) → x ≡ a) }
+{
+    for i in 0..blocks.len() {
+        if blocks[i] != a {
+            return Some(blocks[i]);
+        }
+    }
+    None
+}
+
+// A partner of the first block among these.
+fn find_among(
+    base: &Summary,
+    draft: &Draft,
+    a: u32,
+    blocks: &[u32],
+    parents: &[u32],
+    others: &mut Vec<u32>,
+) -> Result<Option<u32>, Memory>
+    requires over { IsOver base.now.blocks.block_of base.now.blocks.labels draft.now }
+    requires graph { HasShownGraph base.now draft.now }
+    requires members { (n : ℕ) × (at (shown_blocks base.now draft.now) n ≡ Some a) }
+    requires parents { Lists (λ x. shown_joined base.now draft.now x a) parents.now }
+    ensures some { IfOk result (λ found. IfSome found (AreShownMates base.now draft.now a)) }
+    ensures none { IfOk result (λ found. IfNone found ((b : ℕ) → IsTrue (has blocks.now b) → AreNoShownMates base.now draft.now a b)) }
+{
+    for i in 0..blocks.len() {
+        if is_partner(base, draft, a, blocks[i], parents, others)? {
+            return Ok(Some(blocks[i]));
+        }
+    }
+    Ok(None)
+}
+
+// A partner of the block among all. This alone looks at blocks that aren't near the first one.
+fn find_anywhere(
+    base: &Summary,
+    draft: &Draft,
+    a: u32,
+    parents: &[u32],
+    others: &mut Vec<u32>,
+) -> Result<Option<u32>, Memory>
+    requires over { IsOver base.now.blocks.block_of base.now.blocks.labels draft.now }
+    requires graph { HasShownGraph base.now draft.now }
+    requires members { (n : ℕ) × (at (shown_blocks base.now draft.now) n ≡ Some a) }
+    requires parents { Lists (λ x. shown_joined base.now draft.now x a) parents.now }
+    ensures some { IfOk result (λ found. IfSome found (AreShownMates base.now draft.now a)) }
+    ensures none { IfOk result (λ found. IfNone found ((b : ℕ) → AreNoShownMates base.now draft.now a b)) }
+{
+    for b in 0..draft.span(base) {
+        if is_partner(base, draft, a, b, parents, others)? {
+            return Ok(Some(b));
+        }
+    }
+    Ok(None)
+}
+
+// A partner of the block, which has members and these parents: another parent, or a child of that; only where
+// there is no other parent any block.
+fn find_partner(
+    base: &Summary,
+    draft: &Draft,
+    a: u32,
+    parents: &[u32],
+    children: &mut Vec<u32>,
+    others: &mut Vec<u32>,
+) -> Result<Option<u32>, Memory>
+    requires over { IsOver base.now.blocks.block_of base.now.blocks.labels draft.now }
+    requires graph { HasShownGraph base.now draft.now }
+    requires members { (n : ℕ) × (at (shown_blocks base.now draft.now) n ≡ Some a) }
+    requires parents { Lists (λ x. shown_joined base.now draft.now x a) parents.now }
+    ensures some { IfOk result (λ found. IfSome found (AreShownMates base.now draft.now a)) }
+    ensures none { IfOk result (λ found. IfNone found ((b : ℕ) → AreNoShownMates base.now draft.now a b)) }
+{
+    let Some(x) = other_than(parents, a) else {
+        return find_anywhere(base, draft, a, parents, others);
+    };
+    if is_partner(base, draft, a, x, parents, others)? {
+        return Ok(Some(x));
+    }
+    draft.fill_children(base, x, children)?;
+    find_among(base, draft, a, children, parents, others)
+}
+
+/// A partner of the block, where it has members and there is one.
+pub(crate) fn partner_of(
+    base: &Summary,
+    draft: &Draft,
+    a: u32,
+    rooms: &mut Rooms,
+) -> Result<Option<u32>, Memory>
+    requires over { IsOver base.now.blocks.block_of base.now.blocks.labels draft.now }
+    requires graph { HasShownGraph base.now draft.now }
+    ensures some { IfOk result (λ found. IfSome found (AreShownMates base.now draft.now a)) }
+    ensures none { IfOk result (λ found. IfNone found ((b : ℕ) → AreNoShownMates base.now draft.now a b)) }
+{
+    if !has_members(base, draft, a) {
+        return Ok(None);
+    }
+    draft.fill_parents(base, a, &mut rooms.parents)?;
+    find_partner(
+        base,
+        draft,
+        a,
+        &rooms.parents,
+        &mut rooms.children,
+        &mut rooms.others,
+    )
+}

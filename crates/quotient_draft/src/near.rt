@@ -1,0 +1,103 @@
+// The blocks that have support to a block as shown, and those to which it has support.
+ghost use Rattle.std.specs.Prelude.{◌≡◌, ◌++◌, [], ℕ, OnOk, nat_eq, nat_lt, filter};
+ghost use Rattle.std.specs.List.Retain.{IsFiltered, DiffersFromLast};
+ghost use Rattle.std.specs.List.Sorted.{IsStrictlyIncreasing};
+ghost use Rattle.px_spec.specs.Members.{Lists, has};
+ghost use Rattle.bisim_spec.specs.Views.{support_at};
+ghost use Rattle.quotient_draft.specs.Drafts.{shown_support, with_supports};
+
+use crate::changed::Changed;
+use crate::draft::Draft;
+use label_graph::Digraph;
+use px_base::Memory;
+use quotient::Summary;
+
+impl Draft {
+    /// Lists the blocks that have support to `b` as shown, rising, in place of what the list held. It takes
+    /// the time to sort the parents of `b` in the base and the drafted pairs that end there.
+    pub fn fill_parents(&self, base: &Summary, b: u32, list: &mut Vec<u32>) -> Result<(), Memory>
+        ensures parents { OnOk result (Lists (λ a. nat_lt 0 (shown_support base.now self.now a b)) list.new.items) }
+        ensures rising { OnOk result (IsStrictlyIncreasing list.new.items) }
+    {
+        join_lists(list, base_parents(base, b), self.changed.parents(b))?;
+        sort_once(list);
+        keep_parents(list, base, &self.changed, b);
+        Ok(())
+    }
+
+    /// Lists the blocks to which `a` has support as shown, rising, in place of what the list held. It takes
+    /// the time to sort the children of `a` in the base and the drafted pairs that begin there.
+    pub fn fill_children(&self, base: &Summary, a: u32, list: &mut Vec<u32>) -> Result<(), Memory>
+        ensures children { OnOk result (Lists (λ b. nat_lt 0 (shown_support base.now self.now a b)) list.new.items) }
+        ensures rising { OnOk result (IsStrictlyIncreasing list.new.items) }
+    {
+        join_lists(list, base_children(base, a), self.changed.children(a))?;
+        sort_once(list);
+        keep_children(list, base, &self.changed, a);
+        Ok(())
+    }
+}
+
+// The blocks of the base that have support to this one.
+fn base_parents(base: &Summary, b: u32) -> &[u32]
+    ensures { Lists (λ a. nat_lt 0 (support_at base.now.supports a b)) result.now }
+{
+    // This says that only blocks have support.
+    let _ = base.blocks();
+    if base.is_node(b) {
+        return base.parents(b);
+    }
+    &[]
+}
+
+// The blocks of the base to which this one has support.
+fn base_children(base: &Summary, a: u32) -> &[u32]
+    ensures { Lists (λ b. nat_lt 0 (support_at base.now.supports a b)) result.now }
+{
+    // This says that only blocks have support.
+    let _ = base.blocks();
+    if base.is_node(a) {
+        return base.children(a);
+    }
+    &[]
+}
+
+// One list and then the other, in place of what there was.
+fn join_lists(list: &mut Vec<u32>, first: &[u32], second: &[u32]) -> Result<(), Memory>
+    ensures { OnOk result (list.new.items ≡ first.now ++ second.now) }
+{
+    list.clear();
+    list.extend_from_slice(first)?;
+    list.extend_from_slice(second)?;
+    Ok(())
+}
+
+// Of numbers that follow one another and are equal only the first stays.
+fn drop_repeats(numbers: &mut Vec<u32>)
+    ensures { IsFiltered (DiffersFromLast nat_eq) [] numbers.old.items numbers.new.items }
+{
+    numbers.dedup();
+}
+
+// Sorts the numbers, and keeps each once.
+fn sort_once(numbers: &mut Vec<u32>)
+    ensures rising { IsStrictlyIncreasing numbers.new.items }
+    ensures same { (b : ℕ) → has numbers.new.items b ≡ has numbers.old.items b }
+{
+    numbers.sort_unstable();
+    drop_repeats(numbers);
+}
+
+// Keeps the blocks that have support to this one as shown.
+fn keep_parents(list: &mut Vec<u32>, base: &Summary, changed: &Changed, b: u32)
+    ensures { list.new.items ≡ filter (λ a. nat_lt 0 (support_at (with_supports base.now.supports changed.now) a b)) list.old.items }
+{
+    list.retain(|a| changed.get(base, *a, b) > 0);
+}
+
+// Keeps the blocks to which this one has support as shown.
+fn keep_children(list: &mut Vec<u32>, base: &Summary, changed: &Changed, a: u32)
+    ensures { list.new.items ≡ filter (λ b. nat_lt 0 (support_at (with_supports base.now.supports changed.now) a b)) list.old.items }
+{
+    list.retain(|b| changed.get(base, a, *b) > 0);
+}

@@ -1,0 +1,67 @@
+// Drafting for many nodes or pairs at once.
+ghost use Rattle.std.specs.Prelude.{◌≡◌, ◌<◌, ◌≤◌, ◌^◌, ℕ, Some, IsSome, IsTrue, OnOk, OnErr, length, nat_eq, if◌then◌else◌};
+ghost use Rattle.px_spec.specs.Members.{at, has};
+ghost use Rattle.quotient_draft.specs.Drafts.{shown_labels, shown_blocks, shown_support, is_pair};
+ghost use Rattle.quotient_draft.specs.Basis.{IsOver};
+
+use crate::draft::Draft;
+use px_base::{Memory, NodeId};
+use quotient::Summary;
+
+impl Draft {
+    /// Drafts the support of a pair, both blocks as shown.
+    pub fn set_support(&mut self, base: &Summary, a: u32, b: u32, n: u32) -> Result<(), Memory>
+        requires over { IsOver base.now.blocks.block_of base.now.blocks.labels self.old }
+        requires from { IsSome (at (shown_labels base.now self.old) a) }
+        requires onto { IsSome (at (shown_labels base.now self.old) b) }
+        ensures set { OnOk result ((x y : ℕ) → shown_support base.now self.new x y ≡ (if is_pair (x, y) (a, b) then n else shown_support base.now self.old x y)) }
+        ensures added { self.new.added ≡ self.old.added }
+        ensures moves { self.new.moves ≡ self.old.moves }
+        ensures left { self.new.left ≡ self.old.left }
+        ensures over { OnOk result (IsOver base.now.blocks.block_of base.now.blocks.labels self.new) }
+        ensures err { OnErr result (self.new ≡ self.old) }
+    {
+        self.changed.set(a, b, n)?;
+        Ok(())
+    }
+
+    /// Drafts the move of nodes, each of which has a block as shown, to a block as shown.
+    pub fn put_all(&mut self, base: &Summary, nodes: &[NodeId], b: u32) -> Result<(), Memory>
+        requires over { IsOver base.now.blocks.block_of base.now.blocks.labels self.old }
+        requires nodes { (n : ℕ) → IsTrue (has nodes.now n) → IsSome (at (shown_blocks base.now self.old) n) }
+        requires block { IsSome (at (shown_labels base.now self.old) b) }
+        ensures blocks { OnOk result ((m : ℕ) → at (shown_blocks base.now self.new) m ≡ (if has nodes.now m then Some b else at (shown_blocks base.now self.old) m)) }
+        ensures added { OnOk result (self.new.added ≡ self.old.added) }
+        ensures supports { OnOk result (self.new.supports ≡ self.old.supports) }
+        ensures over { OnOk result (IsOver base.now.blocks.block_of base.now.blocks.labels self.new) }
+    {
+        for i in 0..nodes.len() {
+            self.put_again(base, nodes[i], b)?;
+        }
+        Ok(())
+    }
+
+    // Drafts the move of a node that has a block as shown.
+    fn put_again(&mut self, base: &Summary, n: NodeId, b: u32) -> Result<(), Memory>
+        requires over { IsOver base.now.blocks.block_of base.now.blocks.labels self.old }
+        requires node { IsSome (at (shown_blocks base.now self.old) n) }
+        requires block { IsSome (at (shown_labels base.now self.old) b) }
+        ensures blocks { OnOk result ((m : ℕ) → at (shown_blocks base.now self.new) m ≡ (if nat_eq m n then Some b else at (shown_blocks base.now self.old) m)) }
+        ensures added { OnOk result (self.new.added ≡ self.old.added) }
+        ensures supports { OnOk result (self.new.supports ≡ self.old.supports) }
+        ensures over { OnOk result (IsOver base.now.blocks.block_of base.now.blocks.labels self.new) }
+    {
+        let _ = base.numbers();
+        self.moves.know_lookups();
+        self.put(base, n, Some(b))?;
+        Ok(())
+    }
+
+    /// A number past each block as shown.
+    pub fn span(&self, base: &Summary) -> u32
+        requires over { IsOver base.now.blocks.block_of base.now.blocks.labels self.now }
+        ensures { (b : ℕ) → IsSome (at (shown_labels base.now self.now) b) → b < result }
+    {
+        self.added.past(base)
+    }
+}
