@@ -10,8 +10,8 @@ use Rattle.graph_update.proofs.NeighbourLists.{and_one}
 use Rattle.one_splitting.specs.Going.{BeginsAt, goal_at, AreGoing, StaysIf, GoesIf, AreLabelled, AreBlocks, AreAdded}
 use Rattle.one_splitting.proofs.Chosen.{AreNoted, has_push, goal_cases, goal_last, goal_stays, going_none, going_stays, going_goes, noted_stays, noted_goes}
 
-pub record IsChosen (p : List (Option ℕ)) (looked : List ℕ) (keys : List (List ℕ)) (labels : ℕ → Option ℕ) (goals : List (Option ℕ)) (stays first made : List ℕ) : Type 0 where
-  pub going : AreGoing p looked keys goals
+pub record IsChosen (p : List (Option ℕ)) (counts : List (ℕ × ℕ)) (keys : List (List ℕ)) (labels : ℕ → Option ℕ) (goals : List (Option ℕ)) (stays first made : List ℕ) : Type 0 where
+  pub going : AreGoing p counts keys goals
   pub noted : AreNoted keys goals stays
   pub blocks : AreLabelled goals labels
   pub distinct : AreBlocks labels made
@@ -24,10 +24,10 @@ append_nil (x ∷ xs) = ap (λ (ys : List ℕ). x ∷ ys) (append_nil xs)
 none_at : (goals : List (Option ℕ)) (k b : ℕ) → goals ≡ [] → goal_at goals k ≡ Some b → ⊥
 none_at goals k b e h = (let f : goal_at goals k ≡ None = ap (λ gs. goal_at gs k) e in let clash : Some b ≡ None = sym h ∙ f in cc)
 
-pub chosen_none : (p : List (Option ℕ)) (looked : List ℕ) (keys : List (List ℕ)) (labels : ℕ → Option ℕ) (goals : List (Option ℕ)) (stays made : List ℕ) → goals ≡ [] → stays ≡ []
-    → AreBlocks labels made → IsChosen p looked keys labels goals stays made made
-chosen_none p looked keys labels goals stays made e f blocks = record {
-  going = going_none p looked keys goals e;
+pub chosen_none : (p : List (Option ℕ)) (counts : List (ℕ × ℕ)) (keys : List (List ℕ)) (labels : ℕ → Option ℕ) (goals : List (Option ℕ)) (stays made : List ℕ) → goals ≡ [] → stays ≡ []
+    → AreBlocks labels made → IsChosen p counts keys labels goals stays made made
+chosen_none p counts keys labels goals stays made e f blocks = record {
+  going = going_none p counts keys goals e;
   noted = record {
     into = λ j own l. absurd (let z = ap length e in omega (arith, l, z));
     from = λ own h. absurd (true≢false (sym h ∙ ap (λ xs. has xs own) f));
@@ -43,11 +43,11 @@ chosen_none p looked keys labels goals stays made e f blocks = record {
   };
 }
 
-choose_stays : (p : List (Option ℕ)) (looked : List ℕ) (keys : List (List ℕ)) (labels labels2 : ℕ → Option ℕ) (goals : List (Option ℕ)) (own : ℕ) (stays stays2 first made made2 : List ℕ)
-    → StaysIf p looked own stays stays2 None → ((c : ℕ) → IsSome (labels c) → IsSome (labels2 c)) → made2 ≡ made
-    → BeginsAt keys (length goals) own → IsChosen p looked keys labels goals stays first made → IsChosen p looked keys labels2 (goals ++ None ∷ []) stays2 first made2
-choose_stays p looked keys labels labels2 goals own stays stays2 first made made2 s keep same ends c = record {
-  going = going_stays p looked keys goals own stays stays2 c.going c.noted ends s;
+choose_stays : (p : List (Option ℕ)) (counts : List (ℕ × ℕ)) (keys : List (List ℕ)) (labels labels2 : ℕ → Option ℕ) (goals : List (Option ℕ)) (own : ℕ) (stays stays2 first made made2 : List ℕ)
+    → StaysIf p counts own stays stays2 None → ((c : ℕ) → IsSome (labels c) → IsSome (labels2 c)) → made2 ≡ made
+    → BeginsAt keys (length goals) own → IsChosen p counts keys labels goals stays first made → IsChosen p counts keys labels2 (goals ++ None ∷ []) stays2 first made2
+choose_stays p counts keys labels labels2 goals own stays stays2 first made made2 s keep same ends c = record {
+  going = going_stays p counts keys goals own stays stays2 c.going c.noted ends s;
   noted = noted_stays keys goals own stays stays2 c.noted ends s.1;
   blocks = record { some = λ k b h. keep b (c.blocks.some k b (before k b h)) };
   distinct = record {
@@ -78,11 +78,11 @@ choose_stays p looked keys labels labels2 goals own stays stays2 first made made
     still : (k b : ℕ) → goal_at goals k ≡ Some b → goal_at (goals ++ None ∷ []) k ≡ Some b
     still k b h = goal_stays goals None k b h
 
-choose_goes : (p : List (Option ℕ)) (looked : List ℕ) (keys : List (List ℕ)) (labels labels2 : ℕ → Option ℕ) (goals : List (Option ℕ)) (own b : ℕ) (stays stays2 first made made2 : List ℕ)
-    → GoesIf p labels labels2 looked own stays stays2 (Some b) → ((c : ℕ) → IsSome (labels c) → IsSome (labels2 c)) → made2 ≡ made ++ b ∷ []
-    → BeginsAt keys (length goals) own → IsChosen p looked keys labels goals stays first made → IsChosen p looked keys labels2 (goals ++ Some b ∷ []) stays2 first made2
-choose_goes p looked keys labels labels2 goals own b stays stays2 first made made2 g keep added ends c = record {
-  going = going_goes p looked keys goals labels labels2 own b stays stays2 c.going c.noted c.blocks ends g;
+choose_goes : (p : List (Option ℕ)) (counts : List (ℕ × ℕ)) (keys : List (List ℕ)) (labels labels2 : ℕ → Option ℕ) (goals : List (Option ℕ)) (own b : ℕ) (stays stays2 first made made2 : List ℕ)
+    → GoesIf p labels labels2 counts own stays stays2 (Some b) → ((c : ℕ) → IsSome (labels c) → IsSome (labels2 c)) → made2 ≡ made ++ b ∷ []
+    → BeginsAt keys (length goals) own → IsChosen p counts keys labels goals stays first made → IsChosen p counts keys labels2 (goals ++ Some b ∷ []) stays2 first made2
+choose_goes p counts keys labels labels2 goals own b stays stays2 first made made2 g keep added ends c = record {
+  going = going_goes p counts keys goals labels labels2 own b stays stays2 c.going c.noted c.blocks ends g;
   noted = noted_goes keys goals b stays stays2 c.noted g.0;
   blocks = record {
     some = λ k d h. elim (goal_cases goals (Some b) k d h) [
@@ -129,14 +129,14 @@ choose_goes p looked keys labels labels2 goals own b stays stays2 first made mad
     absent : has made b ≡ false
     absent = false_from_ne_true (has made b) (λ t. true≢false (sym (c.distinct.some b t) ∙ ap is_some g.2))
 
-pub choose_step : (p : List (Option ℕ)) (looked : List ℕ) (keys : List (List ℕ)) (labels labels2 : ℕ → Option ℕ) (goals : List (Option ℕ)) (own : ℕ)
-    (stays stays2 first made made2 : List ℕ) (o : Option ℕ) → StaysIf p looked own stays stays2 o → GoesIf p labels labels2 looked own stays stays2 o
+pub choose_step : (p : List (Option ℕ)) (counts : List (ℕ × ℕ)) (keys : List (List ℕ)) (labels labels2 : ℕ → Option ℕ) (goals : List (Option ℕ)) (own : ℕ)
+    (stays stays2 first made made2 : List ℕ) (o : Option ℕ) → StaysIf p counts own stays stays2 o → GoesIf p labels labels2 counts own stays stays2 o
     → ((c : ℕ) → IsSome (labels c) → IsSome (labels2 c)) → made2 ≡ made ++ option_to_list o → BeginsAt keys (length goals) own
-    → IsChosen p looked keys labels goals stays first made → IsChosen p looked keys labels2 (goals ++ o ∷ []) stays2 first made2
-choose_step p looked keys labels labels2 goals own stays stays2 first made made2 None s g keep added ends c =
-    choose_stays p looked keys labels labels2 goals own stays stays2 first made made2 s keep (added ∙ append_nil made) ends c
-choose_step p looked keys labels labels2 goals own stays stays2 first made made2 (Some b) s g keep added ends c =
-    choose_goes p looked keys labels labels2 goals own b stays stays2 first made made2 g keep added ends c
+    → IsChosen p counts keys labels goals stays first made → IsChosen p counts keys labels2 (goals ++ o ∷ []) stays2 first made2
+choose_step p counts keys labels labels2 goals own stays stays2 first made made2 None s g keep added ends c =
+    choose_stays p counts keys labels labels2 goals own stays stays2 first made made2 s keep (added ∙ append_nil made) ends c
+choose_step p counts keys labels labels2 goals own stays stays2 first made made2 (Some b) s g keep added ends c =
+    choose_goes p counts keys labels labels2 goals own b stays stays2 first made made2 g keep added ends c
 
 -- a key that begins with its block has a number, and its first number is the block
 pub begins_long : (keys : List (List ℕ)) (k own : ℕ) (key : List ℕ) → BeginsAt keys k own → slice_get keys k ≡ Some key → 0 < length key

@@ -6,7 +6,7 @@ use Rattle.std.proofs.lemmas.Bool.{cases_lt, both_ways, or_cases, or_left, or_ri
 use Rattle.std.proofs.lemmas.Bool.Decides.{eqb_tells, Decides-eqb}
 use Rattle.std.proofs.lemmas.List.{get_or_push, get_or_append_left, get_or_past, length-append}
 use Rattle.px_spec.specs.Members.{at, has}
-use Rattle.one_splitting.specs.Going.{BeginsAt, goal_at, AreGoing, StaysIf, GoesIf, AreLabelled}
+use Rattle.one_splitting.specs.Going.{BeginsAt, goal_at, IsWhole, AreGoing, StaysIf, GoesIf, AreLabelled}
 
 -- the blocks in which groups stay, so far
 pub record AreNoted (keys : List (List ℕ)) (goals : List (Option ℕ)) (stays : List ℕ) : Type 0 where
@@ -63,12 +63,12 @@ below_cases goals o k h = elim (cases_lt k (length goals)) [
   | inr past ↦ inr (let l : length (goals ++ o ∷ []) ≡ length goals + 1 = length-append goals (o ∷ []) in omega (arith, h, past, l))
 ]
 
-pub going_none : (p : List (Option ℕ)) (looked : List ℕ) (keys : List (List ℕ)) (goals : List (Option ℕ)) → goals ≡ [] → AreGoing p looked keys goals
-going_none p looked keys goals e =
+pub going_none : (p : List (Option ℕ)) (counts : List (ℕ × ℕ)) (keys : List (List ℕ)) (goals : List (Option ℕ)) → goals ≡ [] → AreGoing p counts keys goals
+going_none p counts keys goals e =
     let none : (k b : ℕ) → goal_at goals k ≡ Some b → ⊥ = λ k b h. (let f : goal_at goals k ≡ None = ap (λ gs. goal_at gs k) e in let clash : Some b ≡ None = sym h ∙ f in cc) in
     let zero_len : length goals ≡ 0 = ap length e in
     record {
-      whole = λ k own n l. absurd (omega (arith, l, zero_len));
+      whole = λ k own l. absurd (omega (arith, l, zero_len));
       one = λ j k own l. absurd (omega (arith, l, zero_len));
       left = λ k own b h. absurd (none k b h);
       fresh = λ k n b h. absurd (none k b h);
@@ -76,13 +76,13 @@ going_none p looked keys goals e =
     }
 
 -- a group that stays
-pub going_stays : (p : List (Option ℕ)) (looked : List ℕ) (keys : List (List ℕ)) (goals : List (Option ℕ)) (own : ℕ) (stays stays2 : List ℕ)
-    → AreGoing p looked keys goals → AreNoted keys goals stays → BeginsAt keys (length goals) own → StaysIf p looked own stays stays2 None
-    → AreGoing p looked keys (goals ++ None ∷ [])
-going_stays p looked keys goals own stays stays2 g noted ends (free, added, only) = record {
-  whole = λ k o n l none e h. elim (below_cases goals None k l) [
-    | inl before ↦ g.whole k o n before (sym (goal_before goals None k before) ∙ none) e h
-    | inr here ↦ only n (h ∙ ap (λ x. Some x) (one_own keys (length goals) o own (subst (λ j. BeginsAt keys j o) here e) ends))
+pub going_stays : (p : List (Option ℕ)) (counts : List (ℕ × ℕ)) (keys : List (List ℕ)) (goals : List (Option ℕ)) (own : ℕ) (stays stays2 : List ℕ)
+    → AreGoing p counts keys goals → AreNoted keys goals stays → BeginsAt keys (length goals) own → StaysIf p counts own stays stays2 None
+    → AreGoing p counts keys (goals ++ None ∷ [])
+going_stays p counts keys goals own stays stays2 g noted ends (free, added, only) = record {
+  whole = λ k o l none e. elim (below_cases goals None k l) [
+    | inl before ↦ g.whole k o before (sym (goal_before goals None k before) ∙ none) e
+    | inr here ↦ subst (IsWhole p counts) (sym (one_own keys (length goals) o own (subst (λ j. BeginsAt keys j o) here e) ends)) only
   ];
   one = λ j k o lj lk nj nk ej ek. elim (below_cases goals None j lj) [
     | inl bj ↦ elim (below_cases goals None k lk) [
@@ -144,12 +144,12 @@ noted_stays keys goals own stays stays2 noted ends added = record {
     is o = ap (λ xs. has xs o) added ∙ has_push stays own o
 
 -- a group that goes
-pub going_goes : (p : List (Option ℕ)) (looked : List ℕ) (keys : List (List ℕ)) (goals : List (Option ℕ)) (labels labels2 : ℕ → Option ℕ) (own b : ℕ) (stays stays2 : List ℕ)
-    → AreGoing p looked keys goals → AreNoted keys goals stays → AreLabelled goals labels → BeginsAt keys (length goals) own
-    → GoesIf p labels labels2 looked own stays stays2 (Some b) → AreGoing p looked keys (goals ++ Some b ∷ [])
-going_goes p looked keys goals labels labels2 own b stays stays2 g noted blocks ends (same_stays, empty, free, some, leaves) = record {
-  whole = λ k o n l none e h. elim (below_cases goals (Some b) k l) [
-    | inl before ↦ g.whole k o n before (sym (goal_before goals (Some b) k before) ∙ none) e h
+pub going_goes : (p : List (Option ℕ)) (counts : List (ℕ × ℕ)) (keys : List (List ℕ)) (goals : List (Option ℕ)) (labels labels2 : ℕ → Option ℕ) (own b : ℕ) (stays stays2 : List ℕ)
+    → AreGoing p counts keys goals → AreNoted keys goals stays → AreLabelled goals labels → BeginsAt keys (length goals) own
+    → GoesIf p labels labels2 counts own stays stays2 (Some b) → AreGoing p counts keys (goals ++ Some b ∷ [])
+going_goes p counts keys goals labels labels2 own b stays stays2 g noted blocks ends (same_stays, empty, free, some, leaves) = record {
+  whole = λ k o l none e. elim (below_cases goals (Some b) k l) [
+    | inl before ↦ g.whole k o before (sym (goal_before goals (Some b) k before) ∙ none) e
     | inr here ↦ absurd (last_none k (sym here) none)
   ];
   one = λ j k o lj lk nj nk ej ek. elim (below_cases goals (Some b) j lj) [
@@ -171,7 +171,7 @@ going_goes p looked keys goals labels labels2 own b stays stays2 g noted blocks 
               let j = noted.from own there in
               let l = j.1 in
               inr (j.0, omega (arith, l, long), goal_before goals (Some b) j.0 l ∙ j.2, subst (BeginsAt keys j.0) (sym same) j.3))
-          | inr (n, found, off) ↦ inl (n, found ∙ ap (λ x. Some x) (sym same), off)
+          | inr part ↦ inl (λ whole. part (subst (IsWhole p counts) same whole))
         ])
   ];
   fresh = λ k n c h e. elim (goal_cases goals (Some b) k c h) [

@@ -12,6 +12,8 @@ use Rattle.bisim_levels.specs.Keys.{IsKey}
 use Rattle.bisim_levels.specs.Refining.{StayTogether}
 use Rattle.bisim_levels.proofs.Written.{together_from_key}
 use Rattle.upkeep_spec.specs.Rounds.{AreAlike, AreGoals}
+use Rattle.one_splitting.specs.Counted.{AreCounted}
+use Rattle.one_splitting.proofs.Wholes.{whole_counted, part_counted}
 use Rattle.one_splitting.specs.Numbered.{HasNumber, AreNumbered}
 use Rattle.one_splitting.specs.Going.{BeginsAt, goal_at, AreGoing, HaveGone}
 use Rattle.one_splitting.proofs.Places.{place_of, place_found, has_place, place_is}
@@ -67,10 +69,10 @@ module _ (s : Shape) (p : List (Option ℕ)) (keys : List (List ℕ)) (nodes num
       let same : f.0 ≡ own = (let g = e.found in cc) in
       (n, here, group, f.1 ∙ ap (λ x. Some x) same)
 
-  pub groups_go : (p2 : List (Option ℕ)) (goals : List (Option ℕ)) → IsShape s → IsPartition s p → ((u v : ℕ) → Together p u v → s.label u ≡ s.label v)
-      → length goals ≡ length keys → AreGoing p nodes keys goals → HaveGone p p2 nodes numbers goals (length nodes)
+  pub groups_go : (p2 : List (Option ℕ)) (goals : List (Option ℕ)) (counts : List (ℕ × ℕ)) → IsShape s → IsPartition s p → ((u v : ℕ) → Together p u v → s.label u ≡ s.label v)
+      → length goals ≡ length keys → AreCounted p nodes counts → AreGoing p counts keys goals → HaveGone p p2 nodes numbers goals (length nodes)
       → AreGoals s p p2 (has nodes) (group_of nodes numbers) (goal_of nodes numbers goals)
-  groups_go p2 goals shape partition labels many going gone = record {
+  groups_go p2 goals counts shape partition labels many counted going gone = record {
     only = λ n b h. (goal_looked nodes numbers goals n b h).0;
     moved = λ n b h.
         let g = goal_looked nodes numbers goals n b h in
@@ -89,7 +91,7 @@ module _ (s : Shape) (p : List (Option ℕ)) (keys : List (List ℕ)) (nodes num
     whole = λ n m hn none t.
         let e = ends_at n hn in
         let found : at p m ≡ Some e.0 = (let a = t.1 in let b = t.2 in let c = e.1 in cc) in
-        going.whole (group_of nodes numbers n) e.0 m (goal_below n hn) (sym (goal_there nodes numbers goals n hn) ∙ none) e.2 found;
+        whole_counted p nodes counts e.0 counted (going.whole (group_of nodes numbers n) e.0 (goal_below n hn) (sym (goal_there nodes numbers goals n hn) ∙ none) e.2) m found;
     one = λ n m hn hm nn nm t.
         let e = ends_at n hn in
         let f = ends_at m hm in
@@ -100,7 +102,7 @@ module _ (s : Shape) (p : List (Option ℕ)) (keys : List (List ℕ)) (nodes num
         let g = goal_looked nodes numbers goals n b h in
         let e = ends_at n g.0 in
         elim (going.left (group_of nodes numbers n) e.0 b g.1 e.2) [
-          | inl (m, found, off) ↦ (m, (e.0, e.1, found), goal_off nodes numbers goals m off)
+          | inl part ↦ (let m = part_counted p nodes counts e.0 counted part in (m.0, (e.0, e.1, m.1), goal_off nodes numbers goals m.0 m.2))
           | inr (j, l, none, ends) ↦ (
               let m = node_of j e.0 (omega (arith, l, many)) ends in
               (m.0, (e.0, e.1, m.3), goal_there nodes numbers goals m.0 m.1 ∙ ap (goal_at goals) m.2 ∙ none))

@@ -13,3 +13,5 @@ pub mod Steps
 pub mod Apart
 pub mod Parted
 pub mod Light
+pub mod Wholes
+pub mod Present

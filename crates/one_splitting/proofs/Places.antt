@@ -17,7 +17,7 @@ place_found [] n h = absurd (true≢false (sym h))
 place_found (x ∷ xs) n h = elim (eqb_tells n x) [
   | inl s ↦ rw s.0 (omega arith, sym s.1)
   | inr d ↦ (
-      let there : has xs n ≡ true = rw d.0 found h in
+      let there : has xs n ≡ true = rw d.0 at h in
       let r = place_found xs n there in
       rw d.0 ((let l = r.0 in omega arith), r.1))
 ]

@@ -1,5 +1,6 @@
 -- Nodes with the numbers of their keys.
 use Rattle.std.specs.Prelude.{◌≡◌, ℕ, ◌<◌, Bool, List, Option, Some, length, slice_get, slice_index}
+use Rattle.px_spec.specs.Members.{at}
 use Rattle.bisim_levels.specs.Keys.{IsKey}
 
 -- the number is that of the node's key, over the partition

@@ -3,8 +3,7 @@ ghost use Rattle.std.specs.Prelude.{◌≡◌, ◌≢◌, ◌⊎◌, ◌++◌, �
 ghost use Rattle.px_spec.specs.Members.{has, at, is_this};
 ghost use Rattle.quotient_draft.specs.Drafts.{shown_blocks, shown_labels, shown_support};
 ghost use Rattle.quotient_draft.specs.Basis.{IsOver};
-ghost use Rattle.one_splitting.specs.Counted.{count_at, AreCounted};
-ghost use Rattle.one_splitting.specs.Going.{AreGoing, BeginsAt, StaysIf, GoesIf, AreBlocks, AreLabelled, AreAdded, AreLive, HaveLabels, KeepLabels};
+ghost use Rattle.one_splitting.specs.Going.{AreGoing, BeginsAt, IsWhole, StaysIf, GoesIf, AreBlocks, AreLabelled, AreAdded, AreLive, HaveLabels, KeepLabels};
 
 use crate::owners::is_whole;
 use crate::stub::blocks;
@@ -29,7 +28,8 @@ pub(crate) fn draft_block(base: &Summary, draft: &mut Draft, label: u32) -> Resu
     if blocks(draft, base) >= 1 << 31 {
         return Err(Memory);
     }
-    draft.new_block(base, label)
+    let b = draft.new_block(base, label)?;
+    Ok(b)
 }
 
 // The first number of a key, which is the block of its nodes.
@@ -40,7 +40,7 @@ fn own_number(key: &[u32]) -> u32
     key[0]
 }
 
-// Whether a group may stay: all members of its block are looked at, and no group of that block stays yet.
+// Whether a group may stay: all members of its block are counted, and no group of that block stays yet.
 fn may_stay(
     base: &Summary,
     draft: &Draft,
@@ -50,8 +50,8 @@ fn may_stay(
 ) -> bool
     requires over { IsOver base.now.blocks.block_of base.now.blocks.labels draft.now }
     requires block { IsSome (at (shown_labels base.now draft.now) own) }
-    ensures yes { IsTrue result → (has stays.now.keys own ≡ false) × (count_at counts.now.entries own ≡ count_by (is_this own) (shown_blocks base.now draft.now)) }
-    ensures no { IsFalse result → IsTrue (has stays.now.keys own) ⊎ (count_at counts.now.entries own ≢ count_by (is_this own) (shown_blocks base.now draft.now)) }
+    ensures yes { IsTrue result → (has stays.now.keys own ≡ false) × IsWhole (shown_blocks base.now draft.now) counts.now.entries own }
+    ensures no { IsFalse result → IsTrue (has stays.now.keys own) ⊎ (IsWhole (shown_blocks base.now draft.now) counts.now.entries own → ⊥) }
 {
     if stays.contains(&own) {
         return false;
@@ -76,8 +76,8 @@ fn find_goal(
     ensures supports { OnOk result ((x y : ℕ) → shown_support base.now draft.new x y ≡ shown_support base.now draft.old x y) }
     ensures kept { OnOk result (KeepLabels (at (shown_labels base.now draft.old)) (at (shown_labels base.now draft.new))) }
     ensures label { IfOk result (λ goal. (b : ℕ) → goal ≡ Some b → at (shown_labels base.now draft.new) b ≡ at (shown_labels base.now draft.old) own) }
-    ensures stays { IfOk result (λ goal. (looked : List ℕ) → AreCounted (shown_blocks base.now draft.old) looked counts.now.entries → StaysIf (shown_blocks base.now draft.old) looked own stays.old.keys stays.new.keys goal) }
-    ensures goes { IfOk result (λ goal. (looked : List ℕ) → AreCounted (shown_blocks base.now draft.old) looked counts.now.entries → GoesIf (shown_blocks base.now draft.old) (at (shown_labels base.now draft.old)) (at (shown_labels base.now draft.new)) looked own stays.old.keys stays.new.keys goal) }
+    ensures stays { IfOk result (λ goal. StaysIf (shown_blocks base.now draft.old) counts.now.entries own stays.old.keys stays.new.keys goal) }
+    ensures goes { IfOk result (λ goal. GoesIf (shown_blocks base.now draft.old) (at (shown_labels base.now draft.old)) (at (shown_labels base.now draft.new)) counts.now.entries own stays.old.keys stays.new.keys goal) }
     ensures made { IfOk result (λ goal. made.new.items ≡ made.old.items ++ option_to_list goal) }
 {
     if may_stay(base, draft, counts, own, stays) {
@@ -89,7 +89,7 @@ fn find_goal(
     Ok(Some(b))
 }
 
-/// Where each group goes. The nodes that are looked at are counted by their blocks.
+/// Where each group goes, by how many nodes are counted for each block.
 pub(crate) fn find_goals(
     alloc: Global,
     base: &Summary,
@@ -106,7 +106,7 @@ pub(crate) fn find_goals(
     ensures stay { OnOk result (shown_blocks base.now draft.new ≡ shown_blocks base.now draft.old) }
     ensures supports { OnOk result ((x y : ℕ) → shown_support base.now draft.new x y ≡ shown_support base.now draft.old x y) }
     ensures count { IfOk result (λ goals. length goals.items ≡ length keys.now) }
-    ensures going { IfOk result (λ goals. (looked : List ℕ) → AreCounted (shown_blocks base.now draft.old) looked counts.now.entries → AreGoing (shown_blocks base.now draft.old) looked keys.now goals.items) }
+    ensures going { IfOk result (λ goals. AreGoing (shown_blocks base.now draft.old) counts.now.entries keys.now goals.items) }
     ensures blocks { IfOk result (λ goals. AreLabelled goals.items (at (shown_labels base.now draft.new))) }
     ensures labels { IfOk result (λ goals. HaveLabels keys.now goals.items (at (shown_labels base.now draft.old)) (at (shown_labels base.now draft.new))) }
     ensures kept { OnOk result (KeepLabels (at (shown_labels base.now draft.old)) (at (shown_labels base.now draft.new))) }

@@ -4,6 +4,7 @@ ghost use Rattle.px_spec.specs.Members.{has, at, is_this};
 ghost use Rattle.quotient_draft.specs.Drafts.{shown_blocks, shown_labels};
 ghost use Rattle.quotient_draft.specs.Basis.{IsOver};
 ghost use Rattle.one_splitting.specs.Counted.{count_at, is_in};
+ghost use Rattle.one_splitting.specs.Going.{IsWhole};
 
 use crate::keys::own_block;
 use crate::stub::member_count;
@@ -61,8 +62,8 @@ pub(crate) fn is_whole(
 ) -> bool
     requires over { IsOver base.now.blocks.block_of base.now.blocks.labels draft.now }
     requires block { IsSome (at (shown_labels base.now draft.now) own) }
-    ensures yes { IsTrue result → count_at counts.now.entries own ≡ count_by (is_this own) (shown_blocks base.now draft.now) }
-    ensures no { IsFalse result → count_at counts.now.entries own ≢ count_by (is_this own) (shown_blocks base.now draft.now) }
+    ensures yes { IsTrue result → IsWhole (shown_blocks base.now draft.now) counts.now.entries own }
+    ensures no { IsFalse result → IsWhole (shown_blocks base.now draft.now) counts.now.entries own → ⊥ }
 {
     count_of(counts, own) == member_count(draft, base, own) as usize
 }
