@@ -1,5 +1,5 @@
 // The index graph of a partition.
-ghost use Rattle.std.specs.Prelude.{◌≡◌, ◌<◌, ◌≤◌, ◌^◌, ℕ, List, is_some, IsSome, IfOk, IfSome, length};
+ghost use Rattle.std.specs.Prelude.{◌≡◌, ◌<◌, ◌≤◌, ◌^◌, ℕ, List, Some, true, is_some, IsSome, IfOk, IfSome, length};
 ghost use Rattle.px_spec.specs.Members.{Lists, at};
 ghost use Rattle.px_spec.specs.Shapes.{shape_by};
 ghost use Rattle.block_partition.specs.Partitions.{is_member, member_count, block_count};
@@ -70,6 +70,14 @@ impl Summary {
         ensures live { IfSome result (λ b. IsSome (at self.now.blocks.labels b)) }
     {
         self.blocks.block_of(n)
+    }
+
+    /// Whether the number is that of a block. A number that is none has no members.
+    pub fn is_block(&self, b: u32) -> bool
+        ensures block { result ≡ is_some (at self.now.blocks.labels b) }
+        ensures live { (n : ℕ) → at self.now.blocks.block_of n ≡ Some b → result ≡ true }
+    {
+        b < self.blocks.span() && self.blocks.is_block(b)
     }
 
     /// The members of a block, each once, in no stated order.

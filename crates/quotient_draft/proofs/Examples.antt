@@ -19,6 +19,7 @@ draft = record {
   added = (1, 8) ∷ [];
   moves = (2, Some 1) ∷ ((1, None) ∷ ((4, Some 2) ∷ []));
   left = 2 ∷ (2 ∷ []);
+  taken = (2, 2) ∷ [];
   supports = ((0, 2), 2) ∷ (((0, 1), 1) ∷ []);
 }
 

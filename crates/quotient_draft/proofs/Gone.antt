@@ -15,7 +15,7 @@ use Rattle.quotient_draft.proofs.Puts.{at_with_put}
 use Rattle.quotient_draft.proofs.Written.{test_is}
 
 -- whether a block has members is told by their number
-member_first : (x : Option ℕ) (xs : List (Option ℕ)) (b : ℕ) → count_by (is_this b) (x ∷ xs) ≡ cond (is_this b x) 1 0 + count_by (is_this b) xs
+pub member_first : (x : Option ℕ) (xs : List (Option ℕ)) (b : ℕ) → count_by (is_this b) (x ∷ xs) ≡ cond (is_this b x) 1 0 + count_by (is_this b) xs
 member_first x xs b =
     let parts = sum_by-append (λ (o : Option ℕ). cond (is_this b o) 1 0) (x ∷ []) xs in
     omega (arith, parts)

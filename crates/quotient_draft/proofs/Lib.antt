@@ -6,4 +6,7 @@ mod Examples
 mod Making
 mod Counting
 mod Gone
+mod ShownCounts
+mod Linked
+mod Listing
 mod Settled

@@ -66,7 +66,7 @@ all_below from labels (f ∷ es) (suc j) e below h at_i = all_below (f.0 + 1) (p
 pub none_yet : (labels : List (Option ℕ)) (c : ℕ) → c < 0 → IsSome (at labels c)
 none_yet labels c l = absurd (omega (arith, l))
 
-put_length : (xs : List (Option ℕ)) (n v : ℕ) (top : ℕ) → length xs ≤ top → n < top → length (put xs n v) ≤ top
+pub put_length : (xs : List (Option ℕ)) (n v : ℕ) (top : ℕ) → length xs ≤ top → n < top → length (put xs n v) ≤ top
 put_length [] zero v top l h = omega (arith, h)
 put_length [] (suc n) v zero l h = absurd (omega (arith, h))
 put_length [] (suc n) v (suc top) l h = (let r = put_length [] n v top (omega arith) (omega (arith, h)) in omega (arith, r))

@@ -8,6 +8,7 @@ use Rattle.std.proofs.lemmas.List.Folds.{list_any-append}
 use Rattle.block_partition.specs.Partitions.{put, IsLeastFree}
 use Rattle.quotient_draft.specs.Drafts.{Drafted, with_added, with_left, is_pair}
 use Rattle.quotient_draft.specs.Basis.{AreLeastFree, IsOver}
+use Rattle.quotient_draft.specs.Kept.{AreTaken}
 use Rattle.quotient_draft.proofs.Puts.{some_put, same_number}
 use Rattle.quotient_draft.proofs.Scanned.{count_some, count_none, added_some, added_more, least_more}
 use Rattle.quotient_draft.proofs.Written.{test_is, pair_is}
@@ -39,7 +40,7 @@ count_put (Some x ∷ xs) (suc b) l =
     omega (arith, rest, more, old)
 
 pub over_added : (block labels : List (Option ℕ)) (d : Drafted) (es : List (ℕ × ℕ)) (b l : ℕ) → IsOver block labels d → count_by is_some (with_added labels d.added) < 2 ^ 31
-    → IsLeastFree (with_added labels d.added) b → es ≡ d.added ++ (b, l) ∷ [] → IsOver block labels (record { added = es; moves = d.moves; left = d.left; supports = d.supports })
+    → IsLeastFree (with_added labels d.added) b → es ≡ d.added ++ (b, l) ∷ [] → IsOver block labels (record { added = es; moves = d.moves; left = d.left; taken = d.taken; supports = d.supports })
 over_added block labels d es b l o few least e =
     let list : with_added labels es ≡ put (with_added labels d.added) b l = ap (with_added labels) e ∙ added_more labels d.added b l in
     let kept : (c : ℕ) → IsSome (at (with_added labels d.added) c) → IsSome (at (with_added labels es) c) =
@@ -51,6 +52,7 @@ over_added block labels d es b l o few least e =
       numbers = o.numbers;
       ends = λ p n h. (let both = o.ends p n h in (kept p.0 both.0, kept p.1 both.1));
       left = o.left;
+      taken = o.taken;
     }
 
 -- what a list has, it has once a block is added
@@ -66,11 +68,11 @@ left_own left b = list_any-append (nat_eq b) left (b ∷ []) ∙ ap (λ t. has l
     or_true false = refl
 
 -- one move more
-pub over_moved : (block labels : List (Option ℕ)) (d : Drafted) (ms : List (ℕ × Option ℕ)) (left : List ℕ) (n : ℕ) (v own : Option ℕ) → IsOver block labels d → n < 2 ^ 31
+pub over_moved : (block labels : List (Option ℕ)) (d : Drafted) (ms : List (ℕ × Option ℕ)) (left : List ℕ) (taken : List (ℕ × ℕ)) (n : ℕ) (v own : Option ℕ) → IsOver block labels d → n < 2 ^ 31
     → IfSome v (λ b. IsSome (at (with_added labels d.added) b))
-    → own ≡ unwrap_or (lookup (nat_eq n) d.moves) (at block n) → left ≡ with_left d.left own
-    → ((m : ℕ) → lookup (nat_eq m) ms ≡ cond (nat_eq m n) (Some v) (lookup (nat_eq m) d.moves)) → IsOver block labels (record { added = d.added; moves = ms; left = left; supports = d.supports })
-over_moved block labels d ms left n v own o small to is added w = record {
+    → own ≡ unwrap_or (lookup (nat_eq n) d.moves) (at block n) → left ≡ with_left d.left own → AreTaken block ms taken
+    → ((m : ℕ) → lookup (nat_eq m) ms ≡ cond (nat_eq m n) (Some v) (lookup (nat_eq m) d.moves)) → IsOver block labels (record { added = d.added; moves = ms; left = left; taken = taken; supports = d.supports })
+over_moved block labels d ms left taken n v own o small to is added are w = record {
   least = o.least;
   few = o.few;
   moved = λ m b h. elim (eqb_tells m n) [
@@ -85,6 +87,7 @@ over_moved block labels d ms left n v own o small to is added w = record {
     | inr f ↦ o.numbers m b (sym (ap (λ c. cond c (Some v) (lookup (nat_eq m) d.moves)) f.0) ∙ sym (w m) ∙ h)
   ];
   ends = o.ends;
+  taken = are;
   left = λ m b h some. subst (λ (ls : List ℕ). has ls b ≡ true) (sym added) (elim (eqb_tells m n) [
     | inl t ↦ first (lookup (nat_eq n) d.moves) refl b (ap (at block) (sym t.1) ∙ h)
     | inr f ↦ left_kept d.left own b (o.left m b h (sym (ap is_some (w m ∙ ap (λ c. cond c (Some v) (lookup (nat_eq m) d.moves)) f.0)) ∙ some))
@@ -98,13 +101,14 @@ over_moved block labels d ms left n v own o small to is added w = record {
 -- one support more
 pub over_written : (block labels : List (Option ℕ)) (d : Drafted) (es : List ((ℕ × ℕ) × ℕ)) (a b n : ℕ) → IsOver block labels d
     → IsSome (at (with_added labels d.added) a) → IsSome (at (with_added labels d.added) b)
-    → ((p : ℕ × ℕ) → lookup (is_pair p) es ≡ cond (is_pair p (a, b)) (Some n) (lookup (is_pair p) d.supports)) → IsOver block labels (record { added = d.added; moves = d.moves; left = d.left; supports = es })
+    → ((p : ℕ × ℕ) → lookup (is_pair p) es ≡ cond (is_pair p (a, b)) (Some n) (lookup (is_pair p) d.supports)) → IsOver block labels (record { added = d.added; moves = d.moves; left = d.left; taken = d.taken; supports = es })
 over_written block labels d es a b n o from onto w = record {
   least = o.least;
   few = o.few;
   moved = o.moved;
   numbers = o.numbers;
   left = o.left;
+  taken = o.taken;
   ends = λ p m h. elim (test_is (is_pair p (a, b))) [
     | inl s ↦ (
         let same = pair_is p (a, b) s in

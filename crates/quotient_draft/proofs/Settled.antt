@@ -42,7 +42,7 @@ count_free (Some x ∷ xs) (suc b) l e =
     let old = count_some xs x in
     omega (arith, rest, more, old)
 
-added_count : (labels : List (Option ℕ)) (es : List (ℕ × ℕ)) → AreLeastFree labels es → count_by is_some (with_added labels es) ≡ count_by is_some labels + length es
+pub added_count : (labels : List (Option ℕ)) (es : List (ℕ × ℕ)) → AreLeastFree labels es → count_by is_some (with_added labels es) ≡ count_by is_some labels + length es
 added_count labels [] h = omega arith
 added_count labels (e ∷ es) h =
     let rest = added_count (put labels e.0 e.1) es h.1 in

@@ -19,13 +19,13 @@ pub test_is : (b : Bool) → (b ≡ true) ⊎ (b ≡ false)
 test_is true = inl refl
 test_is false = inr refl
 
-absent_key : {K X : Type 0} (same : K → K → Bool) (k : K) (es : List (K × X)) → AllByRecursion (λ q. same k q ≡ false) (keys_of es) → lookup (same k) es ≡ None
+pub absent_key : {K X : Type 0} (same : K → K → Bool) (k : K) (es : List (K × X)) → AllByRecursion (λ q. same k q ≡ false) (keys_of es) → lookup (same k) es ≡ None
 absent_key same k [] h = refl
 absent_key same k (e ∷ es) h = rw h.0 (absent_key same k es h.1)
 
 -- moves
 
-number_is : (m n : ℕ) → nat_eq m n ≡ true → m ≡ n
+pub number_is : (m n : ℕ) → nat_eq m n ≡ true → m ≡ n
 number_is m n h = elim (eqb_tells m n) [ inl s ↦ s.1 | inr d ↦ absurd (true≢false (sym h ∙ d.0)) ]
 
 pub moves_absent : (block : List (Option ℕ)) (es : List (ℕ × Option ℕ)) (n : ℕ) → lookup (nat_eq n) es ≡ None → at (with_moves block es) n ≡ at block n
@@ -50,7 +50,7 @@ at_moves block (e ∷ es) n d = elim (test_is (nat_eq n e.0)) [
       at_moves (with_put block e.0 e.1) es n (IsDistinct-tail nat_eq e.0 (keys_of es) d) ∙ ap (unwrap_or (lookup (nat_eq n) es)) first ∙ rw f refl)
 ]
 
-or_else : {X : Type 0} (b : Bool) (v : X) (o : Option X) (d : X) → unwrap_or (cond b (Some v) o) d ≡ cond b v (unwrap_or o d)
+pub or_else : {X : Type 0} (b : Bool) (v : X) (o : Option X) (d : X) → unwrap_or (cond b (Some v) o) d ≡ cond b v (unwrap_or o d)
 or_else true v o d = refl
 or_else false v o d = refl
 

@@ -4,6 +4,7 @@ use Rattle.std.specs.Map.{lookup}
 use Rattle.px_spec.specs.Members.{at, has}
 use Rattle.block_partition.specs.Partitions.{put, IsLeastFree}
 use Rattle.quotient_draft.specs.Drafts.{Drafted, with_added, is_pair}
+use Rattle.quotient_draft.specs.Kept.{AreTaken}
 
 -- each number was the least that was no block, once those before it were made
 abbrev pub AreLeastFree : List (Option ℕ) → List (ℕ × ℕ) → Type 0
@@ -11,8 +12,8 @@ AreLeastFree labels [] = Unit {0}
 AreLeastFree labels (e ∷ es) = IsLeastFree labels e.0 × AreLeastFree (put labels e.0 e.1) es
 
 -- The draft was begun over a base with these blocks of nodes and these labels: its further blocks have the numbers that this
--- base would give them, the blocks that it names are blocks as shown, and it knows from which blocks nodes were taken. This holds
--- over a base for as long as its blocks stay.
+-- base would give them, the blocks that it names are blocks as shown, and it knows from which blocks nodes were taken, and
+-- how many from each. This holds over a base for as long as its blocks stay.
 pub record IsOver (block labels : List (Option ℕ)) (d : Drafted) : Type 0 where
   pub least : AreLeastFree labels d.added
   pub few : 0 < length d.added → count_by is_some (with_added labels d.added) ≤ 2 ^ 31
@@ -20,3 +21,4 @@ pub record IsOver (block labels : List (Option ℕ)) (d : Drafted) : Type 0 wher
   pub numbers : (n b : ℕ) → lookup (nat_eq n) d.moves ≡ Some (Some b) → n < 2 ^ 31
   pub ends : (p : ℕ × ℕ) (n : ℕ) → lookup (is_pair p) d.supports ≡ Some n → IsSome (at (with_added labels d.added) p.0) × IsSome (at (with_added labels d.added) p.1)
   pub left : (n b : ℕ) → at block n ≡ Some b → IsSome (lookup (nat_eq n) d.moves) → has d.left b ≡ true
+  pub taken : AreTaken block d.moves d.taken

@@ -13,11 +13,13 @@ pub record Drafted : Type 0 where
   pub moves : List (ℕ × Option ℕ)
   -- the blocks, as shown at the time, from which nodes were taken
   pub left : List ℕ
+  -- for blocks of the base, each once, how many of their members are moved
+  pub taken : List (ℕ × ℕ)
   -- pairs of blocks, each once, with their supports
   pub supports : List ((ℕ × ℕ) × ℕ)
 
 abbrev pub no_changes : Drafted
-no_changes = record { added = []; moves = []; left = []; supports = [] }
+no_changes = record { added = []; moves = []; left = []; taken = []; supports = [] }
 
 -- the labels, once these blocks are made
 abbrev pub with_added : List (Option ℕ) → List (ℕ × ℕ) → List (Option ℕ)

@@ -152,7 +152,7 @@ impl Changed {
 }
 
 // How many pairs are counted for a block.
-fn count_of(counts: &IndexMap<u32, usize>, b: u32) -> usize
+pub(crate) fn count_of(counts: &IndexMap<u32, usize>, b: u32) -> usize
     ensures { result ≡ counted counts.now.entries b }
 {
     match counts.get(&b) {
@@ -162,7 +162,7 @@ fn count_of(counts: &IndexMap<u32, usize>, b: u32) -> usize
 }
 
 // Counts one more pair for a block, of which no more than that many were counted.
-fn count_one(counts: &mut IndexMap<u32, usize>, b: u32, most: usize)
+pub(crate) fn count_one(counts: &mut IndexMap<u32, usize>, b: u32, most: usize)
     requires room { 0 < spare counts.old }
     requires counted { counted counts.old.entries b ≤ most }
     requires few { most < 2 ^ 63 }

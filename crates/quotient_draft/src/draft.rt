@@ -31,7 +31,7 @@ impl Model for Draft {
 
     ghost Value = { Drafted };
 
-    ghost view = { λ d. record { added = d.added; moves = d.moves.moves; left = d.moves.left; supports = d.changed } };
+    ghost view = { λ d. record { added = d.added; moves = d.moves.moves; left = d.moves.left; taken = d.moves.taken; supports = d.changed } };
 }
 
 // Reading.

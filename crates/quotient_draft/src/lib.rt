@@ -4,7 +4,9 @@
 mod added;
 mod changed;
 mod draft;
+mod members;
 mod moves;
+mod put_log;
 mod retiring;
 mod settling;
 

@@ -1,43 +1,57 @@
 // Moves that are drafted.
-ghost use Rattle.std.specs.Prelude.{◌≡◌, ◌+◌, ◌-◌, ◌<◌, ◌≤◌, ◌^◌, [], ℕ, List, Option, Some, None, IsSome, IfSome, unwrap_or, OnOk, OnErr, nat_eq, length, vec_len, vec_capacity, if◌then◌else◌};
-ghost use Rattle.std.specs.Map.{lookup};
-ghost use Rattle.px_spec.specs.Members.{at};
+ghost use Rattle.std.specs.Prelude.{◌≡◌, ◌+◌, ◌-◌, ◌<◌, ◌≤◌, ◌^◌, ◌||◌, [], ℕ, List, Option, Some, None, IsSome, IfSome, unwrap_or, true, OnOk, OnErr, nat_eq, length, vec_len, vec_capacity, count_by, if◌then◌else◌};
+ghost use Rattle.std.specs.List.{IsDistinct};
+ghost use Rattle.std.specs.List.Retain.{IsFiltered, DiffersFromLast};
+ghost use Rattle.std.specs.Map.{lookup, keys_of};
+ghost use Rattle.indexmap.specs.IndexMap.{spare};
+ghost use Rattle.px_spec.specs.Members.{Lists, at, has, is_this};
+ghost use Rattle.quotient.specs.Joined.{one_if};
 ghost use Rattle.quotient_draft.specs.Drafts.{with_moves, with_left};
+ghost use Rattle.quotient_draft.specs.Kept.{counted, AreTaken};
+ghost use Rattle.quotient_draft.specs.PutLogs.{has_put, is_kept, is_moved_to};
 
+use crate::changed::{count_of, count_one};
+use crate::put_log::PutLog;
 use indexmap::IndexMap;
 use px_base::{Memory, NodeId};
 use quotient::Summary;
 use std::alloc::Global;
 use std::marker::Model;
 
-/// Moves of nodes that are drafted over a base: the last of each node.
+/// Moves of nodes that are drafted over a base: the last of each node. Beside them it has, for each block, how
+/// many of the nodes that are moved go into it, and how many of them have it in the base.
 #[derive(Drop)]
 pub(crate) struct Moves {
     moves: IndexMap<u32, Option<u32>>,
     left: Vec<u32>,
+    into: IndexMap<u32, usize>,
+    taken: IndexMap<u32, usize>,
+    puts: PutLog,
 }
 
 impl Model for Moves {
-    ghost use Rattle.std.specs.Prelude.{nat_eq};
-    ghost use Rattle.std.specs.List.{IsDistinct};
-    ghost use Rattle.std.specs.Map.{keys_of};
     ghost use Rattle.quotient_draft.specs.Kept.{KeptMoves};
+    ghost use Rattle.quotient_draft.specs.PutLogs.{AreMoves};
 
     ghost Value = { KeptMoves };
 
-    ghost view = { λ m. record { moves = m.moves.entries; left = m.left.items } };
+    ghost view = { λ m. record { moves = m.moves.entries; left = m.left.items; taken = m.taken.entries } };
 
-    ghost invariant = { λ m. IsDistinct nat_eq (keys_of m.moves.entries) };
+    ghost invariant = { λ m. AreMoves m.moves.entries m.into.entries m.taken.entries m.puts };
 }
 
 impl Moves {
     pub(crate) fn new(alloc: Global) -> Moves
         ensures moves { result.moves ≡ [] }
         ensures left { result.left ≡ [] }
+        ensures taken { result.taken ≡ [] }
     {
         Moves {
             moves: IndexMap::new(alloc),
             left: Vec::new(alloc),
+            into: IndexMap::new(alloc),
+            taken: IndexMap::new(alloc),
+            puts: PutLog::new(alloc),
         }
     }
 
@@ -59,22 +73,56 @@ impl Moves {
         ensures shown { OnOk result ((block : List (Option ℕ)) (m : ℕ) → at (with_moves block self.new.moves) m ≡ (if nat_eq m n then b else at (with_moves block self.old.moves) m)) }
         ensures left { OnOk result (self.new.left ≡ with_left self.old.left (at (with_moves base.now.blocks.block_of self.old.moves) n)) }
         ensures own { OnOk result (self.new.left ≡ with_left self.old.left (unwrap_or (lookup (nat_eq n) self.old.moves) (at base.now.blocks.block_of n))) }
+        ensures taken { OnOk result (AreTaken base.now.blocks.block_of self.old.moves self.old.taken → AreTaken base.now.blocks.block_of self.new.moves self.new.taken) }
         ensures err { OnErr result (self.new ≡ self.old) }
     {
-        let own = self.block_of(base, n);
-        self.put_from(own, n, b)
+        match self.moves.get(&n) {
+            Some(own) => {
+                let own = *own;
+                self.put_again(own, n, b)
+            }
+            None => self.put_first(base.block_of(n), n, b),
+        }
     }
 
-    // Drafts a move from this block, or from none.
-    fn put_from(&mut self, own: Option<u32>, n: NodeId, b: Option<u32>) -> Result<(), Memory>
+    // Drafts the first move of a node, which has this block in the base, or none.
+    fn put_first(&mut self, own: Option<u32>, n: NodeId, b: Option<u32>) -> Result<(), Memory>
+        requires { lookup (nat_eq n) self.old.moves ≡ None }
         ensures looked { OnOk result ((m : ℕ) → lookup (nat_eq m) self.new.moves ≡ (if nat_eq m n then Some b else lookup (nat_eq m) self.old.moves)) }
         ensures shown { OnOk result ((block : List (Option ℕ)) (m : ℕ) → at (with_moves block self.new.moves) m ≡ (if nat_eq m n then b else at (with_moves block self.old.moves) m)) }
         ensures left { OnOk result (self.new.left ≡ with_left self.old.left own) }
+        ensures taken { OnOk result ((block : List (Option ℕ)) → at block n ≡ own → AreTaken block self.old.moves self.old.taken → AreTaken block self.new.moves self.new.taken) }
         ensures err { OnErr result (self.new ≡ self.old) }
     {
+        let moves = self.moves.len();
         self.left.reserve(1)?;
+        self.into.reserve(1)?;
+        self.taken.reserve(1)?;
+        add_put(&mut self.puts, n, b)?;
         self.moves.insert(n, b)?;
         push_block(&mut self.left, own);
+        count_block(&mut self.into, b, moves);
+        count_block(&mut self.taken, own, moves);
+        Ok(())
+    }
+
+    // Drafts a further move of a node that has been moved into this block, or into none.
+    fn put_again(&mut self, own: Option<u32>, n: NodeId, b: Option<u32>) -> Result<(), Memory>
+        requires { lookup (nat_eq n) self.old.moves ≡ Some own }
+        ensures looked { OnOk result ((m : ℕ) → lookup (nat_eq m) self.new.moves ≡ (if nat_eq m n then Some b else lookup (nat_eq m) self.old.moves)) }
+        ensures shown { OnOk result ((block : List (Option ℕ)) (m : ℕ) → at (with_moves block self.new.moves) m ≡ (if nat_eq m n then b else at (with_moves block self.old.moves) m)) }
+        ensures left { OnOk result (self.new.left ≡ with_left self.old.left own) }
+        ensures taken { OnOk result ((block : List (Option ℕ)) → AreTaken block self.old.moves self.old.taken → AreTaken block self.new.moves self.new.taken) }
+        ensures err { OnErr result (self.new ≡ self.old) }
+    {
+        let moves = self.moves.len();
+        self.left.reserve(1)?;
+        self.into.reserve(1)?;
+        add_put(&mut self.puts, n, b)?;
+        self.moves.insert(n, b)?;
+        push_block(&mut self.left, own);
+        count_block(&mut self.into, b, moves);
+        uncount_block(&mut self.into, own);
         Ok(())
     }
 
@@ -112,6 +160,73 @@ impl Moves {
         }
     }
 
+    /// How many members a block has as shown.
+    pub(crate) fn member_count(&self, base: &Summary, b: u32) -> u32
+        requires taken { AreTaken base.now.blocks.block_of self.now.moves self.now.taken }
+        requires numbers { (n b : ℕ) → lookup (nat_eq n) self.now.moves ≡ Some (Some b) → n < 2 ^ 31 }
+        ensures { result ≡ count_by (is_this b) (with_moves base.now.blocks.block_of self.now.moves) }
+    {
+        let numbers = base.numbers().max(1 << 31) as usize;
+        let into = count_of(&self.into, b).min(self.moves.len());
+        let held = held_in(base, b) as usize + into;
+        (held - count_of(&self.taken, b)).min(numbers) as u32
+    }
+
+    /// Lists the members of a block as shown, each once, in place of what the list held.
+    pub(crate) fn fill_members(
+        &self,
+        base: &Summary,
+        b: u32,
+        list: &mut Vec<NodeId>,
+    ) -> Result<(), Memory>
+        ensures { OnOk result (Lists (λ n. is_this b (at (with_moves base.now.blocks.block_of self.now.moves) n)) list.new.items) }
+    {
+        list.clear();
+        self.push_kept(base, b, list)?;
+        self.push_moved(b, list)?;
+        sort_once(list);
+        Ok(())
+    }
+
+    // Adds those members of a block of the base that aren't moved.
+    fn push_kept(&self, base: &Summary, b: u32, list: &mut Vec<NodeId>) -> Result<(), Memory>
+        ensures { OnOk result ((n : ℕ) → has list.new.items n ≡ (has list.old.items n || is_kept base.now.blocks.block_of self.now.moves b n)) }
+    {
+        if !base.is_block(b) {
+            return Ok(());
+        }
+        for n in base.extent(b) {
+            if !self.moves.contains_key(&n) {
+                list.push(n)?;
+            }
+        }
+        Ok(())
+    }
+
+    // Adds those nodes that are moved into a block.
+    fn push_moved(&self, b: u32, list: &mut Vec<NodeId>) -> Result<(), Memory>
+        ensures once { IsDistinct nat_eq (keys_of self.now.moves) }
+        ensures members { OnOk result ((n : ℕ) → has list.new.items n ≡ (has list.old.items n || is_moved_to self.now.moves b n)) }
+    {
+        let mut i = self.puts.last(b);
+        while i > 0 {
+            let n = self.puts.node(i - 1);
+            push_if(list, n, self.goes_to(n, b))?;
+            i = self.puts.before(i - 1);
+        }
+        Ok(())
+    }
+
+    // Whether a node is moved, and into this block.
+    fn goes_to(&self, n: NodeId, b: u32) -> bool
+        ensures { result ≡ is_moved_to self.now.moves b n }
+    {
+        match self.moves.get(&n) {
+            Some(c) => *c == Some(b),
+            None => false,
+        }
+    }
+
     /// The blocks from which nodes were taken.
     pub(crate) fn left(&self) -> &[u32]
         ensures { result.now ≡ self.now.left }
@@ -123,9 +238,13 @@ impl Moves {
     pub(crate) fn clear(&mut self)
         ensures moves { self.new.moves ≡ [] }
         ensures left { self.new.left ≡ [] }
+        ensures taken { self.new.taken ≡ [] }
     {
         self.moves.clear();
         self.left.clear();
+        self.into.clear();
+        self.taken.clear();
+        self.puts.clear();
     }
 }
 
@@ -148,4 +267,82 @@ fn push_block(left: &mut Vec<u32>, b: Option<u32>)
     if let Some(b) = b {
         left.push_reserved(b);
     }
+}
+
+// How many members a block has in the base, and 0 where the number is no block there.
+fn held_in(base: &Summary, b: u32) -> u32
+    ensures { result ≡ count_by (is_this b) base.now.blocks.block_of }
+{
+    if base.is_block(b) { base.member_count(b) } else { 0 }
+}
+
+// Adds a put into a block, if there is one.
+fn add_put(puts: &mut PutLog, n: NodeId, b: Option<u32>) -> Result<(), Memory>
+    ensures kept { (m c : ℕ) → has_put puts.old m c ≡ true → has_put puts.new m c ≡ true }
+    ensures put { OnOk result ((c : ℕ) → b ≡ Some c → has_put puts.new n c ≡ true) }
+{
+    if let Some(b) = b {
+        puts.add(n, b)?;
+    }
+    Ok(())
+}
+
+// Counts one more node for a block, if there is one, of which no more than that many were counted.
+fn count_block(counts: &mut IndexMap<u32, usize>, b: Option<u32>, most: usize)
+    requires room { 0 < spare counts.old }
+    requires counted { (x : ℕ) → counted counts.old.entries x ≤ most }
+    requires few { most < 2 ^ 63 }
+    ensures { (x : ℕ) → counted counts.new.entries x ≡ counted counts.old.entries x + one_if (is_this x b) }
+{
+    if let Some(b) = b {
+        count_one(counts, b, most);
+    }
+}
+
+// Counts one node fewer for a block, if there is one.
+fn uncount_block(counts: &mut IndexMap<u32, usize>, b: Option<u32>)
+    requires { IfSome b (λ b. 0 < counted counts.old.entries b) }
+    ensures { (x : ℕ) → counted counts.new.entries x + one_if (is_this x b) ≡ counted counts.old.entries x }
+{
+    if let Some(b) = b {
+        uncount_one(counts, b);
+    }
+}
+
+// Counts one node fewer for a block, for which one was counted.
+fn uncount_one(counts: &mut IndexMap<u32, usize>, b: u32)
+    requires { 0 < counted counts.old.entries b }
+    ensures { (x : ℕ) → counted counts.new.entries x + one_if (nat_eq x b) ≡ counted counts.old.entries x }
+{
+    let count = count_of(counts, b) - 1;
+    match counts.insert(b, count) {
+        Ok(_) => {}
+        Err(_) => unreachable!(),
+    }
+}
+
+// Adds a number where the test holds.
+fn push_if(list: &mut Vec<NodeId>, n: NodeId, test: bool) -> Result<(), Memory>
+    ensures { OnOk result ((m : ℕ) → has list.new.items m ≡ (if test then (has list.old.items m || nat_eq m n) else has list.old.items m)) }
+{
+    if test {
+        list.push(n)?;
+    }
+    Ok(())
+}
+
+// Sorts the numbers, and keeps each once.
+fn sort_once(numbers: &mut Vec<u32>)
+    ensures once { IsDistinct nat_eq numbers.new.items }
+    ensures same { (n : ℕ) → has numbers.new.items n ≡ has numbers.old.items n }
+{
+    numbers.sort_unstable();
+    drop_repeats(numbers);
+}
+
+// Of numbers that follow one another and are equal only the first stays.
+fn drop_repeats(numbers: &mut Vec<u32>)
+    ensures { IsFiltered (DiffersFromLast nat_eq) [] numbers.old.items numbers.new.items }
+{
+    numbers.dedup();
 }

@@ -28,7 +28,7 @@ impl Draft {
     }
 
     // How many further blocks there are: at most 2^31 with those of the base.
-    fn further(&self, base: &Summary) -> u32
+    pub(crate) fn further(&self, base: &Summary) -> u32
         requires over { IsOver base.now.blocks.block_of base.now.blocks.labels self.now }
         ensures count { result ≡ length self.now.added }
         ensures few { block_count base.now.blocks + result ≤ 2 ^ 31 }

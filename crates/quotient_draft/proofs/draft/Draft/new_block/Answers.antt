@@ -16,7 +16,7 @@ pub returns-clause-over : goal.returns-clause-over
 returns-clause-over c =
     let labels = c.args.base.now.blocks.labels in
     let block = c.args.base.now.blocks.block_of in
-    let d : Drafted = record { added = c.self.inside.added; moves = c.self.inside.moves.moves; left = c.self.inside.moves.left; supports = c.self.inside.changed } in
+    let d : Drafted = record { added = c.self.inside.added; moves = c.self.inside.moves.moves; left = c.self.inside.moves.left; taken = c.self.inside.moves.taken; supports = c.self.inside.changed } in
     over_added block labels d c.new_block.new.self c.in_ok-b.b c.args.label (subst (IsOver block labels) (sym c.self.view_is) c.requires.over)
     (subst (λ (e : Drafted). count_by is_some (with_added labels e.added) < 2 ^ 31) (sym c.self.view_is) c.requires.few)
     c.in_ok-b.ensures.least c.in_ok-b.ensures.ok

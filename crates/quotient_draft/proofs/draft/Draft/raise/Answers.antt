@@ -10,7 +10,7 @@ pub returns-clause-over : goal.returns-clause-over
 returns-clause-over c =
     let labels = c.args.base.now.blocks.labels in
     let block = c.args.base.now.blocks.block_of in
-    let d : Drafted = record { added = c.self.inside.added; moves = c.self.inside.moves.moves; left = c.self.inside.moves.left; supports = c.self.inside.changed } in
+    let d : Drafted = record { added = c.self.inside.added; moves = c.self.inside.moves.moves; left = c.self.inside.moves.left; taken = c.self.inside.moves.taken; supports = c.self.inside.changed } in
     over_written block labels d c.set.new.self c.args.a c.args.b _ (subst (IsOver block labels) (sym c.self.view_is) c.requires.over)
     (subst (λ (e : Drafted). IsSome (at (with_added labels e.added) c.args.a)) (sym c.self.view_is) c.requires.from)
     (subst (λ (e : Drafted). IsSome (at (with_added labels e.added) c.args.b)) (sym c.self.view_is) c.requires.onto)

@@ -27,7 +27,7 @@ reserve_in-requires c =
 
 pub returns-clause-room : goal.returns-clause-room
 returns-clause-room c =
-    let d : Drafted = record { added = c.self.inside.added; moves = c.self.inside.moves.moves; left = c.self.inside.moves.left; supports = c.self.inside.changed } in
+    let d : Drafted = record { added = c.self.inside.added; moves = c.self.inside.moves.moves; left = c.self.inside.moves.left; taken = c.self.inside.moves.taken; supports = c.self.inside.changed } in
     let o = subst (IsOver c.args.base.now.blocks.block_of c.args.base.now.blocks.labels) (sym c.self.view_is) c.requires.over in
     let third = c.in_ok-reserve_in.ensures in
     let second = c.in_ok-reserve_span.ensures in

@@ -27,7 +27,7 @@ make_in-requires-3-clause-nodes c = λ n b e.
 
 pub returns-clause-settled : goal.returns-clause-settled
 returns-clause-settled c =
-    let d : Drafted = record { added = c.self.inside.added; moves = c.self.inside.moves.moves; left = c.self.inside.moves.left; supports = c.self.inside.changed } in
+    let d : Drafted = record { added = c.self.inside.added; moves = c.self.inside.moves.moves; left = c.self.inside.moves.left; taken = c.self.inside.moves.taken; supports = c.self.inside.changed } in
     let q = c.args.base.now in
     let o = subst (IsOver q.blocks.block_of q.blocks.labels) (sym c.self.view_is) c.requires.over in
     let blocks = c.make_in-3.ensures.blocks ∙ ap (λ (bs : List (Option ℕ)). with_moves bs d.moves) (ap (λ (p : Partition). p.block_of) c.make_in-2.ensures.blocks ∙ c.make_in.ensures.blocks) in

@@ -9,12 +9,12 @@ pub returns-in-Some-clause-block : goal.returns-in-Some-clause-block
 returns-in-Some-clause-block c =
     let block = c.args.base.now.blocks.block_of in
     let es = c.self.inside.moves.entries in
-    ap (λ o. unwrap_or o (at block c.args.n)) c.in-Some.ensures.value ∙ sym (at_moves block es c.args.n c.self.invariant)
+    ap (λ o. unwrap_or o (at block c.args.n)) c.in-Some.ensures.value ∙ sym (at_moves block es c.args.n c.self.invariant.once)
     ∙ ap (λ (k : KeptMoves). at (with_moves block k.moves) c.args.n) c.self.view_is
 
 pub returns-in-None-clause-block : goal.returns-in-None-clause-block
 returns-in-None-clause-block c =
     let block = c.args.base.now.blocks.block_of in
     let es = c.self.inside.moves.entries in
-    c.block_of.ensures.block ∙ ap (λ o. unwrap_or o (at block c.args.n)) c.in-None.ensures.value ∙ sym (at_moves block es c.args.n c.self.invariant)
+    c.block_of.ensures.block ∙ ap (λ o. unwrap_or o (at block c.args.n)) c.in-None.ensures.value ∙ sym (at_moves block es c.args.n c.self.invariant.once)
     ∙ ap (λ (k : KeptMoves). at (with_moves block k.moves) c.args.n) c.self.view_is
