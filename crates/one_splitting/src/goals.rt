@@ -6,7 +6,6 @@ ghost use Rattle.quotient_draft.specs.Basis.{IsOver};
 ghost use Rattle.one_splitting.specs.Going.{AreGoing, BeginsAt, IsWhole, StaysIf, GoesIf, AreBlocks, AreLabelled, AreAdded, AreLive, HaveLabels, KeepLabels};
 
 use crate::owners::is_whole;
-use crate::stub::blocks;
 use indexmap::{IndexMap, IndexSet};
 use key_table::KeyTable;
 use px_base::Memory;
@@ -25,7 +24,7 @@ pub(crate) fn draft_block(base: &Summary, draft: &mut Draft, label: u32) -> Resu
     ensures told { IfOk result (λ b. (c : ℕ) → at (shown_labels base.now draft.new) c ≡ (if nat_eq c b then Some label else at (shown_labels base.now draft.old) c)) }
     ensures over { OnOk result (IsOver base.now.blocks.block_of base.now.blocks.labels draft.new) }
 {
-    if blocks(draft, base) >= 1 << 31 {
+    if draft.blocks(base) >= 1 << 31 {
         return Err(Memory);
     }
     let b = draft.new_block(base, label)?;

@@ -5,7 +5,6 @@ mod goals;
 mod keys;
 mod owners;
 mod rounds;
-mod stub;
 mod targets;
 
 pub use targets::split;

@@ -7,7 +7,6 @@ ghost use Rattle.one_splitting.specs.Counted.{count_at, is_in};
 ghost use Rattle.one_splitting.specs.Going.{IsWhole};
 
 use crate::keys::own_block;
-use crate::stub::member_count;
 use indexmap::IndexMap;
 use px_base::{Memory, NodeId};
 use quotient::Summary;
@@ -65,5 +64,5 @@ pub(crate) fn is_whole(
     ensures yes { IsTrue result → IsWhole (shown_blocks base.now draft.now) counts.now.entries own }
     ensures no { IsFalse result → IsWhole (shown_blocks base.now draft.now) counts.now.entries own → ⊥ }
 {
-    count_of(counts, own) == member_count(draft, base, own) as usize
+    count_of(counts, own) == draft.member_count(base, own) as usize
 }

@@ -21,7 +21,6 @@ ghost use Rattle.one_splitting.specs.Parting.{IsParting, IsFirst};
 use crate::goals::draft_block;
 use crate::keys::{own_block, sort_once};
 use crate::rounds::{is_done, round};
-use crate::stub::member_count;
 use graph_update::After;
 use node_moves::{Near, move_node};
 use px_base::{Memory, NodeId, Steps};
@@ -62,7 +61,7 @@ fn is_apart(base: &Summary, draft: &Draft, after: &After<'_>, target: NodeId, ow
     if draft.label(base, own) != after.label(target) {
         return false;
     }
-    member_count(draft, base, own) == 1
+    draft.member_count(base, own) == 1
 }
 
 // Puts a node behind the list, if it is to stay.

@@ -5,4 +5,4 @@ use Rattle.one_splitting.proofs.Wholes.{only_member}
 use Rattle.one_splitting.proofs.targets.is_apart.Goals as goal
 
 pub returns-clause-alone : goal.returns-clause-alone
-returns-clause-alone c = λ yes. only_member (shown_blocks c.args.base.now c.args.draft.now) c.args.target c.args.own c.requires.own (sym c.member_count.ensures ∙ (Decides-eqb c.member_count.result 1).0 yes)
+returns-clause-alone c = λ yes. only_member (shown_blocks c.args.base.now c.args.draft.now) c.args.target c.args.own c.requires.own (sym c.member_count.ensures.count ∙ (Decides-eqb c.member_count.result 1).0 yes)
