@@ -1,6 +1,6 @@
 -- The targets that have a block, and what a move keeps.
 use Rattle.std.proofs.Common.{◌≡◌, ◌≢◌, ◌⊎◌, ℕ, zero, suc, ◌<◌, ◌+◌, List, [], ◌∷◌, ◌++◌, Option, Some, None, IsTrue, IsFalse, IsSome, is_some, refl, sym, ◌∙◌, ap, subst, inl, inr, true, false, Bool, cond, length, take, get_or, true≢false}
-use Rattle.std.specs.Prelude.{nat_eq, ◌&&◌, ◌||◌}
+use Rattle.std.specs.Prelude.{nat_eq, ◌&&◌, ◌||◌, IfSome}
 use Rattle.std.specs.List.{IsDistinct, AllByRecursion, filter}
 use Rattle.std.proofs.lemmas.Bool.{cases_Bool, or_cases, or_right, and_parts, and_from, both_ways, false_from_ne_true}
 use Rattle.std.proofs.lemmas.Bool.Decides.{eqb_tells, Decides-eqb}
@@ -198,3 +198,8 @@ at_put xs n v m = elim (eqb_tells m n) [
 -- a block that was made just now has a label
 pub told_some : (labels labels2 : ℕ → Option ℕ) (b d : ℕ) → ((c : ℕ) → labels2 c ≡ cond (nat_eq c b) (Some d) (labels c)) → labels2 b ≡ Some d
 told_some labels labels2 b d told = told b ∙ ap (λ t. cond t (Some d) (labels b)) ((Decides-eqb b b).1 refl)
+
+-- what is said of a block that was found
+pub live_at : (o : Option ℕ) (labels : ℕ → Option ℕ) (b : ℕ) → IfSome o (λ c. IsSome (labels c)) → o ≡ Some b → IsSome (labels b)
+live_at None labels b h e = absurd (cc)
+live_at (Some c) labels b h e = (let same : c ≡ b = cc in subst (λ x. IsSome (labels x)) same h)
