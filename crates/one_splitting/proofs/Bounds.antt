@@ -1,0 +1,113 @@
+-- What the rounds cost in all.
+use Rattle.std.proofs.Common.{◌≡◌, ◌≢◌, ℕ, zero, suc, ◌+◌, ◌*◌, ◌<◌, ◌≤◌, List, Option, Some, None, refl, sym, ◌∙◌, ap, arith, inl, inr, true, false, Bool, cond, length}
+use Rattle.std.specs.Prelude.{nat_eq}
+use Rattle.std.specs.List.{sum_by, IsDistinct}
+use Rattle.std.proofs.lemmas.Bool.{cases_Bool}
+use Rattle.std.proofs.lemmas.Bool.Decides.{eqb_tells}
+use Rattle.std.proofs.Math.Nat.{mul-le-mul_left}
+use Rattle.px_spec.specs.Members.{at, has}
+use Rattle.px_spec.specs.Shapes.{Shape, shape_of}
+use Rattle.bisim_spec.specs.Below.{count_below}
+use Rattle.bisim_spec.proofs.BelowLaws.{bit_of}
+use Rattle.graph_update.specs.Pending.{Pending, graph_after, lost_edge, lost_from, lost_onto}
+use Rattle.bisim_spec.specs.Below.{sum_below}
+use Rattle.bisim_spec.specs.Weights.{weight_at, weight, size_of}
+use Rattle.upkeep_spec.proofs.Sums.{where_in, sum_listed, sum_most}
+use Rattle.node_moves.specs.Costs.{parents_cost, children_cost}
+use Rattle.one_splitting.specs.Costs.{move_cost, round_cost}
+
+-- a number is met once
+once_before : (n v : ℕ) → n ≤ v → sum_below n (λ k. cond (nat_eq k v) 1 0) ≡ 0
+once_before zero v h = refl
+once_before (suc n) v h = elim (eqb_tells n v) [
+  | inl s ↦ absurd (let e = s.1 in omega (arith, h, e))
+  | inr d ↦ (
+      let rest = once_before n v (omega (arith, h)) in
+      let here : bit_of (nat_eq n v) ≡ 0 = ap bit_of d.0 in
+      omega (arith, rest, here))
+]
+
+pub once_most : (n v : ℕ) → sum_below n (λ k. cond (nat_eq k v) 1 0) ≤ 1
+once_most zero v = omega arith
+once_most (suc n) v = elim (eqb_tells n v) [
+  | inl s ↦ (
+      let e = s.1 in
+      let rest = once_before n v (omega (arith, e)) in
+      let here : bit_of (nat_eq n v) ≡ 1 = ap bit_of s.0 in
+      omega (arith, rest, here))
+  | inr d ↦ (
+      let rest = once_most n v in
+      let here : bit_of (nat_eq n v) ≡ 0 = ap bit_of d.0 in
+      omega (arith, rest, here))
+]
+
+zeros : (n : ℕ) → sum_below n (λ k. 0) ≡ 0
+zeros zero = refl
+zeros (suc n) = (let r = zeros n in omega (arith, r))
+
+pub lost_onto_most : (n : ℕ) (lost : Option (ℕ × ℕ)) → sum_below n (lost_onto lost) ≤ 1
+lost_onto_most n None = (let z = zeros n in omega (arith, z))
+lost_onto_most n (Some e) = once_most n e.1
+
+pub lost_from_most : (n : ℕ) (lost : Option (ℕ × ℕ)) → sum_below n (lost_from lost) ≤ 1
+lost_from_most n None = (let z = zeros n in omega (arith, z))
+lost_from_most n (Some e) = once_most n e.0
+
+-- three times one sum, and two others
+sum_three : (n : ℕ) (f g h i : ℕ → ℕ) → ((k : ℕ) → f k ≤ 3 * g k + 2 * h k + i k) → sum_below n f ≤ 3 * sum_below n g + 2 * sum_below n h + sum_below n i
+sum_three zero f g h i e = omega arith
+sum_three (suc n) f g h i e = (let a = e n in let r = sum_three n f g h i e in omega (arith, a, r))
+
+sum_two : (n : ℕ) (f g h : ℕ → ℕ) → ((k : ℕ) → f k ≤ g k + h k) → sum_below n f ≤ sum_below n g + sum_below n h
+sum_two zero f g h e = omega arith
+sum_two (suc n) f g h e = (let a = e n in let r = sum_two n f g h e in omega (arith, a, r))
+
+-- a round over distinct nodes inside
+pub round_most : (a : Pending) (inside : ℕ → Bool) (nodes : List ℕ) → IsDistinct nat_eq nodes
+    → ((n : ℕ) → has nodes n ≡ true → (n < (shape_of (graph_after a)).size) × (inside n ≡ true))
+    → sum_by (round_cost a) nodes ≤ 3 * weight (shape_of (graph_after a)) inside + 3
+round_most a inside nodes once within =
+    let s = shape_of (graph_after a) in
+    let listed = sum_listed s.size inside (round_cost a) nodes once within in
+    let parts = sum_three s.size (where_in inside (round_cost a)) (where_in inside (weight_at s)) (lost_onto (lost_edge a.change)) (lost_from (lost_edge a.change)) (λ k. elim (cases_Bool (inside k)) [
+      | inl on ↦ rw on (omega arith)
+      | inr off ↦ rw off (omega arith)
+    ]) in
+    let onto = lost_onto_most s.size (lost_edge a.change) in
+    let from = lost_from_most s.size (lost_edge a.change) in
+    omega (arith, listed, parts, onto, from)
+
+-- reading the parents alone
+pub parents_most : (a : Pending) (inside : ℕ → Bool) (nodes : List ℕ) → IsDistinct nat_eq nodes
+    → ((n : ℕ) → has nodes n ≡ true → (n < (shape_of (graph_after a)).size) × (inside n ≡ true))
+    → sum_by (parents_cost a) nodes ≤ weight (shape_of (graph_after a)) inside + 1
+parents_most a inside nodes once within =
+    let s = shape_of (graph_after a) in
+    let listed = sum_listed s.size inside (parents_cost a) nodes once within in
+    let parts = sum_two s.size (where_in inside (parents_cost a)) (where_in inside (weight_at s)) (lost_onto (lost_edge a.change)) (λ k. elim (cases_Bool (inside k)) [
+      | inl on ↦ rw on (omega arith)
+      | inr off ↦ rw off (omega arith)
+    ]) in
+    let onto = lost_onto_most s.size (lost_edge a.change) in
+    omega (arith, listed, parts, onto)
+
+-- there are no more nodes than they weigh
+pub size_most : (s : Shape) (inside : ℕ → Bool) → size_of s inside ≤ weight s inside
+size_most s inside = by s.size
+  where
+    by : (n : ℕ) → count_below n inside ≤ sum_below n (λ k. cond (inside k) (weight_at s k) 0)
+    by zero = omega arith
+    by (suc n) = elim (cases_Bool (inside n)) [
+      | inl on ↦ (let r = by n in rw on (omega (arith, r)))
+      | inr off ↦ (let r = by n in rw off (omega (arith, r)))
+    ]
+
+-- Each round but the last makes a block, and there are no more blocks made than nodes inside.
+pub split_most : (made r w spent : ℕ) → made ≤ r → 1 ≤ r → r ≤ w → spent ≤ made * (3 * w + 3) + (w + 1) → spent ≤ 4 * ((r + 1) * w)
+split_most made r w spent few some light cost =
+    let more : made * (3 * w + 3) ≤ r * (3 * w + 3) = mul-le made r (3 * w + 3) few in
+    let heavy : 1 * w ≤ r * w = mul-le 1 r w some in
+    omega (arith, more, heavy, cost)
+  where
+    mul-le : (a b c : ℕ) → a ≤ b → a * c ≤ b * c
+    mul-le a b c h = (let k = mul-le-mul_left c h in omega (arith, k))

@@ -1,0 +1,17 @@
+pub mod Places
+pub mod Numbering
+pub mod Chosen
+pub mod Choosing
+pub mod Groups
+pub mod Gone
+pub mod Named
+pub mod Ends
+pub mod ListSums
+pub mod Bounds
+pub mod Total
+pub mod Steps
+pub mod Apart
+pub mod Parted
+pub mod Light
+pub mod Wholes
+pub mod Present

@@ -1,0 +1,68 @@
+-- One more node is numbered by its key.
+use Rattle.std.proofs.Common.{◌≡◌, ℕ, zero, suc, ◌+◌, ◌<◌, List, [], ◌∷◌, ◌++◌, length, Option, Some, refl, sym, ◌∙◌, ap, subst, arith, inl, inr, Bool}
+use Rattle.std.specs.Prelude.{slice_get, slice_index}
+use Rattle.std.proofs.lemmas.Bool.{cases_lt}
+use Rattle.std.proofs.lemmas.List.{get_or_push, get_or_append_left, length-append}
+use Rattle.key_table.specs.Interning.{Interns}
+use Rattle.px_spec.specs.Members.{at}
+use Rattle.bisim_levels.specs.Keys.{IsKey}
+use Rattle.bisim_levels.proofs.Numbering.{get_append, get_last}
+use Rattle.one_splitting.specs.Numbered.{HasNumber, AreNumbered}
+
+interned_stay : (old new : List (List ℕ)) (key : List ℕ) (i k : ℕ) (x : List ℕ) → Interns old new key i → slice_get old k ≡ Some x → slice_get new k ≡ Some x
+interned_stay old new key i k x interned e = elim interned [
+  | inl (there, same) ↦ ap (λ ks. slice_get ks k) same ∙ e
+  | inr (absent, found, added) ↦ ap (λ ks. slice_get ks k) added ∙ get_append old (key ∷ []) k x e
+]
+
+interned_at : (old new : List (List ℕ)) (key : List ℕ) (i : ℕ) → Interns old new key i → slice_get new i ≡ Some key
+interned_at old new key i interned = elim interned [
+  | inl (there, same) ↦ ap (λ ks. slice_get ks i) same ∙ there
+  | inr (absent, found, added) ↦ ap (λ ks. slice_get ks i) added ∙ ap (slice_get (old ++ key ∷ [])) found ∙ get_last old key
+]
+
+pub numbered_none : (p : List (Option ℕ)) (near : ℕ → ℕ → Bool) (keys : List (List ℕ)) (nodes numbers : List ℕ) → keys ≡ [] → numbers ≡ [] → AreNumbered p near keys nodes numbers
+numbered_none p near keys nodes numbers nk nn = record {
+  each = λ i h. absurd (let e = ap length nn in omega (arith, h, e));
+  some = λ k h. absurd (let e = ap length nk in omega (arith, h, e));
+}
+
+pub numbered_more : (p : List (Option ℕ)) (near : ℕ → ℕ → Bool) (keys keys2 : List (List ℕ)) (nodes numbers : List ℕ) (k : ℕ) (key : List ℕ)
+    → AreNumbered p near keys nodes numbers → IsKey (at p) p near (slice_index nodes (length numbers)) key → Interns keys keys2 key k
+    → AreNumbered p near keys2 nodes (numbers ++ k ∷ [])
+numbered_more p near keys keys2 nodes numbers k key w is interned =
+    let long : length (numbers ++ k ∷ []) ≡ length numbers + 1 = length-append numbers (k ∷ []) in
+    record {
+      each = λ i h. elim (cases_lt i (length numbers)) [
+        | inl before ↦ (
+            let m = w.each i before in
+            let same : slice_index (numbers ++ k ∷ []) i ≡ slice_index numbers i = get_or_append_left numbers (k ∷ []) 0 i before in
+            subst (HasNumber p near keys2 (slice_index nodes i)) (sym same) (record {
+              key = m.key;
+              found = interned_stay keys keys2 key k (slice_index numbers i) m.key interned m.found;
+              is = m.is;
+            }))
+        | inr past ↦ (
+            let here : length numbers ≡ i = omega (arith, h, past, long) in
+            let same : slice_index (numbers ++ k ∷ []) i ≡ k = get_or_push numbers k 0 i here in
+            subst (HasNumber p near keys2 (slice_index nodes i)) (sym same) (record {
+              key = key;
+              found = interned_at keys keys2 key k interned;
+              is = subst (λ j. IsKey (at p) p near (slice_index nodes j) key) here is;
+            }))
+      ];
+      some = λ j h. elim (cases_lt j (length keys)) [
+        | inl before ↦ (
+            let i = w.some j before in
+            let l = i.1 in
+            (i.0, omega (arith, l, long), get_or_append_left numbers (k ∷ []) 0 i.0 l ∙ i.2))
+        | inr past ↦ elim interned [
+          | inl (there, same) ↦ absurd (let e = ap length same in omega (arith, h, past, e))
+          | inr (absent, found, added) ↦ (
+              let e = ap length added in
+              let l = length-append keys (key ∷ []) in
+              let is_k : k ≡ j = omega (arith, h, past, e, l, found) in
+              (length numbers, omega (arith, long), get_or_push numbers k 0 (length numbers) refl ∙ is_k))
+        ]
+      ];
+    }

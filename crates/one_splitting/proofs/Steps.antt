@@ -1,0 +1,88 @@
+-- One round more.
+use Rattle.std.proofs.Common.{◌≡◌, ℕ, ◌<◌, ◌⊎◌, List, [], ◌∷◌, ◌++◌, length, Option, Some, None, IsTrue, IsFalse, refl, sym, ◌∙◌, ap, subst, inl, inr, true, false, Bool, cond, true≢false, arith}
+use Rattle.std.specs.Prelude.{nat_eq, slice_index, is_some}
+use Rattle.std.specs.List.{IsDistinct}
+use Rattle.std.proofs.lemmas.Bool.{cases_Bool}
+use Rattle.px_spec.specs.Members.{at, has}
+use Rattle.px_spec.specs.Shapes.{Shape, IsNode, IsParent, IsShape}
+use Rattle.bisim_spec.specs.Partitions.{Together, IsPartition}
+use Rattle.bisim_spec.proofs.Bisimilar.{some_of, none_or_some, is_some_at}
+use Rattle.upkeep_spec.specs.Rounds.{AreGoals, IsRound, IsWithin, SameBut}
+use Rattle.upkeep_spec.proofs.Splitting.{round_stable, same_but_moved, same_but_on, within_on}
+use Rattle.upkeep_spec.proofs.Goals.{is_moved, goals_within, goals_round, goals_partition, goals_left}
+use Rattle.one_splitting.specs.Counted.{AreCounted}
+use Rattle.one_splitting.specs.Numbered.{AreNumbered}
+use Rattle.one_splitting.specs.Going.{BeginsAt, goal_at, AreGoing, HaveGone, AreNext, AreAdded}
+use Rattle.upkeep_spec.specs.Splits.{IsClosed, IsSplit}
+use Rattle.one_splitting.proofs.Places.{place_of, place_found, has_place, place_is}
+use Rattle.one_splitting.proofs.Groups.{group_of, goal_of, goal_looked, goal_there, goal_off, groups_go, node_of, ends_at}
+
+pub split_step : (s : Shape) (inside : ℕ → Bool) (first p p2 : List (Option ℕ)) (keys : List (List ℕ)) (nodes numbers made next2 made2 : List ℕ) (goals : List (Option ℕ)) (counts : List (ℕ × ℕ))
+    → IsShape s → IsClosed s inside → IsSplit s inside first p nodes made → IsDistinct nat_eq nodes → length numbers ≡ length nodes
+    → AreNumbered p s.edge keys nodes numbers → length goals ≡ length keys → AreCounted p nodes counts → AreGoing p counts keys goals → HaveGone p p2 nodes numbers goals (length nodes)
+    → AreNext s nodes numbers goals (length nodes) next2 → AreAdded goals made made2 → IsDistinct nat_eq made2 → ((k : ℕ) → k < length keys → (own : ℕ) × BeginsAt keys k own) → IsSplit s inside first p2 next2 made2
+split_step s inside first p p2 keys nodes numbers made next2 made2 goals counts shape closed split once count numbered many counted going gone next added once2 owns = record {
+  stable =
+      round_stable s p p2 (is_moved (goal_of nodes numbers goals)) (has next2) partition
+      (goals_round s p p2 (has nodes) (group_of nodes numbers) (goal_of nodes numbers goals) (has next2) split.stable g children);
+  within = within_on first p p2 split.within (goals_within s p p2 (has nodes) (group_of nodes numbers) (goal_of nodes numbers goals) g);
+  same = same_but_on first p p2 inside split.same (same_but_moved p p2 (is_moved (goal_of nodes numbers goals)) inside
+      (λ n h. g.kept n (none_of n h))
+      (λ n h. let b = some_of (goal_of nodes numbers goals n) h in split.next_inside n (g.only n b.0 b.1)));
+  labels = λ u v t. split.labels u v ((goals_within s p p2 (has nodes) (group_of nodes numbers) (goal_of nodes numbers goals) g).within u v t);
+  next_nodes = λ n h. let q = next.from n h in shape.onto (slice_index nodes q.0) n q.4;
+  next_inside = λ n h.
+      let q = next.from n h in
+      closed.children (slice_index nodes q.0) n (split.next_inside (slice_index nodes q.0) (has_place nodes q.0 q.2)) q.4;
+  next_from = λ n h.
+      let q = next.from n h in
+      (slice_index nodes q.0, split.next_inside (slice_index nodes q.0) (has_place nodes q.0 q.2), q.4);
+  moved_made = λ n b e. elim (none_or_some (goal_of nodes numbers goals n)) [
+    | inr (c, goes) ↦ (
+        let f = goal_looked nodes numbers goals n c goes in
+        let found = g.moved n c goes in
+        let same : c ≡ b = cc in
+        inl (added.holds (group_of nodes numbers n) b (f.1 ∙ ap (λ x. Some x) same)))
+    | inl none ↦ elim (split.moved_made n b (sym (g.kept n none) ∙ e)) [ inl before ↦ inl (added.keeps b before) | inr there ↦ inr there ]
+  ];
+  made_once = once2;
+  made_inside = λ b n h e. elim (none_or_some (goal_of nodes numbers goals n)) [
+    | inr (c, goes) ↦ split.next_inside n (g.only n c goes)
+    | inl none ↦ (
+        let found : at p n ≡ Some b = sym (g.kept n none) ∙ e in
+        elim (added.from b h) [
+          | inl before ↦ split.made_inside b n before found
+          | inr (k, l, goes) ↦ absurd (going.fresh k n b goes found)
+        ])
+  ];
+  made_some = λ b h. elim (added.from b h) [
+    | inl before ↦ (
+        let n = split.made_some b before in
+        let m = goals_left s p p2 (has nodes) (group_of nodes numbers) (goal_of nodes numbers goals) g n.0 b n.1 in
+        (m.0, m.2))
+    | inr (k, l, goes) ↦ (
+        let below : k < length keys = omega (arith, l, many) in
+        let own = owns k below in
+        let n = node_of s p keys nodes numbers count once numbered k own.0 below own.1 in
+        (n.0, g.moved n.0 b (goal_there nodes numbers goals n.0 n.1 ∙ ap (goal_at goals) n.2 ∙ goes)))
+  ];
+}
+  where
+    g : AreGoals s p p2 (has nodes) (group_of nodes numbers) (goal_of nodes numbers goals)
+    g = groups_go s p keys nodes numbers count once numbered p2 goals counts shape split.stable.partition split.labels many counted going gone
+
+    none_of : (n : ℕ) → is_moved (goal_of nodes numbers goals) n ≡ false → goal_of nodes numbers goals n ≡ None
+    none_of n h = elim (none_or_some (goal_of nodes numbers goals n)) [
+      | inl e ↦ e
+      | inr (b, e) ↦ absurd (true≢false (sym (is_some_at (goal_of nodes numbers goals n) b e) ∙ h))
+    ]
+
+    partition : IsPartition s p2
+    partition = goals_partition s p p2 (has nodes) (group_of nodes numbers) (goal_of nodes numbers goals) g split.next_nodes split.stable.partition
+
+    children : (q n : ℕ) → IsTrue (is_moved (goal_of nodes numbers goals) q) → IsParent s q n → IsTrue (has next2 n)
+    children q n h e =
+        let b = some_of (goal_of nodes numbers goals q) h in
+        let f = goal_looked nodes numbers goals q b.0 b.1 in
+        let r = place_found nodes q f.0 in
+        next.into (place_of nodes q) b.0 n r.0 f.1 (subst (λ m. IsParent s m n) (sym r.1) e)

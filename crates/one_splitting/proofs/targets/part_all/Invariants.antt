@@ -1,0 +1,29 @@
+use Rattle.std.proofs.Common.{ℕ, ◌+◌, ◌*◌, ◌≤◌, Bool, length, take, drop}
+use Rattle.std.specs.Prelude.{IsTrue}
+use Rattle.std.specs.List.{sum_by}
+use Rattle.px_spec.specs.Members.{at, has}
+use Rattle.px_spec.specs.Shapes.{shape_of}
+use Rattle.label_graph.specs.Views.{label_number}
+use Rattle.upkeep_spec.specs.Named.{AreNamedOff}
+use Rattle.upkeep_spec.specs.Splits.{IsClosed}
+use Rattle.upkeep_spec.specs.Supported.{AreSupports}
+use Rattle.graph_update.specs.Pending.{graph_after}
+use Rattle.quotient_draft.specs.Basis.{IsOver}
+use Rattle.quotient_draft.specs.Drafts.{shown_blocks, shown_labels, shown_support}
+use Rattle.one_splitting.specs.Costs.{move_cost}
+use Rattle.one_splitting.specs.Going.{AreBlocks, AreLive}
+use Rattle.one_splitting.specs.Parting.{IsParting}
+use Rattle.one_splitting.proofs.targets.part_all.Given as goal
+
+abbrev pub invariant-loop-t : goal.invariant-loop-t
+invariant-loop-t g l = record {
+  over : IsOver l.base.blocks.block_of l.base.blocks.labels l.draft;
+  live : AreLive (shown_blocks l.base l.draft) (at (shown_labels l.base l.draft));
+  parting : (inside : ℕ → Bool) → IsClosed (shape_of (graph_after l.after)) inside → ((n : ℕ) → IsTrue (has l.targets n) → IsTrue (inside n))
+      → IsParting (shape_of (graph_after l.after)) inside (shown_blocks l.base l.initial.draft) (shown_blocks l.base l.draft) l.next.items (λ n. has (drop l.t-index l.targets) n) l.made.items;
+  named : AreNamedOff (λ n. has (drop l.t-index l.targets) n) (shown_blocks l.base l.draft) (at (shown_labels l.base l.draft)) (label_number (graph_after l.after));
+  supports : AreSupports (graph_after l.after) (shown_blocks l.base l.draft) (shown_support l.base l.draft);
+  made : AreBlocks (at (shown_labels l.base l.draft)) l.made.items;
+  charged : (w : ℕ) → ((n : ℕ) → IsTrue (has l.targets n) → move_cost l.after n ≤ w) → l.steps ≤ l.initial.steps + length l.made.items * w;
+  cost : l.steps ≤ l.initial.steps + sum_by (move_cost l.after) (take l.t-index l.targets);
+}

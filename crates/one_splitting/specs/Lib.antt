@@ -1,0 +1,5 @@
+pub mod Costs
+pub mod Counted
+pub mod Going
+pub mod Numbered
+pub mod Parting

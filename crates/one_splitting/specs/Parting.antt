@@ -1,0 +1,35 @@
+-- Targets that are looked at one after another.
+use Rattle.std.specs.Prelude.{◌≡◌, ◌≢◌, ◌⊎◌, ℕ, ◌||◌, Bool, List, Option, Some, IsTrue, IsFalse, nat_eq}
+use Rattle.std.specs.List.{IsDistinct}
+use Rattle.px_spec.specs.Members.{at, has}
+use Rattle.px_spec.specs.Shapes.{Shape, IsNode, IsParent}
+use Rattle.bisim_spec.specs.Partitions.{Together}
+use Rattle.bisim_spec.specs.Stability.{StableBut}
+use Rattle.upkeep_spec.specs.Rounds.{IsWithin, SameBut}
+
+-- passes one of two tests
+abbrev pub either : (ℕ → Bool) → (ℕ → Bool) → ℕ → Bool
+either f g n = f n || g n
+
+-- Targets so far: the partition is stable but maybe at the targets that are left and the nodes that are looked at next, and for
+-- the rest as for `IsSplit`.
+pub record IsParting (s : Shape) (inside : ℕ → Bool) (first p : List (Option ℕ)) (next : List ℕ) (rest : ℕ → Bool) (made : List ℕ) : Type 0 where
+  pub stable : StableBut s p (either (has next) rest)
+  pub within : IsWithin first p
+  pub same : SameBut first p inside
+  pub labels : (u v : ℕ) → IsFalse (rest u) → IsFalse (rest v) → Together p u v → s.label u ≡ s.label v
+  pub next_nodes : (n : ℕ) → IsTrue (has next n) → IsNode s n
+  pub next_inside : (n : ℕ) → IsTrue (has next n) → IsTrue (inside n)
+  pub next_from : (n : ℕ) → IsTrue (has next n) → (q : ℕ) × IsTrue (inside q) × IsParent s q n
+  pub moved_made : (n b : ℕ) → at p n ≡ Some b → IsTrue (has made b) ⊎ (at first n ≡ Some b)
+  pub made_once : IsDistinct nat_eq made
+  pub made_inside : (b n : ℕ) → IsTrue (has made b) → at p n ≡ Some b → IsTrue (inside n)
+  pub made_some : (b : ℕ) → IsTrue (has made b) → (n : ℕ) × (at p n ≡ Some b)
+  pub made_off : (b n : ℕ) → IsTrue (has made b) → at p n ≡ Some b → IsFalse (rest n)
+
+-- the first of what is left is t, the rest is what comes behind it
+pub record IsFirst (rest rest2 : ℕ → Bool) (t : ℕ) : Type 0 where
+  pub here : IsTrue (rest t)
+  pub gone : IsFalse (rest2 t)
+  pub within : (n : ℕ) → IsTrue (rest2 n) → IsTrue (rest n)
+  pub only : (n : ℕ) → IsFalse (rest2 n) → n ≢ t → IsFalse (rest n)

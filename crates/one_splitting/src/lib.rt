@@ -1,0 +1,10 @@
+//! Splitting the blocks of a 1-index after a change, in a draft, until the partition shown is stable.
+#![tactic(auto)]
+
+mod goals;
+mod keys;
+mod owners;
+mod rounds;
+mod targets;
+
+pub use targets::split;

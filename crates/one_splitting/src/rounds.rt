@@ -1,0 +1,142 @@
+// Splitting in rounds.
+ghost use Rattle.std.specs.Prelude.{◌≡◌, ◌⊎◌, ◌+◌, ◌≤◌, ◌<◌, [], ℕ, Bool, List, Option, IfOk, OnOk, IsSome, IfSome, IsTrue, is_some, ◌&&◌, ◌||◌, length, nat_eq, sum_by, if◌then◌else◌};
+ghost use Rattle.std.specs.List.{IsDistinct};
+ghost use Rattle.px_spec.specs.Members.{has, at};
+ghost use Rattle.px_spec.specs.Graphs.{is_live, has_edge};
+ghost use Rattle.px_spec.specs.Shapes.{shape_of, IsShape};
+ghost use Rattle.bisim_spec.specs.Partitions.{IsPartition};
+ghost use Rattle.upkeep_spec.specs.Named.{AreNamed};
+ghost use Rattle.upkeep_spec.specs.Splits.{IsClosed, IsSplit};
+ghost use Rattle.upkeep_spec.specs.Supported.{AreSupports};
+ghost use Rattle.graph_update.specs.Pending.{graph_after};
+ghost use Rattle.quotient_draft.specs.Drafts.{shown_blocks, shown_labels, shown_support};
+ghost use Rattle.quotient_draft.specs.Basis.{IsOver};
+ghost use Rattle.one_splitting.specs.Costs.{move_cost, round_cost};
+ghost use Rattle.one_splitting.specs.Going.{goal_at, AreBlocks, AreLabelled, AreLive, HaveGone, AreNext};
+
+use crate::goals::find_goals;
+use crate::keys::{number_nodes, sort_once};
+use crate::owners::count_owners;
+use graph_update::After;
+use key_table::KeyTable;
+use node_moves::{Near, move_node};
+use px_base::{Memory, NodeId, Steps};
+use quotient::Summary;
+use quotient_draft::Draft;
+use std::alloc::Global;
+use std::sync::ledger::Ledger;
+
+// Moves a node, where it goes anywhere.
+fn move_one<L: Ledger>(
+    base: &Summary,
+    draft: &mut Draft,
+    after: &After<'_>,
+    n: NodeId,
+    goal: Option<u32>,
+    near: &mut Near,
+    next: &mut Vec<NodeId>,
+    steps: &mut Steps<L>,
+) -> Result<(), Memory>
+    requires over { IsOver base.now.blocks.block_of base.now.blocks.labels draft.old }
+    requires live { IsTrue (is_live (graph_after after.now) n) }
+    requires partition { IsPartition (shape_of (graph_after after.now)) (shown_blocks base.now draft.old) }
+    requires block { IfSome goal (λ b. IsSome (at (shown_labels base.now draft.old) b)) }
+    requires supports { AreSupports (graph_after after.now) (shown_blocks base.now draft.old) (shown_support base.now draft.old) }
+    ensures over { OnOk result (IsOver base.now.blocks.block_of base.now.blocks.labels draft.new) }
+    ensures moved { OnOk result ((m : ℕ) → at (shown_blocks base.now draft.new) m ≡ (if nat_eq m n && is_some goal then goal else at (shown_blocks base.now draft.old) m)) }
+    ensures added { draft.new.added ≡ draft.old.added }
+    ensures supports { OnOk result (AreSupports (graph_after after.now) (shown_blocks base.now draft.new) (shown_support base.now draft.new)) }
+    ensures next { OnOk result ((m : ℕ) → has next.new.items m ≡ (has next.old.items m || (is_some goal && has_edge (graph_after after.now) n m))) }
+    ensures cost { steps.new ≤ steps.old + move_cost after.now n }
+{
+    match goal {
+        Some(b) => move_node(base, draft, after, n, b, near, next, steps),
+        None => Ok(()),
+    }
+}
+
+// The goal of a group.
+fn goal_of(goals: &[Option<u32>], k: u32) -> Option<u32>
+    ensures { result ≡ goal_at goals.now k }
+{
+    let goal = goals.get(k as usize)?;
+    *goal
+}
+
+// Moves each node to where its group goes, and lists the children of those that move.
+fn move_nodes<L: Ledger>(
+    alloc: Global,
+    base: &Summary,
+    draft: &mut Draft,
+    after: &After<'_>,
+    nodes: &[NodeId],
+    numbers: &[u32],
+    goals: &[Option<u32>],
+    steps: &mut Steps<L>,
+) -> Result<Vec<NodeId>, Memory>
+    requires over { IsOver base.now.blocks.block_of base.now.blocks.labels draft.old }
+    requires live { (n : ℕ) → IsTrue (has nodes.now n) → IsTrue (is_live (graph_after after.now) n) }
+    requires once { IsDistinct nat_eq nodes.now }
+    requires count { length numbers.now ≡ length nodes.now }
+    requires partition { IsPartition (shape_of (graph_after after.now)) (shown_blocks base.now draft.old) }
+    requires blocks { AreLabelled goals.now (at (shown_labels base.now draft.old)) }
+    requires supports { AreSupports (graph_after after.now) (shown_blocks base.now draft.old) (shown_support base.now draft.old) }
+    ensures over { OnOk result (IsOver base.now.blocks.block_of base.now.blocks.labels draft.new) }
+    ensures gone { OnOk result (HaveGone (shown_blocks base.now draft.old) (shown_blocks base.now draft.new) nodes.now numbers.now goals.now (length nodes.now)) }
+    ensures next { IfOk result (λ next. AreNext (shape_of (graph_after after.now)) nodes.now numbers.now goals.now (length nodes.now) next.items) }
+    ensures added { OnOk result (draft.new.added ≡ draft.old.added) }
+    ensures supports { OnOk result (AreSupports (graph_after after.now) (shown_blocks base.now draft.new) (shown_support base.now draft.new)) }
+    ensures cost { steps.new ≤ steps.old + sum_by (move_cost after.now) nodes.now }
+{
+    let mut near = Near::new(alloc);
+    let mut next = Vec::new(alloc);
+    for (i, n) in nodes.iter().enumerate() {
+        let goal = goal_of(goals, numbers[i]);
+        move_one(base, draft, after, *n, goal, &mut near, &mut next, steps)?;
+    }
+    Ok(next)
+}
+
+/// Looks at these nodes, and gives those that are to be looked at next: the children of those that moved.
+pub(crate) fn round<L: Ledger>(
+    alloc: Global,
+    base: &Summary,
+    draft: &mut Draft,
+    after: &After<'_>,
+    nodes: &[NodeId],
+    made: &mut Vec<u32>,
+    steps: &mut Steps<L>,
+) -> Result<Vec<NodeId>, Memory>
+    requires over { IsOver base.now.blocks.block_of base.now.blocks.labels draft.old }
+    requires live { AreLive (shown_blocks base.now draft.old) (at (shown_labels base.now draft.old)) }
+    requires nodes { (n : ℕ) → IsTrue (has nodes.now n) → IsTrue (is_live (graph_after after.now) n) }
+    requires shape { IsShape (shape_of (graph_after after.now)) }
+    requires partition { IsPartition (shape_of (graph_after after.now)) (shown_blocks base.now draft.old) }
+    requires once { IsDistinct nat_eq nodes.now }
+    requires made { AreBlocks (at (shown_labels base.now draft.old)) made.old.items }
+    requires supports { AreSupports (graph_after after.now) (shown_blocks base.now draft.old) (shown_support base.now draft.old) }
+    ensures over { OnOk result (IsOver base.now.blocks.block_of base.now.blocks.labels draft.new) }
+    ensures split { IfOk result (λ next. (inside : ℕ → Bool) (first : List (Option ℕ)) → IsClosed (shape_of (graph_after after.now)) inside → IsSplit (shape_of (graph_after after.now)) inside first (shown_blocks base.now draft.old) nodes.now made.old.items → IsSplit (shape_of (graph_after after.now)) inside first (shown_blocks base.now draft.new) next.items made.new.items) }
+    ensures once { IfOk result (λ next. IsDistinct nat_eq next.items) }
+    ensures named { OnOk result ((names : ℕ → Option ℕ) → AreNamed (shown_blocks base.now draft.old) (at (shown_labels base.now draft.old)) names → AreNamed (shown_blocks base.now draft.new) (at (shown_labels base.now draft.new)) names) }
+    ensures made { OnOk result (AreBlocks (at (shown_labels base.now draft.new)) made.new.items) }
+    ensures supports { OnOk result (AreSupports (graph_after after.now) (shown_blocks base.now draft.new) (shown_support base.now draft.new)) }
+    ensures least { OnOk result (length made.old.items ≤ length made.new.items) }
+    ensures more { IfOk result (λ next. (length made.old.items < length made.new.items) ⊎ (next.items ≡ [])) }
+    ensures cost { steps.new ≤ steps.old + sum_by (round_cost after.now) nodes.now }
+{
+    let mut keys = KeyTable::new(alloc)?;
+    let numbers = number_nodes(alloc, base, draft, after, nodes, &mut keys, steps)?;
+    let counts = count_owners(alloc, base, draft, nodes)?;
+    let goals = find_goals(alloc, base, draft, &counts, &keys, made)?;
+    let mut next = move_nodes(alloc, base, draft, after, nodes, &numbers, &goals, steps)?;
+    sort_once(&mut next);
+    Ok(next)
+}
+
+/// Whether nothing is to be looked at.
+pub(crate) fn is_done(next: &[NodeId]) -> bool
+    ensures { result ≡ nat_eq (length next.now) 0 }
+{
+    next.is_empty()
+}

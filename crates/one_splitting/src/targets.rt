@@ -1,0 +1,188 @@
+// Splitting from several targets.
+ghost use Rattle.std.specs.Prelude.{◌≡◌, ◌⊎◌, ◌++◌, ◌∷◌, ◌+◌, ◌*◌, ◌≤◌, ◌<◌, ◌&&◌, if◌then◌else◌, [], ℕ, Bool, List, Option, IfOk, OnOk, Some, IsSome, IsTrue, is_some, length, nat_eq, sum_by};
+ghost use Rattle.std.specs.List.{IsDistinct};
+ghost use Rattle.px_spec.specs.Members.{has, at};
+ghost use Rattle.px_spec.specs.Graphs.{is_live};
+ghost use Rattle.px_spec.specs.Shapes.{shape_of, IsShape};
+ghost use Rattle.label_graph.specs.Views.{label_number};
+ghost use Rattle.bisim_spec.specs.Partitions.{IsPartition};
+ghost use Rattle.bisim_spec.specs.Stability.{StableBut};
+ghost use Rattle.bisim_spec.specs.Weights.{size_of, weight};
+ghost use Rattle.upkeep_spec.specs.Named.{AreNamed, AreNamedOff};
+ghost use Rattle.upkeep_spec.specs.Splits.{IsClosed, IsSplit};
+ghost use Rattle.upkeep_spec.specs.Supported.{AreSupports};
+ghost use Rattle.graph_update.specs.Pending.{graph_after};
+ghost use Rattle.quotient_draft.specs.Drafts.{shown_blocks, shown_labels, shown_support};
+ghost use Rattle.quotient_draft.specs.Basis.{IsOver};
+ghost use Rattle.one_splitting.specs.Costs.{move_cost};
+ghost use Rattle.one_splitting.specs.Going.{AreBlocks, AreLive};
+ghost use Rattle.one_splitting.specs.Parting.{IsParting, IsFirst};
+
+use crate::goals::draft_block;
+use crate::keys::{own_block, sort_once};
+use crate::rounds::{is_done, round};
+use graph_update::After;
+use node_moves::{Near, move_node};
+use px_base::{Memory, NodeId, Steps};
+use quotient::Summary;
+use quotient_draft::Draft;
+use std::alloc::Global;
+use std::sync::ledger::Ledger;
+
+// Lists those of the targets that have a block. The others are gone.
+fn with_blocks(
+    alloc: Global,
+    base: &Summary,
+    draft: &Draft,
+    targets: &[NodeId],
+) -> Result<Vec<NodeId>, Memory>
+    requires over { IsOver base.now.blocks.block_of base.now.blocks.labels draft.now }
+    requires once { IsDistinct nat_eq targets.now }
+    ensures once { IfOk result (λ list. IsDistinct nat_eq list.items) }
+    ensures those { IfOk result (λ list. (n : ℕ) → has list.items n ≡ (has targets.now n && is_some (at (shown_blocks base.now draft.now) n))) }
+    ensures live { OnOk result ((n b : ℕ) → IsTrue (has targets.now n) → at (shown_blocks base.now draft.now) n ≡ Some b → IsSome (at (shown_labels base.now draft.now) b)) }
+{
+    let mut list = Vec::new(alloc);
+    for t in targets {
+        push_if(&mut list, *t, draft.block_of(base, *t).is_some())?;
+    }
+    Ok(list)
+}
+
+// Whether the target is alone in a block with its label.
+fn is_apart(base: &Summary, draft: &Draft, after: &After<'_>, target: NodeId, own: u32) -> bool
+    requires over { IsOver base.now.blocks.block_of base.now.blocks.labels draft.now }
+    requires live { IsTrue (is_live (graph_after after.now) target) }
+    requires own { at (shown_blocks base.now draft.now) target ≡ Some own }
+    requires block { IsSome (at (shown_labels base.now draft.now) own) }
+    ensures alone { IsTrue result → (n : ℕ) → at (shown_blocks base.now draft.now) n ≡ Some own → IsTrue (has (target ∷ []) n) }
+    ensures label { IsTrue result → at (shown_labels base.now draft.now) own ≡ label_number (graph_after after.now) target }
+{
+    if draft.label(base, own) != after.label(target) {
+        return false;
+    }
+    draft.member_count(base, own) == 1
+}
+
+// Puts a node behind the list, if it is to stay.
+fn push_if(list: &mut Vec<NodeId>, n: NodeId, stays: bool) -> Result<(), Memory>
+    ensures { OnOk result (list.new.items ≡ (if stays then list.old.items ++ n ∷ [] else list.old.items)) }
+{
+    if stays {
+        list.push(n)?;
+    }
+    Ok(())
+}
+
+// Puts a target into a block of its own, where it has company or another label, and puts its children behind
+// what is looked at next.
+fn part_one<L: Ledger>(
+    base: &Summary,
+    draft: &mut Draft,
+    after: &After<'_>,
+    target: NodeId,
+    near: &mut Near,
+    made: &mut Vec<u32>,
+    next: &mut Vec<NodeId>,
+    steps: &mut Steps<L>,
+) -> Result<(), Memory>
+    requires over { IsOver base.now.blocks.block_of base.now.blocks.labels draft.old }
+    requires live { AreLive (shown_blocks base.now draft.old) (at (shown_labels base.now draft.old)) }
+    requires shape { IsShape (shape_of (graph_after after.now)) }
+    requires partition { IsPartition (shape_of (graph_after after.now)) (shown_blocks base.now draft.old) }
+    requires node { IsTrue (is_live (graph_after after.now) target) }
+    requires made { AreBlocks (at (shown_labels base.now draft.old)) made.old.items }
+    requires supports { AreSupports (graph_after after.now) (shown_blocks base.now draft.old) (shown_support base.now draft.old) }
+    ensures over { OnOk result (IsOver base.now.blocks.block_of base.now.blocks.labels draft.new) }
+    ensures live { OnOk result (AreLive (shown_blocks base.now draft.new) (at (shown_labels base.now draft.new))) }
+    ensures parting { OnOk result ((inside : ℕ → Bool) (first : List (Option ℕ)) (rest rest2 : ℕ → Bool) → IsClosed (shape_of (graph_after after.now)) inside → IsTrue (inside target) → IsFirst rest rest2 target → IsParting (shape_of (graph_after after.now)) inside first (shown_blocks base.now draft.old) next.old.items rest made.old.items → IsParting (shape_of (graph_after after.now)) inside first (shown_blocks base.now draft.new) next.new.items rest2 made.new.items) }
+    ensures named { OnOk result ((rest rest2 : ℕ → Bool) → IsFirst rest rest2 target → AreNamedOff rest (shown_blocks base.now draft.old) (at (shown_labels base.now draft.old)) (label_number (graph_after after.now)) → AreNamedOff rest2 (shown_blocks base.now draft.new) (at (shown_labels base.now draft.new)) (label_number (graph_after after.now))) }
+    ensures made { OnOk result (AreBlocks (at (shown_labels base.now draft.new)) made.new.items) }
+    ensures supports { OnOk result (AreSupports (graph_after after.now) (shown_blocks base.now draft.new) (shown_support base.now draft.new)) }
+    ensures charged { OnOk result ((length made.old.items < length made.new.items) ⊎ ((length made.new.items ≡ length made.old.items) × (steps.new ≡ steps.old))) }
+    ensures cost { steps.new ≤ steps.old + move_cost after.now target }
+{
+    let own = own_block(base, draft, target);
+    if is_apart(base, draft, after, target, own) {
+        return Ok(());
+    }
+    let b = draft_block(base, draft, after.label(target))?;
+    made.push(b)?;
+    move_node(base, draft, after, target, b, near, next, steps)?;
+    Ok(())
+}
+
+// Does so for each target, and gives the nodes that are to be looked at next.
+fn part_all<L: Ledger>(
+    alloc: Global,
+    base: &Summary,
+    draft: &mut Draft,
+    after: &After<'_>,
+    targets: &[NodeId],
+    made: &mut Vec<u32>,
+    steps: &mut Steps<L>,
+) -> Result<Vec<NodeId>, Memory>
+    requires over { IsOver base.now.blocks.block_of base.now.blocks.labels draft.old }
+    requires live { AreLive (shown_blocks base.now draft.old) (at (shown_labels base.now draft.old)) }
+    requires shape { IsShape (shape_of (graph_after after.now)) }
+    requires once { IsDistinct nat_eq targets.now }
+    requires nodes { (n : ℕ) → IsTrue (has targets.now n) → IsTrue (is_live (graph_after after.now) n) }
+    requires stable { StableBut (shape_of (graph_after after.now)) (shown_blocks base.now draft.old) (has targets.now) }
+    requires named { AreNamedOff (has targets.now) (shown_blocks base.now draft.old) (at (shown_labels base.now draft.old)) (label_number (graph_after after.now)) }
+    requires none { made.old.items ≡ [] }
+    requires supports { AreSupports (graph_after after.now) (shown_blocks base.now draft.old) (shown_support base.now draft.old) }
+    ensures over { OnOk result (IsOver base.now.blocks.block_of base.now.blocks.labels draft.new) }
+    ensures split { IfOk result (λ next. (inside : ℕ → Bool) → IsClosed (shape_of (graph_after after.now)) inside → ((n : ℕ) → IsTrue (has targets.now n) → IsTrue (inside n)) → IsSplit (shape_of (graph_after after.now)) inside (shown_blocks base.now draft.old) (shown_blocks base.now draft.new) next.items made.new.items) }
+    ensures once { IfOk result (λ next. IsDistinct nat_eq next.items) }
+    ensures named { OnOk result (AreNamed (shown_blocks base.now draft.new) (at (shown_labels base.now draft.new)) (label_number (graph_after after.now))) }
+    ensures made { OnOk result (AreBlocks (at (shown_labels base.now draft.new)) made.new.items) }
+    ensures supports { OnOk result (AreSupports (graph_after after.now) (shown_blocks base.now draft.new) (shown_support base.now draft.new)) }
+    ensures charged { OnOk result ((w : ℕ) → ((n : ℕ) → IsTrue (has targets.now n) → move_cost after.now n ≤ w) → steps.new ≤ steps.old + length made.new.items * w) }
+    ensures cost { steps.new ≤ steps.old + sum_by (move_cost after.now) targets.now }
+{
+    let mut near = Near::new(alloc);
+    let mut next = Vec::new(alloc);
+    for t in targets {
+        part_one(base, draft, after, *t, &mut near, made, &mut next, steps)?;
+    }
+    sort_once(&mut next);
+    Ok(next)
+}
+
+/// Splits blocks in the draft until the partition shown is stable on the graph after the change, where before
+/// it was so but maybe at the targets. Targets without a block are passed by. The blocks that are made are put
+/// into `made`. Whatever set is closed under children and holds the targets, only its nodes are read and moved.
+///
+/// It takes at most `4 * ((r + 1) * w)` steps, where the set has `r` nodes and weighs `w`: one for each of them, one
+/// for each parent and one for each child. After `Memory`, also past 2^31 blocks, the draft is good for `clear` alone.
+pub fn split<L: Ledger>(
+    alloc: Global,
+    base: &Summary,
+    draft: &mut Draft,
+    after: &After<'_>,
+    targets: &[NodeId],
+    made: &mut Vec<u32>,
+    steps: &mut Steps<L>,
+) -> Result<(), Memory>
+    requires over { IsOver base.now.blocks.block_of base.now.blocks.labels draft.old }
+    requires once { IsDistinct nat_eq targets.now }
+    requires stable { StableBut (shape_of (graph_after after.now)) (shown_blocks base.now draft.old) (has targets.now) }
+    requires named { AreNamedOff (has targets.now) (shown_blocks base.now draft.old) (at (shown_labels base.now draft.old)) (label_number (graph_after after.now)) }
+    requires none { made.old.items ≡ [] }
+    requires supports { AreSupports (graph_after after.now) (shown_blocks base.now draft.old) (shown_support base.now draft.old) }
+    ensures over { OnOk result (IsOver base.now.blocks.block_of base.now.blocks.labels draft.new) }
+    ensures named { OnOk result (AreNamed (shown_blocks base.now draft.new) (at (shown_labels base.now draft.new)) (label_number (graph_after after.now))) }
+    ensures split { OnOk result ((inside : ℕ → Bool) → IsClosed (shape_of (graph_after after.now)) inside → ((n : ℕ) → IsTrue (has targets.now n) → IsTrue (inside n)) → IsSplit (shape_of (graph_after after.now)) inside (shown_blocks base.now draft.old) (shown_blocks base.now draft.new) [] made.new.items) }
+    ensures made { OnOk result ((b : ℕ) → IsTrue (has made.new.items b) → IsSome (at (shown_labels base.now draft.new) b)) }
+    ensures supports { OnOk result (AreSupports (graph_after after.now) (shown_blocks base.now draft.new) (shown_support base.now draft.new)) }
+    ensures cost { (inside : ℕ → Bool) → IsClosed (shape_of (graph_after after.now)) inside → ((n : ℕ) → IsTrue (has targets.now n) → IsTrue (inside n)) → steps.new ≤ steps.old + 4 * ((size_of (shape_of (graph_after after.now)) inside + 1) * weight (shape_of (graph_after after.now)) inside) }
+{
+    let present = with_blocks(alloc, base, draft, targets)?;
+    // What is read here is that edges of the graph after lead from nodes to nodes.
+    let _created = after.created();
+    let mut next = part_all(alloc, base, draft, after, &present, made, steps)?;
+    'rounds: while !is_done(&next) {
+        next = round(alloc, base, draft, after, &next, made, steps)?;
+    }
+    Ok(())
+}
