@@ -1,4 +1,4 @@
-// The index of two rings, while an edge is taken away.
+// The index of two rings while an edge is taken away, and of a graph to which one comes between blocks that have support.
 ghost use Rattle.std.specs.Prelude.{◌≡◌, ◌<◌, IfOk, OnOk, IsSome};
 ghost use Rattle.index_api.specs.Meanings.{IsReady};
 ghost use Rattle.one_maintain.specs.Keeping.{meaning_of};
@@ -14,11 +14,6 @@ use std::process::Abort;
 use std::sync::ledger::{Blank, Ledger};
 use std::test::Fail;
 
-// Two rings of an a and a b.
-const LABELS: &[u8] = b"abab";
-
-const RINGS: &[(NodeId, NodeId)] = &[(0, 1), (1, 0), (2, 3), (3, 2)];
-
 // Makes a change that alters the graph.
 fn make(alloc: Global, graph: &mut Graph, change: &Change) -> Result<(), Fail> {
     let Ok(Verdict::New) = judge(graph, change, &Limits::program()) else {
@@ -29,31 +24,19 @@ fn make(alloc: Global, graph: &mut Graph, change: &Change) -> Result<(), Fail> {
     Ok(())
 }
 
-fn rings(alloc: Global) -> Result<Graph, Fail> {
+fn graph_of(alloc: Global, labels: &[u8], edges: &[(NodeId, NodeId)]) -> Result<Graph, Fail> {
     let mut graph = Graph::new(alloc)?;
-    for label in LABELS {
+    for label in labels {
         make(
             alloc,
             &mut graph,
             &Change::Node(Text::from_bytes(alloc, &[*label])?),
         )?;
     }
-    for (u, v) in RINGS {
+    for (u, v) in edges {
         make(alloc, &mut graph, &Change::Link(*u, *v))?;
     }
     Ok(graph)
-}
-
-// Prepares a change that alters the graph.
-fn prepare(kept: &mut OneKept, graph: &Graph, change: &Change) -> Result<(), Fail>
-    requires ready { IsReady (meaning_of kept.old.kept) graph.now.graph }
-    ensures { OnOk result (IsSome (meaning_of kept.new.kept).staged) }
-{
-    let Ok(Verdict::New) = judge(graph, change, &Limits::program()) else {
-        return Err("not new".into());
-    };
-    kept.prepare(graph, change)?;
-    Ok(())
 }
 
 // Whether there is one view, and it has so many blocks.
@@ -73,37 +56,84 @@ fn built<L: Ledger>(alloc: Global, graph: &Graph, blank: Blank) -> Result<OneKep
 {
     let mut steps = Steps::<L>::new(blank);
     let mut kept = OneKept::new(alloc)?;
-    kept.build(&graph.view(&mut steps), 0)?;
+    let view = graph.view(&mut steps);
+    kept.build(&view, 0)?;
+    kept.refresh(&view)?;
     Ok(kept)
 }
 
-// Prepares that an edge is taken away.
-fn prepare_unlink(kept: &mut OneKept, graph: &Graph, u: NodeId, v: NodeId) -> Result<(), Fail>
+// Prepares a change that alters the graph.
+fn prepare(kept: &mut OneKept, graph: &Graph, change: &Change) -> Result<(), Fail>
     requires ready { IsReady (meaning_of kept.old.kept) graph.now.graph }
     ensures { OnOk result (IsSome (meaning_of kept.new.kept).staged) }
 {
-    let change = Change::Unlink(u, v);
-    prepare(kept, graph, &change)
-}
-
-// Full bisimilarity has two blocks, and once the edge is gone each node is alone.
-fn check_kept(rt: &impl Abort, kept: &mut OneKept, graph: &Graph) -> Result<(), Fail>
-    requires ready { IsReady (meaning_of kept.old.kept) graph.now.graph }
-{
-    prepare_unlink(kept, graph, 2, 3)?;
-    assert!(rt; has_blocks(kept, 2));
-    kept.commit();
-    assert!(rt; has_blocks(kept, 4));
+    let Ok(Verdict::New) = judge(graph, change, &Limits::program()) else {
+        return Err("not new".into());
+    };
+    kept.prepare(graph, change)?;
     Ok(())
 }
 
-fn check_graph(rt: &impl Abort, alloc: Global, graph: &Graph) -> Result<(), Fail> {
-    let mut kept = built::<Brand>(alloc, graph, Blank::new(1))?;
-    check_kept(rt, &mut kept, graph)
+// The same, with steps counted.
+fn prepare_counted<L: Ledger>(kept: &mut OneKept, graph: &Graph, change: &Change, blank: Blank) -> Result<(), Fail>
+    requires name { blank.name ≡ L.name }
+    requires parts { blank.parts ≡ L.parts }
+    requires some { 0 < blank.parts }
+    requires ready { IsReady (meaning_of kept.old.kept) graph.now.graph }
+    ensures { OnOk result (IsSome (meaning_of kept.new.kept).staged) }
+{
+    let Ok(Verdict::New) = judge(graph, change, &Limits::program()) else {
+        return Err("not new".into());
+    };
+    let mut steps = Steps::<L>::new(blank);
+    kept.prepare_counted(graph, change, &mut steps)?;
+    Ok(())
 }
 
+// Full bisimilarity of the rings has two blocks, and once the edge is gone each node is alone.
+fn check_rings(rt: &impl Abort, kept: &mut OneKept, graph: &Graph) -> Result<(), Fail>
+    requires ready { IsReady (meaning_of kept.old.kept) graph.now.graph }
+{
+    let change = Change::Unlink(2, 3);
+    prepare(kept, graph, &change)?;
+    assert!(rt; has_blocks(kept, 2));
+    kept.commit();
+    assert!(rt; has_blocks(kept, 4));
+    kept.cancel();
+    Ok(())
+}
+
+// An edge between blocks that have support already leaves the blocks.
+fn check_twins(rt: &impl Abort, kept: &mut OneKept, graph: &Graph) -> Result<(), Fail>
+    requires ready { IsReady (meaning_of kept.old.kept) graph.now.graph }
+{
+    let change = Change::Link(1, 3);
+    prepare_counted::<Brand>(kept, graph, &change, Blank::new(1))?;
+    kept.commit();
+    assert!(rt; has_blocks(kept, 2));
+    Ok(())
+}
+
+fn check_index_of_rings(rt: &impl Abort, alloc: Global, graph: &Graph) -> Result<(), Fail> {
+    let mut kept = built::<Brand>(alloc, graph, Blank::new(1))?;
+    check_rings(rt, &mut kept, graph)
+}
+
+fn check_index_of_twins(rt: &impl Abort, alloc: Global, graph: &Graph) -> Result<(), Fail> {
+    let mut kept = built::<Brand>(alloc, graph, Blank::new(1))?;
+    check_twins(rt, &mut kept, graph)
+}
+
+// Two rings of an a and a b.
 #[test]
 fn rings_come_apart(rt: HostRuntime) -> Result<(), Fail> {
-    let graph = rings(rt.alloc())?;
-    check_graph(&rt, rt.alloc(), &graph)
+    let graph = graph_of(rt.alloc(), b"abab", &[(0, 1), (1, 0), (2, 3), (3, 2)])?;
+    check_index_of_rings(&rt, rt.alloc(), &graph)
+}
+
+// Two of a over two of b.
+#[test]
+fn twins_stay_together(rt: HostRuntime) -> Result<(), Fail> {
+    let graph = graph_of(rt.alloc(), b"aabb", &[(0, 2), (1, 2), (0, 3)])?;
+    check_index_of_twins(&rt, rt.alloc(), &graph)
 }
