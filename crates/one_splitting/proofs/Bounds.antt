@@ -1,20 +1,18 @@
 -- What the rounds cost in all.
-use Rattle.std.proofs.Common.{◌≡◌, ◌≢◌, ℕ, zero, suc, ◌+◌, ◌*◌, ◌<◌, ◌≤◌, List, Option, Some, None, refl, sym, ◌∙◌, ap, arith, inl, inr, true, false, Bool, cond, length}
+use Rattle.std.proofs.Common.{◌≡◌, ℕ, zero, suc, ◌+◌, ◌*◌, ◌<◌, ◌≤◌, List, Option, Some, None, refl, ap, arith, inl, inr, true, Bool, cond}
 use Rattle.std.specs.Prelude.{nat_eq}
 use Rattle.std.specs.List.{sum_by, IsDistinct}
 use Rattle.std.proofs.lemmas.Bool.{cases_Bool}
 use Rattle.std.proofs.lemmas.Bool.Decides.{eqb_tells}
-use Rattle.std.proofs.Math.Nat.{mul-le-mul_left}
-use Rattle.px_spec.specs.Members.{at, has}
+use Rattle.px_spec.specs.Members.{has}
 use Rattle.px_spec.specs.Shapes.{Shape, shape_of}
 use Rattle.bisim_spec.specs.Below.{count_below}
 use Rattle.bisim_spec.proofs.BelowLaws.{bit_of}
 use Rattle.graph_update.specs.Pending.{Pending, graph_after, lost_edge, lost_from, lost_onto}
 use Rattle.bisim_spec.specs.Below.{sum_below}
 use Rattle.bisim_spec.specs.Weights.{weight_at, weight, size_of}
-use Rattle.upkeep_spec.proofs.Sums.{where_in, sum_listed, sum_most}
-use Rattle.node_moves.specs.Costs.{parents_cost, children_cost}
-use Rattle.one_splitting.specs.Costs.{move_cost, round_cost}
+use Rattle.upkeep_spec.proofs.Sums.{where_in, sum_listed}
+use Rattle.one_splitting.specs.Costs.{round_cost}
 
 -- a number is met once
 once_before : (n v : ℕ) → n ≤ v → sum_below n (λ k. cond (nat_eq k v) 1 0) ≡ 0
@@ -58,10 +56,6 @@ sum_three : (n : ℕ) (f g h i : ℕ → ℕ) → ((k : ℕ) → f k ≤ 3 * g k
 sum_three zero f g h i e = omega arith
 sum_three (suc n) f g h i e = (let a = e n in let r = sum_three n f g h i e in omega (arith, a, r))
 
-sum_two : (n : ℕ) (f g h : ℕ → ℕ) → ((k : ℕ) → f k ≤ g k + h k) → sum_below n f ≤ sum_below n g + sum_below n h
-sum_two zero f g h e = omega arith
-sum_two (suc n) f g h e = (let a = e n in let r = sum_two n f g h e in omega (arith, a, r))
-
 -- a round over distinct nodes inside
 pub round_most : (a : Pending) (inside : ℕ → Bool) (nodes : List ℕ) → IsDistinct nat_eq nodes
     → ((n : ℕ) → has nodes n ≡ true → (n < (shape_of (graph_after a)).size) × (inside n ≡ true))
@@ -77,20 +71,6 @@ round_most a inside nodes once within =
     let from = lost_from_most s.size (lost_edge a.change) in
     omega (arith, listed, parts, onto, from)
 
--- reading the parents alone
-pub parents_most : (a : Pending) (inside : ℕ → Bool) (nodes : List ℕ) → IsDistinct nat_eq nodes
-    → ((n : ℕ) → has nodes n ≡ true → (n < (shape_of (graph_after a)).size) × (inside n ≡ true))
-    → sum_by (parents_cost a) nodes ≤ weight (shape_of (graph_after a)) inside + 1
-parents_most a inside nodes once within =
-    let s = shape_of (graph_after a) in
-    let listed = sum_listed s.size inside (parents_cost a) nodes once within in
-    let parts = sum_two s.size (where_in inside (parents_cost a)) (where_in inside (weight_at s)) (lost_onto (lost_edge a.change)) (λ k. elim (cases_Bool (inside k)) [
-      | inl on ↦ rw on (omega arith)
-      | inr off ↦ rw off (omega arith)
-    ]) in
-    let onto = lost_onto_most s.size (lost_edge a.change) in
-    omega (arith, listed, parts, onto)
-
 -- there are no more nodes than they weigh
 pub size_most : (s : Shape) (inside : ℕ → Bool) → size_of s inside ≤ weight s inside
 size_most s inside = by s.size
@@ -101,13 +81,3 @@ size_most s inside = by s.size
       | inl on ↦ (let r = by n in rw on (omega (arith, r)))
       | inr off ↦ (let r = by n in rw off (omega (arith, r)))
     ]
-
--- Each round but the last makes a block, and there are no more blocks made than nodes inside.
-pub split_most : (made r w spent : ℕ) → made ≤ r → 1 ≤ r → r ≤ w → spent ≤ made * (3 * w + 3) + (w + 1) → spent ≤ 4 * ((r + 1) * w)
-split_most made r w spent few some light cost =
-    let more : made * (3 * w + 3) ≤ r * (3 * w + 3) = mul-le made r (3 * w + 3) few in
-    let heavy : 1 * w ≤ r * w = mul-le 1 r w some in
-    omega (arith, more, heavy, cost)
-  where
-    mul-le : (a b c : ℕ) → a ≤ b → a * c ≤ b * c
-    mul-le a b c h = (let k = mul-le-mul_left c h in omega (arith, k))

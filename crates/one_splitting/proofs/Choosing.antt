@@ -1,11 +1,11 @@
 -- The next group has its goal: what holds of all goals so far.
-use Rattle.std.proofs.Common.{◌≡◌, ℕ, ◌+◌, ◌<◌, ◌≤◌, ◌⊎◌, List, [], ◌∷◌, ◌++◌, length, Option, Some, None, IsTrue, IsFalse, IsSome, is_some, refl, sym, ◌∙◌, ap, subst, arith, inl, inr, true, false, Bool, true≢false, option_to_list}
+use Rattle.std.proofs.Common.{◌≡◌, ℕ, ◌+◌, ◌<◌, List, [], ◌∷◌, ◌++◌, length, Option, Some, None, IsSome, is_some, refl, sym, ◌∙◌, ap, subst, arith, inl, inr, false, true≢false, option_to_list}
 use Rattle.std.specs.Prelude.{slice_get, nat_eq, ◌||◌}
 use Rattle.std.specs.List.{IsDistinct}
 use Rattle.std.proofs.lemmas.Bool.{or_cases, or_left, or_right, false_from_ne_true}
 use Rattle.std.proofs.lemmas.Bool.Decides.{Decides-eqb}
 use Rattle.std.proofs.lemmas.List.{length-append}
-use Rattle.px_spec.specs.Members.{at, has}
+use Rattle.px_spec.specs.Members.{has}
 use Rattle.graph_update.proofs.NeighbourLists.{and_one}
 use Rattle.one_splitting.specs.Going.{BeginsAt, goal_at, AreGoing, StaysIf, GoesIf, AreLabelled, AreBlocks, AreAdded}
 use Rattle.one_splitting.proofs.Chosen.{AreNoted, has_push, goal_cases, goal_last, goal_stays, going_none, going_stays, going_goes, noted_stays, noted_goes}

@@ -1,8 +1,8 @@
 -- What a round comes to.
-use Rattle.std.proofs.Common.{◌≡◌, ℕ, ◌+◌, ◌*◌, ◌<◌, ◌≤◌, ◌⊎◌, List, [], ◌∷◌, ◌++◌, length, Option, Some, None, IsTrue, refl, sym, ◌∙◌, ap, subst, arith, inl, inr, true, false, Bool, true≢false}
-use Rattle.std.specs.Prelude.{nat_eq, slice_get, slice_index, ◌||◌}
+use Rattle.std.proofs.Common.{◌≡◌, ℕ, ◌+◌, ◌<◌, ◌⊎◌, List, [], ◌∷◌, length, Option, Some, refl, sym, ◌∙◌, ap, arith, inl, inr, false, Bool}
+use Rattle.std.specs.Prelude.{nat_eq, slice_get, slice_index}
 use Rattle.std.specs.List.{IsDistinct, AllByRecursion, sum_by}
-use Rattle.std.specs.List.Sorted.{IsStrictlySortedBy, IsStrictlyIncreasing}
+use Rattle.std.specs.List.Sorted.{IsStrictlySortedBy}
 use Rattle.std.specs.Ordering.{nat_cmp, is_eq}
 use Rattle.std.specs.Cmp.{unsigned_tied}
 use Rattle.std.specs.declared.cmp.Ordering.TheVariants.{Less}
@@ -11,13 +11,13 @@ use Rattle.std.proofs.lemmas.Bool.Decides.{Decides-eqb}
 use Rattle.std.proofs.lemmas.List.Sums.{sum_by-cons}
 use Rattle.std.proofs.lemmas.Map.Keys.{sorted_from_strictly_increasing}
 use Rattle.px_spec.specs.Members.{at, has}
-use Rattle.px_spec.specs.Shapes.{Shape, IsParent}
+use Rattle.px_spec.specs.Shapes.{Shape}
 use Rattle.bisim_levels.specs.Keys.{IsSetOf}
-use Rattle.graph_update.specs.Pending.{Pending, graph_after, lost_edge}
+use Rattle.graph_update.specs.Pending.{Pending}
 use Rattle.node_moves.specs.Costs.{parents_cost}
 use Rattle.one_splitting.specs.Costs.{move_cost, round_cost}
-use Rattle.one_splitting.specs.Numbered.{HasNumber, AreNumbered}
-use Rattle.one_splitting.specs.Going.{BeginsAt, goal_at, AreNext, AreAdded}
+use Rattle.one_splitting.specs.Numbered.{AreNumbered}
+use Rattle.one_splitting.specs.Going.{BeginsAt, AreNext, AreAdded}
 
 apart_all : (x : ℕ) (xs : List ℕ) → AllByRecursion (λ y. nat_cmp x y ≡ Less) xs → AllByRecursion (λ y. nat_eq x y ≡ false) xs
 apart_all x [] h = tt

@@ -1,11 +1,11 @@
 -- One more node has gone where its group goes.
-use Rattle.std.proofs.Common.{◌≡◌, ◌≢◌, ℕ, ◌+◌, ◌<◌, ◌⊎◌, List, [], Option, Some, None, IsTrue, is_some, refl, sym, ◌∙◌, ap, subst, arith, inl, inr, true, false, Bool, length, true≢false, cond}
+use Rattle.std.proofs.Common.{◌≡◌, ◌≢◌, ℕ, ◌+◌, ◌<◌, List, [], Option, Some, None, is_some, refl, sym, ◌∙◌, ap, subst, arith, inl, inr, true, false, Bool, length, true≢false, cond}
 use Rattle.std.specs.Prelude.{nat_eq, slice_index, ◌&&◌, ◌||◌}
 use Rattle.std.specs.List.{IsDistinct}
 use Rattle.std.proofs.lemmas.Bool.{cases_lt, or_cases, or_left, or_right, and_parts, and_from}
 use Rattle.std.proofs.lemmas.Bool.Decides.{eqb_tells, Decides-eqb}
 use Rattle.px_spec.specs.Members.{at, has}
-use Rattle.px_spec.specs.Shapes.{Shape, IsParent}
+use Rattle.px_spec.specs.Shapes.{Shape}
 use Rattle.bisim_spec.proofs.Bisimilar.{some_of, is_some_at}
 use Rattle.one_splitting.specs.Going.{goal_at, HaveGone, AreNext}
 use Rattle.one_splitting.proofs.Places.{place_of, place_is}
@@ -97,8 +97,3 @@ next_more s nodes numbers goals i next next2 a o = record {
         (i, b.0, omega arith, b.1, f.1))
   ];
 }
-
--- a node whose turn it is stands where it stood
-pub still_there : (p q : List (Option ℕ)) (nodes numbers : List ℕ) (goals : List (Option ℕ)) (i : ℕ) → IsDistinct nat_eq nodes → i < length nodes
-    → HaveGone p q nodes numbers goals i → at q (slice_index nodes i) ≡ at p (slice_index nodes i)
-still_there p q nodes numbers goals i once l g = g.kept (slice_index nodes i) (λ j b h e k. apart_places nodes i j once l h e)

@@ -1,17 +1,16 @@
 -- Groups by keys, and where they go.
-use Rattle.std.proofs.Common.{◌≡◌, ℕ, ◌<◌, ◌⊎◌, List, [], ◌∷◌, ◌++◌, length, Option, Some, None, IsTrue, IsFalse, refl, sym, ◌∙◌, ap, subst, inl, inr, true, false, Bool, cond, true≢false, arith}
+use Rattle.std.proofs.Common.{◌≡◌, ℕ, ◌<◌, List, ◌∷◌, length, Option, Some, None, refl, sym, ◌∙◌, ap, subst, inl, inr, true, false, Bool, cond, arith}
 use Rattle.std.specs.Prelude.{nat_eq, slice_index, slice_get}
 use Rattle.std.specs.List.{IsDistinct}
-use Rattle.std.proofs.lemmas.Bool.{cases_Bool}
 use Rattle.std.proofs.lemmas.Option.{slice_get_within}
 use Rattle.px_spec.specs.Members.{at, has}
-use Rattle.px_spec.specs.Shapes.{Shape, IsNode, IsParent, IsShape}
+use Rattle.px_spec.specs.Shapes.{Shape, IsShape}
 use Rattle.bisim_spec.specs.Partitions.{Together, IsPartition}
-use Rattle.bisim_spec.proofs.Bisimilar.{some_of, none_or_some}
+use Rattle.bisim_spec.proofs.Bisimilar.{some_of}
 use Rattle.bisim_levels.specs.Keys.{IsKey}
 use Rattle.bisim_levels.specs.Refining.{StayTogether}
 use Rattle.bisim_levels.proofs.Written.{together_from_key}
-use Rattle.upkeep_spec.specs.Rounds.{AreAlike, AreGoals}
+use Rattle.upkeep_spec.specs.Rounds.{AreGoals}
 use Rattle.one_splitting.specs.Counted.{AreCounted}
 use Rattle.one_splitting.proofs.Wholes.{whole_counted, part_counted}
 use Rattle.one_splitting.specs.Numbered.{HasNumber, AreNumbered}

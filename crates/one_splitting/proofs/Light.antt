@@ -4,7 +4,7 @@ use Rattle.std.specs.Prelude.{nat_eq}
 use Rattle.std.specs.List.{IsDistinct, sum_by}
 use Rattle.std.proofs.Math.Nat.{mul-le-mul_left}
 use Rattle.std.proofs.lemmas.Bool.{cases_Bool}
-use Rattle.px_spec.specs.Members.{at, has}
+use Rattle.px_spec.specs.Members.{has}
 use Rattle.px_spec.specs.Shapes.{IsShape, IsNode, shape_of}
 use Rattle.graph_update.specs.Pending.{Pending, graph_after, lost_edge}
 use Rattle.bisim_spec.specs.Below.{sum_below}

@@ -18,7 +18,7 @@ use Rattle.upkeep_spec.proofs.Splitting.{same_but_moved, same_but_on, within_on}
 use Rattle.upkeep_spec.proofs.Sums.{first_has, rest_apart}
 use Rattle.graph_update.proofs.NeighbourLists.{and_one}
 use Rattle.upkeep_spec.specs.Named.{AreNamed, AreNamedOff}
-use Rattle.one_splitting.specs.Going.{KeepLabels, AreBlocks, AreLive}
+use Rattle.one_splitting.specs.Going.{KeepLabels, AreBlocks}
 use Rattle.one_splitting.proofs.Named.{some_kept}
 use Rattle.upkeep_spec.specs.Splits.{IsClosed, IsSplit}
 use Rattle.one_splitting.proofs.Apart.{IsApart}

@@ -1,6 +1,6 @@
 -- The targets that have a block, and what a move keeps.
 use Rattle.std.proofs.Common.{◌≡◌, ◌≢◌, ◌⊎◌, ℕ, zero, suc, ◌<◌, ◌+◌, List, [], ◌∷◌, ◌++◌, Option, Some, None, IsTrue, IsFalse, IsSome, is_some, refl, sym, ◌∙◌, ap, subst, inl, inr, true, false, Bool, cond, length, take, get_or, true≢false}
-use Rattle.std.specs.Prelude.{nat_eq, ◌&&◌, ◌||◌, IfSome}
+use Rattle.std.specs.Prelude.{nat_eq, ◌&&◌, IfSome}
 use Rattle.std.specs.List.{IsDistinct, AllByRecursion, filter}
 use Rattle.std.proofs.lemmas.Bool.{cases_Bool, or_cases, or_right, and_parts, and_from, both_ways, false_from_ne_true}
 use Rattle.std.proofs.lemmas.Bool.Decides.{eqb_tells, Decides-eqb}
@@ -14,7 +14,7 @@ use Rattle.block_partition.specs.Partitions.{put}
 use Rattle.bisim_spec.specs.Partitions.{IsPartition, Together}
 use Rattle.bisim_spec.specs.Stability.{StableBut}
 use Rattle.bisim_spec.specs.Supports.{edges_between}
-use Rattle.bisim_spec.proofs.Bisimilar.{some_of, is_some_at}
+use Rattle.bisim_spec.proofs.Bisimilar.{is_some_at}
 use Rattle.bisim_spec.proofs.Together.{together_some, together_sym}
 use Rattle.upkeep_spec.specs.Named.{AreNamed, AreNamedOff}
 use Rattle.upkeep_spec.specs.Supported.{AreSupports}

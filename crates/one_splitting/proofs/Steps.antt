@@ -1,21 +1,20 @@
 -- One round more.
-use Rattle.std.proofs.Common.{◌≡◌, ℕ, ◌<◌, ◌⊎◌, List, [], ◌∷◌, ◌++◌, length, Option, Some, None, IsTrue, IsFalse, refl, sym, ◌∙◌, ap, subst, inl, inr, true, false, Bool, cond, true≢false, arith}
-use Rattle.std.specs.Prelude.{nat_eq, slice_index, is_some}
+use Rattle.std.proofs.Common.{◌≡◌, ℕ, ◌<◌, List, length, Option, Some, None, IsTrue, sym, ◌∙◌, ap, subst, inl, inr, false, Bool, true≢false, arith}
+use Rattle.std.specs.Prelude.{nat_eq, slice_index}
 use Rattle.std.specs.List.{IsDistinct}
-use Rattle.std.proofs.lemmas.Bool.{cases_Bool}
 use Rattle.px_spec.specs.Members.{at, has}
-use Rattle.px_spec.specs.Shapes.{Shape, IsNode, IsParent, IsShape}
-use Rattle.bisim_spec.specs.Partitions.{Together, IsPartition}
+use Rattle.px_spec.specs.Shapes.{Shape, IsParent, IsShape}
+use Rattle.bisim_spec.specs.Partitions.{IsPartition}
 use Rattle.bisim_spec.proofs.Bisimilar.{some_of, none_or_some, is_some_at}
-use Rattle.upkeep_spec.specs.Rounds.{AreGoals, IsRound, IsWithin, SameBut}
+use Rattle.upkeep_spec.specs.Rounds.{AreGoals}
 use Rattle.upkeep_spec.proofs.Splitting.{round_stable, same_but_moved, same_but_on, within_on}
 use Rattle.upkeep_spec.proofs.Goals.{is_moved, goals_within, goals_round, goals_partition, goals_left}
 use Rattle.one_splitting.specs.Counted.{AreCounted}
 use Rattle.one_splitting.specs.Numbered.{AreNumbered}
 use Rattle.one_splitting.specs.Going.{BeginsAt, goal_at, AreGoing, HaveGone, AreNext, AreAdded}
 use Rattle.upkeep_spec.specs.Splits.{IsClosed, IsSplit}
-use Rattle.one_splitting.proofs.Places.{place_of, place_found, has_place, place_is}
-use Rattle.one_splitting.proofs.Groups.{group_of, goal_of, goal_looked, goal_there, goal_off, groups_go, node_of, ends_at}
+use Rattle.one_splitting.proofs.Places.{place_of, place_found, has_place}
+use Rattle.one_splitting.proofs.Groups.{group_of, goal_of, goal_looked, goal_there, groups_go, node_of}
 
 pub split_step : (s : Shape) (inside : ℕ → Bool) (first p p2 : List (Option ℕ)) (keys : List (List ℕ)) (nodes numbers made next2 made2 : List ℕ) (goals : List (Option ℕ)) (counts : List (ℕ × ℕ))
     → IsShape s → IsClosed s inside → IsSplit s inside first p nodes made → IsDistinct nat_eq nodes → length numbers ≡ length nodes

@@ -1,25 +1,22 @@
 -- What splitting costs in all, and why it ends.
-use Rattle.std.proofs.Common.{◌≡◌, ◌≢◌, ℕ, zero, suc, ◌+◌, ◌-◌, ◌*◌, ◌<◌, ◌≤◌, ◌⊎◌, List, [], ◌∷◌, length, Option, Some, None, IsTrue, refl, sym, ◌∙◌, ap, subst, arith, inl, inr, true, false, Bool, cond, true≢false}
-use Rattle.std.specs.Prelude.{nat_eq, ◌||◌, ◌&&◌, not}
+use Rattle.std.proofs.Common.{◌≡◌, ℕ, ◌+◌, ◌-◌, ◌*◌, ◌<◌, ◌≤◌, ◌⊎◌, List, [], ◌∷◌, length, Option, Some, None, refl, sym, ◌∙◌, ap, subst, arith, inl, inr, true, false, Bool, cond, true≢false}
+use Rattle.std.specs.Prelude.{nat_eq, ◌&&◌, not}
 use Rattle.std.specs.List.{IsDistinct, sum_by}
 use Rattle.std.proofs.Math.Nat.{mul-le-mul_left}
 use Rattle.std.proofs.lemmas.Bool.{cases_Bool, or_cases}
 use Rattle.std.proofs.lemmas.Bool.Decides.{eqb_tells, Decides-eqb}
-use Rattle.std.proofs.lemmas.List.Sums.{sum_by-cons}
 use Rattle.px_spec.specs.Members.{at, has}
-use Rattle.px_spec.specs.Shapes.{Shape, IsNode, IsParent, IsShape, shape_of}
+use Rattle.px_spec.specs.Shapes.{Shape, IsParent, IsShape, shape_of}
 use Rattle.bisim_spec.specs.Below.{count_below}
 use Rattle.bisim_spec.proofs.BelowLaws.{bit_of, count_few}
 use Rattle.bisim_spec.proofs.Bisimilar.{is_some_at}
 use Rattle.graph_update.specs.Pending.{Pending, graph_after, lost_edge, lost_from, lost_onto}
-use Rattle.bisim_spec.specs.Below.{sum_below}
 use Rattle.bisim_spec.specs.Weights.{parent_count, child_count, weight_at, weight, size_of}
-use Rattle.upkeep_spec.proofs.Sums.{where_in, sum_without, sum_listed, few_listed, blocks_few, first_has}
-use Rattle.node_moves.specs.Costs.{parents_cost, children_cost}
+use Rattle.upkeep_spec.proofs.Sums.{sum_without, few_listed, blocks_few, first_has}
 use Rattle.one_splitting.specs.Costs.{move_cost, round_cost}
 use Rattle.upkeep_spec.specs.Splits.{IsClosed, IsSplit}
 use Rattle.one_splitting.specs.Costs.{HasCost, going, ended}
-use Rattle.one_splitting.proofs.Bounds.{round_most, size_most}
+use Rattle.one_splitting.proofs.Bounds.{round_most}
 
 pub closed_all : (s : Shape) → IsClosed s (λ n. true)
 closed_all s = record { children = λ p n h e. refl }
@@ -97,10 +94,6 @@ part_most a inside t l h =
 mul-le : (a b c : ℕ) → a ≤ b → a * c ≤ b * c
 mul-le a b c h = (let k = mul-le-mul_left c h in omega (arith, k))
 
--- where little was spent
-pub most_little : (r w spent : ℕ) → 1 ≤ r → r ≤ w → spent ≤ w + 3 → spent ≤ 4 * ((r + 1) * w)
-most_little r w spent some light cost = (let k = mul-le 1 r w some in omega (arith, k, cost, light, some))
-
 most_going : (r w made spent : ℕ) → made ≤ r → r ≤ w → spent ≤ made * (3 * w + 3) → spent ≤ 4 * ((r + 1) * w)
 most_going r w made spent few light cost =
     let k = mul-le made r (3 * w + 3) few in
@@ -170,15 +163,6 @@ left_falls size made made2 len len2 few least some more =
 
 pub few_nodes : (s : Shape) (inside : ℕ → Bool) → size_of s inside ≤ s.size
 few_nodes s inside = count_few s.size inside
-
--- some node is inside
-pub size_some : (s : Shape) (inside : ℕ → Bool) (t : ℕ) → t < s.size → inside t ≡ true → 1 ≤ size_of s inside
-size_some s inside t l h = count_some s.size inside t l h
-
-pub cost_first : (w : ℕ) (made next : List ℕ) (spent : ℕ) → (made ≡ [] → spent ≡ 0) → spent ≤ w + 3 → HasCost w (length made) spent next
-cost_first w [] next spent free most = going (let z = free refl in omega (arith, z))
-cost_first w (b ∷ bs) next spent free most =
-    going (let k = mul-le 1 (length (b ∷ bs)) (3 * w + 3) (omega arith) in omega (arith, k, most))
 
 pub not_done : (b : Bool) (xs ys : List ℕ) → b ≡ nat_eq (length xs) 0 → b ≡ false → xs ≡ ys → 0 < length ys
 not_done b xs ys is off same = elim (eqb_tells (length xs) 0) [

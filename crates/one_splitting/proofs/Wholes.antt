@@ -2,17 +2,17 @@
 use Rattle.std.proofs.Common.{◌≡◌, ◌≢◌, ℕ, zero, suc, ◌+◌, ◌<◌, ◌≤◌, List, [], ◌∷◌, length, Option, Some, refl, sym, ◌∙◌, ap, arith, inl, inr, true, false, Bool, count_by}
 use Rattle.std.specs.Prelude.{nat_eq, ◌&&◌, not, IsTrue, IsFalse}
 use Rattle.std.specs.List.{IsDistinct}
-use Rattle.std.proofs.lemmas.Bool.{cases_Bool, cases_lt, and_parts, and_from, both_ways, or_cases, or_right, not_from_false, false_from_ne_true}
-use Rattle.std.proofs.lemmas.Bool.Decides.{eqb_tells, Decides-eqb}
+use Rattle.std.proofs.lemmas.Bool.{cases_Bool, cases_lt, and_parts, and_from, both_ways, or_cases, not_from_false, false_from_ne_true}
+use Rattle.std.proofs.lemmas.Bool.Decides.{Decides-eqb}
 use Rattle.std.proofs.lemmas.List.Sums.{sum_by-cons}
 use Rattle.std.proofs.lemmas.Map.Keys.{IsDistinct-tail}
 use Rattle.px_spec.specs.Members.{at, has, is_this}
-use Rattle.bisim_spec.specs.Below.{any_below, count_below, sum_below}
+use Rattle.bisim_spec.specs.Below.{any_below, count_below}
 use Rattle.bisim_spec.proofs.BelowLaws.{bit_of, any_get, none_get, count_mono, count_strict}
 use Rattle.bisim_spec.proofs.Bisimilar.{is_some_at}
 use Rattle.bisim_spec.proofs.Moves.{block_get, block_from}
 use Rattle.bisim_spec.proofs.Together.{block_below}
-use Rattle.upkeep_spec.proofs.Sums.{where_in, but, sum_without, count_sum, first_has, rest_has, rest_apart}
+use Rattle.upkeep_spec.proofs.Sums.{but, sum_without, count_sum, first_has, rest_has, rest_apart}
 use Rattle.one_splitting.specs.Counted.{count_at, is_in, AreCounted}
 
 -- one number more: what a list counts
@@ -184,7 +184,3 @@ only_member p t own found one =
     let here : bit_of (is_in p own t) ≡ 1 = ap bit_of (block_from own (at p t) found) in
     let first = count_one_more (is_in p own) t [] in
     all_members p (t ∷ []) own (one_number t) (omega (arith, here, first, one))
-
--- one node more is counted for its block
-pub counted_more : (p : List (Option ℕ)) (b n own : ℕ) → at p n ≡ Some own → bit_of (nat_eq b own) ≡ bit_of (is_in p b n)
-counted_more p b n own found = ap bit_of (sym (ap (is_this b) found))

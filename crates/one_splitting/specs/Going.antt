@@ -1,5 +1,5 @@
 -- Where the groups of nodes with one key go.
-use Rattle.std.specs.Prelude.{◌≡◌, ◌≢◌, ◌⊎◌, ℕ, ◌<◌, ◌≤◌, List, Option, Some, None, length, slice_get, slice_index, slice_index_or, IsTrue, IsFalse, IsSome, ◌++◌, ◌∷◌, [], nat_eq, count_by}
+use Rattle.std.specs.Prelude.{◌≡◌, ◌⊎◌, ℕ, ◌<◌, ◌≤◌, List, Option, Some, None, length, slice_get, slice_index, slice_index_or, IsTrue, IsFalse, IsSome, ◌++◌, ◌∷◌, [], nat_eq, count_by}
 use Rattle.std.specs.List.{IsDistinct}
 use Rattle.px_spec.specs.Members.{at, has, is_this}
 use Rattle.px_spec.specs.Shapes.{Shape, IsParent}

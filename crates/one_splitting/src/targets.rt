@@ -29,7 +29,7 @@ use quotient_draft::Draft;
 use std::alloc::Global;
 use std::sync::ledger::Ledger;
 
-// Lists those of the targets that have a block. The others are gone.
+// Lists those of the targets that have a block. The others are no nodes any more.
 fn with_blocks(
     alloc: Global,
     base: &Summary,
@@ -112,7 +112,8 @@ fn part_one<L: Ledger>(
     Ok(())
 }
 
-// Does so for each target, and gives the nodes that are to be looked at next.
+// Puts each target that has company or another label into a block of its own, and gives the nodes that are to be
+// looked at next.
 fn part_all<L: Ledger>(
     alloc: Global,
     base: &Summary,
@@ -178,8 +179,8 @@ pub fn split<L: Ledger>(
     ensures cost { (inside : ℕ → Bool) → IsClosed (shape_of (graph_after after.now)) inside → ((n : ℕ) → IsTrue (has targets.now n) → IsTrue (inside n)) → steps.new ≤ steps.old + 4 * ((size_of (shape_of (graph_after after.now)) inside + 1) * weight (shape_of (graph_after after.now)) inside) }
 {
     let present = with_blocks(alloc, base, draft, targets)?;
-    // What is read here is that edges of the graph after lead from nodes to nodes.
-    let _created = after.created();
+    // This says that there is a graph, so that edges lead from nodes to nodes.
+    let _ = after.created();
     let mut next = part_all(alloc, base, draft, after, &present, made, steps)?;
     'rounds: while !is_done(&next) {
         next = round(alloc, base, draft, after, &next, made, steps)?;

@@ -1,4 +1,4 @@
-use Rattle.std.proofs.Common.{◌≡◌, ◌+◌, ◌≤◌, ◌++◌, ◌∷◌, [], ℕ, length, arith, sym, ap, subst, ◌∙◌, length-append}
+use Rattle.std.proofs.Common.{◌≡◌, ◌++◌, ◌∷◌, [], ℕ, length, arith, sym, ap, subst, length-append}
 use Rattle.std.specs.Prelude.{slice_index, Bool}
 use Rattle.px_spec.specs.Graphs.{has_edge}
 use Rattle.px_spec.specs.Members.{at}

@@ -1,4 +1,4 @@
-use Rattle.std.proofs.Common.{◌≡◌, ◌+◌, ◌<◌, ◌≤◌, ℕ, List, Option, length, arith, sym, ap, subst, ◌∙◌}
+use Rattle.std.proofs.Common.{◌≡◌, ◌<◌, length, arith, subst, ◌∙◌}
 use Rattle.std.specs.Prelude.{slice_index}
 use Rattle.px_spec.specs.Shapes.{shape_of}
 use Rattle.graph_update.specs.Pending.{graph_after}

@@ -1,10 +1,10 @@
-use Rattle.std.proofs.Common.{◌≡◌, ℕ, List, Option, Some, sym, ◌∙◌, ap, subst}
+use Rattle.std.proofs.Common.{◌≡◌, ℕ, List, Option, sym, ◌∙◌, ap, subst}
 use Rattle.px_spec.specs.Members.{at}
 use Rattle.px_spec.specs.Shapes.{shape_of}
 use Rattle.bisim_spec.proofs.Bisimilar.{some_of, is_some_at}
 use Rattle.label_graph.specs.Views.{label_number}
 use Rattle.graph_update.specs.Pending.{graph_after}
-use Rattle.quotient_draft.specs.Drafts.{shown_blocks, shown_labels, shown_support, with_added}
+use Rattle.quotient_draft.specs.Drafts.{shown_blocks, shown_labels, with_added}
 use Rattle.upkeep_spec.specs.Named.{AreNamedOff}
 use Rattle.one_splitting.specs.Going.{AreBlocks}
 use Rattle.one_splitting.proofs.Apart.{alone_from}
@@ -23,8 +23,9 @@ returns-then-is_apart-clause-named g c = λ rest rest2 is_first named.
     let labels : ℕ → Option ℕ = at (shown_labels c.args.base.now c.args.draft.now) in
     let own = c.own_block-own.result in
     let d = some_of (labels own) (c.requires.live.some c.args.target own c.own_block-own.ensures) in
+    let label : labels own ≡ label_number (graph_after c.args.after.now) c.args.target = c.is_apart.ensures.label c.if-is_apart.true in
     named_alone c.args.target own d.0 (shown_blocks c.args.base.now c.args.draft.now) labels (label_number (graph_after c.args.after.now)) rest rest2 c.own_block-own.ensures d.1
-    (sym (c.is_apart.ensures.label c.if-is_apart.true) ∙ d.1) is_first named
+    (sym label ∙ d.1) is_first named
 
 pub returns-clause-made : goal.returns-clause-made
 returns-clause-made g c =

@@ -21,13 +21,13 @@ returns-in_err-next-clause-cost g c = λ inside closed within.
     let s = shape_of (graph_after c.args.after.now) in
     let p = shown_blocks c.args.base.now c.args.draft.now in
     let nodes = c.deref.result.now in
-    let shape = is_shape (graph_after c.args.after.now) c.created-created.ensures.after in
+    let shape = is_shape (graph_after c.args.after.now) c.created.ensures.after in
     let present : ArePresent p (has c.args.targets.now) (has nodes) = record { each = λ n. ap (λ xs. has xs n) c.deref.ensures.value ∙ c.in_ok-present.ensures.those n } in
     let cost = c.part_all.ensures.cost in
     let light = targets_light c.args.after.now inside nodes (subst (IsDistinct nat_eq) (sym c.deref.ensures.value) c.in_ok-present.ensures.once)
     (λ n h. (
-    shape.below n (node_present s p (has c.args.targets.now) (has nodes) n present c.requires.stable.partition h),
-    within n (target_present p (has c.args.targets.now) (has nodes) n present h),
+      shape.below n (node_present s p (has c.args.targets.now) (has nodes) n present c.requires.stable.partition h),
+      within n (target_present p (has c.args.targets.now) (has nodes) n present h),
     )) in
     let fit = light_within (size_of s inside) (weight s inside) (c.part_all.new.steps - c.args.steps.now) (omega (arith, cost, light)) in
     omega (arith, fit)
@@ -37,7 +37,7 @@ rounds-init g c =
     let s = shape_of (graph_after c.args.after.now) in
     let p = shown_blocks c.args.base.now c.args.draft.now in
     let nodes = c.deref.result.now in
-    let shape = is_shape (graph_after c.args.after.now) c.created-created.ensures.after in
+    let shape = is_shape (graph_after c.args.after.now) c.created.ensures.after in
     let present : ArePresent p (has c.args.targets.now) (has nodes) = record { each = λ n. ap (λ xs. has xs n) c.deref.ensures.value ∙ c.in_ok-present.ensures.those n } in
     record {
       over = c.in_ok-next.ensures.over;
@@ -54,7 +54,7 @@ rounds-init g c =
     }
 
 pub round-requires-clause-shape : goal.round-requires-clause-shape
-round-requires-clause-shape g c = is_shape (graph_after c.args.after.now) c.created-created.ensures.after
+round-requires-clause-shape g c = is_shape (graph_after c.args.after.now) c.created.ensures.after
 
 pub round-requires-clause-nodes : goal.round-requires-clause-nodes
 round-requires-clause-nodes g c = λ n h.
@@ -68,7 +68,7 @@ pub returns-in_err-next-2-clause-cost : goal.returns-in_err-next-2-clause-cost
 returns-in_err-next-2-clause-cost g c = λ inside closed within.
     let s = shape_of (graph_after c.args.after.now) in
     let a = c.args.after.now in
-    let shape = is_shape (graph_after c.args.after.now) c.created-created.ensures.after in
+    let shape = is_shape (graph_after c.args.after.now) c.created.ensures.after in
     let first = shown_blocks c.args.base.now c.args.draft.now in
     let p = shown_blocks c.args.base.now c.rounds.draft in
     let next = c.rounds.next.items in
@@ -90,7 +90,7 @@ pub rounds-preserved : goal.rounds-preserved
 rounds-preserved g c =
     let s = shape_of (graph_after c.args.after.now) in
     let a = c.args.after.now in
-    let shape = is_shape (graph_after c.args.after.now) c.created-created.ensures.after in
+    let shape = is_shape (graph_after c.args.after.now) c.created.ensures.after in
     let first = shown_blocks c.args.base.now c.args.draft.now in
     let p = shown_blocks c.args.base.now c.rounds.draft in
     let next = c.rounds.next.items in
@@ -119,7 +119,7 @@ rounds-preserved g c =
 pub rounds-smaller : goal.rounds-smaller
 rounds-smaller g c =
     let s = shape_of (graph_after c.args.after.now) in
-    let shape = is_shape (graph_after c.args.after.now) c.created-created.ensures.after in
+    let shape = is_shape (graph_after c.args.after.now) c.created.ensures.after in
     let first = shown_blocks c.args.base.now c.args.draft.now in
     let p = shown_blocks c.args.base.now c.rounds.draft in
     let inv = c.rounds.invariant in
@@ -139,7 +139,7 @@ rounds-smaller g c =
 pub returns-clause-cost : goal.returns-clause-cost
 returns-clause-cost g c = λ inside closed within.
     let s = shape_of (graph_after c.args.after.now) in
-    let shape = is_shape (graph_after c.args.after.now) c.created-created.ensures.after in
+    let shape = is_shape (graph_after c.args.after.now) c.created.ensures.after in
     let inv = c.rounds.invariant in
     let split = inv.split inside closed within in
     let fit = most_done (size_of s inside) (weight s inside) (length c.rounds.made.items) (c.rounds.steps - c.args.steps.now) c.rounds.next.items

@@ -1,4 +1,4 @@
-use Rattle.std.proofs.Common.{◌≡◌, ◌++◌, ◌∷◌, [], ℕ, Bool, Some, Option, is_some, ap, sym, ◌∙◌, inl, inr, take, arith, subst, List, cond, refl, length}
+use Rattle.std.proofs.Common.{◌≡◌, ◌++◌, ◌∷◌, [], ℕ, Bool, Option, is_some, ap, sym, ◌∙◌, inl, inr, arith, subst, cond, refl}
 use Rattle.std.specs.List.{IsDistinct, filter}
 use Rattle.std.specs.Prelude.{slice_index, nat_eq}
 use Rattle.std.proofs.lemmas.List.{take_all}
