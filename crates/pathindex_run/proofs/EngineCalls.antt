@@ -7,6 +7,7 @@ use Rattle.px_spec.specs.declared.refusal.Refusal.TheVariants.{NoIndex}
 use Rattle.px_spec.specs.ProgramLimits.{program_limits}
 use Rattle.px_spec.specs.Changes.{Change, apply}
 use Rattle.bisim_spec.specs.declared.kind.Kind.{Kind}
+use Rattle.graph_update.specs.NewChanges.{is_same}
 use Rattle.graph_update.specs.declared.changes.Applied.{Applied}
 use Rattle.graph_update.specs.Staging.{applied_of}
 use Rattle.index_api.specs.declared.kinds.Via.{Via}
@@ -46,6 +47,7 @@ pub record IsMade (c : Change) (e f : EngineSeen) : Type 0 where
   pub sound : IsSound f
   pub opened : f.opened ≡ opened_after c e.opened
   pub updated : EachBecomes (IsUpdated c (graph_in e.opened)) e.boxes f.boxes
+  pub still : is_same c (graph_in e.opened) ≡ true → f ≡ e
   pub kinds : kinds_of f.boxes ≡ kinds_of e.boxes
   pub accepted : (r : Refusal) → outcome_in c e.opened ≡ Err r → ⊥
 
@@ -66,7 +68,9 @@ made_obeyed c e f applied out gathered ready m is g =
           (let p : Opened = record o { graph = h } in
           let f_is : f.opened ≡ Some p = m.opened ∙ ap (opened_after c) ready.opened_is ∙ ap (λ x. Some (record o { graph = graph_or o.graph x })) q in
           let updated = subst (λ x. EachBecomes (IsUpdated c (graph_in x)) e.boxes f.boxes) ready.opened_is m.updated in
-          let moved = changed_state c o p h e.boxes f.boxes q refl updated m.kinds (fits_in f p f_is m.sound) in
+          let still : is_same c o.graph ≡ true → state_in (record { boxes = f.boxes; opened = Some p }) ≡ state_in (record { boxes = e.boxes; opened = Some o }) =
+          λ s. seen_as f p f_is ∙ ap state_in (m.still (ap (λ x. is_same c (graph_in x)) ready.opened_is ∙ s)) ∙ sym (seen_as e o ready.opened_is) in
+          let moved = changed_state c o p h e.boxes f.boxes q refl updated still m.kinds in
           let changed : IsChanged (state_in e) c h (state_in f) = subst (λ t. IsChanged (state_in e) c h t) (seen_as f p f_is) (subst (λ s. IsChanged s c h (state_in (record { boxes = f.boxes; opened = Some p }))) (seen_as e o ready.opened_is) moved) in
           let outcome : apply c (state_in e).graph program_limits ≡ Ok h = ap (λ x. apply c (graph_in x) program_limits) ready.opened_is ∙ ap (apply c o.graph) (sym ready.limits_are) ∙ q in
           record {

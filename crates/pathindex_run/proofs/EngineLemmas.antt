@@ -1,9 +1,12 @@
 -- What the calls of an engine make of the state of a run.
-use Rattle.std.proofs.Common.{◌≡◌, ℕ, suc, Bool, true, false, List, [], ◌∷◌, length, Option, None, Some, refl, sym, ap, ◌∙◌, subst, arith, cond, true≢false, Ok}
-use Rattle.std.specs.Prelude.{⊤, not, ◌||◌, All, option_and_then, if◌then◌else◌}
+use Rattle.std.proofs.Common.{◌≡◌, ℕ, suc, Bool, true, false, List, [], ◌∷◌, length, Option, None, Some, refl, sym, ap, ◌∙◌, subst, arith, cond, true≢false, Ok, Err}
+use Rattle.std.specs.Prelude.{⊤, not, ◌||◌, ◌&&◌, All, option_and_then, if◌then◌else◌, Result}
 use Rattle.std.specs.List.{filter}
-use Rattle.px_spec.specs.Graphs.{Graph}
-use Rattle.px_spec.specs.Changes.{Change, apply}
+use Rattle.px_spec.specs.declared.limits.Limits.{Limits}
+use Rattle.px_spec.specs.declared.refusal.Refusal.{Refusal}
+use Rattle.px_spec.specs.declared.refusal.Refusal.TheVariants.{NoNode, NoEdge, InUse, Limit}
+use Rattle.px_spec.specs.Graphs.{Graph, is_live, has_edge}
+use Rattle.px_spec.specs.Changes.{Change, node, link, unlink, drop, apply, after, with_node, with_edge, without_edge, without_node, node_fits, edge_fits, is_used}
 use Rattle.px_spec.specs.Shapes.{shape_of}
 use Rattle.bisim_spec.specs.declared.kind.Kind.{Kind}
 use Rattle.bisim_spec.specs.declared.kind.Kind.TheVariants as kind
@@ -11,12 +14,13 @@ use Rattle.bisim_spec.specs.Bisimilarity.{Bisim}
 use Rattle.bisim_spec.specs.Partitions.{Agrees}
 use Rattle.bisim_spec.specs.Views.{View}
 use Rattle.bisim_spec.specs.Fits.{Fits, FitsAt, FitsOne, view_at}
-use Rattle.index_api.specs.Meanings.{Meaning, IsBuilt, BeginsWhole, KeepsViews}
-use Rattle.index_api.specs.Kept.{is_kind, has_kind, kinds_of, index_of, kept_view, blocks_in}
+use Rattle.index_api.specs.Meanings.{Meaning, IsBuilt, BeginsWhole, Steps, KeepsViews, blocks_in}
+use Rattle.index_api.specs.Kept.{is_kind, has_kind, kinds_of, index_of, kept_view}
 use Rattle.pathindex_core.specs.Engines.{Opened, EngineSeen, EachBecomes, IsKeptFor, graph_in, level_in}
-use Rattle.pathindex_core.specs.Updates.{IsUpdated}
+use Rattle.pathindex_core.specs.Updates.{IsMoved, IsUpdated}
 use Rattle.pathindex_run.specs.States.{BeginsRun, forgotten, left_out}
-use Rattle.bisim_spec.specs.MinimalIndex.{IsMinimalIndex}
+use Rattle.bisim_spec.specs.OneStep.{OneStep}
+use Rattle.graph_update.specs.NewChanges.{is_same}
 use Rattle.pathindex_run.specs.Runs.{IsChanged}
 use Rattle.pathindex_run.specs.EngineStates.{state_in}
 
@@ -143,30 +147,69 @@ first_state g o olds news same built kinds all = record {
     whole : (one : HasOne o.graph news) → Both (λ a b. IsBuilt a b g o.k) (index_of olds kind.One) (index_of news kind.One) → Agrees (shape_of g) (one_in news) (Bisim (shape_of g))
     whole one f = subst (λ p. Agrees (shape_of g) p (Bisim (shape_of g))) (sym one.blocks) (by_found one _ _ f one.index_is)
 
-all_same : (olds news : List Meaning) → Pairwise (λ a b. b ≡ a) olds news → news ≡ olds
-all_same [] [] h = refl
-all_same [] (b ∷ bs) h = absurd h
-all_same (a ∷ xs) [] h = absurd h
-all_same (a ∷ xs) (b ∷ bs) h = ap (λ y. y ∷ bs) h.0 ∙ ap (λ ys. a ∷ ys) (all_same xs bs h.1)
-
 weaker : (R Q : Meaning → Meaning → Type 0) → ((a b : Meaning) → R a b → Q a b) → (olds news : List Meaning) → Pairwise R olds news → Pairwise Q olds news
 weaker R Q f [] [] h = tt
 weaker R Q f [] (b ∷ bs) h = absurd h
 weaker R Q f (a ∷ xs) [] h = absurd h
 weaker R Q f (a ∷ xs) (b ∷ bs) h = (f a b h.0, weaker R Q f xs bs h.1)
 
+passed : (b : Bool) (r : Result Graph Refusal) (e : Refusal) (h : Graph) → (if b then r else Err e) ≡ Ok h → r ≡ Ok h
+passed true r e h p = p
+passed false r e h p = absurd (cc)
+
+passed_over : (b : Bool) (r : Result Graph Refusal) (e : Refusal) (h : Graph) → (if b then Err e else r) ≡ Ok h → r ≡ Ok h
+passed_over true r e h p = absurd (cc)
+passed_over false r e h p = p
+
+one_graph : (r : Result Graph Refusal) (g h : Graph) → r ≡ Ok g → r ≡ Ok h → h ≡ g
+one_graph r g h e f = cc
+
+-- the graph after a change that is accepted
+accepted : (c : Change) (g h : Graph) (limits : Limits) → apply c g limits ≡ Ok h → h ≡ after c g
+accepted (node t) g h limits p = one_graph (Ok (with_node g t)) (with_node g t) h refl (passed (node_fits g limits t) (Ok (with_node g t)) Limit h p)
+accepted (link u v) g h limits p =
+    one_graph (Ok (with_edge g u v)) (with_edge g u v) h refl (passed (edge_fits g limits u v) (Ok (with_edge g u v)) Limit h
+    (passed (is_live g u && is_live g v) (if edge_fits g limits u v then Ok (with_edge g u v) else Err Limit) NoNode h p))
+accepted (unlink u v) g h limits p =
+    one_graph (Ok (without_edge g u v)) (without_edge g u v) h refl (passed (has_edge g u v) (Ok (without_edge g u v)) NoEdge h
+    (passed (is_live g u && is_live g v) (if has_edge g u v then Ok (without_edge g u v) else Err NoEdge) NoNode h p))
+accepted (drop u) g h limits p =
+    one_graph (Ok (without_node g u)) (without_node g u) h refl (passed_over (is_used g u) (Ok (without_node g u)) InUse h
+    (passed (is_live g u) (if is_used g u then Err InUse else Ok (without_node g u)) NoNode h p))
+
+-- the blocks of an index that is found, or of none
+abbrev blocks_found : Option Meaning → List (Option ℕ)
+blocks_found x = blocks_in (option_and_then (λ m. view_at m.views 0) x)
+
+-- the 1-index that is found moved by one step
+step_found : (c : Change) (g : Graph) (x y : Option Meaning) (m : Meaning) → Both (λ a b. IsMoved a b c g) x y → x ≡ Some m → m.kind ≡ kind.One
+    → OneStep g (blocks_found x) c (after c g) (blocks_found y)
+step_found c g None None m neither e k = absurd (cc)
+step_found c g None (Some b) m f e k = elim f [ ]
+step_found c g (Some a) None m f e k = elim f [ ]
+step_found c g (Some a) (Some b) m (both _ _ r) e k =
+    let same : a ≡ m = cc in
+    subst (λ z. Steps z g (view_at a.views 0) c (view_at b.views 0)) (ap (λ n. n.kind) same ∙ k) r.next.step
+
+-- so did the one that is kept
+one_step : (c : Change) (g : Graph) (olds news : List Meaning) → EachBecomes (IsUpdated c g) olds news → is_same c g ≡ false → has_kind (kinds_of olds) kind.One ≡ true
+    → OneStep g (one_in olds) c (after c g) (one_in news)
+one_step c g olds news updated s h =
+    let m = some_found kind.One olds h in
+    let of_kind = found_all (λ x. ⊤) kind.One olds (λ i d w. tt) m.0 m.1 in
+    let moved = weaker (IsUpdated c g) (λ a b. IsMoved a b c g) (λ a b u. u.moved s) olds news (pairwise _ olds news updated) in
+    step_found c g (index_of olds kind.One) (index_of news kind.One) m.0 (found (λ a b. IsMoved a b c g) kind.One (λ a b r. r.kind) olds news moved) m.1 (is_one m.0.kind of_kind.1)
+
 -- what an accepted change makes of the state
 pub changed_state : (c : Change) (o p : Opened) (h : Graph) (olds news : List Meaning) → apply c o.graph o.limits ≡ Ok h → p ≡ record o { graph = h }
-    → EachBecomes (IsUpdated c o.graph) olds news → kinds_of news ≡ kinds_of olds → All (IsKeptFor p) news
-    → IsChanged (state_in (record { boxes = olds; opened = Some o })) c h (state_in (record { boxes = news; opened = Some p }))
-changed_state c o p h olds news outcome is updated kinds all = record {
+    → EachBecomes (IsUpdated c o.graph) olds news → (is_same c o.graph ≡ true → state_in (record { boxes = news; opened = Some p }) ≡ state_in (record { boxes = olds; opened = Some o }))
+    → kinds_of news ≡ kinds_of olds → IsChanged (state_in (record { boxes = olds; opened = Some o })) c h (state_in (record { boxes = news; opened = Some p }))
+changed_state c o p h olds news outcome is updated still kinds = record {
   graph = ap (λ x. x.graph) is;
   kinds = kinds;
   level = ap (λ x. x.k) is;
-  same = λ e. ap one_in (all_same olds news (weaker (IsUpdated c o.graph) (λ a b. b ≡ a) (λ a b u. u.same e) olds news (pairwise _ olds news updated)));
-  one = λ e.
-      let one = has_one p news all (ap (λ ks. has_kind ks kind.One) kinds ∙ e) in
-      subst (IsMinimalIndex (shape_of h)) (sym one.blocks) (subst (λ g. IsMinimalIndex (shape_of g) one.view.block_of) (ap (λ x. x.graph) is) one.fits.index);
+  same = still;
+  step = λ s e. subst (λ x. OneStep o.graph (one_in olds) c x (one_in news)) (sym (accepted c o.graph h o.limits outcome)) (one_step c o.graph olds news updated s e);
   none = λ e.
       let empty : (boxes : List Meaning) → has_kind (kinds_of boxes) kind.One ≡ false → one_in boxes ≡ [] =
       λ boxes f. ap (λ x. blocks_in (option_and_then (λ b. view_at b.views 0) x)) (none_found kind.One boxes f) in

@@ -86,7 +86,7 @@ after_one : Progress
 after_one = record { state = family_of (with_node empty_graph (codes "a")) 2; refused = false; lines = 1; bytes = 7 }
 
 one_more : IsChanged first_state (node (codes "a")) (with_node empty_graph (codes "a")) (family_of (with_node empty_graph (codes "a")) 2)
-one_more = record { graph = refl; kinds = refl; level = refl; same = λ e. absurd (true≢false (sym e)); one = λ h. absurd (true≢false (sym h)); none = λ _. refl }
+one_more = record { graph = refl; kinds = refl; level = refl; same = λ e. absurd (true≢false (sym e)); step = λ e h. absurd (true≢false (sym h)); none = λ _. refl }
 
 -- a change forgets no index
 kept_on : (c : Change) (g : Graph) → IsChanged first_state c g (record { graph = g; kept = record { kinds = []; k = 2; one = [] } }) → ⊥

@@ -7,11 +7,10 @@ use Rattle.px_spec.specs.declared.refusal.Refusal.TheVariants.{Limit, NoIndex}
 use Rattle.px_spec.specs.Lines.{Line, cut}
 use Rattle.px_spec.specs.Graphs.{Graph}
 use Rattle.px_spec.specs.Changes.{Change, apply}
-use Rattle.px_spec.specs.Shapes.{shape_of}
 use Rattle.index_api.specs.declared.kinds.Via.{Via}
 use Rattle.bisim_spec.specs.declared.kind.Kind.{Kind}
 use Rattle.bisim_spec.specs.declared.kind.Kind.TheVariants.{One}
-use Rattle.bisim_spec.specs.MinimalIndex.{IsMinimalIndex}
+use Rattle.bisim_spec.specs.OneStep.{OneStep}
 use Rattle.graph_update.specs.NewChanges.{is_same}
 use Rattle.path_spec.specs.Trees.{Expr}
 use Rattle.branch_spec.specs.Trees.{Branch}
@@ -21,14 +20,14 @@ use Rattle.pathindex_run.specs.States.{State, keeps, forgotten}
 use Rattle.pathindex_run.specs.Indexes.{ShowsAnswers, ShowsExtents, ShowsSizes}
 use Rattle.script_read.specs.Commands.{Command, change, path, branch, extents, sizes, forget, IsQuiet, IsSpelled, PassesLimit, SpellsNothing}
 
--- An accepted change leads from the state s to t, whose graph is h. The same indexes are kept. Where the change alters nothing, all
--- is as it was; else the blocks of the 1-index, where it is kept, are some that fit the graph after the change.
+-- An accepted change leads from the state s to t, whose graph is h. The same indexes are kept. A change that alters nothing leaves
+-- the whole state. Each other one moves the blocks of the 1-index, where it is kept, by one step.
 pub record IsChanged (s : State) (c : Change) (h : Graph) (t : State) : Type 0 where
   pub graph : t.graph ≡ h
   pub kinds : t.kept.kinds ≡ s.kept.kinds
   pub level : t.kept.k ≡ s.kept.k
-  pub same : is_same c s.graph ≡ true → t.kept.one ≡ s.kept.one
-  pub one : IsTrue (keeps s One) → IsMinimalIndex (shape_of h) t.kept.one
+  pub same : is_same c s.graph ≡ true → t ≡ s
+  pub step : is_same c s.graph ≡ false → IsTrue (keeps s One) → OneStep s.graph s.kept.one c h t.kept.one
   pub none : keeps s One ≡ false → t.kept.one ≡ s.kept.one
 
 -- what a change makes of the state, by its outcome: a refusal leaves it

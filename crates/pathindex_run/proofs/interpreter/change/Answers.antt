@@ -5,14 +5,14 @@ use Rattle.pathindex_run.proofs.ReachedLemmas.{ok_fact}
 use Rattle.pathindex_run.proofs.interpreter.change.Goals as goal
 
 pub returns-in_err-push_applied-in-Ok-clause-ready : goal.returns-in_err-push_applied-in-Ok-clause-ready
-returns-in_err-push_applied-in-Ok-clause-ready g c = open_made (change_of c.args.change) _ _ c.requires.ready (record { sound = c.update.ensures.sound; opened = c.in-Ok.ensures.opened; updated = c.in-Ok.ensures.updated; kinds = c.update.ensures.kinds; accepted = λ r e. no_refusal _ _ (c.in-Ok.ensures.refused r).1 e })
+returns-in_err-push_applied-in-Ok-clause-ready g c = open_made (change_of c.args.change) _ _ c.requires.ready (record { sound = c.update.ensures.sound; opened = c.in-Ok.ensures.opened; updated = c.in-Ok.ensures.updated; still = c.update.ensures.still; kinds = c.update.ensures.kinds; accepted = λ r e. no_refusal _ _ (c.in-Ok.ensures.refused r).1 e })
 
 pub returns-in_ok-push_applied-in-Ok-clause-ready : goal.returns-in_ok-push_applied-in-Ok-clause-ready
-returns-in_ok-push_applied-in-Ok-clause-ready g c = open_made (change_of c.args.change) _ _ c.requires.ready (record { sound = c.update.ensures.sound; opened = c.in-Ok.ensures.opened; updated = c.in-Ok.ensures.updated; kinds = c.update.ensures.kinds; accepted = λ r e. no_refusal _ _ (c.in-Ok.ensures.refused r).1 e })
+returns-in_ok-push_applied-in-Ok-clause-ready g c = open_made (change_of c.args.change) _ _ c.requires.ready (record { sound = c.update.ensures.sound; opened = c.in-Ok.ensures.opened; updated = c.in-Ok.ensures.updated; still = c.update.ensures.still; kinds = c.update.ensures.kinds; accepted = λ r e. no_refusal _ _ (c.in-Ok.ensures.refused r).1 e })
 
 pub returns-in_ok-push_applied-in-Ok-clause-ok : goal.returns-in_ok-push_applied-in-Ok-clause-ok
 returns-in_ok-push_applied-in-Ok-clause-ok g c =
-    made_obeyed (change_of c.args.change) _ _ c.in-Ok.applied _ _ c.requires.ready (record { sound = c.update.ensures.sound; opened = c.in-Ok.ensures.opened; updated = c.in-Ok.ensures.updated; kinds = c.update.ensures.kinds; accepted = λ r e. no_refusal _ _ (c.in-Ok.ensures.refused r).1 e }) c.in-Ok.ensures.applied c.in_ok-push_applied-in-Ok.ensures.ok
+    made_obeyed (change_of c.args.change) _ _ c.in-Ok.applied _ _ c.requires.ready (record { sound = c.update.ensures.sound; opened = c.in-Ok.ensures.opened; updated = c.in-Ok.ensures.updated; still = c.update.ensures.still; kinds = c.update.ensures.kinds; accepted = λ r e. no_refusal _ _ (c.in-Ok.ensures.refused r).1 e }) c.in-Ok.ensures.applied c.in_ok-push_applied-in-Ok.ensures.ok
 
 pub returns-in-Err-Refused-clause-ready : goal.returns-in-Err-Refused-clause-ready
 returns-in-Err-Refused-clause-ready g c = open_same _ _ c.in-Err-Refused.ensures.err c.requires.ready
