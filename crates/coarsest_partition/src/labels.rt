@@ -7,8 +7,8 @@ ghost use Rattle.bisim_spec.specs.Partitions.{Agrees};
 ghost use Rattle.block_splitting.specs.Chosen.{HasFirst};
 ghost use Rattle.block_splitting.specs.Splits.{AreLabelled, AreInhabited};
 
-use crate::filling::fill;
 use bisim_levels::label_level;
+use block_filling::fill;
 use block_partition::Blocks;
 use key_table::KeyTable;
 use label_graph::GraphView;
