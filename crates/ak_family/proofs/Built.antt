@@ -15,8 +15,10 @@ use Rattle.bisim_levels.specs.Sides.{is_near, no_neighbours}
 use Rattle.bisim_levels.specs.declared.sides.Side.TheVariants.{Parents}
 use Rattle.quotient.specs.Quotients.{view_of}
 use Rattle.ak_family.specs.Families.{KeyedQuotient, no_level, level_at, blocks_at, key_at, AreLabelKeys, AreParentKeys}
-use Rattle.ak_family.specs.Layers.{BlocksHaveLabels, SameBlocks}
-use Rattle.ak_family.proofs.Filled.{shown_at, agrees_moved}
+use Rattle.block_filling.specs.Filling.{SameBlocks}
+use Rattle.block_filling.proofs.Filled.{agrees_moved}
+use Rattle.ak_family.specs.Layers.{BlocksHaveLabels}
+use Rattle.ak_family.proofs.Filled.{shown_at}
 
 -- level i is the last one, and has the blocks of the list
 pub record IsBuilt (g : Graph) (i : ℕ) (levels : List KeyedQuotient) (block : List (Option ℕ)) (labels : List ℕ) : Type 0 where

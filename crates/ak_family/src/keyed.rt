@@ -9,10 +9,11 @@ ghost use Rattle.block_partition.specs.Partitions.{IsBlock};
 ghost use Rattle.quotient.specs.Quotients.{view_of};
 ghost use Rattle.quotient.specs.Joined.{AreListed};
 ghost use Rattle.ak_family.specs.Families.{HasKey, AreKeyed};
-ghost use Rattle.ak_family.specs.Layers.{BlocksHaveLabels, SameBlocks};
+ghost use Rattle.block_filling.specs.Filling.{SameBlocks};
+ghost use Rattle.ak_family.specs.Layers.{BlocksHaveLabels};
 
-use crate::filling::fill;
 use crate::layers::Layer;
+use block_filling::fill;
 use key_table::KeyTable;
 use label_graph::GraphView;
 use px_base::Memory;

@@ -2,7 +2,6 @@
 #![tactic(auto)]
 
 mod family;
-mod filling;
 mod keyed;
 mod labels;
 mod layers;

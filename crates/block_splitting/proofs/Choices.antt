@@ -10,7 +10,7 @@ use Rattle.std.proofs.lemmas.Option.{slice_get-get_or, slice_get_within}
 use Rattle.px_spec.specs.Members.{has, Lists, at, is_this}
 use Rattle.block_partition.specs.Partitions.{Partition, block_count, put, with_block}
 use Rattle.bisim_spec.proofs.Bisimilar.{some_of, none_or_some, is_some_at}
-use Rattle.block_splitting.specs.Chosen.{BeginsWith, AllWait, IsKept, IsNotKept, IsPicked, AreChosen, KeepersBelow}
+use Rattle.block_splitting.specs.Chosen.{HasFirst, AllWait, IsKept, IsNotKept, IsPicked, AreChosen, KeepersBelow}
 use Rattle.block_splitting.proofs.Lists.{all_get}
 
 -- one more block is counted
@@ -32,7 +32,7 @@ count_put (x ∷ xs) (suc b) v e =
 first_same : (xs ys : List ℕ) (x y : ℕ) → x ∷ xs ≡ y ∷ ys → x ≡ y
 first_same xs ys x y e = cc
 
-pub begins_same : (key : List ℕ) (a b : ℕ) → BeginsWith key a → BeginsWith key b → a ≡ b
+pub begins_same : (key : List ℕ) (a b : ℕ) → HasFirst key a → HasFirst key b → a ≡ b
 begins_same key a b x y = first_same x.around y.around a b (sym x.is ∙ y.is)
 
 -- one more is looked at
@@ -123,8 +123,8 @@ chosen_none p q waits keys keeper chosen nodes labels none = record {
 }
 
 pub chosen_more : (p q r : Partition) (waits : ℕ → Bool) (keys : List (List ℕ)) (i own c : ℕ) (keeper chosen key : List ℕ)
-    → ((k : ℕ) (x : List ℕ) → slice_get keys k ≡ Some x → (o : ℕ) × BeginsWith x o × IsSome (at p.labels o)) → AreChosen p q waits keys i keeper chosen
-    → slice_get keys i ≡ Some key → ((n : ℕ) → BeginsWith key n → own ≡ n) → IsPicked q r waits keeper own i c
+    → ((k : ℕ) (x : List ℕ) → slice_get keys k ≡ Some x → (o : ℕ) × HasFirst x o × IsSome (at p.labels o)) → AreChosen p q waits keys i keeper chosen
+    → slice_get keys i ≡ Some key → ((n : ℕ) → HasFirst key n → own ≡ n) → IsPicked q r waits keeper own i c
     → AreChosen p r waits keys (i + 1) keeper (chosen ++ c ∷ [])
 chosen_more p q r waits keys i own c keeper chosen key keyed w at_i begins picked = record {
   count = length-append chosen (c ∷ []) ∙ ap (λ n. n + 1) w.count;
@@ -139,7 +139,7 @@ chosen_more p q r waits keys i own c keeper chosen key keyed w at_i begins picke
     | inr past ↦ (
         let here : k ≡ i = omega (arith, h, past) in
         let same : x ≡ key = (let a = ap (slice_get keys) here in cc) in
-        let number : own ≡ o = begins o (subst (λ z. BeginsWith z o) same f) in
+        let number : own ≡ o = begins o (subst (λ z. HasFirst z o) same f) in
         subst (λ z. IsKept p.block_of waits keeper o k z ⊎ ((at p.labels z ≡ None) × IsNotKept p.block_of waits keeper o k)) (sym (last k here))
         (subst (λ z. IsKept p.block_of waits keeper o z c ⊎ ((at p.labels c ≡ None) × IsNotKept p.block_of waits keeper o z)) (sym here)
         (subst (λ z. IsKept p.block_of waits keeper z i c ⊎ ((at p.labels c ≡ None) × IsNotKept p.block_of waits keeper z i)) number choice_c)))
@@ -149,7 +149,7 @@ chosen_more p q r waits keys i own c keeper chosen key keyed w at_i begins picke
     | inr past ↦ (
         let here : k ≡ i = omega (arith, h, past) in
         let same : x ≡ key = (let a = ap (slice_get keys) here in cc) in
-        let number : own ≡ o = begins o (subst (λ z. BeginsWith z o) same f) in
+        let number : own ≡ o = begins o (subst (λ z. HasFirst z o) same f) in
         ap (at r.labels) (last k here) ∙ label_of_c ∙ ap (at p.labels) number)
   ];
   only = λ b h. elim (onto b h) [
@@ -177,7 +177,7 @@ chosen_more p q r waits keys i own c keeper chosen key keyed w at_i begins picke
     | inr past ↦ (
         let here : k ≡ i = omega (arith, h, past) in
         let same : x ≡ key = (let a = ap (slice_get keys) here in cc) in
-        let number : own ≡ o = begins o (subst (λ y. BeginsWith y o) same z) in
+        let number : own ≡ o = begins o (subst (λ y. HasFirst y o) same z) in
         last k here ∙ elim picked.choice [
           | inl (kept, stays) ↦ kept.same ∙ number
           | inr (new, why) ↦ absurd (let a = w.mono in let b = new.count in omega (arith, a, b, e))
@@ -194,7 +194,7 @@ chosen_more p q r waits keys i own c keeper chosen key keyed w at_i begins picke
     last : (k : ℕ) → k ≡ i → slice_index (chosen ++ c ∷ []) k ≡ c
     last k e = ap (λ x. slice_index (chosen ++ c ∷ []) x) e ∙ get_or_push chosen c 0 i count_c
 
-    the_own : (o : ℕ) × BeginsWith key o × IsSome (at p.labels o)
+    the_own : (o : ℕ) × HasFirst key o × IsSome (at p.labels o)
     the_own = keyed i key at_i
 
     own_live : IsSome (at p.labels own)
@@ -282,21 +282,21 @@ pub keepers_none : (keys : List (List ℕ)) (keeper : List ℕ) → KeepersBelow
 keepers_none keys keeper = record { each = λ i own key h. absurd (omega (arith, h)) }
 
 -- where the keeper stays
-pub keepers_stay : (keys : List (List ℕ)) (k own before : ℕ) (keeper key kept : List ℕ) → KeepersBelow keys k keeper → slice_get keys k ≡ Some key → BeginsWith key own
-    → before < k → slice_index keeper own ≡ before → slice_get keys before ≡ Some kept → BeginsWith kept own → KeepersBelow keys (k + 1) keeper
+pub keepers_stay : (keys : List (List ℕ)) (k own before : ℕ) (keeper key kept : List ℕ) → KeepersBelow keys k keeper → slice_get keys k ≡ Some key → HasFirst key own
+    → before < k → slice_index keeper own ≡ before → slice_get keys before ≡ Some kept → HasFirst kept own → KeepersBelow keys (k + 1) keeper
 keepers_stay keys k own before keeper key kept w at_k begins less is at_before begins_before = record {
   each = λ i o x h e f. elim (cases_lt i k) [
     | inl l ↦ (let r = w.each i o x l e f in (r.0, r.1, (let a = r.2 in omega (arith, a)), r.3, r.4, r.5))
     | inr past ↦ (
         let here : i ≡ k = omega (arith, h, past) in
         let same : x ≡ key = (let a = ap (slice_get keys) here in cc) in
-        let number : own ≡ o = begins_same key own o begins (subst (λ z. BeginsWith z o) same f) in
-        (before, kept, omega (arith, less), ap (slice_index keeper) (sym number) ∙ is, at_before, subst (BeginsWith kept) number begins_before))
+        let number : own ≡ o = begins_same key own o begins (subst (λ z. HasFirst z o) same f) in
+        (before, kept, omega (arith, less), ap (slice_index keeper) (sym number) ∙ is, at_before, subst (HasFirst kept) number begins_before))
   ];
 }
 
 -- where this key takes its place
-pub keepers_set : (keys : List (List ℕ)) (k own : ℕ) (keeper key : List ℕ) → KeepersBelow keys k keeper → slice_get keys k ≡ Some key → BeginsWith key own → own < length keeper
+pub keepers_set : (keys : List (List ℕ)) (k own : ℕ) (keeper key : List ℕ) → KeepersBelow keys k keeper → slice_get keys k ≡ Some key → HasFirst key own → own < length keeper
     → KeepersBelow keys (k + 1) (slice_set keeper own k)
 keepers_set keys k own keeper key w at_k begins within = record {
   each = λ i o x h e f. elim (eqb_tells o own) [
@@ -306,14 +306,14 @@ keepers_set keys k own keeper key w at_k begins within = record {
       omega arith,
       ap (slice_index (slice_set keeper own k)) s.1 ∙ get_or-set_same keeper own k 0 within,
       at_k,
-      subst (BeginsWith key) (sym s.1) begins,
+      subst (HasFirst key) (sym s.1) begins,
     )
     | inr d ↦ elim (cases_lt i k) [
       | inl l ↦ (let r = w.each i o x l e f in (r.0, r.1, (let a = r.2 in omega (arith, a)), get_or-set_other keeper own o k 0 d.1 ∙ r.3, r.4, r.5))
       | inr past ↦ absurd (
           let here : i ≡ k = omega (arith, h, past) in
           let same : x ≡ key = (let a = ap (slice_get keys) here in cc) in
-          d.1 (sym (begins_same key own o begins (subst (λ z. BeginsWith z o) same f))))
+          d.1 (sym (begins_same key own o begins (subst (λ z. HasFirst z o) same f))))
     ]
   ];
 }

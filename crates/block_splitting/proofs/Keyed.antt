@@ -14,9 +14,9 @@ use Rattle.bisim_levels.specs.Sides.{is_near}
 use Rattle.bisim_levels.proofs.Views.{near_block, node_number, number_node}
 use Rattle.bisim_levels.proofs.Written.{key_from_together}
 use Rattle.block_partition.specs.Partitions.{Partition, IsBlock}
-use Rattle.block_splitting.specs.Splits.{Near}
-use Rattle.block_splitting.specs.Groups.{AreReady, AreGrouped, NearKey}
-use Rattle.block_splitting.specs.Chosen.{BeginsWith}
+use Rattle.block_splitting.specs.Splits.{IsNeighbour}
+use Rattle.block_splitting.specs.Groups.{AreReady, AreGrouped, NeighbourKey}
+use Rattle.block_splitting.specs.Chosen.{HasFirst}
 use Rattle.block_splitting.specs.Moved.{CanPart}
 use Rattle.block_splitting.proofs.Lists.{any_get}
 
@@ -31,11 +31,11 @@ ready g block list waiting size e p nodes room = subst (λ (xs : List ℕ). AreR
 
 -- Of the keys that K gives to nodes: a key begins with the node's block, and a node has one key at most.
 pub record AreKeys (K : ℕ → List ℕ → Type 0) (block : List (Option ℕ)) : Type 0 where
-  pub owner : (n : ℕ) (key : List ℕ) → K n key → (own : ℕ) × BeginsWith key own × (at block n ≡ Some own)
+  pub owner : (n : ℕ) (key : List ℕ) → K n key → (own : ℕ) × HasFirst key own × (at block n ≡ Some own)
   pub unique : (n : ℕ) (x y : List ℕ) → K n x → K n y → x ≡ y
 
 -- the keys of neighbours' blocks are such
-pub near_keys : (g : Graph) → IsGraph g → (side : Side) (block : List (Option ℕ)) → IsPartition (shape_of g) block → AreKeys (NearKey g side block) block
+pub near_keys : (g : Graph) → IsGraph g → (side : Side) (block : List (Option ℕ)) → IsPartition (shape_of g) block → AreKeys (NeighbourKey g side block) block
 near_keys g s side block part = record {
   owner = λ n key k. (k.number, record { around = k.around; is = k.is }, k.own_is);
   unique = λ n x y k l. key_from_together (at block) block (is_near side g) n n x y (record {
@@ -44,12 +44,12 @@ near_keys g s side block part = record {
   }) k l;
 }
   where
-    itself : (n p : ℕ) → Near side g p n → Together block p p
+    itself : (n p : ℕ) → IsNeighbour side g p n → Together block p p
     itself n p e = let b = near_block g s side block part p n e in (b.0, b.1, b.1)
 
 -- each key begins with the number of a block
 keyed : (K : ℕ → List ℕ → Type 0) (p : Partition) (seen : ℕ → Bool) (keys : List (List ℕ)) (group : List ℕ) → AreKeys K p.block_of → AreGrouped K seen keys group
-    → ((n b : ℕ) → at p.block_of n ≡ Some b → IsBlock p b) → (k : ℕ) (key : List ℕ) → slice_get keys k ≡ Some key → (own : ℕ) × BeginsWith key own × IsBlock p own
+    → ((n b : ℕ) → at p.block_of n ≡ Some b → IsBlock p b) → (k : ℕ) (key : List ℕ) → slice_get keys k ≡ Some key → (own : ℕ) × HasFirst key own × IsBlock p own
 keyed K p seen keys group a w live k key e =
     let n = w.inhabited k key e in
     let o = a.owner n.0 key n.2 in

@@ -8,7 +8,7 @@ use Rattle.bisim_spec.proofs.Bisimilar.{some_of}
 use Rattle.bisim_spec.proofs.Together.{block_below}
 use Rattle.block_partition.specs.Partitions.{Partition, IsBlock}
 use Rattle.block_splitting.specs.Groups.{AreGrouped}
-use Rattle.block_splitting.specs.Chosen.{BeginsWith, AreChosen, KeepersBelow}
+use Rattle.block_splitting.specs.Chosen.{HasFirst, AreChosen, KeepersBelow}
 use Rattle.block_splitting.specs.Moved.{AreMoved, CanMove, CanPart, AreParted}
 use Rattle.block_splitting.proofs.Keyed.{AreKeys}
 
@@ -18,7 +18,7 @@ pub record Placed (K : ℕ → List ℕ → Type 0) (block new : List (Option �
   pub at_key : slice_get keys (slice_index group n) ≡ Some key
   pub is : K n key
   pub own : ℕ
-  pub begins : BeginsWith key own
+  pub begins : HasFirst key own
   pub own_is : at block n ≡ Some own
   pub below : slice_index group n < length keys
   pub there : at new n ≡ Some (slice_index chosen (slice_index group n))
@@ -122,7 +122,7 @@ waited_of seen target old new moved m n h = elim (cases_Bool (seen n)) [ inl y �
 
 -- each key begins with a number below the length of the list of labels
 pub keyed_below : (p : Partition) (seen : ℕ → Bool) (keys : List (List ℕ)) (group : List ℕ) (span : ℕ) → CanPart p seen keys group → span ≡ length p.labels → (k : ℕ) (key : List ℕ)
-    → slice_get keys k ≡ Some key → (own : ℕ) × BeginsWith key own × (own < span)
+    → slice_get keys k ≡ Some key → (own : ℕ) × HasFirst key own × (own < span)
 keyed_below p seen keys group span c is k key e =
     let o = c.keyed k key e in
     (o.0, o.1, let l = block_below p.labels o.0 o.2 in omega (arith, l, is))

@@ -12,7 +12,7 @@ use Rattle.bisim_levels.specs.Refining.{StayTogether}
 use Rattle.bisim_levels.proofs.Views.{near_block}
 use Rattle.bisim_levels.proofs.Written.{together_from_key, key_from_together}
 use Rattle.block_partition.specs.Partitions.{Partition, IsBlock, block_count}
-use Rattle.block_splitting.specs.Groups.{AreGrouped, NearKey}
+use Rattle.block_splitting.specs.Groups.{AreGrouped, NeighbourKey}
 use Rattle.block_splitting.specs.Moved.{AreParted}
 use Rattle.block_splitting.specs.Splits.{IsSplit, AreLabelled, AreInhabited}
 use Rattle.block_splitting.proofs.Lists.{none_empty}
@@ -31,22 +31,22 @@ parts_from K p r list waiting moved keys group group2 e eg a live w m = record {
 
 -- a round by the keys of neighbours' blocks
 pub split_of : (g : Graph) → IsGraph g → (side : Side) (p r : Partition) (seen : ℕ → Bool) (moved : List ℕ) (keys : List (List ℕ)) (group : List ℕ) → IsPartition (shape_of g) p.block_of
-    → Parts (NearKey g side p.block_of) p r seen moved keys group → IsSplit g side seen p.block_of r.block_of (has moved)
+    → Parts (NeighbourKey g side p.block_of) p r seen moved keys group → IsSplit g side seen p.block_of r.block_of (has moved)
 split_of g s side p r seen moved keys group part w = record {
   finer = λ u v t. elim (tell u v t) [ inl (un, old) ↦ old | inr o ↦ (one u v o).one_number ];
   parted = λ u v t. elim (tell u v t) [ inl (un, old) ↦ inl un | inr o ↦ inr (one u v o).neighbours ];
   grouped = λ u v t near su sv.
-      kept_one (NearKey g side p.block_of) p r seen moved keys group w u v t
+      kept_one (NeighbourKey g side p.block_of) p r seen moved keys group w u v t
       (λ x y k l. key_from_together (at p.block_of) p.block_of (is_near side g) u v x y (record { one_number = t; neighbours = near }) k l) su sv;
   still = w.parted.moved_are.still;
   went = w.parted.moved_are.went;
   waited = waited_of seen (λ n. slice_index w.parted.chosen (slice_index group n)) p.block_of r.block_of (has moved) w.parted.moved_are;
 }
   where
-    tell : (u v : ℕ) → Together r.block_of u v → (((seen u ≡ false) × (seen v ≡ false)) × Together p.block_of u v) ⊎ OneKey (NearKey g side p.block_of) seen u v
-    tell = told (NearKey g side p.block_of) p r seen moved keys group w
+    tell : (u v : ℕ) → Together r.block_of u v → (((seen u ≡ false) × (seen v ≡ false)) × Together p.block_of u v) ⊎ OneKey (NeighbourKey g side p.block_of) seen u v
+    tell = told (NeighbourKey g side p.block_of) p r seen moved keys group w
 
-    one : (u v : ℕ) → OneKey (NearKey g side p.block_of) seen u v → StayTogether (at p.block_of) p.block_of (is_near side g) u v
+    one : (u v : ℕ) → OneKey (NeighbourKey g side p.block_of) seen u v → StayTogether (at p.block_of) p.block_of (is_near side g) u v
     one u v o = together_from_key (at p.block_of) p.block_of (is_near side g) u v o.key (near_block g s side p.block_of part) o.first_has o.second_has
 
 -- where no block is new nothing moves

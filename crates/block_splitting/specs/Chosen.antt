@@ -4,7 +4,7 @@ use Rattle.px_spec.specs.Members.{at}
 use Rattle.block_partition.specs.Partitions.{Partition, IsBlock, block_count}
 
 -- the first number of the key
-pub record BeginsWith (key : List ℕ) (number : ℕ) : Type 0 where
+pub record HasFirst (key : List ℕ) (number : ℕ) : Type 0 where
   pub around : List ℕ
   pub is : key ≡ number ∷ around
 
@@ -23,7 +23,7 @@ pub record IsNotKept (block : List (Option ℕ)) (waits : ℕ → Bool) (keeper 
   pub why : (slice_index keeper own ≡ k → ⊥) ⊎ ((n : ℕ) × (at block n ≡ Some own) × (waits n ≡ false))
 
 -- a number that was free became a block, with the label of this one
-pub record IsNew (old new : Partition) (own c : ℕ) : Type 0 where
+pub record IsNewBlock (old new : Partition) (own c : ℕ) : Type 0 where
   pub free : at old.labels c ≡ None
   pub live : IsBlock new c
   pub label : at new.labels c ≡ at old.labels own
@@ -34,7 +34,7 @@ pub record IsNew (old new : Partition) (own c : ℕ) : Type 0 where
 pub record IsPicked (old new : Partition) (waits : ℕ → Bool) (keeper : List ℕ) (own k c : ℕ) : Type 0 where
   pub nodes : new.block_of ≡ old.block_of
   pub stay : (b : ℕ) → IsBlock old b → at new.labels b ≡ at old.labels b
-  pub choice : (IsKept old.block_of waits keeper own k c × (new ≡ old)) ⊎ (IsNew old new own c × IsNotKept old.block_of waits keeper own k)
+  pub choice : (IsKept old.block_of waits keeper own k c × (new ≡ old)) ⊎ (IsNewBlock old new own c × IsNotKept old.block_of waits keeper own k)
 
 -- Blocks for the first groups. No two groups have one; each has its own block's label, and is that block where the group keeps
 -- it, and else was free.
@@ -43,16 +43,16 @@ pub record AreChosen (old new : Partition) (waits : ℕ → Bool) (keys : List (
   pub nodes : new.block_of ≡ old.block_of
   pub stay : (b : ℕ) → IsBlock old b → at new.labels b ≡ at old.labels b
   pub live : (k : ℕ) → k < first → IsBlock new (slice_index chosen k)
-  pub each : (k own : ℕ) (key : List ℕ) → k < first → slice_get keys k ≡ Some key → BeginsWith key own
+  pub each : (k own : ℕ) (key : List ℕ) → k < first → slice_get keys k ≡ Some key → HasFirst key own
       → IsKept old.block_of waits keeper own k (slice_index chosen k) ⊎ ((at old.labels (slice_index chosen k) ≡ None) × IsNotKept old.block_of waits keeper own k)
-  pub label : (k own : ℕ) (key : List ℕ) → k < first → slice_get keys k ≡ Some key → BeginsWith key own → at new.labels (slice_index chosen k) ≡ at old.labels own
+  pub label : (k own : ℕ) (key : List ℕ) → k < first → slice_get keys k ≡ Some key → HasFirst key own → at new.labels (slice_index chosen k) ≡ at old.labels own
   pub only : (b : ℕ) → IsBlock new b → IsBlock old b ⊎ ((k : ℕ) × (k < first) × (slice_index chosen k ≡ b))
   pub apart : (j k : ℕ) → j < first → k < first → slice_index chosen j ≡ slice_index chosen k → j ≡ k
   pub mono : block_count old ≤ block_count new
-  pub none_new : block_count new ≡ block_count old → (k own : ℕ) (key : List ℕ) → k < first → slice_get keys k ≡ Some key → BeginsWith key own
+  pub none_new : block_count new ≡ block_count old → (k own : ℕ) (key : List ℕ) → k < first → slice_get keys k ≡ Some key → HasFirst key own
       → slice_index chosen k ≡ own
 
 -- of the first keys, each one's block has a keeper among them that is a group of this block
 pub record KeepersBelow (keys : List (List ℕ)) (first : ℕ) (keeper : List ℕ) : Type 0 where
-  pub each : (i own : ℕ) (key : List ℕ) → i < first → slice_get keys i ≡ Some key → BeginsWith key own
-      → (j : ℕ) × (kept : List ℕ) × (j < first) × (slice_index keeper own ≡ j) × (slice_get keys j ≡ Some kept) × BeginsWith kept own
+  pub each : (i own : ℕ) (key : List ℕ) → i < first → slice_get keys i ≡ Some key → HasFirst key own
+      → (j : ℕ) × (kept : List ℕ) × (j < first) × (slice_index keeper own ≡ j) × (slice_get keys j ≡ Some kept) × HasFirst kept own

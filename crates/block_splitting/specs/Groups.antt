@@ -22,5 +22,5 @@ pub record AreGrouped (K : ℕ → List ℕ → Type 0) (seen : ℕ → Bool) (k
   pub inhabited : (k : ℕ) (key : List ℕ) → slice_get keys k ≡ Some key → (n : ℕ) × (seen n ≡ true) × K n key
 
 -- the key of a node: its own block, and then the blocks of its neighbours on a side, rising, each once
-abbrev pub NearKey : Graph → Side → List (Option ℕ) → ℕ → List ℕ → Type 0
-NearKey g side block n key = IsKey (at block) block (is_near side g) n key
+abbrev pub NeighbourKey : Graph → Side → List (Option ℕ) → ℕ → List ℕ → Type 0
+NeighbourKey g side block n key = IsKey (at block) block (is_near side g) n key

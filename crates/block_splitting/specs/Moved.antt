@@ -2,7 +2,7 @@
 use Rattle.std.specs.Prelude.{ℕ, ◌≡◌, ◌<◌, Bool, true, false, List, length, Option, Some, IsSome, slice_get, slice_index}
 use Rattle.px_spec.specs.Members.{at}
 use Rattle.block_partition.specs.Partitions.{Partition, IsBlock}
-use Rattle.block_splitting.specs.Chosen.{BeginsWith, AreChosen, KeepersBelow}
+use Rattle.block_splitting.specs.Chosen.{HasFirst, AreChosen, KeepersBelow}
 
 -- those that are seen have a block, and one is chosen for their group
 pub record CanMove (p : Partition) (seen : ℕ → Bool) (group chosen : List ℕ) : Type 0 where
@@ -23,7 +23,7 @@ pub record CanPart (p : Partition) (seen : ℕ → Bool) (keys : List (List ℕ)
   pub has_block : (n : ℕ) → seen n ≡ true → IsSome (at p.block_of n)
   pub below : (n : ℕ) → seen n ≡ true → n < length group
   pub grouped : (n : ℕ) → seen n ≡ true → slice_index group n < length keys
-  pub keyed : (k : ℕ) (key : List ℕ) → slice_get keys k ≡ Some key → (own : ℕ) × BeginsWith key own × IsBlock p own
+  pub keyed : (k : ℕ) (key : List ℕ) → slice_get keys k ≡ Some key → (own : ℕ) × HasFirst key own × IsBlock p own
 
 -- those that are seen went to the blocks that were chosen for the numbers of their keys
 pub record AreParted (old new : Partition) (seen : ℕ → Bool) (keys : List (List ℕ)) (group : List ℕ) (moved : ℕ → Bool) : Type 0 where

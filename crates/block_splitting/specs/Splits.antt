@@ -11,14 +11,14 @@ use Rattle.bisim_levels.specs.Sides.{is_near}
 use Rattle.block_partition.specs.Partitions.{Partition, IsBlock, block_count}
 
 -- p is a neighbour of n on this side
-abbrev pub Near : Side → Graph → ℕ → ℕ → Type 0
-Near t g p n = IsTrue (is_near t g p n)
+abbrev pub IsNeighbour : Side → Graph → ℕ → ℕ → Type 0
+IsNeighbour t g p n = IsTrue (is_near t g p n)
 
 -- Those that waited are parted by the blocks of their neighbours on the side, and from the others; and which nodes moved.
 pub record IsSplit (g : Graph) (side : Side) (waits : ℕ → Bool) (old new : List (Option ℕ)) (moved : ℕ → Bool) : Type 0 where
   pub finer : (u v : ℕ) → Together new u v → Together old u v
-  pub parted : (u v : ℕ) → Together new u v → ((waits u ≡ false) × (waits v ≡ false)) ⊎ Matched (Near side g) (Together old) u v
-  pub grouped : (u v : ℕ) → Together old u v → Matched (Near side g) (Together old) u v → (waits u ≡ true → waits v ≡ true)
+  pub parted : (u v : ℕ) → Together new u v → ((waits u ≡ false) × (waits v ≡ false)) ⊎ Matched (IsNeighbour side g) (Together old) u v
+  pub grouped : (u v : ℕ) → Together old u v → Matched (IsNeighbour side g) (Together old) u v → (waits u ≡ true → waits v ≡ true)
       → (waits v ≡ true → waits u ≡ true) → Together new u v
   pub still : (n : ℕ) → moved n ≡ false → at new n ≡ at old n
   pub went : (n : ℕ) → moved n ≡ true → at new n ≡ at old n → ⊥

@@ -8,12 +8,12 @@ use Rattle.bisim_levels.specs.declared.sides.Side.{Side}
 use Rattle.bisim_levels.specs.declared.sides.Side.TheVariants.{Parents, Children}
 use Rattle.bisim_levels.specs.Sides.{is_near}
 use Rattle.block_partition.specs.Partitions.{Partition}
-use Rattle.block_splitting.specs.Splits.{Near}
+use Rattle.block_splitting.specs.Splits.{IsNeighbour}
 
 -- both nodes have a neighbour in the splitter on the side, or neither has one
 pub record BothOrNeither (t : Side) (g : Graph) (splitter : ℕ → Bool) (u v : ℕ) : Type 0 where
-  pub there : (p : ℕ) → Near t g p u → splitter p ≡ true → (q : ℕ) × Near t g q v × (splitter q ≡ true)
-  pub back : (p : ℕ) → Near t g p v → splitter p ≡ true → (q : ℕ) × Near t g q u × (splitter q ≡ true)
+  pub there : (p : ℕ) → IsNeighbour t g p u → splitter p ≡ true → (q : ℕ) × IsNeighbour t g q v × (splitter q ≡ true)
+  pub back : (p : ℕ) → IsNeighbour t g p v → splitter p ≡ true → (q : ℕ) × IsNeighbour t g q u × (splitter q ≡ true)
 
 -- two nodes are together exactly where they were, and both or neither have a parent in the splitter, and a child
 pub record IsSplitBy (g : Graph) (old new : List (Option ℕ)) (splitter : ℕ → Bool) : Type 0 where

@@ -3,7 +3,7 @@ ghost use Rattle.std.specs.Prelude.{◌≡◌, ◌+◌, ◌<◌, ◌≤◌, ◌^
 ghost use Rattle.std.specs.List.{list_all};
 ghost use Rattle.px_spec.specs.Members.{has, at};
 ghost use Rattle.block_partition.specs.Partitions.{IsBlock, block_count};
-ghost use Rattle.block_splitting.specs.Chosen.{BeginsWith, AllWait, IsKept, IsNotKept, IsPicked, AreChosen};
+ghost use Rattle.block_splitting.specs.Chosen.{HasFirst, AllWait, IsKept, IsNotKept, IsPicked, AreChosen};
 
 use crate::nodes::NodeSet;
 use block_partition::{Blocks, Members};
@@ -63,8 +63,8 @@ fn choose_one(blocks: &mut Blocks, waiting: &NodeSet, keeper: &[u32], own: u32, 
 
 /// The first number of a key: the block of the nodes that have it.
 pub(crate) fn own_number(key: &[u32]) -> u32
-    requires { (n : ℕ) × BeginsWith key.now n }
-    ensures { (n : ℕ) → BeginsWith key.now n → result ≡ n }
+    requires { (n : ℕ) × HasFirst key.now n }
+    ensures { (n : ℕ) → HasFirst key.now n → result ≡ n }
 {
     key[0]
 }
@@ -93,7 +93,7 @@ pub(crate) fn choose(
     keys: &KeyTable,
     keeper: &[u32],
 ) -> Result<Vec<u32>, Memory>
-    requires keyed { (k : ℕ) (key : List ℕ) → slice_get keys.now k ≡ Some key → (own : ℕ) × BeginsWith key own × IsBlock blocks.old own }
+    requires keyed { (k : ℕ) (key : List ℕ) → slice_get keys.now k ≡ Some key → (own : ℕ) × HasFirst key own × IsBlock blocks.old own }
     requires within { (b : ℕ) → IsBlock blocks.old b → b < length keeper.now }
     ensures chosen { IfOk result (λ c. AreChosen blocks.old blocks.new (has waiting.now.nodes) keys.now (length keys.now) keeper.now c.items) }
     ensures err { OnErr result (blocks.new ≡ blocks.old) }

@@ -3,7 +3,7 @@ ghost use Rattle.std.specs.Prelude.{◌≡◌, ◌<◌, ℕ, [], true, OnOk, IsS
 ghost use Rattle.px_spec.specs.Graphs.{IsGraph};
 ghost use Rattle.px_spec.specs.Members.{has};
 ghost use Rattle.label_graph.specs.Views.{label_number};
-ghost use Rattle.block_splitting.specs.Groups.{AreReady, AreGrouped, NearKey};
+ghost use Rattle.block_splitting.specs.Groups.{AreReady, AreGrouped, NeighbourKey};
 
 use crate::keys::key_number;
 use bisim_levels::Side;
@@ -26,7 +26,7 @@ pub(crate) fn group_nodes(
     requires ready { AreReady view.now blocks.now.block_of (has nodes.now) (vec_len group.old) }
     requires none { keys.old ≡ [] }
     ensures length { vec_len group.new ≡ vec_len group.old }
-    ensures grouped { OnOk result (AreGrouped (NearKey view.now side blocks.now.block_of) (has nodes.now) keys.new group.new.items) }
+    ensures grouped { OnOk result (AreGrouped (NeighbourKey view.now side blocks.now.block_of) (has nodes.now) keys.new group.new.items) }
 {
     for n in nodes {
         let k = key_number(keys, key, view, side, blocks, *n)?;

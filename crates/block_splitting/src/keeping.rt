@@ -1,6 +1,6 @@
 // Which group of a block may keep its number: the largest one.
 ghost use Rattle.std.specs.Prelude.{◌≡◌, ◌+◌, ◌<◌, ◌≤◌, ℕ, List, OnOk, length, slice_get, vec_len};
-ghost use Rattle.block_splitting.specs.Chosen.{BeginsWith, KeepersBelow};
+ghost use Rattle.block_splitting.specs.Chosen.{HasFirst, KeepersBelow};
 
 use crate::choosing::own_number;
 use key_table::KeyTable;
@@ -42,7 +42,7 @@ pub(crate) fn sizes_of(
 // Makes the next group the keeper of its block, if that has none or one that is smaller.
 fn note_keeper(keeper: &mut Vec<u32>, keys: &KeyTable, sizes: &[u32], k: u32)
     requires within { k < length keys.now }
-    requires keyed { (i : ℕ) (key : List ℕ) → slice_get keys.now i ≡ Some key → (own : ℕ) × BeginsWith key own × (own < vec_len keeper.old) }
+    requires keyed { (i : ℕ) (key : List ℕ) → slice_get keys.now i ≡ Some key → (own : ℕ) × HasFirst key own × (own < vec_len keeper.old) }
     requires keepers { KeepersBelow keys.now k keeper.old.items }
     ensures length { vec_len keeper.new ≡ vec_len keeper.old }
     ensures keepers { KeepersBelow keys.now (k + 1) keeper.new.items }
@@ -80,7 +80,7 @@ pub(crate) fn note_keepers(
     keys: &KeyTable,
     sizes: &[u32],
 ) -> Result<(), Memory>
-    requires keyed { (i : ℕ) (key : List ℕ) → slice_get keys.now i ≡ Some key → (own : ℕ) × BeginsWith key own × (own < span) }
+    requires keyed { (i : ℕ) (key : List ℕ) → slice_get keys.now i ≡ Some key → (own : ℕ) × HasFirst key own × (own < span) }
     ensures long { OnOk result (span ≤ vec_len keeper.new) }
     ensures keepers { OnOk result (KeepersBelow keys.now (length keys.now) keeper.new.items) }
 {

@@ -13,6 +13,6 @@ mod splitter;
 mod splitting;
 
 pub use nodes::NodeSet;
-pub use reaching::reached;
+pub use reaching::opposite_neighbours;
 pub use splitter::split_by;
 pub use splitting::{Tables, split};

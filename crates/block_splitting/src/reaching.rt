@@ -12,8 +12,8 @@ use bisim_levels::Side;
 use label_graph::{Digraph, GraphView};
 use px_base::{Memory, NodeId};
 
-/// The nodes of which this one is a neighbour on a side, each once.
-pub fn reached<'a>(view: &'a GraphView<'_>, side: Side, q: NodeId) -> &'a [NodeId]
+/// The nodes of which this one is a neighbour on a side, each once: its neighbours on the other side.
+pub fn opposite_neighbours<'a>(view: &'a GraphView<'_>, side: Side, q: NodeId) -> &'a [NodeId]
     requires graph { IsGraph view.now }
     requires node { IsSome (label_number view.now q) }
     ensures { Lists (is_near side view.now q) result.now }
@@ -37,14 +37,19 @@ fn add_all(set: &mut NodeSet, nodes: &[NodeId]) -> Result<(), Memory>
 }
 
 // Adds the nodes of which this one is a neighbour on a side.
-fn add_reached(set: &mut NodeSet, view: &GraphView<'_>, side: Side, q: NodeId) -> Result<(), Memory>
+fn add_opposite(
+    set: &mut NodeSet,
+    view: &GraphView<'_>,
+    side: Side,
+    q: NodeId,
+) -> Result<(), Memory>
     requires graph { IsGraph view.now }
     requires node { IsSome (label_number view.now q) }
     requires size { set.old.size ≡ length view.now.given }
     ensures size { set.new.size ≡ set.old.size }
     ensures nodes { OnOk result ((m : ℕ) → has set.new.nodes m ≡ (has set.old.nodes m || is_near side view.now q m)) }
 {
-    add_all(set, reached(view, side, q))
+    add_all(set, opposite_neighbours(view, side, q))
 }
 
 /// Adds the nodes that have one of these as a neighbour on a side.
@@ -61,7 +66,7 @@ pub(crate) fn add_around(
     ensures nodes { OnOk result ((m : ℕ) → has set.new.nodes m ≡ (has set.old.nodes m || list_any (λ q. is_near side view.now q m) nodes.now)) }
 {
     for q in nodes {
-        add_reached(set, view, side, *q)?;
+        add_opposite(set, view, side, *q)?;
     }
     Ok(())
 }

@@ -111,7 +111,7 @@ pub fn split_by(
     ensures inhabited { OnOk result (AreInhabited blocks.old → AreInhabited blocks.new) }
     ensures err { OnErr result (blocks.new ≡ blocks.old) }
 {
-    // It tells that nodes have live blocks.
+    // Called for its contract: nodes have live blocks.
     let _ = blocks.span();
     let touched = touch(alloc, view, splitter)?;
     let nodes = touched.all.nodes();

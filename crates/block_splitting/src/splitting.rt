@@ -63,7 +63,7 @@ pub fn split(
     ensures more { IfOk result (λ moved. HasMore blocks.old blocks.new moved.items) }
     ensures err { OnErr result (blocks.new ≡ blocks.old) }
 {
-    // It tells that nodes have live blocks.
+    // Called for its contract: nodes have live blocks.
     let _ = blocks.span();
     let nodes = waiting.nodes();
     let mut keys = KeyTable::new(alloc)?;

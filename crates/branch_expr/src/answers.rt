@@ -31,7 +31,7 @@ pub fn eval<G: Digraph>(
         let step = step_set(alloc, g, labels, &hop.step)?;
         set = intersection(alloc, &step, &reached)?;
     }
-    // The members rise, which this call says.
+    // Called for its contract: the members rise.
     let _size = set.size();
     Ok(set)
 }

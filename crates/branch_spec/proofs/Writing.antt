@@ -190,7 +190,7 @@ module _ (S : List ℕ → List ℕ → Type 0) (no_axis : BeginWithNoAxis S) wh
 
   spelled : (ts : List Token) → AreApart ts → SpellThemselves S ts → SpellsTokens S (flat_map token_text ts) ts
   spelled [] h k = refl
-  spelled (lab t ∷ r) h k = ([], t, flat_map token_text r, refl, k.0, name_ends r h.0, spelled r h.1 k.1, refl)
+  spelled (lab t ∷ r) h k = ([], t, flat_map token_text r, refl, k.0, (λ name. name_ends r h.0), spelled r h.1 k.1, refl)
   spelled (underscore ∷ r) h k = ([], token_text underscore, flat_map token_text r, refl, refl, tt, spelled r h.1 k, refl)
   spelled (axis a ∷ r) h k = ([], axis_text a, flat_map token_text r, refl, refl, axis_ends a r h.0 k, spelled r h.1 k, refl)
   spelled (left ∷ r) h k = ([], token_text left, flat_map token_text r, refl, refl, tt, spelled r h.1 k, refl)

@@ -1,7 +1,7 @@
 -- How queries are written: their tokens, with blanks between them. How labels are spelled is handed in.
-use Rattle.std.specs.Prelude.{ℕ, ◌≡◌, ◌==◌, false, List, [], ◌∷◌, ◌++◌, codes}
+use Rattle.std.specs.Prelude.{ℕ, ◌≡◌, ◌==◌, false, List, [], ◌∷◌, ◌++◌, codes, IsTrue}
 use Rattle.std.specs.List.{flat_map}
-use Rattle.px_spec.specs.Words.{AreBlanks}
+use Rattle.px_spec.specs.Words.{AreBlanks, is_name}
 use Rattle.path_spec.specs.Spelling.{EndsName, EndsSlash}
 use Rattle.branch_spec.specs.Trees.{Axis, child, below, parent, above, Branch}
 use Rattle.branch_spec.specs.Tokens.{Token, lab, underscore, axis, left, right, opening, closing, not_word, and_word, or_word, nothing, tokens}
@@ -11,9 +11,9 @@ abbrev pub EndsBackslash : List ℕ → Type 0
 EndsBackslash [] = Unit {0}
 EndsBackslash (b ∷ bs) = (b == 92) ≡ false
 
--- a token is as long as can be
+-- A token is as long as can be. A label in brackets ends with them, so only a name needs something behind it that ends it.
 abbrev pub EndsToken : Token → List ℕ → Type 0
-EndsToken (lab t) rest = EndsName rest
+EndsToken (lab t) rest = IsTrue (is_name t) → EndsName rest
 EndsToken underscore rest = Unit {0}
 EndsToken (axis child) rest = EndsSlash rest
 EndsToken (axis below) rest = Unit {0}

@@ -1,22 +1,28 @@
 -- The token in front of a text.
-use Rattle.std.proofs.Common.{◌≡◌, ◌≢◌, ℕ, suc, ◌+◌, ◌<◌, ◌⊎◌, inl, inr, true, false, Bool, cond, List, [], ◌∷◌, ◌++◌, length, take, drop, refl, sym, ap, ◌∙◌, subst, arith, length-append, Option, None, Some, true≢false, eqb-true}
-use Rattle.std.specs.Prelude.{◌==◌, option_map, codes, bytes_eq}
-use Rattle.std.specs.List.{list_all, prefix_len}
-use Rattle.std.proofs.Math.Seq.{take-append_seam}
+use Rattle.std.proofs.Common.{◌≡◌, ◌≢◌, ℕ, suc, ◌+◌, ◌<◌, ◌≤◌, ◌⊎◌, inl, inr, true, false, Bool, cond, List, [], ◌∷◌, ◌++◌, length, take, drop, refl, sym, ap, ◌∙◌, subst, arith, length-append, append_assoc, Option, None, Some, true≢false, eqb-true}
+use Rattle.std.specs.Prelude.{◌==◌, option_map, codes, bytes_eq, nat_eq, nat_lt}
+use Rattle.std.specs.List.{list_all, prefix_len, position_or_len}
+use Rattle.std.proofs.Math.Seq.{take-append_seam, take-length}
+use Rattle.std.specs.Str.{chars}
 use Rattle.std.proofs.lemmas.Bool.Decides.{nat_tests}
 use Rattle.std.proofs.lemmas.List.{take-append-drop}
 use Rattle.std.proofs.lemmas.Option.{same_Some, some_pair_parts}
 use Rattle.std.proofs.lemmas.Slice.Eq.{bytes_eq-Decides}
-use Rattle.px_spec.specs.Words.{is_blank, is_letter, is_name_byte}
+use Rattle.px_spec.specs.Words.{is_blank, is_letter, is_name_byte, is_name}
+use Rattle.triples_read.specs.Lines.{IsIriFront}
+use Rattle.triples_read.specs.Reading.{starts_with}
+use Rattle.triples_read.specs.Canonical.{iri_text, iri_spelling}
+use Rattle.triples_read.proofs.CanonicalLaws.{iri_canonical}
+use Rattle.triples_read.proofs.IriFronts.{front-cut, end-found}
 use Rattle.path_spec.specs.Spelling.{EndsName, EndsSlash}
 use Rattle.branch_spec.specs.Trees.{child, below, parent, above}
 use Rattle.branch_spec.specs.Tokens.{Token, lab, underscore, axis, left, right, opening, closing, not_word, and_word, or_word, nothing}
 use Rattle.branch_spec.specs.Spelling.{EndsBackslash, EndsToken, SpellsToken}
-use Rattle.path_query.specs.Labels.{SpellsLabel, IsLabelFront}
+use Rattle.path_query.specs.Labels.{SpellsLabel}
 use Rattle.path_query.proofs.LabelBytes.{named, letter_is_no_blank, name_bytes}
-use Rattle.path_query.proofs.LabelLaws.{iri_opens}
-use Rattle.path_query.proofs.Cuts.{Stops, cut_at, drop_front}
-use Rattle.branch_text.specs.Fronts.{IsTokenFront, mark_at, axis_front, sign_front, word_token, word_front, or_else, mark_front}
+use Rattle.path_query.proofs.LabelLaws.{iri_opens, plain_opens}
+use Rattle.path_query.proofs.Cuts.{Stops, cut_at, drop_front, prefix_len-cut}
+use Rattle.branch_text.specs.Fronts.{IsTokenFront, mark_at, axis_front, sign_front, word_token, word_front, or_else, mark_front, iri_len, label_len}
 
 -- the first byte of a label: a letter, or '<'
 pub record First (w : List ℕ) : Type 0 where
@@ -152,9 +158,9 @@ no_word w a o n =
     ∙ ap (λ c. cond c (Some and_word) (cond (bytes_eq w (codes "or")) (Some or_word) None)) (differ w (codes "and") a)
     ∙ ap (λ c. cond c (Some or_word) None) (differ w (codes "or") o)
 
-label_no_word : (text w u rest : List ℕ) → text ≡ w ++ rest → EndsName rest → SpellsLabel w u → word_front text ≡ None
+label_no_word : (text w u rest : List ℕ) → text ≡ w ++ rest → EndsToken (lab u) rest → SpellsLabel w u → word_front text ≡ None
 label_no_word text w u rest e ends (inl (l, is)) =
-    word_at w rest text e (name_bytes w l.0) ends ∙ ap (option_map (λ t. (t, rest))) (no_word w l.1 l.2 l.3)
+    word_at w rest text e (name_bytes w l.0) (ends (ap is_name is ∙ l.0)) ∙ ap (option_map (λ t. (t, rest))) (no_word w l.1 l.2 l.3)
 label_no_word text [] u rest e ends (inr (iri, h, is)) = absurd (true≢false (sym (iri_opens [] 0 iri h)))
 label_no_word text (x ∷ xs) u rest e ends (inr (iri, h, is)) =
     let at : x ≡ 60 = eqb-true x 60 (iri_opens (x ∷ xs) (length (x ∷ xs)) iri h) in
@@ -319,23 +325,81 @@ mark_is_front text t rest e = by (sign_front text) refl
         let same : p ≡ (t, rest) = same_Some p (t, rest) (sym (ap (λ o. or_else o (word_front text)) s) ∙ e) in
         sign_is_front text t rest (s ∙ ap Some same)
 
+letter_no_bracket : (b : ℕ) → is_letter b ≡ true → (b == 60) ≡ false
+letter_no_bracket b h = grind (arith, nat_tests)
+
+name_opens : (w more : List ℕ) → is_name w ≡ true → starts_with 60 (w ++ more) ≡ false
+name_opens [] more h = absurd (true≢false (sym h))
+name_opens (x ∷ xs) more h = letter_no_bracket x (named x xs h).letter
+
+opens_still : (w more : List ℕ) → starts_with 60 w ≡ true → starts_with 60 (w ++ more) ≡ true
+opens_still [] more h = absurd (true≢false (sym h))
+opens_still (x ∷ xs) more h = h
+
+-- the spelling of an IRI is no name
+spelling_no_name : (w v iri : List ℕ) → IsIriFront w (length w) iri → v ≡ iri_spelling iri → is_name v ≡ true → ⊥
+spelling_no_name w v iri (le, s, front, is) e name =
+    let again : IsIriFront v (length v) iri = (omega arith, iri_text (chars iri), take-length v ∙ e, (iri_canonical s iri is).0) in
+    by v name (iri_opens v (length v) iri again)
+  where
+    by : (v : List ℕ) → is_name v ≡ true → starts_with 60 v ≡ true → ⊥
+    by [] n o = true≢false (sym o)
+    by (x ∷ xs) n o = true≢false (sym o ∙ letter_no_bracket x (named x xs n).letter)
+
+-- an IRIREF ends with the first '>', whatever follows it
+bracketed_len : (w more iri : List ℕ) → IsIriFront w (length w) iri → iri_len (w ++ more) ≡ length w
+bracketed_len w more iri front =
+    let (xs, ys, v, parts, lacks, len, is, utf8, quoted) = front-cut w (length w) iri front in
+    let whole : w ++ more ≡ xs ++ 62 ∷ (ys ++ more) = ap (λ x. x ++ more) parts ∙ append_assoc xs (62 ∷ ys) more in
+    let found : position_or_len (λ b. nat_eq b 62) (w ++ more) ≡ length xs = end-found (w ++ more) xs (ys ++ more) whole lacks in
+    let size : length w ≡ length xs + 1 = len ∙ length-append xs (62 ∷ []) in
+    let below : nat_lt (length xs) (length (w ++ more)) ≡ true = grind (arith, nat_tests, size, length-append w more) in
+    ap (λ p. cond (nat_lt p (length (w ++ more))) (p + 1) p) found ∙ ap (λ c. cond c (length xs + 1) (length xs)) below ∙ sym size
+
+-- what the code counts
+pub len_to_end : (text : List ℕ) (n : ℕ) → n ≡ position_or_len (λ b. nat_eq b 62) text → n < length text → n + 1 ≡ iri_len text
+len_to_end text n is within =
+    let test : nat_lt n (length text) ≡ true = grind (arith, nat_tests) in
+    sym (ap (λ c. cond c (n + 1) n) test) ∙ ap (λ x. cond (nat_lt x (length text)) (x + 1) x) is
+
+pub len_of_all : (text : List ℕ) (n : ℕ) → n ≡ position_or_len (λ b. nat_eq b 62) text → length text ≤ n → n ≡ iri_len text
+len_of_all text n is past =
+    let test : nat_lt n (length text) ≡ false = grind (arith, nat_tests) in
+    sym (ap (λ c. cond c (n + 1) n) test) ∙ ap (λ x. cond (nat_lt x (length text)) (x + 1) x) is
+
+-- how long a label in front is
+label_ends : (text w v q : List ℕ) → text ≡ w ++ q → EndsToken (lab v) q → SpellsLabel w v → label_len text ≡ length w
+label_ends text w v q e ends (inl (l, is)) =
+    ap label_len e ∙ ap (λ c. cond c (iri_len (w ++ q)) (prefix_len is_name_byte (w ++ q))) (name_opens w q l.0)
+    ∙ prefix_len-cut is_name_byte w q (name_bytes w l.0) (ends_stop q (ends (ap is_name is ∙ l.0)))
+label_ends text w v q e ends (inr (iri, h, is)) =
+    ap label_len e ∙ ap (λ c. cond c (iri_len (w ++ q)) (prefix_len is_name_byte (w ++ q))) (opens_still w q (iri_opens w (length w) iri h))
+    ∙ bracketed_len w q iri h
+
 -- a label in front
 pub record LabelAt (text v q : List ℕ) : Type 0 where
-  pub len : ℕ
-  pub front : IsLabelFront text len v
-  pub ends : EndsName (drop len text)
-  pub rest : q ≡ drop len text
+  pub spelled : SpellsLabel (take (label_len text) text) v
+  pub rest : q ≡ drop (label_len text) text
 
 label_at : (text v q : List ℕ) → IsTokenFront text (lab v) q → LabelAt text v q
 label_at text v q (w, spelled, ends, e) =
-    let back : drop (length w) text ≡ q = ap (drop (length w)) e ∙ drop_front w q in
-    let front : take (length w) text ≡ w = ap (take (length w)) e ∙ take-append_seam w q in
+    let size = label_ends text w v q e ends spelled in
+    let front : take (label_len text) text ≡ w = ap (λ n. take n text) size ∙ ap (take (length w)) e ∙ take-append_seam w q in
     record {
-      len = length w;
-      front = (omega (arith, ap length e, length-append w q), subst (λ x. SpellsLabel x v) (sym front) spelled);
-      ends = subst EndsName (sym back) ends;
-      rest = sym back;
+      spelled = subst (λ x. SpellsLabel x v) (sym front) spelled;
+      rest = sym (ap (λ n. drop n text) size ∙ ap (drop (length w)) e ∙ drop_front w q);
     }
 
 pub as_label : (text : List ℕ) (t : Token) (q : List ℕ) → mark_front text ≡ None → IsTokenFront text t q → (v : List ℕ) × (t ≡ lab v) × LabelAt text v q
 as_label text t q none h = let v = no_mark_label text t q none h in (v.0, v.1, label_at text v.0 q (subst (λ x. IsTokenFront text x q) v.1 h))
+
+-- and what spells a label there is one in front
+pub label_is_front : (text v : List ℕ) → SpellsLabel (take (label_len text) text) v → IsTokenFront text (lab v) (drop (label_len text) text)
+label_is_front text v h = (take (label_len text) text, h, by (starts_with 60 text) refl h, sym (take-append-drop (label_len text) text))
+  where
+    by : (c : Bool) → starts_with 60 text ≡ c → SpellsLabel (take (label_len text) text) v → EndsToken (lab v) (drop (label_len text) text)
+    by true e (inl (l, is)) name = absurd (plain_opens text (label_len text) e l)
+    by true e (inr (iri, front, is)) name = absurd (spelling_no_name (take (label_len text) text) v iri front is name)
+    by false e h name =
+        subst (λ n. EndsName (drop n text)) (sym (ap (λ c. cond c (iri_len text) (prefix_len is_name_byte text)) e))
+        (stop_ends (drop (prefix_len is_name_byte text) text) (passed is_name_byte text))

@@ -1,13 +1,13 @@
 -- A text spells at most one query.
-use Rattle.std.proofs.Common.{◌≡◌, ℕ, List, [], ◌∷◌, refl, sym, ap, ◌∙◌, subst, drop, Option, None, Some}
+use Rattle.std.proofs.Common.{◌≡◌, ℕ, List, [], ◌∷◌, refl, sym, ap, ◌∙◌, subst, take, Option, None, Some}
 use Rattle.branch_spec.specs.Trees.{Branch}
 use Rattle.branch_spec.specs.Tokens.{Token, lab, tokens}
 use Rattle.branch_spec.specs.Spelling.{SpellsTokens}
 use Rattle.branch_spec.proofs.OneReading.{one_reading}
 use Rattle.path_query.specs.Labels.{SpellsLabel}
-use Rattle.branch_text.specs.Fronts.{IsTokenFront, mark_front}
+use Rattle.branch_text.specs.Fronts.{IsTokenFront, mark_front, label_len}
 use Rattle.branch_text.specs.Parsed.{Spells}
-use Rattle.path_query.proofs.LabelLaws.{front_one}
+use Rattle.path_query.proofs.LabelLaws.{label_one}
 use Rattle.branch_text.proofs.Fronts.{mark_only, as_label, front_some}
 use Rattle.branch_text.proofs.Lexing.{past, blanks_past, first_token}
 
@@ -19,8 +19,7 @@ token_one text t u r q h k = by (mark_front text) refl
     by None e =
         let a = as_label text t r e h in
         let b = as_label text u q e k in
-        let same = front_one text a.2.len b.2.len a.0 b.0 a.2.front a.2.ends b.2.front b.2.ends in
-        (a.1 ∙ ap lab same.1 ∙ sym b.1, a.2.rest ∙ ap (λ n. drop n text) same.0 ∙ sym b.2.rest)
+        (a.1 ∙ ap lab (label_one (take (label_len text) text) a.0 b.0 a.2.spelled b.2.spelled) ∙ sym b.1, a.2.rest ∙ sym b.2.rest)
     by (Some m) e =
         let a = mark_only text m.0 t m.1 r e h in
         let b = mark_only text m.0 u m.1 q e k in

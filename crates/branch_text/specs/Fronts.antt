@@ -1,10 +1,11 @@
 -- The token in front of a text.
-use Rattle.std.specs.Prelude.{ℕ, ◌≡◌, ◌==◌, List, [], ◌∷◌, ◌++◌, take, drop, codes, bytes_eq, Option, None, Some, option_map, if◌then◌else◌}
-use Rattle.std.specs.List.{prefix_len}
+use Rattle.std.specs.Prelude.{ℕ, ◌≡◌, ◌+◌, ◌==◌, List, [], ◌∷◌, ◌++◌, length, take, drop, codes, nat_eq, nat_lt, bytes_eq, Option, None, Some, option_map, if◌then◌else◌}
+use Rattle.std.specs.List.{prefix_len, position_or_len}
 use Rattle.px_spec.specs.Words.{is_name_byte}
 use Rattle.branch_spec.specs.Trees.{Axis, child, below, parent, above}
 use Rattle.branch_spec.specs.Tokens.{Token, underscore, axis, left, right, opening, closing, not_word, and_word, or_word}
 use Rattle.branch_spec.specs.Spelling.{EndsToken, SpellsToken}
+use Rattle.triples_read.specs.Reading.{starts_with}
 use Rattle.path_query.specs.Labels.{SpellsLabel}
 
 -- a token stands in front, as long as can be
@@ -46,3 +47,13 @@ or_else (Some p) o = Some p
 -- the token in front that is no label
 abbrev pub mark_front : List ℕ → Option (Token × List ℕ)
 mark_front text = or_else (sign_front text) (word_front text)
+
+-- how many bytes stand up to the first '>', with it; all of them where there is none
+abbrev pub iri_len : List ℕ → ℕ
+iri_len text =
+    if nat_lt (position_or_len (λ b. nat_eq b 62) text) (length text) then position_or_len (λ b. nat_eq b 62) text + 1
+    else position_or_len (λ b. nat_eq b 62) text
+
+-- how many bytes a label in front has, where one stands there
+abbrev pub label_len : List ℕ → ℕ
+label_len text = if starts_with 60 text then iri_len text else prefix_len is_name_byte text

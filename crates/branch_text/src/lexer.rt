@@ -7,9 +7,9 @@ ghost use Rattle.branch_text.specs.Seen.{token_of, seen};
 ghost use Rattle.branch_text.specs.Fronts.{IsTokenFront, mark_front};
 
 use crate::grammar::ReadError;
-use crate::marks::mark_front;
+use crate::marks::{label_len, mark_front};
 use crate::token::Token;
-use path_query::{ends_name, read_front, skip_blanks};
+use path_query::skip_blanks;
 use std::alloc::Global;
 
 /// The label in front, where no other token stands, and what follows it.
@@ -19,14 +19,10 @@ fn read_label(alloc: Global, text: &[u8]) -> Result<(Token, &[u8]), ReadError>
     ensures only { IfOk result (λ r. (t : tokens.Token) (q : List ℕ) → IsTokenFront text.now t q → (t ≡ token_of r.0) × (q ≡ r.1.now)) }
     ensures syntax { IsErrOf result ReadError.Syntax → (t : tokens.Token) (q : List ℕ) → IsTokenFront text.now t q → ⊥ }
 {
-    let Some((label, len)) = read_front(alloc, text)? else {
-        return Err(ReadError::Syntax);
-    };
-    let (_, rest) = text.split_at(len);
-    if ends_name(rest) {
-        Ok((Token::Label(label), rest))
-    } else {
-        Err(ReadError::Syntax)
+    let (word, rest) = text.split_at(label_len(text));
+    match path_query::read_label(alloc, word)? {
+        Some(label) => Ok((Token::Label(label), rest)),
+        None => Err(ReadError::Syntax),
     }
 }
 

@@ -1,8 +1,10 @@
-// The tokens that are no labels.
-ghost use Rattle.std.specs.Prelude.{◌≡◌, List, ℕ, Option, option_map};
+// The tokens that are no labels, and where a label ends.
+ghost use Rattle.std.specs.Prelude.{◌≡◌, ◌≤◌, List, ℕ, Option, length, nat_eq, option_map};
+ghost use Rattle.std.specs.List.{position_or_len};
+ghost use Rattle.triples_read.specs.Reading.{starts_with};
 ghost use Rattle.branch_sets.specs.Axes.{axis_of};
 ghost use Rattle.branch_text.specs.Seen.{token_of};
-ghost use Rattle.branch_text.specs.Fronts.{mark_at, axis_front, sign_front, word_token, word_front, mark_front};
+ghost use Rattle.branch_text.specs.Fronts.{mark_at, axis_front, sign_front, word_token, word_front, mark_front, iri_len, label_len};
 
 use crate::token::Token;
 use branch_sets::Axis;
@@ -83,5 +85,45 @@ pub(crate) fn mark_front(text: &[u8]) -> Option<(Token, &[u8])>
     match sign_front(text) {
         Some(found) => Some(found),
         None => word_front(text),
+    }
+}
+
+/// How many bytes stand before the first `>`.
+fn before_end(text: &[u8]) -> usize
+    ensures count { result ≡ position_or_len (λ b. nat_eq b 62) text.now }
+    ensures within { result ≤ length text.now }
+{
+    text.iter().take_while(|byte| **byte != b'>').count()
+}
+
+/// How many bytes stand up to the first `>`, with it; all of them where there is none.
+fn iri_len(text: &[u8]) -> usize
+    ensures count { result ≡ iri_len text.now }
+    ensures within { result ≤ length text.now }
+{
+    let before = before_end(text);
+    if before < text.len() {
+        before + 1
+    } else {
+        before
+    }
+}
+
+/// Whether the text begins with '<'.
+fn opens_iri(text: &[u8]) -> bool
+    ensures { result ≡ starts_with 60 text.now }
+{
+    matches!(text, [b'<', ..])
+}
+
+/// How many bytes a label in front has, where one stands there. Linear in that number.
+pub(crate) fn label_len(text: &[u8]) -> usize
+    ensures count { result ≡ label_len text.now }
+    ensures within { result ≤ length text.now }
+{
+    if opens_iri(text) {
+        iri_len(text)
+    } else {
+        name_len(text)
     }
 }

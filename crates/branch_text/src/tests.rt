@@ -26,6 +26,8 @@ const TEXTS: &[(&str, &str)] = &[
     ("android[/nota]", "android[/nota]"),
     ("a[not(not(/b))]", "a[not(not(/b))]"),
     ("a[/bor/c]", "a[/bor/c]"),
+    ("a[/<http://e/b>and/c]", "a[/<http://e/b> and /c]"),
+    ("a[/b and not ( //c )]\\x", "a[/b and not(//c)]\\x"),
     ("", "syntax"),
     ("a[]", "syntax"),
     ("a[b]", "syntax"),

@@ -2,6 +2,5 @@ pub mod StepLaws
 pub mod RoundLaws
 pub mod BothLaws
 pub mod Alone
-pub mod Filled
 pub mod Starts
 pub mod Fitting

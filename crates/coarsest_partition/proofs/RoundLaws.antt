@@ -11,7 +11,7 @@ use Rattle.bisim_spec.specs.Partitions.{Together}
 use Rattle.bisim_levels.specs.declared.sides.Side.{Side}
 use Rattle.bisim_levels.specs.declared.sides.Side.TheVariants.{Parents, Children}
 use Rattle.bisim_levels.specs.Sides.{is_near}
-use Rattle.block_splitting.specs.Splits.{Near, IsSplit}
+use Rattle.block_splitting.specs.Splits.{IsNeighbour, IsSplit}
 use Rattle.block_splitting.proofs.Lists.{any_get, any_from, none_empty}
 use Rattle.coarsest_partition.specs.Refined.{parents_alone, IsStep}
 
@@ -89,7 +89,7 @@ step_of g kept side old new waits next moved alone kept_side split lone woken = 
   parted = λ t k u v nu nv e. elim (cases_Bool (is_side side t)) [
     | inl s ↦ (
         let same = same_side side t s in
-        subst (λ x. ((waits x u ≡ false) × (waits x v ≡ false)) ⊎ Matched (Near x g) (Together old) u v) same (split.parted u v e))
+        subst (λ x. ((waits x u ≡ false) × (waits x v ≡ false)) ⊎ Matched (IsNeighbour x g) (Together old) u v) same (split.parted u v e))
     | inr o ↦ inl (left_clean t k u nu o, left_clean t k v nv o)
   ];
   still = λ t k q n v none e apart near. elim (cases_Bool (has moved q)) [

@@ -10,9 +10,9 @@ use Rattle.bisim_spec.proofs.Bisimilar.{some_of, none_or_some, is_some_at}
 use Rattle.label_graph.specs.Views.{label_number}
 use Rattle.block_partition.specs.Partitions.{Partition}
 use Rattle.bisim_levels.specs.Sides.{no_neighbours}
-use Rattle.block_splitting.specs.Chosen.{BeginsWith}
+use Rattle.block_splitting.specs.Chosen.{HasFirst}
 use Rattle.block_splitting.specs.Splits.{AreLabelled, AreInhabited}
-use Rattle.coarsest_partition.specs.Filling.{HaveLabels, SameBlocks}
+use Rattle.block_filling.specs.Filling.{HaveLabels, SameBlocks}
 use Rattle.px_spec.specs.Shapes.{shape_of}
 use Rattle.bisim_levels.specs.Refining.{AreNumbered, AreBlocksBelow}
 use Rattle.bisim_levels.proofs.Views.{node_number}
@@ -31,7 +31,7 @@ blocks_below block block2 count labels labels2 same w is long n b e =
     omega (arith, few, f, long)
 
 -- an empty key begins with no number
-pub no_beginning : (key : List ℕ) (n r : ℕ) → key ≡ [] → BeginsWith key n → r ≡ n
+pub no_beginning : (key : List ℕ) (n r : ℕ) → key ≡ [] → HasFirst key n → r ≡ n
 no_beginning key n r none e = absurd (let a = e.is in cc)
 
 get_before : (xs : List ℕ) (x j n : ℕ) → slice_get xs j ≡ Some n → slice_get (xs ++ x ∷ []) j ≡ Some n
@@ -48,24 +48,24 @@ get_here xs x j e = ap (slice_get (xs ++ x ∷ [])) e ∙ get_end xs x
 
 -- one more first number
 pub first_more : (keys : List (List ℕ)) (i : ℕ) (first : List ℕ) (x : ℕ) (here : List ℕ) → length first ≡ i
-    → ((b n : ℕ) (key : List ℕ) → b < i → slice_get keys b ≡ Some key → BeginsWith key n → slice_get first b ≡ Some n)
-    → slice_get keys i ≡ Some here → ((n : ℕ) → BeginsWith here n → x ≡ n)
-    → (b n : ℕ) (key : List ℕ) → b < i + 1 → slice_get keys b ≡ Some key → BeginsWith key n → slice_get (first ++ x ∷ []) b ≡ Some n
+    → ((b n : ℕ) (key : List ℕ) → b < i → slice_get keys b ≡ Some key → HasFirst key n → slice_get first b ≡ Some n)
+    → slice_get keys i ≡ Some here → ((n : ℕ) → HasFirst here n → x ≡ n)
+    → (b n : ℕ) (key : List ℕ) → b < i + 1 → slice_get keys b ≡ Some key → HasFirst key n → slice_get (first ++ x ∷ []) b ≡ Some n
 first_more keys i first x here long before at begins b n key h e f = elim (cases_lt b i) [
   | inl l ↦ get_before first x b n (before b n key l e f)
   | inr past ↦ (
       let same : b ≡ i = omega (arith, h, past) in
       let keys_same : key ≡ here = (let a = ap (slice_get keys) same in cc) in
-      get_here first x b (omega (arith, same, long)) ∙ ap Some (begins n (subst (λ k. BeginsWith k n) keys_same f)))
+      get_here first x b (omega (arith, same, long)) ∙ ap Some (begins n (subst (λ k. HasFirst k n) keys_same f)))
 ]
 
 pub first_all : (keys : List (List ℕ)) (i : ℕ) (first : List ℕ)
-    → ((b n : ℕ) (key : List ℕ) → b < i → slice_get keys b ≡ Some key → BeginsWith key n → slice_get first b ≡ Some n) → length keys ≤ i
-    → (b n : ℕ) (key : List ℕ) → slice_get keys b ≡ Some key → BeginsWith key n → slice_get first b ≡ Some n
+    → ((b n : ℕ) (key : List ℕ) → b < i → slice_get keys b ≡ Some key → HasFirst key n → slice_get first b ≡ Some n) → length keys ≤ i
+    → (b n : ℕ) (key : List ℕ) → slice_get keys b ≡ Some key → HasFirst key n → slice_get first b ≡ Some n
 first_all keys i first all end b n key e f = all b n key (let l = slice_get_within keys b key e in omega (arith, l, end)) e f
 
 pub start_labelled : (g : Graph) (p : Partition) (block block2 : List (Option ℕ)) (keys : List (List ℕ)) (labels labels2 : List ℕ) → block2 ≡ block → labels2 ≡ labels → SameBlocks p.block_of block2 → HaveLabels p labels2
-    → AreNumbered (label_number g) [] no_neighbours block (slice_get keys) → ((b n : ℕ) (key : List ℕ) → slice_get keys b ≡ Some key → BeginsWith key n → slice_get labels b ≡ Some n) → AreLabelled g p
+    → AreNumbered (label_number g) [] no_neighbours block (slice_get keys) → ((b n : ℕ) (key : List ℕ) → slice_get keys b ≡ Some key → HasFirst key n → slice_get labels b ≡ Some n) → AreLabelled g p
 start_labelled g p block block2 keys labels labels2 eb el same have w first = record {
   each = λ n b e.
       let here : at block n ≡ Some b = ap (λ (bs : List (Option ℕ)). at bs n) (sym eb) ∙ sym (same n) ∙ e in

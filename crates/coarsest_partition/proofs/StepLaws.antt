@@ -15,11 +15,11 @@ use Rattle.bisim_spec.proofs.Together.{together_sym, together_some}
 use Rattle.bisim_levels.specs.declared.sides.Side.{Side}
 use Rattle.bisim_levels.specs.declared.sides.Side.TheVariants.{Parents, Children}
 use Rattle.px_spec.proofs.GraphLaws.{is_shape}
-use Rattle.block_splitting.specs.Splits.{Near}
+use Rattle.block_splitting.specs.Splits.{IsNeighbour}
 use Rattle.coarsest_partition.specs.Refined.{parents_alone, both_sides, IsTarget, IsRefined, IsStep}
 
 -- a neighbour is a node
-near_node : (g : Graph) → IsGraph g → (t : Side) (q n : ℕ) → Near t g q n → IsNode (shape_of g) q
+near_node : (g : Graph) → IsGraph g → (t : Side) (q n : ℕ) → IsNeighbour t g q n → IsNode (shape_of g) q
 near_node g s Parents q n e = s.from q n e
 near_node g s Children q n e = s.onto n q e
 
@@ -33,7 +33,7 @@ bisim_target g s = record {
   matched = by;
 }
   where
-    by : (t : Side) → parents_alone t ≡ true → (u v : ℕ) → Bisim (shape_of g) u v → Matched (Near t g) (Bisim (shape_of g)) u v
+    by : (t : Side) → parents_alone t ≡ true → (u v : ℕ) → Bisim (shape_of g) u v → Matched (IsNeighbour t g) (Bisim (shape_of g)) u v
     by Parents k u v r = ((bisim_settled (shape_of g) (is_shape g s)).within u v r).1
     by Children k u v r = absurd (true≢false (sym k))
 
@@ -45,7 +45,7 @@ fb_target g s = record {
   matched = by;
 }
   where
-    by : (t : Side) → both_sides t ≡ true → (u v : ℕ) → FB (shape_of g) u v → Matched (Near t g) (FB (shape_of g)) u v
+    by : (t : Side) → both_sides t ≡ true → (u v : ℕ) → FB (shape_of g) u v → Matched (IsNeighbour t g) (FB (shape_of g)) u v
     by Parents k u v r = ((fb_settled (shape_of g) (is_shape g s)).within u v r).1
     by Children k u v r = ((fb_settled (shape_of g) (is_shape g s)).within u v r).2
 
@@ -88,8 +88,8 @@ step g kept R old new waits next target w s = record {
   ];
   settled = λ t k u v nu nv e. elim (eqb_tells u v) [
     | inl same ↦ (
-        let self : Matched (Near t g) (Together new) u u = matched_self (λ q near. together q q (target.self t q u near)) in
-        subst (λ x. Matched (Near t g) (Together new) u x) same.1 self)
+        let self : Matched (IsNeighbour t g) (Together new) u u = matched_self (λ q near. together q q (target.self t q u near)) in
+        subst (λ x. Matched (IsNeighbour t g) (Together new) u x) same.1 self)
     | inr apart ↦ stays_matched old new u v (λ q. s.still t k q u v nu e apart.1) (λ q. s.still t k q v u nv (together_sym new u v e) (λ x. apart.1 (sym x)))
         (elim (s.parted t k u v nu nv e) [
           | inl (du, dv) ↦ w.settled t k u v du dv (s.finer u v e)
@@ -103,7 +103,7 @@ step g kept R old new waits next target w s = record {
         s.grouped u v (w.coarse u v r) (matched_map w.coarse (target.matched s.side s.side_kept u v r)) (w.closed s.side s.side_kept u v r)
         (w.closed s.side s.side_kept v u (target.symm u v r))
 
-    waiting : (t : Side) → kept t ≡ true → (u v q : ℕ) → R u v → Near t g q u → (at new q ≡ at old q → ⊥) → next t u ≡ true → (p : ℕ) × Near t g p v × R q p → next t v ≡ true
+    waiting : (t : Side) → kept t ≡ true → (u v q : ℕ) → R u v → IsNeighbour t g q u → (at new q ≡ at old q → ⊥) → next t u ≡ true → (p : ℕ) × IsNeighbour t g p v × R q p → next t v ≡ true
     waiting t k u v q e near moved waits_u (p, near_v, r) = elim (cases_Bool (next t v)) [
       | inl yes_v ↦ yes_v
       | inr none ↦ elim (eqb_tells v u) [

@@ -6,7 +6,7 @@ use Rattle.bisim_spec.specs.Bisimilarity.{SameLabel, Matched}
 use Rattle.px_spec.specs.Members.{at}
 use Rattle.bisim_spec.specs.Partitions.{Together}
 use Rattle.bisim_levels.specs.declared.sides.Side.{Side}
-use Rattle.block_splitting.specs.Splits.{Near}
+use Rattle.block_splitting.specs.Splits.{IsNeighbour}
 use Rattle.bisim_levels.specs.declared.sides.Side.TheVariants.{Parents, Children}
 use Rattle.px_spec.specs.Shapes.{shape_of}
 
@@ -23,9 +23,9 @@ both_sides t = true
 -- nodes have one label, and on each side that is kept the neighbours of related nodes are related.
 pub record IsTarget (g : Graph) (kept : Side → Bool) (R : ℕ → ℕ → Type 0) : Type 0 where
   pub symm : (u v : ℕ) → R u v → R v u
-  pub self : (t : Side) (q n : ℕ) → Near t g q n → R q q
+  pub self : (t : Side) (q n : ℕ) → IsNeighbour t g q n → R q q
   pub label : (u v : ℕ) → R u v → SameLabel (shape_of g) u v
-  pub matched : (t : Side) → kept t ≡ true → (u v : ℕ) → R u v → Matched (Near t g) R u v
+  pub matched : (t : Side) → kept t ≡ true → (u v : ℕ) → R u v → Matched (IsNeighbour t g) R u v
 
 -- A partition on the way to R, and on each side the nodes that wait: it is no finer than R, the nodes that wait are classes
 -- of R, and of two nodes in one block that don't wait the neighbours are in the same blocks.
@@ -34,7 +34,7 @@ pub record IsRefined (g : Graph) (kept : Side → Bool) (R : ℕ → ℕ → Typ
   pub label : (u v : ℕ) → Together block u v → SameLabel (shape_of g) u v
   pub closed : (t : Side) → kept t ≡ true → (u v : ℕ) → R u v → waits t u ≡ true → waits t v ≡ true
   pub settled : (t : Side) → kept t ≡ true → (u v : ℕ) → waits t u ≡ false → waits t v ≡ false → Together block u v
-      → Matched (Near t g) (Together block) u v
+      → Matched (IsNeighbour t g) (Together block) u v
 
 -- One step, on one side: blocks are only split; two nodes that wait no more were settled, or have neighbours in the same blocks
 -- of the old partition; nodes stay together that agree in this and in whether they waited; and those wait that have a neighbour
@@ -43,12 +43,12 @@ pub record IsStep (g : Graph) (kept : Side → Bool) (old new : List (Option ℕ
   pub finer : (u v : ℕ) → Together new u v → Together old u v
   pub side : Side
   pub side_kept : kept side ≡ true
-  pub grouped : (u v : ℕ) → Together old u v → Matched (Near side g) (Together old) u v → (waits side u ≡ true → waits side v ≡ true)
+  pub grouped : (u v : ℕ) → Together old u v → Matched (IsNeighbour side g) (Together old) u v → (waits side u ≡ true → waits side v ≡ true)
       → (waits side v ≡ true → waits side u ≡ true) → Together new u v
   pub parted : (t : Side) → kept t ≡ true → (u v : ℕ) → next t u ≡ false → next t v ≡ false → Together new u v
-      → ((waits t u ≡ false) × (waits t v ≡ false)) ⊎ Matched (Near t g) (Together old) u v
-  pub still : (t : Side) → kept t ≡ true → (q n v : ℕ) → next t n ≡ false → Together new n v → (n ≡ v → ⊥) → Near t g q n → at new q ≡ at old q
+      → ((waits t u ≡ false) × (waits t v ≡ false)) ⊎ Matched (IsNeighbour t g) (Together old) u v
+  pub still : (t : Side) → kept t ≡ true → (q n v : ℕ) → next t n ≡ false → Together new n v → (n ≡ v → ⊥) → IsNeighbour t g q n → at new q ≡ at old q
   pub left : Side → Bool
   pub left_wait : (t : Side) → kept t ≡ true → (n : ℕ) → left t ≡ true → waits t n ≡ true → next t n ≡ true
   pub wait_why : (t : Side) → kept t ≡ true → (n : ℕ) → next t n ≡ true
-      → ((left t ≡ true) × (waits t n ≡ true)) ⊎ ((q : ℕ) × Near t g q n × (at new q ≡ at old q → ⊥))
+      → ((left t ≡ true) × (waits t n ≡ true)) ⊎ ((q : ℕ) × IsNeighbour t g q n × (at new q ≡ at old q → ⊥))

@@ -71,7 +71,7 @@ fn round_on(
     own.clear();
     wake_moved(own, blocks, view, side, &moved)?;
     wake_moved(other, blocks, view, opposite(side), &moved)?;
-    // It tells that there are few blocks.
+    // Called for its contract: there are at most 2^31 blocks.
     let _ = blocks.count();
     Ok(())
 }

@@ -4,11 +4,11 @@ ghost use Rattle.px_spec.specs.Graphs.{IsGraph};
 ghost use Rattle.px_spec.specs.Shapes.{shape_of};
 ghost use Rattle.bisim_spec.specs.Bisimilarity.{SameLabel};
 ghost use Rattle.bisim_spec.specs.Partitions.{Agrees};
-ghost use Rattle.block_splitting.specs.Chosen.{BeginsWith};
+ghost use Rattle.block_splitting.specs.Chosen.{HasFirst};
 ghost use Rattle.block_splitting.specs.Splits.{AreLabelled, AreInhabited};
 
-use crate::filling::fill;
 use bisim_levels::label_level;
+use block_filling::fill;
 use block_partition::Blocks;
 use key_table::KeyTable;
 use label_graph::GraphView;
@@ -17,7 +17,7 @@ use std::alloc::Global;
 
 // The first number of a key, and 0 where it has none.
 fn first_or_zero(key: &[u32]) -> u32
-    ensures { (n : ℕ) → BeginsWith key.now n → result ≡ n }
+    ensures { (n : ℕ) → HasFirst key.now n → result ≡ n }
 {
     if key.is_empty() {
         return 0;
@@ -28,7 +28,7 @@ fn first_or_zero(key: &[u32]) -> u32
 // The first number of each key.
 fn first_numbers(alloc: Global, keys: &KeyTable) -> Result<Vec<u32>, Memory>
     ensures count { IfOk result (λ first. length first.items ≡ length keys.now) }
-    ensures first { IfOk result (λ first. (b n : ℕ) (key : List ℕ) → slice_get keys.now b ≡ Some key → BeginsWith key n → slice_get first.items b ≡ Some n) }
+    ensures first { IfOk result (λ first. (b n : ℕ) (key : List ℕ) → slice_get keys.now b ≡ Some key → HasFirst key n → slice_get first.items b ≡ Some n) }
 {
     let mut first = Vec::with_capacity(alloc, keys.len() as usize)?;
     for b in 0..keys.len() {
@@ -45,7 +45,7 @@ pub(crate) fn by_labels(alloc: Global, view: &GraphView<'_>) -> Result<Blocks, M
 {
     let level = label_level(alloc, view)?;
     let labels = first_numbers(alloc, &level.keys)?;
-    // It tells that there are few keys.
+    // Called for its contract: there are fewer than 2^31 keys.
     let _ = level.keys.len();
     let blocks = fill(alloc, view.created(), &level.block, &labels)?;
     Ok(blocks)

@@ -3,7 +3,6 @@
 #![tactic(auto)]
 
 mod both;
-mod filling;
 mod labels;
 mod rounds;
 #[cfg(test)]

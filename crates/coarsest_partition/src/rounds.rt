@@ -78,7 +78,7 @@ fn round(
     let moved = split(alloc, view, Side::Parents, blocks, waiting, tables)?;
     waiting.clear();
     wake_moved(waiting, blocks, view, Side::Parents, &moved)?;
-    // It tells that there are few blocks.
+    // Called for its contract: there are at most 2^31 blocks.
     let _ = blocks.count();
     Ok(())
 }

@@ -77,15 +77,25 @@ fn check_chains(rt: &impl Abort, alloc: Global, view: &GraphView<'_>) -> Result<
     Ok(())
 }
 
-// By the nodes that have node 1 as a parent or as a child: 2, and 0.
-fn check_splitter(rt: &impl Abort, alloc: Global, view: &GraphView<'_>) -> Result<(), Fail> {
+// The partition by labels has so many blocks. Split by node 1 alone it has so many, and the nodes of each pair are in one block.
+fn check_splitter(
+    rt: &impl Abort,
+    alloc: Global,
+    view: &GraphView<'_>,
+    labels: u32,
+    count: u32,
+    pairs: &[(NodeId, NodeId)],
+) -> Result<(), Fail> {
     let mut blocks = by_labels(alloc, view)?;
-    assert!(rt; is_parted(&blocks, 1, &[]));
+    assert!(rt; is_parted(&blocks, labels, &[]));
     assert!(rt; view.is_node(1));
     split_by(alloc, &mut blocks, view, &[1])?;
-    assert!(rt; is_parted(&blocks, 3, &[(1, 3), (3, 4), (4, 5)]));
+    assert!(rt; is_parted(&blocks, count, pairs));
     Ok(())
 }
+
+// Where nodes 2 and 0 have node 1 as a parent and as a child.
+const SPLIT_CHAINS: &[(NodeId, NodeId)] = &[(1, 3), (3, 4), (4, 5)];
 
 fn check_both<L: Ledger>(rt: &impl Abort, alloc: Global, blank: Blank) -> Result<(), Fail>
     requires name { blank.name ≡ L.name }
@@ -96,7 +106,7 @@ fn check_both<L: Ledger>(rt: &impl Abort, alloc: Global, blank: Blank) -> Result
     let graph = drawn(rt, alloc, b"llllll", CHAINS, &mut steps)?;
     let view = graph.view(&mut steps);
     check_chains(rt, alloc, &view)?;
-    check_splitter(rt, alloc, &view)
+    check_splitter(rt, alloc, &view, 1, 3, SPLIT_CHAINS)
 }
 
 #[test]
@@ -122,4 +132,20 @@ fn check_rings<L: Ledger>(rt: &impl Abort, alloc: Global, blank: Blank) -> Resul
 #[test]
 fn rings(rt: HostRuntime) -> Result<(), Fail> {
     check_rings::<Brand>(&rt, rt.alloc(), Blank::new(1))
+}
+
+// Of two nodes with one label, node 0 alone has a child in the splitter.
+fn check_one_edge<L: Ledger>(rt: &impl Abort, alloc: Global, blank: Blank) -> Result<(), Fail>
+    requires name { blank.name ≡ L.name }
+    requires parts { blank.parts ≡ L.parts }
+    requires some { 0 < blank.parts }
+{
+    let mut steps = Steps::<L>::new(blank);
+    let graph = drawn(rt, alloc, b"aba", &[(0, 1)], &mut steps)?;
+    check_splitter(rt, alloc, &graph.view(&mut steps), 2, 3, &[])
+}
+
+#[test]
+fn one_edge(rt: HostRuntime) -> Result<(), Fail> {
+    check_one_edge::<Brand>(&rt, rt.alloc(), Blank::new(1))
 }

@@ -10,7 +10,7 @@ ghost use Rattle.bisim_levels.specs.Sides.{is_near};
 
 use bisim_levels::Side;
 use block_partition::Blocks;
-use block_splitting::{NodeSet, reached};
+use block_splitting::{NodeSet, opposite_neighbours};
 use label_graph::GraphView;
 use px_base::{Memory, NodeId};
 
@@ -62,7 +62,7 @@ fn wake_around(
     ensures size { waiting.new.size ≡ waiting.old.size }
     ensures nodes { OnOk result ((m : ℕ) → has waiting.new.nodes m ≡ (has waiting.old.nodes m || (is_near side view.now q m && not (is_alone blocks.now m)))) }
 {
-    wake_shared(waiting, blocks, reached(view, side, q))
+    wake_shared(waiting, blocks, opposite_neighbours(view, side, q))
 }
 
 /// Lets the nodes wait that have one of these as a neighbour on a side, unless they are alone in their

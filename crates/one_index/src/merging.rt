@@ -40,7 +40,7 @@ fn is_covered(summary: &Summary, c: u32, d: u32) -> bool
 }
 
 // Whether two blocks have one label, and the same parent blocks where they count as one.
-fn can_merge(summary: &Summary, a: u32, b: u32) -> bool
+fn agree_as_one(summary: &Summary, a: u32, b: u32) -> bool
     requires first { IsSome (at summary.now.blocks.labels a) }
     requires second { IsSome (at summary.now.blocks.labels b) }
     ensures yes { IsTrue result → CanMerge summary.now a b }
@@ -73,9 +73,9 @@ pub fn mergeable(summary: &Summary, a: u32, b: u32) -> bool
         return true;
     }
     if summary.parents(b).len() < summary.parents(a).len() {
-        return can_merge(summary, b, a);
+        return agree_as_one(summary, b, a);
     }
-    can_merge(summary, a, b)
+    agree_as_one(summary, a, b)
 }
 
 // Whether the number `b` is that of a block with members that has the label of `a`, and the same parent blocks
@@ -91,7 +91,7 @@ fn can_merge_with(summary: &Summary, a: u32, b: u32) -> bool
     if !has_members(summary, b) {
         return false;
     }
-    can_merge(summary, a, b)
+    agree_as_one(summary, a, b)
 }
 
 // Whether a block can be merged with one behind it, and both have members.

@@ -99,6 +99,8 @@ struct Row<'a> {
     members: &'a [u32],
     is_stable: bool,
     is_minimal: bool,
+    // whether there are blocks 0 and 1, and they can be merged
+    can_merge_first: bool,
     // how many blocks a build makes
     built: u32,
 }
@@ -114,6 +116,7 @@ const ROWS: &[Row<'static>] = &[
         members: &[0, 1, 0, 1],
         is_stable: true,
         is_minimal: true,
+        can_merge_first: false,
         built: 2,
     },
     Row {
@@ -123,6 +126,7 @@ const ROWS: &[Row<'static>] = &[
         members: &[0, 1, 2, 3],
         is_stable: true,
         is_minimal: true,
+        can_merge_first: false,
         built: 2,
     },
     Row {
@@ -132,6 +136,7 @@ const ROWS: &[Row<'static>] = &[
         members: &[0, 1, 0, 2],
         is_stable: false,
         is_minimal: false,
+        can_merge_first: false,
         built: 2,
     },
     // Two nodes with a loop each have the same parent blocks once they count as one.
@@ -142,7 +147,18 @@ const ROWS: &[Row<'static>] = &[
         members: &[0, 1],
         is_stable: true,
         is_minimal: false,
+        can_merge_first: true,
         built: 1,
+    },
+    Row {
+        nodes: b"ab",
+        edges: &[(0, 0), (1, 1)],
+        labels: &[0, 1],
+        members: &[0, 1],
+        is_stable: true,
+        is_minimal: true,
+        can_merge_first: false,
+        built: 2,
     },
     // Two leaves below one node.
     Row {
@@ -152,6 +168,7 @@ const ROWS: &[Row<'static>] = &[
         members: &[0, 1, 2],
         is_stable: true,
         is_minimal: false,
+        can_merge_first: false,
         built: 2,
     },
     // A leaf below a node, and one without parents.
@@ -162,6 +179,7 @@ const ROWS: &[Row<'static>] = &[
         members: &[0, 1, 1],
         is_stable: false,
         is_minimal: true,
+        can_merge_first: false,
         built: 3,
     },
     Row {
@@ -171,6 +189,7 @@ const ROWS: &[Row<'static>] = &[
         members: &[0, 0],
         is_stable: false,
         is_minimal: true,
+        can_merge_first: false,
         built: 2,
     },
     // The last node has no block.
@@ -181,13 +200,21 @@ const ROWS: &[Row<'static>] = &[
         members: &[0],
         is_stable: false,
         is_minimal: true,
+        can_merge_first: false,
         built: 2,
     },
 ];
 
+// Whether there are blocks 0 and 1, and they can be merged.
+fn can_merge_first(summary: &Summary) -> bool {
+    summary.is_node(0) && summary.is_node(1) && mergeable(summary, 0, 1)
+}
+
 // Whether the answers to a row are those that it has.
 fn is_right(summary: &Summary, view: &GraphView<'_>, row: &Row<'_>) -> bool {
-    is_stable(summary, view) == row.is_stable && is_minimal(summary) == row.is_minimal
+    is_stable(summary, view) == row.is_stable
+        && is_minimal(summary) == row.is_minimal
+        && can_merge_first(summary) == row.can_merge_first
 }
 
 // Whether a build makes so many blocks, of a partition that is stable and of which no two can be merged.

@@ -1,5 +1,5 @@
 use Rattle.std.proofs.Common.{◌<◌, arith, sym, ◌∙◌, subst, length}
-use Rattle.block_splitting.specs.Chosen.{BeginsWith}
+use Rattle.block_splitting.specs.Chosen.{HasFirst}
 use Rattle.block_splitting.proofs.Choices.{keepers_set, keepers_stay, get_any}
 use Rattle.block_splitting.proofs.keeping.note_keeper.Goals as goal
 
@@ -16,14 +16,14 @@ pub returns-then-before-k-clause-keepers : goal.returns-then-before-k-clause-kee
 returns-then-before-k-clause-keepers c =
     let o = c.requires.keyed c.args.k _ c.key.ensures in
     let e = c.own_number-own.ensures o.0 o.1 in
-    keepers_set c.args.keys.now c.args.k c.own_number-own.result c.args.keeper.now.items c.key.result.now c.requires.keepers c.key.ensures (subst (BeginsWith c.key.result.now) (sym e) o.1)
+    keepers_set c.args.keys.now c.args.k c.own_number-own.result c.args.keeper.now.items c.key.result.now c.requires.keepers c.key.ensures (subst (HasFirst c.key.result.now) (sym e) o.1)
     (let l = o.2 in let ok = c.args.keeper.now.ok in omega (arith, e, l, ok))
 
 pub returns-then-other-own-clause-keepers : goal.returns-then-other-own-clause-keepers
 returns-then-other-own-clause-keepers c =
     let o = c.requires.keyed c.args.k _ c.key.ensures in
     let e = c.own_number-own.ensures o.0 o.1 in
-    keepers_set c.args.keys.now c.args.k c.own_number-own.result c.args.keeper.now.items c.key.result.now c.requires.keepers c.key.ensures (subst (BeginsWith c.key.result.now) (sym e) o.1)
+    keepers_set c.args.keys.now c.args.k c.own_number-own.result c.args.keeper.now.items c.key.result.now c.requires.keepers c.key.ensures (subst (HasFirst c.key.result.now) (sym e) o.1)
     (let l = o.2 in let ok = c.args.keeper.now.ok in omega (arith, e, l, ok))
 
 pub returns-clause-keepers : goal.returns-clause-keepers
@@ -34,6 +34,6 @@ returns-clause-keepers c =
     let f = c.own_number-other.ensures other.0 other.1 in
     let within : c.own_number-own.result < length c.args.keeper.now.items = (let l = o.2 in let ok = c.args.keeper.now.ok in omega (arith, e, l, ok)) in
     keepers_stay c.args.keys.now c.args.k c.own_number-own.result c.index-before.result.now c.args.keeper.now.items c.key.result.now c.key-2.result.now c.requires.keepers c.key.ensures
-    (subst (BeginsWith c.key.result.now) (sym e) o.1) c.if-before-k.false
+    (subst (HasFirst c.key.result.now) (sym e) o.1) c.if-before-k.false
     (get_any c.args.keeper.now.items c.own_number-own.result 0 c.index-before.result.now within ∙ sym c.index-before.ensures) c.key-2.ensures
-    (subst (BeginsWith c.key-2.result.now) (sym f ∙ c.if-other-own.false) other.1)
+    (subst (HasFirst c.key-2.result.now) (sym f ∙ c.if-other-own.false) other.1)

@@ -1,5 +1,5 @@
 use Rattle.coarsest_partition.proofs.Starts.{nodes_below, blocks_below, start_labelled, start_inhabited}
-use Rattle.coarsest_partition.proofs.Filled.{agrees_moved}
+use Rattle.block_filling.proofs.Filled.{agrees_moved}
 use Rattle.std.proofs.Common.{ℕ, List, Option, ap, ◌∙◌}
 use Rattle.px_spec.specs.Members.{at}
 use Rattle.coarsest_partition.proofs.labels.by_labels.Goals as goal

@@ -19,11 +19,11 @@ returns-then-parents c = λ g graph viewed.
     let q = c.args.summary.now in
     let u = c.has_members.ensures.yes c.if-not-has_members.false in
     let v = c.has_members-2.ensures.yes c.if-not-has_members-2.false in
-    told_mergeable g q graph viewed c.args.a c.args.b u.0 v.0 u.1 v.1 c.can_merge.result
-    (λ h. merge_swapped q c.args.b c.args.a (c.can_merge.ensures.yes h)) (λ h alike. c.can_merge.ensures.no h (merge_swapped q c.args.a c.args.b alike))
+    told_mergeable g q graph viewed c.args.a c.args.b u.0 v.0 u.1 v.1 c.agree_as_one.result
+    (λ h. merge_swapped q c.args.b c.args.a (c.agree_as_one.ensures.yes h)) (λ h alike. c.agree_as_one.ensures.no h (merge_swapped q c.args.a c.args.b alike))
 
 pub returns : goal.returns
 returns c = λ g graph viewed.
     let u = c.has_members.ensures.yes c.if-not-has_members.false in
     let v = c.has_members-2.ensures.yes c.if-not-has_members-2.false in
-    told_mergeable g c.args.summary.now graph viewed c.args.a c.args.b u.0 v.0 u.1 v.1 c.can_merge-2.result c.can_merge-2.ensures.yes c.can_merge-2.ensures.no
+    told_mergeable g c.args.summary.now graph viewed c.args.a c.args.b u.0 v.0 u.1 v.1 c.agree_as_one-2.result c.agree_as_one-2.ensures.yes c.agree_as_one-2.ensures.no

@@ -2,7 +2,7 @@
 ghost use Rattle.std.specs.Prelude.{◌≡◌, ◌+◌, ◌<◌, ◌≤◌, ◌^◌, ℕ, [], None, Some, IfOk, IfSome, length, nat_eq, nat_lt, is_some, if◌then◌else◌};
 ghost use Rattle.px_spec.specs.Members.{at};
 ghost use Rattle.block_partition.specs.Partitions.{IsBlock};
-ghost use Rattle.ak_family.specs.Layers.{HaveLabels, SameBlocks, SameBelow};
+ghost use Rattle.block_filling.specs.Filling.{HaveLabels, SameBlocks, SameBelow};
 
 use block_partition::Blocks;
 use px_base::{Memory, NodeId};
@@ -69,9 +69,10 @@ fn append_nodes(blocks: &mut Blocks, size: u32, block: &[Option<u32>])
     }
 }
 
-/// The partition with these labels of blocks, in which the nodes below a number have the blocks that
-/// the list gives.
-pub(crate) fn fill(
+/// The partition with these labels of blocks, each at its number, in which the nodes below a size have the
+/// blocks that the list gives. `Memory` comes at want of memory alone. Linear in the size and the number of
+/// labels.
+pub fn fill(
     alloc: Global,
     size: u32,
     block: &[Option<u32>],

@@ -1,6 +1,6 @@
 use Rattle.std.proofs.Common.{◌≡◌, ◌+◌, ℕ, None, nat_lt, if◌then◌else◌, slice_get}
 use Rattle.px_spec.specs.Members.{at}
-use Rattle.ak_family.proofs.filling.add_blocks.Given as goal
+use Rattle.block_filling.proofs.filling.add_blocks.Given as goal
 
 abbrev pub invariant-loop-count : goal.invariant-loop-count
 invariant-loop-count l = record {

@@ -1,7 +1,7 @@
 use Rattle.std.proofs.Common.{arith, rules}
 use Rattle.std.proofs.lemmas.Option.{slice_get-get_or}
-use Rattle.coarsest_partition.proofs.Filled.{labels_more, labels_all}
-use Rattle.coarsest_partition.proofs.filling.add_blocks.Goals as goal
+use Rattle.block_filling.proofs.Filled.{labels_more, labels_all}
+use Rattle.block_filling.proofs.filling.add_blocks.Goals as goal
 
 pub loop-count-preserved : goal.loop-count-preserved
 loop-count-preserved c = record {

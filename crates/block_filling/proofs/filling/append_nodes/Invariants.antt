@@ -1,6 +1,6 @@
 use Rattle.std.proofs.Common.{◌≡◌, ◌+◌, length}
-use Rattle.coarsest_partition.specs.Filling.{SameBelow}
-use Rattle.coarsest_partition.proofs.filling.append_nodes.Given as goal
+use Rattle.block_filling.specs.Filling.{SameBelow}
+use Rattle.block_filling.proofs.filling.append_nodes.Given as goal
 
 abbrev pub invariant-loop-n : goal.invariant-loop-n
 invariant-loop-n l = record {

@@ -1,5 +1,5 @@
 use Rattle.bisim_levels.proofs.Views.{parents_near, children_near}
-use Rattle.block_splitting.proofs.reaching.reached.Goals as goal
+use Rattle.block_splitting.proofs.reaching.opposite_neighbours.Goals as goal
 
 pub returns-in-Parents : goal.returns-in-Parents
 returns-in-Parents c = rw c.in-Parents.is (children_near c.args.view.now c.requires.graph c.args.q _ c.children.ensures)
