@@ -4,3 +4,4 @@ pub mod NeighbourLists
 pub mod ChangedEdges
 pub mod ChangedLabels
 pub mod ChangedGraphs
+pub mod EdgeCounts

@@ -3,7 +3,7 @@ ghost use Rattle.std.specs.Prelude.{◌≡◌, ◌≤◌, ◌+◌, ◌^◌, leng
 ghost use Rattle.px_spec.specs.Graphs.{IsGraph, is_live, label_of, has_edge};
 ghost use Rattle.px_spec.specs.Changes.{with_label};
 ghost use Rattle.px_spec.specs.Members.{Lists};
-ghost use Rattle.label_graph.specs.Views.{label_number};
+ghost use Rattle.label_graph.specs.Views.{label_number, edge_count};
 ghost use Rattle.graph_update.specs.NewChanges.{IsNew};
 ghost use Rattle.graph_update.specs.Judging.{change_of};
 ghost use Rattle.graph_update.specs.Pending.{graph_after, lost_edge, lost_from, lost_onto};
@@ -92,6 +92,18 @@ impl<'a> After<'a> {
         match self.change {
             Change::Node(_) => self.graph.created() + 1,
             _ => self.graph.created(),
+        }
+    }
+
+    /// How many edges there will be: at most 2^30. O(1).
+    pub fn edge_count(&self) -> u32
+        ensures count { result ≡ edge_count (graph_after self.now) }
+        ensures few { result ≤ 2 ^ 30 }
+    {
+        match self.change {
+            Change::Link(_, _) => self.graph.edge_count() + 1,
+            Change::Unlink(_, _) => self.graph.edge_count() - 1,
+            _ => self.graph.edge_count(),
         }
     }
 
