@@ -1,0 +1,11 @@
+//! A node moves to another block of a draft, and takes the supports of its edges along.
+#![tactic(auto)]
+
+mod moving;
+mod near;
+mod reading;
+mod shifting;
+
+pub use moving::move_node;
+pub use near::Near;
+pub use reading::{read_children, read_parents};
