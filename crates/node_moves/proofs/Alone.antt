@@ -1,5 +1,5 @@
 -- A graph of one node without edges.
-use Rattle.std.proofs.Common.{◌≡◌, ◌≤◌, ℕ, zero, suc, List, [], ◌∷◌, Option, Some, None, refl, sym, ◌∙◌, ap, subst, arith, cond, true, false, true≢false}
+use Rattle.std.proofs.Common.{◌≡◌, ℕ, zero, suc, List, [], ◌∷◌, Option, Some, refl, sym, ◌∙◌, ap, arith, cond, false, true≢false}
 use Rattle.std.specs.Prelude.{nat_eq, IsSome, is_some}
 use Rattle.std.specs.FinSet as set
 use Rattle.px_spec.specs.Graphs.{Graph, Edges, label_of, edge_cmp}
