@@ -9,3 +9,6 @@ mod shifting;
 pub use moving::move_node;
 pub use near::Near;
 pub use reading::{read_children, read_parents};
+
+#[cfg(test)]
+mod tests;
