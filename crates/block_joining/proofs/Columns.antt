@@ -1,7 +1,7 @@
 -- Supports that are added to others, one block after another.
-use Rattle.std.proofs.Common.{◌≡◌, ◌≢◌, ℕ, ◌+◌, ◌<◌, ◌≤◌, ◌^◌, ◌⊎◌, List, [], ◌∷◌, ◌++◌, IsTrue, length, take, refl, sym, ◌∙◌, ap, arith, inl, inr, true, false, Bool, cond, subst}
-use Rattle.std.specs.Prelude.{nat_eq, nat_lt, ◌||◌, ◌&&◌, get_or, IsSome, Option}
-use Rattle.std.proofs.lemmas.Bool.{cases_Bool, cases_lt}
+use Rattle.std.proofs.Common.{◌≡◌, ◌≢◌, ℕ, ◌+◌, ◌<◌, ◌≤◌, ◌^◌, List, [], ◌∷◌, IsTrue, length, take, refl, sym, ◌∙◌, ap, arith, inl, inr, true, false, Bool, cond}
+use Rattle.std.specs.Prelude.{nat_eq, nat_lt, ◌||◌, get_or}
+use Rattle.std.proofs.lemmas.Bool.{cases_lt}
 use Rattle.std.proofs.lemmas.Bool.Decides.{eqb_tells, Decides-ltb, Decides-eqb}
 use Rattle.std.proofs.lemmas.List.{take_more}
 use Rattle.std.proofs.lemmas.List.Folds.{list_any-append}

@@ -1,18 +1,18 @@
 -- The supports of a partition in which two blocks are one.
-use Rattle.std.proofs.Common.{◌≡◌, ◌≢◌, ℕ, ◌+◌, ◌<◌, ◌≤◌, ◌^◌, ◌⊎◌, List, Option, Some, None, IsSome, IsTrue, is_some, refl, sym, ◌∙◌, ap, arith, inl, inr, true, false, Bool, cond, subst}
+use Rattle.std.proofs.Common.{◌≡◌, ◌≢◌, ℕ, ◌+◌, ◌<◌, ◌≤◌, ◌^◌, List, Option, Some, None, IsSome, IsTrue, is_some, refl, sym, ◌∙◌, ap, arith, inl, inr, true, cond}
 use Rattle.std.specs.Prelude.{nat_eq, nat_lt}
 use Rattle.std.proofs.lemmas.Bool.{cases_lt}
 use Rattle.std.proofs.lemmas.Bool.Decides.{eqb_tells, Decides-ltb}
 use Rattle.std.specs.FinSet as set
 use Rattle.px_spec.specs.Members.{at, has, is_this, Lists}
 use Rattle.px_spec.specs.Graphs.{Graph}
-use Rattle.px_spec.specs.Shapes.{Shape, shape_of}
-use Rattle.bisim_spec.specs.Stability.{Mergeable, merged, merged_at}
+use Rattle.px_spec.specs.Shapes.{Shape}
+use Rattle.bisim_spec.specs.Stability.{merged, merged_at}
 use Rattle.bisim_spec.specs.Supports.{edges_between}
 use Rattle.bisim_spec.proofs.Bisimilar.{none_or_some}
 use Rattle.bisim_spec.proofs.Supported.{support_joined}
 use Rattle.bisim_spec.proofs.Together.{at_merged}
-use Rattle.upkeep_spec.specs.Merges.{CanMerge, IsMerged, IsChildBlock}
+use Rattle.upkeep_spec.specs.Merges.{CanMerge, IsMerged}
 use Rattle.upkeep_spec.specs.Named.{AreNamed}
 use Rattle.upkeep_spec.specs.Supported.{AreSupports}
 use Rattle.upkeep_spec.specs.Viewed.{IsViewed}
@@ -21,7 +21,7 @@ use Rattle.upkeep_spec.proofs.Merging.{merged_stable, unmerged}
 use Rattle.upkeep_spec.proofs.SetLists.{between_onto, between_from, between_within, between_gone_from, between_gone_onto, between_other, between_most}
 use Rattle.block_joining.specs.Mates.{renamed, AreMates}
 use Rattle.block_joining.specs.Merged.{with_column, with_row, merged_support, HasGraph}
-use Rattle.block_joining.proofs.Columns.{Which, goes, stays, else_, which, row_column, column_gone, column_here, column_there}
+use Rattle.block_joining.proofs.Columns.{Which, goes, stays, else_, which, column_gone, column_here, column_there}
 
 abbrev flipped : (ℕ → ℕ → ℕ) → ℕ → ℕ → ℕ
 flipped s x y = s y x

@@ -1,6 +1,6 @@
 -- Two blocks can be merged exactly where the tables say so.
-use Rattle.std.proofs.Common.{◌≡◌, ◌≢◌, ℕ, ◌+◌, ◌<◌, ◌≤◌, ◌⊎◌, ◌↔◌, List, [], ◌∷◌, Option, Some, None, IsTrue, IsFalse, refl, sym, ◌∙◌, ap, subst, arith, inl, inr, true, false, Bool, cond}
-use Rattle.std.specs.Prelude.{nat_eq, ◌||◌, ◌&&◌}
+use Rattle.std.proofs.Common.{◌≡◌, ◌≢◌, ℕ, ◌↔◌, List, [], ◌∷◌, Option, Some, None, IsTrue, refl, sym, ◌∙◌, ap, subst, inl, inr, true, false, Bool, cond}
+use Rattle.std.specs.Prelude.{nat_eq, ◌||◌}
 use Rattle.std.specs.List.{list_all}
 use Rattle.std.proofs.lemmas.Bool.{cases_Bool, both_ways, or_cases, or_left, or_right, and_parts, and_from}
 use Rattle.std.proofs.lemmas.Bool.Decides.{Decides-eqb, eqb_tells}
@@ -10,7 +10,6 @@ use Rattle.bisim_spec.specs.Stability.{Mergeable, merged_at}
 use Rattle.bisim_spec.proofs.Bisimilar.{none_or_some}
 use Rattle.bisim_spec.proofs.Together.{at_merged}
 use Rattle.bisim_spec.proofs.Merging.{IsParentBlock, mergeable_blocks}
-use Rattle.upkeep_spec.specs.Merges.{CanMerge}
 use Rattle.upkeep_spec.specs.Viewed.{IsViewed}
 use Rattle.block_joining.specs.Mates.{renamed, met, IsCovered, AreMates, AreNoMates}
 

@@ -1,4 +1,4 @@
-use Rattle.std.proofs.Common.{◌≡◌, ℕ, List, Option, sym, ◌∙◌, ap, subst}
+use Rattle.std.proofs.Common.{◌≡◌, ℕ, sym, ◌∙◌, ap, subst}
 use Rattle.px_spec.specs.Members.{at, is_this, Lists}
 use Rattle.bisim_spec.specs.Views.{support_at}
 use Rattle.upkeep_spec.specs.Merges.{IsMerged}

@@ -1,4 +1,4 @@
-use Rattle.std.proofs.Common.{◌≡◌, sym, subst, ◌∙◌, ap, true, false, rules}
+use Rattle.std.proofs.Common.{◌≡◌, sym, subst, ◌∙◌, true, rules}
 use Rattle.std.specs.List.{list_all}
 use Rattle.px_spec.specs.Members.{at, Lists}
 use Rattle.quotient_draft.specs.Drafts.{shown_labels, shown_blocks}

@@ -1,4 +1,4 @@
-use Rattle.std.proofs.Common.{◌≤◌, ◌+◌, sym, subst}
+use Rattle.std.proofs.Common.{sym, subst}
 use Rattle.std.specs.Prelude.{IsSome}
 use Rattle.px_spec.specs.Members.{at}
 use Rattle.quotient_draft.specs.Drafts.{shown_labels, shown_blocks, shown_support, with_added}
