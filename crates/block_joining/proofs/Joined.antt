@@ -12,9 +12,9 @@ use Rattle.bisim_spec.specs.Supports.{edges_between}
 use Rattle.bisim_spec.proofs.Bisimilar.{none_or_some}
 use Rattle.bisim_spec.proofs.Supported.{support_joined}
 use Rattle.bisim_spec.proofs.Together.{at_merged}
-use Rattle.upkeep_spec.specs.Merges.{CanMerge, IsMerged}
+use Rattle.upkeep_spec.specs.Merges.{IsMergeablePair, IsMerged}
 use Rattle.upkeep_spec.specs.Named.{AreNamed}
-use Rattle.upkeep_spec.specs.Supported.{AreSupports}
+use Rattle.upkeep_spec.specs.Supported.{AreEdgeCounts}
 use Rattle.upkeep_spec.specs.Viewed.{IsViewed}
 use Rattle.upkeep_spec.proofs.Labelled.{labelled_merged}
 use Rattle.upkeep_spec.proofs.Merging.{merged_stable, unmerged}
@@ -39,7 +39,7 @@ abbrev merged_is : (a b : ℕ) (p : List (Option ℕ)) → IsMerged a b p (merge
 merged_is a b p = record { blocks = at_merged a b p }
 
 -- supports that become one are few together
-pub parents_few : (g : Graph) (p : List (Option ℕ)) (s : ℕ → ℕ → ℕ) (a b x : ℕ) → AreSupports g p s → set.len g.edges ≤ 2 ^ 30 → a ≢ b → s x a + s x b ≤ 2 ^ 30
+pub parents_few : (g : Graph) (p : List (Option ℕ)) (s : ℕ → ℕ → ℕ) (a b x : ℕ) → AreEdgeCounts g p s → set.len g.edges ≤ 2 ^ 30 → a ≢ b → s x a + s x b ≤ 2 ^ 30
 parents_few g p s a b x supports few ne = by (which a b x)
   where
     by : Which a b x → s x a + s x b ≤ 2 ^ 30
@@ -62,7 +62,7 @@ parents_few g p s a b x supports few ne = by (which a b x)
         let v = supports.each x b in
         omega (arith, whole, most, u, v, few)
 
-pub children_few : (g : Graph) (p : List (Option ℕ)) (s mid : ℕ → ℕ → ℕ) (a b y : ℕ) → AreSupports g p s → set.len g.edges ≤ 2 ^ 30 → a ≢ b
+pub children_few : (g : Graph) (p : List (Option ℕ)) (s mid : ℕ → ℕ → ℕ) (a b y : ℕ) → AreEdgeCounts g p s → set.len g.edges ≤ 2 ^ 30 → a ≢ b
     → ((x z : ℕ) → mid x z ≡ with_column a b s x z) → mid a y + mid b y ≤ 2 ^ 30
 children_few g p s mid a b y supports few ne is = by (which a b y)
   where
@@ -133,7 +133,7 @@ two_steps a b s mid new first second x y =
 
 -- the supports are those of the merged partition
 pub supports_merged : (g : Graph) (p p2 : List (Option ℕ)) (s s2 : ℕ → ℕ → ℕ) (a b : ℕ) → a ≢ b → IsMerged a b p p2 → ((x y : ℕ) → s2 x y ≡ merged_support a b s x y)
-    → AreSupports g p s → AreSupports g p2 s2
+    → AreEdgeCounts g p s → AreEdgeCounts g p2 s2
 supports_merged g p p2 s s2 a b ne m is supports = record { each = λ x y. is x y ∙ by x y (which a b x) (which a b y) }
   where
     by : (x y : ℕ) → Which a b x → Which a b y → merged_support a b s x y ≡ edges_between g.edges p2 x y
@@ -309,5 +309,5 @@ viewed_merged s p p2 labels support support2 a b mates m is v = record {
       };
 }
   where
-    can : CanMerge s p a b
+    can : IsMergeablePair s p a b
     can = record { apart = mates.apart; first = mates.first; second = mates.second; can = mates.can s v }

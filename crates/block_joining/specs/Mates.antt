@@ -3,7 +3,7 @@ use Rattle.std.specs.Prelude.{◌≡◌, ◌≢◌, ℕ, ◌||◌, Bool, List, O
 use Rattle.px_spec.specs.Members.{at}
 use Rattle.px_spec.specs.Shapes.{Shape}
 use Rattle.bisim_spec.specs.Stability.{Mergeable}
-use Rattle.upkeep_spec.specs.Merges.{CanMerge}
+use Rattle.upkeep_spec.specs.Merges.{IsMergeablePair}
 use Rattle.upkeep_spec.specs.Viewed.{IsViewed}
 use Rattle.quotient.specs.Quotients.{Quotient}
 use Rattle.quotient_draft.specs.Drafts.{Drafted, shown_support}
@@ -34,4 +34,4 @@ pub record AreMates (block : List (Option ℕ)) (labels : ℕ → Option ℕ) (j
 
 -- Whatever the graph that is seen through the tables, the two blocks can't be merged.
 abbrev pub AreNoMates : List (Option ℕ) → (ℕ → Option ℕ) → (ℕ → ℕ → Bool) → ℕ → ℕ → Type 0
-AreNoMates block labels joined a b = (s : Shape) → IsViewed s block labels joined → CanMerge s block a b → ⊥
+AreNoMates block labels joined a b = (s : Shape) → IsViewed s block labels joined → IsMergeablePair s block a b → ⊥

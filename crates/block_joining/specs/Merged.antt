@@ -3,7 +3,7 @@ use Rattle.std.specs.Prelude.{◌≡◌, ℕ, ◌+◌, ◌≤◌, ◌^◌, List,
 use Rattle.std.specs.FinSet as set
 use Rattle.px_spec.specs.Members.{at}
 use Rattle.px_spec.specs.Graphs.{Graph}
-use Rattle.upkeep_spec.specs.Supported.{AreSupports}
+use Rattle.upkeep_spec.specs.Supported.{AreEdgeCounts}
 
 -- the supports once those to b are added to those to a
 abbrev pub with_column : ℕ → ℕ → (ℕ → ℕ → ℕ) → ℕ → ℕ → ℕ
@@ -20,6 +20,6 @@ merged_support a b support = with_row a b (with_column a b support)
 -- The supports are those of some graph with at most 2^30 edges, and each block with members has a label.
 pub record HasGraph (block : List (Option ℕ)) (labels : ℕ → Option ℕ) (support : ℕ → ℕ → ℕ) : Type 0 where
   pub graph : Graph
-  pub supports : AreSupports graph block support
+  pub supports : AreEdgeCounts graph block support
   pub few : set.len graph.edges ≤ 2 ^ 30
   pub live : (n b : ℕ) → at block n ≡ Some b → IsSome (labels b)

@@ -6,7 +6,7 @@ ghost use Rattle.px_spec.specs.Shapes.{Shape};
 ghost use Rattle.bisim_spec.specs.Stability.{Mergeable};
 ghost use Rattle.upkeep_spec.specs.Merges.{IsMerged};
 ghost use Rattle.upkeep_spec.specs.Named.{AreNamed};
-ghost use Rattle.upkeep_spec.specs.Supported.{AreSupports};
+ghost use Rattle.upkeep_spec.specs.Supported.{AreEdgeCounts};
 ghost use Rattle.upkeep_spec.specs.Viewed.{IsViewed};
 ghost use Rattle.quotient_draft.specs.Drafts.{shown_labels, shown_blocks, shown_support};
 ghost use Rattle.quotient_draft.specs.Basis.{IsOver};
@@ -35,7 +35,7 @@ pub fn join(
     ensures graph { OnOk result (HasGraph (shown_blocks base.now draft.new) (at (shown_labels base.now draft.new)) (shown_support base.now draft.new)) }
     ensures merged { OnOk result (IsMerged a b (shown_blocks base.now draft.old) (shown_blocks base.now draft.new)) }
     ensures labels { OnOk result (shown_labels base.now draft.new ≡ shown_labels base.now draft.old) }
-    ensures supports { OnOk result ((g : Graph) → AreSupports g (shown_blocks base.now draft.old) (shown_support base.now draft.old) → AreSupports g (shown_blocks base.now draft.new) (shown_support base.now draft.new)) }
+    ensures supports { OnOk result ((g : Graph) → AreEdgeCounts g (shown_blocks base.now draft.old) (shown_support base.now draft.old) → AreEdgeCounts g (shown_blocks base.now draft.new) (shown_support base.now draft.new)) }
     ensures named { OnOk result ((names : ℕ → Option ℕ) → AreNamed (shown_blocks base.now draft.old) (at (shown_labels base.now draft.old)) names → AreNamed (shown_blocks base.now draft.new) (at (shown_labels base.now draft.new)) names) }
     ensures viewed { OnOk result ((s : Shape) → IsViewed s (shown_blocks base.now draft.old) (at (shown_labels base.now draft.old)) (shown_joined base.now draft.old) → IsViewed s (shown_blocks base.now draft.new) (at (shown_labels base.now draft.new)) (shown_joined base.now draft.new)) }
 {

@@ -8,7 +8,7 @@ use Rattle.px_spec.specs.Shapes.{shape_of}
 use Rattle.bisim_spec.specs.Partitions.{IsPartition}
 use Rattle.bisim_spec.specs.Supports.{edges_between}
 use Rattle.bisim_spec.proofs.Moves.{between_most}
-use Rattle.upkeep_spec.specs.Supported.{AreSupports}
+use Rattle.upkeep_spec.specs.Supported.{AreEdgeCounts}
 
 later : (n : ℕ) → nat_eq (suc n) 0 ≡ false
 later n = grind arith
@@ -38,7 +38,7 @@ no_edges edges block x y none =
     omega (arith, most, len)
 
 pub unsupported : (g : Graph) (first block : List (Option ℕ)) (support : ℕ → ℕ → ℕ) → g.edges ≡ set.empty
-    → ((x y : ℕ) → support x y ≡ edges_between set.empty first x y) → AreSupports g block support
+    → ((x y : ℕ) → support x y ≡ edges_between set.empty first x y) → AreEdgeCounts g block support
 unsupported g first block support none are = record {
   each = λ x y. are x y ∙ no_edges set.empty first x y refl ∙ sym (no_edges g.edges block x y none);
 }

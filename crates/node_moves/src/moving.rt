@@ -4,7 +4,7 @@ ghost use Rattle.px_spec.specs.Members.{at, Lists};
 ghost use Rattle.px_spec.specs.Graphs.{is_live, has_edge};
 ghost use Rattle.px_spec.specs.Shapes.{shape_of};
 ghost use Rattle.bisim_spec.specs.Partitions.{IsPartition};
-ghost use Rattle.upkeep_spec.specs.Supported.{AreSupports};
+ghost use Rattle.upkeep_spec.specs.Supported.{AreEdgeCounts};
 ghost use Rattle.graph_update.specs.Pending.{graph_after};
 ghost use Rattle.quotient_draft.specs.Drafts.{shown_labels, shown_blocks, shown_support};
 ghost use Rattle.quotient_draft.specs.Basis.{IsOver};
@@ -36,10 +36,10 @@ pub fn move_node<L: Ledger>(
     requires live { IsTrue (is_live (graph_after after.now) n) }
     requires partition { IsPartition (shape_of (graph_after after.now)) (shown_blocks base.now draft.old) }
     requires block { IsSome (at (shown_labels base.now draft.old) b) }
-    requires supports { AreSupports (graph_after after.now) (shown_blocks base.now draft.old) (shown_support base.now draft.old) }
+    requires supports { AreEdgeCounts (graph_after after.now) (shown_blocks base.now draft.old) (shown_support base.now draft.old) }
     ensures moved { OnOk result ((m : ℕ) → at (shown_blocks base.now draft.new) m ≡ (if nat_eq m n then Some b else at (shown_blocks base.now draft.old) m)) }
     ensures added { draft.new.added ≡ draft.old.added }
-    ensures supports { OnOk result (AreSupports (graph_after after.now) (shown_blocks base.now draft.new) (shown_support base.now draft.new)) }
+    ensures supports { OnOk result (AreEdgeCounts (graph_after after.now) (shown_blocks base.now draft.new) (shown_support base.now draft.new)) }
     ensures next { OnOk result ((children : List ℕ) × Lists (has_edge (graph_after after.now) n) children × (next.new.items ≡ next.old.items ++ children)) }
     ensures over { OnOk result (IsOver base.now.blocks.block_of base.now.blocks.labels draft.new) }
     ensures cost { steps.new ≤ steps.old + parents_cost after.now n + children_cost after.now n }

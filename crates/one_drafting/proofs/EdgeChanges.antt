@@ -25,7 +25,7 @@ use Rattle.quotient.specs.Joined.{one_if}
 use Rattle.quotient_draft.specs.Drafts.{Drafted, shown_blocks, shown_labels, shown_support, with_moves, with_added}
 use Rattle.quotient_draft.specs.Basis.{IsOver}
 use Rattle.upkeep_spec.specs.Named.{AreNamed}
-use Rattle.upkeep_spec.specs.Supported.{AreSupports}
+use Rattle.upkeep_spec.specs.Supported.{AreEdgeCounts}
 use Rattle.upkeep_spec.proofs.Stills.{twin_link, twin_unlink, one_step_still, supported_other}
 use Rattle.one_drafting.specs.Drafting.{IsChanged, IsDrafted, AreSupportsAlone}
 use Rattle.one_drafting.proofs.Bases.{AreTexted, named_texts, base_texts}
@@ -52,7 +52,7 @@ joins_ends : (p : List (Option ℕ)) (u v a b x y : ℕ) → AreAt p u v a b →
 joins_ends p u v a b x y ends = ap (λ o. is_this x o && is_this y (at p v)) ends.from ∙ ap (λ o. nat_eq x a && is_this y o) ends.onto
 
 supports_linked : (g : Graph) (u v a b : ℕ) (q : Quotient) (d : Drafted) → has_edge g u v ≡ false → FitsOne g (view_of q) → AreSupportsAlone d → AreAt q.blocks.block_of u v a b
-    → IsRaised q d a b → AreSupports (with_edge g u v) (shown_blocks q d) (shown_support q d)
+    → IsRaised q d a b → AreEdgeCounts (with_edge g u v) (shown_blocks q d) (shown_support q d)
 supports_linked g u v a b q d absent fits alone ends r = record {
   each = λ x y.
       r.raised x y ∙ ap (λ n. n + one_if (nat_eq x a && nat_eq y b)) (fits.view.supports x y)
@@ -62,7 +62,7 @@ supports_linked g u v a b q d absent fits alone ends r = record {
 }
 
 supports_unlinked : (g : Graph) (u v a b : ℕ) (q : Quotient) (d : Drafted) → has_edge g u v ≡ true → FitsOne g (view_of q) → AreSupportsAlone d → AreAt q.blocks.block_of u v a b
-    → IsLowered q d a b → AreSupports (without_edge g u v) (shown_blocks q d) (shown_support q d)
+    → IsLowered q d a b → AreEdgeCounts (without_edge g u v) (shown_blocks q d) (shown_support q d)
 supports_unlinked g u v a b q d present fits alone ends r = record {
   each = λ x y.
       let one = ap one_if (joins_ends q.blocks.block_of u v a b x y ends) in

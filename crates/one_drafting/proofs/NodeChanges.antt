@@ -25,7 +25,7 @@ use Rattle.quotient_draft.specs.Drafts.{Drafted, shown_blocks, shown_labels, sho
 use Rattle.quotient_draft.specs.Basis.{IsOver}
 use Rattle.quotient_draft.proofs.Puts.{at_put}
 use Rattle.upkeep_spec.specs.Named.{AreNamed}
-use Rattle.upkeep_spec.specs.Supported.{AreSupports}
+use Rattle.upkeep_spec.specs.Supported.{AreEdgeCounts}
 use Rattle.one_drafting.specs.Drafting.{IsChanged}
 use Rattle.one_drafting.proofs.Bases.{AreTexted, number_from, named_texts}
 

@@ -16,7 +16,7 @@ use Rattle.bisim_spec.proofs.Supported.{support_joined}
 use Rattle.quotient.specs.Quotients.{Quotient}
 use Rattle.quotient_draft.specs.Drafts.{Drafted, has_member, inhabited_from, shown_blocks, shown_labels, shown_support, settled_view}
 use Rattle.quotient_draft.proofs.Gone.{member_at, member_there}
-use Rattle.upkeep_spec.specs.Supported.{AreSupports}
+use Rattle.upkeep_spec.specs.Supported.{AreEdgeCounts}
 use Rattle.one_drafting.specs.Drafting.{IsDrafted}
 
 abbrev none_label : Option ℕ

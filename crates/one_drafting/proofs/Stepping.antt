@@ -29,8 +29,8 @@ use Rattle.quotient_draft.specs.Basis.{IsOver}
 use Rattle.block_joining.specs.Merged.{HasGraph}
 use Rattle.upkeep_spec.specs.Merges.{AreSuspects}
 use Rattle.upkeep_spec.specs.Named.{AreNamed, AreNamedOff}
-use Rattle.upkeep_spec.specs.Splits.{IsClosed, IsSplit}
-use Rattle.upkeep_spec.specs.Supported.{AreSupports}
+use Rattle.upkeep_spec.specs.Splits.{IsClosed, IsSplitInside}
+use Rattle.upkeep_spec.specs.Supported.{AreEdgeCounts}
 use Rattle.upkeep_spec.specs.Suspected.{AreSuspected}
 use Rattle.upkeep_spec.specs.Viewed.{IsViewed, IsDone}
 use Rattle.upkeep_spec.proofs.Joining.{one_step_done}
@@ -62,7 +62,7 @@ target_reached g c t target_is n h = reach_start (shape_of (after c g)) (target 
 -- the split clause of this change
 pub record HasSplit (g : Graph) (c : Change) (t : ℕ) (p1 p2 : List (Option ℕ)) (made : List ℕ) : Type 0 where
   pub split : (inside : ℕ → Bool) → IsClosed (shape_of (after c g)) inside → ((n : ℕ) → IsTrue (has (t ∷ []) n) → IsTrue (inside n))
-      → IsSplit (shape_of (after c g)) inside p1 p2 [] made
+      → IsSplitInside (shape_of (after c g)) inside p1 p2 [] made
 
 stages : (g : Graph) (c : Change) (t : ℕ) (q : Quotient) (d : Drafted) (p2 : List (Option ℕ)) (made : List ℕ) → IsGraph g → IsGraph (after c g) → FitsOne g (view_of q)
     → IsTarget g c t → IsChanged g c q d → HasSplit g c t (shown_blocks q d) p2 made
@@ -102,7 +102,7 @@ pub record HasMerge (p2 p3 : List (Option ℕ)) (labels : ℕ → Option ℕ) (s
 
 pub stepped : (g : Graph) (c : Change) (t : ℕ) (q : Quotient) (d d2 : Drafted) (p3 : List (Option ℕ)) (made suspects : List ℕ) → IsGraph g → IsGraph (after c g)
     → FitsOne g (view_of q) → IsTarget g c t → IsChanged g c q d → HasSplit g c t (shown_blocks q d) (shown_blocks q d2) made
-    → AreNamed (shown_blocks q d2) (at (shown_labels q d2)) (label_number (after c g)) → AreSupports (after c g) (shown_blocks q d2) (shown_support q d2)
+    → AreNamed (shown_blocks q d2) (at (shown_labels q d2)) (label_number (after c g)) → AreEdgeCounts (after c g) (shown_blocks q d2) (shown_support q d2)
     → AreAdded t (shown_blocks q d2) made suspects → HasMerge (shown_blocks q d2) p3 (at (shown_labels q d2)) (shown_support q d2) suspects
     → (KeepsParents c (after c g) q.blocks.block_of → ⊥) → OneStep g q.blocks.block_of c (after c g) p3
 stepped g c t q d d2 p3 made suspects graph graph2 fits target_is changed split named supports added merge moves =
@@ -111,7 +111,7 @@ stepped g c t q d d2 p3 made suspects graph graph2 fits target_is changed split 
     (λ x y. refl) (suspects_of g c t (shown_blocks q d2) made suspects target_is added) merge.merged moves
 
 -- the supports are those of a graph with few edges, and blocks with members have labels
-pub has_graph : (g : Graph) (p : List (Option ℕ)) (labels : ℕ → Option ℕ) (support : ℕ → ℕ → ℕ) → AreSupports g p support → set.len g.edges ≤ 2 ^ 30
+pub has_graph : (g : Graph) (p : List (Option ℕ)) (labels : ℕ → Option ℕ) (support : ℕ → ℕ → ℕ) → AreEdgeCounts g p support → set.len g.edges ≤ 2 ^ 30
     → AreNamed p labels (label_number g) → HasGraph p labels support
 has_graph g p labels support supports few named = record {
   graph = g;

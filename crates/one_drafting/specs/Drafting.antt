@@ -20,7 +20,7 @@ use Rattle.quotient.specs.Quotients.{Quotient, view_of}
 use Rattle.quotient_draft.specs.Drafts.{Drafted, shown_blocks, shown_labels, shown_support}
 use Rattle.quotient_draft.specs.Basis.{IsOver}
 use Rattle.upkeep_spec.specs.Named.{AreNamed}
-use Rattle.upkeep_spec.specs.Supported.{AreSupports}
+use Rattle.upkeep_spec.specs.Supported.{AreEdgeCounts}
 
 -- The draft shows the graph after the change, with nodes in the blocks in which they were: a new node has some block. The partition
 -- may be unstable at the target.
@@ -29,14 +29,14 @@ pub record IsChanged (g : Graph) (c : Change) (q : Quotient) (d : Drafted) : Typ
   pub partition : IsPartition (shape_of (after c g)) (shown_blocks q d)
   pub keeps : KeepsBlocks (shape_of g) (shape_of (after c g)) q.blocks.block_of (shown_blocks q d)
   pub named : AreNamed (shown_blocks q d) (at (shown_labels q d)) (label_number (after c g))
-  pub supports : AreSupports (after c g) (shown_blocks q d) (shown_support q d)
+  pub supports : AreEdgeCounts (after c g) (shown_blocks q d) (shown_support q d)
 
 -- the draft shows the next partition, with the labels of members and the numbers of edges
 pub record IsDrafted (g : Graph) (c : Change) (q : Quotient) (d : Drafted) : Type 0 where
   pub over : IsOver q.blocks.block_of q.blocks.labels d
   pub step : OneStep g q.blocks.block_of c (after c g) (shown_blocks q d)
   pub named : AreNamed (shown_blocks q d) (at (shown_labels q d)) (label_number (after c g))
-  pub supports : AreSupports (after c g) (shown_blocks q d) (shown_support q d)
+  pub supports : AreEdgeCounts (after c g) (shown_blocks q d) (shown_support q d)
 
 -- the nodes that the change reaches, in the graph that it leaves
 abbrev pub reached : Graph → Change → ℕ → Bool

@@ -7,7 +7,7 @@ use Rattle.std.proofs.lemmas.List.{take_more, take_all}
 use Rattle.std.proofs.lemmas.List.Folds.{list_any-append}
 use Rattle.px_spec.specs.Members.{has, at, Lists}
 use Rattle.px_spec.specs.Shapes.{Shape}
-use Rattle.upkeep_spec.specs.Merges.{CanMerge, IsMerged, one_more, none, AreSuspects}
+use Rattle.upkeep_spec.specs.Merges.{IsMergeablePair, IsMerged, one_more, none, AreSuspects}
 use Rattle.upkeep_spec.specs.Viewed.{IsViewed, IsDone}
 use Rattle.upkeep_spec.proofs.Merging.{can_swap}
 use Rattle.upkeep_spec.proofs.Suspects.{partner, minimal_from, suspect_cleared, suspects_merged}
@@ -43,7 +43,7 @@ no_mates_all p labels joined a span before live below b = λ s v can. before b (
 pub no_mates_by : (p : List (Option ℕ)) (labels : ℕ → Option ℕ) (joined : ℕ → ℕ → Bool) (a x : ℕ) → x ≢ a → IsTrue (joined x a) → AreNoMates p labels joined a x
     → ((b : ℕ) → IsTrue (joined x b) → AreNoMates p labels joined a b) → (b : ℕ) → AreNoMates p labels joined a b
 no_mates_by p labels joined a x ne parent here children b = λ s v can. elim (partner s p a b x can (v.from x a parent) ne) [
-  | inl e ↦ here s v (subst (CanMerge s p a) e can)
+  | inl e ↦ here s v (subst (IsMergeablePair s p a) e can)
   | inr k ↦ children b (v.into x b k) s v can
 ]
 
@@ -144,7 +144,7 @@ pub merged_more : (s : Shape) (first p p2 : List (Option ℕ)) (labels labels2 :
     → IsTrue (has after a) → ((c : ℕ) → IsTrue (has rest c) → IsTrue (has after c)) → ((c : ℕ) → IsTrue (joined2 a c) → IsTrue (has after c))
     → IsMerging s first p2 labels2 joined2 after
 merged_more s first p p2 labels labels2 joined joined2 suspects rest after a b m mates rests merged tables own kept children =
-    let can : CanMerge s p a b = record { apart = mates.apart; first = mates.first; second = mates.second; can = mates.can s m.viewed } in
+    let can : IsMergeablePair s p a b = record { apart = mates.apart; first = mates.first; second = mates.second; can = mates.can s m.viewed } in
     let viewed = tables m.viewed in
     record {
       merges = one_more p p2 a b m.merges can merged;

@@ -5,7 +5,7 @@ ghost use Rattle.px_spec.specs.Graphs.{Graph};
 ghost use Rattle.px_spec.specs.Shapes.{Shape};
 ghost use Rattle.upkeep_spec.specs.Merges.{AreSuspects};
 ghost use Rattle.upkeep_spec.specs.Named.{AreNamed};
-ghost use Rattle.upkeep_spec.specs.Supported.{AreSupports};
+ghost use Rattle.upkeep_spec.specs.Supported.{AreEdgeCounts};
 ghost use Rattle.upkeep_spec.specs.Viewed.{IsViewed, IsDone};
 ghost use Rattle.quotient_draft.specs.Drafts.{shown_labels, shown_blocks, shown_support};
 ghost use Rattle.quotient_draft.specs.Basis.{IsOver};
@@ -72,7 +72,7 @@ fn merge_pairs(
     requires graph { HasShownGraph base.now draft.old }
     ensures over { OnOk result (IsOver base.now.blocks.block_of base.now.blocks.labels draft.new) }
     ensures merged { OnOk result ((s : Shape) → IsShown s base.now draft.old → AreShownSuspects s base.now draft.old (λ b. IsTrue (has suspects.old b)) → IsDone s (shown_blocks base.now draft.old) (shown_blocks base.now draft.new)) }
-    ensures supports { OnOk result ((g : Graph) → AreSupports g (shown_blocks base.now draft.old) (shown_support base.now draft.old) → AreSupports g (shown_blocks base.now draft.new) (shown_support base.now draft.new)) }
+    ensures supports { OnOk result ((g : Graph) → AreEdgeCounts g (shown_blocks base.now draft.old) (shown_support base.now draft.old) → AreEdgeCounts g (shown_blocks base.now draft.new) (shown_support base.now draft.new)) }
     ensures named { OnOk result ((names : ℕ → Option ℕ) → AreNamed (shown_blocks base.now draft.old) (at (shown_labels base.now draft.old)) names → AreNamed (shown_blocks base.now draft.new) (at (shown_labels base.now draft.new)) names) }
 {
     'pairs: while let Some((a, b)) = next_pair(base, draft, suspects, rooms)? {
@@ -100,7 +100,7 @@ pub fn merge(
     requires graph { HasGraph (shown_blocks base.now draft.old) (at (shown_labels base.now draft.old)) (shown_support base.now draft.old) }
     ensures over { OnOk result (IsOver base.now.blocks.block_of base.now.blocks.labels draft.new) }
     ensures merged { OnOk result ((s : Shape) → IsViewed s (shown_blocks base.now draft.old) (at (shown_labels base.now draft.old)) (shown_joined base.now draft.old) → AreSuspects s (shown_blocks base.now draft.old) (λ b. IsTrue (has suspects.now b)) → IsDone s (shown_blocks base.now draft.old) (shown_blocks base.now draft.new)) }
-    ensures supports { OnOk result ((g : Graph) → AreSupports g (shown_blocks base.now draft.old) (shown_support base.now draft.old) → AreSupports g (shown_blocks base.now draft.new) (shown_support base.now draft.new)) }
+    ensures supports { OnOk result ((g : Graph) → AreEdgeCounts g (shown_blocks base.now draft.old) (shown_support base.now draft.old) → AreEdgeCounts g (shown_blocks base.now draft.new) (shown_support base.now draft.new)) }
     ensures named { OnOk result ((names : ℕ → Option ℕ) → AreNamed (shown_blocks base.now draft.old) (at (shown_labels base.now draft.old)) names → AreNamed (shown_blocks base.now draft.new) (at (shown_labels base.now draft.new)) names) }
 {
     let mut waiting = Suspects::new(alloc);

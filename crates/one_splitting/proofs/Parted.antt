@@ -13,14 +13,14 @@ use Rattle.bisim_spec.specs.Stability.{StableBut}
 use Rattle.bisim_spec.specs.Bisimilarity.{Covers}
 use Rattle.bisim_spec.proofs.Bisimilar.{some_of, is_some_at}
 use Rattle.bisim_spec.proofs.Together.{together_sym}
-use Rattle.upkeep_spec.specs.Rounds.{AreAlike}
+use Rattle.upkeep_spec.specs.Rounds.{MayStayTogether}
 use Rattle.upkeep_spec.proofs.Splitting.{same_but_moved, same_but_on, within_on}
 use Rattle.upkeep_spec.proofs.Sums.{first_has, rest_apart}
 use Rattle.graph_update.proofs.NeighbourLists.{and_one}
 use Rattle.upkeep_spec.specs.Named.{AreNamed, AreNamedOff}
 use Rattle.one_splitting.specs.Going.{KeepLabels, AreBlocks}
 use Rattle.one_splitting.proofs.Named.{some_kept}
-use Rattle.upkeep_spec.specs.Splits.{IsClosed, IsSplit}
+use Rattle.upkeep_spec.specs.Splits.{IsClosed, IsSplitInside}
 use Rattle.one_splitting.proofs.Apart.{IsApart}
 use Rattle.one_splitting.proofs.Chosen.{has_push}
 use Rattle.one_splitting.specs.Parting.{either, IsParting, IsFirst}
@@ -28,7 +28,7 @@ use Rattle.one_splitting.specs.Parting.{either, IsParting, IsFirst}
 both_off : (x y : Bool) → x ≡ false → y ≡ false → (x || y) ≡ false
 both_off x y a b = rw (a, b) refl
 
-alike_self : (s : Shape) (p : List (Option ℕ)) (n : ℕ) → IsShape s → IsPartition s p → AreAlike s p n n
+alike_self : (s : Shape) (p : List (Option ℕ)) (n : ℕ) → IsShape s → IsPartition s p → MayStayTogether s p n n
 alike_self s p n shape partition = record {
   label = refl;
   parents = λ q e. let b = some_of (at p q) (partition.live q (shape.from q n e)) in (q, e, (b.0, b.1, b.1));
@@ -74,13 +74,13 @@ part_stays s inside first p next rest rest2 made t shape alone is_first a = reco
     off : (n : ℕ) → IsFalse (either (has next) rest2 n) → n ≢ t → IsFalse (either (has next) rest n)
     off n h ne = (let f = or_parts (has next n) (rest2 n) h in both_off (has next n) (rest n) f.0 (is_first.only n f.1 ne))
 
-    alike : (u v : ℕ) → IsFalse (either (has next) rest2 u) → IsFalse (either (has next) rest2 v) → Together p u v → AreAlike s p u v
+    alike : (u v : ℕ) → IsFalse (either (has next) rest2 u) → IsFalse (either (has next) rest2 v) → Together p u v → MayStayTogether s p u v
     alike u v nu nv k = elim (eqb_tells u t) [
-      | inl x ↦ subst (λ m. AreAlike s p u m) (both u v x.1 k) (alike_self s p u shape a.stable.partition)
+      | inl x ↦ subst (λ m. MayStayTogether s p u m) (both u v x.1 k) (alike_self s p u shape a.stable.partition)
       | inr x ↦ elim (eqb_tells v t) [
         | inl y ↦ (
             let same : v ≡ u = both v u y.1 (together_sym p u v k) in
-            subst (λ m. AreAlike s p m v) same (alike_self s p v shape a.stable.partition))
+            subst (λ m. MayStayTogether s p m v) same (alike_self s p v shape a.stable.partition))
         | inr y ↦ record { label = a.stable.label u v (off u nu x.1) (off v nv y.1) k; parents = a.stable.parents u v (off u nu x.1) (off v nv y.1) k }
       ]
     ]
@@ -237,7 +237,7 @@ parting_none s inside p rest st = record {
 
 -- at the end, with what is looked at next in any order
 pub parting_done : (s : Shape) (inside : ℕ → Bool) (first p : List (Option ℕ)) (next next2 : List ℕ) (rest : ℕ → Bool) (made : List ℕ) → ((n : ℕ) → IsFalse (rest n))
-    → ((n : ℕ) → has next2 n ≡ has next n) → IsParting s inside first p next rest made → IsSplit s inside first p next2 made
+    → ((n : ℕ) → has next2 n ≡ has next n) → IsParting s inside first p next rest made → IsSplitInside s inside first p next2 made
 parting_done s inside first p next next2 rest made none same a = record {
   stable = record {
     partition = a.stable.partition;

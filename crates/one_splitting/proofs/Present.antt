@@ -17,7 +17,7 @@ use Rattle.bisim_spec.specs.Supports.{edges_between}
 use Rattle.bisim_spec.proofs.Bisimilar.{is_some_at}
 use Rattle.bisim_spec.proofs.Together.{together_some, together_sym}
 use Rattle.upkeep_spec.specs.Named.{AreNamed, AreNamedOff}
-use Rattle.upkeep_spec.specs.Supported.{AreSupports}
+use Rattle.upkeep_spec.specs.Supported.{AreEdgeCounts}
 use Rattle.one_splitting.specs.Going.{AreLive, KeepLabels}
 use Rattle.one_splitting.proofs.Named.{some_kept}
 
@@ -160,8 +160,8 @@ live_kept p p2 labels labels2 live keep same = record {
 }
 
 -- supports are right still where neither they nor the blocks of nodes have changed
-pub supports_stay : (g : Graph) (p p2 : List (Option ℕ)) (support support2 : ℕ → ℕ → ℕ) → AreSupports g p support → p2 ≡ p → ((x y : ℕ) → support2 x y ≡ support x y)
-    → AreSupports g p2 support2
+pub supports_stay : (g : Graph) (p p2 : List (Option ℕ)) (support support2 : ℕ → ℕ → ℕ) → AreEdgeCounts g p support → p2 ≡ p → ((x y : ℕ) → support2 x y ≡ support x y)
+    → AreEdgeCounts g p2 support2
 supports_stay g p p2 support support2 a same told = record { each = λ x y. told x y ∙ a.each x y ∙ ap (λ (xs : List (Option ℕ)). edges_between g.edges xs x y) (sym same) }
 
 pub labels_kept : (labels labels2 : ℕ → Option ℕ) (b d : ℕ) → labels b ≡ None → ((c : ℕ) → labels2 c ≡ cond (nat_eq c b) (Some d) (labels c)) → KeepLabels labels labels2

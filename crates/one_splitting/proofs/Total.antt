@@ -14,7 +14,7 @@ use Rattle.graph_update.specs.Pending.{Pending, graph_after, lost_edge, lost_fro
 use Rattle.bisim_spec.specs.Weights.{parent_count, child_count, weight_at, weight, size_of}
 use Rattle.upkeep_spec.proofs.Sums.{sum_without, few_listed, blocks_few, first_has}
 use Rattle.one_splitting.specs.Costs.{move_cost, round_cost}
-use Rattle.upkeep_spec.specs.Splits.{IsClosed, IsSplit}
+use Rattle.upkeep_spec.specs.Splits.{IsClosed, IsSplitInside}
 use Rattle.one_splitting.specs.Costs.{HasCost, going, ended}
 use Rattle.one_splitting.proofs.Bounds.{round_most}
 
@@ -22,7 +22,7 @@ pub closed_all : (s : Shape) → IsClosed s (λ n. true)
 closed_all s = record { children = λ p n h e. refl }
 
 -- no more blocks are made than there are nodes inside
-pub made_few : (s : Shape) (inside : ℕ → Bool) (first p : List (Option ℕ)) (next made : List ℕ) → IsShape s → IsSplit s inside first p next made → length made ≤ size_of s inside
+pub made_few : (s : Shape) (inside : ℕ → Bool) (first p : List (Option ℕ)) (next made : List ℕ) → IsShape s → IsSplitInside s inside first p next made → length made ≤ size_of s inside
 made_few s inside first p next made shape split = blocks_few s.size p made inside split.made_once (λ b h.
     let n = split.made_some b h in
     (n.0, shape.below n.0 (split.stable.partition.only n.0 (is_some_at (at p n.0) b n.1)), split.made_inside b n.0 h n.1, n.1))
@@ -132,7 +132,7 @@ most_within r w made spent spent2 cost next (going c) some heavy few most added 
 
 -- a round over what is to be looked at
 pub round_within : (a : Pending) (inside : ℕ → Bool) (first p : List (Option ℕ)) (next made : List ℕ) → IsShape (shape_of (graph_after a)) → IsDistinct nat_eq next
-    → IsSplit (shape_of (graph_after a)) inside first p next made → sum_by (round_cost a) next ≤ 3 * weight (shape_of (graph_after a)) inside + 3
+    → IsSplitInside (shape_of (graph_after a)) inside first p next made → sum_by (round_cost a) next ≤ 3 * weight (shape_of (graph_after a)) inside + 3
 round_within a inside first p next made shape once split =
     round_most a inside next once (λ n h. (shape.below n (split.next_nodes n h), split.next_inside n h))
 
@@ -140,7 +140,7 @@ first_of : (next : List ℕ) → 0 < length next → (n : ℕ) × (has next n �
 first_of [] h = absurd (omega (arith, h))
 first_of (x ∷ xs) h = (x, first_has x xs)
 
-pub next_heavy : (s : Shape) (inside : ℕ → Bool) (first p : List (Option ℕ)) (next made : List ℕ) → IsShape s → IsSplit s inside first p next made → 0 < length next → 3 ≤ weight s inside
+pub next_heavy : (s : Shape) (inside : ℕ → Bool) (first p : List (Option ℕ)) (next made : List ℕ) → IsShape s → IsSplitInside s inside first p next made → 0 < length next → 3 ≤ weight s inside
 next_heavy s inside first p next made shape split some =
     let n = first_of next some in
     let q = split.next_from n.0 n.1 in

@@ -5,17 +5,17 @@ use Rattle.px_spec.specs.Members.{at, has}
 use Rattle.px_spec.specs.Shapes.{Shape, IsNode, IsParent}
 use Rattle.bisim_spec.specs.Partitions.{Together}
 use Rattle.bisim_spec.specs.Stability.{StableBut}
-use Rattle.upkeep_spec.specs.Rounds.{IsWithin, SameBut}
+use Rattle.upkeep_spec.specs.Rounds.{IsRefinement, SameBut}
 
 -- passes one of two tests
 abbrev pub either : (ℕ → Bool) → (ℕ → Bool) → ℕ → Bool
 either f g n = f n || g n
 
 -- Targets so far: the partition is stable but maybe at the targets that are left and the nodes that are looked at next, and for
--- the rest as for `IsSplit`.
+-- the rest as for `IsSplitInside`.
 pub record IsParting (s : Shape) (inside : ℕ → Bool) (first p : List (Option ℕ)) (next : List ℕ) (rest : ℕ → Bool) (made : List ℕ) : Type 0 where
   pub stable : StableBut s p (either (has next) rest)
-  pub within : IsWithin first p
+  pub within : IsRefinement first p
   pub same : SameBut first p inside
   pub labels : (u v : ℕ) → IsFalse (rest u) → IsFalse (rest v) → Together p u v → s.label u ≡ s.label v
   pub next_nodes : (n : ℕ) → IsTrue (has next n) → IsNode s n

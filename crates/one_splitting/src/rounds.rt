@@ -6,8 +6,8 @@ ghost use Rattle.px_spec.specs.Graphs.{is_live, has_edge};
 ghost use Rattle.px_spec.specs.Shapes.{shape_of, IsShape};
 ghost use Rattle.bisim_spec.specs.Partitions.{IsPartition};
 ghost use Rattle.upkeep_spec.specs.Named.{AreNamed};
-ghost use Rattle.upkeep_spec.specs.Splits.{IsClosed, IsSplit};
-ghost use Rattle.upkeep_spec.specs.Supported.{AreSupports};
+ghost use Rattle.upkeep_spec.specs.Splits.{IsClosed, IsSplitInside};
+ghost use Rattle.upkeep_spec.specs.Supported.{AreEdgeCounts};
 ghost use Rattle.graph_update.specs.Pending.{graph_after};
 ghost use Rattle.quotient_draft.specs.Drafts.{shown_blocks, shown_labels, shown_support};
 ghost use Rattle.quotient_draft.specs.Basis.{IsOver};
@@ -41,11 +41,11 @@ fn move_one<L: Ledger>(
     requires live { IsTrue (is_live (graph_after after.now) n) }
     requires partition { IsPartition (shape_of (graph_after after.now)) (shown_blocks base.now draft.old) }
     requires block { IfSome goal (λ b. IsSome (at (shown_labels base.now draft.old) b)) }
-    requires supports { AreSupports (graph_after after.now) (shown_blocks base.now draft.old) (shown_support base.now draft.old) }
+    requires supports { AreEdgeCounts (graph_after after.now) (shown_blocks base.now draft.old) (shown_support base.now draft.old) }
     ensures over { OnOk result (IsOver base.now.blocks.block_of base.now.blocks.labels draft.new) }
     ensures moved { OnOk result ((m : ℕ) → at (shown_blocks base.now draft.new) m ≡ (if nat_eq m n && is_some goal then goal else at (shown_blocks base.now draft.old) m)) }
     ensures added { draft.new.added ≡ draft.old.added }
-    ensures supports { OnOk result (AreSupports (graph_after after.now) (shown_blocks base.now draft.new) (shown_support base.now draft.new)) }
+    ensures supports { OnOk result (AreEdgeCounts (graph_after after.now) (shown_blocks base.now draft.new) (shown_support base.now draft.new)) }
     ensures next { OnOk result ((m : ℕ) → has next.new.items m ≡ (has next.old.items m || (is_some goal && has_edge (graph_after after.now) n m))) }
     ensures cost { steps.new ≤ steps.old + move_cost after.now n }
 {
@@ -80,12 +80,12 @@ fn move_nodes<L: Ledger>(
     requires count { length numbers.now ≡ length nodes.now }
     requires partition { IsPartition (shape_of (graph_after after.now)) (shown_blocks base.now draft.old) }
     requires blocks { AreLabelled goals.now (at (shown_labels base.now draft.old)) }
-    requires supports { AreSupports (graph_after after.now) (shown_blocks base.now draft.old) (shown_support base.now draft.old) }
+    requires supports { AreEdgeCounts (graph_after after.now) (shown_blocks base.now draft.old) (shown_support base.now draft.old) }
     ensures over { OnOk result (IsOver base.now.blocks.block_of base.now.blocks.labels draft.new) }
     ensures gone { OnOk result (HaveGone (shown_blocks base.now draft.old) (shown_blocks base.now draft.new) nodes.now numbers.now goals.now (length nodes.now)) }
     ensures next { IfOk result (λ next. AreNext (shape_of (graph_after after.now)) nodes.now numbers.now goals.now (length nodes.now) next.items) }
     ensures added { OnOk result (draft.new.added ≡ draft.old.added) }
-    ensures supports { OnOk result (AreSupports (graph_after after.now) (shown_blocks base.now draft.new) (shown_support base.now draft.new)) }
+    ensures supports { OnOk result (AreEdgeCounts (graph_after after.now) (shown_blocks base.now draft.new) (shown_support base.now draft.new)) }
     ensures cost { steps.new ≤ steps.old + sum_by (move_cost after.now) nodes.now }
 {
     let mut near = Near::new(alloc);
@@ -114,13 +114,13 @@ pub(crate) fn round<L: Ledger>(
     requires partition { IsPartition (shape_of (graph_after after.now)) (shown_blocks base.now draft.old) }
     requires once { IsDistinct nat_eq nodes.now }
     requires made { AreBlocks (at (shown_labels base.now draft.old)) made.old.items }
-    requires supports { AreSupports (graph_after after.now) (shown_blocks base.now draft.old) (shown_support base.now draft.old) }
+    requires supports { AreEdgeCounts (graph_after after.now) (shown_blocks base.now draft.old) (shown_support base.now draft.old) }
     ensures over { OnOk result (IsOver base.now.blocks.block_of base.now.blocks.labels draft.new) }
-    ensures split { IfOk result (λ next. (inside : ℕ → Bool) (first : List (Option ℕ)) → IsClosed (shape_of (graph_after after.now)) inside → IsSplit (shape_of (graph_after after.now)) inside first (shown_blocks base.now draft.old) nodes.now made.old.items → IsSplit (shape_of (graph_after after.now)) inside first (shown_blocks base.now draft.new) next.items made.new.items) }
+    ensures split { IfOk result (λ next. (inside : ℕ → Bool) (first : List (Option ℕ)) → IsClosed (shape_of (graph_after after.now)) inside → IsSplitInside (shape_of (graph_after after.now)) inside first (shown_blocks base.now draft.old) nodes.now made.old.items → IsSplitInside (shape_of (graph_after after.now)) inside first (shown_blocks base.now draft.new) next.items made.new.items) }
     ensures once { IfOk result (λ next. IsDistinct nat_eq next.items) }
     ensures named { OnOk result ((names : ℕ → Option ℕ) → AreNamed (shown_blocks base.now draft.old) (at (shown_labels base.now draft.old)) names → AreNamed (shown_blocks base.now draft.new) (at (shown_labels base.now draft.new)) names) }
     ensures made { OnOk result (AreBlocks (at (shown_labels base.now draft.new)) made.new.items) }
-    ensures supports { OnOk result (AreSupports (graph_after after.now) (shown_blocks base.now draft.new) (shown_support base.now draft.new)) }
+    ensures supports { OnOk result (AreEdgeCounts (graph_after after.now) (shown_blocks base.now draft.new) (shown_support base.now draft.new)) }
     ensures least { OnOk result (length made.old.items ≤ length made.new.items) }
     ensures more { IfOk result (λ next. (length made.old.items < length made.new.items) ⊎ (next.items ≡ [])) }
     ensures cost { steps.new ≤ steps.old + sum_by (round_cost after.now) nodes.now }

@@ -9,8 +9,8 @@ ghost use Rattle.bisim_spec.specs.Partitions.{IsPartition};
 ghost use Rattle.bisim_spec.specs.Stability.{StableBut};
 ghost use Rattle.bisim_spec.specs.Weights.{size_of, weight};
 ghost use Rattle.upkeep_spec.specs.Named.{AreNamed, AreNamedOff};
-ghost use Rattle.upkeep_spec.specs.Splits.{IsClosed, IsSplit};
-ghost use Rattle.upkeep_spec.specs.Supported.{AreSupports};
+ghost use Rattle.upkeep_spec.specs.Splits.{IsClosed, IsSplitInside};
+ghost use Rattle.upkeep_spec.specs.Supported.{AreEdgeCounts};
 ghost use Rattle.graph_update.specs.Pending.{graph_after};
 ghost use Rattle.quotient_draft.specs.Drafts.{shown_blocks, shown_labels, shown_support};
 ghost use Rattle.quotient_draft.specs.Basis.{IsOver};
@@ -92,13 +92,13 @@ fn part_one<L: Ledger>(
     requires partition { IsPartition (shape_of (graph_after after.now)) (shown_blocks base.now draft.old) }
     requires node { IsTrue (is_live (graph_after after.now) target) }
     requires made { AreBlocks (at (shown_labels base.now draft.old)) made.old.items }
-    requires supports { AreSupports (graph_after after.now) (shown_blocks base.now draft.old) (shown_support base.now draft.old) }
+    requires supports { AreEdgeCounts (graph_after after.now) (shown_blocks base.now draft.old) (shown_support base.now draft.old) }
     ensures over { OnOk result (IsOver base.now.blocks.block_of base.now.blocks.labels draft.new) }
     ensures live { OnOk result (AreLive (shown_blocks base.now draft.new) (at (shown_labels base.now draft.new))) }
     ensures parting { OnOk result ((inside : ℕ → Bool) (first : List (Option ℕ)) (rest rest2 : ℕ → Bool) → IsClosed (shape_of (graph_after after.now)) inside → IsTrue (inside target) → IsFirst rest rest2 target → IsParting (shape_of (graph_after after.now)) inside first (shown_blocks base.now draft.old) next.old.items rest made.old.items → IsParting (shape_of (graph_after after.now)) inside first (shown_blocks base.now draft.new) next.new.items rest2 made.new.items) }
     ensures named { OnOk result ((rest rest2 : ℕ → Bool) → IsFirst rest rest2 target → AreNamedOff rest (shown_blocks base.now draft.old) (at (shown_labels base.now draft.old)) (label_number (graph_after after.now)) → AreNamedOff rest2 (shown_blocks base.now draft.new) (at (shown_labels base.now draft.new)) (label_number (graph_after after.now))) }
     ensures made { OnOk result (AreBlocks (at (shown_labels base.now draft.new)) made.new.items) }
-    ensures supports { OnOk result (AreSupports (graph_after after.now) (shown_blocks base.now draft.new) (shown_support base.now draft.new)) }
+    ensures supports { OnOk result (AreEdgeCounts (graph_after after.now) (shown_blocks base.now draft.new) (shown_support base.now draft.new)) }
     ensures charged { OnOk result ((length made.old.items < length made.new.items) ⊎ ((length made.new.items ≡ length made.old.items) × (steps.new ≡ steps.old))) }
     ensures cost { steps.new ≤ steps.old + move_cost after.now target }
 {
@@ -131,13 +131,13 @@ fn part_all<L: Ledger>(
     requires stable { StableBut (shape_of (graph_after after.now)) (shown_blocks base.now draft.old) (has targets.now) }
     requires named { AreNamedOff (has targets.now) (shown_blocks base.now draft.old) (at (shown_labels base.now draft.old)) (label_number (graph_after after.now)) }
     requires none { made.old.items ≡ [] }
-    requires supports { AreSupports (graph_after after.now) (shown_blocks base.now draft.old) (shown_support base.now draft.old) }
+    requires supports { AreEdgeCounts (graph_after after.now) (shown_blocks base.now draft.old) (shown_support base.now draft.old) }
     ensures over { OnOk result (IsOver base.now.blocks.block_of base.now.blocks.labels draft.new) }
-    ensures split { IfOk result (λ next. (inside : ℕ → Bool) → IsClosed (shape_of (graph_after after.now)) inside → ((n : ℕ) → IsTrue (has targets.now n) → IsTrue (inside n)) → IsSplit (shape_of (graph_after after.now)) inside (shown_blocks base.now draft.old) (shown_blocks base.now draft.new) next.items made.new.items) }
+    ensures split { IfOk result (λ next. (inside : ℕ → Bool) → IsClosed (shape_of (graph_after after.now)) inside → ((n : ℕ) → IsTrue (has targets.now n) → IsTrue (inside n)) → IsSplitInside (shape_of (graph_after after.now)) inside (shown_blocks base.now draft.old) (shown_blocks base.now draft.new) next.items made.new.items) }
     ensures once { IfOk result (λ next. IsDistinct nat_eq next.items) }
     ensures named { OnOk result (AreNamed (shown_blocks base.now draft.new) (at (shown_labels base.now draft.new)) (label_number (graph_after after.now))) }
     ensures made { OnOk result (AreBlocks (at (shown_labels base.now draft.new)) made.new.items) }
-    ensures supports { OnOk result (AreSupports (graph_after after.now) (shown_blocks base.now draft.new) (shown_support base.now draft.new)) }
+    ensures supports { OnOk result (AreEdgeCounts (graph_after after.now) (shown_blocks base.now draft.new) (shown_support base.now draft.new)) }
     ensures charged { OnOk result ((w : ℕ) → ((n : ℕ) → IsTrue (has targets.now n) → move_cost after.now n ≤ w) → steps.new ≤ steps.old + length made.new.items * w) }
     ensures cost { steps.new ≤ steps.old + sum_by (move_cost after.now) targets.now }
 {
@@ -170,12 +170,12 @@ pub fn split<L: Ledger>(
     requires stable { StableBut (shape_of (graph_after after.now)) (shown_blocks base.now draft.old) (has targets.now) }
     requires named { AreNamedOff (has targets.now) (shown_blocks base.now draft.old) (at (shown_labels base.now draft.old)) (label_number (graph_after after.now)) }
     requires none { made.old.items ≡ [] }
-    requires supports { AreSupports (graph_after after.now) (shown_blocks base.now draft.old) (shown_support base.now draft.old) }
+    requires supports { AreEdgeCounts (graph_after after.now) (shown_blocks base.now draft.old) (shown_support base.now draft.old) }
     ensures over { OnOk result (IsOver base.now.blocks.block_of base.now.blocks.labels draft.new) }
     ensures named { OnOk result (AreNamed (shown_blocks base.now draft.new) (at (shown_labels base.now draft.new)) (label_number (graph_after after.now))) }
-    ensures split { OnOk result ((inside : ℕ → Bool) → IsClosed (shape_of (graph_after after.now)) inside → ((n : ℕ) → IsTrue (has targets.now n) → IsTrue (inside n)) → IsSplit (shape_of (graph_after after.now)) inside (shown_blocks base.now draft.old) (shown_blocks base.now draft.new) [] made.new.items) }
+    ensures split { OnOk result ((inside : ℕ → Bool) → IsClosed (shape_of (graph_after after.now)) inside → ((n : ℕ) → IsTrue (has targets.now n) → IsTrue (inside n)) → IsSplitInside (shape_of (graph_after after.now)) inside (shown_blocks base.now draft.old) (shown_blocks base.now draft.new) [] made.new.items) }
     ensures made { OnOk result ((b : ℕ) → IsTrue (has made.new.items b) → IsSome (at (shown_labels base.now draft.new) b)) }
-    ensures supports { OnOk result (AreSupports (graph_after after.now) (shown_blocks base.now draft.new) (shown_support base.now draft.new)) }
+    ensures supports { OnOk result (AreEdgeCounts (graph_after after.now) (shown_blocks base.now draft.new) (shown_support base.now draft.new)) }
     ensures cost { (inside : ℕ → Bool) → IsClosed (shape_of (graph_after after.now)) inside → ((n : ℕ) → IsTrue (has targets.now n) → IsTrue (inside n)) → steps.new ≤ steps.old + 4 * ((size_of (shape_of (graph_after after.now)) inside + 1) * weight (shape_of (graph_after after.now)) inside) }
 {
     let present = with_blocks(alloc, base, draft, targets)?;

@@ -8,7 +8,7 @@ use Rattle.bisim_spec.specs.Partitions.{Together, IsPartition}
 use Rattle.bisim_spec.specs.Stability.{StableBut}
 use Rattle.bisim_spec.proofs.Bisimilar.{none_or_some, is_some_at}
 use Rattle.bisim_spec.proofs.Together.{together_sym}
-use Rattle.upkeep_spec.specs.Rounds.{AreAlike, IsRound, IsWithin, AreGoals}
+use Rattle.upkeep_spec.specs.Rounds.{MayStayTogether, IsRound, IsRefinement, AreGoals}
 
 abbrev pub is_moved : (ℕ → Option ℕ) → ℕ → Bool
 is_moved goal n = is_some (goal n)
@@ -19,7 +19,7 @@ none_of (Some x) h = absurd (true≢false h)
 
 -- where two nodes that are together came from
 data Came (s : Shape) (p : List (Option ℕ)) (looked : ℕ → Bool) (u v : ℕ) : Type 0 where
-  grouped : Together p u v → AreAlike s p u v → Came s p looked u v
+  grouped : Together p u v → MayStayTogether s p u v → Came s p looked u v
   rested : Together p u v → IsFalse (looked u) → IsFalse (looked v) → Came s p looked u v
 
 came : (s : Shape) (p p2 : List (Option ℕ)) (looked : ℕ → Bool) (group : ℕ → ℕ) (goal : ℕ → Option ℕ) → AreGoals s p p2 looked group goal
@@ -49,7 +49,7 @@ came s p p2 looked group goal g u v (b, bu, bv) = elim (none_or_some (goal u)) [
   ]
 ]
 
-pub goals_within : (s : Shape) (p p2 : List (Option ℕ)) (looked : ℕ → Bool) (group : ℕ → ℕ) (goal : ℕ → Option ℕ) → AreGoals s p p2 looked group goal → IsWithin p p2
+pub goals_within : (s : Shape) (p p2 : List (Option ℕ)) (looked : ℕ → Bool) (group : ℕ → ℕ) (goal : ℕ → Option ℕ) → AreGoals s p p2 looked group goal → IsRefinement p p2
 goals_within s p p2 looked group goal g = record { within = λ u v t. elim (came s p p2 looked group goal g u v t) [ grouped k a ↦ k | rested k fu fv ↦ k ] }
 
 -- a round, where the partition was stable but maybe at the nodes that are looked at

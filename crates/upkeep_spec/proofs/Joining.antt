@@ -11,7 +11,7 @@ use Rattle.bisim_spec.proofs.Supported.{support_joined, joined_support}
 use Rattle.bisim_spec.specs.Targets.{KeepsParents, target}
 use Rattle.upkeep_spec.specs.Merges.{AreSuspects}
 use Rattle.bisim_spec.specs.OneStep.{OneStep}
-use Rattle.upkeep_spec.specs.Supported.{AreSupports}
+use Rattle.upkeep_spec.specs.Supported.{AreEdgeCounts}
 use Rattle.upkeep_spec.specs.Named.{IsLabelled}
 use Rattle.upkeep_spec.proofs.OneSteps.{Stages, split_stable, split_suspects, one_step_from}
 use Rattle.upkeep_spec.specs.Viewed.{IsViewed, IsDone}
@@ -19,7 +19,7 @@ use Rattle.upkeep_spec.specs.Suspected.{AreSuspected}
 
 -- where the supports are right, blocks are joined exactly where there is support
 pub viewed_supports : (g : Graph) (block : List (Option ℕ)) (labels : ℕ → Option ℕ) (support : ℕ → ℕ → ℕ) (joined : ℕ → ℕ → Bool) → IsShape (shape_of g) → Stable (shape_of g) block
-    → IsLabelled (shape_of g) block labels → AreSupports g block support → ((x y : ℕ) → joined x y ≡ nat_lt 0 (support x y)) → IsViewed (shape_of g) block labels joined
+    → IsLabelled (shape_of g) block labels → AreEdgeCounts g block support → ((x y : ℕ) → joined x y ≡ nat_lt 0 (support x y)) → IsViewed (shape_of g) block labels joined
 viewed_supports g block labels support joined shape stable labelled supports is = record {
   shape = shape;
   stable = stable;
@@ -49,7 +49,7 @@ suspected from s s2 p p1 p2 made suspects stages are = record {
 
 -- With the stages of a change and a split, and what merging makes of them: the next partition.
 pub one_step_done : (c : Change) (g : Graph) (p p1 p2 p3 : List (Option ℕ)) (made suspects : List ℕ) (labels : ℕ → Option ℕ) (support : ℕ → ℕ → ℕ) (joined : ℕ → ℕ → Bool)
-    → Stages (target c g) (shape_of g) (shape_of (after c g)) p p1 p2 made → IsLabelled (shape_of (after c g)) p2 labels → AreSupports (after c g) p2 support
+    → Stages (target c g) (shape_of g) (shape_of (after c g)) p p1 p2 made → IsLabelled (shape_of (after c g)) p2 labels → AreEdgeCounts (after c g) p2 support
     → ((x y : ℕ) → joined x y ≡ nat_lt 0 (support x y)) → AreSuspected (target c g) p2 made suspects
     → ((s : Shape) → IsViewed s p2 labels joined → AreSuspects s p2 (λ b. IsTrue (has suspects b)) → IsDone s p2 p3)
     → (KeepsParents c (after c g) p → ⊥) → OneStep g p c (after c g) p3

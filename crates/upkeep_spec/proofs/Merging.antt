@@ -9,7 +9,7 @@ use Rattle.bisim_spec.specs.Stability.{Stable, Minimal, merged, merged_at}
 use Rattle.bisim_spec.proofs.Stable.{stable_label, stable_parents}
 use Rattle.bisim_spec.proofs.Together.{at_merged, merged_keeps, merged_a, merged_b, merged_cases, merged_partition}
 use Rattle.bisim_spec.proofs.Outside.{IsOutside, SameOutside, none_outside}
-use Rattle.upkeep_spec.specs.Merges.{CanMerge, IsMerged, Merges, none, one_more}
+use Rattle.upkeep_spec.specs.Merges.{IsMergeablePair, IsMerged, Merges, none, one_more}
 
 -- a partition with the same blocks is stable too
 pub same_stable : (s : Shape) (p q : List (Option ℕ)) → ((n : ℕ) → at q n ≡ at p n) → Stable s p → Stable s q
@@ -36,7 +36,7 @@ pub merged_from : (a b : ℕ) (p p2 : List (Option ℕ)) → IsMerged a b p p2 �
 merged_from a b p p2 m u v t = (t.0, sym (merged_list a b p p2 m u) ∙ t.1, sym (merged_list a b p p2 m v) ∙ t.2)
 
 -- merging two blocks that can be merged keeps a partition stable
-pub merged_stable : (s : Shape) (p p2 : List (Option ℕ)) (a b : ℕ) → CanMerge s p a b → IsMerged a b p p2 → Stable s p2
+pub merged_stable : (s : Shape) (p p2 : List (Option ℕ)) (a b : ℕ) → IsMergeablePair s p a b → IsMerged a b p p2 → Stable s p2
 merged_stable s p p2 a b can m = same_stable s (merged a b p) p2 (merged_list a b p p2 m) can.can
 
 pub merges_stable : (s : Shape) (p q : List (Option ℕ)) → Merges s p q → Stable s p → Stable s q
@@ -50,7 +50,7 @@ merges_keep s p _ (one_more q p2 a b before can m) u v t = merged_into a b q p2 
 
 -- A merge doesn't join nodes out of reach that were apart before the change.
 pub outside_merged_pair : (s s2 : Shape) (Out : ℕ → Type 0) (p p2 p3 : List (Option ℕ)) → IsOutside s s2 Out → SameOutside p p2 Out → Stable s p → Minimal s p
-    → (a b : ℕ) → CanMerge s2 p2 a b → IsMerged a b p2 p3 → SameOutside p p3 Out
+    → (a b : ℕ) → IsMergeablePair s2 p2 a b → IsMerged a b p2 p3 → SameOutside p p3 Out
 outside_merged_pair s s2 Out p p2 p3 out same st min a b can m = record {
   into = λ x y ox oy t. merged_into a b p2 p3 m x y (merged_keeps a b p2 x y (same.into x y ox oy t));
   back = λ x y ox oy t. elim (merged_cases a b p2 x y (merged_from a b p2 p3 m x y t)) [
@@ -74,7 +74,7 @@ swap_together a b p u v t = elim (merged_cases a b p u v t) [
 ]
 
 -- which of the two goes makes no difference
-pub can_swap : (s : Shape) (p : List (Option ℕ)) (a b : ℕ) → IsPartition s p → CanMerge s p a b → CanMerge s p b a
+pub can_swap : (s : Shape) (p : List (Option ℕ)) (a b : ℕ) → IsPartition s p → IsMergeablePair s p a b → IsMergeablePair s p b a
 can_swap s p a b partition can = record {
   apart = λ e. can.apart (sym e);
   first = can.second;

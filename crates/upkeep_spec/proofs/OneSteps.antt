@@ -22,7 +22,7 @@ use Rattle.upkeep_spec.proofs.Merging.{merges_stable, outside_merges}
 use Rattle.upkeep_spec.proofs.Splitting.{stable_at_end}
 use Rattle.upkeep_spec.proofs.Suspects.{unmarked_suspects}
 use Rattle.upkeep_spec.proofs.Unmoved.{IsFiner, IsUnmoved, none_unmoved}
-use Rattle.upkeep_spec.specs.Splits.{IsClosed, IsSplit}
+use Rattle.upkeep_spec.specs.Splits.{IsClosed, IsSplitInside}
 
 -- what is reached is closed under children
 pub reach_closed : (s : Shape) (from : ℕ → Bool) → IsShape s → IsClosed s (reach s from)
@@ -37,7 +37,7 @@ pub record Stages (from : ℕ → Bool) (s s2 : Shape) (p p1 p2 : List (Option �
   pub minimal : Minimal s p
   pub partition : IsPartition s2 p1
   pub keeps : KeepsBlocks s s2 p p1
-  pub split : IsSplit s2 (reach s2 from) p1 p2 [] made
+  pub split : IsSplitInside s2 (reach s2 from) p1 p2 [] made
 
 pub split_stable : (from : ℕ → Bool) (s s2 : Shape) (p p1 p2 : List (Option ℕ)) (made : List ℕ) → Stages from s s2 p p1 p2 made → Stable s2 p2
 split_stable from s s2 p p1 p2 made g = stable_at_end s2 p2 (has []) (λ n. refl) g.split.stable

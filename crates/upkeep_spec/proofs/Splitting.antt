@@ -7,7 +7,7 @@ use Rattle.bisim_spec.specs.Partitions.{IsPartition}
 use Rattle.bisim_spec.specs.Stability.{StableBut, Stable}
 use Rattle.bisim_spec.specs.Reach.{reach}
 use Rattle.bisim_spec.proofs.Reached.{reach_step}
-use Rattle.upkeep_spec.specs.Rounds.{IsRound, IsWithin, SameBut}
+use Rattle.upkeep_spec.specs.Rounds.{IsRound, IsRefinement, SameBut}
 
 -- nodes that have no moved parent are alike after a round where they are together
 pub round_stable : (s : Shape) (p p2 : List (Option ℕ)) (moved next : ℕ → Bool) → IsPartition s p2 → IsRound s p p2 moved next → StableBut s p2 next
@@ -52,5 +52,5 @@ same_but_on p q r but a b = record {
   back = λ u v nu nv t. a.back u v nu nv (b.back u v nu nv t);
 }
 
-pub within_on : (p q r : List (Option ℕ)) → IsWithin p q → IsWithin q r → IsWithin p r
+pub within_on : (p q r : List (Option ℕ)) → IsRefinement p q → IsRefinement q r → IsRefinement p r
 within_on p q r a b = record { within = λ u v t. a.within u v (b.within u v t) }

@@ -13,7 +13,7 @@ use Rattle.bisim_spec.proofs.Bisimilar.{is_some_at}
 use Rattle.bisim_spec.proofs.Moves.{block_get, block_from}
 use Rattle.bisim_spec.proofs.Together.{together_at, merged_keeps, merged_a, merged_b, merged_cases}
 use Rattle.bisim_spec.proofs.Merging.{mergeable_from, merges_from}
-use Rattle.upkeep_spec.specs.Merges.{CanMerge, IsMerged, AreSuspects, IsChildBlock}
+use Rattle.upkeep_spec.specs.Merges.{IsMergeablePair, IsMerged, AreSuspects, IsChildBlock}
 use Rattle.upkeep_spec.proofs.Merging.{can_swap, unmerged, merged_gone}
 
 -- where none is left, no two blocks can be merged
@@ -25,15 +25,15 @@ minimal_from s p h = record {
 
 -- a block that can't be merged with any is none any more
 pub suspect_cleared : (s : Shape) (p : List (Option ℕ)) (among after : ℕ → Type 0) (c : ℕ) → IsPartition s p → AreSuspects s p among
-    → ((b : ℕ) → CanMerge s p c b → ⊥) → ((b : ℕ) → among b → (b ≡ c) ⊎ after b) → AreSuspects s p after
+    → ((b : ℕ) → IsMergeablePair s p c b → ⊥) → ((b : ℕ) → among b → (b ≡ c) ⊎ after b) → AreSuspects s p after
 suspect_cleared s p among after c partition h none parts = record {
   one = λ a b can. elim (h.one a b can) [
     | inl x ↦ elim (parts a x) [
-      | inl e ↦ absurd (none b (subst (λ m. CanMerge s p m b) e can))
+      | inl e ↦ absurd (none b (subst (λ m. IsMergeablePair s p m b) e can))
       | inr y ↦ inl y
     ]
     | inr x ↦ elim (parts b x) [
-      | inl e ↦ absurd (none a (subst (λ m. CanMerge s p m a) e (can_swap s p a b partition can)))
+      | inl e ↦ absurd (none a (subst (λ m. IsMergeablePair s p m a) e (can_swap s p a b partition can)))
       | inr y ↦ inr y
     ]
   ];
@@ -91,7 +91,7 @@ child_or_not s shape p a c = elim (cases_Bool (any_below s.size (child_outer s p
 
 -- two blocks that are neither the merged one nor children of it could be merged before
 could_before : (s : Shape) (p p2 : List (Option ℕ)) (a b c d : ℕ) → Stable s p → IsMerged a b p p2 → c ≢ a → d ≢ a
-    → (IsChildBlock s p2 a c → ⊥) → (IsChildBlock s p2 a d → ⊥) → CanMerge s p2 c d → CanMerge s p c d
+    → (IsChildBlock s p2 a c → ⊥) → (IsChildBlock s p2 a d → ⊥) → IsMergeablePair s p2 c d → IsMergeablePair s p c d
 could_before s p p2 a b c d st m nc nd oc od can =
     let x = can.first in
     let y = can.second in
@@ -147,7 +147,7 @@ suspects_merged s p p2 a b among after shape st m apart h here children rest = r
 }
 
 -- With which block one can be merged: a parent block of it, or a child of each of its parent blocks.
-pub partner : (s : Shape) (p : List (Option ℕ)) (a b x : ℕ) → CanMerge s p a b → IsChildBlock s p x a → x ≢ a → (b ≡ x) ⊎ IsChildBlock s p x b
+pub partner : (s : Shape) (p : List (Option ℕ)) (a b x : ℕ) → IsMergeablePair s p a b → IsChildBlock s p x a → x ≢ a → (b ≡ x) ⊎ IsChildBlock s p x b
 partner s p a b x can k ne =
     let y = can.second in
     let r = (merges_from s p a b k.onto y.0 can.can k.onto_at y.1).parents.there k.from k.edge in
@@ -158,7 +158,7 @@ partner s p a b x can k ne =
     ]
 
 -- of a block that has no other parent block than itself: the partner has none but these two
-pub partner_alone : (s : Shape) (p : List (Option ℕ)) (a b x : ℕ) → CanMerge s p a b → ((z : ℕ) → IsChildBlock s p z a → z ≡ a) → IsChildBlock s p x b
+pub partner_alone : (s : Shape) (p : List (Option ℕ)) (a b x : ℕ) → IsMergeablePair s p a b → ((z : ℕ) → IsChildBlock s p z a → z ≡ a) → IsChildBlock s p x b
     → (x ≡ a) ⊎ (x ≡ b)
 partner_alone s p a b x can none k =
     let y = can.first in

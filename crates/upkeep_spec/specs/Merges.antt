@@ -5,7 +5,7 @@ use Rattle.px_spec.specs.Shapes.{Shape, IsParent}
 use Rattle.bisim_spec.specs.Stability.{Mergeable, merged_at}
 
 -- two blocks with members, which can be merged
-pub record CanMerge (s : Shape) (p : List (Option ℕ)) (a b : ℕ) : Type 0 where
+pub record IsMergeablePair (s : Shape) (p : List (Option ℕ)) (a b : ℕ) : Type 0 where
   pub apart : a ≢ b
   pub first : (n : ℕ) × (at p n ≡ Some a)
   pub second : (n : ℕ) × (at p n ≡ Some b)
@@ -18,11 +18,11 @@ pub record IsMerged (a b : ℕ) (p p2 : List (Option ℕ)) : Type 0 where
 -- p2 comes of p by merging pairs of blocks, each of which can be merged when its turn comes
 pub data Merges (s : Shape) (p : List (Option ℕ)) : List (Option ℕ) → Type 0 where
   none : Merges s p p
-  one_more : (q p2 : List (Option ℕ)) (a b : ℕ) → Merges s p q → CanMerge s q a b → IsMerged a b q p2 → Merges s p p2
+  one_more : (q p2 : List (Option ℕ)) (a b : ℕ) → Merges s p q → IsMergeablePair s q a b → IsMerged a b q p2 → Merges s p p2
 
 -- of each two blocks that can be merged one is among these
 pub record AreSuspects (s : Shape) (p : List (Option ℕ)) (among : ℕ → Type 0) : Type 0 where
-  pub one : (a b : ℕ) → CanMerge s p a b → among a ⊎ among b
+  pub one : (a b : ℕ) → IsMergeablePair s p a b → among a ⊎ among b
 
 -- some edge leads from a member of a to a member of c
 pub record IsChildBlock (s : Shape) (p : List (Option ℕ)) (a c : ℕ) : Type 0 where

@@ -6,7 +6,7 @@ use Rattle.bisim_spec.specs.Bisimilarity.{Covers}
 use Rattle.bisim_spec.specs.Partitions.{Together}
 
 -- the two may stand in one block: they have one label, and each parent of the one is together with some parent of the other
-pub record AreAlike (s : Shape) (p : List (Option ℕ)) (u v : ℕ) : Type 0 where
+pub record MayStayTogether (s : Shape) (p : List (Option ℕ)) (u v : ℕ) : Type 0 where
   pub label : s.label u ≡ s.label v
   pub parents : Covers (IsParent s) (Together p) u v
 
@@ -14,11 +14,11 @@ pub record AreAlike (s : Shape) (p : List (Option ℕ)) (u v : ℕ) : Type 0 whe
 -- are looked at next.
 pub record IsRound (s : Shape) (p p2 : List (Option ℕ)) (moved next : ℕ → Bool) : Type 0 where
   pub kept : (n : ℕ) → IsFalse (moved n) → at p2 n ≡ at p n
-  pub parted : (u v : ℕ) → Together p2 u v → AreAlike s p u v
+  pub parted : (u v : ℕ) → Together p2 u v → MayStayTogether s p u v
   pub listed : (q n : ℕ) → IsTrue (moved q) → IsParent s q n → IsTrue (next n)
 
 -- each block of p2 lies within one of p
-pub record IsWithin (p p2 : List (Option ℕ)) : Type 0 where
+pub record IsRefinement (p p2 : List (Option ℕ)) : Type 0 where
   pub within : (u v : ℕ) → Together p2 u v → Together p u v
 
 -- nodes that don't pass are together in the one exactly where they are in the other
@@ -36,7 +36,7 @@ pub record AreGoals (s : Shape) (p p2 : List (Option ℕ)) (looked : ℕ → Boo
   pub fresh : (n m b : ℕ) → goal n ≡ Some b → at p m ≡ Some b → ⊥
   pub tells : (n m b : ℕ) → goal n ≡ Some b → goal m ≡ Some b → group n ≡ group m
   pub together : (n m : ℕ) → IsTrue (looked n) → IsTrue (looked m) → group n ≡ group m → Together p n m
-  pub alike : (n m : ℕ) → IsTrue (looked n) → IsTrue (looked m) → group n ≡ group m → AreAlike s p n m
+  pub alike : (n m : ℕ) → IsTrue (looked n) → IsTrue (looked m) → group n ≡ group m → MayStayTogether s p n m
   pub whole : (n m : ℕ) → IsTrue (looked n) → goal n ≡ None → Together p n m → IsTrue (looked m)
   pub one : (n m : ℕ) → IsTrue (looked n) → IsTrue (looked m) → goal n ≡ None → goal m ≡ None → Together p n m → group n ≡ group m
   pub left : (n b : ℕ) → goal n ≡ Some b → (m : ℕ) × Together p n m × (goal m ≡ None)

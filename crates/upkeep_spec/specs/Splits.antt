@@ -5,7 +5,7 @@ use Rattle.px_spec.specs.Members.{has, at}
 use Rattle.px_spec.specs.Shapes.{Shape, IsNode, IsParent}
 use Rattle.bisim_spec.specs.Partitions.{Together}
 use Rattle.bisim_spec.specs.Stability.{StableBut}
-use Rattle.upkeep_spec.specs.Rounds.{IsWithin, SameBut}
+use Rattle.upkeep_spec.specs.Rounds.{IsRefinement, SameBut}
 
 -- children of what passes pass
 pub record IsClosed (s : Shape) (inside : ℕ → Bool) : Type 0 where
@@ -13,9 +13,9 @@ pub record IsClosed (s : Shape) (inside : ℕ → Bool) : Type 0 where
 
 -- Splitting so far: the partition is stable but maybe at the nodes that are looked at next, lies within the first one, and is the
 -- same outside; the blocks that were made have members, all of them inside.
-pub record IsSplit (s : Shape) (inside : ℕ → Bool) (first p : List (Option ℕ)) (next made : List ℕ) : Type 0 where
+pub record IsSplitInside (s : Shape) (inside : ℕ → Bool) (first p : List (Option ℕ)) (next made : List ℕ) : Type 0 where
   pub stable : StableBut s p (has next)
-  pub within : IsWithin first p
+  pub within : IsRefinement first p
   pub same : SameBut first p inside
   pub labels : (u v : ℕ) → Together p u v → s.label u ≡ s.label v
   pub next_nodes : (n : ℕ) → IsTrue (has next n) → IsNode s n

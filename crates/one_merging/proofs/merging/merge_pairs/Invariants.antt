@@ -3,7 +3,7 @@ use Rattle.px_spec.specs.Members.{at, has}
 use Rattle.px_spec.specs.Graphs.{Graph}
 use Rattle.px_spec.specs.Shapes.{Shape}
 use Rattle.upkeep_spec.specs.Named.{AreNamed}
-use Rattle.upkeep_spec.specs.Supported.{AreSupports}
+use Rattle.upkeep_spec.specs.Supported.{AreEdgeCounts}
 use Rattle.quotient_draft.specs.Drafts.{shown_labels, shown_blocks, shown_support}
 use Rattle.quotient_draft.specs.Basis.{IsOver}
 use Rattle.block_joining.specs.Mates.{shown_joined}
@@ -16,7 +16,7 @@ invariant-pairs l = record {
   graph : HasShownGraph l.base l.draft;
   merging : (s : Shape) → IsShown s l.base l.fn.draft → AreShownSuspects s l.base l.fn.draft (λ b. IsTrue (has l.fn.suspects b))
       → IsMerging s (shown_blocks l.base l.fn.draft) (shown_blocks l.base l.draft) (at (shown_labels l.base l.draft)) (shown_joined l.base l.draft) l.suspects;
-  supports : (g : Graph) → AreSupports g (shown_blocks l.base l.fn.draft) (shown_support l.base l.fn.draft) → AreSupports g (shown_blocks l.base l.draft) (shown_support l.base l.draft);
+  supports : (g : Graph) → AreEdgeCounts g (shown_blocks l.base l.fn.draft) (shown_support l.base l.fn.draft) → AreEdgeCounts g (shown_blocks l.base l.draft) (shown_support l.base l.draft);
   named : (names : ℕ → Option ℕ) → AreNamed (shown_blocks l.base l.fn.draft) (at (shown_labels l.base l.fn.draft)) names
       → AreNamed (shown_blocks l.base l.draft) (at (shown_labels l.base l.draft)) names;
 }

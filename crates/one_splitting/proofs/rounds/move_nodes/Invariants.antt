@@ -2,7 +2,7 @@ use Rattle.std.proofs.Common.{◌≡◌, ◌≤◌, ◌+◌, take}
 use Rattle.std.specs.List.{sum_by}
 use Rattle.px_spec.specs.Shapes.{shape_of}
 use Rattle.bisim_spec.specs.Partitions.{IsPartition}
-use Rattle.upkeep_spec.specs.Supported.{AreSupports}
+use Rattle.upkeep_spec.specs.Supported.{AreEdgeCounts}
 use Rattle.graph_update.specs.Pending.{graph_after}
 use Rattle.quotient_draft.specs.Basis.{IsOver}
 use Rattle.quotient_draft.specs.Drafts.{shown_blocks, shown_support}
@@ -16,7 +16,7 @@ invariant-loop-i g l = record {
   partition : IsPartition (shape_of (graph_after l.after)) (shown_blocks l.base l.draft);
   gone : HaveGone (shown_blocks l.base l.initial.draft) (shown_blocks l.base l.draft) l.nodes l.numbers l.goals l.i;
   next : AreNext (shape_of (graph_after l.after)) l.nodes l.numbers l.goals l.i l.next.items;
-  supports : AreSupports (graph_after l.after) (shown_blocks l.base l.draft) (shown_support l.base l.draft);
+  supports : AreEdgeCounts (graph_after l.after) (shown_blocks l.base l.draft) (shown_support l.base l.draft);
   added : l.draft.added ≡ l.initial.draft.added;
   cost : l.steps ≤ l.initial.steps + sum_by (move_cost l.after) (take l.i l.nodes);
 }

@@ -6,7 +6,7 @@ use Rattle.px_spec.specs.Shapes.{shape_of}
 use Rattle.label_graph.specs.Views.{label_number}
 use Rattle.upkeep_spec.specs.Named.{AreNamedOff}
 use Rattle.upkeep_spec.specs.Splits.{IsClosed}
-use Rattle.upkeep_spec.specs.Supported.{AreSupports}
+use Rattle.upkeep_spec.specs.Supported.{AreEdgeCounts}
 use Rattle.graph_update.specs.Pending.{graph_after}
 use Rattle.quotient_draft.specs.Basis.{IsOver}
 use Rattle.quotient_draft.specs.Drafts.{shown_blocks, shown_labels, shown_support}
@@ -22,7 +22,7 @@ invariant-loop-t g l = record {
   parting : (inside : ℕ → Bool) → IsClosed (shape_of (graph_after l.after)) inside → ((n : ℕ) → IsTrue (has l.targets n) → IsTrue (inside n))
       → IsParting (shape_of (graph_after l.after)) inside (shown_blocks l.base l.initial.draft) (shown_blocks l.base l.draft) l.next.items (λ n. has (drop l.t-index l.targets) n) l.made.items;
   named : AreNamedOff (λ n. has (drop l.t-index l.targets) n) (shown_blocks l.base l.draft) (at (shown_labels l.base l.draft)) (label_number (graph_after l.after));
-  supports : AreSupports (graph_after l.after) (shown_blocks l.base l.draft) (shown_support l.base l.draft);
+  supports : AreEdgeCounts (graph_after l.after) (shown_blocks l.base l.draft) (shown_support l.base l.draft);
   made : AreBlocks (at (shown_labels l.base l.draft)) l.made.items;
   charged : (w : ℕ) → ((n : ℕ) → IsTrue (has l.targets n) → move_cost l.after n ≤ w) → l.steps ≤ l.initial.steps + length l.made.items * w;
   cost : l.steps ≤ l.initial.steps + sum_by (move_cost l.after) (take l.t-index l.targets);

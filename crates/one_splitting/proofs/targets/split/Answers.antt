@@ -6,7 +6,7 @@ use Rattle.px_spec.specs.Shapes.{shape_of}
 use Rattle.px_spec.proofs.GraphLaws.{is_shape}
 use Rattle.label_graph.specs.Views.{label_number}
 use Rattle.bisim_spec.specs.Weights.{weight, size_of}
-use Rattle.upkeep_spec.specs.Splits.{IsSplit}
+use Rattle.upkeep_spec.specs.Splits.{IsSplitInside}
 use Rattle.graph_update.specs.Pending.{graph_after}
 use Rattle.quotient_draft.specs.Drafts.{shown_blocks}
 use Rattle.one_splitting.specs.Costs.{round_cost}
@@ -74,7 +74,7 @@ returns-in_err-next-2-clause-cost g c = λ inside closed within.
     let next = c.rounds.next.items in
     let made = c.rounds.made.items in
     let inv = c.rounds.invariant in
-    let split : IsSplit s inside first p next made = inv.split inside closed within in
+    let split : IsSplitInside s inside first p next made = inv.split inside closed within in
     let next_is : c.deref-in-rounds-2.result.now ≡ c.rounds.next.items = c.deref-in-rounds-2.ensures.value in
     let test : c.is_done.result ≡ false = search rules in
     let some = not_done c.is_done.result c.deref-in-rounds.result.now next c.is_done.ensures test c.deref-in-rounds.ensures.value in
@@ -104,13 +104,13 @@ rounds-preserved g c =
     record {
       over = c.in_ok-next-2.ensures.over;
       split = λ inside closed within.
-          c.in_ok-next-2.ensures.split inside first closed (subst (λ xs. IsSplit s inside first p xs made) (sym next_is) (inv.split inside closed within));
+          c.in_ok-next-2.ensures.split inside first closed (subst (λ xs. IsSplitInside s inside first p xs made) (sym next_is) (inv.split inside closed within));
       once = c.in_ok-next-2.ensures.once;
       named = c.in_ok-next-2.ensures.named (label_number (graph_after c.args.after.now)) inv.named;
       supports = c.in_ok-next-2.ensures.supports;
       made = c.in_ok-next-2.ensures.made;
       cost = λ inside closed within.
-          let split : IsSplit s inside first p next made = inv.split inside closed within in
+          let split : IsSplitInside s inside first p next made = inv.split inside closed within in
           cost_more (weight s inside) (length made) (length c.round.new.made.items) (c.rounds.steps - c.args.steps.now) (c.round.new.steps - c.args.steps.now) (sum_by (round_cost a) next)
           next c.in_ok-next-2.next.items (inv.cost inside closed within) some (next_heavy s inside first p next made shape split some)
           (round_within a inside first p next made shape inv.once split) (omega (arith, cost, alike)) c.in_ok-next-2.ensures.least c.in_ok-next-2.ensures.more;
@@ -128,7 +128,7 @@ rounds-smaller g c =
     let some = not_done c.is_done.result c.deref-in-rounds.result.now c.rounds.next.items c.is_done.ensures test c.deref-in-rounds.ensures.value in
     let every : ℕ → Bool = λ m. true in
     let split = c.in_ok-next-2.ensures.split every first (closed_all s)
-    (subst (λ xs. IsSplit s every first p xs c.rounds.made.items) (sym next_is) (inv.split every (closed_all s) (λ n h. refl))) in
+    (subst (λ xs. IsSplitInside s every first p xs c.rounds.made.items) (sym next_is) (inv.split every (closed_all s) (λ n h. refl))) in
     let few = made_few s every first (shown_blocks c.args.base.now c.round.new.draft) c.in_ok-next-2.next.items c.round.new.made.items shape split in
     let nodes = few_nodes s every in
     let more : (length c.rounds.made.items < length c.round.new.made.items) ⊎ (length c.in_ok-next-2.next.items ≡ 0) =

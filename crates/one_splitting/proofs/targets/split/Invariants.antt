@@ -6,8 +6,8 @@ use Rattle.px_spec.specs.Shapes.{shape_of}
 use Rattle.label_graph.specs.Views.{label_number}
 use Rattle.bisim_spec.specs.Weights.{weight}
 use Rattle.upkeep_spec.specs.Named.{AreNamed}
-use Rattle.upkeep_spec.specs.Splits.{IsClosed, IsSplit}
-use Rattle.upkeep_spec.specs.Supported.{AreSupports}
+use Rattle.upkeep_spec.specs.Splits.{IsClosed, IsSplitInside}
+use Rattle.upkeep_spec.specs.Supported.{AreEdgeCounts}
 use Rattle.graph_update.specs.Pending.{graph_after}
 use Rattle.quotient_draft.specs.Basis.{IsOver}
 use Rattle.quotient_draft.specs.Drafts.{shown_blocks, shown_labels, shown_support}
@@ -19,10 +19,10 @@ abbrev pub invariant-rounds : goal.invariant-rounds
 invariant-rounds g l = record {
   over : IsOver l.base.blocks.block_of l.base.blocks.labels l.draft;
   split : (inside : ℕ → Bool) → IsClosed (shape_of (graph_after l.after)) inside → ((n : ℕ) → IsTrue (has l.targets n) → IsTrue (inside n))
-      → IsSplit (shape_of (graph_after l.after)) inside (shown_blocks l.base l.fn.draft) (shown_blocks l.base l.draft) l.next.items l.made.items;
+      → IsSplitInside (shape_of (graph_after l.after)) inside (shown_blocks l.base l.fn.draft) (shown_blocks l.base l.draft) l.next.items l.made.items;
   once : IsDistinct nat_eq l.next.items;
   named : AreNamed (shown_blocks l.base l.draft) (at (shown_labels l.base l.draft)) (label_number (graph_after l.after));
-  supports : AreSupports (graph_after l.after) (shown_blocks l.base l.draft) (shown_support l.base l.draft);
+  supports : AreEdgeCounts (graph_after l.after) (shown_blocks l.base l.draft) (shown_support l.base l.draft);
   made : AreBlocks (at (shown_labels l.base l.draft)) l.made.items;
   cost : (inside : ℕ → Bool) → IsClosed (shape_of (graph_after l.after)) inside → ((n : ℕ) → IsTrue (has l.targets n) → IsTrue (inside n))
       → HasCost (weight (shape_of (graph_after l.after)) inside) (length l.made.items) (l.steps - l.fn.steps) l.next.items;
