@@ -1,12 +1,9 @@
 -- What the calls of an engine make of the state of a run.
-use Rattle.std.proofs.Common.{◌≡◌, ℕ, suc, Bool, true, false, List, [], ◌∷◌, length, Option, None, Some, refl, sym, ap, ◌∙◌, subst, arith, cond, true≢false, Ok, Err}
-use Rattle.std.specs.Prelude.{⊤, not, ◌||◌, ◌&&◌, All, option_and_then, if◌then◌else◌, Result}
+use Rattle.std.proofs.Common.{◌≡◌, ℕ, suc, Bool, true, false, List, [], ◌∷◌, length, Option, None, Some, refl, sym, ap, ◌∙◌, subst, arith, cond, true≢false, Ok}
+use Rattle.std.specs.Prelude.{⊤, not, ◌||◌, All, option_and_then, if◌then◌else◌}
 use Rattle.std.specs.List.{filter}
-use Rattle.px_spec.specs.declared.limits.Limits.{Limits}
-use Rattle.px_spec.specs.declared.refusal.Refusal.{Refusal}
-use Rattle.px_spec.specs.declared.refusal.Refusal.TheVariants.{NoNode, NoEdge, InUse, Limit}
-use Rattle.px_spec.specs.Graphs.{Graph, is_live, has_edge}
-use Rattle.px_spec.specs.Changes.{Change, node, link, unlink, drop, apply, after, with_node, with_edge, without_edge, without_node, node_fits, edge_fits, is_used}
+use Rattle.px_spec.specs.Graphs.{Graph}
+use Rattle.px_spec.specs.Changes.{Change, apply, after}
 use Rattle.px_spec.specs.Shapes.{shape_of}
 use Rattle.bisim_spec.specs.declared.kind.Kind.{Kind}
 use Rattle.bisim_spec.specs.declared.kind.Kind.TheVariants as kind
@@ -20,6 +17,7 @@ use Rattle.pathindex_core.specs.Engines.{Opened, EngineSeen, EachBecomes, IsKept
 use Rattle.pathindex_core.specs.Updates.{IsMoved, IsUpdated}
 use Rattle.pathindex_run.specs.States.{BeginsRun, forgotten, left_out}
 use Rattle.bisim_spec.specs.OneStep.{OneStep}
+use Rattle.bisim_spec.proofs.Differs.{applied_after}
 use Rattle.graph_update.specs.NewChanges.{is_same}
 use Rattle.pathindex_run.specs.Runs.{IsChanged}
 use Rattle.pathindex_run.specs.EngineStates.{state_in}
@@ -153,30 +151,6 @@ weaker R Q f [] (b ∷ bs) h = absurd h
 weaker R Q f (a ∷ xs) [] h = absurd h
 weaker R Q f (a ∷ xs) (b ∷ bs) h = (f a b h.0, weaker R Q f xs bs h.1)
 
-passed : (b : Bool) (r : Result Graph Refusal) (e : Refusal) (h : Graph) → (if b then r else Err e) ≡ Ok h → r ≡ Ok h
-passed true r e h p = p
-passed false r e h p = absurd (cc)
-
-passed_over : (b : Bool) (r : Result Graph Refusal) (e : Refusal) (h : Graph) → (if b then Err e else r) ≡ Ok h → r ≡ Ok h
-passed_over true r e h p = absurd (cc)
-passed_over false r e h p = p
-
-one_graph : (r : Result Graph Refusal) (g h : Graph) → r ≡ Ok g → r ≡ Ok h → h ≡ g
-one_graph r g h e f = cc
-
--- the graph after a change that is accepted
-accepted : (c : Change) (g h : Graph) (limits : Limits) → apply c g limits ≡ Ok h → h ≡ after c g
-accepted (node t) g h limits p = one_graph (Ok (with_node g t)) (with_node g t) h refl (passed (node_fits g limits t) (Ok (with_node g t)) Limit h p)
-accepted (link u v) g h limits p =
-    one_graph (Ok (with_edge g u v)) (with_edge g u v) h refl (passed (edge_fits g limits u v) (Ok (with_edge g u v)) Limit h
-    (passed (is_live g u && is_live g v) (if edge_fits g limits u v then Ok (with_edge g u v) else Err Limit) NoNode h p))
-accepted (unlink u v) g h limits p =
-    one_graph (Ok (without_edge g u v)) (without_edge g u v) h refl (passed (has_edge g u v) (Ok (without_edge g u v)) NoEdge h
-    (passed (is_live g u && is_live g v) (if has_edge g u v then Ok (without_edge g u v) else Err NoEdge) NoNode h p))
-accepted (drop u) g h limits p =
-    one_graph (Ok (without_node g u)) (without_node g u) h refl (passed_over (is_used g u) (Ok (without_node g u)) InUse h
-    (passed (is_live g u) (if is_used g u then Err InUse else Ok (without_node g u)) NoNode h p))
-
 -- the blocks of an index that is found, or of none
 abbrev blocks_found : Option Meaning → List (Option ℕ)
 blocks_found x = blocks_in (option_and_then (λ m. view_at m.views 0) x)
@@ -209,7 +183,7 @@ changed_state c o p h olds news outcome is updated still kinds = record {
   kinds = kinds;
   level = ap (λ x. x.k) is;
   same = still;
-  step = λ s e. subst (λ x. OneStep o.graph (one_in olds) c x (one_in news)) (sym (accepted c o.graph h o.limits outcome)) (one_step c o.graph olds news updated s e);
+  step = λ s e. subst (λ x. OneStep o.graph (one_in olds) c x (one_in news)) (sym (applied_after c o.graph o.limits h outcome)) (one_step c o.graph olds news updated s e);
   none = λ e.
       let empty : (boxes : List Meaning) → has_kind (kinds_of boxes) kind.One ≡ false → one_in boxes ≡ [] =
       λ boxes f. ap (λ x. blocks_in (option_and_then (λ b. view_at b.views 0) x)) (none_found kind.One boxes f) in
