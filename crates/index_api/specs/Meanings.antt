@@ -49,16 +49,16 @@ pub record IsBuilt (old new : Meaning) (g : Graph) (k : ℕ) : Type 0 where
 
 -- How a change leads from one view to the next. The partition of the 1-index moves by one step. The others are told by the
 -- graph after the change alone.
-abbrev pub Steps : Kind → Graph → Option View → Change → Option View → Type 0
-Steps A g o c next = ⊤
-Steps One g o c next = OneStep g (blocks_in o) c (after c g) (blocks_in next)
-Steps Fb g o c next = ⊤
+abbrev pub IsViewStep : Kind → Graph → Option View → Change → Option View → Type 0
+IsViewStep A g o c next = ⊤
+IsViewStep One g o c next = OneStep g (blocks_in o) c (after c g) (blocks_in next)
+IsViewStep Fb g o c next = ⊤
 
 -- these views are what a change makes of an index
 pub record AreNext (old : Meaning) (c : Change) (g : Graph) (views : List (Option View)) : Type 0 where
   pub count : length views ≡ length old.views
   pub fits : Fits old.kind views (after c g)
-  pub step : Steps old.kind g (view_at old.views 0) c (view_at views 0)
+  pub step : IsViewStep old.kind g (view_at old.views 0) c (view_at views 0)
 
 -- the change of the graph is prepared, and nothing else has happened
 pub record IsPrepared (old new : Meaning) (c : Change) (g : Graph) : Type 0 where

@@ -11,7 +11,7 @@ use Rattle.bisim_spec.specs.Bisimilarity.{Bisim}
 use Rattle.bisim_spec.specs.Partitions.{Agrees}
 use Rattle.bisim_spec.specs.Views.{View}
 use Rattle.bisim_spec.specs.Fits.{Fits, FitsAt, FitsOne, view_at}
-use Rattle.index_api.specs.Meanings.{Meaning, IsBuilt, BeginsWhole, Steps, KeepsViews, blocks_in}
+use Rattle.index_api.specs.Meanings.{Meaning, IsBuilt, BeginsWhole, IsViewStep, KeepsViews, blocks_in}
 use Rattle.index_api.specs.Kept.{is_kind, has_kind, kinds_of, index_of, kept_view}
 use Rattle.pathindex_core.specs.Engines.{Opened, EngineSeen, EachBecomes, IsKeptFor, graph_in, level_in}
 use Rattle.pathindex_core.specs.Updates.{IsMoved, IsUpdated}
@@ -163,7 +163,7 @@ step_found c g None (Some b) m f e k = elim f [ ]
 step_found c g (Some a) None m f e k = elim f [ ]
 step_found c g (Some a) (Some b) m (both _ _ r) e k =
     let same : a ≡ m = cc in
-    subst (λ z. Steps z g (view_at a.views 0) c (view_at b.views 0)) (ap (λ n. n.kind) same ∙ k) r.next.step
+    subst (λ z. IsViewStep z g (view_at a.views 0) c (view_at b.views 0)) (ap (λ n. n.kind) same ∙ k) r.next.step
 
 -- so did the one that is kept
 one_step : (c : Change) (g : Graph) (olds news : List Meaning) → EachBecomes (IsUpdated c g) olds news → is_same c g ≡ false → has_kind (kinds_of olds) kind.One ≡ true
