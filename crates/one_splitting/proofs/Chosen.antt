@@ -5,7 +5,7 @@ use Rattle.std.proofs.lemmas.Bool.{cases_lt, both_ways, or_cases, or_left, or_ri
 use Rattle.std.proofs.lemmas.Bool.Decides.{Decides-eqb}
 use Rattle.std.proofs.lemmas.List.{get_or_push, get_or_append_left, get_or_past, length-append}
 use Rattle.px_spec.specs.Members.{has}
-use Rattle.one_splitting.specs.Going.{BeginsAt, goal_at, IsWhole, AreGoing, StaysIf, GoesIf, AreLabelled}
+use Rattle.one_splitting.specs.Going.{BeginsAt, goal_at, IsCountedWhole, AreGoing, StaysIf, GoesIf, GoalsAreBlocks}
 
 -- the blocks in which groups stay, so far
 pub record AreNoted (keys : List (List ℕ)) (goals : List (Option ℕ)) (stays : List ℕ) : Type 0 where
@@ -81,7 +81,7 @@ pub going_stays : (p : List (Option ℕ)) (counts : List (ℕ × ℕ)) (keys : L
 going_stays p counts keys goals own stays stays2 g noted ends (free, added, only) = record {
   whole = λ k o l none e. elim (below_cases goals None k l) [
     | inl before ↦ g.whole k o before (sym (goal_before goals None k before) ∙ none) e
-    | inr here ↦ subst (IsWhole p counts) (sym (one_own keys (length goals) o own (subst (λ j. BeginsAt keys j o) here e) ends)) only
+    | inr here ↦ subst (IsCountedWhole p counts) (sym (one_own keys (length goals) o own (subst (λ j. BeginsAt keys j o) here e) ends)) only
   ];
   one = λ j k o lj lk nj nk ej ek. elim (below_cases goals None j lj) [
     | inl bj ↦ elim (below_cases goals None k lk) [
@@ -144,7 +144,7 @@ noted_stays keys goals own stays stays2 noted ends added = record {
 
 -- a group that goes
 pub going_goes : (p : List (Option ℕ)) (counts : List (ℕ × ℕ)) (keys : List (List ℕ)) (goals : List (Option ℕ)) (labels labels2 : ℕ → Option ℕ) (own b : ℕ) (stays stays2 : List ℕ)
-    → AreGoing p counts keys goals → AreNoted keys goals stays → AreLabelled goals labels → BeginsAt keys (length goals) own
+    → AreGoing p counts keys goals → AreNoted keys goals stays → GoalsAreBlocks goals labels → BeginsAt keys (length goals) own
     → GoesIf p labels labels2 counts own stays stays2 (Some b) → AreGoing p counts keys (goals ++ Some b ∷ [])
 going_goes p counts keys goals labels labels2 own b stays stays2 g noted blocks ends (same_stays, empty, free, some, leaves) = record {
   whole = λ k o l none e. elim (below_cases goals (Some b) k l) [
@@ -170,7 +170,7 @@ going_goes p counts keys goals labels labels2 own b stays stays2 g noted blocks 
               let j = noted.from own there in
               let l = j.1 in
               inr (j.0, omega (arith, l, long), goal_before goals (Some b) j.0 l ∙ j.2, subst (BeginsAt keys j.0) (sym same) j.3))
-          | inr part ↦ inl (λ whole. part (subst (IsWhole p counts) same whole))
+          | inr part ↦ inl (λ whole. part (subst (IsCountedWhole p counts) same whole))
         ])
   ];
   fresh = λ k n c h e. elim (goal_cases goals (Some b) k c h) [

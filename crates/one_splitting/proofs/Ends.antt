@@ -16,8 +16,8 @@ use Rattle.bisim_levels.specs.Keys.{IsSetOf}
 use Rattle.graph_update.specs.Pending.{Pending}
 use Rattle.node_moves.specs.Costs.{parents_cost}
 use Rattle.one_splitting.specs.Costs.{move_cost, round_cost}
-use Rattle.one_splitting.specs.Numbered.{AreNumbered}
-use Rattle.one_splitting.specs.Going.{BeginsAt, AreNext, AreAdded}
+use Rattle.one_splitting.specs.Numbered.{HaveNumbers}
+use Rattle.one_splitting.specs.Going.{BeginsAt, ListsChildrenOf, AreAdded}
 
 apart_all : (x : ℕ) (xs : List ℕ) → AllByRecursion (λ y. nat_cmp x y ≡ Less) xs → AllByRecursion (λ y. nat_eq x y ≡ false) xs
 apart_all x [] h = tt
@@ -33,15 +33,15 @@ pub set_distinct : (xs ys : List ℕ) → IsSetOf xs ys → IsDistinct nat_eq ys
 set_distinct xs ys s = sorted_distinct ys (sorted_from_strictly_increasing ys s.rising)
 
 -- the same nodes in another order
-pub next_set : (s : Shape) (nodes numbers : List ℕ) (goals : List (Option ℕ)) (i : ℕ) (next next2 : List ℕ) → IsSetOf next next2 → AreNext s nodes numbers goals i next
-    → AreNext s nodes numbers goals i next2
+pub next_set : (s : Shape) (nodes numbers : List ℕ) (goals : List (Option ℕ)) (i : ℕ) (next next2 : List ℕ) → IsSetOf next next2 → ListsChildrenOf s nodes numbers goals i next
+    → ListsChildrenOf s nodes numbers goals i next2
 next_set s nodes numbers goals i next next2 set a = record {
   into = λ j b m h e k. set.same m ∙ a.into j b m h e k;
   from = λ m h. a.from m (sym (set.same m) ∙ h);
 }
 
 -- either blocks were made, or nothing is to be looked at next
-pub more_or_none : (s : Shape) (nodes numbers : List ℕ) (goals : List (Option ℕ)) (i : ℕ) (next made made2 : List ℕ) → AreNext s nodes numbers goals i next
+pub more_or_none : (s : Shape) (nodes numbers : List ℕ) (goals : List (Option ℕ)) (i : ℕ) (next made made2 : List ℕ) → ListsChildrenOf s nodes numbers goals i next
     → AreAdded goals made made2 → (length made < length made2) ⊎ (next ≡ [])
 more_or_none s nodes numbers goals i [] made made2 a added = inr refl
 more_or_none s nodes numbers goals i (x ∷ xs) made made2 a added =
@@ -49,7 +49,7 @@ more_or_none s nodes numbers goals i (x ∷ xs) made made2 a added =
     inl (added.more (slice_index numbers r.0) r.1 r.3)
 
 -- each key begins with the block of a node
-pub owns : (p : List (Option ℕ)) (near : ℕ → ℕ → Bool) (keys : List (List ℕ)) (nodes numbers : List ℕ) → AreNumbered p near keys nodes numbers
+pub owns : (p : List (Option ℕ)) (near : ℕ → ℕ → Bool) (keys : List (List ℕ)) (nodes numbers : List ℕ) → HaveNumbers p near keys nodes numbers
     → (k : ℕ) → k < length keys → (own : ℕ) × BeginsAt keys k own × ((n : ℕ) × (at p n ≡ Some own))
 owns p near keys nodes numbers w k h =
     let i = w.some k h in

@@ -7,7 +7,7 @@ use Rattle.std.proofs.lemmas.Bool.Decides.{eqb_tells, Decides-eqb}
 use Rattle.px_spec.specs.Members.{at, has}
 use Rattle.px_spec.specs.Shapes.{Shape}
 use Rattle.bisim_spec.proofs.Bisimilar.{some_of, is_some_at}
-use Rattle.one_splitting.specs.Going.{goal_at, HaveGone, AreNext}
+use Rattle.one_splitting.specs.Going.{goal_at, HaveGone, ListsChildrenOf}
 use Rattle.one_splitting.proofs.Places.{place_of, place_is}
 
 -- what one move makes of the partition
@@ -23,7 +23,7 @@ gone_none p p2 nodes numbers goals e = record {
   kept = λ m h. ap (λ x. at x m) e;
 }
 
-pub next_none : (s : Shape) (nodes numbers : List ℕ) (goals : List (Option ℕ)) (next : List ℕ) → next ≡ [] → AreNext s nodes numbers goals 0 next
+pub next_none : (s : Shape) (nodes numbers : List ℕ) (goals : List (Option ℕ)) (next : List ℕ) → next ≡ [] → ListsChildrenOf s nodes numbers goals 0 next
 next_none s nodes numbers goals next e = record {
   into = λ j b m l. absurd (omega (arith, l));
   from = λ m h. absurd (true≢false (sym h ∙ ap (λ xs. has xs m) e));
@@ -77,8 +77,8 @@ gone_more p q p2 nodes numbers goals i once l g o = record {
     by None e h = e
     by (Some b) e h = absurd (h b e)
 
-pub next_more : (s : Shape) (nodes numbers : List ℕ) (goals : List (Option ℕ)) (i : ℕ) (next next2 : List ℕ) → AreNext s nodes numbers goals i next
-    → OneListed s (slice_index nodes i) (goal_at goals (slice_index numbers i)) next next2 → AreNext s nodes numbers goals (i + 1) next2
+pub next_more : (s : Shape) (nodes numbers : List ℕ) (goals : List (Option ℕ)) (i : ℕ) (next next2 : List ℕ) → ListsChildrenOf s nodes numbers goals i next
+    → OneListed s (slice_index nodes i) (goal_at goals (slice_index numbers i)) next next2 → ListsChildrenOf s nodes numbers goals (i + 1) next2
 next_more s nodes numbers goals i next next2 a o = record {
   into = λ j b m h e k. o.members m ∙ elim (cases_lt j i) [
     | inl before ↦ or_left (has next m) (is_some (goal_at goals (slice_index numbers i)) && s.edge (slice_index nodes i) m) (a.into j b m before e k)

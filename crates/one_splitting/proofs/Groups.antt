@@ -13,7 +13,7 @@ use Rattle.bisim_levels.proofs.Written.{together_from_key}
 use Rattle.upkeep_spec.specs.Rounds.{AreGoals}
 use Rattle.one_splitting.specs.Counted.{AreCounted}
 use Rattle.one_splitting.proofs.Wholes.{whole_counted, part_counted}
-use Rattle.one_splitting.specs.Numbered.{HasNumber, AreNumbered}
+use Rattle.one_splitting.specs.Numbered.{HasNumber, HaveNumbers}
 use Rattle.one_splitting.specs.Going.{BeginsAt, goal_at, AreGoing, HaveGone}
 use Rattle.one_splitting.proofs.Places.{place_of, place_found, has_place, place_is}
 
@@ -40,7 +40,7 @@ pub goal_off : (nodes numbers : List ℕ) (goals : List (Option ℕ)) (n : ℕ) 
 goal_off nodes numbers goals n h = ap (λ t. cond t (goal_at goals (group_of nodes numbers n)) None) h
 
 module _ (s : Shape) (p : List (Option ℕ)) (keys : List (List ℕ)) (nodes numbers : List ℕ) (count : length numbers ≡ length nodes)
-    (once : IsDistinct nat_eq nodes) (numbered : AreNumbered p s.edge keys nodes numbers) where
+    (once : IsDistinct nat_eq nodes) (numbered : HaveNumbers p s.edge keys nodes numbers) where
   -- the number of a node that is looked at
   pub number_at : (n : ℕ) → has nodes n ≡ true → HasNumber p s.edge keys n (group_of nodes numbers n)
   number_at n h =

@@ -5,25 +5,25 @@ use Rattle.std.specs.List.{IsDistinct}
 use Rattle.px_spec.specs.Members.{at, has}
 use Rattle.px_spec.specs.Shapes.{Shape}
 use Rattle.bisim_spec.proofs.Bisimilar.{some_of, none_or_some, is_some_at}
-use Rattle.one_splitting.specs.Numbered.{AreNumbered}
-use Rattle.one_splitting.specs.Going.{BeginsAt, goal_at, HaveGone, HaveLabels, KeepLabels}
+use Rattle.one_splitting.specs.Numbered.{HaveNumbers}
+use Rattle.one_splitting.specs.Going.{BeginsAt, goal_at, HaveGone, GoalsHaveLabels, LabelsStay}
 use Rattle.upkeep_spec.specs.Named.{AreNamed}
 use Rattle.one_splitting.proofs.Places.{place_of, place_found, has_place, place_is}
 use Rattle.one_splitting.proofs.Chosen.{goal_cases, one_own}
 use Rattle.one_splitting.proofs.Groups.{group_of, goal_of, goal_looked, goal_there, ends_at}
 
-pub some_kept : (labels labels2 : ℕ → Option ℕ) (c : ℕ) → KeepLabels labels labels2 → IsSome (labels c) → IsSome (labels2 c)
+pub some_kept : (labels labels2 : ℕ → Option ℕ) (c : ℕ) → LabelsStay labels labels2 → IsSome (labels c) → IsSome (labels2 c)
 some_kept labels labels2 c k h = (let d = some_of (labels c) h in is_some_at (labels2 c) d.0 (k.kept c d.0 d.1))
 
-pub labels_none : (keys : List (List ℕ)) (goals : List (Option ℕ)) (labels : ℕ → Option ℕ) → goals ≡ [] → HaveLabels keys goals labels labels
+pub labels_none : (keys : List (List ℕ)) (goals : List (Option ℕ)) (labels : ℕ → Option ℕ) → goals ≡ [] → GoalsHaveLabels keys goals labels labels
 labels_none keys goals labels e = record {
   is = λ k own b d h. absurd (let f : goal_at goals k ≡ None = ap (λ gs. goal_at gs k) e in let clash : Some b ≡ None = sym h ∙ f in cc);
 }
 
 -- one goal more
-pub labels_more : (keys : List (List ℕ)) (goals : List (Option ℕ)) (o : Option ℕ) (first labels labels2 : ℕ → Option ℕ) (own : ℕ) → HaveLabels keys goals first labels
-    → KeepLabels first labels → KeepLabels labels labels2 → ((b : ℕ) → o ≡ Some b → labels2 b ≡ labels own) → BeginsAt keys (length goals) own
-    → HaveLabels keys (goals ++ o ∷ []) first labels2
+pub labels_more : (keys : List (List ℕ)) (goals : List (Option ℕ)) (o : Option ℕ) (first labels labels2 : ℕ → Option ℕ) (own : ℕ) → GoalsHaveLabels keys goals first labels
+    → LabelsStay first labels → LabelsStay labels labels2 → ((b : ℕ) → o ≡ Some b → labels2 b ≡ labels own) → BeginsAt keys (length goals) own
+    → GoalsHaveLabels keys (goals ++ o ∷ []) first labels2
 labels_more keys goals o first labels labels2 own h before keep new ends = record {
   is = λ k x b d found e l. elim (goal_cases goals o k b found) [
     | inl there ↦ keep.kept b d (h.is k x b d there e l)
@@ -34,7 +34,7 @@ labels_more keys goals o first labels labels2 own h before keep new ends = recor
 }
 
 module _ (s : Shape) (p p2 : List (Option ℕ)) (keys : List (List ℕ)) (nodes numbers : List ℕ) (goals : List (Option ℕ)) (labels labels2 names : ℕ → Option ℕ)
-    (count : length numbers ≡ length nodes) (once : IsDistinct nat_eq nodes) (numbered : AreNumbered p s.edge keys nodes numbers)
+    (count : length numbers ≡ length nodes) (once : IsDistinct nat_eq nodes) (numbered : HaveNumbers p s.edge keys nodes numbers)
     (gone : HaveGone p p2 nodes numbers goals (length nodes)) where
   -- a node that goes nowhere stays
   stays : (n : ℕ) → goal_of nodes numbers goals n ≡ None → at p2 n ≡ at p n
@@ -46,7 +46,7 @@ module _ (s : Shape) (p p2 : List (Option ℕ)) (keys : List (List ℕ)) (nodes 
       cc)
 
   -- labels are right after the moves
-  pub named_step : HaveLabels keys goals labels labels2 → KeepLabels labels labels2 → AreNamed p labels names → AreNamed p2 labels2 names
+  pub named_step : GoalsHaveLabels keys goals labels labels2 → LabelsStay labels labels2 → AreNamed p labels names → AreNamed p2 labels2 names
   named_step have keep named = record {
     is = λ n b e. elim (none_or_some (goal_of nodes numbers goals n)) [
       | inl none ↦ (

@@ -7,7 +7,7 @@ use Rattle.key_table.specs.Interning.{Interns}
 use Rattle.px_spec.specs.Members.{at}
 use Rattle.bisim_levels.specs.Keys.{IsKey}
 use Rattle.bisim_levels.proofs.Numbering.{get_append, get_last}
-use Rattle.one_splitting.specs.Numbered.{HasNumber, AreNumbered}
+use Rattle.one_splitting.specs.Numbered.{HasNumber, HaveNumbers}
 
 interned_stay : (old new : List (List ℕ)) (key : List ℕ) (i k : ℕ) (x : List ℕ) → Interns old new key i → slice_get old k ≡ Some x → slice_get new k ≡ Some x
 interned_stay old new key i k x interned e = elim interned [
@@ -21,15 +21,15 @@ interned_at old new key i interned = elim interned [
   | inr (absent, found, added) ↦ ap (λ ks. slice_get ks i) added ∙ ap (slice_get (old ++ key ∷ [])) found ∙ get_last old key
 ]
 
-pub numbered_none : (p : List (Option ℕ)) (near : ℕ → ℕ → Bool) (keys : List (List ℕ)) (nodes numbers : List ℕ) → keys ≡ [] → numbers ≡ [] → AreNumbered p near keys nodes numbers
+pub numbered_none : (p : List (Option ℕ)) (near : ℕ → ℕ → Bool) (keys : List (List ℕ)) (nodes numbers : List ℕ) → keys ≡ [] → numbers ≡ [] → HaveNumbers p near keys nodes numbers
 numbered_none p near keys nodes numbers nk nn = record {
   each = λ i h. absurd (let e = ap length nn in omega (arith, h, e));
   some = λ k h. absurd (let e = ap length nk in omega (arith, h, e));
 }
 
 pub numbered_more : (p : List (Option ℕ)) (near : ℕ → ℕ → Bool) (keys keys2 : List (List ℕ)) (nodes numbers : List ℕ) (k : ℕ) (key : List ℕ)
-    → AreNumbered p near keys nodes numbers → IsKey (at p) p near (slice_index nodes (length numbers)) key → Interns keys keys2 key k
-    → AreNumbered p near keys2 nodes (numbers ++ k ∷ [])
+    → HaveNumbers p near keys nodes numbers → IsKey (at p) p near (slice_index nodes (length numbers)) key → Interns keys keys2 key k
+    → HaveNumbers p near keys2 nodes (numbers ++ k ∷ [])
 numbered_more p near keys keys2 nodes numbers k key w is interned =
     let long : length (numbers ++ k ∷ []) ≡ length numbers + 1 = length-append numbers (k ∷ []) in
     record {

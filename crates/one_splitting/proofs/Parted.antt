@@ -18,7 +18,7 @@ use Rattle.upkeep_spec.proofs.Splitting.{same_but_moved, same_but_on, within_on}
 use Rattle.upkeep_spec.proofs.Sums.{first_has, rest_apart}
 use Rattle.graph_update.proofs.NeighbourLists.{and_one}
 use Rattle.upkeep_spec.specs.Named.{AreNamed, AreNamedOff}
-use Rattle.one_splitting.specs.Going.{KeepLabels, AreBlocks}
+use Rattle.one_splitting.specs.Going.{LabelsStay, AreBlocks}
 use Rattle.one_splitting.proofs.Named.{some_kept}
 use Rattle.upkeep_spec.specs.Splits.{IsClosed, IsSplitInside}
 use Rattle.one_splitting.proofs.Apart.{IsApart}
@@ -273,7 +273,7 @@ named_alone t own d p labels names rest rest2 found l name is_first named = reco
 }
 
 pub named_moved : (t b d : ℕ) (p q p2 : List (Option ℕ)) (labels labels2 names : ℕ → Option ℕ) (rest rest2 : ℕ → Bool) → q ≡ p
-    → ((m : ℕ) → at p2 m ≡ cond (nat_eq m t) (Some b) (at q m)) → labels2 b ≡ Some d → names t ≡ Some d → KeepLabels labels labels2 → IsFirst rest rest2 t
+    → ((m : ℕ) → at p2 m ≡ cond (nat_eq m t) (Some b) (at q m)) → labels2 b ≡ Some d → names t ≡ Some d → LabelsStay labels labels2 → IsFirst rest rest2 t
     → AreNamedOff rest p labels names → AreNamedOff rest2 p2 labels2 names
 named_moved t b d p q p2 labels labels2 names rest rest2 same moved l name keep is_first named = record {
   is = λ n c o e. elim (eqb_tells n t) [
@@ -334,7 +334,7 @@ pub children_more : (s : Shape) (t : ℕ) (next next2 children : List ℕ) → L
 children_more s t next next2 children lists added m = ap (λ xs. has xs m) added ∙ has_more next children m ∙ ap (λ x. has next m || x) (lists.members m)
 
 -- a block that was made just now
-pub blocks_more : (labels labels2 : ℕ → Option ℕ) (made made2 : List ℕ) (b : ℕ) → AreBlocks labels made → labels b ≡ None → KeepLabels labels labels2 → IsSome (labels2 b)
+pub blocks_more : (labels labels2 : ℕ → Option ℕ) (made made2 : List ℕ) (b : ℕ) → AreBlocks labels made → labels b ≡ None → LabelsStay labels labels2 → IsSome (labels2 b)
     → made2 ≡ made ++ b ∷ [] → AreBlocks labels2 made2
 blocks_more labels labels2 made made2 b blocks free keep some added = record {
   once = subst (IsDistinct nat_eq) (sym added) (and_one made b blocks.once absent).once;

@@ -18,7 +18,7 @@ use Rattle.bisim_spec.proofs.Bisimilar.{is_some_at}
 use Rattle.bisim_spec.proofs.Together.{together_some, together_sym}
 use Rattle.upkeep_spec.specs.Named.{AreNamed, AreNamedOff}
 use Rattle.upkeep_spec.specs.Supported.{AreEdgeCounts}
-use Rattle.one_splitting.specs.Going.{AreLive, KeepLabels}
+use Rattle.one_splitting.specs.Going.{MembersHaveLabels, LabelsStay}
 use Rattle.one_splitting.proofs.Named.{some_kept}
 
 -- one more element is kept or not
@@ -109,7 +109,7 @@ named_present p labels names targets present a named = record {
 
 -- members are in blocks: the targets, and those with the labels of their blocks
 pub live_present : (p : List (Option ℕ)) (labels names : ℕ → Option ℕ) (targets : ℕ → Bool) → AreNamedOff targets p labels names
-    → ((n b : ℕ) → IsTrue (targets n) → at p n ≡ Some b → IsSome (labels b)) → AreLive p labels
+    → ((n b : ℕ) → IsTrue (targets n) → at p n ≡ Some b → IsSome (labels b)) → MembersHaveLabels p labels
 live_present p labels names targets named live = record {
   some = λ n b e. elim (cases_Bool (targets n)) [
     | inl on ↦ live n b on e
@@ -117,7 +117,7 @@ live_present p labels names targets named live = record {
   ];
 }
 
-pub live_named : (p : List (Option ℕ)) (labels names : ℕ → Option ℕ) → AreNamed p labels names → AreLive p labels
+pub live_named : (p : List (Option ℕ)) (labels names : ℕ → Option ℕ) → AreNamed p labels names → MembersHaveLabels p labels
 live_named p labels names named = record { some = λ n b e. let d = named.is n b e in is_some_at (labels b) d.0 d.1 }
 
 -- what is present is live
@@ -142,8 +142,8 @@ partition_moved s p p2 n goal partition node moved = record {
 }
 
 -- members are in blocks, once a node is moved to a block
-pub live_moved : (p p2 : List (Option ℕ)) (labels labels2 : ℕ → Option ℕ) (n b : ℕ) → AreLive p labels → KeepLabels labels labels2 → IsSome (labels2 b)
-    → ((m : ℕ) → at p2 m ≡ cond (nat_eq m n) (Some b) (at p m)) → AreLive p2 labels2
+pub live_moved : (p p2 : List (Option ℕ)) (labels labels2 : ℕ → Option ℕ) (n b : ℕ) → MembersHaveLabels p labels → LabelsStay labels labels2 → IsSome (labels2 b)
+    → ((m : ℕ) → at p2 m ≡ cond (nat_eq m n) (Some b) (at p m)) → MembersHaveLabels p2 labels2
 live_moved p p2 labels labels2 n b live keep some moved = record {
   some = λ m c e. elim (eqb_tells m n) [
     | inl s ↦ (
@@ -154,7 +154,7 @@ live_moved p p2 labels labels2 n b live keep some moved = record {
   ];
 }
 
-pub live_kept : (p p2 : List (Option ℕ)) (labels labels2 : ℕ → Option ℕ) → AreLive p labels → KeepLabels labels labels2 → p2 ≡ p → AreLive p2 labels2
+pub live_kept : (p p2 : List (Option ℕ)) (labels labels2 : ℕ → Option ℕ) → MembersHaveLabels p labels → LabelsStay labels labels2 → p2 ≡ p → MembersHaveLabels p2 labels2
 live_kept p p2 labels labels2 live keep same = record {
   some = λ n b e. some_kept labels labels2 b keep (live.some n b (sym (ap (λ (xs : List (Option ℕ)). at xs n) same) ∙ e));
 }
@@ -164,7 +164,7 @@ pub supports_stay : (g : Graph) (p p2 : List (Option ℕ)) (support support2 : �
     → AreEdgeCounts g p2 support2
 supports_stay g p p2 support support2 a same told = record { each = λ x y. told x y ∙ a.each x y ∙ ap (λ (xs : List (Option ℕ)). edges_between g.edges xs x y) (sym same) }
 
-pub labels_kept : (labels labels2 : ℕ → Option ℕ) (b d : ℕ) → labels b ≡ None → ((c : ℕ) → labels2 c ≡ cond (nat_eq c b) (Some d) (labels c)) → KeepLabels labels labels2
+pub labels_kept : (labels labels2 : ℕ → Option ℕ) (b d : ℕ) → labels b ≡ None → ((c : ℕ) → labels2 c ≡ cond (nat_eq c b) (Some d) (labels c)) → LabelsStay labels labels2
 labels_kept labels labels2 b d free told = record {
   kept = λ c x e. elim (eqb_tells c b) [
     | inl s ↦ absurd (let f : labels b ≡ Some x = ap labels (sym s.1) ∙ e in let clash : Some x ≡ None = sym f ∙ free in cc)

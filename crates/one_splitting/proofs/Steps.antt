@@ -10,16 +10,16 @@ use Rattle.upkeep_spec.specs.Rounds.{AreGoals}
 use Rattle.upkeep_spec.proofs.Splitting.{round_stable, same_but_moved, same_but_on, within_on}
 use Rattle.upkeep_spec.proofs.Goals.{is_moved, goals_within, goals_round, goals_partition, goals_left}
 use Rattle.one_splitting.specs.Counted.{AreCounted}
-use Rattle.one_splitting.specs.Numbered.{AreNumbered}
-use Rattle.one_splitting.specs.Going.{BeginsAt, goal_at, AreGoing, HaveGone, AreNext, AreAdded}
+use Rattle.one_splitting.specs.Numbered.{HaveNumbers}
+use Rattle.one_splitting.specs.Going.{BeginsAt, goal_at, AreGoing, HaveGone, ListsChildrenOf, AreAdded}
 use Rattle.upkeep_spec.specs.Splits.{IsClosed, IsSplitInside}
 use Rattle.one_splitting.proofs.Places.{place_of, place_found, has_place}
 use Rattle.one_splitting.proofs.Groups.{group_of, goal_of, goal_looked, goal_there, groups_go, node_of}
 
 pub split_step : (s : Shape) (inside : ℕ → Bool) (first p p2 : List (Option ℕ)) (keys : List (List ℕ)) (nodes numbers made next2 made2 : List ℕ) (goals : List (Option ℕ)) (counts : List (ℕ × ℕ))
     → IsShape s → IsClosed s inside → IsSplitInside s inside first p nodes made → IsDistinct nat_eq nodes → length numbers ≡ length nodes
-    → AreNumbered p s.edge keys nodes numbers → length goals ≡ length keys → AreCounted p nodes counts → AreGoing p counts keys goals → HaveGone p p2 nodes numbers goals (length nodes)
-    → AreNext s nodes numbers goals (length nodes) next2 → AreAdded goals made made2 → IsDistinct nat_eq made2 → ((k : ℕ) → k < length keys → (own : ℕ) × BeginsAt keys k own) → IsSplitInside s inside first p2 next2 made2
+    → HaveNumbers p s.edge keys nodes numbers → length goals ≡ length keys → AreCounted p nodes counts → AreGoing p counts keys goals → HaveGone p p2 nodes numbers goals (length nodes)
+    → ListsChildrenOf s nodes numbers goals (length nodes) next2 → AreAdded goals made made2 → IsDistinct nat_eq made2 → ((k : ℕ) → k < length keys → (own : ℕ) × BeginsAt keys k own) → IsSplitInside s inside first p2 next2 made2
 split_step s inside first p p2 keys nodes numbers made next2 made2 goals counts shape closed split once count numbered many counted going gone next added once2 owns = record {
   stable =
       round_stable s p p2 (is_moved (goal_of nodes numbers goals)) (has next2) partition

@@ -14,23 +14,23 @@ abbrev pub goal_at : List (Option ℕ) → ℕ → Option ℕ
 goal_at goals k = slice_index_or goals k None
 
 -- as many nodes are counted for the block as it has members
-abbrev pub IsWhole : List (Option ℕ) → List (ℕ × ℕ) → ℕ → Type 0
-IsWhole p counts own = count_at counts own ≡ count_by (is_this own) p
+abbrev pub IsCountedWhole : List (Option ℕ) → List (ℕ × ℕ) → ℕ → Type 0
+IsCountedWhole p counts own = count_at counts own ≡ count_by (is_this own) p
 
 -- The groups with numbers below the length of the goals: one stays where all members of its block are counted, and no other
 -- group of that block stays; any other goes to a block that had no members, and leaves a group behind, or a node that isn't counted.
 pub record AreGoing (p : List (Option ℕ)) (counts : List (ℕ × ℕ)) (keys : List (List ℕ)) (goals : List (Option ℕ)) : Type 0 where
-  pub whole : (k own : ℕ) → k < length goals → goal_at goals k ≡ None → BeginsAt keys k own → IsWhole p counts own
+  pub whole : (k own : ℕ) → k < length goals → goal_at goals k ≡ None → BeginsAt keys k own → IsCountedWhole p counts own
   pub one : (j k own : ℕ) → j < length goals → k < length goals → goal_at goals j ≡ None → goal_at goals k ≡ None → BeginsAt keys j own → BeginsAt keys k own → j ≡ k
   pub left : (k own b : ℕ) → goal_at goals k ≡ Some b → BeginsAt keys k own
-      → (IsWhole p counts own → ⊥) ⊎ ((j : ℕ) × (j < length goals) × (goal_at goals j ≡ None) × BeginsAt keys j own)
+      → (IsCountedWhole p counts own → ⊥) ⊎ ((j : ℕ) × (j < length goals) × (goal_at goals j ≡ None) × BeginsAt keys j own)
   pub fresh : (k n b : ℕ) → goal_at goals k ≡ Some b → at p n ≡ Some b → ⊥
   pub tells : (j k b : ℕ) → goal_at goals j ≡ Some b → goal_at goals k ≡ Some b → j ≡ k
 
 -- where the group stays, all members of its block are counted, and the block is noted, for the first time
 abbrev pub StaysIf : List (Option ℕ) → List (ℕ × ℕ) → ℕ → List ℕ → List ℕ → Option ℕ → Type 0
 StaysIf p counts own stays stays2 None =
-    IsFalse (has stays own) × (stays2 ≡ stays ++ own ∷ []) × IsWhole p counts own
+    IsFalse (has stays own) × (stays2 ≡ stays ++ own ∷ []) × IsCountedWhole p counts own
 StaysIf p counts own stays stays2 (Some b) = Unit {0}
 
 -- where it goes, it goes to a block that was none, and leaves a group that stays, or a node that isn't counted
@@ -38,7 +38,7 @@ abbrev pub GoesIf : List (Option ℕ) → (ℕ → Option ℕ) → (ℕ → Opti
 GoesIf p labels labels2 counts own stays stays2 None = Unit {0}
 GoesIf p labels labels2 counts own stays stays2 (Some b) =
     (stays2 ≡ stays) × ((n : ℕ) → at p n ≡ Some b → ⊥) × (labels b ≡ None) × IsSome (labels2 b)
-    × (IsTrue (has stays own) ⊎ (IsWhole p counts own → ⊥))
+    × (IsTrue (has stays own) ⊎ (IsCountedWhole p counts own → ⊥))
 
 -- The nodes before the i-th have gone where their groups go, and the others have stayed.
 pub record HaveGone (p p2 : List (Option ℕ)) (nodes numbers : List ℕ) (goals : List (Option ℕ)) (i : ℕ) : Type 0 where
@@ -46,12 +46,12 @@ pub record HaveGone (p p2 : List (Option ℕ)) (nodes numbers : List ℕ) (goals
   pub kept : (m : ℕ) → ((j b : ℕ) → j < i → slice_index nodes j ≡ m → goal_at goals (slice_index numbers j) ≡ Some b → ⊥) → at p2 m ≡ at p m
 
 -- the list has the children of those of the nodes before the i-th that have gone
-pub record AreNext (s : Shape) (nodes numbers : List ℕ) (goals : List (Option ℕ)) (i : ℕ) (next : List ℕ) : Type 0 where
+pub record ListsChildrenOf (s : Shape) (nodes numbers : List ℕ) (goals : List (Option ℕ)) (i : ℕ) (next : List ℕ) : Type 0 where
   pub into : (j b m : ℕ) → j < i → goal_at goals (slice_index numbers j) ≡ Some b → IsParent s (slice_index nodes j) m → IsTrue (has next m)
   pub from : (m : ℕ) → IsTrue (has next m) → (j : ℕ) × (b : ℕ) × (j < i) × (goal_at goals (slice_index numbers j) ≡ Some b) × IsParent s (slice_index nodes j) m
 
 -- goals are blocks
-pub record AreLabelled (goals : List (Option ℕ)) (labels : ℕ → Option ℕ) : Type 0 where
+pub record GoalsAreBlocks (goals : List (Option ℕ)) (labels : ℕ → Option ℕ) : Type 0 where
   pub some : (k b : ℕ) → goal_at goals k ≡ Some b → IsSome (labels b)
 
 -- distinct blocks
@@ -68,13 +68,13 @@ pub record AreAdded (goals : List (Option ℕ)) (made made2 : List ℕ) : Type 0
   pub holds : (k b : ℕ) → goal_at goals k ≡ Some b → IsTrue (has made2 b)
 
 -- a block that is a goal has the label of the block from which its group comes
-pub record HaveLabels (keys : List (List ℕ)) (goals : List (Option ℕ)) (labels labels2 : ℕ → Option ℕ) : Type 0 where
+pub record GoalsHaveLabels (keys : List (List ℕ)) (goals : List (Option ℕ)) (labels labels2 : ℕ → Option ℕ) : Type 0 where
   pub is : (k own b d : ℕ) → goal_at goals k ≡ Some b → BeginsAt keys k own → labels own ≡ Some d → labels2 b ≡ Some d
 
 -- labels that blocks have stay
-pub record KeepLabels (labels labels2 : ℕ → Option ℕ) : Type 0 where
+pub record LabelsStay (labels labels2 : ℕ → Option ℕ) : Type 0 where
   pub kept : (c d : ℕ) → labels c ≡ Some d → labels2 c ≡ Some d
 
 -- members are in blocks
-pub record AreLive (p : List (Option ℕ)) (labels : ℕ → Option ℕ) : Type 0 where
+pub record MembersHaveLabels (p : List (Option ℕ)) (labels : ℕ → Option ℕ) : Type 0 where
   pub some : (n b : ℕ) → at p n ≡ Some b → IsSome (labels b)

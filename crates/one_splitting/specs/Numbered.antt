@@ -10,6 +10,6 @@ pub record HasNumber (p : List (Option ℕ)) (near : ℕ → ℕ → Bool) (keys
   pub is : IsKey (at p) p near n key
 
 -- each node of the first list has its number in the second one, and each key is that of some node
-pub record AreNumbered (p : List (Option ℕ)) (near : ℕ → ℕ → Bool) (keys : List (List ℕ)) (nodes numbers : List ℕ) : Type 0 where
+pub record HaveNumbers (p : List (Option ℕ)) (near : ℕ → ℕ → Bool) (keys : List (List ℕ)) (nodes numbers : List ℕ) : Type 0 where
   pub each : (i : ℕ) → i < length numbers → HasNumber p near keys (slice_index nodes i) (slice_index numbers i)
   pub some : (k : ℕ) → k < length keys → (i : ℕ) × (i < length numbers) × (slice_index numbers i ≡ k)

@@ -3,7 +3,7 @@ ghost use Rattle.std.specs.Prelude.{◌≡◌, ◌≢◌, ◌⊎◌, ◌++◌, �
 ghost use Rattle.px_spec.specs.Members.{has, at, is_this};
 ghost use Rattle.quotient_draft.specs.Drafts.{shown_blocks, shown_labels, shown_support};
 ghost use Rattle.quotient_draft.specs.Basis.{IsOver};
-ghost use Rattle.one_splitting.specs.Going.{AreGoing, BeginsAt, IsWhole, StaysIf, GoesIf, AreBlocks, AreLabelled, AreAdded, AreLive, HaveLabels, KeepLabels};
+ghost use Rattle.one_splitting.specs.Going.{AreGoing, BeginsAt, IsCountedWhole, StaysIf, GoesIf, AreBlocks, GoalsAreBlocks, AreAdded, MembersHaveLabels, GoalsHaveLabels, LabelsStay};
 
 use crate::owners::is_whole;
 use indexmap::{IndexMap, IndexSet};
@@ -16,7 +16,7 @@ use std::alloc::Global;
 /// Drafts a block without members. Past 2^31 blocks there is no number for one.
 pub(crate) fn draft_block(base: &Summary, draft: &mut Draft, label: u32) -> Result<u32, Memory>
     requires over { IsOver base.now.blocks.block_of base.now.blocks.labels draft.old }
-    requires live { AreLive (shown_blocks base.now draft.old) (at (shown_labels base.now draft.old)) }
+    requires live { MembersHaveLabels (shown_blocks base.now draft.old) (at (shown_labels base.now draft.old)) }
     ensures empty { IfOk result (λ b. (n : ℕ) → at (shown_blocks base.now draft.old) n ≢ Some b) }
     ensures free { IfOk result (λ b. at (shown_labels base.now draft.old) b ≡ None) }
     ensures stay { OnOk result (shown_blocks base.now draft.new ≡ shown_blocks base.now draft.old) }
@@ -49,8 +49,8 @@ fn may_stay(
 ) -> bool
     requires over { IsOver base.now.blocks.block_of base.now.blocks.labels draft.now }
     requires block { IsSome (at (shown_labels base.now draft.now) own) }
-    ensures yes { IsTrue result → (has stays.now.keys own ≡ false) × IsWhole (shown_blocks base.now draft.now) counts.now.entries own }
-    ensures no { IsFalse result → IsTrue (has stays.now.keys own) ⊎ (IsWhole (shown_blocks base.now draft.now) counts.now.entries own → ⊥) }
+    ensures yes { IsTrue result → (has stays.now.keys own ≡ false) × IsCountedWhole (shown_blocks base.now draft.now) counts.now.entries own }
+    ensures no { IsFalse result → IsTrue (has stays.now.keys own) ⊎ (IsCountedWhole (shown_blocks base.now draft.now) counts.now.entries own → ⊥) }
 {
     if stays.contains(&own) {
         return false;
@@ -68,12 +68,12 @@ fn find_goal(
     made: &mut Vec<u32>,
 ) -> Result<Option<u32>, Memory>
     requires over { IsOver base.now.blocks.block_of base.now.blocks.labels draft.old }
-    requires live { AreLive (shown_blocks base.now draft.old) (at (shown_labels base.now draft.old)) }
+    requires live { MembersHaveLabels (shown_blocks base.now draft.old) (at (shown_labels base.now draft.old)) }
     requires block { IsSome (at (shown_labels base.now draft.old) own) }
     ensures over { OnOk result (IsOver base.now.blocks.block_of base.now.blocks.labels draft.new) }
     ensures stay { OnOk result (shown_blocks base.now draft.new ≡ shown_blocks base.now draft.old) }
     ensures supports { OnOk result ((x y : ℕ) → shown_support base.now draft.new x y ≡ shown_support base.now draft.old x y) }
-    ensures kept { OnOk result (KeepLabels (at (shown_labels base.now draft.old)) (at (shown_labels base.now draft.new))) }
+    ensures kept { OnOk result (LabelsStay (at (shown_labels base.now draft.old)) (at (shown_labels base.now draft.new))) }
     ensures label { IfOk result (λ goal. (b : ℕ) → goal ≡ Some b → at (shown_labels base.now draft.new) b ≡ at (shown_labels base.now draft.old) own) }
     ensures stays { IfOk result (λ goal. StaysIf (shown_blocks base.now draft.old) counts.now.entries own stays.old.keys stays.new.keys goal) }
     ensures goes { IfOk result (λ goal. GoesIf (shown_blocks base.now draft.old) (at (shown_labels base.now draft.old)) (at (shown_labels base.now draft.new)) counts.now.entries own stays.old.keys stays.new.keys goal) }
@@ -98,7 +98,7 @@ pub(crate) fn find_goals(
     made: &mut Vec<u32>,
 ) -> Result<Vec<Option<u32>>, Memory>
     requires over { IsOver base.now.blocks.block_of base.now.blocks.labels draft.old }
-    requires live { AreLive (shown_blocks base.now draft.old) (at (shown_labels base.now draft.old)) }
+    requires live { MembersHaveLabels (shown_blocks base.now draft.old) (at (shown_labels base.now draft.old)) }
     requires keys { (k : ℕ) → k < length keys.now → (own : ℕ) × BeginsAt keys.now k own × IsSome (at (shown_labels base.now draft.old) own) }
     requires made { AreBlocks (at (shown_labels base.now draft.old)) made.old.items }
     ensures over { OnOk result (IsOver base.now.blocks.block_of base.now.blocks.labels draft.new) }
@@ -106,9 +106,9 @@ pub(crate) fn find_goals(
     ensures supports { OnOk result ((x y : ℕ) → shown_support base.now draft.new x y ≡ shown_support base.now draft.old x y) }
     ensures count { IfOk result (λ goals. length goals.items ≡ length keys.now) }
     ensures going { IfOk result (λ goals. AreGoing (shown_blocks base.now draft.old) counts.now.entries keys.now goals.items) }
-    ensures blocks { IfOk result (λ goals. AreLabelled goals.items (at (shown_labels base.now draft.new))) }
-    ensures labels { IfOk result (λ goals. HaveLabels keys.now goals.items (at (shown_labels base.now draft.old)) (at (shown_labels base.now draft.new))) }
-    ensures kept { OnOk result (KeepLabels (at (shown_labels base.now draft.old)) (at (shown_labels base.now draft.new))) }
+    ensures blocks { IfOk result (λ goals. GoalsAreBlocks goals.items (at (shown_labels base.now draft.new))) }
+    ensures labels { IfOk result (λ goals. GoalsHaveLabels keys.now goals.items (at (shown_labels base.now draft.old)) (at (shown_labels base.now draft.new))) }
+    ensures kept { OnOk result (LabelsStay (at (shown_labels base.now draft.old)) (at (shown_labels base.now draft.new))) }
     ensures made { OnOk result (AreBlocks (at (shown_labels base.now draft.new)) made.new.items) }
     ensures from { IfOk result (λ goals. AreAdded goals.items made.old.items made.new.items) }
 {

@@ -10,7 +10,7 @@ ghost use Rattle.graph_update.specs.Pending.{graph_after};
 ghost use Rattle.quotient_draft.specs.Drafts.{shown_blocks};
 ghost use Rattle.quotient_draft.specs.Basis.{IsOver};
 ghost use Rattle.node_moves.specs.Costs.{parents_cost};
-ghost use Rattle.one_splitting.specs.Numbered.{AreNumbered};
+ghost use Rattle.one_splitting.specs.Numbered.{HaveNumbers};
 
 use graph_update::After;
 use key_table::KeyTable;
@@ -127,7 +127,7 @@ pub(crate) fn number_nodes<L: Ledger>(
     requires shape { IsShape (shape_of (graph_after after.now)) }
     requires blocks { (n : ℕ) → IsTrue (has nodes.now n) → IsSome (at (shown_blocks base.now draft.now) n) }
     ensures count { IfOk result (λ numbers. length numbers.items ≡ length nodes.now) }
-    ensures numbered { IfOk result (λ numbers. AreNumbered (shown_blocks base.now draft.now) (has_edge (graph_after after.now)) keys.new nodes.now numbers.items) }
+    ensures numbered { IfOk result (λ numbers. HaveNumbers (shown_blocks base.now draft.now) (has_edge (graph_after after.now)) keys.new nodes.now numbers.items) }
     ensures cost { steps.new ≤ steps.old + sum_by (parents_cost after.now) nodes.now }
 {
     let mut numbers = Vec::with_capacity(alloc, nodes.len())?;

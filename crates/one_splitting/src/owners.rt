@@ -4,7 +4,7 @@ ghost use Rattle.px_spec.specs.Members.{has, at, is_this};
 ghost use Rattle.quotient_draft.specs.Drafts.{shown_blocks, shown_labels};
 ghost use Rattle.quotient_draft.specs.Basis.{IsOver};
 ghost use Rattle.one_splitting.specs.Counted.{count_at, is_in};
-ghost use Rattle.one_splitting.specs.Going.{IsWhole};
+ghost use Rattle.one_splitting.specs.Going.{IsCountedWhole};
 
 use crate::keys::own_block;
 use indexmap::IndexMap;
@@ -61,8 +61,8 @@ pub(crate) fn is_whole(
 ) -> bool
     requires over { IsOver base.now.blocks.block_of base.now.blocks.labels draft.now }
     requires block { IsSome (at (shown_labels base.now draft.now) own) }
-    ensures yes { IsTrue result → IsWhole (shown_blocks base.now draft.now) counts.now.entries own }
-    ensures no { IsFalse result → IsWhole (shown_blocks base.now draft.now) counts.now.entries own → ⊥ }
+    ensures yes { IsTrue result → IsCountedWhole (shown_blocks base.now draft.now) counts.now.entries own }
+    ensures no { IsFalse result → IsCountedWhole (shown_blocks base.now draft.now) counts.now.entries own → ⊥ }
 {
     count_of(counts, own) == draft.member_count(base, own) as usize
 }

@@ -12,7 +12,7 @@ ghost use Rattle.graph_update.specs.Pending.{graph_after};
 ghost use Rattle.quotient_draft.specs.Drafts.{shown_blocks, shown_labels, shown_support};
 ghost use Rattle.quotient_draft.specs.Basis.{IsOver};
 ghost use Rattle.one_splitting.specs.Costs.{move_cost, round_cost};
-ghost use Rattle.one_splitting.specs.Going.{goal_at, AreBlocks, AreLabelled, AreLive, HaveGone, AreNext};
+ghost use Rattle.one_splitting.specs.Going.{goal_at, AreBlocks, GoalsAreBlocks, MembersHaveLabels, HaveGone, ListsChildrenOf};
 
 use crate::goals::find_goals;
 use crate::keys::{number_nodes, sort_once};
@@ -79,11 +79,11 @@ fn move_nodes<L: Ledger>(
     requires once { IsDistinct nat_eq nodes.now }
     requires count { length numbers.now ≡ length nodes.now }
     requires partition { IsPartition (shape_of (graph_after after.now)) (shown_blocks base.now draft.old) }
-    requires blocks { AreLabelled goals.now (at (shown_labels base.now draft.old)) }
+    requires blocks { GoalsAreBlocks goals.now (at (shown_labels base.now draft.old)) }
     requires supports { AreEdgeCounts (graph_after after.now) (shown_blocks base.now draft.old) (shown_support base.now draft.old) }
     ensures over { OnOk result (IsOver base.now.blocks.block_of base.now.blocks.labels draft.new) }
     ensures gone { OnOk result (HaveGone (shown_blocks base.now draft.old) (shown_blocks base.now draft.new) nodes.now numbers.now goals.now (length nodes.now)) }
-    ensures next { IfOk result (λ next. AreNext (shape_of (graph_after after.now)) nodes.now numbers.now goals.now (length nodes.now) next.items) }
+    ensures next { IfOk result (λ next. ListsChildrenOf (shape_of (graph_after after.now)) nodes.now numbers.now goals.now (length nodes.now) next.items) }
     ensures added { OnOk result (draft.new.added ≡ draft.old.added) }
     ensures supports { OnOk result (AreEdgeCounts (graph_after after.now) (shown_blocks base.now draft.new) (shown_support base.now draft.new)) }
     ensures cost { steps.new ≤ steps.old + sum_by (move_cost after.now) nodes.now }
@@ -108,7 +108,7 @@ pub(crate) fn round<L: Ledger>(
     steps: &mut Steps<L>,
 ) -> Result<Vec<NodeId>, Memory>
     requires over { IsOver base.now.blocks.block_of base.now.blocks.labels draft.old }
-    requires live { AreLive (shown_blocks base.now draft.old) (at (shown_labels base.now draft.old)) }
+    requires live { MembersHaveLabels (shown_blocks base.now draft.old) (at (shown_labels base.now draft.old)) }
     requires nodes { (n : ℕ) → IsTrue (has nodes.now n) → IsTrue (is_live (graph_after after.now) n) }
     requires shape { IsShape (shape_of (graph_after after.now)) }
     requires partition { IsPartition (shape_of (graph_after after.now)) (shown_blocks base.now draft.old) }

@@ -15,7 +15,7 @@ ghost use Rattle.graph_update.specs.Pending.{graph_after};
 ghost use Rattle.quotient_draft.specs.Drafts.{shown_blocks, shown_labels, shown_support};
 ghost use Rattle.quotient_draft.specs.Basis.{IsOver};
 ghost use Rattle.one_splitting.specs.Costs.{move_cost};
-ghost use Rattle.one_splitting.specs.Going.{AreBlocks, AreLive};
+ghost use Rattle.one_splitting.specs.Going.{AreBlocks, MembersHaveLabels};
 ghost use Rattle.one_splitting.specs.Parting.{IsParting, IsFirst};
 
 use crate::goals::draft_block;
@@ -87,14 +87,14 @@ fn part_one<L: Ledger>(
     steps: &mut Steps<L>,
 ) -> Result<(), Memory>
     requires over { IsOver base.now.blocks.block_of base.now.blocks.labels draft.old }
-    requires live { AreLive (shown_blocks base.now draft.old) (at (shown_labels base.now draft.old)) }
+    requires live { MembersHaveLabels (shown_blocks base.now draft.old) (at (shown_labels base.now draft.old)) }
     requires shape { IsShape (shape_of (graph_after after.now)) }
     requires partition { IsPartition (shape_of (graph_after after.now)) (shown_blocks base.now draft.old) }
     requires node { IsTrue (is_live (graph_after after.now) target) }
     requires made { AreBlocks (at (shown_labels base.now draft.old)) made.old.items }
     requires supports { AreEdgeCounts (graph_after after.now) (shown_blocks base.now draft.old) (shown_support base.now draft.old) }
     ensures over { OnOk result (IsOver base.now.blocks.block_of base.now.blocks.labels draft.new) }
-    ensures live { OnOk result (AreLive (shown_blocks base.now draft.new) (at (shown_labels base.now draft.new))) }
+    ensures live { OnOk result (MembersHaveLabels (shown_blocks base.now draft.new) (at (shown_labels base.now draft.new))) }
     ensures parting { OnOk result ((inside : ℕ → Bool) (first : List (Option ℕ)) (rest rest2 : ℕ → Bool) → IsClosed (shape_of (graph_after after.now)) inside → IsTrue (inside target) → IsFirst rest rest2 target → IsParting (shape_of (graph_after after.now)) inside first (shown_blocks base.now draft.old) next.old.items rest made.old.items → IsParting (shape_of (graph_after after.now)) inside first (shown_blocks base.now draft.new) next.new.items rest2 made.new.items) }
     ensures named { OnOk result ((rest rest2 : ℕ → Bool) → IsFirst rest rest2 target → AreNamedOff rest (shown_blocks base.now draft.old) (at (shown_labels base.now draft.old)) (label_number (graph_after after.now)) → AreNamedOff rest2 (shown_blocks base.now draft.new) (at (shown_labels base.now draft.new)) (label_number (graph_after after.now))) }
     ensures made { OnOk result (AreBlocks (at (shown_labels base.now draft.new)) made.new.items) }
@@ -124,7 +124,7 @@ fn part_all<L: Ledger>(
     steps: &mut Steps<L>,
 ) -> Result<Vec<NodeId>, Memory>
     requires over { IsOver base.now.blocks.block_of base.now.blocks.labels draft.old }
-    requires live { AreLive (shown_blocks base.now draft.old) (at (shown_labels base.now draft.old)) }
+    requires live { MembersHaveLabels (shown_blocks base.now draft.old) (at (shown_labels base.now draft.old)) }
     requires shape { IsShape (shape_of (graph_after after.now)) }
     requires once { IsDistinct nat_eq targets.now }
     requires nodes { (n : ℕ) → IsTrue (has targets.now n) → IsTrue (is_live (graph_after after.now) n) }

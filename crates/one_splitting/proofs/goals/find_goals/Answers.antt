@@ -1,7 +1,7 @@
 use Rattle.std.proofs.Common.{◌≡◌, ◌<◌, ◌++◌, ◌∷◌, [], ℕ, Option, length, IsSome, arith, sym, ap, subst, ◌∙◌, length-append}
 use Rattle.px_spec.specs.Members.{at}
 use Rattle.quotient_draft.specs.Drafts.{shown_blocks, shown_labels}
-use Rattle.one_splitting.specs.Going.{BeginsAt, StaysIf, GoesIf, AreGoing, AreLabelled, AreAdded, HaveLabels}
+use Rattle.one_splitting.specs.Going.{BeginsAt, StaysIf, GoesIf, AreGoing, GoalsAreBlocks, AreAdded, GoalsHaveLabels}
 use Rattle.one_splitting.proofs.Chosen.{AreNoted}
 use Rattle.one_splitting.proofs.Choosing.{IsChosen, choose_step, begins_long, begins_own}
 use Rattle.one_splitting.proofs.Named.{some_kept, labels_more}
@@ -61,9 +61,9 @@ loop-k-preserved c =
       count = omega (arith, long, longer, count);
       going = subst (AreGoing p counts keys) (sym added) next.going;
       noted = subst (λ gs. AreNoted keys gs c.find_goal.new.stays.keys) (sym added) next.noted;
-      blocks = subst (λ gs. AreLabelled gs labels2) (sym added) next.blocks;
+      blocks = subst (λ gs. GoalsAreBlocks gs labels2) (sym added) next.blocks;
       kept = record { kept = λ x d h. ok.kept.kept x d (inv.kept.kept x d h) };
-      labels = subst (λ gs. HaveLabels keys gs labels0 labels2) (sym added)
+      labels = subst (λ gs. GoalsHaveLabels keys gs labels0 labels2) (sym added)
           (labels_more keys c.loop-k.goals.items c.in_ok-goal.goal labels0 labels labels2 own_is inv.labels inv.kept ok.kept ok.label ends);
       made = next.distinct;
       from = subst (λ gs. AreAdded gs c.args.made.now.items c.find_goal.new.made.items) (sym added) next.from;

@@ -2,7 +2,7 @@ use Rattle.std.proofs.Common.{◌≡◌, ℕ, length}
 use Rattle.px_spec.specs.Members.{at}
 use Rattle.quotient_draft.specs.Basis.{IsOver}
 use Rattle.quotient_draft.specs.Drafts.{shown_blocks, shown_labels, shown_support}
-use Rattle.one_splitting.specs.Going.{AreGoing, AreBlocks, AreLabelled, AreAdded, HaveLabels, KeepLabels}
+use Rattle.one_splitting.specs.Going.{AreGoing, AreBlocks, GoalsAreBlocks, AreAdded, GoalsHaveLabels, LabelsStay}
 use Rattle.one_splitting.proofs.Chosen.{AreNoted}
 use Rattle.one_splitting.proofs.goals.find_goals.Given as goal
 
@@ -14,9 +14,9 @@ invariant-loop-k l = record {
   count : length l.goals.items ≡ l.k;
   going : AreGoing (shown_blocks l.base l.initial.draft) l.counts.entries l.keys l.goals.items;
   noted : AreNoted l.keys l.goals.items l.stays.keys;
-  blocks : AreLabelled l.goals.items (at (shown_labels l.base l.draft));
-  kept : KeepLabels (at (shown_labels l.base l.initial.draft)) (at (shown_labels l.base l.draft));
-  labels : HaveLabels l.keys l.goals.items (at (shown_labels l.base l.initial.draft)) (at (shown_labels l.base l.draft));
+  blocks : GoalsAreBlocks l.goals.items (at (shown_labels l.base l.draft));
+  kept : LabelsStay (at (shown_labels l.base l.initial.draft)) (at (shown_labels l.base l.draft));
+  labels : GoalsHaveLabels l.keys l.goals.items (at (shown_labels l.base l.initial.draft)) (at (shown_labels l.base l.draft));
   made : AreBlocks (at (shown_labels l.base l.draft)) l.made.items;
   from : AreAdded l.goals.items l.initial.made.items l.made.items;
 }

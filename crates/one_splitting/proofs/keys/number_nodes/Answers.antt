@@ -6,7 +6,7 @@ use Rattle.bisim_levels.specs.Keys.{IsKey}
 use Rattle.graph_update.specs.Pending.{graph_after}
 use Rattle.quotient_draft.specs.Drafts.{shown_blocks}
 use Rattle.node_moves.specs.Costs.{parents_cost}
-use Rattle.one_splitting.specs.Numbered.{AreNumbered}
+use Rattle.one_splitting.specs.Numbered.{HaveNumbers}
 use Rattle.one_splitting.proofs.ListSums.{sum_next, sum_first}
 use Rattle.one_splitting.proofs.Numbering.{numbered_more}
 use Rattle.one_splitting.proofs.keys.number_nodes.Goals as goal
@@ -36,6 +36,6 @@ loop-n-preserved g c =
     let longer = ap length added in
     record {
       count = omega (arith, long, longer, count);
-      numbered = subst (AreNumbered p near c.number_of.new.keys nodes) (sym added) more;
+      numbered = subst (HaveNumbers p near c.number_of.new.keys nodes) (sym added) more;
       cost = omega (arith, next, so_far, here);
     }

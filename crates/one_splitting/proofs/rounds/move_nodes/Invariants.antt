@@ -7,7 +7,7 @@ use Rattle.graph_update.specs.Pending.{graph_after}
 use Rattle.quotient_draft.specs.Basis.{IsOver}
 use Rattle.quotient_draft.specs.Drafts.{shown_blocks, shown_support}
 use Rattle.one_splitting.specs.Costs.{move_cost}
-use Rattle.one_splitting.specs.Going.{HaveGone, AreNext}
+use Rattle.one_splitting.specs.Going.{HaveGone, ListsChildrenOf}
 use Rattle.one_splitting.proofs.rounds.move_nodes.Given as goal
 
 abbrev pub invariant-loop-i : goal.invariant-loop-i
@@ -15,7 +15,7 @@ invariant-loop-i g l = record {
   over : IsOver l.base.blocks.block_of l.base.blocks.labels l.draft;
   partition : IsPartition (shape_of (graph_after l.after)) (shown_blocks l.base l.draft);
   gone : HaveGone (shown_blocks l.base l.initial.draft) (shown_blocks l.base l.draft) l.nodes l.numbers l.goals l.i;
-  next : AreNext (shape_of (graph_after l.after)) l.nodes l.numbers l.goals l.i l.next.items;
+  next : ListsChildrenOf (shape_of (graph_after l.after)) l.nodes l.numbers l.goals l.i l.next.items;
   supports : AreEdgeCounts (graph_after l.after) (shown_blocks l.base l.draft) (shown_support l.base l.draft);
   added : l.draft.added ≡ l.initial.draft.added;
   cost : l.steps ≤ l.initial.steps + sum_by (move_cost l.after) (take l.i l.nodes);

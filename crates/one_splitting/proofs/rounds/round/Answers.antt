@@ -6,7 +6,7 @@ use Rattle.upkeep_spec.specs.Named.{AreNamed}
 use Rattle.graph_update.specs.Pending.{graph_after}
 use Rattle.quotient_draft.specs.Drafts.{shown_blocks, shown_labels, with_added}
 use Rattle.one_splitting.specs.Counted.{AreCounted}
-use Rattle.one_splitting.specs.Going.{HaveGone, AreNext}
+use Rattle.one_splitting.specs.Going.{HaveGone, ListsChildrenOf}
 use Rattle.one_splitting.proofs.Ends.{set_distinct, next_set, more_or_none, owns, round_parts}
 use Rattle.one_splitting.proofs.Named.{named_step}
 use Rattle.one_splitting.proofs.Steps.{split_step}
@@ -60,7 +60,7 @@ returns-clause-more g c =
     let goals_are : c.deref-2.result.now ≡ c.in_ok-goals.goals.items = c.deref-2.ensures.value in
     more_or_none s nodes c.deref.result.now c.in_ok-goals.goals.items (length nodes) c.sort_once.new.numbers.items c.args.made.now.items c.find_goals.new.made.items
     (next_set s nodes c.deref.result.now c.in_ok-goals.goals.items (length nodes) c.in_ok-next.next.items c.sort_once.new.numbers.items c.sort_once.ensures
-    (subst (λ gs. AreNext s nodes c.deref.result.now gs (length nodes) c.in_ok-next.next.items) goals_are c.in_ok-next.ensures.next))
+    (subst (λ gs. ListsChildrenOf s nodes c.deref.result.now gs (length nodes) c.in_ok-next.next.items) goals_are c.in_ok-next.ensures.next))
     c.in_ok-goals.ensures.from
 
 pub returns-clause-split : goal.returns-clause-split
@@ -84,8 +84,8 @@ returns-clause-split g c = λ inside first closed split.
     (subst (λ ks. HaveGone q p2 nodes ks goals (length nodes)) numbers_are
     (subst (λ gs. HaveGone q p2 nodes c.deref.result.now gs (length nodes)) goals_are c.in_ok-next.ensures.gone)))
     (next_set s nodes numbers goals (length nodes) c.in_ok-next.next.items c.sort_once.new.numbers.items c.sort_once.ensures
-    (subst (λ ks. AreNext s nodes ks goals (length nodes) c.in_ok-next.next.items) numbers_are
-    (subst (λ gs. AreNext s nodes c.deref.result.now gs (length nodes) c.in_ok-next.next.items) goals_are c.in_ok-next.ensures.next)))
+    (subst (λ ks. ListsChildrenOf s nodes ks goals (length nodes) c.in_ok-next.next.items) numbers_are
+    (subst (λ gs. ListsChildrenOf s nodes c.deref.result.now gs (length nodes) c.in_ok-next.next.items) goals_are c.in_ok-next.ensures.next)))
     c.in_ok-goals.ensures.from c.in_ok-goals.ensures.made.once
     (λ k h. let o = owns p (has_edge (graph_after c.args.after.now)) keys nodes numbers numbered k h in (o.0, o.1))
 
