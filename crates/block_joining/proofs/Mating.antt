@@ -11,7 +11,7 @@ use Rattle.bisim_spec.proofs.Bisimilar.{none_or_some}
 use Rattle.bisim_spec.proofs.Together.{at_merged}
 use Rattle.bisim_spec.proofs.Merging.{IsParentBlock, mergeable_blocks}
 use Rattle.upkeep_spec.specs.Viewed.{IsViewed}
-use Rattle.block_joining.specs.Mates.{renamed, met, IsCovered, AreMates, AreNoMates}
+use Rattle.block_joining.specs.Mates.{renamed, met, ParentsAreMet, AreMates, AreNoMates}
 
 same_is : (x y : ℕ) → x ≡ y → nat_eq x y ≡ true
 same_is x y e = (Decides-eqb x y).1 e
@@ -96,13 +96,13 @@ module _ (s : Shape) (p : List (Option ℕ)) (labels : ℕ → Option ℕ) (join
       let k = viewed.from y c j in
       (k.from, k.onto, k.edge, k.onto_at, at_merged a b p k.from ∙ ap (merged_at a b) k.from_at)
 
-  covered_there : (c d : ℕ) → IsCovered joined a b c d → (x : ℕ) → IsParentBlock s p a b c x → IsParentBlock s p a b d x
+  covered_there : (c d : ℕ) → ParentsAreMet joined a b c d → (x : ℕ) → IsParentBlock s p a b c x → IsParentBlock s p a b d x
   covered_there c d covered x h =
       let y = parent_seen c x h in
       let z = met_some joined a b d y.0 (covered.each y.0 y.1) in
       subst (IsParentBlock s p a b d) (z.2 ∙ y.2) (seen_parent d z.0 z.1)
 
-  there_covered : (c d : ℕ) → ((x : ℕ) → IsParentBlock s p a b c x → IsParentBlock s p a b d x) → IsCovered joined a b c d
+  there_covered : (c d : ℕ) → ((x : ℕ) → IsParentBlock s p a b c x → IsParentBlock s p a b d x) → ParentsAreMet joined a b c d
   there_covered c d there = record {
     each = λ x j.
         let z = parent_seen d (renamed a b x) (there (renamed a b x) (seen_parent c x j)) in
@@ -110,7 +110,7 @@ module _ (s : Shape) (p : List (Option ℕ)) (labels : ℕ → Option ℕ) (join
   }
 
   -- exactly so
-  pub mates_by_tables : (u v : ℕ) → at p u ≡ Some a → at p v ≡ Some b → Mergeable s p a b ↔ ((labels a ≡ labels b) × IsCovered joined a b a b × IsCovered joined a b b a)
+  pub mates_by_tables : (u v : ℕ) → at p u ≡ Some a → at p v ≡ Some b → Mergeable s p a b ↔ ((labels a ≡ labels b) × ParentsAreMet joined a b a b × ParentsAreMet joined a b b a)
   mates_by_tables u v hu hv =
       let blocks = mergeable_blocks s p a b u v viewed.shape viewed.stable hu hv in (
         λ can.
@@ -137,14 +137,14 @@ all_from q [] h = refl
 all_from q (y ∷ ys) h = and_from (q y) (list_all q ys) (h y (or_left (nat_eq y y) (has ys y) (same_is y y refl))) (all_from q ys (λ x k. h x (or_right (nat_eq x y) (has ys x) k)))
 
 -- parents that are listed are all met, or not
-pub covered_listed : (joined : ℕ → ℕ → Bool) (a b c d : ℕ) (xs : List ℕ) → Lists (λ x. joined x c) xs → list_all (met joined a b d) xs ≡ true → IsCovered joined a b c d
+pub covered_listed : (joined : ℕ → ℕ → Bool) (a b c d : ℕ) (xs : List ℕ) → Lists (λ x. joined x c) xs → list_all (met joined a b d) xs ≡ true → ParentsAreMet joined a b c d
 covered_listed joined a b c d xs lists all = record { each = λ x j. all_get (met joined a b d) xs x all (lists.members x ∙ j) }
 
-listed_covered : (joined : ℕ → ℕ → Bool) (a b c d : ℕ) (xs : List ℕ) → Lists (λ x. joined x c) xs → IsCovered joined a b c d → list_all (met joined a b d) xs ≡ true
+listed_covered : (joined : ℕ → ℕ → Bool) (a b c d : ℕ) (xs : List ℕ) → Lists (λ x. joined x c) xs → ParentsAreMet joined a b c d → list_all (met joined a b d) xs ≡ true
 listed_covered joined a b c d xs lists covered = all_from (met joined a b d) xs (λ x h. covered.each x (sym (lists.members x) ∙ h))
 
 pub mates_from : (p : List (Option ℕ)) (labels : ℕ → Option ℕ) (joined : ℕ → ℕ → Bool) (a b : ℕ) → a ≢ b → ((n : ℕ) × (at p n ≡ Some a)) → ((n : ℕ) × (at p n ≡ Some b)) → labels a ≡ labels b
-    → IsCovered joined a b a b → IsCovered joined a b b a → AreMates p labels joined a b
+    → ParentsAreMet joined a b a b → ParentsAreMet joined a b b a → AreMates p labels joined a b
 mates_from p labels joined a b ne first second label there back = record {
   apart = ne;
   first = first;

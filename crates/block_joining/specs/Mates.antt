@@ -21,7 +21,7 @@ abbrev pub met : (ℕ → ℕ → Bool) → ℕ → ℕ → ℕ → ℕ → Bool
 met joined a b d x = cond (nat_eq x a || nat_eq x b) (joined a d || joined b d) (joined x d)
 
 -- each parent block of c is one of d, where a and b count as one block
-pub record IsCovered (joined : ℕ → ℕ → Bool) (a b c d : ℕ) : Type 0 where
+pub record ParentsAreMet (joined : ℕ → ℕ → Bool) (a b c d : ℕ) : Type 0 where
   pub each : (x : ℕ) → IsTrue (joined x c) → IsTrue (met joined a b d x)
 
 -- Two blocks with members and of one label. Whatever the graph that is seen through the tables, they can be merged.

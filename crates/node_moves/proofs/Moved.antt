@@ -15,7 +15,7 @@ use Rattle.bisim_spec.proofs.Bisimilar.{is_some_at}
 use Rattle.bisim_spec.proofs.Moves.{block_from, between_most, between_moved, touching_most}
 use Rattle.bisim_spec.proofs.Together.{block_below}
 use Rattle.quotient.specs.Joined.{one_if}
-use Rattle.node_moves.specs.Shifts.{onto_count, from_count, IsMoved}
+use Rattle.node_moves.specs.Shifts.{onto_count, from_count, MovesNode}
 
 -- one more element
 sum_next : (f : ℕ → ℕ) (xs : List ℕ) (i : ℕ) → i < length xs → sum_by f (take (i + 1) xs) ≡ sum_by f (take i xs) + f (get_or xs i 0)
@@ -29,7 +29,7 @@ sum_first f xs i h =
     omega (arith, a, b)
 
 -- there is a partition that differs so
-pub moved_set : (n own b : ℕ) (p : List (Option ℕ)) → at p n ≡ Some own → IsMoved n own b p (slice_set p n (Some b))
+pub moved_set : (n own b : ℕ) (p : List (Option ℕ)) → at p n ≡ Some own → MovesNode n own b p (slice_set p n (Some b))
 moved_set n own b p e =
     let l = block_below p n (is_some_at (at p n) own e) in
     record {
@@ -38,18 +38,18 @@ moved_set n own b p e =
       others = λ m ne. get_or-set_other p n m (Some b) None ne;
     }
 
-pub moved_same : (n own b : ℕ) (p q p2 : List (Option ℕ)) → q ≡ p → IsMoved n own b q p2 → IsMoved n own b p p2
-moved_same n own b p q p2 e d = subst (λ x. IsMoved n own b x p2) e d
+pub moved_same : (n own b : ℕ) (p q p2 : List (Option ℕ)) → q ≡ p → MovesNode n own b q p2 → MovesNode n own b p p2
+moved_same n own b p q p2 e d = subst (λ x. MovesNode n own b x p2) e d
 
-pub joined_new : (n own b a q : ℕ) (p p2 : List (Option ℕ)) → IsMoved n own b p p2 → q ≢ n → at p q ≡ Some a → joins p2 a b (q, n) ≡ true
+pub joined_new : (n own b a q : ℕ) (p p2 : List (Option ℕ)) → MovesNode n own b p p2 → q ≢ n → at p q ≡ Some a → joins p2 a b (q, n) ≡ true
 joined_new n own b a q p p2 d ne e =
     and_from (is_this a (at p2 q)) (is_this b (at p2 n)) (block_from a (at p2 q) (d.others q ne ∙ e)) (block_from b (at p2 n) d.after)
 
-pub joined_loop : (n own b q : ℕ) (p p2 : List (Option ℕ)) → IsMoved n own b p p2 → q ≡ n → joins p2 b b (q, n) ≡ true
+pub joined_loop : (n own b q : ℕ) (p p2 : List (Option ℕ)) → MovesNode n own b p p2 → q ≡ n → joins p2 b b (q, n) ≡ true
 joined_loop n own b q p p2 d e =
     and_from (is_this b (at p2 q)) (is_this b (at p2 n)) (block_from b (at p2 q) (ap (at p2) e ∙ d.after)) (block_from b (at p2 n) d.after)
 
-pub joined_child : (n own b d c : ℕ) (p p2 : List (Option ℕ)) → IsMoved n own b p p2 → c ≢ n → at p c ≡ Some d → joins_off n p2 b d (n, c) ≡ true
+pub joined_child : (n own b d c : ℕ) (p p2 : List (Option ℕ)) → MovesNode n own b p p2 → c ≢ n → at p c ≡ Some d → joins_off n p2 b d (n, c) ≡ true
 joined_child n own b d c p p2 f ne e =
     and_from (joins p2 b d (n, c)) (not (nat_eq c n))
     (and_from (is_this b (at p2 n)) (is_this d (at p2 c)) (block_from b (at p2 n) f.after) (block_from d (at p2 c) (f.others c ne ∙ e)))
@@ -119,7 +119,7 @@ module _ (edges : Edges) (n : ℕ) (parents children : List ℕ) (lp : Lists (λ
       omega (arith, a, b)
 
   -- supports once all edges at the node are shifted
-  pub shifted_all : (own b : ℕ) (p p2 : List (Option ℕ)) (x y s1 s2 : ℕ) → IsMoved n own b p p2
+  pub shifted_all : (own b : ℕ) (p p2 : List (Option ℕ)) (x y s1 s2 : ℕ) → MovesNode n own b p p2
       → s1 + onto_count p n x y parents ≡ edges_between edges p x y + onto_count p2 n x y parents
       → s2 + from_count p n x y children ≡ s1 + from_count p2 n x y children → s2 ≡ edges_between edges p2 x y
   shifted_all own b p p2 x y s1 s2 d first second =
@@ -144,7 +144,7 @@ all_taken xs i h = take_all i xs h
 other_than : (m n : ℕ) → m ≢ n → nat_eq m n ≡ false
 other_than m n ne = elim (eqb_tells m n) [ inl s ↦ absurd (ne s.1) | inr k ↦ k.0 ]
 
-pub moved_at : (n own b : ℕ) (p q p2 : List (Option ℕ)) → at p n ≡ Some own → q ≡ p → ((m : ℕ) → at p2 m ≡ cond (nat_eq m n) (Some b) (at q m)) → IsMoved n own b p p2
+pub moved_at : (n own b : ℕ) (p q p2 : List (Option ℕ)) → at p n ≡ Some own → q ≡ p → ((m : ℕ) → at p2 m ≡ cond (nat_eq m n) (Some b) (at q m)) → MovesNode n own b p p2
 moved_at n own b p q p2 first same moved = record {
   before = first;
   after = moved n ∙ ap (λ t. cond t (Some b) (at q n)) ((Decides-eqb n n).1 refl);

@@ -15,7 +15,7 @@ abbrev pub from_count : List (Option ℕ) → ℕ → ℕ → ℕ → List ℕ �
 from_count block n x y children = sum_by (λ c. one_if (joins_off n block x y (n, c))) children
 
 -- the partitions differ at n alone, which goes from one block to another
-pub record IsMoved (n own b : ℕ) (block block2 : List (Option ℕ)) : Type 0 where
+pub record MovesNode (n own b : ℕ) (block block2 : List (Option ℕ)) : Type 0 where
   pub before : at block n ≡ Some own
   pub after : at block2 n ≡ Some b
   pub others : (m : ℕ) → m ≢ n → at block2 m ≡ at block m

@@ -27,7 +27,7 @@ use Rattle.quotient_draft.specs.Basis.{IsOver}
 use Rattle.upkeep_spec.specs.Named.{AreNamed}
 use Rattle.upkeep_spec.specs.Supported.{AreEdgeCounts}
 use Rattle.upkeep_spec.proofs.Stills.{twin_link, twin_unlink, one_step_still, supported_other}
-use Rattle.one_drafting.specs.Drafting.{IsChanged, IsDrafted, AreSupportsAlone}
+use Rattle.one_drafting.specs.Drafting.{ShowsChange, IsDrafted, AreSupportsAlone}
 use Rattle.one_drafting.proofs.Bases.{AreTexted, named_texts, base_texts}
 
 blocks_same : (q : Quotient) (d : Drafted) → AreSupportsAlone d → shown_blocks q d ≡ q.blocks.block_of
@@ -86,7 +86,7 @@ at_same : (q : Quotient) (d : Drafted) → AreSupportsAlone d → (n : ℕ) → 
 at_same q d alone n = ap (λ (p : List (Option ℕ)). at p n) (blocks_same q d alone)
 
 pub changed_link : (g : Graph) (u v a b : ℕ) (q : Quotient) (d : Drafted) → IsGraph g → has_edge g u v ≡ false → FitsOne g (view_of q) → IsOver q.blocks.block_of q.blocks.labels d
-    → AreSupportsAlone d → AreAt q.blocks.block_of u v a b → IsRaised q d a b → IsChanged g (link u v) q d
+    → AreSupportsAlone d → AreAt q.blocks.block_of u v a b → IsRaised q d a b → ShowsChange g (link u v) q d
 changed_link g u v a b q d graph absent fits over alone ends r =
     let partition = partition_same g q d fits alone in
     let named = named_same g q d graph fits alone in
@@ -99,7 +99,7 @@ changed_link g u v a b q d graph absent fits over alone ends r =
     }
 
 pub changed_unlink : (g : Graph) (u v a b : ℕ) (q : Quotient) (d : Drafted) → IsGraph g → has_edge g u v ≡ true → FitsOne g (view_of q) → IsOver q.blocks.block_of q.blocks.labels d
-    → AreSupportsAlone d → AreAt q.blocks.block_of u v a b → IsLowered q d a b → IsChanged g (unlink u v) q d
+    → AreSupportsAlone d → AreAt q.blocks.block_of u v a b → IsLowered q d a b → ShowsChange g (unlink u v) q d
 changed_unlink g u v a b q d graph present fits over alone ends r =
     let partition = partition_same g q d fits alone in
     let named = named_same g q d graph fits alone in
@@ -121,7 +121,7 @@ other_linked g u v a b q absent fits ends some =
     supported_other g u v a b q.blocks.block_of fits.index.stable absent ends.from ends.onto (support_joined g q.blocks.block_of a b (omega (arith, some, base)))
 
 pub still_link : (g : Graph) (u v : ℕ) (q : Quotient) (d : Drafted) → IsGraph g → IsGraph (with_edge g u v) → FitsOne g (view_of q) → AreSupportsAlone d
-    → HasOther (shape_of (with_edge g u v)) q.blocks.block_of u v → IsChanged g (link u v) q d → IsDrafted g (link u v) q d
+    → HasOther (shape_of (with_edge g u v)) q.blocks.block_of u v → ShowsChange g (link u v) q d → IsDrafted g (link u v) q d
 still_link g u v q d graph graph2 fits alone other changed = record {
   over = changed.over;
   step = subst (OneStep g q.blocks.block_of (link u v) (with_edge g u v)) (sym (blocks_same q d alone))
@@ -132,7 +132,7 @@ still_link g u v q d graph graph2 fits alone other changed = record {
 }
 
 pub still_unlink : (g : Graph) (u v : ℕ) (q : Quotient) (d : Drafted) → IsGraph g → IsGraph (without_edge g u v) → FitsOne g (view_of q) → AreSupportsAlone d
-    → HasOther (shape_of (without_edge g u v)) q.blocks.block_of u v → IsChanged g (unlink u v) q d → IsDrafted g (unlink u v) q d
+    → HasOther (shape_of (without_edge g u v)) q.blocks.block_of u v → ShowsChange g (unlink u v) q d → IsDrafted g (unlink u v) q d
 still_unlink g u v q d graph graph2 fits alone other changed = record {
   over = changed.over;
   step = subst (OneStep g q.blocks.block_of (unlink u v) (without_edge g u v)) (sym (blocks_same q d alone))

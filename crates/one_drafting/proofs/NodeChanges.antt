@@ -26,7 +26,7 @@ use Rattle.quotient_draft.specs.Basis.{IsOver}
 use Rattle.quotient_draft.proofs.Puts.{at_put}
 use Rattle.upkeep_spec.specs.Named.{AreNamed}
 use Rattle.upkeep_spec.specs.Supported.{AreEdgeCounts}
-use Rattle.one_drafting.specs.Drafting.{IsChanged}
+use Rattle.one_drafting.specs.Drafting.{ShowsChange}
 use Rattle.one_drafting.proofs.Bases.{AreTexted, number_from, named_texts}
 
 -- where nodes other than n have the blocks that they had
@@ -89,7 +89,7 @@ past_bare g graph = record {
 -- a node that comes is put into a block of its own
 pub changed_node : (g : Graph) (t : List ℕ) (q : Quotient) (d : Drafted) (n b l : ℕ) → IsGraph g → IsGraph (with_node g t) → FitsOne g (view_of q)
     → IsOver q.blocks.block_of q.blocks.labels d → n ≡ length g.given → label_number (with_node g t) n ≡ Some l → IsPut n (Some b) q.blocks.block_of (shown_blocks q d)
-    → at q.blocks.labels b ≡ None → shown_labels q d ≡ put q.blocks.labels b l → d.supports ≡ [] → IsChanged g (node t) q d
+    → at q.blocks.labels b ≡ None → shown_labels q d ≡ put q.blocks.labels b l → d.supports ≡ [] → ShowsChange g (node t) q d
 changed_node g t q d n b l graph graph2 fits over next number moved free labels none = record {
   over = over;
   partition = record {
@@ -155,7 +155,7 @@ gone_label (x ∷ xs) (suc u) = gone_label xs u
 
 -- a node that goes is put into none
 pub changed_drop : (g : Graph) (u : ℕ) (q : Quotient) (d : Drafted) → IsGraph g → is_used g u ≡ false → FitsOne g (view_of q)
-    → IsOver q.blocks.block_of q.blocks.labels d → IsPut u None q.blocks.block_of (shown_blocks q d) → d.added ≡ [] → d.supports ≡ [] → IsGraph (without_node g u) → IsChanged g (drop u) q d
+    → IsOver q.blocks.block_of q.blocks.labels d → IsPut u None q.blocks.block_of (shown_blocks q d) → d.added ≡ [] → d.supports ≡ [] → IsGraph (without_node g u) → ShowsChange g (drop u) q d
 changed_drop g u q d graph unused fits over moved added none graph2 = record {
   over = over;
   partition = record {

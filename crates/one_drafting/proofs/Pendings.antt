@@ -25,7 +25,7 @@ use Rattle.quotient.specs.Joined.{one_if}
 use Rattle.quotient_draft.specs.Drafts.{Drafted, no_changes, shown_blocks, shown_labels, shown_support, with_moves}
 use Rattle.quotient_draft.specs.Basis.{IsOver}
 use Rattle.upkeep_spec.proofs.Sums.{few_lists}
-use Rattle.one_drafting.specs.Drafting.{IsBefore, IsChanged, IsDrafted, IsNodeChange, IsTarget, AreSupportsAlone}
+use Rattle.one_drafting.specs.Drafting.{IsBefore, ShowsChange, IsDrafted, IsNodeChange, IsOnlyTarget, AreSupportsAlone}
 use Rattle.one_drafting.proofs.NodeChanges.{IsPut, changed_node, changed_drop}
 use Rattle.one_drafting.proofs.EdgeChanges.{AreAt, IsRaised, IsLowered, changed_link, changed_unlink, other_linked, none_linked, other_unlinked, unlink_some, still_link, still_unlink}
 
@@ -42,7 +42,7 @@ node_count a n kind count =
 pub node_changed : (a : Pending) (q : Quotient) (d0 d1 d : Drafted) (n b l : ℕ) → IsBefore a q → IsNodeChange a.change → d0 ≡ no_changes → n + 1 ≡ length (graph_after a).given
     → label_number (graph_after a) n ≡ Some l → IsLeastFree (shown_labels q d0) b → d1 ≡ record d0 { added = d0.added ++ (b, l) ∷ [] }
     → shown_labels q d1 ≡ put (shown_labels q d0) b l → ((m : ℕ) → at (shown_blocks q d) m ≡ cond (nat_eq m n) (Some b) (at (shown_blocks q d1) m))
-    → d.added ≡ d1.added → d.supports ≡ d1.supports → IsOver q.blocks.block_of q.blocks.labels d → IsChanged a.before a.change q d
+    → d.added ≡ d1.added → d.supports ≡ d1.supports → IsOver q.blocks.block_of q.blocks.labels d → ShowsChange a.before a.change q d
 node_changed a q d0 d1 d n b l before kind empty count number least made labels moved added supports over =
     let g = a.before in
     let t = kind.label in
@@ -50,7 +50,7 @@ node_changed a q d0 d1 d n b l before kind empty count number least made labels 
     let none : d1.supports ≡ [] = ap (λ (e : Drafted). e.supports) made ∙ ap (λ (e : Drafted). e.supports) empty in
     let size : length (with_node g t).given ≡ length g.given + 1 = length-append g.given (Some t ∷ []) in
     let given : length (after a.change g).given ≡ length (with_node g t).given = ap (λ c. length (after c g).given) kind.is in
-    subst (λ c. IsChanged g c q d) (sym kind.is)
+    subst (λ c. ShowsChange g c q d) (sym kind.is)
     (changed_node g t q d n b l before.graph (subst (λ c. IsGraph (after c g)) kind.is before.graph_after) before.fits over (omega (arith, count, size, given))
     (subst (λ c. label_number (after c g) n ≡ Some l) kind.is number)
     (record { at_each = λ m. moved m ∙ ap (λ ms. cond (nat_eq m n) (Some b) (at (with_moves q.blocks.block_of ms) m)) moves })
@@ -63,17 +63,17 @@ drop_live a q u before is = subst (λ c. IsNew c a.before) is before.new
 pub drop_small : (a : Pending) (q : Quotient) (u : ℕ) → IsBefore a q → a.change ≡ drop u → u < length a.before.given
 drop_small a q u before is = (is_shape a.before before.graph).below u (drop_live a q u before is).live
 
-pub drop_target : (a : Pending) (q : Quotient) (u : ℕ) → IsBefore a q → a.change ≡ drop u → IsTarget a.before a.change u
-drop_target a q u before is = subst (λ c. IsTarget a.before c u) (sym is) (record {
+pub drop_target : (a : Pending) (q : Quotient) (u : ℕ) → IsBefore a q → a.change ≡ drop u → IsOnlyTarget a.before a.change u
+drop_target a q u before is = subst (λ c. IsOnlyTarget a.before c u) (sym is) (record {
   is = λ n. or-false (nat_eq n u);
   given = (let small = drop_small a q u before is in let same = length-set a.before.given u None in omega (arith, small, same));
 })
 
 pub drop_changed : (a : Pending) (q : Quotient) (d0 d : Drafted) (u : ℕ) → IsBefore a q → a.change ≡ drop u → d0 ≡ no_changes
     → ((m : ℕ) → at (shown_blocks q d) m ≡ cond (nat_eq m u) None (at (shown_blocks q d0) m)) → d.added ≡ d0.added → d.supports ≡ d0.supports
-    → IsOver q.blocks.block_of q.blocks.labels d → IsChanged a.before a.change q d
+    → IsOver q.blocks.block_of q.blocks.labels d → ShowsChange a.before a.change q d
 drop_changed a q d0 d u before is empty moved added supports over =
-    subst (λ c. IsChanged a.before c q d) (sym is)
+    subst (λ c. ShowsChange a.before c q d) (sym is)
     (changed_drop a.before u q d before.graph (drop_live a q u before is).unused before.fits over
     (record { at_each = λ m. moved m ∙ ap (λ (e : Drafted). cond (nat_eq m u) None (at (shown_blocks q e) m)) empty }) (added ∙ ap (λ (e : Drafted). e.added) empty)
     (supports ∙ ap (λ (e : Drafted). e.supports) empty) (subst (λ c. IsGraph (after c a.before)) is before.graph_after))
@@ -86,14 +86,14 @@ new_link a q u v before is = subst (λ c. IsNew c a.before) is before.new
 new_unlink : (a : Pending) (q : Quotient) (u v : ℕ) → IsBefore a q → a.change ≡ unlink u v → IsNew (unlink u v) a.before
 new_unlink a q u v before is = subst (λ c. IsNew c a.before) is before.new
 
-pub link_target : (a : Pending) (q : Quotient) (u v : ℕ) → IsBefore a q → a.change ≡ link u v → IsTarget a.before a.change v
-link_target a q u v before is = subst (λ c. IsTarget a.before c v) (sym is) (record {
+pub link_target : (a : Pending) (q : Quotient) (u v : ℕ) → IsBefore a q → a.change ≡ link u v → IsOnlyTarget a.before a.change v
+link_target a q u v before is = subst (λ c. IsOnlyTarget a.before c v) (sym is) (record {
   is = λ n. or-false (nat_eq n v);
   given = (is_shape a.before before.graph).below v (new_link a q u v before is).onto;
 })
 
-pub unlink_target : (a : Pending) (q : Quotient) (u v : ℕ) → IsBefore a q → a.change ≡ unlink u v → IsTarget a.before a.change v
-unlink_target a q u v before is = subst (λ c. IsTarget a.before c v) (sym is) (record {
+pub unlink_target : (a : Pending) (q : Quotient) (u v : ℕ) → IsBefore a q → a.change ≡ unlink u v → IsOnlyTarget a.before a.change v
+unlink_target a q u v before is = subst (λ c. IsOnlyTarget a.before c v) (sym is) (record {
   is = λ n. or-false (nat_eq n v);
   given = (is_shape a.before before.graph).below v (new_unlink a q u v before is).onto;
 })
@@ -111,17 +111,17 @@ few_base a q d0 x y before empty =
 
 pub link_changed : (a : Pending) (q : Quotient) (d0 d : Drafted) (u v x y : ℕ) → IsBefore a q → a.change ≡ link u v → d0 ≡ no_changes → AreAt q.blocks.block_of u v x y
     → ((k m : ℕ) → shown_support q d k m ≡ shown_support q d0 k m + one_if (nat_eq k x && nat_eq m y)) → AreSupportsAlone d
-    → IsOver q.blocks.block_of q.blocks.labels d → IsChanged a.before a.change q d
+    → IsOver q.blocks.block_of q.blocks.labels d → ShowsChange a.before a.change q d
 link_changed a q d0 d u v x y before is empty ends raised alone over =
-    subst (λ c. IsChanged a.before c q d) (sym is)
+    subst (λ c. ShowsChange a.before c q d) (sym is)
     (changed_link a.before u v x y q d before.graph (new_link a q u v before is).absent before.fits over alone ends
     (record { raised = λ k m. raised k m ∙ ap (λ (e : Drafted). shown_support q e k m + one_if (nat_eq k x && nat_eq m y)) empty }))
 
 pub unlink_changed : (a : Pending) (q : Quotient) (d0 d : Drafted) (u v x y : ℕ) → IsBefore a q → a.change ≡ unlink u v → d0 ≡ no_changes → AreAt q.blocks.block_of u v x y
     → ((k m : ℕ) → shown_support q d k m + one_if (nat_eq k x && nat_eq m y) ≡ shown_support q d0 k m) → AreSupportsAlone d
-    → IsOver q.blocks.block_of q.blocks.labels d → IsChanged a.before a.change q d
+    → IsOver q.blocks.block_of q.blocks.labels d → ShowsChange a.before a.change q d
 unlink_changed a q d0 d u v x y before is empty ends lowered alone over =
-    subst (λ c. IsChanged a.before c q d) (sym is)
+    subst (λ c. ShowsChange a.before c q d) (sym is)
     (changed_unlink a.before u v x y q d before.graph (new_unlink a q u v before is).present before.fits over alone ends
     (record { lowered = λ k m. lowered k m ∙ ap (λ (e : Drafted). shown_support q e k m) empty }))
 
@@ -193,18 +193,18 @@ parents_few g v xs graph lists = few_lists (length g.given) (λ u. has_edge g u 
 -- ---- where the partition stays
 
 pub link_still : (a : Pending) (q : Quotient) (d : Drafted) (u v : ℕ) → IsBefore a q → a.change ≡ link u v → AreSupportsAlone d
-    → HasOther (shape_of (graph_after a)) q.blocks.block_of u v → IsChanged a.before a.change q d → IsDrafted a.before a.change q d
+    → HasOther (shape_of (graph_after a)) q.blocks.block_of u v → ShowsChange a.before a.change q d → IsDrafted a.before a.change q d
 link_still a q d u v before is alone other changed =
     subst (λ c. IsDrafted a.before c q d) (sym is)
     (still_link a.before u v q d before.graph (subst (λ c. IsGraph (after c a.before)) is before.graph_after) before.fits alone
-    (subst (λ c. HasOther (shape_of (after c a.before)) q.blocks.block_of u v) is other) (subst (λ c. IsChanged a.before c q d) is changed))
+    (subst (λ c. HasOther (shape_of (after c a.before)) q.blocks.block_of u v) is other) (subst (λ c. ShowsChange a.before c q d) is changed))
 
 pub unlink_still : (a : Pending) (q : Quotient) (d : Drafted) (u v : ℕ) → IsBefore a q → a.change ≡ unlink u v → AreSupportsAlone d
-    → HasOther (shape_of (graph_after a)) q.blocks.block_of u v → IsChanged a.before a.change q d → IsDrafted a.before a.change q d
+    → HasOther (shape_of (graph_after a)) q.blocks.block_of u v → ShowsChange a.before a.change q d → IsDrafted a.before a.change q d
 unlink_still a q d u v before is alone other changed =
     subst (λ c. IsDrafted a.before c q d) (sym is)
     (still_unlink a.before u v q d before.graph (subst (λ c. IsGraph (after c a.before)) is before.graph_after) before.fits alone
-    (subst (λ c. HasOther (shape_of (after c a.before)) q.blocks.block_of u v) is other) (subst (λ c. IsChanged a.before c q d) is changed))
+    (subst (λ c. HasOther (shape_of (after c a.before)) q.blocks.block_of u v) is other) (subst (λ c. ShowsChange a.before c q d) is changed))
 
 one_most : (t : Bool) → cond t 1 0 ≤ 1
 one_most true = omega arith

@@ -37,16 +37,16 @@ use Rattle.upkeep_spec.proofs.Joining.{one_step_done}
 use Rattle.upkeep_spec.proofs.Labelled.{labelled_named}
 use Rattle.upkeep_spec.proofs.Sums.{where_in, but, sum_without}
 use Rattle.upkeep_spec.proofs.OneSteps.{Stages, reach_closed}
-use Rattle.one_drafting.specs.Drafting.{IsChanged, IsTarget, reached, rounds_cost}
+use Rattle.one_drafting.specs.Drafting.{ShowsChange, IsOnlyTarget, reached, rounds_cost}
 
 pub one_once : (t : ℕ) → IsDistinct nat_eq (t ∷ [])
 unfolding IsDistinct
 one_once t = (tt, tt)
 
-same_test : (g : Graph) (c : Change) (t : ℕ) → IsTarget g c t → has (t ∷ []) ≡ target c g
+same_test : (g : Graph) (c : Change) (t : ℕ) → IsOnlyTarget g c t → has (t ∷ []) ≡ target c g
 same_test g c t h = λ j n. h.is n j
 
-pub stable_there : (g : Graph) (c : Change) (t : ℕ) (q : Quotient) (d : Drafted) → IsGraph g → IsGraph (after c g) → FitsOne g (view_of q) → IsTarget g c t → IsChanged g c q d
+pub stable_there : (g : Graph) (c : Change) (t : ℕ) (q : Quotient) (d : Drafted) → IsGraph g → IsGraph (after c g) → FitsOne g (view_of q) → IsOnlyTarget g c t → ShowsChange g c q d
     → StableBut (shape_of (after c g)) (shown_blocks q d) (has (t ∷ []))
 stable_there g c t q d graph graph2 fits target_is changed = subst (StableBut (shape_of (after c g)) (shown_blocks q d)) (sym (same_test g c t target_is))
     (stable_but_changed (target c g) (shape_of g) (shape_of (after c g)) q.blocks.block_of (shown_blocks q d) (is_shape g graph) (is_shape (after c g) graph2) (differs_after c g)
@@ -56,7 +56,7 @@ pub named_off : (off : ℕ → Bool) (p : List (Option ℕ)) (labels names : ℕ
 named_off off p labels names named = record { is = λ n b h e. named.is n b e }
 
 -- the target is reached
-pub target_reached : (g : Graph) (c : Change) (t : ℕ) → IsTarget g c t → (n : ℕ) → IsTrue (has (t ∷ []) n) → IsTrue (reached g c n)
+pub target_reached : (g : Graph) (c : Change) (t : ℕ) → IsOnlyTarget g c t → (n : ℕ) → IsTrue (has (t ∷ []) n) → IsTrue (reached g c n)
 target_reached g c t target_is n h = reach_start (shape_of (after c g)) (target c g) n (sym (target_is.is n) ∙ h)
 
 -- the split clause of this change
@@ -65,7 +65,7 @@ pub record HasSplit (g : Graph) (c : Change) (t : ℕ) (p1 p2 : List (Option ℕ
       → IsSplitInside (shape_of (after c g)) inside p1 p2 [] made
 
 stages : (g : Graph) (c : Change) (t : ℕ) (q : Quotient) (d : Drafted) (p2 : List (Option ℕ)) (made : List ℕ) → IsGraph g → IsGraph (after c g) → FitsOne g (view_of q)
-    → IsTarget g c t → IsChanged g c q d → HasSplit g c t (shown_blocks q d) p2 made
+    → IsOnlyTarget g c t → ShowsChange g c q d → HasSplit g c t (shown_blocks q d) p2 made
     → Stages (target c g) (shape_of g) (shape_of (after c g)) q.blocks.block_of (shown_blocks q d) p2 made
 stages g c t q d p2 made graph graph2 fits target_is changed split = record {
   shape = is_shape g graph;
@@ -83,13 +83,13 @@ pub record AreAdded (t : ℕ) (p2 : List (Option ℕ)) (made suspects : List ℕ
   pub made_there : (b : ℕ) → IsTrue (has made b) → IsTrue (has suspects b)
   pub target_there : (b : ℕ) → at p2 t ≡ Some b → IsTrue (has suspects b)
 
-only_target : (g : Graph) (c : Change) (t : ℕ) → IsTarget g c t → (n : ℕ) → IsTrue (target c g n) → n ≡ t
+only_target : (g : Graph) (c : Change) (t : ℕ) → IsOnlyTarget g c t → (n : ℕ) → IsTrue (target c g n) → n ≡ t
 only_target g c t target_is n h = elim (eqb_tells n t) [
   | inl s ↦ s.1
   | inr k ↦ absurd (true≢false (sym h ∙ sym (target_is.is n) ∙ or-false (nat_eq n t) ∙ k.0))
 ]
 
-suspects_of : (g : Graph) (c : Change) (t : ℕ) (p2 : List (Option ℕ)) (made suspects : List ℕ) → IsTarget g c t → AreAdded t p2 made suspects
+suspects_of : (g : Graph) (c : Change) (t : ℕ) (p2 : List (Option ℕ)) (made suspects : List ℕ) → IsOnlyTarget g c t → AreAdded t p2 made suspects
     → AreSuspected (target c g) p2 made suspects
 suspects_of g c t p2 made suspects target_is added = record {
   made_there = added.made_there;
@@ -101,7 +101,7 @@ pub record HasMerge (p2 p3 : List (Option ℕ)) (labels : ℕ → Option ℕ) (s
   pub merged : (s : Shape) → IsViewed s p2 labels (λ x y. nat_lt 0 (support x y)) → AreSuspects s p2 (λ b. IsTrue (has suspects b)) → IsDone s p2 p3
 
 pub stepped : (g : Graph) (c : Change) (t : ℕ) (q : Quotient) (d d2 : Drafted) (p3 : List (Option ℕ)) (made suspects : List ℕ) → IsGraph g → IsGraph (after c g)
-    → FitsOne g (view_of q) → IsTarget g c t → IsChanged g c q d → HasSplit g c t (shown_blocks q d) (shown_blocks q d2) made
+    → FitsOne g (view_of q) → IsOnlyTarget g c t → ShowsChange g c q d → HasSplit g c t (shown_blocks q d) (shown_blocks q d2) made
     → AreNamed (shown_blocks q d2) (at (shown_labels q d2)) (label_number (after c g)) → AreEdgeCounts (after c g) (shown_blocks q d2) (shown_support q d2)
     → AreAdded t (shown_blocks q d2) made suspects → HasMerge (shown_blocks q d2) p3 (at (shown_labels q d2)) (shown_support q d2) suspects
     → (KeepsParents c (after c g) q.blocks.block_of → ⊥) → OneStep g q.blocks.block_of c (after c g) p3
@@ -136,7 +136,7 @@ few_after (unlink u v) g new few = subst (λ n. n ≤ 2 ^ 30) (sym (set.len-remo
 few_after (drop u) g new few = few
 
 -- what a split costs, where it is bounded by each closed set with the target
-pub reach_cost : (g : Graph) (c : Change) (t old new : ℕ) → IsGraph (after c g) → IsTarget g c t
+pub reach_cost : (g : Graph) (c : Change) (t old new : ℕ) → IsGraph (after c g) → IsOnlyTarget g c t
     → ((inside : ℕ → Bool) → IsClosed (shape_of (after c g)) inside → ((n : ℕ) → IsTrue (has (t ∷ []) n) → IsTrue (inside n))
       → new ≤ old + 4 * ((size_of (shape_of (after c g)) inside + 1) * weight (shape_of (after c g)) inside))
     → new ≤ old + 4 * rounds_cost (shape_of (after c g)) (reached g c)
@@ -150,7 +150,7 @@ more_times : (r w : ℕ) → w ≤ (r + 1) * w
 more_times r w = (let e : (r + 1) * w ≡ r * w + w = omega arith in omega (arith, e))
 
 -- reading the parents of the target once costs no more than a split may
-pub read_light : (g : Graph) (c : Change) (t : ℕ) → IsTarget g c t → parent_count (shape_of (after c g)) t + 2 ≤ 4 * rounds_cost (shape_of (after c g)) (reached g c)
+pub read_light : (g : Graph) (c : Change) (t : ℕ) → IsOnlyTarget g c t → parent_count (shape_of (after c g)) t + 2 ≤ 4 * rounds_cost (shape_of (after c g)) (reached g c)
 read_light g c t target_is =
     let s = shape_of (after c g) in
     let set = reached g c in

@@ -24,7 +24,7 @@ use Rattle.upkeep_spec.specs.Supported.{AreEdgeCounts}
 
 -- The draft shows the graph after the change, with nodes in the blocks in which they were: a new node has some block. The partition
 -- may be unstable at the target.
-pub record IsChanged (g : Graph) (c : Change) (q : Quotient) (d : Drafted) : Type 0 where
+pub record ShowsChange (g : Graph) (c : Change) (q : Quotient) (d : Drafted) : Type 0 where
   pub over : IsOver q.blocks.block_of q.blocks.labels d
   pub partition : IsPartition (shape_of (after c g)) (shown_blocks q d)
   pub keeps : KeepsBlocks (shape_of g) (shape_of (after c g)) q.blocks.block_of (shown_blocks q d)
@@ -72,7 +72,7 @@ pub record IsNodeChange (c : Change) : Type 0 where
   pub is : c ≡ node label
 
 -- the change has this target and no other
-pub record IsTarget (g : Graph) (c : Change) (t : ℕ) : Type 0 where
+pub record IsOnlyTarget (g : Graph) (c : Change) (t : ℕ) : Type 0 where
   pub is : (n : ℕ) → has (t ∷ []) n ≡ target c g n
   pub given : t < length (after c g).given
 

@@ -10,7 +10,7 @@ ghost use Rattle.bisim_spec.specs.Views.{support_at};
 ghost use Rattle.bisim_spec.specs.Weights.{parent_count};
 ghost use Rattle.graph_update.specs.Pending.{graph_after};
 ghost use Rattle.quotient_draft.specs.Drafts.{no_changes};
-ghost use Rattle.one_drafting.specs.Drafting.{IsBefore, IsChanged, IsTarget, AreSupportsAlone};
+ghost use Rattle.one_drafting.specs.Drafting.{IsBefore, ShowsChange, IsOnlyTarget, AreSupportsAlone};
 
 use graph_update::{After, Neighbours};
 use px_base::{Memory, NodeId, Steps};
@@ -38,9 +38,9 @@ pub(crate) fn draft_link(
     requires before { IsBefore after.now base.now }
     requires empty { draft.old ≡ no_changes }
     requires links { after.now.change ≡ link u v }
-    ensures changed { OnOk result (IsChanged after.now.before after.now.change base.now draft.new) }
+    ensures changed { OnOk result (ShowsChange after.now.before after.now.change base.now draft.new) }
     ensures alone { OnOk result (AreSupportsAlone draft.new) }
-    ensures target { IsTarget after.now.before after.now.change v }
+    ensures target { IsOnlyTarget after.now.before after.now.change v }
     ensures yes { IfOk result (λ s. IsTrue s → HasOther (shape_of (graph_after after.now)) base.now.blocks.block_of u v) }
     ensures no { IfOk result (λ s. IsFalse s → HasOther (shape_of (graph_after after.now)) base.now.blocks.block_of u v → ⊥) }
     ensures tells { (a b : ℕ) → at base.now.blocks.block_of u ≡ Some a → at base.now.blocks.block_of v ≡ Some b → IfOk result (λ s. s ≡ nat_lt 0 (support_at base.now.supports a b)) }
@@ -104,9 +104,9 @@ pub(crate) fn draft_unlink<L: Ledger>(
     requires before { IsBefore after.now base.now }
     requires empty { draft.old ≡ no_changes }
     requires unlinks { after.now.change ≡ unlink u v }
-    ensures changed { OnOk result (IsChanged after.now.before after.now.change base.now draft.new) }
+    ensures changed { OnOk result (ShowsChange after.now.before after.now.change base.now draft.new) }
     ensures alone { OnOk result (AreSupportsAlone draft.new) }
-    ensures target { IsTarget after.now.before after.now.change v }
+    ensures target { IsOnlyTarget after.now.before after.now.change v }
     ensures yes { IfOk result (λ s. IsTrue s → HasOther (shape_of (graph_after after.now)) base.now.blocks.block_of u v) }
     ensures no { IfOk result (λ s. IsFalse s → HasOther (shape_of (graph_after after.now)) base.now.blocks.block_of u v → ⊥) }
     ensures cost { steps.new ≤ steps.old + parent_count (shape_of (graph_after after.now)) v + 2 }

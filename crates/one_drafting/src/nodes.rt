@@ -2,7 +2,7 @@
 ghost use Rattle.std.specs.Prelude.{◌≡◌, ℕ, OnOk, IfOk};
 ghost use Rattle.px_spec.specs.Changes.{drop};
 ghost use Rattle.quotient_draft.specs.Drafts.{no_changes};
-ghost use Rattle.one_drafting.specs.Drafting.{IsBefore, IsChanged, IsNodeChange, IsTarget};
+ghost use Rattle.one_drafting.specs.Drafting.{IsBefore, ShowsChange, IsNodeChange, IsOnlyTarget};
 
 use graph_update::After;
 use px_base::{Memory, NodeId};
@@ -18,8 +18,8 @@ pub(crate) fn draft_node(
     requires before { IsBefore after.now base.now }
     requires empty { draft.old ≡ no_changes }
     requires node { IsNodeChange after.now.change }
-    ensures changed { OnOk result (IsChanged after.now.before after.now.change base.now draft.new) }
-    ensures target { IfOk result (λ n. IsTarget after.now.before after.now.change n) }
+    ensures changed { OnOk result (ShowsChange after.now.before after.now.change base.now draft.new) }
+    ensures target { IfOk result (λ n. IsOnlyTarget after.now.before after.now.change n) }
 {
     if base.blocks() >= 1 << 31 {
         return Err(Memory);
@@ -41,8 +41,8 @@ pub(crate) fn draft_drop(
     requires before { IsBefore after.now base.now }
     requires empty { draft.old ≡ no_changes }
     requires drops { after.now.change ≡ drop u }
-    ensures changed { OnOk result (IsChanged after.now.before after.now.change base.now draft.new) }
-    ensures target { IsTarget after.now.before after.now.change u }
+    ensures changed { OnOk result (ShowsChange after.now.before after.now.change base.now draft.new) }
+    ensures target { IsOnlyTarget after.now.before after.now.change u }
 {
     // Called for its contract: numbers are small.
     let _created = after.created();

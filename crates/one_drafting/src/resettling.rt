@@ -6,7 +6,7 @@ ghost use Rattle.bisim_spec.specs.Targets.{KeepsParents};
 ghost use Rattle.graph_update.specs.Pending.{graph_after};
 ghost use Rattle.quotient_draft.specs.Drafts.{shown_blocks};
 ghost use Rattle.quotient_draft.specs.Basis.{IsOver};
-ghost use Rattle.one_drafting.specs.Drafting.{IsBefore, IsChanged, IsDrafted, IsTarget, reached, rounds_cost};
+ghost use Rattle.one_drafting.specs.Drafting.{IsBefore, ShowsChange, IsDrafted, IsOnlyTarget, reached, rounds_cost};
 
 use graph_update::After;
 use one_merging::merge;
@@ -40,8 +40,8 @@ pub(crate) fn resettle<L: Ledger>(
     steps: &mut Steps<L>,
 ) -> Result<(), Memory>
     requires before { IsBefore after.now base.now }
-    requires changed { IsChanged after.now.before after.now.change base.now draft.old }
-    requires target { IsTarget after.now.before after.now.change target }
+    requires changed { ShowsChange after.now.before after.now.change base.now draft.old }
+    requires target { IsOnlyTarget after.now.before after.now.change target }
     requires moves { KeepsParents after.now.change (graph_after after.now) base.now.blocks.block_of → ⊥ }
     ensures drafted { OnOk result (IsDrafted after.now.before after.now.change base.now draft.new) }
     ensures cost { steps.new ≤ steps.old + 4 * rounds_cost (shape_of (graph_after after.now)) (reached after.now.before after.now.change) }

@@ -5,7 +5,7 @@ use Rattle.px_spec.proofs.GraphLaws.{is_shape}
 use Rattle.bisim_spec.specs.Views.{support_at}
 use Rattle.graph_update.specs.Pending.{graph_after}
 use Rattle.quotient_draft.specs.Drafts.{with_moves, with_supports, shown_blocks, shown_support}
-use Rattle.node_moves.specs.Shifts.{from_count, IsMoved}
+use Rattle.node_moves.specs.Shifts.{from_count, MovesNode}
 use Rattle.node_moves.proofs.Moved.{moved_set, moved_same, moved_at, parts_most, shifted_all, room_for}
 use Rattle.node_moves.proofs.moving.move_node.Goals as goal
 
@@ -84,7 +84,7 @@ returns-clause-supports g c = record {
       let stay = ap (with_moves q.blocks.block_of) moves in
       let d = moved_at n own c.args.b p (shown_blocks q c.shift_children.new.draft) p2 c.block_of-own.ensures.block (ap (with_moves q.blocks.block_of) (c.in_ok-shift_children.ensures.moves ∙ moves)) c.in_ok-put.ensures.blocks in
       let first = c.in_ok-shift_parents.ensures.shifted x y p2 d in
-      let second = c.in_ok-shift_children.ensures.shifted x y p2 (subst (λ r. IsMoved n own c.args.b r p2) (sym stay) d) in
+      let second = c.in_ok-shift_children.ensures.shifted x y p2 (subst (λ r. MovesNode n own c.args.b r p2) (sym stay) d) in
       let same = c.requires.supports.each x y in
       let alike = ap (λ r. from_count r n x y children) stay in
       let both = shifted_all edges n parents children lp lc own c.args.b p p2 x y (shown_support q c.shift_parents.new.draft x y) (shown_support q c.shift_children.new.draft x y) d

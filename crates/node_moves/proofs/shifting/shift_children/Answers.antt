@@ -2,7 +2,7 @@ use Rattle.std.proofs.Common.{◌≡◌, ◌∙◌, ℕ, Bool, List, Option, Som
 use Rattle.bisim_spec.specs.Touching.{joins_off}
 use Rattle.quotient.specs.Joined.{one_if}
 use Rattle.quotient_draft.specs.Drafts.{with_moves, shown_blocks, shown_support}
-use Rattle.node_moves.specs.Shifts.{from_count, IsMoved}
+use Rattle.node_moves.specs.Shifts.{from_count, MovesNode}
 use Rattle.node_moves.proofs.Moved.{moved_set, moved_same, still_some, still_few, shifted_next, all_taken}
 use Rattle.node_moves.proofs.shifting.shift_children.Goals as goal
 
@@ -40,7 +40,7 @@ loop-c-preserved c =
       over = step.over;
       shifted = λ x y p2 d.
           let m = get_or c.args.children.now c.loop-c.c-index 0 in
-          let once = step.shifted x y p2 (subst (λ r. IsMoved c.args.n c.args.own c.args.b r p2) (sym stay) d) in
+          let once = step.shifted x y p2 (subst (λ r. MovesNode c.args.n c.args.own c.args.b r p2) (sym stay) d) in
           let alike : one_if (joins_off c.args.n (shown_blocks q c.loop-c.draft) x y (c.args.n, m)) ≡ one_if (joins_off c.args.n p x y (c.args.n, m)) = ap (λ r. one_if (joins_off c.args.n r x y (c.args.n, m))) stay in
           shifted_next (λ m. joins_off c.args.n p x y (c.args.n, m)) (λ m. joins_off c.args.n p2 x y (c.args.n, m)) c.args.children.now c.loop-c.c-index (shown_support q c.loop-c.draft x y) (shown_support q c.shift_child.new.draft x y)
           (shown_support q c.args.draft.now x y) c.loop-c-test.true (inv.shifted x y p2 d) (omega (arith, once, alike));

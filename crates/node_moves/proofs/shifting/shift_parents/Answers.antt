@@ -2,7 +2,7 @@ use Rattle.std.proofs.Common.{◌≡◌, ◌∙◌, ℕ, Bool, List, Option, Som
 use Rattle.bisim_spec.specs.Supports.{joins}
 use Rattle.quotient.specs.Joined.{one_if}
 use Rattle.quotient_draft.specs.Drafts.{with_moves, shown_blocks, shown_support}
-use Rattle.node_moves.specs.Shifts.{onto_count, IsMoved}
+use Rattle.node_moves.specs.Shifts.{onto_count, MovesNode}
 use Rattle.node_moves.proofs.Moved.{moved_set, moved_same, still_some, still_few, shifted_next, all_taken}
 use Rattle.node_moves.proofs.shifting.shift_parents.Goals as goal
 
@@ -40,7 +40,7 @@ loop-p-preserved c =
       over = step.over;
       shifted = λ x y p2 d.
           let m = get_or c.args.parents.now c.loop-p.p-index 0 in
-          let once = step.shifted x y p2 (subst (λ r. IsMoved c.args.n c.args.own c.args.b r p2) (sym stay) d) in
+          let once = step.shifted x y p2 (subst (λ r. MovesNode c.args.n c.args.own c.args.b r p2) (sym stay) d) in
           let alike : one_if (joins (shown_blocks q c.loop-p.draft) x y (m, c.args.n)) ≡ one_if (joins p x y (m, c.args.n)) = ap (λ r. one_if (joins r x y (m, c.args.n))) stay in
           shifted_next (λ m. joins p x y (m, c.args.n)) (λ m. joins p2 x y (m, c.args.n)) c.args.parents.now c.loop-p.p-index (shown_support q c.loop-p.draft x y) (shown_support q c.shift_parent.new.draft x y)
           (shown_support q c.args.draft.now x y) c.loop-p-test.true (inv.shifted x y p2 d) (omega (arith, once, alike));
