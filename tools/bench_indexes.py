@@ -1,6 +1,7 @@
 #!/usr/bin/env python3
 """Has bin/pathindex build the 1-index and the forward and backward index of generated graphs of three shapes, and prints what each
-build takes above a load, in time and in memory, and what a path query takes through each index. The gate doesn't run this.
+build takes above a load, in time and in memory, what a path query takes through each index, and what a branching query takes of
+the graph itself and through the forward and backward index. The gate doesn't run this.
 
     bench_indexes.py [PROGRAM]
 
@@ -17,7 +18,16 @@ ROOT = pathlib.Path(__file__).resolve().parent.parent
 MAKE = ROOT / "tools" / "make_triples.py"
 CASES = [("dag", 200_000, 7), ("cyclic", 200_000, 7), ("deep", 200_000, 7), ("dag", 1_600_000, 3)]
 QUERY = "<http://e/p0>/iri/<http://e/p1>"
+BRANCH = "iri[/<http://e/p0> and not(/<http://e/p1>)]"
 QUERIES = 200
+# the script of each query, by its name, and the index that it needs
+ASKED = {
+    "path data": ("none", f"path data {QUERY}"),
+    "path one": ("one", f"path one {QUERY}"),
+    "path fb": ("fb", f"path fb {QUERY}"),
+    "branch data": ("none", f"branch data {BRANCH}"),
+    "branch fb": ("fb", f"branch fb {BRANCH}"),
+}
 INDEXES = {"none": ["--without-one", "--without-fb"], "one": ["--without-fb"], "fb": ["--without-one"]}
 
 
@@ -48,20 +58,23 @@ def measure(program, folder, kind, count, turns):
         subprocess.run([sys.executable, MAKE, str(count), "1", kind], stdout=out, check=True)
     words = ["--graph", text, "--k", "0"]
     commands = {name: [program, os.path.join(folder, "empty"), *words, *flags] for name, flags in INDEXES.items()}
-    for via, kept in [("data", "none"), ("one", "one"), ("fb", "fb")]:
-        commands[f"query {via}"] = [program, os.path.join(folder, via), *words, *INDEXES[kept]]
-    return best_of(commands, turns)
+    for name, (kept, _) in ASKED.items():
+        commands[name] = [program, os.path.join(folder, name), *words, *INDEXES[kept]]
+    sizes = subprocess.run([program, os.path.join(folder, "sizes"), *words, *INDEXES["none"]], capture_output=True, text=True, check=True)
+    nodes, edges = sizes.stdout.splitlines()[0].split()[1::2]
+    return best_of(commands, turns), int(nodes) + int(edges)
 
 
-def show(kind, count, taken):
+def show(kind, count, taken, size):
     load, peak = taken["none"]
     print(f"{kind}, {count:,} triples: load {load * 1000:.0f} ms, peak {peak:.0f} MB")
     for name, title in [("one", "1-index"), ("fb", "forward and backward index")]:
         seconds, most = taken[name]
-        print(f"    {title:<28} {(seconds - load) * 1000:>8.0f} ms, peak {most:.0f} MB")
-    for via, kept in [("data", "none"), ("one", "one"), ("fb", "fb")]:
-        seconds = (taken[f"query {via}"][0] - taken[kept][0]) / QUERIES
-        print(f"    a query through {via:<12} {seconds * 1000:>8.2f} ms", flush=True)
+        each = (most - peak) * 1e6 / size
+        print(f"    {title:<28} {(seconds - load) * 1000:>8.0f} ms, {most - peak:.0f} MB more: {each:.0f} bytes for each node and edge")
+    for name, (kept, _) in ASKED.items():
+        seconds = (taken[name][0] - taken[kept][0]) / QUERIES
+        print(f"    {name:<28} {seconds * 1000:>8.2f} ms", flush=True)
 
 
 def main():
@@ -71,11 +84,11 @@ def main():
     if not os.access(program, os.X_OK):
         sys.exit(f"bench_indexes.py: {program} is missing; make run builds bin/pathindex")
     with tempfile.TemporaryDirectory() as folder:
-        for name, text in [("empty", "")] + [(via, f"path {via} {QUERY}\n" * QUERIES) for via in ("data", "one", "fb")]:
+        for name, text in [("empty", ""), ("sizes", "sizes\n")] + [(name, f"{line}\n" * QUERIES) for name, (_, line) in ASKED.items()]:
             with open(os.path.join(folder, name), "w") as out:
                 out.write(text)
         for kind, count, turns in CASES:
-            show(kind, count, measure(program, folder, kind, count, turns))
+            show(kind, count, *measure(program, folder, kind, count, turns))
 
 
 if __name__ == "__main__":
