@@ -1,5 +1,8 @@
 // The index.
-ghost use Rattle.std.specs.Prelude.{◌≡◌, IfOk, None, false};
+ghost use Rattle.std.specs.Prelude.{◌≡◌, ◌≤◌, IfOk, OnOk, OnErr, IsSome, None, Ok, true, false};
+ghost use Rattle.graph_update.specs.NewChanges.{IsNew};
+ghost use Rattle.graph_update.specs.Judging.{change_of};
+ghost use Rattle.index_api.specs.Meanings.{IsReady, IsBuilt, IsPrepared};
 ghost use Rattle.fb_index.specs.Fitting.{meaning_of};
 
 use crate::building::summary_of_view;
@@ -42,14 +45,28 @@ impl PathIndex for FbIndex {
         Kind::Fb
     }
 
-    fn build(&mut self, view: &GraphView<'_>, _k: u32) -> Result<(), Memory> {
+    // The view is computed.
+    fn build(&mut self, view: &GraphView<'_>, _k: u32) -> Result<(), Memory>
+        requires few { _k ≤ 8 }
+        ensures built { OnOk result (IsBuilt (meaning_of self.old.summary self.old.is_staged) (meaning_of self.new.summary self.new.is_staged) view.now _k) }
+        ensures err { OnErr result (meaning_of self.new.summary self.new.is_staged ≡ meaning_of self.old.summary self.old.is_staged) }
+        ensures computed { OnOk result (IsSome self.new.summary) }
+    {
         let summary = summary_of_view(self.alloc, view)?;
         self.summary = Some(summary);
         self.is_staged = false;
         Ok(())
     }
 
-    fn prepare(&mut self, _graph: &Graph, _change: &Change) -> Result<(), Memory> {
+    // A view is staged that isn't computed. It takes no memory.
+    fn prepare(&mut self, _graph: &Graph, _change: &Change) -> Result<(), Memory>
+        requires ready { IsReady (meaning_of self.old.summary self.old.is_staged) _graph.now.graph }
+        requires new { IsNew (change_of _change.now) _graph.now.graph }
+        ensures staged { OnOk result (IsPrepared (meaning_of self.old.summary self.old.is_staged) (meaning_of self.new.summary self.new.is_staged) (change_of _change.now) _graph.now.graph) }
+        ensures err { OnErr result (meaning_of self.new.summary self.new.is_staged ≡ meaning_of self.old.summary self.old.is_staged) }
+        ensures bare { (self.new.is_staged ≡ true) × (self.new.summary ≡ self.old.summary) }
+        ensures fine { result ≡ Ok tt }
+    {
         self.is_staged = true;
         Ok(())
     }
