@@ -21,9 +21,8 @@ use std::marker::Brand;
 use std::sync::ledger::{Blank, Ledger};
 
 /// The 1-index of a graph, kept while it changes (K. Yi, H. He, I. Stanoi and J. Yang, "Incremental Maintenance of XML Structural
-/// Indexes", SIGMOD 2004). A change is drafted over the index in force: blocks are split from the change's target on, and then merged.
-/// Its cost depends on what the change reaches, and not on the size of the graph. An edge between blocks that have support costs
-/// no step.
+/// Indexes", SIGMOD 2004). A change is drafted over the index in force: blocks are split from the change's target on, and then
+/// merged. How much of the graph is read depends on what the change reaches, and not on the size of the graph.
 #[derive(Drop)]
 pub struct OneKept {
     alloc: Global,
