@@ -40,7 +40,12 @@ impl OneKept {
     /// Stages what a change will make of the index, as `prepare` does, and counts steps: at most `8 * (r + 1) * w`, where the
     /// change reaches `r` nodes, and `w` counts these and the edges at them. A link takes none where the blocks of its ends
     /// have support already.
-    pub fn prepare_counted<L: Ledger>(&mut self, graph: &Graph, change: &Change, steps: &mut Steps<L>) -> Result<(), Memory>
+    pub fn prepare_counted<L: Ledger>(
+        &mut self,
+        graph: &Graph,
+        change: &Change,
+        steps: &mut Steps<L>,
+    ) -> Result<(), Memory>
         requires ready { IsReady (meaning_of self.old.kept) graph.now.graph }
         requires new { IsNew (change_of change.now) graph.now.graph }
         ensures staged { OnOk result (IsPrepared (meaning_of self.old.kept) (meaning_of self.new.kept) (change_of change.now) graph.now.graph) }
@@ -57,7 +62,12 @@ impl OneKept {
 }
 
 // Stages what a change will make of the index, and forgets what it costs.
-fn prepare_uncounted<L: Ledger>(index: &mut OneKept, graph: &Graph, change: &Change, blank: Blank) -> Result<(), Memory>
+fn prepare_uncounted<L: Ledger>(
+    index: &mut OneKept,
+    graph: &Graph,
+    change: &Change,
+    blank: Blank,
+) -> Result<(), Memory>
     requires name { blank.name ≡ L.name }
     requires parts { blank.parts ≡ L.parts }
     requires some { 0 < blank.parts }
