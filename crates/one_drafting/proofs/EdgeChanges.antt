@@ -1,17 +1,15 @@
 -- An edge that comes, and an edge that goes, in a draft: supports, and where the partition stays.
-use Rattle.std.proofs.Common.{◌≡◌, ◌≢◌, ℕ, ◌+◌, ◌<◌, ◌≤◌, ◌^◌, List, [], ◌∷◌, Option, Some, IsTrue, refl, sym, ◌∙◌, ap, subst, arith, inl, inr, true, false, Bool, cond, true≢false}
+use Rattle.std.proofs.Common.{◌≡◌, ◌≢◌, ℕ, ◌+◌, ◌<◌, List, Option, Some, IsTrue, refl, sym, ◌∙◌, ap, subst, arith, inl, inr, true, false, cond, true≢false}
 use Rattle.std.specs.Prelude.{nat_eq, ◌&&◌, ◌||◌, not}
 use Rattle.std.specs.FinSet as set
-use Rattle.std.proofs.lemmas.Bool.{both_ways}
 use Rattle.std.proofs.lemmas.Bool.Decides.{eqb_tells}
 use Rattle.px_spec.specs.Graphs.{Graph, IsGraph, has_edge}
 use Rattle.px_spec.specs.Changes.{link, unlink, with_edge, without_edge}
 use Rattle.px_spec.specs.Members.{at, is_this}
-use Rattle.px_spec.specs.Shapes.{IsParent, shape_of}
+use Rattle.px_spec.specs.Shapes.{shape_of}
 use Rattle.px_spec.proofs.GraphLaws.{is_shape, edge_with, edge_without}
 use Rattle.label_graph.specs.Views.{label_number}
 use Rattle.bisim_spec.specs.Partitions.{IsPartition}
-use Rattle.bisim_spec.specs.Stability.{Stable}
 use Rattle.bisim_spec.specs.Supports.{edges_between}
 use Rattle.bisim_spec.specs.Targets.{HasOther}
 use Rattle.bisim_spec.specs.OneStep.{OneStep}
@@ -28,7 +26,7 @@ use Rattle.upkeep_spec.specs.Named.{AreNamed}
 use Rattle.upkeep_spec.specs.Supported.{AreEdgeCounts}
 use Rattle.upkeep_spec.proofs.Stills.{twin_link, twin_unlink, one_step_still, supported_other}
 use Rattle.one_drafting.specs.Drafting.{ShowsChange, IsDrafted, AreSupportsAlone}
-use Rattle.one_drafting.proofs.Bases.{AreTexted, named_texts, base_texts}
+use Rattle.one_drafting.proofs.Bases.{named_texts, base_texts}
 
 blocks_same : (q : Quotient) (d : Drafted) → AreSupportsAlone d → shown_blocks q d ≡ q.blocks.block_of
 blocks_same q d alone = ap (with_moves q.blocks.block_of) alone.moves

@@ -1,33 +1,28 @@
 -- A node that comes, and a node that goes, in a draft.
-use Rattle.std.proofs.Common.{◌≡◌, ◌≢◌, ℕ, zero, suc, ◌<◌, List, [], ◌∷◌, ◌++◌, length, Option, Some, None, IsSome, IsTrue, is_some, refl, sym, ◌∙◌, ap, subst, arith, inl, inr, true, false, Bool, cond, true≢false}
+use Rattle.std.proofs.Common.{◌≡◌, ◌≢◌, ℕ, zero, suc, List, [], ◌∷◌, ◌++◌, length, Option, Some, None, IsTrue, is_some, refl, sym, ◌∙◌, ap, subst, inl, inr, true, false, Bool, cond, true≢false}
 use Rattle.std.specs.Prelude.{nat_eq, slice_get, slice_set, option_and_then, ◌&&◌}
 use Rattle.std.specs.FinSet as set
-use Rattle.std.proofs.Math.Bool.{and-false}
 use Rattle.std.proofs.lemmas.Bool.{cases_Bool}
 use Rattle.std.proofs.lemmas.Bool.Decides.{eqb_tells}
 use Rattle.px_spec.specs.Graphs.{Graph, Edges, IsGraph, label_of, is_live, is_seen}
-use Rattle.px_spec.specs.Changes.{node, drop, with_node, without_node, with_label, is_used}
+use Rattle.px_spec.specs.Changes.{node, drop, with_node, without_node, is_used}
 use Rattle.px_spec.specs.Members.{at, is_this}
 use Rattle.px_spec.specs.Shapes.{IsNode, shape_of}
 use Rattle.px_spec.proofs.Uses.{unused_bare}
 use Rattle.label_graph.specs.Views.{label_number}
 use Rattle.block_partition.specs.Partitions.{put}
-use Rattle.bisim_spec.specs.Partitions.{IsPartition}
 use Rattle.bisim_spec.specs.Supports.{joins, edges_between}
-use Rattle.bisim_spec.specs.Touching.{DifferAlone}
 use Rattle.bisim_spec.specs.Views.{support_at}
 use Rattle.bisim_spec.specs.Fits.{FitsOne}
 use Rattle.bisim_spec.proofs.Bisimilar.{is_some_at}
 use Rattle.bisim_spec.proofs.Differs.{differs_node, differs_drop}
 use Rattle.bisim_spec.proofs.EdgeSets.{kept, same_len}
 use Rattle.quotient.specs.Quotients.{Quotient, view_of}
-use Rattle.quotient_draft.specs.Drafts.{Drafted, shown_blocks, shown_labels, shown_support, with_supports, with_added}
+use Rattle.quotient_draft.specs.Drafts.{Drafted, shown_blocks, shown_labels, with_supports, with_added}
 use Rattle.quotient_draft.specs.Basis.{IsOver}
 use Rattle.quotient_draft.proofs.Puts.{at_put}
-use Rattle.upkeep_spec.specs.Named.{AreNamed}
-use Rattle.upkeep_spec.specs.Supported.{AreEdgeCounts}
 use Rattle.one_drafting.specs.Drafting.{ShowsChange}
-use Rattle.one_drafting.proofs.Bases.{AreTexted, number_from, named_texts}
+use Rattle.one_drafting.proofs.Bases.{number_from, named_texts}
 
 -- where nodes other than n have the blocks that they had
 pub record IsPut (n : ℕ) (o : Option ℕ) (p p2 : List (Option ℕ)) : Type 0 where

@@ -1,33 +1,33 @@
 -- Each kind of change, as it is pending over a quotient.
-use Rattle.std.proofs.Common.{◌≡◌, ℕ, zero, suc, ◌+◌, ◌-◌, ◌<◌, ◌≤◌, ◌^◌, List, [], ◌∷◌, ◌++◌, length, Option, Some, None, IsSome, IsTrue, IsFalse, refl, sym, ◌∙◌, ap, subst, arith, inl, inr, true, false, Bool, cond, nat_lt, length-append, true≢false}
-use Rattle.std.specs.Prelude.{nat_eq, slice_set, ◌&&◌, ◌||◌}
+use Rattle.std.proofs.Common.{◌≡◌, ℕ, zero, suc, ◌+◌, ◌-◌, ◌<◌, ◌≤◌, ◌^◌, List, [], ◌∷◌, ◌++◌, length, Option, Some, None, IsTrue, IsFalse, refl, sym, ◌∙◌, ap, subst, arith, inl, inr, true, false, Bool, cond, nat_lt, length-append, true≢false}
+use Rattle.std.specs.Prelude.{nat_eq, ◌&&◌}
 use Rattle.std.specs.List.{list_any}
 use Rattle.std.proofs.Math.Bool.{or-false}
 use Rattle.std.proofs.lemmas.Bool.{or_cases, or_left, or_right, or_parts, both_ways}
 use Rattle.std.proofs.lemmas.Bool.Decides.{Decides-ltb, Decides-eqb, eqb_tells}
 use Rattle.std.proofs.lemmas.List.{length-set}
-use Rattle.px_spec.specs.Graphs.{Graph, IsGraph, has_edge, is_live}
-use Rattle.px_spec.specs.Changes.{Change, node, link, unlink, drop, after, with_node, without_node, with_edge, without_edge}
+use Rattle.px_spec.specs.Graphs.{Graph, IsGraph, has_edge}
+use Rattle.px_spec.specs.Changes.{Change, node, link, unlink, drop, after, with_node}
 use Rattle.px_spec.specs.Members.{Lists, has, at, is_this}
 use Rattle.px_spec.specs.Shapes.{shape_of}
 use Rattle.px_spec.proofs.GraphLaws.{is_shape}
 use Rattle.label_graph.specs.Views.{label_number}
 use Rattle.block_partition.specs.Partitions.{put, IsLeastFree}
-use Rattle.bisim_spec.specs.Targets.{HasOther, target}
+use Rattle.bisim_spec.specs.Targets.{HasOther}
 use Rattle.bisim_spec.specs.Views.{support_at}
 use Rattle.bisim_spec.specs.Weights.{parent_count}
 use Rattle.bisim_spec.proofs.Moves.{between_most, block_get, block_from}
 use Rattle.bisim_spec.proofs.Together.{together_at, together_sym}
 use Rattle.graph_update.specs.NewChanges.{IsNew}
 use Rattle.graph_update.specs.Pending.{Pending, graph_after, lost_edge, lost_onto}
-use Rattle.quotient.specs.Quotients.{Quotient, view_of}
+use Rattle.quotient.specs.Quotients.{Quotient}
 use Rattle.quotient.specs.Joined.{one_if}
 use Rattle.quotient_draft.specs.Drafts.{Drafted, no_changes, shown_blocks, shown_labels, shown_support, with_moves}
 use Rattle.quotient_draft.specs.Basis.{IsOver}
 use Rattle.upkeep_spec.proofs.Sums.{few_lists}
 use Rattle.one_drafting.specs.Drafting.{IsBefore, ShowsChange, IsDrafted, IsNodeChange, IsOnlyTarget, AreSupportsAlone}
-use Rattle.one_drafting.proofs.NodeChanges.{IsPut, changed_node, changed_drop}
-use Rattle.one_drafting.proofs.EdgeChanges.{AreAt, IsRaised, IsLowered, changed_link, changed_unlink, other_linked, none_linked, other_unlinked, unlink_some, still_link, still_unlink}
+use Rattle.one_drafting.proofs.NodeChanges.{changed_node, changed_drop}
+use Rattle.one_drafting.proofs.EdgeChanges.{AreAt, changed_link, changed_unlink, other_linked, none_linked, other_unlinked, unlink_some, still_link, still_unlink}
 
 -- ---- nodes
 

@@ -1,22 +1,17 @@
 -- A draft that shows the next partition can be settled, and fits then.
-use Rattle.std.proofs.Common.{◌≡◌, ℕ, zero, suc, ◌+◌, ◌<◌, List, [], ◌∷◌, Option, Some, None, IsSome, is_some, refl, sym, ◌∙◌, ap, arith, inl, inr, true, false, Bool, cond, true≢false}
-use Rattle.std.specs.Prelude.{nat_eq, slice_get, option_and_then, position, bytes_eq}
-use Rattle.std.proofs.lemmas.Bool.{cases_lt, cases_Bool}
+use Rattle.std.proofs.Common.{◌≡◌, ℕ, zero, suc, ◌+◌, List, [], ◌∷◌, Option, Some, None, IsSome, is_some, refl, sym, ◌∙◌, ap, arith, inl, inr, true, false, Bool, cond, true≢false}
+use Rattle.std.specs.Prelude.{slice_get, option_and_then, position, bytes_eq}
+use Rattle.std.proofs.lemmas.Bool.{cases_lt}
 use Rattle.px_spec.specs.Graphs.{Graph, label_of}
 use Rattle.px_spec.specs.Changes.{Change, after}
 use Rattle.px_spec.specs.Members.{at}
-use Rattle.px_spec.specs.Shapes.{shape_of}
-use Rattle.label_graph.specs.Views.{label_number}
 use Rattle.label_graph.proofs.Positions.{text-at}
 use Rattle.bisim_spec.specs.Supports.{edges_between}
-use Rattle.bisim_spec.specs.Views.{ViewFits}
 use Rattle.bisim_spec.specs.Fits.{FitsOne}
-use Rattle.bisim_spec.proofs.Bisimilar.{none_or_some}
 use Rattle.bisim_spec.proofs.Supported.{support_joined}
 use Rattle.quotient.specs.Quotients.{Quotient}
 use Rattle.quotient_draft.specs.Drafts.{Drafted, has_member, inhabited_from, shown_blocks, shown_labels, shown_support, settled_view}
 use Rattle.quotient_draft.proofs.Gone.{member_at, member_there}
-use Rattle.upkeep_spec.specs.Supported.{AreEdgeCounts}
 use Rattle.one_drafting.specs.Drafting.{IsDrafted}
 
 abbrev none_label : Option ℕ

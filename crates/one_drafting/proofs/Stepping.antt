@@ -1,5 +1,5 @@
 -- A change, then splits, then merges, in a draft; and what they cost.
-use Rattle.std.proofs.Common.{◌≡◌, ℕ, ◌+◌, ◌*◌, ◌<◌, ◌≤◌, ◌^◌, List, [], ◌∷◌, length, Option, Some, IsTrue, refl, sym, ◌∙◌, ap, subst, arith, inl, inr, true, false, Bool, cond, nat_lt, ◌-◌, true≢false}
+use Rattle.std.proofs.Common.{◌≡◌, ℕ, ◌+◌, ◌*◌, ◌<◌, ◌≤◌, ◌^◌, List, [], ◌∷◌, Option, Some, IsTrue, refl, sym, ◌∙◌, ap, subst, arith, inl, inr, true, false, Bool, cond, nat_lt, ◌-◌, true≢false}
 use Rattle.std.specs.Prelude.{nat_eq, ◌||◌}
 use Rattle.std.specs.List.{IsDistinct}
 use Rattle.std.specs.FinSet as set
@@ -14,7 +14,6 @@ use Rattle.px_spec.proofs.EdgeOrder.{edge_cmp_total}
 use Rattle.px_spec.proofs.GraphLaws.{is_shape}
 use Rattle.bisim_spec.specs.Stability.{StableBut}
 use Rattle.bisim_spec.specs.Targets.{KeepsParents, target}
-use Rattle.bisim_spec.specs.Below.{sum_below}
 use Rattle.bisim_spec.specs.Weights.{parent_count, weight_at, weight, size_of}
 use Rattle.bisim_spec.specs.OneStep.{OneStep}
 use Rattle.bisim_spec.specs.Fits.{FitsOne}
@@ -25,7 +24,6 @@ use Rattle.bisim_spec.proofs.Reached.{reach_start}
 use Rattle.graph_update.specs.NewChanges.{IsNew}
 use Rattle.quotient.specs.Quotients.{Quotient, view_of}
 use Rattle.quotient_draft.specs.Drafts.{Drafted, shown_blocks, shown_labels, shown_support}
-use Rattle.quotient_draft.specs.Basis.{IsOver}
 use Rattle.block_joining.specs.Merged.{HasGraph}
 use Rattle.upkeep_spec.specs.Merges.{AreSuspects}
 use Rattle.upkeep_spec.specs.Named.{AreNamed, AreNamedOff}
@@ -35,7 +33,7 @@ use Rattle.upkeep_spec.specs.Suspected.{AreSuspected}
 use Rattle.upkeep_spec.specs.Viewed.{IsViewed, IsDone}
 use Rattle.upkeep_spec.proofs.Joining.{one_step_done}
 use Rattle.upkeep_spec.proofs.Labelled.{labelled_named}
-use Rattle.upkeep_spec.proofs.Sums.{where_in, but, sum_without}
+use Rattle.upkeep_spec.proofs.Sums.{sum_without}
 use Rattle.upkeep_spec.proofs.OneSteps.{Stages, reach_closed}
 use Rattle.one_drafting.specs.Drafting.{ShowsChange, IsOnlyTarget, reached, rounds_cost}
 
@@ -138,7 +136,7 @@ few_after (drop u) g new few = few
 -- what a split costs, where it is bounded by each closed set with the target
 pub reach_cost : (g : Graph) (c : Change) (t old new : ℕ) → IsGraph (after c g) → IsOnlyTarget g c t
     → ((inside : ℕ → Bool) → IsClosed (shape_of (after c g)) inside → ((n : ℕ) → IsTrue (has (t ∷ []) n) → IsTrue (inside n))
-      → new ≤ old + 4 * ((size_of (shape_of (after c g)) inside + 1) * weight (shape_of (after c g)) inside))
+    → new ≤ old + 4 * ((size_of (shape_of (after c g)) inside + 1) * weight (shape_of (after c g)) inside))
     → new ≤ old + 4 * rounds_cost (shape_of (after c g)) (reached g c)
 reach_cost g c t old new graph2 target_is cost =
     cost (reached g c) (reach_closed (shape_of (after c g)) (target c g) (is_shape (after c g) graph2)) (target_reached g c t target_is)

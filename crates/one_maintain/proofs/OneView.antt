@@ -1,9 +1,9 @@
 -- A 1-index of a graph as an index that fits.
-use Rattle.std.proofs.Common.{◌≡◌, ℕ, zero, suc, ◌<◌, arith, refl}
+use Rattle.std.proofs.Common.{ℕ, zero, suc, ◌<◌, arith, refl}
 use Rattle.px_spec.specs.Graphs.{Graph}
 use Rattle.bisim_spec.specs.declared.kind.Kind.TheVariants.{One}
 use Rattle.bisim_spec.specs.Views.{View}
-use Rattle.std.proofs.Common.{List, [], ◌∷◌, Option, Some}
+use Rattle.std.proofs.Common.{[], ◌∷◌, Some}
 use Rattle.bisim_spec.specs.Fits.{Fits, FitsAt, FitsOne, view_at}
 
 only_view : (g : Graph) (v : View) → FitsOne g v → (i : ℕ) → i < 1 → FitsAt One g i (view_at (Some v ∷ []) i)

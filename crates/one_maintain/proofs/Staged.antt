@@ -1,12 +1,12 @@
 -- What is staged, and what is in force once it is committed.
-use Rattle.std.proofs.Common.{◌≡◌, ℕ, List, [], ◌∷◌, Option, Some, None, IsSome, IsTrue, is_some, refl, sym, ◌∙◌, ap, subst, arith, true, false, Bool, true≢false}
+use Rattle.std.proofs.Common.{◌≡◌, ℕ, List, [], ◌∷◌, Option, Some, None, IsSome, refl, sym, ◌∙◌, ap, subst, arith, true, false, Bool, true≢false}
 use Rattle.px_spec.specs.Graphs.{Graph}
 use Rattle.px_spec.specs.Changes.{Change, after}
 use Rattle.std.specs.Prelude.{unwrap_or}
 use Rattle.px_spec.specs.Shapes.{shape_of}
 use Rattle.bisim_spec.specs.declared.kind.Kind.TheVariants.{One}
 use Rattle.bisim_spec.specs.Views.{View, support_at}
-use Rattle.bisim_spec.specs.Fits.{Fits, FitsOne, view_at}
+use Rattle.bisim_spec.specs.Fits.{FitsOne, view_at}
 use Rattle.bisim_spec.specs.Bisimilarity.{Bisim}
 use Rattle.bisim_spec.specs.Partitions.{Agrees}
 use Rattle.bisim_spec.specs.OneStep.{OneStep}

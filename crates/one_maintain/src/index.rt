@@ -21,9 +21,8 @@ use std::marker::Brand;
 use std::sync::ledger::{Blank, Ledger};
 
 /// The 1-index of a graph, kept while it changes (K. Yi, H. He, I. Stanoi and J. Yang, "Incremental Maintenance of XML Structural
-/// Indexes", SIGMOD 2004). A change is drafted over the index in force: blocks are split from the change's target on, and then merged.
-/// Its cost depends on what the change reaches, and not on the size of the graph. An edge between blocks that have support costs
-/// no step.
+/// Indexes", SIGMOD 2004). A change is drafted over the index in force: blocks are split from the change's target on, and then
+/// merged. How much of the graph is read depends on what the change reaches, and not on the size of the graph.
 #[derive(Drop)]
 pub struct OneKept {
     alloc: Global,
@@ -41,7 +40,12 @@ impl OneKept {
     /// Stages what a change will make of the index, as `prepare` does, and counts steps: at most `8 * (r + 1) * w`, where the
     /// change reaches `r` nodes, and `w` counts these and the edges at them. A link takes none where the blocks of its ends
     /// have support already.
-    pub fn prepare_counted<L: Ledger>(&mut self, graph: &Graph, change: &Change, steps: &mut Steps<L>) -> Result<(), Memory>
+    pub fn prepare_counted<L: Ledger>(
+        &mut self,
+        graph: &Graph,
+        change: &Change,
+        steps: &mut Steps<L>,
+    ) -> Result<(), Memory>
         requires ready { IsReady (meaning_of self.old.kept) graph.now.graph }
         requires new { IsNew (change_of change.now) graph.now.graph }
         ensures staged { OnOk result (IsPrepared (meaning_of self.old.kept) (meaning_of self.new.kept) (change_of change.now) graph.now.graph) }
@@ -58,7 +62,12 @@ impl OneKept {
 }
 
 // Stages what a change will make of the index, and forgets what it costs.
-fn prepare_uncounted<L: Ledger>(index: &mut OneKept, graph: &Graph, change: &Change, blank: Blank) -> Result<(), Memory>
+fn prepare_uncounted<L: Ledger>(
+    index: &mut OneKept,
+    graph: &Graph,
+    change: &Change,
+    blank: Blank,
+) -> Result<(), Memory>
     requires name { blank.name ≡ L.name }
     requires parts { blank.parts ≡ L.parts }
     requires some { 0 < blank.parts }

@@ -75,7 +75,12 @@ fn prepare(kept: &mut OneKept, graph: &Graph, change: &Change) -> Result<(), Fai
 }
 
 // The same, with steps counted.
-fn prepare_counted<L: Ledger>(kept: &mut OneKept, graph: &Graph, change: &Change, blank: Blank) -> Result<(), Fail>
+fn prepare_counted<L: Ledger>(
+    kept: &mut OneKept,
+    graph: &Graph,
+    change: &Change,
+    blank: Blank,
+) -> Result<(), Fail>
     requires name { blank.name ≡ L.name }
     requires parts { blank.parts ≡ L.parts }
     requires some { 0 < blank.parts }

@@ -1,4 +1,4 @@
-use Rattle.std.proofs.Common.{sym, subst}
+use Rattle.std.proofs.Common.{subst}
 use Rattle.graph_update.specs.Judging.{change_of}
 use Rattle.graph_update.specs.Pending.{Pending}
 use Rattle.one_drafting.specs.Drafting.{IsDrafted}

@@ -1,4 +1,3 @@
-use Rattle.std.proofs.Common.{sym}
 use Rattle.one_drafting.proofs.Pendings.{alone_from, few_base, link_changed, link_target, link_yes, link_no}
 use Rattle.one_drafting.proofs.linking.draft_link.Goals as goal
 

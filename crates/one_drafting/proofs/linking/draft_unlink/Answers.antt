@@ -1,4 +1,3 @@
-use Rattle.std.proofs.Common.{sym, arith}
 use Rattle.one_drafting.proofs.Pendings.{alone_from, unlink_counts, unlink_changed, unlink_target, unlink_yes, unlink_no}
 use Rattle.one_drafting.proofs.linking.draft_unlink.Goals as goal
 

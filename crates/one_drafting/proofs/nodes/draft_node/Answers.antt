@@ -1,8 +1,6 @@
-use Rattle.std.proofs.Common.{◌≡◌, ℕ, ◌+◌, List, Option, arith, length, sym, subst}
+use Rattle.std.proofs.Common.{ℕ, List, Option, sym, subst}
 use Rattle.std.specs.Prelude.{IsSome}
 use Rattle.px_spec.specs.Members.{at}
-use Rattle.label_graph.specs.Views.{label_number}
-use Rattle.graph_update.specs.Pending.{graph_after}
 use Rattle.quotient_draft.proofs.Puts.{put_some}
 use Rattle.one_drafting.proofs.Pendings.{node_changed, node_count}
 use Rattle.one_drafting.proofs.nodes.draft_node.Goals as goal
