@@ -130,8 +130,8 @@ fn draft_pending<L: Ledger>(
 /// its labels and its supports. The graph is as it was. Once the draft is settled, the 1-index is that of the graph
 /// after the change.
 ///
-/// It takes at most `8 * (r + 1) * w` steps, where the change reaches `r` nodes with `w` edges and nodes at them,
-/// and no step for an edge between blocks that have support. At want of memory the draft is only good to be cleared.
+/// It takes at most `8 * (r + 1) * w` steps, where the change reaches `r` nodes, and `w` is one for each of them, one
+/// for each of its parents and one for each of its children. It takes no step for an edge between blocks that have support. At want of memory the draft is only good to be cleared.
 pub fn draft_change<L: Ledger>(
     alloc: Global,
     base: &Summary,

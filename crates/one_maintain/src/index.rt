@@ -22,7 +22,8 @@ use std::sync::ledger::{Blank, Ledger};
 
 /// The 1-index of a graph, kept while it changes (K. Yi, H. He, I. Stanoi and J. Yang, "Incremental Maintenance of XML Structural
 /// Indexes", SIGMOD 2004). A change is drafted over the index in force: blocks are split from the change's target on, and then
-/// merged. How much of the graph is read depends on what the change reaches, and not on the size of the graph.
+/// merged. How much of the graph is read depends on what the change reaches, and not on the size of the graph. The tables of the index are
+/// looked through for the next free number of a block, and for a block like one without other parents than itself.
 #[derive(Drop)]
 pub struct OneKept {
     alloc: Global,
@@ -38,8 +39,8 @@ impl OneKept {
     }
 
     /// Stages what a change will make of the index, as `prepare` does, and counts steps: at most `8 * (r + 1) * w`, where the
-    /// change reaches `r` nodes, and `w` counts these and the edges at them. A link takes none where the blocks of its ends
-    /// have support already.
+    /// change reaches `r` nodes, and `w` is one for each of them, one for each of its parents and one for each of its children. A
+    /// link takes none where the blocks of its ends have support already.
     pub fn prepare_counted<L: Ledger>(
         &mut self,
         graph: &Graph,
@@ -101,8 +102,9 @@ impl PathIndex for OneKept {
     }
 
     fn commit(&mut self) {
+        let alloc = self.alloc;
         if let Some(kept) = &mut self.kept {
-            kept.commit();
+            kept.commit(alloc);
         }
     }
 

@@ -64,6 +64,17 @@ fn fill<L: Ledger>(
     Ok(())
 }
 
+// Puts a new draft in place of an empty one. Emptying a table takes time for the largest size that it had, so one large
+// change would slow each later one.
+fn renew(alloc: Global, draft: &mut Draft)
+    requires empty { draft.old ≡ no_changes }
+    ensures { draft.new ≡ no_changes }
+{
+    if let Ok(fresh) = Draft::new(alloc) {
+        *draft = fresh;
+    }
+}
+
 impl Kept {
     /// The quotient, with nothing staged.
     pub(crate) fn of(alloc: Global, base: Summary) -> Result<Kept, Memory>
@@ -117,12 +128,13 @@ impl Kept {
     }
 
     /// Puts in force what is staged. It takes no memory.
-    pub(crate) fn commit(&mut self)
+    pub(crate) fn commit(&mut self, alloc: Global)
         requires staged { self.old.staged ≡ true }
         ensures view { view_of self.new.base ≡ settled_view self.old.base self.old.draft }
         ensures unstaged { self.new.staged ≡ false }
     {
         self.draft.settle(&mut self.base);
+        renew(alloc, &mut self.draft);
         self.staged = false;
     }
 

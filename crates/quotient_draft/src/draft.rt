@@ -18,8 +18,8 @@ use std::marker::Model;
 /// supports. Reads show the base as it will be once the draft is settled. Each call is given the base; its
 /// labels must stay while something is drafted, and what is shown follows the base's blocks and supports.
 ///
-/// Each call takes constant time but for hashing, `new_block` a search for the next free number, and the
-/// lists of neighbours what their calls say.
+/// Each call takes constant time but for hashing, except `new_block`, which looks for the next free number, and
+/// the calls that read or write lists, which say what they take.
 #[derive(Drop)]
 pub struct Draft {
     pub(crate) added: Added,

@@ -14,7 +14,8 @@ use px_base::Memory;
 use quotient::Summary;
 
 impl Draft {
-    /// Makes the room in the base that settling this draft needs. It leaves the base as it is seen.
+    /// Makes the room in the base that settling this draft needs. It leaves the base as it is seen. Linear in what is
+    /// drafted.
     pub fn reserve(&self, base: &mut Summary) -> Result<(), Memory>
         requires over { IsOver base.old.blocks.block_of base.old.blocks.labels self.now }
         ensures same { view_of base.new ≡ view_of base.old }
@@ -39,7 +40,8 @@ impl Draft {
 
     /// Makes the base what the draft shows, without blocks that have no members, and drops what was drafted.
     /// It can't fail and takes no memory. Each block of the base has a member, and a block that has none as shown
-    /// has no support as shown.
+    /// has no support as shown. Linear in what is drafted, and for each pair that loses its support in the number of
+    /// neighbours of both blocks.
     pub fn settle(&mut self, base: &mut Summary)
         requires over { IsOver base.old.blocks.block_of base.old.blocks.labels self.old }
         requires room { HasRoomFor base.old self.old }
