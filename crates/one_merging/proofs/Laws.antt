@@ -7,6 +7,7 @@ use Rattle.std.proofs.lemmas.List.{take_more, take_all}
 use Rattle.std.proofs.lemmas.List.Folds.{list_any-append}
 use Rattle.px_spec.specs.Members.{has, at, Lists}
 use Rattle.px_spec.specs.Shapes.{Shape}
+use Rattle.bisim_spec.proofs.Merging.{mergeable_blocks}
 use Rattle.upkeep_spec.specs.Merges.{IsMergeablePair, IsMerged, one_more, none, AreSuspects}
 use Rattle.upkeep_spec.specs.Viewed.{IsViewed, IsDone}
 use Rattle.upkeep_spec.proofs.Merging.{can_swap}
@@ -30,6 +31,13 @@ no_mates_same p labels joined a b e s v can = can.apart e
 
 pub no_mates_empty : (p : List (Option ℕ)) (labels : ℕ → Option ℕ) (joined : ℕ → ℕ → Bool) (a b : ℕ) → ((n : ℕ) → at p n ≢ Some b) → AreNoMates p labels joined a b
 no_mates_empty p labels joined a b empty s v can = empty can.second.0 can.second.1
+
+-- blocks of different labels are none
+pub no_mates_label : (p : List (Option ℕ)) (labels : ℕ → Option ℕ) (joined : ℕ → ℕ → Bool) (a b label : ℕ) → labels a ≡ Some label → labels b ≢ Some label → AreNoMates p labels joined a b
+no_mates_label p labels joined a b label own ne s v can =
+    let m = (mergeable_blocks s p a b can.first.0 can.second.0 v.shape v.stable can.first.1 can.second.1).0 can.can in
+    let same = (v.labelled.same can.first.0 can.second.0 a b can.first.1 can.second.1).1 (m.label can.first.0 can.second.0 can.first.1 can.second.1) in
+    ne (sym same ∙ own)
 
 pub no_mates_alone : (p : List (Option ℕ)) (labels : ℕ → Option ℕ) (joined : ℕ → ℕ → Bool) (a : ℕ) → ((n : ℕ) → at p n ≢ Some a) → (b : ℕ) → AreNoMates p labels joined a b
 no_mates_alone p labels joined a empty b s v can = empty can.first.0 can.first.1

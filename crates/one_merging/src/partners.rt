@@ -1,7 +1,7 @@
 // With which block one can be merged.
 ghost use Rattle.std.specs.Prelude.{◌≡◌, ◌≢◌, ℕ, Some, IsTrue, IsFalse, IfSome, IfNone, IfOk};
 ghost use Rattle.px_spec.specs.Members.{at, has, Lists};
-ghost use Rattle.quotient_draft.specs.Drafts.{shown_blocks};
+ghost use Rattle.quotient_draft.specs.Drafts.{shown_labels, shown_blocks};
 ghost use Rattle.quotient_draft.specs.Basis.{IsOver};
 ghost use Rattle.block_joining.specs.Mates.{shown_joined};
 ghost use Rattle.one_merging.specs.Merging.{HasShownGraph, AreShownMates, AreNoShownMates};
@@ -31,11 +31,24 @@ impl Rooms {
     }
 }
 
-// Whether two blocks, of which the first has members and these parents, differ and can be merged.
+// Whether the number is that of a block with this label.
+fn is_labelled(base: &Summary, draft: &Draft, b: u32, label: u32) -> bool
+    requires over { IsOver base.now.blocks.block_of base.now.blocks.labels draft.now }
+    ensures no { IsFalse result → at (shown_labels base.now draft.now) b ≢ Some label }
+{
+    if !draft.is_block(base, b) {
+        return false;
+    }
+    draft.label(base, b) == label
+}
+
+// Whether two blocks, of which the first has members, this label and these parents, differ and can be merged.
+// Most blocks have another label, so that is looked at first.
 fn is_partner(
     base: &Summary,
     draft: &Draft,
     a: u32,
+    label: u32,
     b: u32,
     parents: &[u32],
     others: &mut Vec<u32>,
@@ -43,11 +56,15 @@ fn is_partner(
     requires over { IsOver base.now.blocks.block_of base.now.blocks.labels draft.now }
     requires graph { HasShownGraph base.now draft.now }
     requires members { (n : ℕ) × (at (shown_blocks base.now draft.now) n ≡ Some a) }
+    requires label { at (shown_labels base.now draft.now) a ≡ Some label }
     requires parents { Lists (λ x. shown_joined base.now draft.now x a) parents.now }
     ensures yes { IfOk result (λ can. IsTrue can → AreShownMates base.now draft.now a b) }
     ensures no { IfOk result (λ can. IsFalse can → AreNoShownMates base.now draft.now a b) }
 {
     if a == b {
+        return Ok(false);
+    }
+    if !is_labelled(base, draft, b, label) {
         return Ok(false);
     }
     if !has_members(base, draft, b) {
@@ -86,8 +103,9 @@ fn find_among(
     ensures some { IfOk result (λ found. IfSome found (AreShownMates base.now draft.now a)) }
     ensures none { IfOk result (λ found. IfNone found ((b : ℕ) → IsTrue (has blocks.now b) → AreNoShownMates base.now draft.now a b)) }
 {
+    let label = draft.label(base, a);
     for i in 0..blocks.len() {
-        if is_partner(base, draft, a, blocks[i], parents, others)? {
+        if is_partner(base, draft, a, label, blocks[i], parents, others)? {
             return Ok(Some(blocks[i]));
         }
     }
@@ -109,8 +127,9 @@ fn find_anywhere(
     ensures some { IfOk result (λ found. IfSome found (AreShownMates base.now draft.now a)) }
     ensures none { IfOk result (λ found. IfNone found ((b : ℕ) → AreNoShownMates base.now draft.now a b)) }
 {
+    let label = draft.label(base, a);
     for b in 0..draft.span(base) {
-        if is_partner(base, draft, a, b, parents, others)? {
+        if is_partner(base, draft, a, label, b, parents, others)? {
             return Ok(Some(b));
         }
     }
@@ -137,7 +156,7 @@ fn find_partner(
     let Some(x) = other_than(parents, a) else {
         return find_anywhere(base, draft, a, parents, others);
     };
-    if is_partner(base, draft, a, x, parents, others)? {
+    if is_partner(base, draft, a, draft.label(base, a), x, parents, others)? {
         return Ok(Some(x));
     }
     draft.fill_children(base, x, children)?;
