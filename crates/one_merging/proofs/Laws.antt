@@ -1,7 +1,7 @@
 -- What the tables say of pairs that can be merged.
 use Rattle.std.proofs.Common.{◌≡◌, ◌≢◌, ℕ, ◌+◌, ◌<◌, ◌≤◌, ◌⊎◌, List, [], ◌∷◌, ◌++◌, length, take, Option, Some, None, IsTrue, IsSome, refl, sym, ◌∙◌, ap, subst, inl, inr, true, false, Bool, true≢false}
 use Rattle.std.specs.Prelude.{nat_eq, ◌||◌, IfNone, IfSome, IfOk, Result, Ok, Err, get_or, cond}
-use Rattle.std.proofs.lemmas.Bool.{or_cases, or_right}
+use Rattle.std.proofs.lemmas.Bool.{or_cases, or_left, or_right}
 use Rattle.std.proofs.lemmas.Bool.Decides.{Decides-eqb, eqb_tells}
 use Rattle.std.proofs.lemmas.List.{take_more, take_all}
 use Rattle.std.proofs.lemmas.List.Folds.{list_any-append}
@@ -176,3 +176,28 @@ merging_end s first p labels joined suspects m over = record { merges = m.merges
 -- suspects are the same, whatever list has them
 pub suspects_same : (s : Shape) (p : List (Option ℕ)) (xs ys : List ℕ) → ((b : ℕ) → has ys b ≡ has xs b) → AreSuspects s p (λ b. IsTrue (has xs b)) → AreSuspects s p (λ b. IsTrue (has ys b))
 suspects_same s p xs ys e h = record { one = λ b c can. elim (h.one b c can) [ inl k ↦ inl (e b ∙ k) | inr k ↦ inr (e c ∙ k) ] }
+
+-- a block of the list other than this one, if there is one
+pub record IsOther (a : ℕ) (xs : List ℕ) (o : Option ℕ) : Type 0 where
+  pub some : IfSome o (λ x. IsTrue (has xs x))
+  pub other : IfSome o (λ x. x ≢ a)
+  pub none : IfNone o ((x : ℕ) → IsTrue (has xs x) → x ≡ a)
+
+pub other_more : (a : ℕ) (xs : List ℕ) (i d : ℕ) (old new : Option ℕ) → i < length xs → IsOther a (take i xs) old → (new ≡ old) ⊎ ((new ≡ Some (get_or xs i d)) × (get_or xs i d ≢ a))
+    → (new ≡ None → (old ≡ None) × (get_or xs i d ≡ a)) → IsOther a (take (i + 1) xs) new
+other_more a xs i d old None h before one lone =
+    let no = lone refl in
+    let nothing = if_none old ((x : ℕ) → IsTrue (has (take i xs) x) → x ≡ a) no.0 before.none in
+    record { some = tt; other = tt; none = more_hold (λ x. x ≡ a) xs i d h nothing no.1 }
+other_more a xs i d old (Some x) h before one lone = elim one [
+  | inl e ↦ (
+      let there = if_some old x (λ y. IsTrue (has (take i xs) y)) (sym e) before.some in
+      record { some = has_more xs i d x h ∙ or_left (has (take i xs) x) (nat_eq x (get_or xs i d)) there; other = if_some old x (λ y. y ≢ a) (sym e) before.other; none = tt })
+  | inr k ↦ (
+      let same : x ≡ get_or xs i d = let e = k.0 in cc in
+      record {
+        some = has_more xs i d x h ∙ or_right (has (take i xs) x) (nat_eq x (get_or xs i d)) ((Decides-eqb x (get_or xs i d)).1 same);
+        other = subst (λ y. y ≢ a) (sym same) k.1;
+        none = tt;
+      })
+]

@@ -1,5 +1,5 @@
 // With which block one can be merged.
-ghost use Rattle.std.specs.Prelude.{◌≡◌, ◌≢◌, ℕ, Some, IsTrue, IsFalse, IfSome, IfNone, IfOk};
+ghost use Rattle.std.specs.Prelude.{◌≡◌, ◌≢◌, ◌⊎◌, ℕ, Some, None, IsTrue, IsFalse, IfSome, IfNone, IfOk};
 ghost use Rattle.px_spec.specs.Members.{at, has, Lists};
 ghost use Rattle.quotient_draft.specs.Drafts.{shown_labels, shown_blocks};
 ghost use Rattle.quotient_draft.specs.Basis.{IsOver};
@@ -8,6 +8,7 @@ ghost use Rattle.one_merging.specs.Merging.{HasShownGraph, AreShownMates, AreNoS
 
 use crate::members::has_members;
 use block_joining::mergeable;
+use label_graph::Digraph;
 use px_base::Memory;
 use quotient::Summary;
 use quotient_draft::Draft;
@@ -73,18 +74,40 @@ fn is_partner(
     mergeable(base, draft, a, b, parents, others)
 }
 
-// A block of the list other than this one.
-fn other_than(blocks: &[u32], a: u32) -> Option<u32>
+// How many children a block has in the base, and 0 where it is no block of it: about what it costs to look
+// among them.
+fn base_children(base: &Summary, x: u32) -> usize {
+    if !base.is_block(x) {
+        return 0;
+    }
+    base.children(x).len()
+}
+
+// Of two blocks the one with fewer children in the base, where the second is other than this one; else the first.
+fn fewer_children(base: &Summary, a: u32, found: Option<u32>, x: u32) -> Option<u32>
+    ensures one { (result ≡ found) ⊎ ((result ≡ Some x) × (x ≢ a)) }
+    ensures none { result ≡ None → (found ≡ None) × (x ≡ a) }
+{
+    if x == a {
+        return found;
+    }
+    match found {
+        Some(y) if base_children(base, y) <= base_children(base, x) => found,
+        _ => Some(x),
+    }
+}
+
+// A block of the list other than this one: of those the one with the fewest children in the base.
+fn other_than(base: &Summary, blocks: &[u32], a: u32) -> Option<u32>
     ensures some { IfSome result (λ x. IsTrue (has blocks.now x)) }
     ensures other { IfSome result (λ x. x ≢ a) }
     ensures none { IfNone result ((x : ℕ) → IsTrue (has blocks.now x) → x ≡ a) }
 {
+    let mut found = None;
     for i in 0..blocks.len() {
-        if blocks[i] != a {
-            return Some(blocks[i]);
-        }
+        found = fewer_children(base, a, found, blocks[i]);
     }
-    None
+    found
 }
 
 // A partner of the first block among these.
@@ -153,7 +176,7 @@ fn find_partner(
     ensures some { IfOk result (λ found. IfSome found (AreShownMates base.now draft.now a)) }
     ensures none { IfOk result (λ found. IfNone found ((b : ℕ) → AreNoShownMates base.now draft.now a b)) }
 {
-    let Some(x) = other_than(parents, a) else {
+    let Some(x) = other_than(base, parents, a) else {
         return find_anywhere(base, draft, a, parents, others);
     };
     if is_partner(base, draft, a, draft.label(base, a), x, parents, others)? {
