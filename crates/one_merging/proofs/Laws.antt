@@ -1,5 +1,5 @@
 -- What the tables say of pairs that can be merged.
-use Rattle.std.proofs.Common.{◌≡◌, ◌≢◌, ℕ, ◌+◌, ◌<◌, ◌≤◌, ◌⊎◌, List, [], ◌∷◌, ◌++◌, length, take, Option, Some, None, IsTrue, IsSome, refl, sym, ◌∙◌, ap, subst, inl, inr, true, false, Bool, true≢false}
+use Rattle.std.proofs.Common.{◌≡◌, ◌≢◌, ℕ, zero, suc, ◌+◌, ◌<◌, ◌≤◌, ◌⊎◌, List, [], ◌∷◌, ◌++◌, length, take, Option, Some, None, IsTrue, IsSome, refl, sym, ◌∙◌, ap, subst, inl, inr, true, false, Bool, true≢false}
 use Rattle.std.specs.Prelude.{nat_eq, ◌||◌, IfNone, IfSome, IfOk, Result, Ok, Err, get_or, cond}
 use Rattle.std.proofs.lemmas.Bool.{or_cases, or_left, or_right}
 use Rattle.std.proofs.lemmas.Bool.Decides.{Decides-eqb, eqb_tells}
@@ -12,6 +12,9 @@ use Rattle.upkeep_spec.specs.Merges.{IsMergeablePair, IsMerged, one_more, none, 
 use Rattle.upkeep_spec.specs.Viewed.{IsViewed, IsDone}
 use Rattle.upkeep_spec.proofs.Merging.{can_swap}
 use Rattle.upkeep_spec.proofs.Suspects.{partner, minimal_from, suspect_cleared, suspects_merged}
+use Rattle.block_partition.specs.Partitions.{put}
+use Rattle.quotient_draft.specs.Drafts.{with_added}
+use Rattle.quotient_draft.specs.Basis.{AreLeastFree}
 use Rattle.block_joining.specs.Mates.{AreMates, AreNoMates}
 use Rattle.one_merging.specs.Merging.{IsMerging}
 
@@ -201,3 +204,19 @@ other_more a xs i d old (Some x) h before one lone = elim one [
         none = tt;
       })
 ]
+
+-- a block keeps its label when another number is given to a new one
+put_free : (labels : List (Option ℕ)) (n v b l : ℕ) → at labels n ≡ None → at labels b ≡ Some l → at (put labels n v) b ≡ Some l
+put_free [] n v b l free h = absurd (cc)
+put_free (x ∷ xs) zero v zero l free h = absurd (let clash : None ≡ Some l = sym free ∙ h in cc)
+put_free (x ∷ xs) zero v (suc b) l free h = h
+put_free (x ∷ xs) (suc n) v zero l free h = h
+put_free (x ∷ xs) (suc n) v (suc b) l free h = put_free xs n v b l free h
+
+base_kept : (labels : List (Option ℕ)) (es : List (ℕ × ℕ)) (b l : ℕ) → AreLeastFree labels es → at labels b ≡ Some l → at (with_added labels es) b ≡ Some l
+base_kept labels [] b l h k = k
+base_kept labels (e ∷ es) b l h k = base_kept (put labels e.0 e.1) es b l h.1 (put_free labels e.0 e.1 b l h.0.free k)
+
+-- a block of the base whose label is another has another one as shown
+pub other_label : (labels : List (Option ℕ)) (es : List (ℕ × ℕ)) (b l label : ℕ) → AreLeastFree labels es → at labels b ≡ Some l → l ≢ label → at (with_added labels es) b ≢ Some label
+other_label labels es b l label h k ne e = ne (let same : Some l ≡ Some label = sym (base_kept labels es b l h k) ∙ e in cc)

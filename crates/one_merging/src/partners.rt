@@ -32,11 +32,15 @@ impl Rooms {
     }
 }
 
-// Whether the number is that of a block with this label.
+// Whether the number is that of a block with this label. Blocks of the base keep their labels, so the draft,
+// which is looked up by hash, is asked for others alone.
 fn is_labelled(base: &Summary, draft: &Draft, b: u32, label: u32) -> bool
     requires over { IsOver base.now.blocks.block_of base.now.blocks.labels draft.now }
     ensures no { IsFalse result → at (shown_labels base.now draft.now) b ≢ Some label }
 {
+    if base.is_block(b) {
+        return base.label(b) == label;
+    }
     if !draft.is_block(base, b) {
         return false;
     }
