@@ -1,7 +1,7 @@
 -- Two blocks can be merged exactly where the tables say so.
 use Rattle.std.proofs.Common.{◌≡◌, ◌≢◌, ℕ, ◌↔◌, List, [], ◌∷◌, Option, Some, None, IsTrue, refl, sym, ◌∙◌, ap, subst, inl, inr, true, false, Bool, cond}
-use Rattle.std.specs.Prelude.{nat_eq, ◌||◌}
-use Rattle.std.specs.List.{list_all}
+use Rattle.std.specs.Prelude.{nat_eq, ◌||◌, ◌&&◌, not}
+use Rattle.std.specs.List.{list_all, list_any}
 use Rattle.std.proofs.lemmas.Bool.{cases_Bool, both_ways, or_cases, or_left, or_right, and_parts, and_from}
 use Rattle.std.proofs.lemmas.Bool.Decides.{Decides-eqb, eqb_tells}
 use Rattle.px_spec.specs.Shapes.{Shape}
@@ -167,3 +167,19 @@ pub no_mates_back : (p : List (Option ℕ)) (labels : ℕ → Option ℕ) (joine
 no_mates_back p labels joined a b xs lists off s v can =
     both_ways (list_all (met joined a b a) xs) off
     (listed_covered joined a b b a xs lists ((mates_by_tables s p labels joined a b v can.first.0 can.second.0 can.first.1 can.second.1).0 can.can).2)
+
+-- one parent of the second that isn't met rules the pair out
+pub no_mates_unmet : (p : List (Option ℕ)) (labels : ℕ → Option ℕ) (joined : ℕ → ℕ → Bool) (a b : ℕ) → ((x : ℕ) × IsTrue (joined x b) × (met joined a b a x ≡ false)) → AreNoMates p labels joined a b
+no_mates_unmet p labels joined a b off s v can =
+    both_ways (met joined a b a off.0) off.2 (((mates_by_tables s p labels joined a b v can.first.0 can.second.0 can.first.1 can.second.1).0 can.can).2.each off.0 off.1)
+
+not_true : (t : Bool) → not t ≡ true → t ≡ false
+not_true true h = absurd (cc)
+not_true false h = refl
+
+pub unmet_get : (joined : ℕ → ℕ → Bool) (a b : ℕ) (xs : List ℕ) → list_any (λ x. joined x b && not (met joined a b a x)) xs ≡ true → (x : ℕ) × IsTrue (joined x b) × (met joined a b a x ≡ false)
+unmet_get joined a b [] h = absurd (cc)
+unmet_get joined a b (x ∷ xs) h = elim (or_cases (joined x b && not (met joined a b a x)) (list_any (λ y. joined y b && not (met joined a b a y)) xs) h) [
+  | inl here ↦ (let both = and_parts (joined x b) (not (met joined a b a x)) here in (x, both.0, not_true (met joined a b a x) both.1))
+  | inr there ↦ unmet_get joined a b xs there
+]

@@ -1,12 +1,13 @@
 // Whether two blocks can be merged.
-ghost use Rattle.std.specs.Prelude.{◌≡◌, ◌≢◌, ℕ, Some, IsTrue, IsFalse, IfOk};
-ghost use Rattle.std.specs.List.{list_all};
+ghost use Rattle.std.specs.Prelude.{◌≡◌, ◌≢◌, ◌&&◌, ℕ, Some, IsTrue, IsFalse, IfOk, not, false};
+ghost use Rattle.std.specs.List.{list_all, list_any};
 ghost use Rattle.px_spec.specs.Members.{at, Lists};
 ghost use Rattle.quotient_draft.specs.Drafts.{shown_labels, shown_blocks, shown_support};
 ghost use Rattle.quotient_draft.specs.Basis.{IsOver};
 ghost use Rattle.block_joining.specs.Mates.{shown_joined, met, AreMates, AreNoMates};
 ghost use Rattle.block_joining.specs.Merged.{HasGraph};
 
+use label_graph::Digraph;
 use px_base::Memory;
 use quotient::Summary;
 use quotient_draft::Draft;
@@ -47,9 +48,34 @@ fn same_label(base: &Summary, draft: &Draft, a: u32, b: u32) -> bool
     draft.label(base, a) == draft.label(base, b)
 }
 
+// Whether x is joined to b and not to a, where a and b count as one block.
+fn is_unmet(base: &Summary, draft: &Draft, a: u32, b: u32, x: u32) -> bool
+    ensures { result ≡ (shown_joined base.now draft.now x b && not (met (shown_joined base.now draft.now) a b a x)) }
+{
+    joins(base, draft, x, b) && !is_met(base, draft, a, b, a, x)
+}
+
+// Whether one of the blocks is so. It stops at the first that is.
+fn is_any_unmet(base: &Summary, draft: &Draft, a: u32, b: u32, blocks: &[u32]) -> bool
+    ensures { result ≡ list_any (λ x. shown_joined base.now draft.now x b && not (met (shown_joined base.now draft.now) a b a x)) blocks.now }
+{
+    blocks.iter().any(|x| is_unmet(base, draft, a, b, *x))
+}
+
+// Whether a parent of b in the base rules out that the two can be merged. No list is made, so it is a cheap
+// test to put first; parents that the draft adds are not seen.
+fn has_unmet_parent(base: &Summary, draft: &Draft, a: u32, b: u32) -> bool
+    ensures { IsTrue result → (x : ℕ) × IsTrue (shown_joined base.now draft.now x b) × (met (shown_joined base.now draft.now) a b a x ≡ false) }
+{
+    if !base.is_block(b) {
+        return false;
+    }
+    is_any_unmet(base, draft, a, b, base.parents(b))
+}
+
 /// Whether two blocks with members, of which the first has these parent blocks, can be merged: they have one
-/// label, and the same parent blocks once the two count as one. The parents of the second are read only where
-/// it has those of the first. `list` is room that is used again.
+/// label, and the same parent blocks once the two count as one. The parents of the second are listed only where
+/// it has those of the first, and the first has those that the base names. `list` is room that is used again.
 pub fn mergeable(
     base: &Summary,
     draft: &Draft,
@@ -71,6 +97,9 @@ pub fn mergeable(
         return Ok(false);
     }
     if !are_met(base, draft, a, b, b, parents) {
+        return Ok(false);
+    }
+    if has_unmet_parent(base, draft, a, b) {
         return Ok(false);
     }
     draft.fill_parents(base, b, list)?;

@@ -1,16 +1,20 @@
 -- What the tables say of pairs that can be merged.
-use Rattle.std.proofs.Common.{◌≡◌, ◌≢◌, ℕ, ◌+◌, ◌<◌, ◌≤◌, ◌⊎◌, List, [], ◌∷◌, ◌++◌, length, take, Option, Some, None, IsTrue, IsSome, refl, sym, ◌∙◌, ap, subst, inl, inr, true, false, Bool, true≢false}
+use Rattle.std.proofs.Common.{◌≡◌, ◌≢◌, ℕ, zero, suc, ◌+◌, ◌<◌, ◌≤◌, ◌⊎◌, List, [], ◌∷◌, ◌++◌, length, take, Option, Some, None, IsTrue, IsSome, refl, sym, ◌∙◌, ap, subst, inl, inr, true, false, Bool, true≢false}
 use Rattle.std.specs.Prelude.{nat_eq, ◌||◌, IfNone, IfSome, IfOk, Result, Ok, Err, get_or, cond}
-use Rattle.std.proofs.lemmas.Bool.{or_cases, or_right}
+use Rattle.std.proofs.lemmas.Bool.{or_cases, or_left, or_right}
 use Rattle.std.proofs.lemmas.Bool.Decides.{Decides-eqb, eqb_tells}
 use Rattle.std.proofs.lemmas.List.{take_more, take_all}
 use Rattle.std.proofs.lemmas.List.Folds.{list_any-append}
 use Rattle.px_spec.specs.Members.{has, at, Lists}
 use Rattle.px_spec.specs.Shapes.{Shape}
+use Rattle.bisim_spec.proofs.Merging.{mergeable_blocks}
 use Rattle.upkeep_spec.specs.Merges.{IsMergeablePair, IsMerged, one_more, none, AreSuspects}
 use Rattle.upkeep_spec.specs.Viewed.{IsViewed, IsDone}
 use Rattle.upkeep_spec.proofs.Merging.{can_swap}
 use Rattle.upkeep_spec.proofs.Suspects.{partner, minimal_from, suspect_cleared, suspects_merged}
+use Rattle.block_partition.specs.Partitions.{put}
+use Rattle.quotient_draft.specs.Drafts.{with_added}
+use Rattle.quotient_draft.specs.Basis.{AreLeastFree}
 use Rattle.block_joining.specs.Mates.{AreMates, AreNoMates}
 use Rattle.one_merging.specs.Merging.{IsMerging}
 
@@ -30,6 +34,13 @@ no_mates_same p labels joined a b e s v can = can.apart e
 
 pub no_mates_empty : (p : List (Option ℕ)) (labels : ℕ → Option ℕ) (joined : ℕ → ℕ → Bool) (a b : ℕ) → ((n : ℕ) → at p n ≢ Some b) → AreNoMates p labels joined a b
 no_mates_empty p labels joined a b empty s v can = empty can.second.0 can.second.1
+
+-- blocks of different labels are none
+pub no_mates_label : (p : List (Option ℕ)) (labels : ℕ → Option ℕ) (joined : ℕ → ℕ → Bool) (a b label : ℕ) → labels a ≡ Some label → labels b ≢ Some label → AreNoMates p labels joined a b
+no_mates_label p labels joined a b label own ne s v can =
+    let m = (mergeable_blocks s p a b can.first.0 can.second.0 v.shape v.stable can.first.1 can.second.1).0 can.can in
+    let same = (v.labelled.same can.first.0 can.second.0 a b can.first.1 can.second.1).1 (m.label can.first.0 can.second.0 can.first.1 can.second.1) in
+    ne (sym same ∙ own)
 
 pub no_mates_alone : (p : List (Option ℕ)) (labels : ℕ → Option ℕ) (joined : ℕ → ℕ → Bool) (a : ℕ) → ((n : ℕ) → at p n ≢ Some a) → (b : ℕ) → AreNoMates p labels joined a b
 no_mates_alone p labels joined a empty b s v can = empty can.first.0 can.first.1
@@ -168,3 +179,44 @@ merging_end s first p labels joined suspects m over = record { merges = m.merges
 -- suspects are the same, whatever list has them
 pub suspects_same : (s : Shape) (p : List (Option ℕ)) (xs ys : List ℕ) → ((b : ℕ) → has ys b ≡ has xs b) → AreSuspects s p (λ b. IsTrue (has xs b)) → AreSuspects s p (λ b. IsTrue (has ys b))
 suspects_same s p xs ys e h = record { one = λ b c can. elim (h.one b c can) [ inl k ↦ inl (e b ∙ k) | inr k ↦ inr (e c ∙ k) ] }
+
+-- a block of the list other than this one, if there is one
+pub record IsOther (a : ℕ) (xs : List ℕ) (o : Option ℕ) : Type 0 where
+  pub some : IfSome o (λ x. IsTrue (has xs x))
+  pub other : IfSome o (λ x. x ≢ a)
+  pub none : IfNone o ((x : ℕ) → IsTrue (has xs x) → x ≡ a)
+
+pub other_more : (a : ℕ) (xs : List ℕ) (i d : ℕ) (old new : Option ℕ) → i < length xs → IsOther a (take i xs) old → (new ≡ old) ⊎ ((new ≡ Some (get_or xs i d)) × (get_or xs i d ≢ a))
+    → (new ≡ None → (old ≡ None) × (get_or xs i d ≡ a)) → IsOther a (take (i + 1) xs) new
+other_more a xs i d old None h before one lone =
+    let no = lone refl in
+    let nothing = if_none old ((x : ℕ) → IsTrue (has (take i xs) x) → x ≡ a) no.0 before.none in
+    record { some = tt; other = tt; none = more_hold (λ x. x ≡ a) xs i d h nothing no.1 }
+other_more a xs i d old (Some x) h before one lone = elim one [
+  | inl e ↦ (
+      let there = if_some old x (λ y. IsTrue (has (take i xs) y)) (sym e) before.some in
+      record { some = has_more xs i d x h ∙ or_left (has (take i xs) x) (nat_eq x (get_or xs i d)) there; other = if_some old x (λ y. y ≢ a) (sym e) before.other; none = tt })
+  | inr k ↦ (
+      let same : x ≡ get_or xs i d = let e = k.0 in cc in
+      record {
+        some = has_more xs i d x h ∙ or_right (has (take i xs) x) (nat_eq x (get_or xs i d)) ((Decides-eqb x (get_or xs i d)).1 same);
+        other = subst (λ y. y ≢ a) (sym same) k.1;
+        none = tt;
+      })
+]
+
+-- a block keeps its label when another number is given to a new one
+put_free : (labels : List (Option ℕ)) (n v b l : ℕ) → at labels n ≡ None → at labels b ≡ Some l → at (put labels n v) b ≡ Some l
+put_free [] n v b l free h = absurd (cc)
+put_free (x ∷ xs) zero v zero l free h = absurd (let clash : None ≡ Some l = sym free ∙ h in cc)
+put_free (x ∷ xs) zero v (suc b) l free h = h
+put_free (x ∷ xs) (suc n) v zero l free h = h
+put_free (x ∷ xs) (suc n) v (suc b) l free h = put_free xs n v b l free h
+
+base_kept : (labels : List (Option ℕ)) (es : List (ℕ × ℕ)) (b l : ℕ) → AreLeastFree labels es → at labels b ≡ Some l → at (with_added labels es) b ≡ Some l
+base_kept labels [] b l h k = k
+base_kept labels (e ∷ es) b l h k = base_kept (put labels e.0 e.1) es b l h.1 (put_free labels e.0 e.1 b l h.0.free k)
+
+-- a block of the base whose label is another has another one as shown
+pub other_label : (labels : List (Option ℕ)) (es : List (ℕ × ℕ)) (b l label : ℕ) → AreLeastFree labels es → at labels b ≡ Some l → l ≢ label → at (with_added labels es) b ≢ Some label
+other_label labels es b l label h k ne e = ne (let same : Some l ≡ Some label = sym (base_kept labels es b l h k) ∙ e in cc)

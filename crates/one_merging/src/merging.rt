@@ -88,8 +88,9 @@ fn merge_pairs(
 /// part of it.
 ///
 /// Of two blocks that are merged the smaller is moved, and each block next to it is written once. A suspect is
-/// compared with another parent of it and the children of that one; only where it has no other parent than
-/// itself, all blocks are looked through.
+/// compared with another parent of it and the children of that one, where of its parents the one with the
+/// fewest children in the base is taken; only where it has no other parent than itself, all blocks are looked
+/// through.
 pub fn merge(
     alloc: Global,
     base: &Summary,

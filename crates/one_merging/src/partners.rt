@@ -1,13 +1,14 @@
 // With which block one can be merged.
-ghost use Rattle.std.specs.Prelude.{◌≡◌, ◌≢◌, ℕ, Some, IsTrue, IsFalse, IfSome, IfNone, IfOk};
+ghost use Rattle.std.specs.Prelude.{◌≡◌, ◌≢◌, ◌⊎◌, ℕ, Some, None, IsTrue, IsFalse, IfSome, IfNone, IfOk};
 ghost use Rattle.px_spec.specs.Members.{at, has, Lists};
-ghost use Rattle.quotient_draft.specs.Drafts.{shown_blocks};
+ghost use Rattle.quotient_draft.specs.Drafts.{shown_labels, shown_blocks};
 ghost use Rattle.quotient_draft.specs.Basis.{IsOver};
 ghost use Rattle.block_joining.specs.Mates.{shown_joined};
 ghost use Rattle.one_merging.specs.Merging.{HasShownGraph, AreShownMates, AreNoShownMates};
 
 use crate::members::has_members;
 use block_joining::mergeable;
+use label_graph::Digraph;
 use px_base::Memory;
 use quotient::Summary;
 use quotient_draft::Draft;
@@ -31,11 +32,28 @@ impl Rooms {
     }
 }
 
-// Whether two blocks, of which the first has members and these parents, differ and can be merged.
+// Whether the number is that of a block with this label. Blocks of the base keep their labels, so the draft,
+// which is looked up by hash, is asked for others alone.
+fn is_labelled(base: &Summary, draft: &Draft, b: u32, label: u32) -> bool
+    requires over { IsOver base.now.blocks.block_of base.now.blocks.labels draft.now }
+    ensures no { IsFalse result → at (shown_labels base.now draft.now) b ≢ Some label }
+{
+    if base.is_block(b) {
+        return base.label(b) == label;
+    }
+    if !draft.is_block(base, b) {
+        return false;
+    }
+    draft.label(base, b) == label
+}
+
+// Whether two blocks, of which the first has members, this label and these parents, differ and can be merged.
+// Most blocks have another label, so that is looked at first.
 fn is_partner(
     base: &Summary,
     draft: &Draft,
     a: u32,
+    label: u32,
     b: u32,
     parents: &[u32],
     others: &mut Vec<u32>,
@@ -43,11 +61,15 @@ fn is_partner(
     requires over { IsOver base.now.blocks.block_of base.now.blocks.labels draft.now }
     requires graph { HasShownGraph base.now draft.now }
     requires members { (n : ℕ) × (at (shown_blocks base.now draft.now) n ≡ Some a) }
+    requires label { at (shown_labels base.now draft.now) a ≡ Some label }
     requires parents { Lists (λ x. shown_joined base.now draft.now x a) parents.now }
     ensures yes { IfOk result (λ can. IsTrue can → AreShownMates base.now draft.now a b) }
     ensures no { IfOk result (λ can. IsFalse can → AreNoShownMates base.now draft.now a b) }
 {
     if a == b {
+        return Ok(false);
+    }
+    if !is_labelled(base, draft, b, label) {
         return Ok(false);
     }
     if !has_members(base, draft, b) {
@@ -56,18 +78,40 @@ fn is_partner(
     mergeable(base, draft, a, b, parents, others)
 }
 
-// A block of the list other than this one.
-fn other_than(blocks: &[u32], a: u32) -> Option<u32>
+// How many children a block has in the base, and 0 where it is no block of it: about what it costs to look
+// among them.
+fn base_children(base: &Summary, x: u32) -> usize {
+    if !base.is_block(x) {
+        return 0;
+    }
+    base.children(x).len()
+}
+
+// Of two blocks the one with fewer children in the base, where the second is other than this one; else the first.
+fn fewer_children(base: &Summary, a: u32, found: Option<u32>, x: u32) -> Option<u32>
+    ensures one { (result ≡ found) ⊎ ((result ≡ Some x) × (x ≢ a)) }
+    ensures none { result ≡ None → (found ≡ None) × (x ≡ a) }
+{
+    if x == a {
+        return found;
+    }
+    match found {
+        Some(y) if base_children(base, y) <= base_children(base, x) => found,
+        _ => Some(x),
+    }
+}
+
+// A block of the list other than this one: of those the one with the fewest children in the base.
+fn other_than(base: &Summary, blocks: &[u32], a: u32) -> Option<u32>
     ensures some { IfSome result (λ x. IsTrue (has blocks.now x)) }
     ensures other { IfSome result (λ x. x ≢ a) }
     ensures none { IfNone result ((x : ℕ) → IsTrue (has blocks.now x) → x ≡ a) }
 {
+    let mut found = None;
     for i in 0..blocks.len() {
-        if blocks[i] != a {
-            return Some(blocks[i]);
-        }
+        found = fewer_children(base, a, found, blocks[i]);
     }
-    None
+    found
 }
 
 // A partner of the first block among these.
@@ -86,8 +130,9 @@ fn find_among(
     ensures some { IfOk result (λ found. IfSome found (AreShownMates base.now draft.now a)) }
     ensures none { IfOk result (λ found. IfNone found ((b : ℕ) → IsTrue (has blocks.now b) → AreNoShownMates base.now draft.now a b)) }
 {
+    let label = draft.label(base, a);
     for i in 0..blocks.len() {
-        if is_partner(base, draft, a, blocks[i], parents, others)? {
+        if is_partner(base, draft, a, label, blocks[i], parents, others)? {
             return Ok(Some(blocks[i]));
         }
     }
@@ -109,8 +154,9 @@ fn find_anywhere(
     ensures some { IfOk result (λ found. IfSome found (AreShownMates base.now draft.now a)) }
     ensures none { IfOk result (λ found. IfNone found ((b : ℕ) → AreNoShownMates base.now draft.now a b)) }
 {
+    let label = draft.label(base, a);
     for b in 0..draft.span(base) {
-        if is_partner(base, draft, a, b, parents, others)? {
+        if is_partner(base, draft, a, label, b, parents, others)? {
             return Ok(Some(b));
         }
     }
@@ -134,10 +180,10 @@ fn find_partner(
     ensures some { IfOk result (λ found. IfSome found (AreShownMates base.now draft.now a)) }
     ensures none { IfOk result (λ found. IfNone found ((b : ℕ) → AreNoShownMates base.now draft.now a b)) }
 {
-    let Some(x) = other_than(parents, a) else {
+    let Some(x) = other_than(base, parents, a) else {
         return find_anywhere(base, draft, a, parents, others);
     };
-    if is_partner(base, draft, a, x, parents, others)? {
+    if is_partner(base, draft, a, draft.label(base, a), x, parents, others)? {
         return Ok(Some(x));
     }
     draft.fill_children(base, x, children)?;

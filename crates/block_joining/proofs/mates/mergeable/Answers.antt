@@ -3,7 +3,7 @@ use Rattle.std.specs.List.{list_all}
 use Rattle.px_spec.specs.Members.{at, Lists}
 use Rattle.quotient_draft.specs.Drafts.{shown_labels, shown_blocks}
 use Rattle.block_joining.specs.Mates.{shown_joined, met}
-use Rattle.block_joining.proofs.Mating.{mates_from, covered_listed, no_mates_label, no_mates_there, no_mates_back}
+use Rattle.block_joining.proofs.Mating.{mates_from, covered_listed, no_mates_label, no_mates_there, no_mates_back, no_mates_unmet}
 use Rattle.block_joining.proofs.mates.mergeable.Goals as goal
 
 pub returns-then-not-same_label-clause-no : goal.returns-then-not-same_label-clause-no
@@ -15,6 +15,11 @@ pub returns-then-not-are_met-clause-no : goal.returns-then-not-are_met-clause-no
 returns-then-not-are_met-clause-no c = λ _.
     no_mates_there (shown_blocks c.args.base.now c.args.draft.now) (at (shown_labels c.args.base.now c.args.draft.now)) (shown_joined c.args.base.now c.args.draft.now) c.args.a c.args.b
     c.args.parents.now c.requires.parents (search rules)
+
+pub returns-then-has_unmet_parent-clause-no : goal.returns-then-has_unmet_parent-clause-no
+returns-then-has_unmet_parent-clause-no c = λ _.
+    no_mates_unmet (shown_blocks c.args.base.now c.args.draft.now) (at (shown_labels c.args.base.now c.args.draft.now)) (shown_joined c.args.base.now c.args.draft.now) c.args.a c.args.b
+    (c.has_unmet_parent.ensures (search rules))
 
 pub returns-clause-yes : goal.returns-clause-yes
 returns-clause-yes c = λ h.
