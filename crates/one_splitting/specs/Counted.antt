@@ -1,5 +1,5 @@
 -- How many of the nodes that are looked at are in each block.
-use Rattle.std.specs.Prelude.{◌≡◌, ℕ, Bool, List, Option, nat_eq, unwrap_or, count_by}
+use Rattle.std.specs.Prelude.{◌≡◌, ℕ, Bool, false, List, Option, None, Some, nat_eq, not, unwrap_or, count_by}
 use Rattle.std.specs.List.{IsDistinct}
 use Rattle.std.specs.Map.{lookup}
 use Rattle.px_spec.specs.Members.{at, is_this}
@@ -16,3 +16,12 @@ is_in p b n = is_this b (at p n)
 pub record AreCounted (p : List (Option ℕ)) (looked : List ℕ) (counts : List (ℕ × ℕ)) : Type 0 where
   pub once : IsDistinct nat_eq looked
   pub each : (b : ℕ) → count_at counts b ≡ count_by (is_in p b) looked
+
+-- whether the block, if there is one, has not just one member
+abbrev pub is_shared : List (Option ℕ) → Option ℕ → Bool
+is_shared p None = false
+is_shared p (Some b) = not (nat_eq (count_by (is_this b) p) 1)
+
+-- whether the node shares its block with another one
+abbrev pub has_company : List (Option ℕ) → ℕ → Bool
+has_company p n = is_shared p (at p n)

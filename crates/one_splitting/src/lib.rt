@@ -1,6 +1,7 @@
 //! Splitting the blocks of a 1-index after a change, in a draft, until the partition shown is stable.
 #![tactic(auto)]
 
+mod company;
 mod goals;
 mod keys;
 mod owners;

@@ -14,6 +14,7 @@ ghost use Rattle.quotient_draft.specs.Basis.{IsOver};
 ghost use Rattle.one_splitting.specs.Costs.{move_cost, round_cost};
 ghost use Rattle.one_splitting.specs.Going.{goal_at, AreBlocks, GoalsAreBlocks, MembersHaveLabels, HaveGone, ListsChildrenOf};
 
+use crate::company::with_company;
 use crate::goals::find_goals;
 use crate::keys::{number_nodes, sort_once};
 use crate::owners::count_owners;
@@ -97,8 +98,8 @@ fn move_nodes<L: Ledger>(
     Ok(next)
 }
 
-/// Looks at these nodes, and gives those that are to be looked at next: the children of those that moved.
-pub(crate) fn round<L: Ledger>(
+// Parts these nodes by their keys, and gives those that are to be looked at next: the children of those that moved.
+fn part_by_keys<L: Ledger>(
     alloc: Global,
     base: &Summary,
     draft: &mut Draft,
@@ -132,6 +133,39 @@ pub(crate) fn round<L: Ledger>(
     let mut next = move_nodes(alloc, base, draft, after, nodes, &numbers, &goals, steps)?;
     sort_once(&mut next);
     Ok(next)
+}
+
+/// Looks at these nodes, and gives those that are to be looked at next: the children of those that moved.
+/// Of a node that is alone in its block the parents aren't read.
+pub(crate) fn round<L: Ledger>(
+    alloc: Global,
+    base: &Summary,
+    draft: &mut Draft,
+    after: &After<'_>,
+    nodes: &[NodeId],
+    made: &mut Vec<u32>,
+    steps: &mut Steps<L>,
+) -> Result<Vec<NodeId>, Memory>
+    requires over { IsOver base.now.blocks.block_of base.now.blocks.labels draft.old }
+    requires live { MembersHaveLabels (shown_blocks base.now draft.old) (at (shown_labels base.now draft.old)) }
+    requires nodes { (n : ℕ) → IsTrue (has nodes.now n) → IsTrue (is_live (graph_after after.now) n) }
+    requires shape { IsShape (shape_of (graph_after after.now)) }
+    requires partition { IsPartition (shape_of (graph_after after.now)) (shown_blocks base.now draft.old) }
+    requires once { IsDistinct nat_eq nodes.now }
+    requires made { AreBlocks (at (shown_labels base.now draft.old)) made.old.items }
+    requires supports { AreEdgeCounts (graph_after after.now) (shown_blocks base.now draft.old) (shown_support base.now draft.old) }
+    ensures over { OnOk result (IsOver base.now.blocks.block_of base.now.blocks.labels draft.new) }
+    ensures split { IfOk result (λ next. (inside : ℕ → Bool) (first : List (Option ℕ)) → IsClosed (shape_of (graph_after after.now)) inside → IsSplitInside (shape_of (graph_after after.now)) inside first (shown_blocks base.now draft.old) nodes.now made.old.items → IsSplitInside (shape_of (graph_after after.now)) inside first (shown_blocks base.now draft.new) next.items made.new.items) }
+    ensures once { IfOk result (λ next. IsDistinct nat_eq next.items) }
+    ensures named { OnOk result ((names : ℕ → Option ℕ) → AreNamed (shown_blocks base.now draft.old) (at (shown_labels base.now draft.old)) names → AreNamed (shown_blocks base.now draft.new) (at (shown_labels base.now draft.new)) names) }
+    ensures made { OnOk result (AreBlocks (at (shown_labels base.now draft.new)) made.new.items) }
+    ensures supports { OnOk result (AreEdgeCounts (graph_after after.now) (shown_blocks base.now draft.new) (shown_support base.now draft.new)) }
+    ensures least { OnOk result (length made.old.items ≤ length made.new.items) }
+    ensures more { IfOk result (λ next. (length made.old.items < length made.new.items) ⊎ (next.items ≡ [])) }
+    ensures cost { steps.new ≤ steps.old + sum_by (round_cost after.now) nodes.now }
+{
+    let kept = with_company(alloc, base, draft, nodes)?;
+    part_by_keys(alloc, base, draft, after, &kept, made, steps)
 }
 
 /// Whether nothing is to be looked at.

@@ -18,6 +18,7 @@ ghost use Rattle.one_splitting.specs.Costs.{move_cost};
 ghost use Rattle.one_splitting.specs.Going.{AreBlocks, MembersHaveLabels};
 ghost use Rattle.one_splitting.specs.Parting.{IsParting, IsFirst};
 
+use crate::company::push_if;
 use crate::goals::draft_block;
 use crate::keys::{own_block, sort_once};
 use crate::rounds::{is_done, round};
@@ -62,16 +63,6 @@ fn is_apart(base: &Summary, draft: &Draft, after: &After<'_>, target: NodeId, ow
         return false;
     }
     draft.member_count(base, own) == 1
-}
-
-// Puts a node behind the list, if it is to stay.
-fn push_if(list: &mut Vec<NodeId>, n: NodeId, stays: bool) -> Result<(), Memory>
-    ensures { OnOk result (list.new.items ≡ (if stays then list.old.items ++ n ∷ [] else list.old.items)) }
-{
-    if stays {
-        list.push(n)?;
-    }
-    Ok(())
 }
 
 // Puts a target into a block of its own, where it has company or another label, and puts its children behind

@@ -1,109 +1,48 @@
-use Rattle.std.proofs.Common.{◌≡◌, ℕ, List, Option, length, arith, sym, ap, subst}
-use Rattle.px_spec.specs.Graphs.{has_edge}
-use Rattle.px_spec.specs.Members.{at}
+use Rattle.std.proofs.Common.{◌≡◌, ℕ, List, Option, Bool, Vec, Global, arith, sym, subst, ◌∙◌}
+use Rattle.std.proofs.lemmas.Result.{IfOk-weaker}
+use Rattle.std.specs.Prelude.{nat_eq}
+use Rattle.std.specs.List.{IsDistinct, filter}
 use Rattle.px_spec.specs.Shapes.{shape_of}
-use Rattle.upkeep_spec.specs.Named.{AreNamed}
+use Rattle.upkeep_spec.specs.Splits.{IsClosed, IsSplitInside}
 use Rattle.graph_update.specs.Pending.{graph_after}
-use Rattle.quotient_draft.specs.Drafts.{shown_blocks, shown_labels, with_added}
-use Rattle.one_splitting.specs.Counted.{AreCounted}
-use Rattle.one_splitting.specs.Going.{HaveGone, ListsChildrenOf}
-use Rattle.one_splitting.proofs.Ends.{set_distinct, next_set, more_or_none, owns, round_parts}
-use Rattle.one_splitting.proofs.Named.{named_step}
-use Rattle.one_splitting.proofs.Steps.{split_step}
+use Rattle.quotient_draft.specs.Drafts.{shown_blocks}
+use Rattle.one_splitting.specs.Costs.{round_cost}
+use Rattle.one_splitting.specs.Counted.{has_company}
+use Rattle.one_splitting.proofs.Alone.{kept_there, kept_sum, split_kept}
+use Rattle.one_splitting.proofs.Present.{filter_once}
 use Rattle.one_splitting.proofs.rounds.round.Goals as goal
 
-pub returns-in_err-numbers-clause-cost : goal.returns-in_err-numbers-clause-cost
-returns-in_err-numbers-clause-cost g c =
-    let parts = round_parts c.args.after.now c.args.nodes.now in
-    let cost = c.number_nodes.ensures.cost in
-    omega (arith, parts, cost)
+pub with_company-requires-clause-blocks : goal.with_company-requires-clause-blocks
+with_company-requires-clause-blocks g c = λ n h. c.requires.partition.live n (c.requires.nodes n h)
 
-pub returns-in_err-counts-clause-cost : goal.returns-in_err-counts-clause-cost
-returns-in_err-counts-clause-cost g c =
-    let parts = round_parts c.args.after.now c.args.nodes.now in
-    let cost = c.number_nodes.ensures.cost in
-    omega (arith, parts, cost)
+pub part_by_keys-requires-clause-nodes : goal.part_by_keys-requires-clause-nodes
+part_by_keys-requires-clause-nodes g c = λ n h.
+    let p = shown_blocks c.args.base.now c.args.draft.now in
+    let is : c.deref.result.now ≡ filter (has_company p) c.args.nodes.now = c.deref.ensures.value ∙ c.in_ok-kept.ensures in
+    c.requires.nodes n (kept_there p c.args.nodes.now c.deref.result.now n is h)
 
-pub find_goals-requires-clause-keys : goal.find_goals-requires-clause-keys
-find_goals-requires-clause-keys g c = λ k h.
-    let o = owns (shown_blocks c.args.base.now c.args.draft.now) (has_edge (graph_after c.args.after.now)) c.number_nodes.new.keys c.args.nodes.now c.in_ok-numbers.numbers.items
-    c.in_ok-numbers.ensures.numbered k h in
-    (o.0, o.1, c.requires.live.some o.2.0 o.0 o.2.1)
+pub part_by_keys-requires-clause-once : goal.part_by_keys-requires-clause-once
+part_by_keys-requires-clause-once g c =
+    let p = shown_blocks c.args.base.now c.args.draft.now in
+    let is : c.deref.result.now ≡ filter (has_company p) c.args.nodes.now = c.deref.ensures.value ∙ c.in_ok-kept.ensures in
+    subst (IsDistinct nat_eq) (sym is) (filter_once (has_company p) c.args.nodes.now c.requires.once)
 
-pub returns-in_err-goals-clause-cost : goal.returns-in_err-goals-clause-cost
-returns-in_err-goals-clause-cost g c =
-    let parts = round_parts c.args.after.now c.args.nodes.now in
-    let cost = c.number_nodes.ensures.cost in
-    omega (arith, parts, cost)
-
-pub returns-in_err-next-clause-cost : goal.returns-in_err-next-clause-cost
-returns-in_err-next-clause-cost g c =
-    let parts = round_parts c.args.after.now c.args.nodes.now in
-    let cost = c.number_nodes.ensures.cost in
-    let moves = c.move_nodes.ensures.cost in
-    omega (arith, parts, cost, moves)
+pub returns-clause-split : goal.returns-clause-split
+returns-clause-split g c =
+    let s = shape_of (graph_after c.args.after.now) in
+    let p = shown_blocks c.args.base.now c.args.draft.now in
+    let is : c.deref.result.now ≡ filter (has_company p) c.args.nodes.now = c.deref.ensures.value ∙ c.in_ok-kept.ensures in
+    let p2 = shown_blocks c.args.base.now c.part_by_keys.new.draft in
+    IfOk-weaker c.part_by_keys.result
+    (λ (next : Vec ℕ Global). (inside : ℕ → Bool) (first : List (Option ℕ)) → IsClosed s inside → IsSplitInside s inside first p c.deref.result.now c.args.made.now.items → IsSplitInside s inside first p2 next.items c.part_by_keys.new.made.items)
+    _
+    (λ next part inside first closed split. part inside first closed (split_kept s inside first p c.args.nodes.now c.deref.result.now c.args.made.now.items c.requires.shape is split))
+    c.part_by_keys.ensures.split
 
 pub returns-clause-cost : goal.returns-clause-cost
 returns-clause-cost g c =
-    let parts = round_parts c.args.after.now c.args.nodes.now in
-    let cost = c.number_nodes.ensures.cost in
-    let moves = c.move_nodes.ensures.cost in
-    omega (arith, parts, cost, moves)
-
-pub returns-clause-once : goal.returns-clause-once
-returns-clause-once g c = set_distinct c.in_ok-next.next.items c.sort_once.new.numbers.items c.sort_once.ensures
-
-pub returns-clause-more : goal.returns-clause-more
-returns-clause-more g c =
-    let s = shape_of (graph_after c.args.after.now) in
-    let nodes = c.args.nodes.now in
-    let goals_are : c.deref-2.result.now ≡ c.in_ok-goals.goals.items = c.deref-2.ensures.value in
-    more_or_none s nodes c.deref.result.now c.in_ok-goals.goals.items (length nodes) c.sort_once.new.numbers.items c.args.made.now.items c.find_goals.new.made.items
-    (next_set s nodes c.deref.result.now c.in_ok-goals.goals.items (length nodes) c.in_ok-next.next.items c.sort_once.new.numbers.items c.sort_once.ensures
-    (subst (λ gs. ListsChildrenOf s nodes c.deref.result.now gs (length nodes) c.in_ok-next.next.items) goals_are c.in_ok-next.ensures.next))
-    c.in_ok-goals.ensures.from
-
-pub returns-clause-split : goal.returns-clause-split
-returns-clause-split g c = λ inside first closed split.
-    let s = shape_of (graph_after c.args.after.now) in
-    let nodes = c.args.nodes.now in
     let p = shown_blocks c.args.base.now c.args.draft.now in
-    let q = shown_blocks c.args.base.now c.find_goals.new.draft in
-    let p2 = shown_blocks c.args.base.now c.move_nodes.new.draft in
-    let keys = c.number_nodes.new.keys in
-    let numbers = c.in_ok-numbers.numbers.items in
-    let goals = c.in_ok-goals.goals.items in
-    let counts = c.in_ok-counts.counts.entries in
-    let counted : AreCounted p nodes counts = record { once = c.requires.once; each = c.in_ok-counts.ensures } in
-    let numbered = c.in_ok-numbers.ensures.numbered in
-    let numbers_are : c.deref.result.now ≡ c.in_ok-numbers.numbers.items = c.deref.ensures.value in
-    let goals_are : c.deref-2.result.now ≡ c.in_ok-goals.goals.items = c.deref-2.ensures.value in
-    split_step s inside first p p2 keys nodes numbers c.args.made.now.items c.sort_once.new.numbers.items c.find_goals.new.made.items goals counts c.requires.shape closed split c.requires.once
-    c.in_ok-numbers.ensures.count numbered c.in_ok-goals.ensures.count counted c.in_ok-goals.ensures.going
-    (subst (λ x. HaveGone x p2 nodes numbers goals (length nodes)) c.in_ok-goals.ensures.stay
-    (subst (λ ks. HaveGone q p2 nodes ks goals (length nodes)) numbers_are
-    (subst (λ gs. HaveGone q p2 nodes c.deref.result.now gs (length nodes)) goals_are c.in_ok-next.ensures.gone)))
-    (next_set s nodes numbers goals (length nodes) c.in_ok-next.next.items c.sort_once.new.numbers.items c.sort_once.ensures
-    (subst (λ ks. ListsChildrenOf s nodes ks goals (length nodes) c.in_ok-next.next.items) numbers_are
-    (subst (λ gs. ListsChildrenOf s nodes c.deref.result.now gs (length nodes) c.in_ok-next.next.items) goals_are c.in_ok-next.ensures.next)))
-    c.in_ok-goals.ensures.from c.in_ok-goals.ensures.made.once
-    (λ k h. let o = owns p (has_edge (graph_after c.args.after.now)) keys nodes numbers numbered k h in (o.0, o.1))
-
-pub returns-clause-named : goal.returns-clause-named
-returns-clause-named g c = λ names named.
-    let s = shape_of (graph_after c.args.after.now) in
-    let nodes = c.args.nodes.now in
-    let p = shown_blocks c.args.base.now c.args.draft.now in
-    let q = shown_blocks c.args.base.now c.find_goals.new.draft in
-    let p2 = shown_blocks c.args.base.now c.move_nodes.new.draft in
-    let numbers = c.in_ok-numbers.numbers.items in
-    let goals = c.in_ok-goals.goals.items in
-    let numbers_are : c.deref.result.now ≡ c.in_ok-numbers.numbers.items = c.deref.ensures.value in
-    let goals_are : c.deref-2.result.now ≡ c.in_ok-goals.goals.items = c.deref-2.ensures.value in
-    let gone = subst (λ x. HaveGone x p2 nodes numbers goals (length nodes)) c.in_ok-goals.ensures.stay
-    (subst (λ ks. HaveGone q p2 nodes ks goals (length nodes)) numbers_are
-    (subst (λ gs. HaveGone q p2 nodes c.deref.result.now gs (length nodes)) goals_are c.in_ok-next.ensures.gone)) in
-    let labels : shown_labels c.args.base.now c.move_nodes.new.draft ≡ shown_labels c.args.base.now c.find_goals.new.draft = ap (with_added c.args.base.now.blocks.labels) c.in_ok-next.ensures.added in
-    subst (λ (ls : List (Option ℕ)). AreNamed p2 (at ls) names) (sym labels)
-    (named_step s p p2 c.number_nodes.new.keys nodes numbers goals (at (shown_labels c.args.base.now c.args.draft.now)) (at (shown_labels c.args.base.now c.find_goals.new.draft)) names
-    c.in_ok-numbers.ensures.count c.requires.once c.in_ok-numbers.ensures.numbered gone c.in_ok-goals.ensures.labels c.in_ok-goals.ensures.kept named)
+    let is : c.deref.result.now ≡ filter (has_company p) c.args.nodes.now = c.deref.ensures.value ∙ c.in_ok-kept.ensures in
+    let fewer = kept_sum (round_cost c.args.after.now) (has_company p) c.args.nodes.now c.deref.result.now is in
+    let cost = c.part_by_keys.ensures.cost in
+    omega (arith, fewer, cost)
