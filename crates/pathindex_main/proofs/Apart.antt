@@ -1,8 +1,14 @@
 -- Three boxes of three kinds.
-use Rattle.std.proofs.Common.{◌≡◌, ◌≢◌, ℕ, zero, suc, ◌<◌, List, [], ◌∷◌, ◌++◌, length, map, refl, sym, ◌∙◌, ap, subst, arith}
+use Rattle.std.proofs.Common.{◌≡◌, ◌≢◌, ℕ, zero, suc, ◌<◌, List, [], ◌∷◌, ◌++◌, Option, None, Some, length, map, refl, sym, ◌∙◌, ap, subst, arith}
 use Rattle.std.specs.List.{AllPairs}
 use Rattle.bisim_spec.specs.declared.kind.Kind.TheVariants.{A, One, Fb}
 use Rattle.index_api.specs.Meanings.{Meaning}
+use Rattle.one_maintain.specs.Keeping.{KeptQuotient, meaning_of}
+
+-- what a 1-index means that keeps some quotient, or none
+pub kept_is_one : (kept : Option KeptQuotient) → (meaning_of kept).kind ≡ One
+kept_is_one None = refl
+kept_is_one (Some k) = refl
 
 a_is_not_one : A ≡ One → ⊥
 a_is_not_one e = cc
