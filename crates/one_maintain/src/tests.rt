@@ -1,5 +1,4 @@
-// The index of two rings that come apart, of two chains that come together, and of a graph to which an edge comes between blocks that have
-// support.
+// The index of two rings that come apart, and of a graph to which an edge comes between blocks that have support.
 ghost use Rattle.std.specs.Prelude.{◌≡◌, ◌<◌, IfOk, OnOk, IsSome};
 ghost use Rattle.index_api.specs.Meanings.{IsReady};
 ghost use Rattle.one_maintain.specs.Keeping.{meaning_of};
@@ -120,18 +119,6 @@ fn check_twins(rt: &impl Abort, kept: &mut OneKept, graph: &Graph) -> Result<(),
     Ok(())
 }
 
-// Once no edge parts them, two chains are grouped as one.
-fn check_chains(rt: &impl Abort, kept: &mut OneKept, graph: &Graph) -> Result<(), Fail>
-    requires ready { IsReady (meaning_of kept.old.kept) graph.now.graph }
-{
-    let change = Change::Unlink(6, 3);
-    prepare(kept, graph, &change)?;
-    assert!(rt; has_blocks(kept, 7));
-    kept.commit();
-    assert!(rt; has_blocks(kept, 4));
-    Ok(())
-}
-
 fn check_index_of_rings(rt: &impl Abort, alloc: Global, graph: &Graph) -> Result<(), Fail> {
     let mut kept = built::<Brand>(alloc, graph, Blank::new(1))?;
     check_rings(rt, &mut kept, graph)
@@ -140,11 +127,6 @@ fn check_index_of_rings(rt: &impl Abort, alloc: Global, graph: &Graph) -> Result
 fn check_index_of_twins(rt: &impl Abort, alloc: Global, graph: &Graph) -> Result<(), Fail> {
     let mut kept = built::<Brand>(alloc, graph, Blank::new(1))?;
     check_twins(rt, &mut kept, graph)
-}
-
-fn check_index_of_chains(rt: &impl Abort, alloc: Global, graph: &Graph) -> Result<(), Fail> {
-    let mut kept = built::<Brand>(alloc, graph, Blank::new(1))?;
-    check_chains(rt, &mut kept, graph)
 }
 
 // Two rings of an a and a b.
@@ -159,12 +141,4 @@ fn rings_come_apart(rt: HostRuntime) -> Result<(), Fail> {
 fn twins_stay_together(rt: HostRuntime) -> Result<(), Fail> {
     let graph = graph_of(rt.alloc(), b"aabb", &[(0, 2), (1, 2), (0, 3)])?;
     check_index_of_twins(&rt, rt.alloc(), &graph)
-}
-
-// Two chains of an a, a b and a c, and an x in front of the second one.
-#[test]
-fn chains_come_together(rt: HostRuntime) -> Result<(), Fail> {
-    let edges = &[(0, 1), (1, 2), (3, 4), (4, 5), (6, 3)];
-    let graph = graph_of(rt.alloc(), b"abcabcx", edges)?;
-    check_index_of_chains(&rt, rt.alloc(), &graph)
 }
