@@ -22,8 +22,8 @@ fn push_lines(out: &mut String, generator: &mut Generator, count: u32) -> Result
     Ok(())
 }
 
-/// The graph file of the seed: 20,000 lines of N-Triples over 4,000 subjects, 8 predicates and 500 values. No walk in
-/// its graph comes back to its beginning. The same seed gives the same text everywhere.
+/// The graph file of the seed: 20,000 lines of N-Triples over 4,000 IRIs, 8 predicates and 500 values. An
+/// object that is an IRI has a greater number than its subject. The same seed gives the same text everywhere.
 pub fn made_graph(alloc: Global, seed: u64) -> Result<Text, Memory>
     ensures { IfOk result (λ t. t ≡ made_graph_text seed) }
 {
