@@ -1,0 +1,4 @@
+pub mod Plain
+pub mod Queries
+pub mod ScriptLines
+pub mod ProperScript
