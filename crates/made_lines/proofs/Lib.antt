@@ -2,3 +2,4 @@ pub mod Plain
 pub mod Queries
 pub mod ScriptLines
 pub mod ProperScript
+pub mod GraphLines

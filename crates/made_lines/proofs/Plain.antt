@@ -84,6 +84,9 @@ ink_digits (d ∷ ds) h =
     let a = both (is_ascii_digit d) (list_all is_ascii_digit ds) h in
     rw (digit_byte d a.0) (ink_digits ds a.1)
 
+pub digits_of_decimal : (n : ℕ) → n < 2 ^ 64 → list_all is_ascii_digit (decimal n) ≡ true
+digits_of_decimal n h = digits_decimal own n h
+
 pub ink_decimal : (n : ℕ) → n < 2 ^ 64 → list_all is_ink (decimal n) ≡ true
 ink_decimal n h = ink_digits (decimal n) (digits_decimal own n h)
 

@@ -19,7 +19,7 @@ use Rattle.branch_text.specs.Parsed.{Spells as SpellsQuery}
 -- ---- labels
 
 -- characters that stand for themselves in an IRIREF
-pieces : (cs : List ℕ) → list_all (λ c. scalar c && is_iri_char c) cs ≡ true → Many IriPiece cs cs
+pub pieces : (cs : List ℕ) → list_all (λ c. scalar c && is_iri_char c) cs ≡ true → Many IriPiece cs cs
 pieces [] h = refl
 pieces (c ∷ cs) h =
     let a = both (scalar c && is_iri_char c) (list_all (λ c. scalar c && is_iri_char c) cs) h in
