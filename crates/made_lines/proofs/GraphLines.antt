@@ -170,7 +170,7 @@ line_spelled s p o object hs hp ho is =
       ),
     )
 
-drawn_small : (x m : ℕ) → 0 < m → number_at x m < m
+pub drawn_small : (x m : ℕ) → 0 < m → number_at x m < m
 unfolding number_at
 drawn_small x m h = mod-lt (x / 2 ^ 33) h
 

@@ -3,3 +3,4 @@ pub mod Queries
 pub mod ScriptLines
 pub mod ProperScript
 pub mod GraphLines
+pub mod ProperGraph
