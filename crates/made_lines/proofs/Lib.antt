@@ -1,0 +1,6 @@
+pub mod Plain
+pub mod Queries
+pub mod ScriptLines
+pub mod ProperScript
+pub mod GraphLines
+pub mod ProperGraph
