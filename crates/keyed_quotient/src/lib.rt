@@ -1,0 +1,12 @@
+//! A quotient whose blocks have keys, by which they are found, and what is drafted over it.
+#![tactic(auto)]
+
+mod drafting;
+mod keyed;
+mod numbering;
+mod settling;
+#[cfg(test)]
+mod tests;
+
+pub use drafting::KeyedDraft;
+pub use keyed::KeyedSummary;
