@@ -33,12 +33,12 @@ support_as_shown q d a b = shown_support q.quotient d.drafted a b
 abbrev pub shown_key : KeyedQuotient → KeyedChanges → ℕ → Option (List ℕ)
 shown_key q d b = option_or (lookup (nat_eq b) d.keys) (key_at q.keys b)
 
--- The draft was begun over this base: see `IsOver`. Its further blocks are those that have further keys, and as shown exactly the blocks
--- have keys, no two of them the same. This holds over a base for as long as its blocks and its keys stay.
+-- The draft was begun over this base, as `IsOver` says. Its further blocks are no blocks of the base, and as shown exactly the
+-- blocks have keys, no two of them the same. This holds over a base for as long as its blocks and its keys stay.
 pub record IsKeyedOver (q : KeyedQuotient) (d : KeyedChanges) : Type 0 where
   pub over : IsOver q.quotient.blocks.block_of q.quotient.blocks.labels d.drafted
-  pub blocks : keys_of d.keys ≡ keys_of d.drafted.added
   pub once : IsDistinct nat_eq (keys_of d.keys)
+  pub further : (b : ℕ) (key : List ℕ) → lookup (nat_eq b) d.keys ≡ Some key → key_at q.keys b ≡ None
   pub keyed : AreKeyed (labels_as_shown q d) (shown_key q d)
 
 -- the key is in the table

@@ -1,5 +1,5 @@
 -- How keys lead to blocks, and back.
-use Rattle.std.specs.Prelude.{ℕ, ◌≡◌, ◌+◌, ◌≤◌, List, [], ◌∷◌, length, Option, None, Some, IsSome, is_some, option_and_then, cond, slice_get, slice_set}
+use Rattle.std.specs.Prelude.{ℕ, ◌≡◌, ◌≢◌, ◌+◌, ◌<◌, ◌≤◌, List, [], ◌∷◌, length, Option, None, Some, IsSome, is_some, option_and_then, cond, slice_get, slice_set}
 use Rattle.px_spec.specs.Members.{at}
 use Rattle.key_table.specs.Interning.{AreDistinct}
 
@@ -49,3 +49,20 @@ pub record Gives (key : List ℕ) (b : ℕ) (old new : Numbering) : Type 0 where
   pub table : new.table ≡ old.table
   pub block_of : new.block_of ≡ slice_set old.block_of k b
   pub number_of : new.number_of ≡ slice_set old.number_of b k
+
+-- no entry below i has this block or this key
+abbrev pub IsNoneBelow : List (ℕ × List ℕ) → ℕ → ℕ → List ℕ → Type 0
+IsNoneBelow es i b key = (j c : ℕ) (x : List ℕ) → j < i → slice_get es j ≡ Some (c, x) → (c ≢ b) × (x ≢ key)
+
+-- the entries differ in blocks and in keys
+pub record AreApart (es : List (ℕ × List ℕ)) : Type 0 where
+  pub blocks : (i j b : ℕ) (x y : List ℕ) → slice_get es i ≡ Some (b, x) → slice_get es j ≡ Some (b, y) → i ≡ j
+  pub keys : (i j b c : ℕ) (x : List ℕ) → slice_get es i ≡ Some (b, x) → slice_get es j ≡ Some (c, x) → i ≡ j
+
+-- the first i entries are given
+pub record GivenBelow (es : List (ℕ × List ℕ)) (i : ℕ) (old now : Numbering) : Type 0 where
+  pub table : now.table ≡ old.table
+  pub fits : length now.block_of ≡ length old.block_of
+  pub span : length now.number_of ≡ length old.number_of
+  pub given : (j b : ℕ) (key : List ℕ) → j < i → slice_get es j ≡ Some (b, key) → (k : ℕ) × Leads now k b key
+  pub kept : (k b : ℕ) (key : List ℕ) → Leads old k b key → IsNoneBelow es i b key → Leads now k b key

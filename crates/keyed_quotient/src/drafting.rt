@@ -1,5 +1,8 @@
 // What is drafted over a quotient whose blocks have keys.
-ghost use Rattle.std.specs.Prelude.{◌≡◌, ◌+◌, ◌<◌, ◌≤◌, ◌^◌, ◌&&◌, ◌++◌, ◌∷◌, ◌↔◌, [], ℕ, List, Option, Some, None, IsSome, IsTrue, is_some, IfOk, OnOk, OnErr, IfSome, IfNone, nat_eq, if◌then◌else◌, count_by, length};
+ghost use Rattle.std.specs.Prelude.{◌≡◌, ◌+◌, ◌<◌, ◌≤◌, ◌^◌, ◌&&◌, ◌++◌, ◌∷◌, ◌↔◌, [], ℕ, List, Option, Some, None, IsSome, IsTrue, is_some, IfOk, OnOk, OnErr, IfSome, IfNone, nat_eq, if◌then◌else◌, count_by, length, slice_get};
+ghost use Rattle.std.specs.List.{IsDistinct};
+ghost use Rattle.std.specs.Map.{lookup, keys_of};
+ghost use Rattle.key_table.specs.Interning.{IsAbsent};
 ghost use Rattle.px_spec.specs.Members.{at, Lists};
 ghost use Rattle.px_spec.specs.Graphs.{is_live, has_edge};
 ghost use Rattle.px_spec.specs.Shapes.{shape_of};
@@ -79,11 +82,45 @@ impl KeyedDraft {
         ensures leads { (b : ℕ) → (result ≡ Some b) ↔ (shown_key base.now self.now b ≡ Some key.now) }
         ensures live { IfSome result (λ b. IsSome (at (labels_as_shown base.now self.now) b)) }
     {
-        match self.keys.find(key) {
-            Some(i) => Some(self.blocks[i as usize]),
+        match self.further(key) {
+            Some(b) => Some(b),
             None => base.find(key),
         }
     }
+
+    // The further block with this key.
+    fn further(&self, key: &[u32]) -> Option<u32>
+        requires once { IsDistinct nat_eq (keys_of self.now.keys) }
+        ensures found { IfSome result (λ b. lookup (nat_eq b) self.now.keys ≡ Some key.now) }
+        ensures absent { IfNone result ((b : ℕ) → lookup (nat_eq b) self.now.keys ≡ Some key.now → ⊥) }
+    {
+        match self.keys.find(key) {
+            Some(i) => Some(read(&self.blocks, i)),
+            None => None,
+        }
+    }
+}
+
+// What stands at a place.
+pub(crate) fn read(list: &[u32], i: u32) -> u32
+    requires { i < length list.now }
+    ensures { slice_get list.now i ≡ Some result }
+{
+    list[i as usize]
+}
+
+// Puts a block with its key, which is new, behind the others.
+fn note(blocks: &mut Vec<u32>, keys: &mut KeyTable, b: u32, key: &[u32]) -> Result<(), Memory>
+    requires even { length blocks.old.items ≡ length keys.old }
+    requires absent { IsAbsent keys.old key.now }
+    ensures blocks { OnOk result (blocks.new.items ≡ blocks.old.items ++ b ∷ []) }
+    ensures keys { OnOk result (keys.new ≡ keys.old ++ key.now ∷ []) }
+    ensures err { OnErr result ((blocks.new.items ≡ blocks.old.items) × (keys.new ≡ keys.old)) }
+{
+    blocks.reserve(1)?;
+    keys.intern(key)?;
+    blocks.push_reserved(b);
+    Ok(())
 }
 
 // Drafting.
@@ -100,7 +137,14 @@ impl KeyedDraft {
         ensures over { OnOk result (IsKeyedOver base.now self.new) }
         ensures err { OnErr result (self.new ≡ self.old) }
     {
-        Err(Memory)
+        let b = self.draft.new_block(&base.summary, label)?;
+        match note(&mut self.blocks, &mut self.keys, b, key) {
+            Ok(()) => Ok(b),
+            Err(error) => {
+                self.draft.forget_block();
+                Err(error)
+            }
+        }
     }
 
     /// Drafts the move of a node, which is below 2^31, to a block as shown, or out of its block.

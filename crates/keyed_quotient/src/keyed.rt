@@ -1,7 +1,9 @@
 // A quotient whose blocks have keys.
-ghost use Rattle.std.specs.Prelude.{◌≡◌, ◌↔◌, ℕ, List, Some, IfOk, IfSome, slice_get};
+ghost use Rattle.std.specs.Prelude.{◌≡◌, ◌↔◌, ℕ, List, Some, IsSome, IsTrue, IsFalse, IfOk, IfSome, slice_get};
+ghost use Rattle.px_spec.specs.Members.{at};
 ghost use Rattle.block_partition.specs.Partitions.{IsBlock};
 ghost use Rattle.keyed_quotient.specs.Levels.{HasKey, AreKeyed, key_at};
+ghost use Rattle.keyed_quotient.specs.Numberings.{block_keys, numbered_key, IsNumbering, Leads};
 
 use crate::numbering::KeyNumbers;
 use key_table::KeyTable;
@@ -55,14 +57,7 @@ impl KeyedSummary {
         ensures leads { (b : ℕ) → (result ≡ Some b) ↔ HasKey self.now b key.now }
         ensures block { IfSome result (IsBlock self.now.quotient.blocks) }
     {
-        let k = self.numbers.number(key)?;
-        let b = self.numbers.block(k)?;
-        if self.is_led(k, b) { Some(b) } else { None }
-    }
-
-    // Whether the number of a key is that of the block.
-    fn is_led(&self, k: u32, b: u32) -> bool {
-        self.summary.is_block(b) && self.numbers.number_of(b) == Some(k)
+        find_in(&self.summary, &self.numbers, key)
     }
 
     /// The key of a block.
@@ -70,7 +65,52 @@ impl KeyedSummary {
         requires block { IsBlock self.now.quotient.blocks b }
         ensures { HasKey self.now b result.now }
     {
-        let k = self.numbers.number_of(b).unwrap();
-        self.numbers.key(k)
+        key_in(&self.numbers, b)
     }
+}
+
+// The block that has the key.
+fn find_in(summary: &Summary, numbers: &KeyNumbers, key: &[u32]) -> Option<u32>
+    requires { IsNumbering summary.now.blocks.labels numbers.now }
+    ensures leads { (b : ℕ) → (result ≡ Some b) ↔ (key_at (block_keys summary.now.blocks.labels numbers.now) b ≡ Some key.now) }
+    ensures block { IfSome result (IsBlock summary.now.blocks) }
+{
+    match numbers.number(key) {
+        Some(k) => led_block(summary, numbers, k, key),
+        None => None,
+    }
+}
+
+// The block to which the number of a key leads, where that leads back.
+fn led_block(summary: &Summary, numbers: &KeyNumbers, k: u32, key: &[u32]) -> Option<u32>
+    requires numbering { IsNumbering summary.now.blocks.labels numbers.now }
+    requires key { slice_get numbers.now.table k ≡ Some key.now }
+    ensures leads { (b : ℕ) → (result ≡ Some b) ↔ (key_at (block_keys summary.now.blocks.labels numbers.now) b ≡ Some key.now) }
+    ensures block { IfSome result (IsBlock summary.now.blocks) }
+{
+    let _ = key;
+    match numbers.block(k) {
+        Some(b) => if is_led(summary, numbers, k, b) { Some(b) } else { None },
+        None => None,
+    }
+}
+
+// Whether the number of a key is that of the block.
+fn is_led(summary: &Summary, numbers: &KeyNumbers, k: u32, b: u32) -> bool
+    ensures yes { IsTrue result → IsSome (at summary.now.blocks.labels b) × (slice_get numbers.now.number_of b ≡ Some k) }
+    ensures no { IsFalse result → IsSome (at summary.now.blocks.labels b) → slice_get numbers.now.number_of b ≡ Some k → ⊥ }
+{
+    if !summary.is_block(b) {
+        return false;
+    }
+    numbers.number_of(b) == Some(k)
+}
+
+// The key of a block that has one.
+fn key_in(numbers: &KeyNumbers, b: u32) -> &[u32]
+    requires { (k : ℕ) × (key : List ℕ) × Leads numbers.now k b key }
+    ensures { numbered_key numbers.now b ≡ Some result.now }
+{
+    let k = numbers.number_of(b).unwrap();
+    numbers.key(k)
 }

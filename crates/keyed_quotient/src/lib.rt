@@ -5,8 +5,6 @@ mod drafting;
 mod keyed;
 mod numbering;
 mod settling;
-#[cfg(test)]
-mod tests;
 
 pub use drafting::KeyedDraft;
 pub use keyed::KeyedSummary;

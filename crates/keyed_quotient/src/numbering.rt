@@ -32,7 +32,7 @@ fn count_up(alloc: Global, count: u32) -> Result<Vec<u32>, Memory>
     ensures same { IfOk result (λ v. (i : ℕ) → i < count → slice_get v.items i ≡ Some i) }
 {
     let mut numbers = Vec::with_capacity(alloc, count as usize)?;
-    for i in 0..count {
+    'numbers: for i in 0..count {
         numbers.push(i)?;
     }
     Ok(numbers)
@@ -44,7 +44,7 @@ fn grow(list: &mut Vec<u32>, len: usize) -> Result<(), Memory>
     ensures longer { length list.old.items ≤ length list.new.items }
     ensures ok { OnOk result (len ≤ length list.new.items) }
 {
-    while list.len() < len {
+    'places: for _ in list.len()..len {
         list.push(0)?;
     }
     Ok(())

@@ -1,11 +1,15 @@
 // Settling a draft in its base.
-ghost use Rattle.std.specs.Prelude.{◌≡◌, OnOk};
+ghost use Rattle.std.specs.Prelude.{◌≡◌, ◌<◌, ◌≤◌, ℕ, List, Some, OnOk, length, slice_get};
+ghost use Rattle.std.specs.List.{zip};
+ghost use Rattle.key_table.specs.Interning.{AreDistinct};
+ghost use Rattle.keyed_quotient.specs.Numberings.{Grows, AreApart, GivenBelow};
 ghost use Rattle.quotient.specs.Quotients.{view_of};
-ghost use Rattle.bisim_spec.specs.Views.{support_at};
-ghost use Rattle.keyed_quotient.specs.Changes.{no_keyed_changes, blocks_as_shown, support_as_shown, IsKeyedOver, HasKeyRoom, IsSettled, AreInhabited, AreUnsupported};
+ghost use Rattle.keyed_quotient.specs.Changes.{no_keyed_changes, blocks_as_shown, support_as_shown, IsKeyedOver, IsKnown, HasKeyRoom, IsSettled, AreInhabited, AreUnsupported};
 
-use crate::drafting::KeyedDraft;
+use crate::drafting::{KeyedDraft, read};
 use crate::keyed::KeyedSummary;
+use crate::numbering::KeyNumbers;
+use key_table::KeyTable;
 use px_base::Memory;
 
 impl KeyedDraft {
@@ -17,7 +21,10 @@ impl KeyedDraft {
         ensures keys { base.new.keys ≡ base.old.keys }
         ensures room { OnOk result (HasKeyRoom base.new self.now) }
     {
-        Err(Memory)
+        self.draft.reserve(&mut base.summary)?;
+        know_all(&mut base.numbers, &self.keys)?;
+        base.numbers.reach(self.draft.span(&base.summary))?;
+        Ok(())
     }
 
     /// Makes the base what the draft shows, without blocks that have no members, and drops what was drafted.
@@ -32,10 +39,37 @@ impl KeyedDraft {
         ensures settled { IsSettled base.old self.old base.new }
         ensures empty { self.new ≡ no_keyed_changes }
     {
-        for i in 0..self.blocks.len() {
-            base.numbers.give(self.keys.key(i as u32), self.blocks[i]);
-        }
+        give_all(&mut base.numbers, &self.blocks, &self.keys);
         self.draft.settle(&mut base.summary);
         self.clear();
+    }
+}
+
+// Gives all keys numbers that have none.
+fn know_all(numbers: &mut KeyNumbers, keys: &KeyTable) -> Result<(), Memory>
+    requires distinct { AreDistinct numbers.old.table }
+    requires fits { length numbers.old.table ≤ length numbers.old.block_of }
+    ensures grows { Grows numbers.old numbers.new }
+    ensures distinct { AreDistinct numbers.new.table }
+    ensures fits { length numbers.new.table ≤ length numbers.new.block_of }
+    ensures known { OnOk result ((i : ℕ) (key : List ℕ) → slice_get keys.now i ≡ Some key → IsKnown numbers.new.table key) }
+{
+    'keys: for i in 0..keys.len() {
+        numbers.know(keys.key(i))?;
+    }
+    Ok(())
+}
+
+// The keys, which have numbers, become those of the blocks.
+fn give_all(numbers: &mut KeyNumbers, blocks: &[u32], keys: &KeyTable)
+    requires even { length blocks.now ≡ length keys.now }
+    requires apart { AreApart (zip blocks.now keys.now) }
+    requires known { (i b : ℕ) (key : List ℕ) → slice_get (zip blocks.now keys.now) i ≡ Some (b, key) → IsKnown numbers.old.table key }
+    requires span { (i b : ℕ) (key : List ℕ) → slice_get (zip blocks.now keys.now) i ≡ Some (b, key) → b < length numbers.old.number_of }
+    requires fits { length numbers.old.table ≤ length numbers.old.block_of }
+    ensures { GivenBelow (zip blocks.now keys.now) (length (zip blocks.now keys.now)) numbers.old numbers.new }
+{
+    'keys: for i in 0..keys.len() {
+        numbers.give(keys.key(i), read(blocks, i));
     }
 }
