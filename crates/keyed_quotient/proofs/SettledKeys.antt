@@ -20,11 +20,12 @@ use Rattle.keyed_quotient.specs.Numberings.{Numbering, numbered_key, block_keys,
 use Rattle.keyed_quotient.proofs.Numbered.{test_is, same_some, block_key, led_key, leads_there}
 use Rattle.keyed_quotient.proofs.Shown.{number_is}
 
+none_left : (t : Bool) (o : Option ℕ) → o ≡ None → cond t o None ≡ o
+none_left true o e = refl
+none_left false o e = sym e
+
 inhabited_at : (block : List (Option ℕ)) (b : ℕ) (labels : List (Option ℕ)) (i : ℕ) → at (inhabited_from block b labels) i ≡ cond (has_member block (b + i)) (at labels i) None
-inhabited_at block b [] i = sym (both_none (has_member block (b + i))) where
-  both_none : (t : Bool) → cond t None None ≡ (None : Option ℕ)
-  both_none true = refl
-  both_none false = refl
+inhabited_at block b [] i = sym (none_left (has_member block (b + i)) (at [] i) refl)
 inhabited_at block b (l ∷ labels) zero = ap (λ n. cond (has_member block n) l None) (let e : b ≡ b + zero = omega arith in e)
 inhabited_at block b (l ∷ labels) (suc i) = inhabited_at block (b + 1) labels i ∙ ap (λ n. cond (has_member block n) (at labels i) None) (let e : b + 1 + i ≡ b + suc i = omega arith in e)
 
@@ -82,7 +83,9 @@ all_led q d labels old now o keys n w b key e = elim (lookup_cases (lookup (nat_
 
 left_at : (q : KeyedQuotient) (d : KeyedChanges) (labels2 : List (Option ℕ)) → labels2 ≡ inhabited_from (blocks_as_shown q d) 0 (labels_as_shown q d) → (b : ℕ)
     → at labels2 b ≡ cond (has_member (blocks_as_shown q d) b) (at (labels_as_shown q d) b) None
-left_at q d labels2 left b = ap (λ ls. at ls b) left ∙ inhabited_at (blocks_as_shown q d) 0 (labels_as_shown q d) b
+left_at q d labels2 left b =
+    ap (λ ls. at ls b) left ∙ inhabited_at (blocks_as_shown q d) 0 (labels_as_shown q d) b
+    ∙ ap (λ n. cond (has_member (blocks_as_shown q d) n) (at (labels_as_shown q d) b) None) (let e : 0 + b ≡ b = omega arith in e)
 
 cond_some : (t : Bool) (o : Option ℕ) → IsSome (cond t o None) → IsSome o
 cond_some true o h = h
