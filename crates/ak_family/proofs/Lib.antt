@@ -1,5 +1,6 @@
 pub mod Labelled
 pub mod Filled
-pub mod Found
+pub mod Supported
+pub mod Drafted
 pub mod Built
 mod Examples

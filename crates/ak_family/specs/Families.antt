@@ -1,7 +1,7 @@
 -- The family of A(0)- to A(k)-indexes of a graph (R. Kaushik, P. Shenoy, P. Bohannon and E. Gudes, "Exploiting Local
 -- Similarity for Indexing Paths in Graph-Structured Data", ICDE 2002). The blocks of the A(i)-index are the classes of nodes
 -- that are bisimilar to level i.
-use Rattle.std.specs.Prelude.{ℕ, ◌≡◌, ◌+◌, ◌<◌, List, [], ◌∷◌, length, Option, Some, IsTrue, is_some, map, slice_get, slice_index_or}
+use Rattle.std.specs.Prelude.{ℕ, ◌≡◌, ◌+◌, ◌<◌, ◌≤◌, List, [], ◌∷◌, length, Option, Some, IsTrue, is_some, map, slice_get, slice_index_or}
 use Rattle.std.specs.Prelude.{option_and_then}
 use Rattle.std.specs.List.Sorted.{IsStrictlyIncreasing}
 use Rattle.px_spec.specs.Graphs.{Graph, has_edge}
@@ -68,3 +68,9 @@ pub record IsKeyedFamily (levels : List KeyedQuotient) : Type 0 where
   pub lowest : AreKeyedByLabels (level_at levels 0).quotient.blocks.labels (key_at (level_at levels 0).keys)
   pub above : (i : ℕ) → i + 1 < length levels
       → AreKeyedBySupports (blocks_at levels i) (blocks_at levels (i + 1)) (key_at (level_at levels (i + 1)).keys) (support_at (level_at levels (i + 1)).quotient.supports)
+
+-- a family of few levels
+pub record IsFamily (levels : List KeyedQuotient) : Type 0 where
+  pub some : 0 < length levels
+  pub few : length levels ≤ 9
+  pub keyed : IsKeyedFamily levels

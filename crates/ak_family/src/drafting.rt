@@ -11,12 +11,12 @@ ghost use Rattle.quotient.specs.Joined.{one_if};
 ghost use Rattle.node_moves.specs.Costs.{parents_cost, children_cost};
 ghost use Rattle.keyed_quotient.specs.Levels.{KeyedQuotient};
 ghost use Rattle.keyed_quotient.specs.Changes.{KeyedChanges};
-ghost use Rattle.ak_family.specs.Families.{IsKeyedFamily};
+ghost use Rattle.ak_family.specs.Families.{level_at, IsKeyedFamily};
 ghost use Rattle.ak_family.specs.Drafting.{changes_at, blocks_shown, labels_shown, support_shown, key_shown, AreOver, AreSameBut, AreEmpty};
 
 use crate::family::AkFamily;
 use graph_update::After;
-use keyed_quotient::KeyedDraft;
+use keyed_quotient::{KeyedDraft, KeyedSummary};
 use node_moves::Near;
 use px_base::{Memory, NodeId, Steps};
 use std::alloc::Global;
@@ -47,7 +47,7 @@ impl AkDraft {
         ensures over { IfOk result (λ d. (f : List KeyedQuotient) → IsKeyedFamily f → length f ≡ k + 1 → AreOver f d) }
     {
         let mut levels = Vec::new(alloc);
-        for _ in 0..=k {
+        for _ in 0..k as usize + 1 {
             levels.push(KeyedDraft::new(alloc)?)?;
         }
         Ok(AkDraft { levels })
@@ -74,7 +74,7 @@ impl AkFamily {
         ensures block { result ≡ at (blocks_shown self.now d.now i) n }
         ensures live { IfSome result (λ b. IsSome (at (labels_shown self.now d.now i) b)) }
     {
-        d.levels[i as usize].block_of(&self.levels[i as usize], n)
+        draft_of(&d.levels, i).block_of(level_of(&self.levels, i), n)
     }
 
     /// The block of a level that has the key as shown, and none exactly where no block has it. It takes no memory.
@@ -84,7 +84,7 @@ impl AkFamily {
         ensures leads { (b : ℕ) → (result ≡ Some b) ↔ (key_shown self.now d.now i b ≡ Some key.now) }
         ensures live { IfSome result (λ b. IsSome (at (labels_shown self.now d.now i) b)) }
     {
-        d.levels[i as usize].find(&self.levels[i as usize], key)
+        draft_of(&d.levels, i).find(level_of(&self.levels, i), key)
     }
 }
 
@@ -106,7 +106,9 @@ impl AkFamily {
         ensures over { AreOver self.now d.new }
         ensures err { OnErr result (d.new ≡ d.old) }
     {
-        Err(Memory)
+        let level = level_of(&self.levels, i);
+        let b = d.levels[i as usize].new_block(level, label, key)?;
+        Ok(b)
     }
 
     /// Drafts the move of a node, which is below 2^31, to a block of a level as shown, or out of its block there.
@@ -123,7 +125,9 @@ impl AkFamily {
         ensures over { AreOver self.now d.new }
         ensures err { OnErr result (d.new ≡ d.old) }
     {
-        Err(Memory)
+        let level = level_of(&self.levels, i);
+        d.levels[i as usize].put(level, n, b)?;
+        Ok(())
     }
 
     /// Drafts that one more edge leads from `a` to `b`, both blocks of a level as shown.
@@ -141,7 +145,9 @@ impl AkFamily {
         ensures over { AreOver self.now d.new }
         ensures err { OnErr result (d.new ≡ d.old) }
     {
-        Err(Memory)
+        let level = level_of(&self.levels, i);
+        d.levels[i as usize].raise(level, a, b)?;
+        Ok(())
     }
 
     /// Drafts that one edge fewer leads from `a` to `b`, both blocks of a level as shown, which have support.
@@ -159,7 +165,9 @@ impl AkFamily {
         ensures over { AreOver self.now d.new }
         ensures err { OnErr result (d.new ≡ d.old) }
     {
-        Err(Memory)
+        let level = level_of(&self.levels, i);
+        d.levels[i as usize].lower(level, a, b)?;
+        Ok(())
     }
 
     /// Drafts the move of a node to a block of a level as shown, with the supports of its edges there, and puts its children behind
@@ -190,6 +198,24 @@ impl AkFamily {
         ensures over { OnOk result (AreOver self.now d.new) }
         ensures cost { steps.new ≤ steps.old + parents_cost after.now n + children_cost after.now n }
     {
-        Err(Memory)
+        let level = level_of(&self.levels, i);
+        d.levels[i as usize].move_node(level, after, n, b, near, next, steps)?;
+        Ok(())
     }
+}
+
+// A level of a family.
+pub(crate) fn level_of(levels: &Vec<KeyedSummary>, i: u32) -> &KeyedSummary
+    requires { i < length levels.now.items }
+    ensures { result.now ≡ level_at levels.now.items i }
+{
+    &levels[i as usize]
+}
+
+// What is drafted at a level.
+fn draft_of(drafts: &Vec<KeyedDraft>, i: u32) -> &KeyedDraft
+    requires { i < length drafts.now.items }
+    ensures { result.now ≡ changes_at drafts.now.items i }
+{
+    &drafts[i as usize]
 }
