@@ -15,7 +15,7 @@ use Rattle.bisim_levels.specs.Refining.{AreNumbered}
 use Rattle.ak_family.specs.Families.{first_number, IsKeyedBySupports, AreKeyedBySupports}
 use Rattle.ak_family.proofs.Labelled.{MemberKey, member_key}
 
-same_some : {X : Type 0} (x y : X) → Some x ≡ Some y → x ≡ y
+pub same_some : {X : Type 0} (x y : X) → Some x ≡ Some y → x ≡ y
 same_some x y e = cc
 
 same_tail : (x y : ℕ) (xs ys : List ℕ) → x ∷ xs ≡ y ∷ ys → xs ≡ ys
@@ -44,9 +44,11 @@ supported_keys g below block key supports w counted = record {
         rising = k.rising;
         each = λ c h.
             let p = k.each c h in
-            let f = w.some p.0 c p.2 in
-            (f.0, subst (λ s. 0 < s) (sym (counted f.0 b)) (joined_support g block f.0 b (p.0, n, p.1, f.2, e)),
-            ap first_number f.3 ∙ first_is g below p.0 c f.1 f.4 p.2);
+            let f = w.some p.0 c p.2 in (
+              f.0,
+              subst (λ s. 0 < s) (sym (counted f.0 b)) (joined_support g block f.0 b (p.0, n, p.1, f.2, e)),
+              ap first_number f.3 ∙ first_is g below p.0 c f.1 f.4 p.2,
+            );
         every = λ a c h f.
             let j = support_joined g block a b (subst (λ s. 0 < s) (counted a b) h) in
             let ku = member_key (at below) below (has_edge g) block key w j.0 a j.3 in

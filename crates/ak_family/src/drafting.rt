@@ -27,7 +27,7 @@ use std::sync::ledger::Ledger;
 /// it will be once the draft is settled. Each call is given the family; its blocks, labels and keys must stay while something is drafted.
 #[derive(Drop)]
 pub struct AkDraft {
-    pub(crate) levels: Vec<KeyedDraft>,
+    levels: Vec<KeyedDraft>,
 }
 
 impl Model for AkDraft {

@@ -6,7 +6,6 @@ mod family;
 mod keyed;
 mod labels;
 mod layers;
-mod settling;
 #[cfg(test)]
 mod tests;
 

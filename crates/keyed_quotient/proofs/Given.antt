@@ -27,12 +27,14 @@ set_length (x ∷ xs) (suc i) v = ap suc (set_length xs i v)
 -- the block has the key
 pub given_here : (old new : Numbering) (b : ℕ) (key : List ℕ) → length old.table ≤ length old.block_of → b < length old.number_of → Gives key b old new → (k : ℕ) × Leads new k b key
 given_here old new b key fits span g =
-    let within = slice_get_within old.table g.k key g.key_is in
-    (g.k, record {
-      number = ap (λ (xs : List ℕ). slice_get xs b) g.number_of ∙ set_here old.number_of b g.k span;
-      block = ap (λ (xs : List ℕ). slice_get xs g.k) g.block_of ∙ set_here old.block_of g.k b (omega (arith, within, fits));
-      key_is = ap (λ (xs : List (List ℕ)). slice_get xs g.k) g.table ∙ g.key_is;
-    })
+    let within = slice_get_within old.table g.k key g.key_is in (
+      g.k,
+      record {
+        number = ap (λ (xs : List ℕ). slice_get xs b) g.number_of ∙ set_here old.number_of b g.k span;
+        block = ap (λ (xs : List ℕ). slice_get xs g.k) g.block_of ∙ set_here old.block_of g.k b (omega (arith, within, fits));
+        key_is = ap (λ (xs : List (List ℕ)). slice_get xs g.k) g.table ∙ g.key_is;
+      },
+    )
 
 -- other blocks keep their keys
 pub given_there : (old new : Numbering) (b k c : ℕ) (key other : List ℕ) → Gives key b old new → c ≢ b → other ≢ key → Leads old k c other → Leads new k c other
@@ -43,8 +45,8 @@ given_there old new b k c key other g apart differ l =
       block = ap (λ (xs : List ℕ). slice_get xs k) g.block_of ∙ set_there old.block_of g.k b k numbers ∙ l.block;
       key_is = ap (λ (xs : List (List ℕ)). slice_get xs k) g.table ∙ l.key_is;
     } where
-  some_same : (x y : List ℕ) → Some x ≡ Some y → x ≡ y
-  some_same x y e = cc
+      some_same : (x y : List ℕ) → Some x ≡ Some y → x ≡ y
+      some_same x y e = cc
 
 pub given_none : (es : List (ℕ × List ℕ)) (t : Numbering) → GivenBelow es 0 t t
 given_none es t = record {
@@ -87,11 +89,13 @@ given_next es i b key old now new apart here fits span w g =
       span = ap (λ (xs : List ℕ). length xs) g.number_of ∙ set_length now.number_of b g.k ∙ w.span;
       given = λ j c x h e. elim (cases_lt j i) [
         | inl before ↦
-            (let l = w.given j c x before e in
-            (l.0, given_there now new b l.0 c key x g
-            (λ same. (let f : i ≡ j = apart.blocks i j b key x here (subst (λ (m : ℕ). slice_get es j ≡ Some (m, x)) same e) in omega (arith, before, f)))
-            (λ same. (let f : i ≡ j = apart.keys i j b c key here (subst (λ (y : List ℕ). slice_get es j ≡ Some (c, y)) same e) in omega (arith, before, f)))
-            l.1))
+            (let l = w.given j c x before e in (
+              l.0,
+              given_there now new b l.0 c key x g
+                  (λ same. (let f : i ≡ j = apart.blocks i j b key x here (subst (λ (m : ℕ). slice_get es j ≡ Some (m, x)) same e) in omega (arith, before, f)))
+                  (λ same. (let f : i ≡ j = apart.keys i j b c key here (subst (λ (y : List ℕ). slice_get es j ≡ Some (c, y)) same e) in omega (arith, before, f)))
+                  l.1,
+            ))
         | inr past ↦
             (let at_i : j ≡ i = omega (arith, h, past) in
             let same = entry_same es i b c key x here (ap (slice_get es) (sym at_i) ∙ e) in

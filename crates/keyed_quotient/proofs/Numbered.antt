@@ -83,17 +83,19 @@ pub led_yes : (labels : List (Option ℕ)) (t : Numbering) (k c : ℕ) (key : Li
     → IsSome (at labels c) → slice_get t.number_of c ≡ Some k → (b : ℕ) → (Some c ≡ Some b) ↔ (key_at (block_keys labels t) b ≡ Some key)
 led_yes labels t k c key n at_k block h number b =
     let l : Leads t k c key = record { number = number; block = block; key_is = at_k } in
-    let here : key_at (block_keys labels t) c ≡ Some key = key_there labels t k c key h l in
-    (λ e. subst (λ (m : ℕ). key_at (block_keys labels t) m ≡ Some key) (same_some c b e) here,
-    λ e. sym block ∙ (led_to labels t k b key n at_k e).block)
+    let here : key_at (block_keys labels t) c ≡ Some key = key_there labels t k c key h l in (
+      λ e. subst (λ (m : ℕ). key_at (block_keys labels t) m ≡ Some key) (same_some c b e) here,
+      λ e. sym block ∙ (led_to labels t k b key n at_k e).block,
+    )
 
 pub led_no : (labels : List (Option ℕ)) (t : Numbering) (k c : ℕ) (key : List ℕ) → IsNumbering labels t → slice_get t.table k ≡ Some key → slice_get t.block_of k ≡ Some c
     → (IsSome (at labels c) → slice_get t.number_of c ≡ Some k → ⊥) → (b : ℕ) → (None ≡ Some b) ↔ (key_at (block_keys labels t) b ≡ Some key)
-led_no labels t k c key n at_k block unled b =
-    (λ e. absurd (true≢false (sym (ap is_some e))),
-    λ e. let l = led_to labels t k b key n at_k e in
-    let same : b ≡ c = same_some b c (sym l.block ∙ block) in
-    absurd (unled (subst (λ (m : ℕ). IsSome (at labels m)) same (block_there labels t b key e)) (ap (slice_get t.number_of) (sym same) ∙ l.number)))
+led_no labels t k c key n at_k block unled b = (
+  λ e. absurd (true≢false (sym (ap is_some e))),
+  λ e. let l = led_to labels t k b key n at_k e in
+      let same : b ≡ c = same_some b c (sym l.block ∙ block) in
+      absurd (unled (subst (λ (m : ℕ). IsSome (at labels m)) same (block_there labels t b key e)) (ap (slice_get t.number_of) (sym same) ∙ l.number)),
+)
 
 -- the keys of a table, each that of the block with its number
 pub counted_numbering : (labels : List (Option ℕ)) (keys : List (List ℕ)) (t : Numbering) → AreKeyed labels (slice_get keys) → t.table ≡ keys → length t.table ≤ length t.block_of

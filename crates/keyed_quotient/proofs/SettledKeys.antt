@@ -35,8 +35,8 @@ first_alone p es j b x y once e f =
     let none : lookup (nat_eq p.0) es ≡ None = absent_key nat_eq p.0 es (IsDistinct-head nat_eq p.0 (keys_of es) once) in
     let here : lookup (nat_eq b) es ≡ Some y = lookup_from_place nat_eq_equiv es j b y (IsDistinct-tail nat_eq p.0 (keys_of es) once) f in
     true≢false (ap is_some (sym here ∙ ap (λ m. lookup (nat_eq m) es) (sym same) ∙ none)) where
-  pair_first : (p : ℕ × List ℕ) (b : ℕ) (x : List ℕ) → Some p ≡ Some (b, x) → p.0 ≡ b
-  pair_first p b x e = cc
+      pair_first : (p : ℕ × List ℕ) (b : ℕ) (x : List ℕ) → Some p ≡ Some (b, x) → p.0 ≡ b
+      pair_first p b x e = cc
 
 -- the same block stands at one place alone
 places_same : (es : List (ℕ × List ℕ)) (i j b : ℕ) (x y : List ℕ) → IsDistinct nat_eq (keys_of es) → slice_get es i ≡ Some (b, x) → slice_get es j ≡ Some (b, y) → i ≡ j
@@ -74,10 +74,10 @@ all_led q d labels old now o keys n w b key e = elim (lookup_cases (lookup (nat_
   | inr base ↦
       (let l = leads_there labels old b key n (ap (λ ks. key_at ks b) (sym keys) ∙ base.1) in
       let none : IsNoneBelow d.keys (length d.keys) b key = λ j c x h f.
-          let found : lookup (nat_eq c) d.keys ≡ Some x = lookup_from_place nat_eq_equiv d.keys j c x o.once f in
-          let shown : shown_key q d c ≡ Some x = ap (λ y. option_or y (key_at q.keys c)) found in
-          let other : c ≢ b = λ s. true≢false (ap is_some (sym (subst (λ (m : ℕ). lookup (nat_eq m) d.keys ≡ Some x) s found) ∙ base.0)) in
-          (other, λ s. other (o.keyed.apart c b key (shown ∙ ap Some s) e)) in
+      let found : lookup (nat_eq c) d.keys ≡ Some x = lookup_from_place nat_eq_equiv d.keys j c x o.once f in
+      let shown : shown_key q d c ≡ Some x = ap (λ y. option_or y (key_at q.keys c)) found in
+      let other : c ≢ b = λ s. true≢false (ap is_some (sym (subst (λ (m : ℕ). lookup (nat_eq m) d.keys ≡ Some x) s found) ∙ base.0)) in
+      (other, λ s. other (o.keyed.apart c b key (shown ∙ ap Some s) e)) in
       (l.0, w.kept l.0 b key l.1 none))
 ]
 

@@ -80,9 +80,10 @@ or_both (Some x) b key alone e = absurd (true≢false (ap is_some (sym e ∙ alo
 -- where no further block has the key, the base is asked
 pub shown_base : (q : KeyedQuotient) (d : KeyedChanges) (key : List ℕ) (found : Option ℕ) → IsKeyedOver q d → ((b : ℕ) → lookup (nat_eq b) d.keys ≡ Some key → ⊥)
     → ((b : ℕ) → (found ≡ Some b) ↔ (key_at q.keys b ≡ Some key)) → (b : ℕ) → (found ≡ Some b) ↔ (shown_key q d b ≡ Some key)
-shown_base q d key found o absent leads b =
-    (λ e. or_both (lookup (nat_eq b) d.keys) (key_at q.keys b) key (o.further b) ((leads b).0 e),
-    λ e. (leads b).1 (or_none (lookup (nat_eq b) d.keys) (key_at q.keys b) key (absent b) e).1)
+shown_base q d key found o absent leads b = (
+  λ e. or_both (lookup (nat_eq b) d.keys) (key_at q.keys b) key (o.further b) ((leads b).0 e),
+  λ e. (leads b).1 (or_none (lookup (nat_eq b) d.keys) (key_at q.keys b) key (absent b) e).1,
+)
 
 -- what has a key as shown is a block as shown
 pub shown_live : (q : KeyedQuotient) (d : KeyedChanges) (found : Option ℕ) (key : List ℕ) → IsKeyedOver q d → ((b : ℕ) → (found ≡ Some b) ↔ (shown_key q d b ≡ Some key))
@@ -177,7 +178,7 @@ over_more q d d2 b l key o free fresh over labels added =
     record {
       over = over;
       once = subst (λ (es : List (ℕ × List ℕ)). IsDistinct nat_eq (keys_of es)) (sym added) (subst (IsDistinct nat_eq) (sym (keys_more d.keys b key))
-      (IsDistinct-push nat_eq_equiv (keys_of d.keys) b o.once (no_lookup d.keys b none.0)));
+          (IsDistinct-push nat_eq_equiv (keys_of d.keys) b o.once (no_lookup d.keys b none.0)));
       further = λ c x e. elim (test_is (nat_eq c b)) [
         | inl h ↦ ap (key_at q.keys) (number_is c b h) ∙ none.1
         | inr h ↦ o.further c x (sym (ap (lookup (nat_eq c)) added ∙ lookup_more d.keys b key none.0 c ∙ ap (λ s. cond s (Some key) (lookup (nat_eq c) d.keys)) h) ∙ e)

@@ -222,7 +222,16 @@ impl KeyedDraft {
         ensures over { OnOk result (IsKeyedOver base.now self.new) }
         ensures cost { steps.new ≤ steps.old + parents_cost after.now n + children_cost after.now n }
     {
-        move_node(&base.summary, &mut self.draft, after, n, b, near, next, steps)?;
+        move_node(
+            &base.summary,
+            &mut self.draft,
+            after,
+            n,
+            b,
+            near,
+            next,
+            steps,
+        )?;
         Ok(())
     }
 

@@ -90,7 +90,11 @@ fn led_block(summary: &Summary, numbers: &KeyNumbers, k: u32, key: &[u32]) -> Op
 {
     let _ = key;
     match numbers.block(k) {
-        Some(b) => if is_led(summary, numbers, k, b) { Some(b) } else { None },
+        Some(b) => if is_led(summary, numbers, k, b) {
+            Some(b)
+        } else {
+            None
+        },
         None => None,
     }
 }
