@@ -14,11 +14,13 @@ use Rattle.bisim_levels.specs.Refining.{AreNumbered}
 use Rattle.bisim_levels.specs.Sides.{is_near, no_neighbours}
 use Rattle.bisim_levels.specs.declared.sides.Side.TheVariants.{Parents}
 use Rattle.quotient.specs.Quotients.{view_of}
-use Rattle.ak_family.specs.Families.{KeyedQuotient, no_level, level_at, blocks_at, key_at, AreLabelKeys, AreParentKeys}
+use Rattle.keyed_quotient.specs.Levels.{KeyedQuotient, no_level, key_at, AreKeyed}
+use Rattle.ak_family.specs.Families.{level_at, blocks_at, AreLabelKeys, AreParentKeys, IsKeyedFamily}
+use Rattle.ak_family.proofs.Supported.{supported_keys, labels_alone}
+use Rattle.quotient_draft.proofs.Gone.{member_there}
 use Rattle.block_filling.specs.Filling.{SameBlocks}
 use Rattle.block_filling.proofs.Filled.{agrees_moved}
 use Rattle.ak_family.specs.Layers.{BlocksHaveLabels}
-use Rattle.ak_family.proofs.Filled.{shown_at}
 
 -- level i is the last one, and has the blocks of the list
 pub record IsBuilt (g : Graph) (i : ℕ) (levels : List KeyedQuotient) (block : List (Option ℕ)) (labels : List ℕ) : Type 0 where
@@ -29,6 +31,8 @@ pub record IsBuilt (g : Graph) (i : ℕ) (levels : List KeyedQuotient) (block : 
   pub parent_keys : (j : ℕ) → j < i → AreParentKeys g levels j
   pub top : SameBlocks (blocks_at levels i) block
   pub labelled : BlocksHaveLabels g block labels
+  pub keyed : (j : ℕ) → j ≤ i → AreKeyed (level_at levels j).quotient.blocks.labels (key_at (level_at levels j).keys)
+  pub lowest : (n b : ℕ) → at (blocks_at levels 0) n ≡ Some b → at (level_at levels 0).quotient.blocks.labels b ≡ label_number g n
 
 key_moved : (own own2 : ℕ → Option ℕ) (base base2 : List (Option ℕ)) (near : ℕ → ℕ → Bool) (n : ℕ) (key : List ℕ) → ((m : ℕ) → own2 m ≡ own m) → SameBlocks base2 base
     → IsKey own base near n key → IsKey own2 base2 near n key
@@ -50,19 +54,17 @@ numbered_moved own own2 base base2 near next next2 key key2 owns bases nexts key
   inhabited = λ k h. let m = w.inhabited k (sym (ap is_some (keys k)) ∙ h) in (m.0, nexts m.0 ∙ m.1);
 }
 
--- the keys of a level, which are those of its table
-kept_at : (keys : List (Option (List ℕ))) (table : List (List ℕ)) → keys ≡ map Some table → (b : ℕ) → key_at keys b ≡ slice_get table b
-kept_at keys table same b = ap (λ ks. key_at ks b) same ∙ shown_at table b
-
 pub built_lowest : (g : Graph) (level : KeyedQuotient) (block : List (Option ℕ)) (labels : List ℕ) (keys : List (List ℕ)) (levels : List KeyedQuotient)
     → Agrees (shape_of g) block (Bis (shape_of g) 0) → BlocksHaveLabels g block labels → AreNumbered (label_number g) [] no_neighbours block (slice_get keys)
-    → SameBlocks level.quotient.blocks.block_of block → ViewFits g (view_of level.quotient) → level.keys ≡ map Some keys → levels ≡ level ∷ [] → IsBuilt g 0 levels block labels
-built_lowest g level block labels keys levels a is w same fits keys_same one =
+    → SameBlocks level.quotient.blocks.block_of block → ViewFits g (view_of level.quotient) → ((b : ℕ) → key_at level.keys b ≡ slice_get keys b)
+    → ((n b : ℕ) → at level.quotient.blocks.block_of n ≡ Some b → at level.quotient.blocks.labels b ≡ label_number g n) → AreKeyed level.quotient.blocks.labels (key_at level.keys)
+    → levels ≡ level ∷ [] → IsBuilt g 0 levels block labels
+built_lowest g level block labels keys levels a is w same fits keys_same has_labels alike one =
     let first : (j : ℕ) → j ≤ 0 → j ≡ 0 = λ j h. omega (arith, h) in
     let here : (j : ℕ) → j ≤ 0 → level_at levels j ≡ level = λ j h. ap (level_at levels) (first j h) ∙ ap (λ ls. level_at ls 0) one in
     let keyed : AreNumbered (label_number g) [] no_neighbours level.quotient.blocks.block_of (key_at level.keys) =
     numbered_moved (label_number g) (label_number g) [] [] no_neighbours block level.quotient.blocks.block_of (slice_get keys) (key_at level.keys) (λ m. refl) (λ m. refl) same
-    (kept_at level.keys keys keys_same) w in
+    keys_same w in
     record {
       count = ap length one;
       fits = λ j h. subst (λ (l : KeyedQuotient). ViewFits g (view_of l.quotient)) (sym (here j h)) fits;
@@ -73,6 +75,8 @@ built_lowest g level block labels keys levels a is w same fits keys_same one =
       parent_keys = λ j h. absurd (omega (arith, h));
       top = subst (λ (l : KeyedQuotient). SameBlocks l.quotient.blocks.block_of block) (sym (here 0 (omega arith))) same;
       labelled = is;
+      keyed = λ j h. subst (λ (l : KeyedQuotient). AreKeyed l.quotient.blocks.labels (key_at l.keys)) (sym (here j h)) alike;
+      lowest = subst (λ (l : KeyedQuotient). (n b : ℕ) → at l.quotient.blocks.block_of n ≡ Some b → at l.quotient.blocks.labels b ≡ label_number g n) (sym (here 0 (omega arith))) has_labels;
     }
 
 -- the last level is one of bisimilarity
@@ -84,8 +88,9 @@ pub built_above : (g : Graph) (i : ℕ) (levels more : List KeyedQuotient) (leve
     → IsBuilt g i levels block labels
     → ((j : ℕ) → Agrees (shape_of g) block (Bis (shape_of g) j) → Agrees (shape_of g) next (Bis (shape_of g) (suc j)))
     → BlocksHaveLabels g next found → AreNumbered (at block) block (is_near Parents g) next (slice_get keys)
-    → SameBlocks level.quotient.blocks.block_of next → ViewFits g (view_of level.quotient) → level.keys ≡ map Some keys → more ≡ levels ++ level ∷ [] → IsBuilt g (i + 1) more next found
-built_above g i levels more level block next labels found keys w up is numbered same fits keys_same added =
+    → SameBlocks level.quotient.blocks.block_of next → ViewFits g (view_of level.quotient) → ((b : ℕ) → key_at level.keys b ≡ slice_get keys b)
+    → AreKeyed level.quotient.blocks.labels (key_at level.keys) → more ≡ levels ++ level ∷ [] → IsBuilt g (i + 1) more next found
+built_above g i levels more level block next labels found keys w up is numbered same fits keys_same alike added =
     let s = shape_of g in
     let count = w.count in
     let below : (j : ℕ) → j ≤ i → level_at more j ≡ level_at levels j =
@@ -96,7 +101,7 @@ built_above g i levels more level block next labels found keys w up is numbered 
     let a_next : Agrees s level.quotient.blocks.block_of (Bis s (suc i)) = agrees_moved s level.quotient.blocks.block_of next (Bis s (suc i)) same a_top in
     let keyed : AreNumbered (at (blocks_at levels i)) (blocks_at levels i) (has_edge g) level.quotient.blocks.block_of (key_at level.keys) =
     numbered_moved (at block) (at (blocks_at levels i)) block (blocks_at levels i) (has_edge g) next level.quotient.blocks.block_of (slice_get keys) (key_at level.keys) w.top w.top same
-    (kept_at level.keys keys keys_same) numbered in
+    keys_same numbered in
     record {
       count = ap length added ∙ length-append levels (level ∷ []) ∙ ap (λ n. n + 1) count;
       fits = λ j h. elim (cases_lt i j) [
@@ -128,4 +133,25 @@ built_above g i levels more level block next labels found keys w up is numbered 
       ];
       top = subst (λ (l : KeyedQuotient). SameBlocks l.quotient.blocks.block_of next) (sym (last (i + 1) refl)) same;
       labelled = is;
+      keyed = λ j h. elim (cases_lt i j) [
+        | inl past ↦ subst (λ (l : KeyedQuotient). AreKeyed l.quotient.blocks.labels (key_at l.keys)) (sym (last j (omega (arith, h, past)))) alike
+        | inr before ↦ subst (λ (l : KeyedQuotient). AreKeyed l.quotient.blocks.labels (key_at l.keys)) (sym (below j before)) (w.keyed j before)
+      ];
+      lowest = subst (λ (l : KeyedQuotient). (n b : ℕ) → at l.quotient.blocks.block_of n ≡ Some b → at l.quotient.blocks.labels b ≡ label_number g n) (sym (below 0 (omega arith))) w.lowest;
+    }
+
+-- the levels are a family
+pub built_family : (g : Graph) (i : ℕ) (levels : List KeyedQuotient) (block : List (Option ℕ)) (labels : List ℕ) → IsBuilt g i levels block labels → IsKeyedFamily levels
+built_family g i levels block labels w =
+    let count = w.count in
+    let within : (j : ℕ) → j < length levels → j ≤ i = λ j h. omega (arith, h, count) in
+    record {
+      keyed = λ j h. w.keyed j (within j h);
+      inhabited = λ j h b live. (let n = (w.fits j (within j h)).inhabited b live in member_there (blocks_at levels j) b n.0 n.1);
+      lowest = λ b l e.
+          let n = (w.fits 0 (omega arith)).inhabited b (ap is_some e) in
+          labels_alone g (blocks_at levels 0) (key_at (level_at levels 0).keys) w.label_keys n.0 b l n.1 (sym (w.lowest n.0 b n.1) ∙ e);
+      above = λ j h.
+          supported_keys g (blocks_at levels j) (blocks_at levels (j + 1)) (key_at (level_at levels (j + 1)).keys) (level_at levels (j + 1)).quotient.supports
+          (w.parent_keys j (omega (arith, h, count))) (w.fits (j + 1) (omega (arith, h, count))).supports;
     }

@@ -13,7 +13,8 @@ use Rattle.px_spec.proofs.GraphLaws.{edge_with}
 use Rattle.label_graph.specs.Views.{label_number}
 use Rattle.bisim_levels.specs.Sides.{no_neighbours}
 use Rattle.bisim_levels.specs.Keys.{IsKey}
-use Rattle.ak_family.specs.Families.{KeyedQuotient, key_at, HasKey, AreKeyed, AreLabelKeys, AreParentKeys}
+use Rattle.keyed_quotient.specs.Levels.{KeyedQuotient, key_at, HasKey, AreKeyed}
+use Rattle.ak_family.specs.Families.{AreLabelKeys, AreParentKeys}
 
 abbrev two_nodes : Graph
 two_nodes = record { given = Some (97 ∷ []) ∷ Some (98 ∷ []) ∷ []; edges = set.empty; seen = (97 ∷ []) ∷ (98 ∷ []) ∷ [] }
@@ -41,7 +42,7 @@ abbrev next_keys : List (Option (List ℕ))
 next_keys = Some (0 ∷ []) ∷ None ∷ Some (2 ∷ 0 ∷ []) ∷ []
 
 abbrev level : List (Option (List ℕ)) → KeyedQuotient
-level keys = record { quotient = record { blocks = record { block_of = blocks; labels = labels; room = record { nodes = 0; blocks = 0 } }; supports = table.empty; room = no_pair_room }; keys = keys }
+level keys = record { quotient = record { blocks = record { block_of = blocks; labels = labels; room = record { nodes = 0; blocks = 0 } }; supports = table.empty; room = no_pair_room }; keys = keys; room = record { known = []; span = 0 } }
 
 abbrev gapped : List KeyedQuotient
 gapped = level lowest_keys ∷ level next_keys ∷ []
@@ -67,7 +68,7 @@ lowest_block (suc zero) key e = absurd (cc)
 lowest_block (suc (suc zero)) key e = let f = key_first 1 [] key e in omega (arith, f)
 lowest_block (suc (suc (suc b))) key e = absurd (cc)
 
-lowest_keyed : AreKeyed labels lowest_keys
+lowest_keyed : AreKeyed labels (key_at lowest_keys)
 lowest_keyed = record { exactly = lowest_exactly; apart = λ b c key e f. lowest_block b key e ∙ sym (lowest_block c key f) }
 
 next_exactly : (b : ℕ) → is_some (key_at next_keys b) ≡ is_some (at labels b)
@@ -82,7 +83,7 @@ next_block (suc zero) key e = absurd (cc)
 next_block (suc (suc zero)) key e = key_first 2 (0 ∷ []) key e
 next_block (suc (suc (suc b))) key e = absurd (cc)
 
-next_keyed : AreKeyed labels next_keys
+next_keyed : AreKeyed labels (key_at next_keys)
 next_keyed = record { exactly = next_exactly; apart = λ b c key e f. next_block b key e ∙ sym (next_block c key f) }
 
 -- ---- the keys are those of the members

@@ -14,7 +14,8 @@ use Rattle.bisim_spec.specs.Views.{ViewFits}
 use Rattle.bisim_spec.proofs.Bisimilar.{some_of, is_some_at}
 use Rattle.quotient.specs.Quotients.{AreSupports, Quotient, view_of}
 use Rattle.key_table.specs.Interning.{AreDistinct}
-use Rattle.ak_family.specs.Families.{key_at, AreKeyed}
+use Rattle.label_graph.specs.Views.{label_number}
+use Rattle.keyed_quotient.specs.Levels.{AreKeyed}
 use Rattle.ak_family.specs.Layers.{BlocksHaveLabels}
 
 is_some_get : {X : Type 0} (xs : List X) (b : ℕ) → is_some (slice_get xs b) ≡ nat_lt b (length xs)
@@ -23,18 +24,24 @@ is_some_get xs b = elim (slice_get_cases xs b).1 [
   | inr (past, none) ↦ ap is_some none ∙ sym (le-ltb b (length xs) past)
 ]
 
--- where all numbers have keys, from 0 on
-pub shown_at : (keys : List (List ℕ)) (b : ℕ) → key_at (map Some keys) b ≡ slice_get keys b
-shown_at [] b = refl
-shown_at (k ∷ keys) zero = refl
-shown_at (k ∷ keys) (suc b) = shown_at keys b
-
 -- the blocks are numbered as the keys are
-pub filled_keyed : (p : Partition) (labels : List ℕ) (keys : List (List ℕ)) → HaveLabels p labels → length labels ≡ length keys → AreDistinct keys → AreKeyed p.labels (map Some keys)
+pub filled_keyed : (p : Partition) (labels : List ℕ) (keys : List (List ℕ)) → HaveLabels p labels → length labels ≡ length keys → AreDistinct keys → AreKeyed p.labels (slice_get keys)
 filled_keyed p labels keys have count distinct = record {
-  exactly = λ b. ap is_some (shown_at keys b) ∙ is_some_get keys b ∙ ap (nat_lt b) (sym count) ∙ sym (is_some_get labels b) ∙ sym (ap is_some (have b));
-  apart = λ b c key e f. distinct.apart b c key (sym (shown_at keys b) ∙ e) (sym (shown_at keys c) ∙ f);
+  exactly = λ b. is_some_get keys b ∙ ap (nat_lt b) (sym count) ∙ sym (is_some_get labels b) ∙ sym (ap is_some (have b));
+  apart = distinct.apart;
 }
+
+-- keys that are the same
+pub keyed_as : (labels : List (Option ℕ)) (key key2 : ℕ → Option (List ℕ)) → ((b : ℕ) → key2 b ≡ key b) → AreKeyed labels key → AreKeyed labels key2
+keyed_as labels key key2 same k = record {
+  exactly = λ b. ap is_some (same b) ∙ k.exactly b;
+  apart = λ b c x e f. k.apart b c x (sym (same b) ∙ e) (sym (same c) ∙ f);
+}
+
+-- each block has the label of its members
+pub filled_labels : (g : Graph) (block : List (Option ℕ)) (labels : List ℕ) (q : Quotient) → BlocksHaveLabels g block labels → SameBlocks q.blocks.block_of block → HaveLabels q.blocks labels
+    → (n b : ℕ) → at q.blocks.block_of n ≡ Some b → at q.blocks.labels b ≡ label_number g n
+filled_labels g block labels q is same have n b e = (let l = is n b (sym (same n) ∙ e) in have b ∙ l.1 ∙ sym l.2)
 
 -- the quotient is one of the graph
 pub filled_fits : (g : Graph) (block : List (Option ℕ)) (labels : List ℕ) (q : Quotient) → IsGraph g → IsPartition (shape_of g) block → BlocksHaveLabels g block labels

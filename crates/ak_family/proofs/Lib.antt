@@ -1,5 +1,7 @@
 pub mod Labelled
 pub mod Filled
-pub mod Found
+pub mod Supported
+pub mod Drafted
+pub mod ParentKeys
 pub mod Built
 mod Examples

@@ -1,30 +1,18 @@
 -- The family of A(0)- to A(k)-indexes of a graph (R. Kaushik, P. Shenoy, P. Bohannon and E. Gudes, "Exploiting Local
 -- Similarity for Indexing Paths in Graph-Structured Data", ICDE 2002). The blocks of the A(i)-index are the classes of nodes
 -- that are bisimilar to level i.
-use Rattle.std.specs.Prelude.{ℕ, ◌≡◌, ◌+◌, List, [], Option, None, Some, is_some, refl, map, slice_index_or}
-use Rattle.std.specs.Coded.{Coded, code_by, coded×, coded_ℕ, coded_list, coded_option}
-use Rattle.std.specs.FinMap as table
-use Rattle.px_spec.specs.Graphs.{Graph, has_edge, edge_cmp}
+use Rattle.std.specs.Prelude.{ℕ, ◌≡◌, ◌+◌, ◌<◌, ◌≤◌, List, [], ◌∷◌, length, Option, Some, IsTrue, is_some, map, slice_get, slice_index_or}
+use Rattle.std.specs.Prelude.{option_and_then}
+use Rattle.std.specs.List.Sorted.{IsStrictlyIncreasing}
+use Rattle.px_spec.specs.Graphs.{Graph, has_edge}
+use Rattle.px_spec.specs.Members.{at, has}
 use Rattle.label_graph.specs.Views.{label_number}
-use Rattle.block_partition.specs.Partitions.{no_blocks}
-use Rattle.px_spec.specs.Members.{at}
 use Rattle.bisim_levels.specs.Sides.{no_neighbours}
 use Rattle.bisim_levels.specs.Refining.{AreNumbered}
-use Rattle.quotient.specs.Quotients.{Quotient, quotient_code, no_pair_room}
-
-pub record KeyedQuotient : Type 0 where
-  pub quotient : Quotient
-  -- for each number the key of that block, or none where the number is no block
-  pub keys : List (Option (List ℕ))
-
--- it is stored as its parts
-abbrev pub keyed_code : Coded KeyedQuotient
-keyed_code =
-    code_by (Quotient × List (Option (List ℕ))) (coded× quotient_code (coded_list (coded_option (coded_list coded_ℕ))))
-    (λ k. (k.quotient, k.keys)) (λ p. record { quotient = p.0; keys = p.1 }) (λ _. refl)
-
-abbrev pub no_level : KeyedQuotient
-no_level = record { quotient = record { blocks = no_blocks; supports = table.empty {R = edge_cmp}; room = no_pair_room }; keys = [] }
+use Rattle.bisim_spec.specs.Views.{support_at}
+use Rattle.quotient.specs.Quotients.{Quotient}
+use Rattle.keyed_quotient.specs.Levels.{KeyedQuotient, no_level, key_at, AreKeyed}
+use Rattle.keyed_quotient.specs.Changes.{AreInhabited}
 
 -- a level of the family, and one without blocks past its end
 abbrev pub level_at : List KeyedQuotient → ℕ → KeyedQuotient
@@ -37,19 +25,6 @@ blocks_at levels i = (level_at levels i).quotient.blocks.block_of
 abbrev pub quotients_of : List KeyedQuotient → List Quotient
 quotients_of levels = map (λ l. l.quotient) levels
 
--- the key of a number, and none past the end of the list
-abbrev pub key_at : List (Option (List ℕ)) → ℕ → Option (List ℕ)
-key_at keys b = slice_index_or keys b None
-
--- the block has the key
-abbrev pub HasKey : KeyedQuotient → ℕ → List ℕ → Type 0
-HasKey level b key = key_at level.keys b ≡ Some key
-
--- exactly the blocks have keys, and no two blocks have one key
-pub record AreKeyed (labels : List (Option ℕ)) (keys : List (Option (List ℕ))) : Type 0 where
-  pub exactly : (b : ℕ) → is_some (key_at keys b) ≡ is_some (at labels b)
-  pub apart : (b c : ℕ) (key : List ℕ) → key_at keys b ≡ Some key → key_at keys c ≡ Some key → b ≡ c
-
 -- The blocks of the lowest level are numbered by the labels of their members: a key is the number of a label, alone.
 abbrev pub AreLabelKeys : Graph → List KeyedQuotient → Type 0
 AreLabelKeys g levels = AreNumbered (label_number g) [] no_neighbours (blocks_at levels 0) (key_at (level_at levels 0).keys)
@@ -59,3 +34,43 @@ AreLabelKeys g levels = AreNumbered (label_number g) [] no_neighbours (blocks_at
 abbrev pub AreParentKeys : Graph → List KeyedQuotient → ℕ → Type 0
 AreParentKeys g levels i =
     AreNumbered (at (blocks_at levels i)) (blocks_at levels i) (has_edge g) (blocks_at levels (i + 1)) (key_at (level_at levels (i + 1)).keys)
+
+-- The same without a graph, which can be said of a draft too. At the lowest level the key of each block is its label.
+abbrev pub AreKeyedByLabels : List (Option ℕ) → (ℕ → Option (List ℕ)) → Type 0
+AreKeyedByLabels labels key = (b l : ℕ) → at labels b ≡ Some l → key b ≡ Some (l ∷ [])
+
+-- the first number of a key: above the lowest level it is the block of the members one level below
+abbrev pub first_number : Option (List ℕ) → Option ℕ
+first_number key = option_and_then (λ numbers. slice_get numbers 0) key
+
+-- The key of a block begins with this number. The others are the first numbers of the keys of the blocks that have support to
+-- it, rising, each once.
+pub record IsKeyedBySupports (own : Option ℕ) (key : ℕ → Option (List ℕ)) (support : ℕ → ℕ → ℕ) (b : ℕ) : Type 0 where
+  pub number : ℕ
+  pub around : List ℕ
+  pub is : key b ≡ Some (number ∷ around)
+  pub own_is : own ≡ Some number
+  pub rising : IsStrictlyIncreasing around
+  pub each : (c : ℕ) → IsTrue (has around c) → (a : ℕ) × (0 < support a b) × (first_number (key a) ≡ Some c)
+  pub every : (a c : ℕ) → 0 < support a b → first_number (key a) ≡ Some c → IsTrue (has around c)
+
+-- Above the lowest level the keys are as the blocks one level below and the supports say: exactly the nodes have a block that have
+-- one below, and the key of each block with members begins with the block below of each of them.
+pub record AreKeyedBySupports (below block : List (Option ℕ)) (key : ℕ → Option (List ℕ)) (support : ℕ → ℕ → ℕ) : Type 0 where
+  pub nodes : (n : ℕ) → is_some (at block n) ≡ is_some (at below n)
+  pub keyed : (n b : ℕ) → at block n ≡ Some b → IsKeyedBySupports (at below n) key support b
+
+-- What each family keeps, whatever graph it is of: exactly the blocks of each level have keys, no two the same, each block has a member,
+-- and the keys are as the labels say at the lowest level, and above it as the level below and the supports say.
+pub record IsKeyedFamily (levels : List KeyedQuotient) : Type 0 where
+  pub keyed : (i : ℕ) → i < length levels → AreKeyed (level_at levels i).quotient.blocks.labels (key_at (level_at levels i).keys)
+  pub inhabited : (i : ℕ) → i < length levels → AreInhabited (level_at levels i).quotient.blocks.labels (blocks_at levels i)
+  pub lowest : AreKeyedByLabels (level_at levels 0).quotient.blocks.labels (key_at (level_at levels 0).keys)
+  pub above : (i : ℕ) → i + 1 < length levels
+      → AreKeyedBySupports (blocks_at levels i) (blocks_at levels (i + 1)) (key_at (level_at levels (i + 1)).keys) (support_at (level_at levels (i + 1)).quotient.supports)
+
+-- a family of few levels
+pub record IsFamily (levels : List KeyedQuotient) : Type 0 where
+  pub some : 0 < length levels
+  pub few : length levels ≤ 9
+  pub keyed : IsKeyedFamily levels

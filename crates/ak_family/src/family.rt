@@ -7,10 +7,12 @@ ghost use Rattle.bisim_spec.specs.Partitions.{Agrees, Together};
 ghost use Rattle.bisim_spec.specs.Views.{ViewFits};
 ghost use Rattle.block_partition.specs.Partitions.{IsBlock};
 ghost use Rattle.quotient.specs.Quotients.{view_of};
-ghost use Rattle.ak_family.specs.Families.{level_at, blocks_at, quotients_of, HasKey, AreKeyed, AreLabelKeys, AreParentKeys};
+ghost use Rattle.keyed_quotient.specs.Levels.{HasKey, AreKeyed, key_at};
+ghost use Rattle.ak_family.specs.Families.{level_at, blocks_at, quotients_of, AreLabelKeys, AreParentKeys, IsKeyedFamily};
 
-use crate::keyed::KeyedSummary;
+use crate::keyed::keyed_summary;
 use crate::layers::{above, lowest};
+use keyed_quotient::KeyedSummary;
 use label_graph::GraphView;
 use px_base::{Memory, NodeId};
 use quotient::{EdgeList, Summary};
@@ -24,13 +26,14 @@ use std::marker::Model;
 /// then the blocks of the parents one level below, rising, each once.
 #[derive(Drop)]
 pub struct AkFamily {
-    levels: Vec<KeyedSummary>,
+    pub(crate) levels: Vec<KeyedSummary>,
 }
 
 impl Model for AkFamily {
-    ghost use Rattle.std.specs.Prelude.{◌<◌, ◌≤◌, List, length};
+    ghost use Rattle.std.specs.Prelude.{List};
     ghost use Rattle.std.specs.Coded.{coded_list};
-    ghost use Rattle.ak_family.specs.Families.{KeyedQuotient, keyed_code};
+    ghost use Rattle.keyed_quotient.specs.Levels.{KeyedQuotient, keyed_code};
+    ghost use Rattle.ak_family.specs.Families.{IsFamily};
 
     ghost Value = { List KeyedQuotient };
 
@@ -38,7 +41,7 @@ impl Model for AkFamily {
 
     ghost view = { λ f. f.levels.items };
 
-    ghost invariant = { λ f. (0 < length f.levels.items) × (length f.levels.items ≤ 9) };
+    ghost invariant = { λ f. IsFamily f.levels.items };
 }
 
 impl AkFamily {
@@ -56,10 +59,12 @@ impl AkFamily {
         let edges = EdgeList::of(alloc, view)?;
         let (mut layer, keys) = lowest(alloc, view)?;
         let mut levels = Vec::with_capacity(alloc, k as usize + 1)?;
-        levels.push(KeyedSummary::of(alloc, view, &edges, &layer, keys)?)?;
+        let level = keyed_summary(alloc, view, &edges, &layer, keys)?;
+        levels.push(level)?;
         for _ in 0..k {
             let (next, keys) = above(alloc, view, &layer)?;
-            levels.push(KeyedSummary::of(alloc, view, &edges, &next, keys)?)?;
+            let upper = keyed_summary(alloc, view, &edges, &next, keys)?;
+            levels.push(upper)?;
             layer = next;
         }
         Ok(AkFamily { levels })
@@ -69,6 +74,7 @@ impl AkFamily {
     pub fn k(&self) -> u32
         ensures count { length self.now ≡ result + 1 }
         ensures few { result ≤ 8 }
+        ensures keyed { IsKeyedFamily self.now }
     {
         self.levels.len() as u32 - 1
     }
@@ -78,7 +84,7 @@ impl AkFamily {
         requires level { i < length self.now }
         ensures quotient { result.now ≡ (level_at self.now i).quotient }
         ensures listed { slice_get (quotients_of self.now) i ≡ Some result.now }
-        ensures keyed { AreKeyed result.now.blocks.labels (level_at self.now i).keys }
+        ensures keyed { AreKeyed result.now.blocks.labels (key_at (level_at self.now i).keys) }
     {
         self.levels[i as usize].summary()
     }

@@ -1,6 +1,7 @@
 //! The family of A(0)- to A(k)-indexes of a graph.
 #![tactic(auto)]
 
+mod drafting;
 mod family;
 mod keyed;
 mod labels;
@@ -8,4 +9,5 @@ mod layers;
 #[cfg(test)]
 mod tests;
 
+pub use drafting::AkDraft;
 pub use family::AkFamily;

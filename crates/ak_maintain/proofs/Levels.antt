@@ -7,7 +7,8 @@ use Rattle.bisim_spec.specs.declared.kind.Kind.TheVariants.{A}
 use Rattle.bisim_spec.specs.Views.{View}
 use Rattle.bisim_spec.specs.Fits.{Fits, FitsAt, FitsLevel, view_at}
 use Rattle.quotient.specs.Quotients.{view_of}
-use Rattle.ak_family.specs.Families.{KeyedQuotient, level_at, no_level}
+use Rattle.keyed_quotient.specs.Levels.{KeyedQuotient, no_level}
+use Rattle.ak_family.specs.Families.{level_at}
 use Rattle.index_api.specs.Meanings.{Meaning, IsReady, IsRefreshed, IsPrepared}
 use Rattle.ak_maintain.specs.Fitting.{views_of, kept_views, meaning_of, AreLevelsOf}
 

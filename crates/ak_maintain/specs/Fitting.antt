@@ -5,7 +5,8 @@ use Rattle.bisim_spec.specs.declared.kind.Kind.TheVariants.{A}
 use Rattle.bisim_spec.specs.Views.{View}
 use Rattle.bisim_spec.specs.Fits.{FitsLevel}
 use Rattle.quotient.specs.Quotients.{view_of}
-use Rattle.ak_family.specs.Families.{KeyedQuotient, level_at}
+use Rattle.keyed_quotient.specs.Levels.{KeyedQuotient}
+use Rattle.ak_family.specs.Families.{level_at}
 use Rattle.index_api.specs.Meanings.{Meaning}
 
 -- the views of a family, one for each level

@@ -115,6 +115,23 @@ impl<T: Copy> HashIndex<T> {
         make_room(&mut self.slots, &mut self.heads)?;
         add(&mut self.slots, &mut self.heads, hash, item)
     }
+
+    /// Drops all items. One bucket is left, and the memory is kept for items to come. O(1).
+    pub fn clear(&mut self)
+        ensures { self.new ≡ no_items }
+    {
+        self.slots.clear();
+        keep_one(&mut self.heads);
+    }
+}
+
+// Leaves one bucket, without items.
+fn keep_one(heads: &mut Vec<u32>)
+    requires some { 0 < length heads.old.items }
+    ensures { heads.new.items ≡ 0 ∷ [] }
+{
+    heads.truncate(1);
+    heads[0] = 0;
 }
 
 // Puts an item behind the others, and in front of its chain.

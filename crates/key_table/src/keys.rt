@@ -85,6 +85,14 @@ impl KeyTable {
         }
         add(&mut self.arena, &mut self.index, key, hash)
     }
+
+    /// Drops all keys. The memory is kept for keys to come. O(1).
+    pub fn clear(&mut self)
+        ensures { self.new ≡ [] }
+    {
+        self.arena.clear();
+        self.index.clear();
+    }
 }
 
 // Adds a key that is absent.

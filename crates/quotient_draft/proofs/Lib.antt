@@ -1,15 +1,16 @@
 pub mod Puts
-mod Scanned
+pub mod Scanned
 mod Spans
-mod Written
+pub mod Written
 mod Over
 mod Examples
-mod Making
+pub mod Making
 mod Counting
 pub mod Gone
 mod ShownCounts
 mod Linked
 mod Listing
-mod Settled
+pub mod Settled
 mod Noted
 mod Supported
+mod Forgotten

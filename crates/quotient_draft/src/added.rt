@@ -1,5 +1,5 @@
 // Blocks that are drafted.
-ghost use Rattle.std.specs.Prelude.{◌≡◌, ◌+◌, ◌-◌, ◌<◌, ◌≤◌, ◌^◌, ◌++◌, ◌∷◌, [], ℕ, Some, None, IsSome, is_some, false, IfOk, OnErr, IfSome, IfNone, length, slice_get, count_by};
+ghost use Rattle.std.specs.Prelude.{◌≡◌, ◌+◌, ◌-◌, ◌<◌, ◌≤◌, ◌^◌, ◌++◌, ◌∷◌, [], ℕ, List, Some, None, IsSome, is_some, false, IfOk, OnErr, IfSome, IfNone, length, slice_get, count_by};
 ghost use Rattle.std.specs.Map.{keys_of};
 ghost use Rattle.px_spec.specs.Members.{at};
 ghost use Rattle.bisim_spec.specs.Views.{support_at};
@@ -62,6 +62,13 @@ impl Added {
         let b = next_free(base, self.from());
         self.blocks.insert(b, label)?;
         Ok(b)
+    }
+
+    /// Takes the last block out again.
+    pub(crate) fn forget(&mut self)
+        ensures { (es : List (ℕ × ℕ)) (e : ℕ × ℕ) → self.old ≡ es ++ e ∷ [] → self.new ≡ es }
+    {
+        self.blocks.pop();
     }
 
     /// How many blocks there are.

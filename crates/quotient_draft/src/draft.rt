@@ -99,6 +99,14 @@ impl Draft {
         Ok(b)
     }
 
+    /// Takes the last block that was drafted out again. It takes no memory. The draft is as it was before that block
+    /// where nothing else was drafted since.
+    pub fn forget_block(&mut self)
+        ensures { (es : List (ℕ × ℕ)) (e : ℕ × ℕ) → self.old.added ≡ es ++ e ∷ [] → self.new ≡ record self.old { added = es } }
+    {
+        self.added.forget();
+    }
+
     /// Drafts the move of a node, which is below 2^31, to a block as shown, or out of its block.
     pub fn put(&mut self, base: &Summary, n: NodeId, b: Option<u32>) -> Result<(), Memory>
         requires over { IsOver base.now.blocks.block_of base.now.blocks.labels self.old }

@@ -1,0 +1,12 @@
+use Rattle.std.proofs.Common.{List, ◌∙◌, ap, sym, subst}
+use Rattle.keyed_quotient.specs.Levels.{KeyedQuotient}
+use Rattle.keyed_quotient.specs.Changes.{KeyedChanges, IsKeyedOver}
+use Rattle.ak_family.specs.Families.{level_at}
+use Rattle.ak_family.specs.Drafting.{AreOver}
+use Rattle.ak_family.proofs.Drafted.{over_set}
+use Rattle.ak_family.proofs.family.AkFamily.raise.Goals as goal
+
+pub returns-clause-over : goal.returns-clause-over
+returns-clause-over c =
+    over_set c.args.self.now c.d.inside.levels.items c.args.i c.raise.new.self (subst (AreOver c.args.self.now) (sym c.d.view_is) c.requires.over) c.requires.level
+    (subst (λ (q : KeyedQuotient). IsKeyedOver q c.raise.new.self) (c.level_of-level.ensures ∙ ap (λ (ls : List KeyedQuotient). level_at ls c.args.i) c.self.view_is) c.in_ok-raise.ensures.over)

@@ -1,0 +1,62 @@
+-- What is drafted over a family, level by level.
+use Rattle.std.specs.Prelude.{ℕ, ◌≡◌, ◌≢◌, ◌+◌, ◌<◌, List, length, Option, slice_index_or}
+use Rattle.quotient.specs.Quotients.{view_of}
+use Rattle.keyed_quotient.specs.Levels.{KeyedQuotient}
+use Rattle.keyed_quotient.specs.Changes.{KeyedChanges, no_keyed_changes, blocks_as_shown, labels_as_shown, support_as_shown, shown_key, IsKeyedOver, HasKeyRoom, IsSettled, AreUnsupported}
+use Rattle.ak_family.specs.Families.{level_at, AreKeyedByLabels, AreKeyedBySupports}
+
+-- what is drafted at a level, and nothing past the last one
+abbrev pub changes_at : List KeyedChanges → ℕ → KeyedChanges
+changes_at drafts i = slice_index_or drafts i no_keyed_changes
+
+-- the blocks of the nodes at a level as shown
+abbrev pub blocks_shown : List KeyedQuotient → List KeyedChanges → ℕ → List (Option ℕ)
+blocks_shown f d i = blocks_as_shown (level_at f i) (changes_at d i)
+
+-- the label of each block of a level as shown
+abbrev pub labels_shown : List KeyedQuotient → List KeyedChanges → ℕ → List (Option ℕ)
+labels_shown f d i = labels_as_shown (level_at f i) (changes_at d i)
+
+-- the support of two blocks of a level as shown
+abbrev pub support_shown : List KeyedQuotient → List KeyedChanges → ℕ → ℕ → ℕ → ℕ
+support_shown f d i a b = support_as_shown (level_at f i) (changes_at d i) a b
+
+-- the key of a block of a level as shown, and none where the number is no block there
+abbrev pub key_shown : List KeyedQuotient → List KeyedChanges → ℕ → ℕ → Option (List ℕ)
+key_shown f d i b = shown_key (level_at f i) (changes_at d i) b
+
+-- The draft was begun over this family, and has its levels. This holds for as long as blocks, labels and keys of the family stay.
+pub record AreOver (f : List KeyedQuotient) (d : List KeyedChanges) : Type 0 where
+  pub count : length d ≡ length f
+  pub each : (i : ℕ) → i < length f → IsKeyedOver (level_at f i) (changes_at d i)
+
+-- no other level of the draft has changed
+abbrev pub AreSameBut : ℕ → List KeyedChanges → List KeyedChanges → Type 0
+AreSameBut i old new = (j : ℕ) → j ≢ i → changes_at new j ≡ changes_at old j
+
+-- nothing is drafted at any level
+abbrev pub AreEmpty : List KeyedChanges → Type 0
+AreEmpty d = (i : ℕ) → changes_at d i ≡ no_keyed_changes
+
+-- each level has room for what the draft shows
+abbrev pub HaveRoom : List KeyedQuotient → List KeyedChanges → Type 0
+HaveRoom f d = (i : ℕ) → i < length f → HasKeyRoom (level_at f i) (changes_at d i)
+
+-- What the draft shows is a family: its keys are as the labels, the levels below and the supports say. No pair with a block
+-- without members has support.
+pub record ShowsFamily (f : List KeyedQuotient) (d : List KeyedChanges) : Type 0 where
+  pub over : AreOver f d
+  pub lowest : AreKeyedByLabels (labels_shown f d 0) (key_shown f d 0)
+  pub above : (i : ℕ) → i + 1 < length f → AreKeyedBySupports (blocks_shown f d i) (blocks_shown f d (i + 1)) (key_shown f d (i + 1)) (support_shown f d (i + 1))
+  pub empty : (i : ℕ) → i < length f → AreUnsupported (blocks_shown f d i) (support_shown f d i)
+
+-- each level has become what the draft showed there, without blocks that have no members
+pub record AreSettled (f : List KeyedQuotient) (d : List KeyedChanges) (new : List KeyedQuotient) : Type 0 where
+  pub count : length new ≡ length f
+  pub each : (i : ℕ) → i < length f → IsSettled (level_at f i) (changes_at d i) (level_at new i)
+
+-- the families are the same but for room
+pub record AreSeenAs (old new : List KeyedQuotient) : Type 0 where
+  pub count : length new ≡ length old
+  pub views : (i : ℕ) → view_of (level_at new i).quotient ≡ view_of (level_at old i).quotient
+  pub keys : (i : ℕ) → (level_at new i).keys ≡ (level_at old i).keys

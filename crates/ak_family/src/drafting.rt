@@ -1,0 +1,221 @@
+// What is drafted over a family.
+ghost use Rattle.std.specs.Prelude.{◌≡◌, ◌≢◌, ◌+◌, ◌<◌, ◌≤◌, ◌^◌, ◌&&◌, ◌++◌, ◌∷◌, ◌↔◌, [], ℕ, List, Option, Some, None, IsSome, IsTrue, is_some, IfOk, OnOk, OnErr, IfSome, nat_eq, if◌then◌else◌, count_by, length};
+ghost use Rattle.px_spec.specs.Members.{at, Lists};
+ghost use Rattle.px_spec.specs.Graphs.{is_live, has_edge};
+ghost use Rattle.px_spec.specs.Shapes.{shape_of};
+ghost use Rattle.bisim_spec.specs.Partitions.{IsPartition};
+ghost use Rattle.upkeep_spec.specs.Supported.{AreEdgeCounts};
+ghost use Rattle.graph_update.specs.Pending.{graph_after};
+ghost use Rattle.block_partition.specs.Partitions.{IsLeastFree, put};
+ghost use Rattle.quotient.specs.Joined.{one_if};
+ghost use Rattle.node_moves.specs.Costs.{parents_cost, children_cost};
+ghost use Rattle.keyed_quotient.specs.Levels.{KeyedQuotient};
+ghost use Rattle.keyed_quotient.specs.Changes.{KeyedChanges};
+ghost use Rattle.ak_family.specs.Families.{level_at, IsKeyedFamily};
+ghost use Rattle.ak_family.specs.Drafting.{changes_at, blocks_shown, labels_shown, support_shown, key_shown, AreOver, AreSameBut, AreEmpty};
+
+use crate::family::AkFamily;
+use graph_update::After;
+use keyed_quotient::{KeyedDraft, KeyedSummary};
+use node_moves::Near;
+use px_base::{Memory, NodeId, Steps};
+use std::alloc::Global;
+use std::marker::Model;
+use std::sync::ledger::Ledger;
+
+/// What is drafted over a family, level by level: further blocks with their keys, moves of nodes, and supports. Reads show the family as
+/// it will be once the draft is settled. Each call is given the family; its blocks, labels and keys must stay while something is drafted.
+#[derive(Drop)]
+pub struct AkDraft {
+    levels: Vec<KeyedDraft>,
+}
+
+impl Model for AkDraft {
+    ghost use Rattle.std.specs.Prelude.{List};
+    ghost use Rattle.keyed_quotient.specs.Changes.{KeyedChanges};
+
+    ghost Value = { List KeyedChanges };
+
+    ghost view = { λ d. d.levels.items };
+}
+
+impl AkDraft {
+    /// Nothing is drafted, at levels up to `k`.
+    pub fn new(alloc: Global, k: u32) -> Result<AkDraft, Memory>
+        ensures count { IfOk result (λ d. length d ≡ k + 1) }
+        ensures empty { IfOk result AreEmpty }
+        ensures over { IfOk result (λ d. (f : List KeyedQuotient) → IsKeyedFamily f → length f ≡ k + 1 → AreOver f d) }
+    {
+        let mut levels = Vec::new(alloc);
+        for _ in 0..k as usize + 1 {
+            levels.push(KeyedDraft::new(alloc)?)?;
+        }
+        Ok(AkDraft { levels })
+    }
+
+    /// Drops all that is drafted. It takes no memory.
+    pub fn clear(&mut self)
+        ensures count { length self.new ≡ length self.old }
+        ensures empty { AreEmpty self.new }
+        ensures over { (f : List KeyedQuotient) → IsKeyedFamily f → length f ≡ length self.old → AreOver f self.new }
+    {
+        for i in 0..self.levels.len() {
+            self.levels[i].clear();
+        }
+    }
+}
+
+// Reading.
+impl AkFamily {
+    /// The block of a node at a level as shown, and none where it has none. It takes no memory.
+    pub fn shown(&self, d: &AkDraft, i: u32, n: NodeId) -> Option<u32>
+        requires over { AreOver self.now d.now }
+        requires level { i < length self.now }
+        ensures block { result ≡ at (blocks_shown self.now d.now i) n }
+        ensures live { IfSome result (λ b. IsSome (at (labels_shown self.now d.now i) b)) }
+    {
+        draft_of(&d.levels, i).block_of(level_of(&self.levels, i), n)
+    }
+
+    /// The block of a level that has the key as shown, and none exactly where no block has it. It takes no memory.
+    pub fn find_shown(&self, d: &AkDraft, i: u32, key: &[u32]) -> Option<u32>
+        requires over { AreOver self.now d.now }
+        requires level { i < length self.now }
+        ensures leads { (b : ℕ) → (result ≡ Some b) ↔ (key_shown self.now d.now i b ≡ Some key.now) }
+        ensures live { IfSome result (λ b. IsSome (at (labels_shown self.now d.now i) b)) }
+    {
+        draft_of(&d.levels, i).find(level_of(&self.levels, i), key)
+    }
+}
+
+// Drafting.
+impl AkFamily {
+    /// Drafts a block of a level, without members, with a key that no block has there as shown. Its number is the least that is no block
+    /// there as shown.
+    pub fn new_block(&self, d: &mut AkDraft, i: u32, label: u32, key: &[u32]) -> Result<u32, Memory>
+        requires over { AreOver self.now d.old }
+        requires level { i < length self.now }
+        requires few { count_by is_some (labels_shown self.now d.old i) < 2 ^ 31 }
+        requires fresh { (b : ℕ) → key_shown self.now d.old i b ≡ Some key.now → ⊥ }
+        ensures least { IfOk result (IsLeastFree (labels_shown self.now d.old i)) }
+        ensures blocks { blocks_shown self.now d.new i ≡ blocks_shown self.now d.old i }
+        ensures labels { IfOk result (λ b. labels_shown self.now d.new i ≡ put (labels_shown self.now d.old i) b label) }
+        ensures supports { (x y : ℕ) → support_shown self.now d.new i x y ≡ support_shown self.now d.old i x y }
+        ensures keys { IfOk result (λ b. (c : ℕ) → key_shown self.now d.new i c ≡ (if nat_eq c b then Some key.now else key_shown self.now d.old i c)) }
+        ensures others { AreSameBut i d.old d.new }
+        ensures over { AreOver self.now d.new }
+        ensures err { OnErr result (d.new ≡ d.old) }
+    {
+        let level = level_of(&self.levels, i);
+        let b = d.levels[i as usize].new_block(level, label, key)?;
+        Ok(b)
+    }
+
+    /// Drafts the move of a node, which is below 2^31, to a block of a level as shown, or out of its block there.
+    pub fn put(&self, d: &mut AkDraft, i: u32, n: NodeId, b: Option<u32>) -> Result<(), Memory>
+        requires over { AreOver self.now d.old }
+        requires level { i < length self.now }
+        requires small { n < 2 ^ 31 }
+        requires block { IfSome b (λ b. IsSome (at (labels_shown self.now d.old i) b)) }
+        ensures blocks { OnOk result ((m : ℕ) → at (blocks_shown self.now d.new i) m ≡ (if nat_eq m n then b else at (blocks_shown self.now d.old i) m)) }
+        ensures labels { labels_shown self.now d.new i ≡ labels_shown self.now d.old i }
+        ensures supports { (x y : ℕ) → support_shown self.now d.new i x y ≡ support_shown self.now d.old i x y }
+        ensures keys { (b : ℕ) → key_shown self.now d.new i b ≡ key_shown self.now d.old i b }
+        ensures others { AreSameBut i d.old d.new }
+        ensures over { AreOver self.now d.new }
+        ensures err { OnErr result (d.new ≡ d.old) }
+    {
+        let level = level_of(&self.levels, i);
+        d.levels[i as usize].put(level, n, b)?;
+        Ok(())
+    }
+
+    /// Drafts that one more edge leads from `a` to `b`, both blocks of a level as shown.
+    pub fn raise(&self, d: &mut AkDraft, i: u32, a: u32, b: u32) -> Result<(), Memory>
+        requires over { AreOver self.now d.old }
+        requires level { i < length self.now }
+        requires from { IsSome (at (labels_shown self.now d.old i) a) }
+        requires onto { IsSome (at (labels_shown self.now d.old i) b) }
+        requires few { support_shown self.now d.old i a b < 2 ^ 31 }
+        ensures raised { OnOk result ((x y : ℕ) → support_shown self.now d.new i x y ≡ support_shown self.now d.old i x y + one_if (nat_eq x a && nat_eq y b)) }
+        ensures blocks { blocks_shown self.now d.new i ≡ blocks_shown self.now d.old i }
+        ensures labels { labels_shown self.now d.new i ≡ labels_shown self.now d.old i }
+        ensures keys { (b : ℕ) → key_shown self.now d.new i b ≡ key_shown self.now d.old i b }
+        ensures others { AreSameBut i d.old d.new }
+        ensures over { AreOver self.now d.new }
+        ensures err { OnErr result (d.new ≡ d.old) }
+    {
+        let level = level_of(&self.levels, i);
+        d.levels[i as usize].raise(level, a, b)?;
+        Ok(())
+    }
+
+    /// Drafts that one edge fewer leads from `a` to `b`, both blocks of a level as shown, which have support.
+    pub fn lower(&self, d: &mut AkDraft, i: u32, a: u32, b: u32) -> Result<(), Memory>
+        requires over { AreOver self.now d.old }
+        requires level { i < length self.now }
+        requires from { IsSome (at (labels_shown self.now d.old i) a) }
+        requires onto { IsSome (at (labels_shown self.now d.old i) b) }
+        requires some { 0 < support_shown self.now d.old i a b }
+        ensures lowered { OnOk result ((x y : ℕ) → support_shown self.now d.new i x y + one_if (nat_eq x a && nat_eq y b) ≡ support_shown self.now d.old i x y) }
+        ensures blocks { blocks_shown self.now d.new i ≡ blocks_shown self.now d.old i }
+        ensures labels { labels_shown self.now d.new i ≡ labels_shown self.now d.old i }
+        ensures keys { (b : ℕ) → key_shown self.now d.new i b ≡ key_shown self.now d.old i b }
+        ensures others { AreSameBut i d.old d.new }
+        ensures over { AreOver self.now d.new }
+        ensures err { OnErr result (d.new ≡ d.old) }
+    {
+        let level = level_of(&self.levels, i);
+        d.levels[i as usize].lower(level, a, b)?;
+        Ok(())
+    }
+
+    /// Drafts the move of a node to a block of a level as shown, with the supports of its edges there, and puts its children behind
+    /// the nodes in `next`. Its parents and its children are read once. After `Memory` the draft is only good to be cleared.
+    pub fn move_node<L: Ledger>(
+        &self,
+        d: &mut AkDraft,
+        i: u32,
+        after: &After<'_>,
+        n: NodeId,
+        b: u32,
+        near: &mut Near,
+        next: &mut Vec<NodeId>,
+        steps: &mut Steps<L>,
+    ) -> Result<(), Memory>
+        requires over { AreOver self.now d.old }
+        requires level { i < length self.now }
+        requires live { IsTrue (is_live (graph_after after.now) n) }
+        requires partition { IsPartition (shape_of (graph_after after.now)) (blocks_shown self.now d.old i) }
+        requires block { IsSome (at (labels_shown self.now d.old i) b) }
+        requires supports { AreEdgeCounts (graph_after after.now) (blocks_shown self.now d.old i) (support_shown self.now d.old i) }
+        ensures moved { OnOk result ((m : ℕ) → at (blocks_shown self.now d.new i) m ≡ (if nat_eq m n then Some b else at (blocks_shown self.now d.old i) m)) }
+        ensures labels { labels_shown self.now d.new i ≡ labels_shown self.now d.old i }
+        ensures keys { (b : ℕ) → key_shown self.now d.new i b ≡ key_shown self.now d.old i b }
+        ensures supports { OnOk result (AreEdgeCounts (graph_after after.now) (blocks_shown self.now d.new i) (support_shown self.now d.new i)) }
+        ensures next { OnOk result ((children : List ℕ) × Lists (has_edge (graph_after after.now) n) children × (next.new.items ≡ next.old.items ++ children)) }
+        ensures others { AreSameBut i d.old d.new }
+        ensures over { OnOk result (AreOver self.now d.new) }
+        ensures cost { steps.new ≤ steps.old + parents_cost after.now n + children_cost after.now n }
+    {
+        let level = level_of(&self.levels, i);
+        d.levels[i as usize].move_node(level, after, n, b, near, next, steps)?;
+        Ok(())
+    }
+}
+
+// A level of a family.
+pub(crate) fn level_of(levels: &Vec<KeyedSummary>, i: u32) -> &KeyedSummary
+    requires { i < length levels.now.items }
+    ensures { result.now ≡ level_at levels.now.items i }
+{
+    &levels[i as usize]
+}
+
+// What is drafted at a level.
+fn draft_of(drafts: &Vec<KeyedDraft>, i: u32) -> &KeyedDraft
+    requires { i < length drafts.now.items }
+    ensures { result.now ≡ changes_at drafts.now.items i }
+{
+    &drafts[i as usize]
+}

@@ -1,0 +1,6 @@
+pub mod Lists
+pub mod Numbered
+pub mod Given
+pub mod Shown
+pub mod SettledKeys
+pub mod Grown

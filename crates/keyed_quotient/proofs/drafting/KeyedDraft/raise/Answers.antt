@@ -1,0 +1,19 @@
+use Rattle.std.proofs.Common.{ℕ, List, ◌≡◌, ◌<◌, ◌≤◌, Option, Some, None, length, ◌∙◌, ap, refl, sym, subst, arith, slice_get}
+use Rattle.std.specs.List.{zip}
+use Rattle.std.specs.Prelude.{IsSome}
+use Rattle.px_spec.specs.Members.{at}
+use Rattle.bisim_spec.specs.Views.{View}
+use Rattle.quotient_draft.specs.Drafts.{Drafted, with_added}
+use Rattle.keyed_quotient.specs.Levels.{KeyedQuotient}
+use Rattle.keyed_quotient.specs.Changes.{KeyedChanges, IsKeyedOver, IsKnown, HasKeyRoom, IsSettled, shown_key, labels_as_shown}
+use Rattle.keyed_quotient.specs.Numberings.{Numbering, block_keys, AreApart, GivenBelow, IsNumbering, Grows}
+use Rattle.keyed_quotient.proofs.Shown.{over_kept}
+use Rattle.keyed_quotient.proofs.drafting.KeyedDraft.raise.Goals as goal
+
+pub returns-clause-over : goal.returns-clause-over
+returns-clause-over c =
+    let q : KeyedQuotient = record { quotient = c.base.inside.summary; keys = block_keys c.base.inside.summary.blocks.labels c.base.inside.numbers; room = record { known = c.base.inside.numbers.table; span = length c.base.inside.numbers.number_of } } in
+    let d : KeyedChanges = record { drafted = c.self.inside.draft; keys = zip c.self.inside.blocks.items c.self.inside.keys } in
+    let o : IsKeyedOver q d = subst (λ (x : KeyedQuotient). IsKeyedOver x d) (sym c.base.view_is) (subst (IsKeyedOver c.args.base.now) (sym c.self.view_is) c.requires.over) in
+    let d2 : KeyedChanges = record { drafted = c.raise.new.self; keys = d.keys } in
+    subst (λ (x : KeyedQuotient). IsKeyedOver x d2) c.base.view_is (over_kept q d d2 o c.in_ok-raise.ensures.over c.in_ok-raise.ensures.added refl)

@@ -1,0 +1,70 @@
+-- What is drafted over a quotient whose blocks have keys.
+use Rattle.std.specs.Prelude.{ℕ, ◌≡◌, ◌<◌, Bool, false, List, [], Option, None, Some, IsSome, IsTrue, cond, nat_eq, slice_get}
+use Rattle.std.specs.List.{IsDistinct}
+use Rattle.std.specs.Option.{option_or}
+use Rattle.std.specs.Map.{lookup, keys_of}
+use Rattle.px_spec.specs.Members.{at}
+use Rattle.bisim_spec.specs.Views.{View}
+use Rattle.quotient.specs.Quotients.{view_of}
+use Rattle.quotient_draft.specs.Drafts.{Drafted, no_changes, has_member, shown_blocks, shown_labels, shown_support, settled_view}
+use Rattle.quotient_draft.specs.Basis.{IsOver}
+use Rattle.quotient_draft.specs.Rooms.{HasRoomFor}
+use Rattle.keyed_quotient.specs.Levels.{KeyedQuotient, key_at, AreKeyed}
+
+pub record KeyedChanges : Type 0 where
+  pub drafted : Drafted
+  -- the number and the key of each further block, in the order in which they were made
+  pub keys : List (ℕ × List ℕ)
+
+abbrev pub no_keyed_changes : KeyedChanges
+no_keyed_changes = record { drafted = no_changes; keys = [] }
+
+-- the blocks of nodes as shown, their labels and their supports
+abbrev pub blocks_as_shown : KeyedQuotient → KeyedChanges → List (Option ℕ)
+blocks_as_shown q d = shown_blocks q.quotient d.drafted
+
+abbrev pub labels_as_shown : KeyedQuotient → KeyedChanges → List (Option ℕ)
+labels_as_shown q d = shown_labels q.quotient d.drafted
+
+abbrev pub support_as_shown : KeyedQuotient → KeyedChanges → ℕ → ℕ → ℕ
+support_as_shown q d a b = shown_support q.quotient d.drafted a b
+
+-- the key of a block as shown, and none where the number is no block as shown
+abbrev pub shown_key : KeyedQuotient → KeyedChanges → ℕ → Option (List ℕ)
+shown_key q d b = option_or (lookup (nat_eq b) d.keys) (key_at q.keys b)
+
+-- The draft was begun over this base, as `IsOver` says. Its further blocks are no blocks of the base, and as shown exactly the
+-- blocks have keys, no two of them the same. This holds over a base for as long as its blocks and its keys stay.
+pub record IsKeyedOver (q : KeyedQuotient) (d : KeyedChanges) : Type 0 where
+  pub over : IsOver q.quotient.blocks.block_of q.quotient.blocks.labels d.drafted
+  pub once : IsDistinct nat_eq (keys_of d.keys)
+  pub further : (b : ℕ) (key : List ℕ) → lookup (nat_eq b) d.keys ≡ Some key → key_at q.keys b ≡ None
+  pub keyed : AreKeyed (labels_as_shown q d) (shown_key q d)
+
+-- the key is in the table
+abbrev pub IsKnown : List (List ℕ) → List ℕ → Type 0
+IsKnown known key = (k : ℕ) × (slice_get known k ≡ Some key)
+
+-- the base has room for what the draft shows
+pub record HasKeyRoom (q : KeyedQuotient) (d : KeyedChanges) : Type 0 where
+  pub quotient : HasRoomFor q.quotient d.drafted
+  pub known : (i b : ℕ) (key : List ℕ) → slice_get d.keys i ≡ Some (b, key) → IsKnown q.room.known key
+  pub span : (i b : ℕ) (key : List ℕ) → slice_get d.keys i ≡ Some (b, key) → b < q.room.span
+
+-- the key of a block once the draft is settled: as it is shown, and none where the block has no members
+abbrev pub settled_key : KeyedQuotient → KeyedChanges → ℕ → Option (List ℕ)
+settled_key q d b = cond (has_member (blocks_as_shown q d) b) (shown_key q d b) None
+
+-- the base has become what the draft showed, without blocks that have no members
+pub record IsSettled (q : KeyedQuotient) (d : KeyedChanges) (new : KeyedQuotient) : Type 0 where
+  pub view : view_of new.quotient ≡ settled_view q.quotient d.drafted
+  pub keys : (b : ℕ) → key_at new.keys b ≡ settled_key q d b
+
+-- each block has a member
+abbrev pub AreInhabited : List (Option ℕ) → List (Option ℕ) → Type 0
+AreInhabited labels block = (b : ℕ) → IsSome (at labels b) → IsTrue (has_member block b)
+
+-- a block without members has no support in any pair
+pub record AreUnsupported (block : List (Option ℕ)) (support : ℕ → ℕ → ℕ) : Type 0 where
+  pub from : (b c : ℕ) → has_member block b ≡ false → support b c ≡ 0
+  pub onto : (b c : ℕ) → has_member block b ≡ false → support c b ≡ 0

@@ -1,0 +1,3 @@
+pub mod Levels
+pub mod Changes
+pub mod Numberings

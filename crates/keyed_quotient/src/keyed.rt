@@ -1,0 +1,120 @@
+// A quotient whose blocks have keys.
+ghost use Rattle.std.specs.Prelude.{◌≡◌, ◌↔◌, ℕ, List, Some, IsSome, IsTrue, IsFalse, IfOk, IfSome, slice_get};
+ghost use Rattle.px_spec.specs.Members.{at};
+ghost use Rattle.block_partition.specs.Partitions.{IsBlock};
+ghost use Rattle.keyed_quotient.specs.Levels.{HasKey, AreKeyed, key_at};
+ghost use Rattle.keyed_quotient.specs.Numberings.{block_keys, numbered_key, IsNumbering, Leads};
+
+use crate::numbering::KeyNumbers;
+use key_table::KeyTable;
+use px_base::Memory;
+use quotient::Summary;
+use std::alloc::Global;
+use std::marker::Model;
+
+/// A quotient, and the key of each of its blocks: a list of numbers, by which the block is found.
+#[derive(Drop)]
+pub struct KeyedSummary {
+    pub(crate) summary: Summary,
+    pub(crate) numbers: KeyNumbers,
+}
+
+impl Model for KeyedSummary {
+    ghost use Rattle.std.specs.Prelude.{length};
+    ghost use Rattle.keyed_quotient.specs.Levels.{KeyedQuotient, keyed_code};
+    ghost use Rattle.keyed_quotient.specs.Numberings.{block_keys, IsNumbering};
+
+    ghost Value = { KeyedQuotient };
+
+    ghost coded = { keyed_code };
+
+    ghost view = { λ s. record { quotient = s.summary; keys = block_keys s.summary.blocks.labels s.numbers; room = record { known = s.numbers.table; span = length s.numbers.number_of } } };
+
+    ghost invariant = { λ s. IsNumbering s.summary.blocks.labels s.numbers };
+}
+
+impl KeyedSummary {
+    /// A quotient whose blocks have these keys: a block has the key with its number. On want of memory both are dropped.
+    pub fn new(alloc: Global, summary: Summary, keys: KeyTable) -> Result<KeyedSummary, Memory>
+        requires { AreKeyed summary.blocks.labels (slice_get keys) }
+        ensures quotient { IfOk result (λ s. s.quotient ≡ summary) }
+        ensures keys { IfOk result (λ s. (b : ℕ) → key_at s.keys b ≡ slice_get keys b) }
+    {
+        let numbers = KeyNumbers::of(alloc, keys)?;
+        Ok(KeyedSummary { summary, numbers })
+    }
+
+    /// The quotient.
+    pub fn summary(&self) -> &Summary
+        ensures quotient { result.now ≡ self.now.quotient }
+        ensures keyed { AreKeyed self.now.quotient.blocks.labels (key_at self.now.keys) }
+    {
+        &self.summary
+    }
+
+    /// The block that has the key, and `None` exactly where no block has it. It is found by hash.
+    pub fn find(&self, key: &[u32]) -> Option<u32>
+        ensures leads { (b : ℕ) → (result ≡ Some b) ↔ HasKey self.now b key.now }
+        ensures block { IfSome result (IsBlock self.now.quotient.blocks) }
+    {
+        find_in(&self.summary, &self.numbers, key)
+    }
+
+    /// The key of a block.
+    pub fn key(&self, b: u32) -> &[u32]
+        requires block { IsBlock self.now.quotient.blocks b }
+        ensures { HasKey self.now b result.now }
+    {
+        key_in(&self.numbers, b)
+    }
+}
+
+// The block that has the key.
+fn find_in(summary: &Summary, numbers: &KeyNumbers, key: &[u32]) -> Option<u32>
+    requires { IsNumbering summary.now.blocks.labels numbers.now }
+    ensures leads { (b : ℕ) → (result ≡ Some b) ↔ (key_at (block_keys summary.now.blocks.labels numbers.now) b ≡ Some key.now) }
+    ensures block { IfSome result (IsBlock summary.now.blocks) }
+{
+    match numbers.number(key) {
+        Some(k) => led_block(summary, numbers, k, key),
+        None => None,
+    }
+}
+
+// The block to which the number of a key leads, where that leads back.
+fn led_block(summary: &Summary, numbers: &KeyNumbers, k: u32, key: &[u32]) -> Option<u32>
+    requires numbering { IsNumbering summary.now.blocks.labels numbers.now }
+    requires key { slice_get numbers.now.table k ≡ Some key.now }
+    ensures leads { (b : ℕ) → (result ≡ Some b) ↔ (key_at (block_keys summary.now.blocks.labels numbers.now) b ≡ Some key.now) }
+    ensures block { IfSome result (IsBlock summary.now.blocks) }
+{
+    let _ = key;
+    match numbers.block(k) {
+        Some(b) => if is_led(summary, numbers, k, b) {
+            Some(b)
+        } else {
+            None
+        },
+        None => None,
+    }
+}
+
+// Whether the number of a key is that of the block.
+fn is_led(summary: &Summary, numbers: &KeyNumbers, k: u32, b: u32) -> bool
+    ensures yes { IsTrue result → IsSome (at summary.now.blocks.labels b) × (slice_get numbers.now.number_of b ≡ Some k) }
+    ensures no { IsFalse result → IsSome (at summary.now.blocks.labels b) → slice_get numbers.now.number_of b ≡ Some k → ⊥ }
+{
+    if !summary.is_block(b) {
+        return false;
+    }
+    numbers.number_of(b) == Some(k)
+}
+
+// The key of a block that has one.
+fn key_in(numbers: &KeyNumbers, b: u32) -> &[u32]
+    requires { (k : ℕ) × (key : List ℕ) × Leads numbers.now k b key }
+    ensures { numbered_key numbers.now b ≡ Some result.now }
+{
+    let k = numbers.number_of(b).unwrap();
+    numbers.key(k)
+}
