@@ -1,5 +1,5 @@
 -- Numbers past each block as shown, and small numbers of nodes.
-use Rattle.std.proofs.Common.{◌≡◌, ℕ, zero, suc, ◌+◌, ◌<◌, ◌≤◌, ◌^◌, List, [], ◌∷◌, ◌++◌, Option, Some, None, IsSome, is_some, length, refl, sym, ◌∙◌, ap, subst, arith, inl, inr, Bool, true, false, cond, unwrap_or, count_by, true≢false, take}
+use Rattle.std.proofs.Common.{◌≡◌, ℕ, ◌+◌, ◌<◌, ◌≤◌, ◌^◌, List, [], ◌∷◌, Option, Some, None, IsSome, is_some, length, refl, sym, ◌∙◌, ap, arith, inl, inr, Bool, true, false, cond, unwrap_or, count_by, true≢false, take}
 use Rattle.std.specs.Prelude.{nat_eq, ◌||◌, get_or}
 use Rattle.std.specs.Map.{lookup}
 use Rattle.std.proofs.lemmas.Bool.{cases_lt}

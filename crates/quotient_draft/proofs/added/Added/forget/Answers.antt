@@ -1,4 +1,4 @@
-use Rattle.std.proofs.Common.{◌∙◌, sym, arith}
+use Rattle.std.proofs.Common.{◌∙◌}
 use Rattle.quotient_draft.proofs.Forgotten.{last_gone}
 use Rattle.quotient_draft.proofs.added.Added.forget.Goals as goal
 

@@ -1,4 +1,4 @@
-use Rattle.std.proofs.Common.{◌≡◌, ℕ, List, Option, Some, cond, take}
+use Rattle.std.proofs.Common.{◌≡◌, ℕ, Some, cond, take}
 use Rattle.px_spec.specs.Members.{at, has}
 use Rattle.quotient_draft.specs.Drafts.{shown_blocks}
 use Rattle.quotient_draft.specs.Basis.{IsOver}

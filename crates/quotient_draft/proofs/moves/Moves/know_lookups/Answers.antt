@@ -1,4 +1,4 @@
-use Rattle.std.proofs.Common.{◌≡◌, ap, subst, unwrap_or}
+use Rattle.std.proofs.Common.{◌≡◌, subst, unwrap_or}
 use Rattle.std.specs.Prelude.{nat_eq}
 use Rattle.std.specs.Map.{lookup}
 use Rattle.px_spec.specs.Members.{at}
