@@ -1,5 +1,5 @@
 -- What a quotient says whose tables were filled from a level.
-use Rattle.std.proofs.Common.{◌≡◌, ℕ, zero, suc, ◌<◌, List, [], ◌∷◌, map, refl, length, Option, Some, is_some, sym, ◌∙◌, ap, inl, inr, slice_get, nat_lt}
+use Rattle.std.proofs.Common.{◌≡◌, ℕ, ◌<◌, List, length, Option, Some, is_some, sym, ◌∙◌, ap, inl, inr, slice_get, nat_lt}
 use Rattle.std.specs.Prelude.{option_and_then}
 use Rattle.std.proofs.lemmas.Bool.{lt-ltb, le-ltb}
 use Rattle.std.proofs.lemmas.Option.{slice_get_within, slice_get_cases}

@@ -1,15 +1,15 @@
 -- A family whose views fit a graph has the keys of that graph.
-use Rattle.std.proofs.Common.{◌≡◌, ℕ, suc, ◌+◌, ◌<◌, List, [], ◌∷◌, length, Option, Some, None, IsSome, is_some, IsTrue, Bool, true, false, true≢false, slice_get, refl, sym, ◌∙◌, ap, subst, arith, inl, inr}
+use Rattle.std.proofs.Common.{◌≡◌, ℕ, suc, ◌+◌, ◌<◌, List, ◌∷◌, length, Option, Some, None, IsSome, is_some, false, true≢false, refl, sym, ◌∙◌, ap, subst}
 use Rattle.px_spec.specs.Graphs.{Graph, has_edge}
 use Rattle.px_spec.specs.Shapes.{shape_of}
-use Rattle.px_spec.specs.Members.{at, has}
+use Rattle.px_spec.specs.Members.{at}
 use Rattle.bisim_spec.specs.Bisimilarity.{Bis}
 use Rattle.bisim_spec.specs.Partitions.{Agrees}
 use Rattle.bisim_spec.specs.Views.{View, ViewFits, support_at}
 use Rattle.bisim_spec.proofs.Supported.{support_joined, joined_support}
-use Rattle.bisim_spec.proofs.Bisimilar.{none_or_some, some_of, is_some_at, bis_sym, bis_node}
+use Rattle.bisim_spec.proofs.Bisimilar.{some_of, is_some_at, bis_sym, bis_node}
 use Rattle.bisim_levels.specs.Keys.{IsKey}
-use Rattle.keyed_quotient.specs.Levels.{KeyedQuotient, key_at, AreKeyed}
+use Rattle.keyed_quotient.specs.Levels.{KeyedQuotient, key_at}
 use Rattle.ak_family.specs.Families.{first_number, IsKeyedBySupports, AreKeyedBySupports, AreParentKeys, IsKeyedFamily, level_at, blocks_at}
 use Rattle.ak_family.proofs.Supported.{same_some}
 

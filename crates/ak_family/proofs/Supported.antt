@@ -1,7 +1,6 @@
 -- Keys as the supports of a level and the level below say.
-use Rattle.std.proofs.Common.{◌≡◌, ℕ, ◌+◌, ◌<◌, List, [], ◌∷◌, Option, Some, None, IsSome, is_some, IsTrue, Bool, true, false, true≢false, slice_get, refl, sym, ◌∙◌, ap, subst, arith, inl, inr}
+use Rattle.std.proofs.Common.{◌≡◌, ℕ, ◌<◌, List, [], ◌∷◌, Option, Some, is_some, IsTrue, true≢false, slice_get, refl, sym, ◌∙◌, ap, subst, inl, inr}
 use Rattle.px_spec.specs.Graphs.{Graph, has_edge}
-use Rattle.px_spec.specs.Shapes.{shape_of}
 use Rattle.px_spec.specs.Members.{at, has}
 use Rattle.bisim_spec.specs.Supports.{edges_between}
 use Rattle.bisim_spec.specs.Views.{SupportTable, support_at}
@@ -12,8 +11,8 @@ use Rattle.quotient_draft.proofs.Puts.{same_number}
 use Rattle.bisim_levels.specs.Sides.{no_neighbours}
 use Rattle.bisim_levels.specs.Keys.{IsKey}
 use Rattle.bisim_levels.specs.Refining.{AreNumbered}
-use Rattle.ak_family.specs.Families.{first_number, IsKeyedBySupports, AreKeyedBySupports}
-use Rattle.ak_family.proofs.Labelled.{MemberKey, member_key}
+use Rattle.ak_family.specs.Families.{first_number, AreKeyedBySupports}
+use Rattle.ak_family.proofs.Labelled.{member_key}
 
 pub same_some : {X : Type 0} (x y : X) → Some x ≡ Some y → x ≡ y
 same_some x y e = cc

@@ -1,11 +1,10 @@
 -- Keys that become those of further blocks, one after another.
-use Rattle.std.proofs.Common.{◌≡◌, ◌≢◌, ℕ, zero, suc, ◌+◌, ◌<◌, ◌≤◌, List, [], ◌∷◌, length, Option, Some, None, slice_get, slice_set, refl, sym, ◌∙◌, ap, subst, arith, inl, inr}
+use Rattle.std.proofs.Common.{◌≡◌, ◌≢◌, ℕ, zero, suc, ◌+◌, ◌<◌, ◌≤◌, List, [], ◌∷◌, length, Some, slice_get, slice_set, refl, sym, ◌∙◌, ap, subst, arith, inl, inr}
 use Rattle.std.specs.List.{zip}
 use Rattle.std.proofs.lemmas.Bool.{cases_lt}
-use Rattle.std.proofs.lemmas.Bool.Decides.{eqb_tells}
 use Rattle.std.proofs.lemmas.Option.{slice_get_within}
 use Rattle.keyed_quotient.proofs.Numbered.{same_some}
-use Rattle.keyed_quotient.specs.Numberings.{Numbering, Leads, Gives, IsNoneBelow, AreApart, GivenBelow}
+use Rattle.keyed_quotient.specs.Numberings.{Numbering, Leads, Gives, AreApart, GivenBelow}
 
 pub set_here : (xs : List ℕ) (i v : ℕ) → i < length xs → slice_get (slice_set xs i v) i ≡ Some v
 set_here [] i v h = absurd (omega (arith, h))

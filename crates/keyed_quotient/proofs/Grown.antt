@@ -1,20 +1,16 @@
 -- Tables that grow leave the keys of blocks.
-use Rattle.std.proofs.Common.{◌≡◌, ℕ, zero, suc, ◌+◌, ◌<◌, ◌≤◌, List, [], ◌∷◌, length, Option, Some, None, IsSome, is_some, cond, slice_get, nat_eq, refl, sym, ◌∙◌, ap, subst, arith, inl, inr}
-use Rattle.std.specs.Map.{lookup, keys_of}
-use Rattle.std.specs.List.{zip}
+use Rattle.std.proofs.Common.{◌≡◌, ℕ, suc, ◌+◌, ◌<◌, ◌≤◌, List, [], ◌∷◌, length, Option, Some, None, IsSome, is_some, slice_get, nat_eq, refl, sym, ◌∙◌, ap, subst, arith, inl, inr}
+use Rattle.std.specs.Map.{lookup}
 use Rattle.std.proofs.lemmas.Bool.{cases_lt}
 use Rattle.std.proofs.lemmas.Cmp.{nat_eq_equiv}
 use Rattle.std.proofs.lemmas.Map.Entries.{lookup_from_place}
-use Rattle.std.proofs.lemmas.Option.{slice_get_within}
 use Rattle.std.specs.Option.{option_or}
 use Rattle.px_spec.specs.Members.{at}
 use Rattle.key_table.specs.Interning.{AreDistinct}
-use Rattle.quotient_draft.specs.Rooms.{HasRoomFor}
-use Rattle.keyed_quotient.specs.Levels.{KeyedQuotient, key_at, AreKeyed}
-use Rattle.keyed_quotient.specs.Changes.{KeyedChanges, labels_as_shown, shown_key, IsKeyedOver, IsKnown, HasKeyRoom}
+use Rattle.keyed_quotient.specs.Levels.{KeyedQuotient, key_at}
+use Rattle.keyed_quotient.specs.Changes.{KeyedChanges, labels_as_shown, IsKeyedOver, IsKnown}
 use Rattle.keyed_quotient.specs.Numberings.{Numbering, numbered_key, keys_from, block_keys, Leads, IsNumbering, Grows}
-use Rattle.keyed_quotient.proofs.Numbered.{test_is, led_key}
-use Rattle.keyed_quotient.proofs.Shown.{zip_got}
+use Rattle.keyed_quotient.proofs.Numbered.{led_key}
 
 pub grows_same : (t : Numbering) → Grows t t
 grows_same t = record { table = λ k key e. e; block_of = λ k b e. e; number_of = λ b k e. e }

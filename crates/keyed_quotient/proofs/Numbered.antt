@@ -1,5 +1,5 @@
 -- Keys lead to blocks, and blocks to their keys.
-use Rattle.std.proofs.Common.{◌≡◌, ◌↔◌, ℕ, zero, suc, ◌+◌, ◌≤◌, List, [], ◌∷◌, length, Option, Some, None, IsSome, is_some, IfSome, Bool, true, false, true≢false, cond, slice_get, refl, sym, ◌∙◌, ap, subst, arith, inl, inr, ◌⊎◌}
+use Rattle.std.proofs.Common.{◌≡◌, ◌↔◌, ℕ, zero, suc, ◌+◌, ◌≤◌, List, [], ◌∷◌, length, Option, Some, None, IsSome, is_some, Bool, true, false, true≢false, cond, slice_get, refl, sym, ◌∙◌, ap, subst, arith, inl, inr, ◌⊎◌}
 use Rattle.std.specs.Prelude.{option_and_then}
 use Rattle.px_spec.specs.Members.{at}
 use Rattle.bisim_spec.proofs.Bisimilar.{some_of}

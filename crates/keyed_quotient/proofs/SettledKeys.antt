@@ -1,5 +1,5 @@
 -- The keys of a draft that is settled.
-use Rattle.std.proofs.Common.{◌≡◌, ◌≢◌, ℕ, zero, suc, ◌+◌, ◌<◌, ◌≤◌, List, [], ◌∷◌, length, Option, Some, None, IsSome, is_some, Bool, true, false, true≢false, cond, slice_get, nat_eq, refl, sym, ◌∙◌, ap, subst, arith, inl, inr, ◌⊎◌}
+use Rattle.std.proofs.Common.{◌≡◌, ◌≢◌, ℕ, zero, suc, ◌+◌, List, [], ◌∷◌, length, Option, Some, None, IsSome, is_some, Bool, true, false, true≢false, cond, slice_get, nat_eq, refl, sym, ◌∙◌, ap, subst, arith, inl, inr, ◌⊎◌}
 use Rattle.std.specs.List.{IsDistinct}
 use Rattle.std.specs.Option.{option_or}
 use Rattle.std.specs.Map.{lookup, keys_of}
@@ -9,15 +9,13 @@ use Rattle.std.proofs.lemmas.Map.Keys.{IsDistinct-head, IsDistinct-tail}
 use Rattle.std.proofs.lemmas.Option.{slice_get_within}
 use Rattle.px_spec.specs.Members.{at}
 use Rattle.key_table.specs.Interning.{AreDistinct}
-use Rattle.bisim_spec.specs.Views.{View}
 use Rattle.bisim_spec.proofs.Bisimilar.{some_of}
-use Rattle.quotient.specs.Quotients.{Quotient, view_of}
 use Rattle.quotient_draft.proofs.Written.{absent_key}
-use Rattle.quotient_draft.specs.Drafts.{has_member, inhabited_from, settled_view}
-use Rattle.keyed_quotient.specs.Levels.{KeyedQuotient, key_at, AreKeyed}
-use Rattle.keyed_quotient.specs.Changes.{KeyedChanges, blocks_as_shown, labels_as_shown, shown_key, settled_key, IsKeyedOver, IsSettled}
+use Rattle.quotient_draft.specs.Drafts.{has_member, inhabited_from}
+use Rattle.keyed_quotient.specs.Levels.{KeyedQuotient, key_at}
+use Rattle.keyed_quotient.specs.Changes.{KeyedChanges, blocks_as_shown, labels_as_shown, shown_key, settled_key, IsKeyedOver}
 use Rattle.keyed_quotient.specs.Numberings.{Numbering, numbered_key, block_keys, Leads, IsNumbering, AreApart, GivenBelow, IsNoneBelow}
-use Rattle.keyed_quotient.proofs.Numbered.{test_is, same_some, block_key, led_key, leads_there}
+use Rattle.keyed_quotient.proofs.Numbered.{test_is, block_key, led_key, leads_there}
 use Rattle.keyed_quotient.proofs.Shown.{number_is}
 
 none_left : (t : Bool) (o : Option ℕ) → o ≡ None → cond t o None ≡ o

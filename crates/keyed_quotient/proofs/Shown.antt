@@ -1,6 +1,6 @@
 -- Keys as shown by a draft.
-use Rattle.std.proofs.Common.{◌≡◌, ◌≢◌, ◌↔◌, ℕ, zero, suc, ◌+◌, ◌<◌, List, [], ◌∷◌, ◌++◌, length, Option, Some, None, IsSome, is_some, IfSome, IfNone, Bool, true, false, true≢false, cond, nat_eq, slice_get, refl, sym, ◌∙◌, ap, subst, arith, inl, inr}
-use Rattle.std.specs.List.{zip, IsDistinct, list_any}
+use Rattle.std.proofs.Common.{◌≡◌, ◌↔◌, ℕ, zero, suc, ◌<◌, List, [], ◌∷◌, ◌++◌, length, Option, Some, None, IsSome, is_some, IfSome, Bool, true, false, true≢false, cond, nat_eq, slice_get, refl, sym, ◌∙◌, ap, subst, arith, inl, inr}
+use Rattle.std.specs.List.{zip, IsDistinct}
 use Rattle.std.specs.Option.{option_or}
 use Rattle.std.specs.Map.{lookup, keys_of}
 use Rattle.std.proofs.lemmas.Cmp.{nat_eq_equiv}
@@ -9,14 +9,12 @@ use Rattle.std.proofs.lemmas.Map.Keys.{IsDistinct-push}
 use Rattle.std.proofs.lemmas.Option.{slice_get_within}
 use Rattle.std.proofs.lemmas.Bool.Decides.{eqb_tells}
 use Rattle.px_spec.specs.Members.{at, has}
-use Rattle.block_partition.specs.Partitions.{put, IsLeastFree}
+use Rattle.block_partition.specs.Partitions.{put}
 use Rattle.bisim_spec.proofs.Bisimilar.{some_of}
-use Rattle.key_table.specs.Interning.{IsAbsent, AreDistinct}
-use Rattle.quotient.specs.Quotients.{Quotient}
-use Rattle.quotient_draft.specs.Drafts.{Drafted, shown_labels, with_added}
+use Rattle.key_table.specs.Interning.{IsAbsent}
+use Rattle.quotient_draft.specs.Drafts.{Drafted, with_added}
 use Rattle.quotient_draft.specs.Basis.{IsOver}
-use Rattle.quotient_draft.proofs.Puts.{at_put, same_number}
-use Rattle.quotient_draft.proofs.Scanned.{added_some}
+use Rattle.quotient_draft.proofs.Puts.{at_put}
 use Rattle.keyed_quotient.specs.Levels.{KeyedQuotient, key_at, AreKeyed}
 use Rattle.keyed_quotient.specs.Changes.{KeyedChanges, no_keyed_changes, labels_as_shown, shown_key, IsKeyedOver}
 use Rattle.keyed_quotient.proofs.Numbered.{test_is, same_some}

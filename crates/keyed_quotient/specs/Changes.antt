@@ -1,10 +1,9 @@
 -- What is drafted over a quotient whose blocks have keys.
-use Rattle.std.specs.Prelude.{ℕ, ◌≡◌, ◌<◌, Bool, false, List, [], Option, None, Some, IsSome, IsTrue, cond, nat_eq, slice_get}
+use Rattle.std.specs.Prelude.{ℕ, ◌≡◌, ◌<◌, false, List, [], Option, None, Some, IsSome, IsTrue, cond, nat_eq, slice_get}
 use Rattle.std.specs.List.{IsDistinct}
 use Rattle.std.specs.Option.{option_or}
 use Rattle.std.specs.Map.{lookup, keys_of}
 use Rattle.px_spec.specs.Members.{at}
-use Rattle.bisim_spec.specs.Views.{View}
 use Rattle.quotient.specs.Quotients.{view_of}
 use Rattle.quotient_draft.specs.Drafts.{Drafted, no_changes, has_member, shown_blocks, shown_labels, shown_support, settled_view}
 use Rattle.quotient_draft.specs.Basis.{IsOver}

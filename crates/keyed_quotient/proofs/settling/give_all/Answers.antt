@@ -1,4 +1,4 @@
-use Rattle.std.proofs.Common.{ℕ, List, ◌<◌, ◌≤◌, length, sym, subst, arith, ap, ◌∙◌}
+use Rattle.std.proofs.Common.{ℕ, List, ◌<◌, sym, subst, arith}
 use Rattle.keyed_quotient.specs.Changes.{IsKnown}
 use Rattle.std.specs.List.{zip}
 use Rattle.keyed_quotient.proofs.Shown.{zip_get}

@@ -1,4 +1,4 @@
-use Rattle.std.proofs.Common.{◌∙◌, ap, sym, length, List, arith, ◌≤◌}
+use Rattle.std.proofs.Common.{◌∙◌, ap, sym, length, List, arith}
 use Rattle.keyed_quotient.specs.Changes.{KeyedChanges}
 use Rattle.ak_family.proofs.Drafted.{empty_over, cleared_all}
 use Rattle.ak_family.proofs.drafting.AkDraft.clear.Goals as goal

@@ -1,5 +1,5 @@
-use Rattle.std.proofs.Common.{◌≡◌, ◌∙◌, ◌+◌, ap, sym, subst, length, ℕ, arith}
-use Rattle.ak_family.proofs.Drafted.{AreNone, empty_over, none_next}
+use Rattle.std.proofs.Common.{◌≡◌, ◌∙◌, ◌+◌, sym, length, arith}
+use Rattle.ak_family.proofs.Drafted.{empty_over, none_next}
 use Rattle.ak_family.proofs.drafting.AkDraft.new.Goals as goal
 
 pub loop-preserved : goal.loop-preserved

@@ -1,4 +1,4 @@
-use Rattle.std.proofs.Common.{ℕ, List, ap, subst, sym, arith}
+use Rattle.std.proofs.Common.{subst, sym, arith}
 use Rattle.std.proofs.lemmas.Option.{slice_get_within}
 use Rattle.keyed_quotient.specs.Changes.{KeyedChanges}
 use Rattle.std.specs.List.{IsDistinct}

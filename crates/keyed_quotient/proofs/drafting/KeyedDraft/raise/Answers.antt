@@ -1,12 +1,8 @@
-use Rattle.std.proofs.Common.{ℕ, List, ◌≡◌, ◌<◌, ◌≤◌, Option, Some, None, length, ◌∙◌, ap, refl, sym, subst, arith, slice_get}
+use Rattle.std.proofs.Common.{length, refl, sym, subst}
 use Rattle.std.specs.List.{zip}
-use Rattle.std.specs.Prelude.{IsSome}
-use Rattle.px_spec.specs.Members.{at}
-use Rattle.bisim_spec.specs.Views.{View}
-use Rattle.quotient_draft.specs.Drafts.{Drafted, with_added}
 use Rattle.keyed_quotient.specs.Levels.{KeyedQuotient}
-use Rattle.keyed_quotient.specs.Changes.{KeyedChanges, IsKeyedOver, IsKnown, HasKeyRoom, IsSettled, shown_key, labels_as_shown}
-use Rattle.keyed_quotient.specs.Numberings.{Numbering, block_keys, AreApart, GivenBelow, IsNumbering, Grows}
+use Rattle.keyed_quotient.specs.Changes.{KeyedChanges, IsKeyedOver}
+use Rattle.keyed_quotient.specs.Numberings.{block_keys}
 use Rattle.keyed_quotient.proofs.Shown.{over_kept}
 use Rattle.keyed_quotient.proofs.drafting.KeyedDraft.raise.Goals as goal
 

@@ -1,12 +1,9 @@
-use Rattle.std.proofs.Common.{ℕ, List, ◌≡◌, ◌<◌, ◌≤◌, Option, Some, None, length, ◌∙◌, ap, refl, sym, subst, arith, slice_get}
+use Rattle.std.proofs.Common.{ℕ, List, ◌≡◌, ◌<◌, Some, length, ap, refl, sym, subst, slice_get}
 use Rattle.std.specs.List.{zip}
-use Rattle.std.specs.Prelude.{IsSome}
-use Rattle.px_spec.specs.Members.{at}
 use Rattle.bisim_spec.specs.Views.{View}
-use Rattle.quotient_draft.specs.Drafts.{Drafted, with_added}
 use Rattle.keyed_quotient.specs.Levels.{KeyedQuotient}
-use Rattle.keyed_quotient.specs.Changes.{KeyedChanges, IsKeyedOver, IsKnown, HasKeyRoom, IsSettled, shown_key, labels_as_shown}
-use Rattle.keyed_quotient.specs.Numberings.{Numbering, block_keys, AreApart, GivenBelow, IsNumbering, Grows}
+use Rattle.keyed_quotient.specs.Changes.{KeyedChanges, IsKeyedOver, IsKnown, HasKeyRoom, IsSettled}
+use Rattle.keyed_quotient.specs.Numberings.{block_keys, AreApart, GivenBelow}
 use Rattle.keyed_quotient.proofs.SettledKeys.{drafts_apart, settled_numbering, settled_keys}
 use Rattle.keyed_quotient.proofs.drafting.KeyedDraft.settle.Goals as goal
 
