@@ -1,0 +1,5 @@
+pub mod EngineLemmas
+pub mod EngineCalls
+pub mod TakenLemmas
+pub mod FrontLemmas
+pub mod ReachedLemmas

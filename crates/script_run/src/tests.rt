@@ -1,0 +1,2 @@
+// Scripts in both printings.
+use super::*;
