@@ -1,9 +1,9 @@
 -- The forms of worked words, and laws on words that are of no form.
 use Rattle.std.proofs.Common.{◌≡◌, ◌∙◌, ℕ, List, [], ◌∷◌, Option, Some, None, true, false, codes, refl, ap}
 use Rattle.clap.proofs.OnLiterals.{clap_on_literals}
-use Rattle.command_line.specs.Forms.{Form, neither, runs}
-use Rattle.command_line.specs.Givens.{level_of, run_with}
-use Rattle.command_line.specs.Usage.{IsPlainText}
+use Rattle.command_line.specs.Forms.{Form, makes, neither, runs}
+use Rattle.command_line.specs.Givens.{level_of, make_with, run_with, seed_of}
+use Rattle.command_line.specs.Usage.{IsPlainText, of_script, of_seed}
 use Rattle.command_line.specs.Words.{form_of, form_read}
 use Rattle.command_line.proofs.Marks.{read_marked}
 use Rattle.command_line.proofs.Usages.{plain_form}
@@ -37,6 +37,18 @@ both_flags = refl
 flag_first : form_of (codes "--without-fb" ∷ codes "s" ∷ []) ≡ runs (record { script = codes "s"; graph = None; k = 2; without_one = false; without_fb = true })
 unfolding clap_on_literals
 flag_first = refl
+
+seed_alone : form_of (codes "--make" ∷ codes "1" ∷ []) ≡ makes 1
+unfolding clap_on_literals
+seed_alone = refl
+
+seed_with_zeros : form_of (codes "--make" ∷ codes "00000000000000000001" ∷ []) ≡ makes 1
+unfolding clap_on_literals
+seed_with_zeros = refl
+
+greatest_seed : form_of (codes "--make" ∷ codes "18446744073709551615" ∷ []) ≡ makes 18446744073709551615
+unfolding clap_on_literals
+greatest_seed = refl
 
 -- what clap offers beside the usage line's words
 with_equals_sign : form_of (codes "s" ∷ codes "--graph=g" ∷ []) ≡ run_of (Some (codes "g")) 2
@@ -75,7 +87,7 @@ two_digits : form_of (codes "s" ∷ codes "--k" ∷ codes "02" ∷ []) ≡ neith
 unfolding clap_on_literals
 two_digits = refl
 
-unknown_option : form_of (codes "--make" ∷ codes "1" ∷ []) ≡ neither
+unknown_option : form_of (codes "s" ∷ codes "--deep" ∷ []) ≡ neither
 unfolding clap_on_literals
 unknown_option = refl
 
@@ -86,6 +98,38 @@ flag_with_text = refl
 flag_twice : form_of (codes "s" ∷ codes "--without-one" ∷ codes "--without-one" ∷ []) ≡ neither
 unfolding clap_on_literals
 flag_twice = refl
+
+seed_too_great : form_of (codes "--make" ∷ codes "18446744073709551616" ∷ []) ≡ neither
+unfolding clap_on_literals
+seed_too_great = refl
+
+seed_too_long : form_of (codes "--make" ∷ codes "000000000000000000001" ∷ []) ≡ neither
+unfolding clap_on_literals
+seed_too_long = refl
+
+seed_with_sign : form_of (codes "--make" ∷ codes "+1" ∷ []) ≡ neither
+unfolding clap_on_literals
+seed_with_sign = refl
+
+empty_seed : form_of (codes "--make" ∷ [] ∷ []) ≡ neither
+unfolding clap_on_literals
+empty_seed = refl
+
+seed_and_graph : form_of (codes "--make" ∷ codes "1" ∷ codes "--graph" ∷ codes "g" ∷ []) ≡ neither
+unfolding clap_on_literals
+seed_and_graph = refl
+
+seed_and_level : form_of (codes "--make" ∷ codes "1" ∷ codes "--k" ∷ codes "2" ∷ []) ≡ neither
+unfolding clap_on_literals
+seed_and_level = refl
+
+seed_and_flag : form_of (codes "--make" ∷ codes "1" ∷ codes "--without-one" ∷ []) ≡ neither
+unfolding clap_on_literals
+seed_and_flag = refl
+
+seed_and_other_flag : form_of (codes "--without-fb" ∷ codes "--make" ∷ codes "1" ∷ []) ≡ neither
+unfolding clap_on_literals
+seed_and_other_flag = refl
 
 no_script : form_of (codes "--graph" ∷ codes "g" ∷ []) ≡ neither
 unfolding clap_on_literals
@@ -120,4 +164,13 @@ repeated_level s m n p q r =
 -- a text that names no level
 no_level : (s n : List ℕ) → IsPlainText s → IsPlainText n → level_of n ≡ None → form_of (s ∷ codes "--k" ∷ n ∷ []) ≡ neither
 no_level s n p q none =
-    plain_form (record { script = s; graph = None; k = Some n; without_one = false; without_fb = false }) (p, tt, q) ∙ ap (λ level. run_with (Some s) None level false false) none
+    plain_form (of_script (record { script = s; graph = None; k = Some n; without_one = false; without_fb = false })) (p, tt, q) ∙ ap (λ level. run_with (Some s) None level false false) none
+
+-- a script beside a seed
+seed_and_script : (s t : List ℕ) → IsPlainText s → IsPlainText t → form_of (codes "--make" ∷ t ∷ s ∷ []) ≡ neither
+unfolding clap_on_literals
+seed_and_script s t p q = ap form_read (read_marked ((false, codes "--make") ∷ (true, t) ∷ (true, s) ∷ []) (q, (p, tt)))
+
+-- a text that names no seed
+no_seed : (t : List ℕ) → IsPlainText t → seed_of t ≡ None → form_of (codes "--make" ∷ t ∷ []) ≡ neither
+no_seed t p none = plain_form (of_seed t) p ∙ ap make_with none

@@ -1,8 +1,8 @@
 -- What clap reads of the usage line's words, and of those without flags in each order.
-use Rattle.std.proofs.Common.{◌≡◌, ◌∙◌, ℕ, Bool, List, [], ◌∷◌, ◌++◌, Option, Some, None, true, false, codes, ap}
+use Rattle.std.proofs.Common.{◌≡◌, ℕ, Bool, List, [], ◌∷◌, ◌++◌, Option, Some, None, true, false, codes, ap}
 use Rattle.std.specs.Prelude.{IfSome}
 use Rattle.clap.proofs.OnLiterals.{clap_on_literals}
-use Rattle.command_line.specs.Usage.{HasPlainTexts, IsPlainText, Order, Usage, flagless, given_by, words_in, words_of}
+use Rattle.command_line.specs.Usage.{HasPlain, HasPlainTexts, IsPlainText, Order, ScriptUsage, Usage, of_script, of_seed, flagless, given_by, given_seed, given_with, words_in, words_of}
 use Rattle.command_line.specs.Usage.{script_level_graph, graph_script_level, graph_level_script, level_script_graph, level_graph_script}
 use Rattle.command_line.specs.Words.{form_of, form_read, read}
 use Rattle.command_line.specs.Givens.{form_given}
@@ -16,36 +16,36 @@ abbrev flag_marks : List ℕ → Bool → List Marked
 flag_marks name false = []
 flag_marks name true = (false, name) ∷ []
 
-abbrev script_marks : Usage → List Marked
+abbrev script_marks : ScriptUsage → List Marked
 script_marks u = (true, u.script) ∷ []
 
-abbrev graph_marks : Usage → List Marked
+abbrev graph_marks : ScriptUsage → List Marked
 graph_marks u = option_marks (codes "--graph") u.graph
 
-abbrev level_marks : Usage → List Marked
+abbrev level_marks : ScriptUsage → List Marked
 level_marks u = option_marks (codes "--k") u.k
 
-abbrev one_marks : Usage → List Marked
+abbrev one_marks : ScriptUsage → List Marked
 one_marks u = flag_marks (codes "--without-one") u.without_one
 
-abbrev fb_marks : Usage → List Marked
+abbrev fb_marks : ScriptUsage → List Marked
 fb_marks u = flag_marks (codes "--without-fb") u.without_fb
 
-abbrev marks_of : Usage → List Marked
+abbrev marks_of : ScriptUsage → List Marked
 marks_of u = script_marks u ++ (graph_marks u ++ (level_marks u ++ (one_marks u ++ fb_marks u)))
 
-abbrev marks_in : Order → Usage → List Marked
+abbrev marks_in : Order → ScriptUsage → List Marked
 marks_in script_level_graph u = script_marks u ++ (level_marks u ++ graph_marks u)
 marks_in graph_script_level u = graph_marks u ++ (script_marks u ++ level_marks u)
 marks_in graph_level_script u = graph_marks u ++ (level_marks u ++ script_marks u)
 marks_in level_script_graph u = level_marks u ++ (script_marks u ++ graph_marks u)
 marks_in level_graph_script u = level_marks u ++ (graph_marks u ++ script_marks u)
 
-abbrev used : List ℕ → Option (List ℕ) → Option (List ℕ) → Bool → Bool → Usage
+abbrev used : List ℕ → Option (List ℕ) → Option (List ℕ) → Bool → Bool → ScriptUsage
 used script graph k one fb = record { script = script; graph = graph; k = k; without_one = one; without_fb = fb }
 
 plain_by_parts : (s : List ℕ) (g k : Option (List ℕ)) (one fb : Bool) → IsPlainText s → IfSome g IsPlainText → IfSome k IsPlainText
-    → read (words_of (used s g k one fb)) ≡ Some (given_by (used s g k one fb))
+    → read (words_of (of_script (used s g k one fb))) ≡ Some (given_with (used s g k one fb))
 unfolding clap_on_literals
 plain_by_parts s None None false false p q r = read_marked (marks_of (used s None None false false)) (p, tt)
 plain_by_parts s None None false true p q r = read_marked (marks_of (used s None None false true)) (p, tt)
@@ -64,12 +64,17 @@ plain_by_parts s (Some g) (Some k) false true p q r = read_marked (marks_of (use
 plain_by_parts s (Some g) (Some k) true false p q r = read_marked (marks_of (used s (Some g) (Some k) true false)) (p, (q, (r, tt)))
 plain_by_parts s (Some g) (Some k) true true p q r = read_marked (marks_of (used s (Some g) (Some k) true true)) (p, (q, (r, tt)))
 
+seed_read : (seed : List ℕ) → IsPlainText seed → read (words_of (of_seed seed)) ≡ Some (given_seed seed)
+unfolding clap_on_literals
+seed_read seed plain = read_marked ((false, codes "--make") ∷ (true, seed) ∷ []) (plain, tt)
+
 -- plain words are taken, with just these texts
 pub plain_read : (u : Usage) → HasPlainTexts u → read (words_of u) ≡ Some (given_by u)
-plain_read u plain = plain_by_parts u.script u.graph u.k u.without_one u.without_fb plain.0 plain.1 plain.2
+plain_read (of_script u) plain = plain_by_parts u.script u.graph u.k u.without_one u.without_fb plain.0 plain.1 plain.2
+plain_read (of_seed seed) plain = seed_read seed plain
 
 reordered_by_parts : (o : Order) (s : List ℕ) (g k : Option (List ℕ)) (one fb : Bool) → IsPlainText s → IfSome g IsPlainText → IfSome k IsPlainText
-    → read (words_in o (used s g k one fb)) ≡ Some (given_by (used s g k false false))
+    → read (words_in o (used s g k one fb)) ≡ Some (given_with (used s g k false false))
 unfolding clap_on_literals
 reordered_by_parts script_level_graph s None None one fb p q r = read_marked (marks_in script_level_graph (used s None None false false)) (p, tt)
 reordered_by_parts script_level_graph s None (Some k) one fb p q r = read_marked (marks_in script_level_graph (used s None (Some k) false false)) (p, (r, tt))
@@ -96,5 +101,5 @@ pub plain_form : (u : Usage) → HasPlainTexts u → form_of (words_of u) ≡ fo
 plain_form u plain = ap form_read (plain_read u plain)
 
 -- so are words without flags in another order
-pub reordered_form : (o : Order) (u : Usage) → HasPlainTexts u → form_of (words_in o u) ≡ form_given (given_by (flagless u))
+pub reordered_form : (o : Order) (u : ScriptUsage) → HasPlain u → form_of (words_in o u) ≡ form_given (given_with (flagless u))
 reordered_form o u plain = ap form_read (reordered_by_parts o u.script u.graph u.k u.without_one u.without_fb plain.0 plain.1 plain.2)

@@ -16,10 +16,13 @@ pub record Settings : Type 0 where
 pub data Form : Type 0 where
   -- a script is run
   runs : Settings → Form
+  -- the texts that are made from this seed are run
+  makes : ℕ → Form
   -- the words are of no form
   neither : Form
 
 -- a level, where there is one, is at most 8
 abbrev pub HasLevel : Form → Type 0
 HasLevel (runs s) = s.k ≤ 8
+HasLevel (makes seed) = ⊤
 HasLevel neither = ⊤

@@ -1,12 +1,16 @@
 -- What stands on the command line, and which form that is.
-use Rattle.std.specs.Prelude.{ℕ, ◌-◌, ◌&&◌, nat_le, Bool, if◌then◌else◌, List, [], ◌∷◌, Option, Some, None}
-use Rattle.command_line.specs.Forms.{Form, runs, neither}
+use Rattle.std.specs.Prelude.{ℕ, ◌-◌, ◌^◌, ◌&&◌, ◌||◌, nat_le, nat_lt, Bool, if◌then◌else◌, List, [], ◌∷◌, length, Option, Some, None, is_some}
+use Rattle.std.specs.List.{list_all}
+use Rattle.std.specs.Char.{is_ascii_digit}
+use Rattle.std.specs.Str.Parse.{digits_value}
+use Rattle.command_line.specs.Forms.{Form, runs, makes, neither}
 
 -- the text of each argument, if it is there, and which flags are
 pub record Given : Type 0 where
   pub script : Option (List ℕ)
   pub graph : Option (List ℕ)
   pub k : Option (List ℕ)
+  pub make : Option (List ℕ)
   pub without_one : Bool
   pub without_fb : Bool
 
@@ -28,5 +32,27 @@ run_with (Some script) graph None without_one without_fb = neither
 run_with (Some script) graph (Some level) without_one without_fb =
     runs (record { script = script; graph = graph; k = level; without_one = without_one; without_fb = without_fb })
 
+-- 1 to 20 decimal digits, leading zeros allowed
+abbrev pub is_numeral : List ℕ → Bool
+is_numeral text = nat_le 1 (length text) && nat_le (length text) 20 && list_all is_ascii_digit text
+
+-- the seed that the text names: the number that it writes in decimal, of 64 bits
+abbrev pub seed_of : List ℕ → Option ℕ
+seed_of text = if is_numeral text && nat_lt (digits_value 10 text) (2 ^ 64) then Some (digits_value 10 text) else None
+
+-- something else is given than a seed
+abbrev pub has_others : Given → Bool
+has_others g = is_some g.script || is_some g.graph || is_some g.k || g.without_one || g.without_fb
+
+-- a seed alone
+abbrev pub make_with : Option ℕ → Form
+make_with None = neither
+make_with (Some seed) = makes seed
+
+-- the texts that are made from a seed, or a script
+abbrev pub form_with : Option (List ℕ) → Given → Form
+form_with None g = run_with g.script g.graph (level_or_default g.k) g.without_one g.without_fb
+form_with (Some text) g = if has_others g then neither else make_with (seed_of text)
+
 abbrev pub form_given : Given → Form
-form_given g = run_with g.script g.graph (level_or_default g.k) g.without_one g.without_fb
+form_given g = form_with g.make g

@@ -2,11 +2,11 @@
 use Rattle.std.specs.Prelude.{◌≡◌, ℕ, List, Option, Some, None, option_map, true, false}
 use Rattle.clap.specs.Words.{found_of, matches_of, rows_of}
 use Rattle.clap.specs.declared.parser.matches.ArgMatches.{ArgMatches}
-use Rattle.command_line.specs.Forms.{Form, Settings, runs, neither}
+use Rattle.command_line.specs.Forms.{Form, Settings, runs, makes, neither}
 use Rattle.command_line.specs.Givens.{Given}
 use Rattle.command_line.specs.Words.{command, is_accepted}
 use Rattle.command_line.specs.declared.form.Form.{Form as FormSeen}
-use Rattle.command_line.specs.declared.form.Form.TheVariants.{Run, Neither}
+use Rattle.command_line.specs.declared.form.Form.TheVariants.{Run, Make, Neither}
 use Rattle.command_line.specs.declared.form.Settings.{Settings as SettingsSeen}
 use Rattle.command_line.specs.declared.given.Given.{Given as GivenSeen}
 
@@ -15,6 +15,7 @@ shown_settings s = record { script = s.script.now; graph = option_map (λ t. t.n
 
 abbrev pub shown_form : FormSeen → Form
 shown_form (Run s) = runs (shown_settings s)
+shown_form (Make seed) = makes seed
 shown_form Neither = neither
 
 abbrev pub shown_given : GivenSeen → Given
@@ -22,6 +23,7 @@ shown_given g = record {
   script = option_map (λ t. t.now) g.script;
   graph = option_map (λ t. t.now) g.graph;
   k = option_map (λ t. t.now) g.k;
+  make = option_map (λ t. t.now) g.make;
   without_one = g.without_one;
   without_fb = g.without_fb;
 }

@@ -3,12 +3,17 @@ use Rattle.std.specs.Prelude.{ℕ, ◌≢◌, Bool, true, false, List, [], ◌�
 use Rattle.command_line.specs.Givens.{Given}
 
 -- SCRIPT [--graph FILE] [--k N] [--without-one] [--without-fb]
-pub record Usage : Type 0 where
+pub record ScriptUsage : Type 0 where
   pub script : List ℕ
   pub graph : Option (List ℕ)
   pub k : Option (List ℕ)
   pub without_one : Bool
   pub without_fb : Bool
+
+-- one alternative of the usage line: a script, or --make SEED
+pub data Usage : Type 0 where
+  of_script : ScriptUsage → Usage
+  of_seed : List ℕ → Usage
 
 -- an option and its text
 abbrev pub option_words : List ℕ → Option (List ℕ) → List (List ℕ)
@@ -20,26 +25,27 @@ abbrev pub flag_words : List ℕ → Bool → List (List ℕ)
 flag_words name false = []
 flag_words name true = name ∷ []
 
-abbrev pub script_words : Usage → List (List ℕ)
+abbrev pub script_words : ScriptUsage → List (List ℕ)
 script_words u = u.script ∷ []
 
-abbrev pub graph_words : Usage → List (List ℕ)
+abbrev pub graph_words : ScriptUsage → List (List ℕ)
 graph_words u = option_words (codes "--graph") u.graph
 
-abbrev pub level_words : Usage → List (List ℕ)
+abbrev pub level_words : ScriptUsage → List (List ℕ)
 level_words u = option_words (codes "--k") u.k
 
-abbrev pub one_words : Usage → List (List ℕ)
+abbrev pub one_words : ScriptUsage → List (List ℕ)
 one_words u = flag_words (codes "--without-one") u.without_one
 
-abbrev pub fb_words : Usage → List (List ℕ)
+abbrev pub fb_words : ScriptUsage → List (List ℕ)
 fb_words u = flag_words (codes "--without-fb") u.without_fb
 
 -- in the order of the usage line
 abbrev pub words_of : Usage → List (List ℕ)
-words_of u = script_words u ++ (graph_words u ++ (level_words u ++ (one_words u ++ fb_words u)))
+words_of (of_script u) = script_words u ++ (graph_words u ++ (level_words u ++ (one_words u ++ fb_words u)))
+words_of (of_seed seed) = codes "--make" ∷ seed ∷ []
 
--- the other orders of words without flags
+-- the other orders of a script's words without flags
 pub data Order : Type 0 where
   script_level_graph : Order
   graph_script_level : Order
@@ -47,7 +53,7 @@ pub data Order : Type 0 where
   level_script_graph : Order
   level_graph_script : Order
 
-abbrev pub words_in : Order → Usage → List (List ℕ)
+abbrev pub words_in : Order → ScriptUsage → List (List ℕ)
 words_in script_level_graph u = script_words u ++ (level_words u ++ graph_words u)
 words_in graph_script_level u = graph_words u ++ (script_words u ++ level_words u)
 words_in graph_level_script u = graph_words u ++ (level_words u ++ script_words u)
@@ -55,11 +61,19 @@ words_in level_script_graph u = level_words u ++ (script_words u ++ graph_words 
 words_in level_graph_script u = level_words u ++ (graph_words u ++ script_words u)
 
 -- just these texts and flags
+abbrev pub given_with : ScriptUsage → Given
+given_with u = record { script = Some u.script; graph = u.graph; k = u.k; make = None; without_one = u.without_one; without_fb = u.without_fb }
+
+-- just this seed
+abbrev pub given_seed : List ℕ → Given
+given_seed seed = record { script = None; graph = None; k = None; make = Some seed; without_one = false; without_fb = false }
+
 abbrev pub given_by : Usage → Given
-given_by u = record { script = Some u.script; graph = u.graph; k = u.k; without_one = u.without_one; without_fb = u.without_fb }
+given_by (of_script u) = given_with u
+given_by (of_seed seed) = given_seed seed
 
 -- the texts without the flags
-abbrev pub flagless : Usage → Usage
+abbrev pub flagless : ScriptUsage → ScriptUsage
 flagless u = record u { without_one = false; without_fb = false }
 
 -- not empty, and no hyphen (45) first
@@ -67,5 +81,9 @@ abbrev pub IsPlainText : List ℕ → Type 0
 IsPlainText [] = ⊥
 IsPlainText (b ∷ bs) = b ≢ 45
 
+abbrev pub HasPlain : ScriptUsage → Type 0
+HasPlain u = IsPlainText u.script × IfSome u.graph IsPlainText × IfSome u.k IsPlainText
+
 abbrev pub HasPlainTexts : Usage → Type 0
-HasPlainTexts u = IsPlainText u.script × IfSome u.graph IsPlainText × IfSome u.k IsPlainText
+HasPlainTexts (of_script u) = HasPlain u
+HasPlainTexts (of_seed seed) = IsPlainText seed

@@ -24,9 +24,9 @@ bare = on_top (λ s. record s { no_binary_name = true }) (new_app (codes "pathin
 abbrev pub texts : App
 texts = with_rule (with_rule (with_rule bare (new_rule (codes "script"))) (option_rule (codes "graph"))) (option_rule (codes "k"))
 
--- and two flags
+-- the option --make, and two flags
 abbrev pub command : App
-command = with_rule (with_rule texts (flag_rule (codes "without-one"))) (flag_rule (codes "without-fb"))
+command = with_rule (with_rule (with_rule texts (option_rule (codes "make"))) (flag_rule (codes "without-one"))) (flag_rule (codes "without-fb"))
 
 abbrev pub is_no_fault : Kinds → Bool
 is_no_fault [] = true
@@ -47,6 +47,7 @@ given_in rows = record {
   script = first_of (codes "script") rows;
   graph = first_of (codes "graph") rows;
   k = first_of (codes "k") rows;
+  make = first_of (codes "make") rows;
   without_one = is_set (first_of (codes "without-one") rows);
   without_fb = is_set (first_of (codes "without-fb") rows);
 }

@@ -1,10 +1,13 @@
 // What the command line asks for.
-ghost use Rattle.std.specs.Prelude.{◌≡◌, IfOk, false, map, option_map, string_bytes};
+ghost use Rattle.std.specs.Prelude.{◌≡◌, IfOk, None, Some, false, map, option_map, string_bytes};
+ghost use Rattle.std.specs.Char.{is_ascii_digit};
+ghost use Rattle.std.specs.List.{list_all};
 ghost use Rattle.command_line.specs.Forms.{neither, HasLevel};
-ghost use Rattle.command_line.specs.Givens.{form_given, level_or_default as level_given, level_of as level_in};
-ghost use Rattle.command_line.specs.Words.{form_of, form_read, is_accepted};
+ghost use Rattle.command_line.specs.Givens.{form_given, form_with, level_or_default as level_given, level_of as level_in};
+ghost use Rattle.command_line.specs.Givens.{has_others as others_given, is_numeral as numeral_given, seed_of as seed_given};
+ghost use Rattle.command_line.specs.Words.{form_of as form_said, form_read, is_accepted};
 ghost use Rattle.command_line.specs.Shown.{shown_form, shown_given};
-ghost use Rattle.command_line.specs.Usage.{HasPlainTexts, Order, Usage, flagless, given_by, words_in, words_of};
+ghost use Rattle.command_line.specs.Usage.{HasPlain, HasPlainTexts, Order, ScriptUsage, Usage, flagless, given_by, given_with, words_in, words_of};
 
 use crate::given::{Given, read_given};
 use px_base::Memory;
@@ -30,6 +33,8 @@ pub struct Settings<'a> {
 pub enum Form<'a> {
     /// A script is run.
     Run(Settings<'a>),
+    /// The texts that are made from this seed are run.
+    Make(u64),
     /// The words are of no form.
     Neither,
 }
@@ -55,7 +60,7 @@ fn level_or_default(text: Option<&str>) -> Option<u32>
 }
 
 fn run_with<'a>(given: &Given<'a>) -> Form<'a>
-    ensures { shown_form result ≡ form_given (shown_given given.now) }
+    ensures { shown_form result ≡ form_with None (shown_given given.now) }
 {
     let Some(script) = given.script else {
         return Form::Neither;
@@ -72,24 +77,83 @@ fn run_with<'a>(given: &Given<'a>) -> Form<'a>
     }
 }
 
+fn are_digits(bytes: &[u8]) -> bool
+    ensures { result ≡ list_all is_ascii_digit bytes.now }
+{
+    bytes.iter().all(u8::is_ascii_digit)
+}
+
+// Whether the text is a numeral of at most 20 digits, as each number of 64 bits has one.
+fn is_numeral(text: &str) -> bool
+    ensures { result ≡ numeral_given text.now }
+{
+    1 <= text.len() && text.len() <= 20 && are_digits(text.as_bytes())
+}
+
+// The seed that the text names: a number of 64 bits in decimal.
+fn seed_of(text: &str) -> Option<u64>
+    ensures { result ≡ seed_given text.now }
+{
+    if !is_numeral(text) {
+        return None;
+    }
+    match text.parse::<u64>() {
+        Ok(seed) => Some(seed),
+        Err(_) => None,
+    }
+}
+
+// Whether something else is given than a seed.
+fn has_others(given: &Given) -> bool
+    ensures { result ≡ others_given (shown_given given.now) }
+{
+    given.script.is_some()
+        || given.graph.is_some()
+        || given.k.is_some()
+        || given.without_one
+        || given.without_fb
+}
+
+fn make_with<'a>(given: &Given<'a>, text: &str) -> Form<'a>
+    ensures { shown_form result ≡ form_with (Some text.now) (shown_given given.now) }
+{
+    if has_others(given) {
+        return Form::Neither;
+    }
+    match seed_of(text) {
+        Some(seed) => Form::Make(seed),
+        None => Form::Neither,
+    }
+}
+
+fn form_of<'a>(given: &Given<'a>) -> Form<'a>
+    ensures { shown_form result ≡ form_given (shown_given given.now) }
+{
+    match given.make {
+        Some(text) => make_with(given, text),
+        None => run_with(given),
+    }
+}
+
 fn judge<'a>(given: Option<Given<'a>>) -> Form<'a>
     ensures { shown_form result ≡ form_read (option_map shown_given given.entry) }
 {
     match given {
-        Some(given) => run_with(&given),
+        Some(given) => form_of(&given),
         None => Form::Neither,
     }
 }
 
 /// What the words after the program's name ask for: `SCRIPT [--graph FILE] [--k N] [--without-one] [--without-fb]`,
-/// where N is one of the words `0` to `8`, and 2 where the option isn't there. The words are those that `clap` reads
-/// for this command. All that it refuses are of no form, a call for help too. The time is linear in the words.
+/// where N is one of the words `0` to `8`, and 2 where the option isn't there; or `--make SEED`, where SEED is 1 to 20
+/// decimal digits of a number below 2^64. The words are those that `clap` reads for this command. All that it refuses
+/// are of no form, a call for help too. The time is linear in the words.
 pub fn read_words<'a>(alloc: Global, words: &'a [String]) -> Result<Form<'a>, Memory>
-    ensures exact { IfOk result (λ f. shown_form f ≡ form_of (map string_bytes words.entry.now)) }
+    ensures exact { IfOk result (λ f. shown_form f ≡ form_said (map string_bytes words.entry.now)) }
     // The words of the usage line, with texts that aren't empty and don't begin with a hyphen, give those texts.
     ensures plain { (u : Usage) → map string_bytes words.entry.now ≡ words_of u → HasPlainTexts u → IfOk result (λ f. shown_form f ≡ form_given (given_by u)) }
-    // So do those without flags in another order.
-    ensures reordered { (u : Usage) (o : Order) → map string_bytes words.entry.now ≡ words_in o u → HasPlainTexts u → IfOk result (λ f. shown_form f ≡ form_given (given_by (flagless u))) }
+    // So do those of a script without flags in another order.
+    ensures reordered { (u : ScriptUsage) (o : Order) → map string_bytes words.entry.now ≡ words_in o u → HasPlain u → IfOk result (λ f. shown_form f ≡ form_given (given_with (flagless u))) }
     ensures refused { is_accepted (map string_bytes words.entry.now) ≡ false → IfOk result (λ f. shown_form f ≡ neither) }
     ensures level { IfOk result (λ f. HasLevel (shown_form f)) }
 {

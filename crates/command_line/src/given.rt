@@ -16,6 +16,7 @@ pub(crate) struct Given<'a> {
     pub(crate) script: Option<&'a str>,
     pub(crate) graph: Option<&'a str>,
     pub(crate) k: Option<&'a str>,
+    pub(crate) make: Option<&'a str>,
     pub(crate) without_one: bool,
     pub(crate) without_fb: bool,
 }
@@ -57,6 +58,7 @@ fn gather<'a>(matches: &ArgMatches<'a>) -> Given<'a>
         script: text_of(matches, "script"),
         graph: text_of(matches, "graph"),
         k: text_of(matches, "k"),
+        make: text_of(matches, "make"),
         without_one: has_flag(matches, "without-one"),
         without_fb: has_flag(matches, "without-fb"),
     }

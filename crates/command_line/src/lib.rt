@@ -1,4 +1,4 @@
-//! The words of the command line, read by `clap` as one simple command: a script, and options with one text.
+//! The words of the command line, read by `clap` as one simple command: a script, options with one text, and flags.
 #![tactic(auto)]
 
 mod form;

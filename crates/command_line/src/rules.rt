@@ -41,11 +41,12 @@ fn text_command<'a>(alloc: Global) -> Result<Command<'a>, AllocError>
         .arg(text_option(alloc, "k"))
 }
 
-// The whole command. Neither its script nor an option is required.
+// The whole command. Neither its script nor an option is required, and no rule stands between them.
 pub(crate) fn make_command<'a>(alloc: Global) -> Result<Command<'a>, AllocError>
     ensures { IfOk result (λ c. app_of c ≡ command) }
 {
     text_command(alloc)?
+        .arg(text_option(alloc, "make"))?
         .arg(flag(alloc, "without-one"))?
         .arg(flag(alloc, "without-fb"))
 }

@@ -44,6 +44,7 @@ fn plain_words_name_a_script(rt: HostRuntime) -> Result<(), Fail> {
         ("--graph g s", run(Some("g"), 2)),
         ("s --without-one", run_without(true, false)),
         ("s --without-one --without-fb", run_without(true, true)),
+        ("--make 7", Form::Make(7)),
     ];
     for (line, form) in rows {
         assert!(rt; is_read_as(rt.alloc(), line, form)?, "at {line}");
@@ -53,7 +54,13 @@ fn plain_words_name_a_script(rt: HostRuntime) -> Result<(), Fail> {
 
 #[test]
 fn other_words_are_of_no_form(rt: HostRuntime) -> Result<(), Fail> {
-    for line in ["--k 2", "s --k 9", "s t"] {
+    for line in [
+        "--k 2",
+        "s --k 9",
+        "s t",
+        "--make 1 s",
+        "--make 99999999999999999999",
+    ] {
         assert!(rt; is_read_as(rt.alloc(), line, Form::Neither)?, "at {line}");
     }
     Ok(())
