@@ -1,0 +1,37 @@
+// Numbers that look as if they were drawn at random.
+ghost use Rattle.std.specs.Prelude.{◌≡◌};
+ghost use Rattle.made_texts.specs.Generator.{next_state, number_at};
+
+/// A linear congruential generator with a state of 64 bits.
+#[derive(Clone, Copy)]
+pub(crate) struct Generator {
+    pub(crate) state: u64,
+}
+
+impl Generator {
+    // A rest of the upper 31 bits. The lower bits of such a state repeat soon.
+    fn number(self, bound: u64) -> u64
+        ensures { result ≡ number_at self.state bound }
+    {
+        let upper = self.state >> 33;
+        if bound == 0 { upper } else { upper % bound }
+    }
+
+    fn step(&mut self)
+        ensures { self.new.state ≡ next_state self.old.state }
+    {
+        self.state = self
+            .state
+            .wrapping_mul(6_364_136_223_846_793_005)
+            .wrapping_add(1_442_695_040_888_963_407);
+    }
+
+    /// The next number: below the bound, or below 2^31 where the bound is 0.
+    pub(crate) fn draw(&mut self, bound: u64) -> u64
+        ensures state { self.new.state ≡ next_state self.old.state }
+        ensures number { result ≡ number_at (next_state self.old.state) bound }
+    {
+        self.step();
+        self.number(bound)
+    }
+}
