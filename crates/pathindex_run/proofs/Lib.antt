@@ -1,4 +1,5 @@
 pub mod Openings
 pub mod RunLemmas
 pub mod CompleteLemmas
+pub mod MadeLemmas
 pub mod Examples
