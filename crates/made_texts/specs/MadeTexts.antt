@@ -50,7 +50,7 @@ graph_line x = triple_line (node_term (subject_at x)) (predicate_term (predicate
 
 -- the state after a line that begins at x
 abbrev pub after_line : ℕ → ℕ
-after_line x = state_after (if is_node_at x then 3 else 4) x
+after_line x = if is_node_at x then state_after 3 x else state_after 4 x
 
 -- n lines from the state x on, and the state after them
 abbrev pub graph_lines : ℕ → ℕ → List (List ℕ)
@@ -71,15 +71,15 @@ made_graph_text seed = lines_text (graph_lines 20000 seed)
 abbrev pub label_line : ℕ → List ℕ
 label_line x = codes "node g" ++ decimal (drawn 1 4 x)
 
-abbrev pub edge_words : ℕ → ℕ → List ℕ
-edge_words from to = codes "link " ++ node_word from ++ codes " " ++ node_word to
+abbrev pub edge_line : List ℕ → ℕ → ℕ → List ℕ
+edge_line command from to = command ++ codes " " ++ node_word from ++ codes " " ++ node_word to
 
 abbrev pub step_lines : ℕ → ℕ → ℕ → List (List ℕ) → List (List ℕ)
 step_lines nodes new x lines =
     label_line x
-    ∷ edge_words new (drawn 2 nodes x)
-    ∷ edge_words new (drawn 3 nodes x)
-    ∷ (codes "un" ++ edge_words new (drawn 2 nodes x))
+    ∷ edge_line (codes "link") new (drawn 2 nodes x)
+    ∷ edge_line (codes "link") new (drawn 3 nodes x)
+    ∷ edge_line (codes "unlink") new (drawn 2 nodes x)
     ∷ lines
 
 -- n steps from the state x on, with new nodes from `new` on, and then other lines

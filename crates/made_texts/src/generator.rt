@@ -1,5 +1,5 @@
 // Numbers that look as if they were drawn at random.
-ghost use Rattle.std.specs.Prelude.{◌≡◌};
+ghost use Rattle.std.specs.Prelude.{◌≡◌, ◌<◌};
 ghost use Rattle.made_texts.specs.Generator.{next_state, number_at};
 
 /// A linear congruential generator with a state of 64 bits.
@@ -11,7 +11,8 @@ pub(crate) struct Generator {
 impl Generator {
     // A rest of the upper 31 bits. The lower bits of such a state repeat soon.
     fn number(self, bound: u64) -> u64
-        ensures { result ≡ number_at self.state bound }
+        ensures number { result ≡ number_at self.state bound }
+        ensures below { 0 < bound → result < bound }
     {
         let upper = self.state >> 33;
         if bound == 0 { upper } else { upper % bound }
@@ -30,6 +31,7 @@ impl Generator {
     pub(crate) fn draw(&mut self, bound: u64) -> u64
         ensures state { self.new.state ≡ next_state self.old.state }
         ensures number { result ≡ number_at (next_state self.old.state) bound }
+        ensures below { 0 < bound → result < bound }
     {
         self.step();
         self.number(bound)

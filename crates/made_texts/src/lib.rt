@@ -2,3 +2,12 @@
 #![tactic(auto)]
 
 mod generator;
+mod graph;
+mod script;
+#[cfg(test)]
+mod tests;
+mod triples;
+mod writing;
+
+pub use graph::made_graph;
+pub use script::made_script;

@@ -3,10 +3,10 @@ use Rattle.std.proofs.Math.Nat.{mod-zero}
 use Rattle.made_texts.specs.Generator.{number_at}
 use Rattle.made_texts.proofs.generator.Generator.number.Goals as goal
 
-pub returns-then-bound-eq0 : goal.returns-then-bound-eq0
+pub returns-then-bound-eq0-clause-number : goal.returns-then-bound-eq0-clause-number
 unfolding number_at
-returns-then-bound-eq0 c = rw c.if-bound-eq0.true (sym (mod-zero (c.args.self.state / 8589934592)))
+returns-then-bound-eq0-clause-number c = rw c.if-bound-eq0.true (sym (mod-zero (c.args.self.state / 8589934592)))
 
-pub returns-else-bound-eq0 : goal.returns-else-bound-eq0
+pub returns-else-bound-eq0-clause-number : goal.returns-else-bound-eq0-clause-number
 unfolding number_at
-returns-else-bound-eq0 c = refl
+returns-else-bound-eq0-clause-number c = refl
