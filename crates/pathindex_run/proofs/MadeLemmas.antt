@@ -1,7 +1,8 @@
 -- From the texts of a seed to what a call of `run` does.
-use Rattle.std.proofs.Common.{◌≡◌, ℕ, ◌≤◌, List, [], ◌∷◌, Option, Some, inl, inr, refl, sym, ap, subst, arith}
+use Rattle.std.proofs.Common.{◌≡◌, ℕ, ◌≤◌, List, [], ◌∷◌, Option, Some, inl, inr, refl, sym, ap, ◌∙◌, subst, arith}
 use Rattle.px_base.specs.Causes.{Rose}
 use Rattle.px_base.specs.Files.{content_of}
+use Rattle.px_spec.specs.declared.limits.Limits.{Limits}
 use Rattle.px_spec.specs.ProgramLimits.{program_limits}
 use Rattle.px_spec.specs.Graphs.{Graph}
 use Rattle.bisim_spec.specs.declared.kind.Kind.{Kind}
@@ -25,15 +26,19 @@ use Rattle.pathindex_run.specs.TextFiles.{text_file}
 use Rattle.pathindex_run.proofs.RunLemmas.{ran_text, part_text, few}
 
 -- the only file without a name has that text
-pub told_text : (text : List ℕ) (o : Outcome) → LoadsTold program_limits (Some (text_file text ∷ [])) [] o → Loads program_limits text o
-told_text text o h = (let same : text ≡ h.0 = (let e = h.1 in cc) in subst (λ t. Loads program_limits t o) (sym same) h.2)
+pub told_text : (limits : Limits) (bytes text : List ℕ) (o : Outcome) → limits ≡ program_limits → bytes ≡ text
+    → LoadsTold limits (Some (text_file bytes ∷ [])) [] o → Loads program_limits text o
+told_text limits bytes text o e f h =
+    let same : bytes ≡ h.0 = (let p = h.1 in cc) in
+    subst (λ t. Loads program_limits t o) (sym same ∙ f) (subst (λ l. Loads l h.0 o) e h.2)
 
-pub says_text : (text : List ℕ) (e : LoadError) → Says (LoadsTold program_limits (Some (text_file text ∷ [])) []) e → Says (Loads program_limits text) e
-says_text text (error.Syntax l) h = told_text text (syntax l) h
-says_text text (error.Limit l) h = told_text text (limit l) h
-says_text text error.Missing h = tt
-says_text text error.Fault h = tt
-says_text text error.Memory h = tt
+pub says_text : (limits : Limits) (bytes text : List ℕ) (x : LoadError) → limits ≡ program_limits → bytes ≡ text
+    → Says (LoadsTold limits (Some (text_file bytes ∷ [])) []) x → Says (Loads program_limits text) x
+says_text limits bytes text (error.Syntax l) e f h = told_text limits bytes text (syntax l) e f h
+says_text limits bytes text (error.Limit l) e f h = told_text limits bytes text (limit l) e f h
+says_text limits bytes text error.Missing e f h = tt
+says_text limits bytes text error.Fault e f h = tt
+says_text limits bytes text error.Memory e f h = tt
 
 -- that file is there
 pub not_lacking : (text : List ℕ) → LacksFile (Some (text_file text ∷ [])) [] → ⊥

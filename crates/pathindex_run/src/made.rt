@@ -71,7 +71,13 @@ pub(crate) fn run_made<K: Sink>(alloc: Global, seed: u64, engine: &mut Engine, s
 }
 
 /// Makes the script for the graph, and runs it from there on.
-fn run_script<K: Sink>(alloc: Global, seed: u64, graph: Graph, engine: &mut Engine, sink: &mut K) -> u8
+fn run_script<K: Sink>(
+    alloc: Global,
+    seed: u64,
+    graph: Graph,
+    engine: &mut Engine,
+    sink: &mut K,
+) -> u8
     requires closed { opened_of engine.old.state ≡ None }
     requires sound { IsSound (engine_seen (map (λ b. meaning (b.vtable, b.value)) engine.old.boxes.items) engine.old.state) }
     ensures sound { IsSound (engine_seen (map (λ b. meaning (b.vtable, b.value)) engine.new.boxes.items) engine.new.state) }
@@ -85,7 +91,13 @@ fn run_script<K: Sink>(alloc: Global, seed: u64, graph: Graph, engine: &mut Engi
 }
 
 /// Opens the engine with that graph, and runs the script with this text.
-fn run_text<K: Sink>(alloc: Global, script: &[u8], graph: Graph, engine: &mut Engine, sink: &mut K) -> u8
+fn run_text<K: Sink>(
+    alloc: Global,
+    script: &[u8],
+    graph: Graph,
+    engine: &mut Engine,
+    sink: &mut K,
+) -> u8
     requires closed { opened_of engine.old.state ≡ None }
     requires sound { IsSound (engine_seen (map (λ b. meaning (b.vtable, b.value)) engine.old.boxes.items) engine.old.state) }
     ensures sound { IsSound (engine_seen (map (λ b. meaning (b.vtable, b.value)) engine.new.boxes.items) engine.new.state) }

@@ -205,10 +205,7 @@ const SCRIPTS: &[(&str, &str, u8)] = &[
 #[test]
 fn scripts_and_what_they_write(rt: HostRuntime) {
     for (text, output, status) in SCRIPTS {
-        assert!(rt;
-            ends(rt.alloc(), script(text), output, *status),
-            "{text}"
-        );
+        assert!(rt; ends(rt.alloc(), script(text), output, *status), "{text}");
     }
 }
 
@@ -249,10 +246,7 @@ fn words_and_what_they_ask_for(rt: HostRuntime) {
             words,
             ..script(text)
         };
-        assert!(rt;
-            ends(rt.alloc(), given, output, *status),
-            "{text}"
-        );
+        assert!(rt; ends(rt.alloc(), given, output, *status), "{text}");
     }
     let missing = Given {
         script: None,
@@ -339,10 +333,7 @@ fn with_graph<'a>(script: Option<&'a str>, graph: Option<&'a str>) -> Given<'a> 
 fn graph_files_are_loaded(rt: HostRuntime) {
     for (script, graph, output, status) in GRAPHS {
         let given = with_graph(*script, *graph);
-        assert!(rt;
-            ends(rt.alloc(), given, output, *status),
-            "{output}"
-        );
+        assert!(rt; ends(rt.alloc(), given, output, *status), "{output}");
     }
     let unnamed = Given {
         words: &["s"],

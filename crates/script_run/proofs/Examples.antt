@@ -1,6 +1,6 @@
 -- The definitions at worked lines, and at near misses.
 use Rattle.std.proofs.Common.{◌≡◌, ◌≢◌, ℕ, zero, suc, ◌≤◌, Bool, List, [], ◌∷◌, ◌++◌, length, subst, true, false, true≢false, refl, sym, ap, ◌∙◌, arith, append-nil, lit<, lit≤, Option, None, Some, inl, inr, Ok, Err}
-use Rattle.std.specs.Prelude.{codes, decimal, slice_get, slice_index}
+use Rattle.std.specs.Prelude.{codes, slice_get, slice_index}
 use Rattle.index_api.specs.declared.kinds.Via.{Via}
 use Rattle.index_api.specs.declared.kinds.Via.TheVariants.{Data, A, One}
 use Rattle.bisim_spec.specs.declared.kind.Kind.{Kind}
@@ -23,6 +23,7 @@ use Rattle.script_run.specs.Rules.{Rules, rules_for}
 use Rattle.script_run.specs.States.{State, BeginsRun}
 use Rattle.script_run.specs.Told.{RanTold}
 use Rattle.index_api.specs.Kept.{is_kept}
+use Rattle.extent_report.specs.Answers.{answer_line}
 use Rattle.extent_report.specs.Shown.{ShowsIndex, ShowsSize}
 use Rattle.script_run.specs.Indexes.{ShowsAnswers, answered, ShowsExtents, unkept}
 use Rattle.branch_query.specs.Queries.{Query}
@@ -216,6 +217,5 @@ brief_lacks : Obeys (rules_for Brief) first_state (forget kind.One) (codes "refu
 brief_lacks = lacks kind.One refl
 
 -- and an answer prints how many nodes there are, and not which
-brief_answer : (q : Query) → IsAnswered first_state.graph first_state.kept Data q how.Data [] → ShowsAnswers Brief first_state q Data (codes "answers " ++ decimal 0 ++ 10 ∷ []) false
+brief_answer : (q : Query) → IsAnswered first_state.graph first_state.kept Data q how.Data [] → ShowsAnswers Brief first_state q Data (answer_line how.Data 0 ++ []) false
 brief_answer q h = answered Data how.Data [] h
-

@@ -254,10 +254,26 @@ fn obey_counted<L: Ledger>(
         Command::Unlink(from, to) => change(alloc, engine, Change::Unlink(from, to), printing, out),
         Command::Drop(node) => change(alloc, engine, Change::Drop(node), printing, out),
         Command::Path(via, expr) => {
-            ask(alloc, engine, via, &Query::Path(&expr), &mut steps, printing, out)
+            ask(
+                alloc,
+                engine,
+                via,
+                &Query::Path(&expr),
+                &mut steps,
+                printing,
+                out,
+            )
         }
         Command::Branch(via, query) => {
-            ask(alloc, engine, via, &Query::Branch(&query), &mut steps, printing, out)
+            ask(
+                alloc,
+                engine,
+                via,
+                &Query::Branch(&query),
+                &mut steps,
+                printing,
+                out,
+            )
         }
         Command::Extents(via) => list(alloc, engine, via, &mut steps, printing, out),
         Command::Sizes => measure(alloc, engine, &mut steps, printing, out),

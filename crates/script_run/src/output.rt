@@ -4,7 +4,6 @@ ghost use Rattle.std.specs.Io.KnownBytes.{Appends};
 ghost use Rattle.px_base.specs.Causes.{HasCause};
 ghost use Rattle.px_base.specs.Files.{AppendsFront};
 ghost use Rattle.script_run.specs.RunSteps.{Extends};
-ghost use Rattle.script_run.specs.Texts.{graph_line};
 
 use itoa::Buffer;
 use px_base::{Failed, Memory, Sink, put_all};

@@ -185,7 +185,15 @@ pub fn run_lines<H: Shelf, K: Sink>(
     let mut out = Vec::new(alloc);
     'lines: loop {
         flush_if_due(&reader, &mut out, sink)?;
-        match next_line(alloc, &mut reader, engine, &mut refused, printing, shelf, &mut out) {
+        match next_line(
+            alloc,
+            &mut reader,
+            engine,
+            &mut refused,
+            printing,
+            shelf,
+            &mut out,
+        ) {
             Ok(Next::Taken) => (),
             Ok(Next::AtBad) => return finish(Ending::Bad, &mut out, sink),
             Ok(Next::AtEnd) => return finish(ending_of(refused), &mut out, sink),

@@ -24,4 +24,4 @@ pub returns-in-Err-Refused-clause-ok : goal.returns-in-Err-Refused-clause-ok
 returns-in-Err-Refused-clause-ok g c =
     let refused = (c.in-Err-Refused.ensures.refused c.in-Err-Refused.refusal).0 (ap Err c.in-Err-Refused.field-0-is) in
     ok_fact c.refuse.result true _ _ c.refuse.ensures.refuses c.refuse.ensures.ok
-    (λ t. refused_obeyed c.args.printing (change_of c.args.change) _ _ c.in-Err-Refused.refusal _ _ c.requires.ready c.in-Err-Refused.ensures.err refused t)
+    (λ t. refused_obeyed c.args.printing (change_of c.args.change) _ _ c.in-Err-Refused.refusal c.args.out.now.items c.refuse.new.out.items c.requires.ready c.in-Err-Refused.ensures.err refused (rw c.in-Err-Refused.field-0-is at t))
