@@ -1,5 +1,5 @@
 // One text in memory, as a file.
-ghost use Rattle.std.specs.Prelude.{◌≡◌, Bool, List, ℕ, Option, None, Some, length, min, take, option_map, is_some, bytes_eq};
+ghost use Rattle.std.specs.Prelude.{◌≡◌, [], ◌∷◌, Some, length, min, take, option_map, is_some, bytes_eq};
 ghost use Rattle.pathindex_run.specs.TextFiles.{text_file};
 
 use px_base::{Failed, Shelf};
