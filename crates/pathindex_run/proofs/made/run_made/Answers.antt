@@ -11,3 +11,6 @@ returns-in-Err-Syntax-clause-meets g c = inl (syntax c.in-Err-Syntax.line, rw c.
 
 pub returns-in-Err-Memory-clause-meets : goal.returns-in-Err-Memory-clause-meets
 returns-in-Err-Memory-clause-meets g c = inr (Keeps-refl (g.K.Sink.written c.args.sink.now), inr refl)
+
+pub returns-in-Err-Limit-clause-meets : goal.returns-in-Err-Limit-clause-meets
+returns-in-Err-Limit-clause-meets g c = inl (limit c.in-Err-Limit.line, rw c.in-Err-Limit.field-0-is at c.in-Err-Limit.ensures.refused, c.show_refusal.ensures.meets)
