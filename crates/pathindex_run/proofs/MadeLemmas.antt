@@ -1,5 +1,5 @@
 -- From the texts of a seed to what a call of `run` does.
-use Rattle.std.proofs.Common.{◌≡◌, ℕ, ◌≤◌, List, [], ◌∷◌, Option, Some, inl, inr, refl, sym, ap, ◌∙◌, subst, arith}
+use Rattle.std.proofs.Common.{◌≡◌, ℕ, ◌≤◌, List, [], ◌∷◌, length, Option, Some, inl, inr, refl, sym, ap, ◌∙◌, subst, arith}
 use Rattle.px_base.specs.Causes.{Rose}
 use Rattle.px_base.specs.Files.{content_of}
 use Rattle.px_spec.specs.declared.limits.Limits.{Limits}
@@ -21,7 +21,9 @@ use Rattle.script_run.specs.Rules.{rules_for}
 use Rattle.script_run.specs.States.{State, BeginsRun}
 use Rattle.script_run.specs.Told.{RanTold, FrontTold}
 use Rattle.script_run.proofs.EngineCalls.{opened_first}
-use Rattle.pathindex_run.specs.Headline.{RunsScript}
+use Rattle.pathindex_run.specs.Headline.{RunsFrom, RunsScript, made_task}
+use Rattle.pathindex_run.specs.MadeSteps.{text_task}
+use Rattle.made_texts.specs.MadeTexts.{made_script_text}
 use Rattle.pathindex_run.specs.TextFiles.{text_file}
 use Rattle.pathindex_run.proofs.RunLemmas.{ran_text, part_text, few}
 
@@ -65,3 +67,9 @@ text_part first left text old new status Last is l r =
 pub opened_with : (e f : EngineSeen) (o : Opened) → f.opened ≡ Some o → EachBecomes (λ a b. IsBuilt a b o.graph o.k) e.boxes f.boxes → kinds_of f.boxes ≡ kinds_of e.boxes → IsSound f
     → BeginsRun o.graph (kinds_of e.boxes) o.k (state_in f)
 opened_with e f o h built kinds s = subst (λ g. BeginsRun g (kinds_of e.boxes) o.k (state_in f)) (ap graph_in h) (opened_first e f o h built kinds s)
+
+-- the text that is run is the script that is made for the graph
+pub made_runs : (seed : ℕ) (kinds : List Kind) (g : Graph) (script : List ℕ) (nodes : ℕ) (old new : Option (List ℕ)) (status : ℕ) (Last : State → Type 0) → nodes ≡ length g.given
+    → script ≡ made_script_text seed nodes → RunsFrom (text_task script kinds) g old new status Last → RunsFrom (made_task seed kinds) g old new status Last
+made_runs seed kinds g script nodes old new status Last n is r =
+    subst (λ t. RunsFrom (text_task t kinds) g old new status Last) (is ∙ ap (made_script_text seed) n) r
