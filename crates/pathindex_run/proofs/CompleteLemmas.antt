@@ -181,7 +181,7 @@ made_few : (seed : ℕ) (kinds : List Kind) (g : Graph) (o : Outcome) (old new :
 made_few seed kinds g o old new k k2 status Last e w r s f = by (subst (λ x. RunsOutcome (made_task seed kinds) x old new status Last) e r)
   where
     by : RunsFrom (made_task seed kinds) g old new status Last → (status ≤ 1) ⊎ (status ≡ 7)
-    by (inl (first, b, runs)) = elim (runs_few Brief first (Some (made_script_text seed (length g.given))) (made_script_text seed (length g.given)) old new status Last refl w runs) [
+    by (inl (first, b, ran)) = elim (runs_few Brief first (Some (made_script_text seed (length g.given))) (made_script_text seed (length g.given)) old new status Last refl w ran) [
       | inl x ↦ inl x
       | inr x ↦ inr (only_memory k k2 status s f x)
     ]
