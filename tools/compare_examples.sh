@@ -1,7 +1,7 @@
 #!/usr/bin/env bash
 # Runs each script of examples/ on the program, with the words of NAME.words behind its name where there is such a
 # file, one a line. Compares what it writes with NAME.out, and its exit status with NAME.status, which is 0 where
-# there is no such file.
+# there is no such file. Then runs the texts that are made from the seed 1, which write made-1.out.
 set -eu
 cd "$(dirname "$0")/.."
 program=${1:?usage: tools/compare_examples.sh PROGRAM}
@@ -9,22 +9,30 @@ program=${1:?usage: tools/compare_examples.sh PROGRAM}
 written=$(mktemp)
 trap 'rm -f "$written"' EXIT
 failed=0
+
+# compare NAME STATUS WORD..
+compare() {
+    local name=$1 wanted=$2 status=0
+    shift 2
+    "$program" "$@" >"$written" || status=$?
+    if ! diff -u "$name.out" "$written"; then
+        echo "FAILED $*: it writes something else"
+        failed=1
+    elif [ "$status" != "$wanted" ]; then
+        echo "FAILED $*: the status is $status, not $wanted"
+        failed=1
+    else
+        echo "ok     $* (status $status)"
+    fi
+}
+
 for script in examples/*.script; do
     name=${script%.script}
     wanted=0
     [ ! -f "$name.status" ] || wanted=$(cat "$name.status")
     words=()
     [ ! -f "$name.words" ] || mapfile -t words <"$name.words"
-    status=0
-    "$program" "$script" "${words[@]}" >"$written" || status=$?
-    if ! diff -u "$name.out" "$written"; then
-        echo "FAILED $script: it writes something else"
-        failed=1
-    elif [ "$status" != "$wanted" ]; then
-        echo "FAILED $script: the status is $status, not $wanted"
-        failed=1
-    else
-        echo "ok     $script (status $status)"
-    fi
+    compare "$name" "$wanted" "$script" "${words[@]}"
 done
+compare examples/made-1 0 --make 1
 exit "$failed"

@@ -1,8 +1,5 @@
-pub mod EngineLemmas
-pub mod EngineCalls
-pub mod TakenLemmas
-pub mod FrontLemmas
-pub mod ReachedLemmas
+pub mod Openings
 pub mod RunLemmas
-pub mod Examples
 pub mod CompleteLemmas
+pub mod MadeLemmas
+pub mod Examples

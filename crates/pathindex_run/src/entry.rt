@@ -1,64 +1,37 @@
 // The top call.
 ghost use Rattle.std.specs.Prelude.{List, ◌≡◌, ◌≢◌, ◌≤◌, ◌⊎◌, map, string_bytes, option_map, None, Some};
-ghost use Rattle.px_base.specs.Causes.{Rose};
-ghost use Rattle.command_line.specs.Forms.{runs, neither};
+ghost use Rattle.command_line.specs.Forms.{runs};
 ghost use Rattle.command_line.specs.Shown.{shown_settings};
 ghost use Rattle.command_line.specs.Words.{form_of};
 ghost use Rattle.bisim_spec.specs.declared.kind.Kind.{Kind};
 ghost use Rattle.index_api.specs.Kept.{kinds_of};
 ghost use Rattle.pathindex_core.specs.Engines.{engine_seen, opened_of, IsSound};
-ghost use Rattle.pathindex_run.specs.EngineStates.{state_in, IsOpen, IsIn};
-ghost use Rattle.pathindex_run.specs.States.{BeginsRun, left_out};
-ghost use Rattle.pathindex_run.specs.Headline.{Meets, HasStatus, Completes, ShowsLine, kinds_for};
+ghost use Rattle.script_run.specs.EngineStates.{state_in, IsOpen, IsIn};
+ghost use Rattle.script_run.specs.States.{BeginsRun, left_out};
+ghost use Rattle.pathindex_run.specs.Headline.{Meets, HasStatus, Completes, NamesScript, kinds_for};
 ghost use Rattle.pathindex_run.specs.ToldFiles.{BeginsTold};
-ghost use Rattle.pathindex_run.specs.Texts.{graph_line, usage_line};
 
-use crate::output::push_graph_line;
-use crate::script::{Stop, run_lines};
-use crate::status::Status;
+use crate::made::run_made;
+use crate::output::{show_refusal, show_usage};
+use crate::status::{Status, status_of};
 use command_line::{Form, Settings, read_words};
 use graph_load::{LoadError, load};
 use index_api::Kind;
 use label_graph::Graph;
 use pathindex_core::Engine;
-use px_base::{Limits, Shelf, Sink, put_all};
+use px_base::{Limits, Shelf, Sink};
+use script_run::{Printing, Stop, run_lines};
 use std::alloc::Global;
 
-const USAGE: &str =
-    "usage: pathindex SCRIPT [--graph FILE] [--k N] [--without-one] [--without-fb] | pathindex --make SEED\n";
-
-/// Writes the usage line.
-fn show_usage<K: Sink>(sink: &mut K) -> u8
-    ensures meets { ShowsLine usage_line 2 (K.written sink.old) (K.written sink.new) result }
-    ensures sink { result ≡ 6 → Rose (K.faults sink.old) (K.faults sink.new) }
-    ensures kept { result ≢ 6 → K.faults sink.new ≡ K.faults sink.old }
-    ensures is_one { (result ≡ 2) ⊎ (result ≡ 6) }
-{
-    match put_all(sink, USAGE.as_bytes()) {
-        Ok(()) => Status::Usage as u8,
-        Err(_) => Status::NoOutput as u8,
-    }
-}
-
-/// Writes which line of the graph file is refused, and why.
-fn show_refusal<K: Sink>(alloc: Global, line: u32, reason: &str, sink: &mut K) -> u8
-    ensures meets { ShowsLine (graph_line line reason.now) 3 (K.written sink.old) (K.written sink.new) result }
-    ensures sink { result ≡ 6 → Rose (K.faults sink.old) (K.faults sink.new) }
-    ensures kept { result ≢ 6 → K.faults sink.new ≡ K.faults sink.old }
-{
-    let mut out = Vec::new(alloc);
-    match push_graph_line(&mut out, line, reason.as_bytes()) {
-        Ok(()) => match put_all(sink, out.as_slice()) {
-            Ok(()) => Status::GraphLine as u8,
-            Err(_) => Status::NoOutput as u8,
-        },
-        Err(_) => Status::NoMemory as u8,
-    }
-}
-
 /// Carries out what the words ask for, and answers the exit status. The words are those after the
-/// program's name: `SCRIPT [--graph FILE] [--k N] [--without-one] [--without-fb]`. The graph file, where one is named, is
-/// loaded first; it is RDF 1.1 N-Triples. The engine drops the indexes that a flag leaves out, and builds the others. Then the script's lines are read from the shelf, and what they print is written to the sink.
+/// program's name: `SCRIPT [--graph FILE] [--k N] [--without-one] [--without-fb]`, or `--make SEED`.
+///
+/// The graph file, where one is named, is loaded first; it is RDF 1.1 N-Triples. The engine drops the indexes that a flag leaves
+/// out, and builds the others. Then the script's lines are read from the shelf, and what they print is written to the sink.
+///
+/// With a seed, from 0 to 2^64 - 1, a graph file and a script are made from it and taken in the place of files: the engine keeps
+/// all its indexes, k is 2, and the shelf isn't called. Changes that are accepted and indexes that are forgotten print nothing
+/// then, and an answer prints its first line only.
 ///
 /// | Status | Comes |
 /// |---|---|
@@ -66,12 +39,12 @@ fn show_refusal<K: Sink>(alloc: Global, line: u32, reason: &str, sink: &mut K) -
 /// | 2 | the words are of no form, and the usage line is written |
 /// | 3 | a line of the graph file is refused, and `graph` with its number and the reason is written |
 /// | 4 | a line is no command or passes a limit, and `bad` with its number is written |
-/// | 5 | a call of the shelf failed, or a file isn't there |
+/// | 5 | a call of the shelf failed, or a file isn't there; never with a seed |
 /// | 6 | a call of the sink failed |
 /// | 7 | there is no memory |
 ///
-/// Where the shelf tells its files, a graph file that loads and a script with no line that is bad give 0, 1 or 7 where
-/// no call fails and no count of faults stands at its last value. At 5, 6 and 7 a front of what the run prints is
+/// Where the shelf tells its files or a seed is given, a graph file that loads and a script with no line that is bad give 0, 1 or
+/// 7 where no call fails and no count of faults stands at its last value. At 5, 6 and 7 a front of what the run prints is
 /// written. The cost is linear in the bytes of both files but for what the commands cost.
 pub fn run<H: Shelf, K: Sink>(
     alloc: Global,
@@ -87,10 +60,11 @@ pub fn run<H: Shelf, K: Sink>(
     ensures status { HasStatus (form_of (map string_bytes words.now)) (H.files shelf.old) (H.faults shelf.old) (H.faults shelf.new) (K.faults sink.old) (K.faults sink.new) result }
     ensures complete { Completes (form_of (map string_bytes words.now)) (H.files shelf.old) (H.faults shelf.old) (H.faults shelf.new) (K.faults sink.old) (K.faults sink.new) result }
     ensures files { H.files shelf.new ≡ H.files shelf.old }
-    ensures idle { form_of (map string_bytes words.now) ≡ neither → shelf.new ≡ shelf.old }
+    ensures idle { ¬ NamesScript (form_of (map string_bytes words.now)) → shelf.new ≡ shelf.old }
 {
     match read_words(alloc, words) {
         Ok(Form::Run(settings)) => run_settings(alloc, &settings, engine, shelf, sink),
+        Ok(Form::Make(seed)) => run_made(alloc, seed, engine, sink),
         Ok(Form::Neither) => show_usage(sink),
         Err(_) => Status::NoMemory as u8,
     }
@@ -208,8 +182,8 @@ fn run_open<H: Shelf, K: Sink>(
     ensures files { H.files shelf.new ≡ H.files shelf.old }
 {
     match shelf.open(settings.script) {
-        Ok(true) => match run_lines(alloc, engine, shelf, sink) {
-            Ok(ending) => ending.status(),
+        Ok(true) => match run_lines(alloc, engine, Printing::Whole, shelf, sink) {
+            Ok(ending) => status_of(ending),
             Err(Stop::Shelf) => Status::NoFile as u8,
             Err(Stop::Sink) => Status::NoOutput as u8,
             Err(Stop::Memory) => Status::NoMemory as u8,

@@ -1,15 +1,15 @@
-//! The run of a script, from the words of the command line and the bytes of its file to the bytes written and
-//! the exit status.
+//! What the program does, from the words of the command line and the bytes of files, or of a seed, to the bytes written and the
+//! exit status.
 #![tactic(auto)]
 
 mod entry;
 mod host;
-mod interpreter;
+mod made;
 mod output;
-mod script;
 mod status;
 #[cfg(test)]
 mod tests;
+mod text_shelf;
 
 pub use entry::run;
 pub use graph_load::{LoadError, load};

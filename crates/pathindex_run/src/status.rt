@@ -1,5 +1,8 @@
 // Exit statuses.
-ghost use Rattle.std.specs.Prelude.{◌≤◌, ◌<◌, ◌⊎◌, IfSome, IfNone};
+ghost use Rattle.std.specs.Prelude.{◌≡◌, ◌≤◌, ◌<◌, ◌⊎◌, IfSome, IfNone};
+ghost use Rattle.script_run.specs.Endings.{status_at};
+
+use script_run::Ending;
 
 /// How a call of `run` ends: the exit status of the program, as a number from 0 to 7.
 #[derive(Clone, Copy, Debug, PartialEq, Eq)]
@@ -36,5 +39,16 @@ pub fn break_reason(status: u8) -> Option<&'static str>
         Some("there isn't enough memory")
     } else {
         None
+    }
+}
+
+/// The exit status of a run that came to its end.
+pub(crate) fn status_of(ending: Ending) -> u8
+    ensures { result ≡ status_at ending }
+{
+    match ending {
+        Ending::Done => Status::Done as u8,
+        Ending::Refused => Status::Refused as u8,
+        Ending::Bad => Status::BadLine as u8,
     }
 }

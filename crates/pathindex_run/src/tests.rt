@@ -1,23 +1,22 @@
 // Whole runs in memory, and the real files and output once each.
 use super::*;
+use crate::text_shelf::TextShelf;
 use ak_maintain::AkIndex;
 use index_api::PathIndex;
 use pathindex_core::Engine;
 use px_base::{MemShelf, MemSink, Memory, Shelf, Sink, Text};
 use std::alloc::Global;
 use std::fs;
-use std::process::Abort;
 use std::test::Fail;
 
-/// What a run is given: its words, the files `s` and `g` where they are there, and the numbers of the calls on the shelf and on the
-/// sink that fail.
+/// What a run is given: its words, the files `s` and `g` where they are there, and the number of the one call on the shelf and of the one
+/// on the sink that fails, 0 for none.
 #[derive(Clone, Copy)]
 struct Given<'a> {
     words: &'a [&'a str],
-    script: Option<&'a [u8]>,
-    graph: Option<&'a [u8]>,
-    shelf_failing: &'a [u32],
-    sink_failing: &'a [u32],
+    script: Option<&'a str>,
+    graph: Option<&'a str>,
+    failing: (u32, u32),
 }
 
 fn named(alloc: Global, words: &[&str]) -> Result<Vec<String>, Memory> {
@@ -28,40 +27,70 @@ fn named(alloc: Global, words: &[&str]) -> Result<Vec<String>, Memory> {
     Ok(named)
 }
 
-fn text(alloc: Global, name: &str) -> Result<Text, Memory> {
-    Text::from_bytes(alloc, name.as_bytes()).map_err(|_| Memory)
-}
-
 fn put_file(
     alloc: Global,
     files: &mut Vec<(Text, Vec<u8>)>,
-    name: &str,
-    content: Option<&[u8]>,
+    name: &[u8],
+    content: Option<&str>,
 ) -> Result<(), Memory> {
     if let Some(content) = content {
-        files.push((text(alloc, name)?, content.to_vec(alloc)?))?;
+        let name = Text::from_bytes(alloc, name).map_err(|_| Memory)?;
+        files.push((name, content.as_bytes().to_vec(alloc)?))?;
     }
     Ok(())
 }
 
-fn run_given(alloc: Global, given: Given<'_>) -> Result<(u8, Vec<u8>), Memory> {
-    let words = named(alloc, given.words)?;
+fn number(alloc: Global, number: u32) -> Result<Vec<u32>, Memory> {
+    let mut numbers = Vec::new(alloc);
+    numbers.push(number)?;
+    Ok(numbers)
+}
+
+fn shelf_of(alloc: Global, given: Given<'_>) -> Result<MemShelf, Memory> {
     let mut files = Vec::new(alloc);
-    put_file(alloc, &mut files, "s", given.script)?;
-    put_file(alloc, &mut files, "g", given.graph)?;
-    let mut shelf = MemShelf::new(files, 8, given.shelf_failing.to_vec(alloc)?);
-    let mut sink = MemSink::new(alloc, 3, given.sink_failing.to_vec(alloc)?, 1000)?;
+    put_file(alloc, &mut files, b"s", given.script)?;
+    put_file(alloc, &mut files, b"g", given.graph)?;
+    Ok(MemShelf::new(files, 8, number(alloc, given.failing.0)?))
+}
+
+/// The status of the run over an engine with an `AkIndex`.
+fn run_over(
+    alloc: Global,
+    words: &[String],
+    shelf: &mut MemShelf,
+    sink: &mut MemSink,
+) -> Result<u8, Memory> {
     let mut boxes: Vec<Box<dyn PathIndex>> = Vec::new(alloc);
     boxes.push(Box::new(alloc, AkIndex::new(alloc)?)?)?;
     let mut engine = Engine::new(boxes);
-    let status = run(alloc, &words, &mut engine, &mut shelf, &mut sink);
-    Ok((status, sink.written().to_vec(alloc)?))
+    Ok(run(alloc, words, &mut engine, shelf, sink))
+}
+
+/// Whether the run ends with that status and has written that.
+fn ends_over(
+    alloc: Global,
+    given: Given<'_>,
+    sink: &mut MemSink,
+    output: &str,
+    status: u8,
+) -> Result<bool, Memory> {
+    let words = named(alloc, given.words)?;
+    let mut shelf = shelf_of(alloc, given)?;
+    let ended = run_over(alloc, &words, &mut shelf, sink)?;
+    Ok(ended == status && sink.written() == output.as_bytes())
+}
+
+fn sink_of(alloc: Global, failing: u32) -> Result<MemSink, Memory> {
+    MemSink::new(alloc, 3, number(alloc, failing)?, 1000)
 }
 
 /// Whether the run ends so.
-fn ends(alloc: Global, given: Given<'_>, output: &[u8], status: u8) -> bool {
-    match run_given(alloc, given) {
-        Ok((ended, written)) => ended == status && written.as_slice() == output,
+fn ends(alloc: Global, given: Given<'_>, output: &str, status: u8) -> bool {
+    match sink_of(alloc, given.failing.1) {
+        Ok(mut sink) => match ends_over(alloc, given, &mut sink, output, status) {
+            Ok(right) => right,
+            Err(_) => false,
+        },
         Err(_) => false,
     }
 }
@@ -70,10 +99,9 @@ fn ends(alloc: Global, given: Given<'_>, output: &[u8], status: u8) -> bool {
 fn script(text: &str) -> Given<'_> {
     Given {
         words: &["s"],
-        script: Some(text.as_bytes()),
+        script: Some(text),
         graph: None,
-        shelf_failing: &[],
-        sink_failing: &[],
+        failing: (0, 0),
     }
 }
 
@@ -177,10 +205,7 @@ const SCRIPTS: &[(&str, &str, u8)] = &[
 #[test]
 fn scripts_and_what_they_write(rt: HostRuntime) {
     for (text, output, status) in SCRIPTS {
-        assert!(rt;
-            ends(rt.alloc(), script(text), output.as_bytes(), *status),
-            "{text}"
-        );
+        assert!(rt; ends(rt.alloc(), script(text), output, *status), "{text}");
     }
 }
 
@@ -221,31 +246,28 @@ fn words_and_what_they_ask_for(rt: HostRuntime) {
             words,
             ..script(text)
         };
-        assert!(rt;
-            ends(rt.alloc(), given, output.as_bytes(), *status),
-            "{text}"
-        );
+        assert!(rt; ends(rt.alloc(), given, output, *status), "{text}");
     }
     let missing = Given {
         script: None,
         ..script("")
     };
-    assert!(rt; ends(rt.alloc(), missing, b"", 5));
+    assert!(rt; ends(rt.alloc(), missing, "", 5));
 }
 
 // The shelf moves 8 bytes at a time: the first line is whole when the third call fails.
 #[test]
 fn failing_calls_lose_no_line(rt: HostRuntime) {
     let read_fails = Given {
-        shelf_failing: &[3],
+        failing: (3, 0),
         ..script("node a\nnode b\n")
     };
-    assert!(rt; ends(rt.alloc(), read_fails, b"added n0\n", 5));
+    assert!(rt; ends(rt.alloc(), read_fails, "added n0\n", 5));
     let write_fails = Given {
-        sink_failing: &[1],
+        failing: (0, 1),
         ..script("node a\nnode b\nlink n0 n1\npath data a/b\n")
     };
-    assert!(rt; ends(rt.alloc(), write_fails, b"", 6));
+    assert!(rt; ends(rt.alloc(), write_fails, "", 6));
 }
 
 /// A graph file whose two spellings of one IRI are one node, and three that are broken.
@@ -301,10 +323,9 @@ const GRAPHS: &[(Option<&str>, Option<&str>, &str, u8)] = &[
 fn with_graph<'a>(script: Option<&'a str>, graph: Option<&'a str>) -> Given<'a> {
     Given {
         words: &["s", "--graph", "g"],
-        script: script.map(|text| text.as_bytes()),
-        graph: graph.map(|text| text.as_bytes()),
-        shelf_failing: &[],
-        sink_failing: &[],
+        script,
+        graph,
+        failing: (0, 0),
     }
 }
 
@@ -312,71 +333,13 @@ fn with_graph<'a>(script: Option<&'a str>, graph: Option<&'a str>) -> Given<'a> 
 fn graph_files_are_loaded(rt: HostRuntime) {
     for (script, graph, output, status) in GRAPHS {
         let given = with_graph(*script, *graph);
-        assert!(rt;
-            ends(rt.alloc(), given, output.as_bytes(), *status),
-            "{output}"
-        );
+        assert!(rt; ends(rt.alloc(), given, output, *status), "{output}");
     }
     let unnamed = Given {
         words: &["s"],
         ..with_graph(Some("path data iri\n"), Some(TWO))
     };
-    assert!(rt; ends(rt.alloc(), unnamed, b"answers 0\n", 0));
-}
-
-/// A comment of that many bytes.
-fn comment(alloc: Global, len: usize) -> Result<Vec<u8>, Fail> {
-    Ok(b"#".repeat(alloc, len)?)
-}
-
-/// Whether a line of the graph file is refused, and so is one of the script.
-fn is_refused(alloc: Global, line: &[u8]) -> bool {
-    let graph = Given {
-        graph: Some(line),
-        ..with_graph(Some(""), None)
-    };
-    let bad = Given {
-        script: Some(line),
-        ..script("")
-    };
-    ends(alloc, graph, b"graph 1 limit\n", 3) && ends(alloc, bad, b"bad 1\n", 4)
-}
-
-// A comment of one byte more than a line may have.
-#[test]
-fn long_lines_are_refused(rt: HostRuntime) -> Result<(), Fail> {
-    let long = comment(rt.alloc(), 1_048_577)?;
-    assert!(rt; is_refused(rt.alloc(), &long));
-    Ok(())
-}
-
-/// A query of so many labels.
-fn query(alloc: Global, labels: usize) -> Result<Vec<u8>, Memory> {
-    let mut script = Vec::new(alloc);
-    script.extend_from_slice(b"path data a")?;
-    for _ in 1..labels {
-        script.extend_from_slice(b"/a")?;
-    }
-    Ok(script)
-}
-
-fn answers(alloc: Global, labels: usize, output: &[u8], status: u8) -> bool {
-    match query(alloc, labels) {
-        Ok(query) => {
-            let given = Given {
-                script: Some(&query),
-                ..script("")
-            };
-            ends(alloc, given, output, status)
-        }
-        Err(_) => false,
-    }
-}
-
-#[test]
-fn long_expressions_are_refused(rt: HostRuntime) {
-    assert!(rt; answers(rt.alloc(), 2048, b"answers 0\n", 0));
-    assert!(rt; answers(rt.alloc(), 2049, b"refused limit\n", 1));
+    assert!(rt; ends(rt.alloc(), unnamed, "answers 0\n", 0));
 }
 
 #[test]
@@ -403,4 +366,13 @@ fn read_first<H: Shelf>(shelf: &mut H, name: &str, buf: &mut [u8; 16]) -> Option
 fn standard_output_is_written(rt: HostRuntime) {
     let mut sink = HostSink::new(&rt);
     assert_eq!(rt; sink.write(b"x"), Ok(1));
+}
+
+#[test]
+fn texts_are_files_without_a_name(rt: HostRuntime) {
+    let mut shelf = TextShelf::new(b"script");
+    assert_eq!(rt; shelf.open("s"), Ok(false));
+    let mut buf = [0u8; 16];
+    assert_eq!(rt; read_first(&mut shelf, "", &mut buf), Some(6));
+    assert_eq!(rt; &buf[..6], b"script".as_slice());
 }

@@ -2,7 +2,7 @@ use Rattle.std.proofs.Common.{◌≡◌, inr, refl, arith, rules, map}
 use Rattle.command_line.specs.Forms.{runs}
 use Rattle.command_line.specs.Shown.{shown_settings}
 use Rattle.pathindex_core.specs.Engines.{engine_seen}
-use Rattle.pathindex_run.specs.EngineStates.{state_in, IsIn}
+use Rattle.script_run.specs.EngineStates.{state_in, IsIn}
 use Rattle.pathindex_run.specs.Headline.{HasStatus}
 use Rattle.pathindex_run.proofs.RunLemmas.{told_ran, told_part, script_meets, script_missing}
 use Rattle.pathindex_run.proofs.CompleteLemmas.{script_completes}
@@ -11,16 +11,16 @@ use Rattle.pathindex_run.proofs.entry.run_open.Goals as goal
 pub returns-in-Ok-clause-meets : goal.returns-in-Ok-clause-meets
 returns-in-Ok-clause-meets g c kinds first =
     let found = rw c.in-Ok-true.field-0-test at c.in-Ok-true.ensures.found in
-    rw c.status.ensures (script_meets (shown_settings c.args.settings.now) kinds (g.H.Shelf.files c.args.shelf.now) (state_in (engine_seen (map (λ b. (goal.PathIndex-dyn g (b.vtable, b.value)).meaning b.value) c.args.engine.now.boxes.items) c.args.engine.now.state)) _ _ _ _ c.requires.begins first
+    rw c.status_of.ensures (script_meets (shown_settings c.args.settings.now) kinds (g.H.Shelf.files c.args.shelf.now) (state_in (engine_seen (map (λ b. (goal.PathIndex-dyn g (b.vtable, b.value)).meaning b.value) c.args.engine.now.boxes.items) c.args.engine.now.state)) _ _ _ _ c.requires.begins first
     (told_ran (state_in (engine_seen (map (λ b. (goal.PathIndex-dyn g (b.vtable, b.value)).meaning b.value) c.args.engine.now.boxes.items) c.args.engine.now.state)) c.args.settings.now.script.now (g.H.Shelf.files c.args.shelf.now) (g.H.Shelf.left c.open.new.self) _ _ c.in-Ok.ending _ found c.in-Ok.ensures.ran))
 
 pub returns-in-Ok-clause-complete : goal.returns-in-Ok-clause-complete
 returns-in-Ok-clause-complete g c =
     let found = rw c.in-Ok-true.field-0-test at c.in-Ok-true.ensures.found in
     let files = g.H.Shelf.files c.args.shelf.now in
-    let status : HasStatus (runs (shown_settings c.args.settings.now)) files (g.H.Shelf.faults c.args.shelf.now) (g.H.Shelf.faults c.run_lines.new.shelf) (g.K.Sink.faults c.args.sink.now) (g.K.Sink.faults c.run_lines.new.sink) c.status.result = search rules in
-    script_completes (shown_settings c.args.settings.now) files (state_in (engine_seen (map (λ b. (goal.PathIndex-dyn g (b.vtable, b.value)).meaning b.value) c.args.engine.now.boxes.items) c.args.engine.now.state)) (g.K.Sink.written c.args.sink.now) (g.K.Sink.written c.run_lines.new.sink) _ _ _ _ c.status.result (IsIn (engine_seen (map (λ b. (goal.PathIndex-dyn g (b.vtable, b.value)).meaning b.value) c.run_lines.new.engine.boxes.items) c.run_lines.new.engine.state))
-    (rw c.status.ensures (told_ran (state_in (engine_seen (map (λ b. (goal.PathIndex-dyn g (b.vtable, b.value)).meaning b.value) c.args.engine.now.boxes.items) c.args.engine.now.state)) c.args.settings.now.script.now files (g.H.Shelf.left c.open.new.self) _ _ c.in-Ok.ending _ found c.in-Ok.ensures.ran)) status
+    let status : HasStatus (runs (shown_settings c.args.settings.now)) files (g.H.Shelf.faults c.args.shelf.now) (g.H.Shelf.faults c.run_lines.new.shelf) (g.K.Sink.faults c.args.sink.now) (g.K.Sink.faults c.run_lines.new.sink) c.status_of.result = search rules in
+    script_completes (shown_settings c.args.settings.now) files (state_in (engine_seen (map (λ b. (goal.PathIndex-dyn g (b.vtable, b.value)).meaning b.value) c.args.engine.now.boxes.items) c.args.engine.now.state)) (g.K.Sink.written c.args.sink.now) (g.K.Sink.written c.run_lines.new.sink) _ _ _ _ c.status_of.result (IsIn (engine_seen (map (λ b. (goal.PathIndex-dyn g (b.vtable, b.value)).meaning b.value) c.run_lines.new.engine.boxes.items) c.run_lines.new.engine.state))
+    (rw c.status_of.ensures (told_ran (state_in (engine_seen (map (λ b. (goal.PathIndex-dyn g (b.vtable, b.value)).meaning b.value) c.args.engine.now.boxes.items) c.args.engine.now.state)) c.args.settings.now.script.now files (g.H.Shelf.left c.open.new.self) _ _ c.in-Ok.ending _ found c.in-Ok.ensures.ran)) status
 
 pub returns-in-Err-Shelf-clause-meets : goal.returns-in-Err-Shelf-clause-meets
 returns-in-Err-Shelf-clause-meets g c kinds first =
@@ -48,6 +48,7 @@ returns-in-Ok-false-clause-status g c =
       is_one = omega arith;
       usage = λ e. absurd (omega (arith, e));
       graph = λ e. absurd (omega (arith, e));
+      reads = λ _. tt;
       missing = λ _. inr (script_missing (shown_settings c.args.settings.now) (g.H.Shelf.files c.args.shelf.now) (state_in (engine_seen (map (λ b. (goal.PathIndex-dyn g (b.vtable, b.value)).meaning b.value) c.args.engine.now.boxes.items) c.args.engine.now.state)).graph (g.H.Shelf.left c.open.new.self) c.requires.begins found);
       sink = λ e. absurd (omega (arith, e));
       shelf_never_falls = omega (arith, same);

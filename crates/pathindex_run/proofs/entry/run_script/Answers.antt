@@ -2,10 +2,10 @@ use Rattle.std.proofs.Common.{◌∙◌, inr, refl, sym, ap, subst, map}
 use Rattle.bisim_spec.specs.declared.kind.Kind.TheVariants.{Fb}
 use Rattle.command_line.specs.Shown.{shown_settings}
 use Rattle.pathindex_core.specs.Engines.{engine_seen, graph_in}
-use Rattle.pathindex_run.specs.States.{left_out}
+use Rattle.script_run.specs.States.{left_out}
 use Rattle.pathindex_run.specs.ToldFiles.{BeginsTold}
 use Rattle.pathindex_run.proofs.RunLemmas.{stopped}
-use Rattle.pathindex_run.proofs.EngineCalls.{opened_for}
+use Rattle.pathindex_run.proofs.Openings.{opened_for}
 use Rattle.pathindex_run.proofs.entry.run_script.Goals as goal
 
 pub run_open-requires-clause-begins : goal.run_open-requires-clause-begins

@@ -1,0 +1,15 @@
+use Rattle.std.proofs.Common.{inl, inr, refl, map}
+use Rattle.std.proofs.KnownBytes.{Keeps-refl}
+use Rattle.pathindex_core.specs.Engines.{engine_seen}
+use Rattle.script_run.specs.EngineStates.{state_in}
+use Rattle.pathindex_run.proofs.MadeLemmas.{opened_with}
+use Rattle.pathindex_run.proofs.made.run_text.Goals as goal
+
+pub run_open-requires : goal.run_open-requires
+run_open-requires g c = record { ready = record { sound = c.open.ensures.sound; opened = _; opened_is = c.in-Ok.ensures.opened; limits_are = c.program.ensures } }
+
+pub returns-in-Ok-clause-runs : goal.returns-in-Ok-clause-runs
+returns-in-Ok-clause-runs g c = inl (_, opened_with (engine_seen (map (λ b. (goal.PathIndex-dyn g (b.vtable, b.value)).meaning b.value) c.args.engine.now.boxes.items) c.args.engine.now.state) _ _ c.in-Ok.ensures.opened c.in-Ok.ensures.built c.open.ensures.kinds c.open.ensures.sound, c.run_open.ensures.runs)
+
+pub returns-in-Err-clause-runs : goal.returns-in-Err-clause-runs
+returns-in-Err-clause-runs g c = inr (Keeps-refl (g.K.Sink.written c.args.sink.now), inr refl)

@@ -1,9 +1,0 @@
--- The exit status of a run that came to its end.
-use Rattle.std.specs.Prelude.{ℕ}
-use Rattle.pathindex_run.specs.declared.script.Ending.{Ending}
-use Rattle.pathindex_run.specs.declared.script.Ending.TheVariants.{Done, Refused, Bad}
-
-abbrev pub status_at : Ending → ℕ
-status_at Done = 0
-status_at Refused = 1
-status_at Bad = 4

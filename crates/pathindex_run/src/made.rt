@@ -1,0 +1,127 @@
+// The run of the texts that are made from a seed.
+ghost use Rattle.std.specs.Prelude.{◌≡◌, ◌≢◌, Err, map, None, Some, IfOk, IfErr};
+ghost use Rattle.px_spec.specs.ProgramLimits.{program_limits};
+ghost use Rattle.graph_load.specs.Loads.{Loads, loaded};
+ghost use Rattle.graph_load.specs.LoadSteps.{Says};
+ghost use Rattle.made_texts.specs.MadeTexts.{made_graph_text};
+ghost use Rattle.index_api.specs.Kept.{kinds_of};
+ghost use Rattle.pathindex_core.specs.Engines.{engine_seen, opened_of, IsSound};
+ghost use Rattle.script_run.specs.declared.printing.Printing.TheVariants.{Brief};
+ghost use Rattle.script_run.specs.EngineStates.{state_in, IsOpen, IsIn};
+ghost use Rattle.script_run.specs.Rules.{rules_for};
+ghost use Rattle.pathindex_run.specs.Headline.{RunsFrom, RunsLoaded, RunsScript, made_task};
+ghost use Rattle.pathindex_run.specs.MadeSteps.{HasSinkStatus, text_task};
+
+use crate::output::show_refusal;
+use crate::status::{Status, status_of};
+use crate::text_shelf::TextShelf;
+use graph_load::{LoadError, load};
+use label_graph::Graph;
+use made_texts::{made_graph, made_script};
+use pathindex_core::Engine;
+use px_base::{Limits, Sink};
+use script_run::{Printing, Stop, run_lines};
+use std::alloc::Global;
+
+/// Loads a graph file that has this text.
+fn load_text(alloc: Global, text: &[u8]) -> Result<Graph, LoadError>
+    ensures loaded { IfOk result (λ g. Loads program_limits text.now (loaded g.graph)) }
+    ensures refused { IfErr result (Says (Loads program_limits text.now)) }
+    ensures found { result ≢ Err LoadError.Missing }
+    ensures read { result ≢ Err LoadError.Fault }
+{
+    let mut shelf = TextShelf::new(text);
+    match load(alloc, &mut shelf, "", &Limits::program()) {
+        Ok(graph) => Ok(graph),
+        Err(LoadError::Missing) => unreachable!(),
+        Err(LoadError::Fault) => unreachable!(),
+        Err(error) => Err(error),
+    }
+}
+
+/// Loads the graph file that is made from the seed.
+fn load_made(alloc: Global, seed: u64) -> Result<Graph, LoadError>
+    ensures loaded { IfOk result (λ g. Loads program_limits (made_graph_text seed) (loaded g.graph)) }
+    ensures refused { IfErr result (Says (Loads program_limits (made_graph_text seed))) }
+    ensures found { result ≢ Err LoadError.Missing }
+    ensures read { result ≢ Err LoadError.Fault }
+{
+    match made_graph(alloc, seed) {
+        Ok(text) => load_text(alloc, text.as_bytes()),
+        Err(_) => Err(LoadError::Memory),
+    }
+}
+
+/// Makes the texts of the seed, loads the graph file, and runs the script. The graph file's text is let go before the script is made.
+pub(crate) fn run_made<K: Sink>(alloc: Global, seed: u64, engine: &mut Engine, sink: &mut K) -> u8
+    requires closed { opened_of engine.old.state ≡ None }
+    requires sound { IsSound (engine_seen (map (λ b. meaning (b.vtable, b.value)) engine.old.boxes.items) engine.old.state) }
+    ensures sound { IsSound (engine_seen (map (λ b. meaning (b.vtable, b.value)) engine.new.boxes.items) engine.new.state) }
+    ensures meets { RunsLoaded (made_task seed (kinds_of (map (λ b. meaning (b.vtable, b.value)) engine.old.boxes.items))) (Some (made_graph_text seed)) (K.written sink.old) (K.written sink.new) result (IsIn (engine_seen (map (λ b. meaning (b.vtable, b.value)) engine.new.boxes.items) engine.new.state)) }
+    ensures status { HasSinkStatus (K.faults sink.old) (K.faults sink.new) result }
+{
+    match load_made(alloc, seed) {
+        Ok(graph) => run_script(alloc, seed, graph, engine, sink),
+        Err(LoadError::Syntax(line)) => show_refusal(alloc, line, "syntax", sink),
+        Err(LoadError::Limit(line)) => show_refusal(alloc, line, "limit", sink),
+        Err(LoadError::Missing) => unreachable!(),
+        Err(LoadError::Fault) => unreachable!(),
+        Err(LoadError::Memory) => Status::NoMemory as u8,
+    }
+}
+
+/// Makes the script for the graph, and runs it from there on.
+fn run_script<K: Sink>(
+    alloc: Global,
+    seed: u64,
+    graph: Graph,
+    engine: &mut Engine,
+    sink: &mut K,
+) -> u8
+    requires closed { opened_of engine.old.state ≡ None }
+    requires sound { IsSound (engine_seen (map (λ b. meaning (b.vtable, b.value)) engine.old.boxes.items) engine.old.state) }
+    ensures sound { IsSound (engine_seen (map (λ b. meaning (b.vtable, b.value)) engine.new.boxes.items) engine.new.state) }
+    ensures runs { RunsFrom (made_task seed (kinds_of (map (λ b. meaning (b.vtable, b.value)) engine.old.boxes.items))) graph.graph (K.written sink.old) (K.written sink.new) result (IsIn (engine_seen (map (λ b. meaning (b.vtable, b.value)) engine.new.boxes.items) engine.new.state)) }
+    ensures status { HasSinkStatus (K.faults sink.old) (K.faults sink.new) result }
+{
+    match made_script(alloc, seed, graph.created()) {
+        Ok(script) => run_text(alloc, script.as_bytes(), graph, engine, sink),
+        Err(_) => Status::NoMemory as u8,
+    }
+}
+
+/// Opens the engine with that graph, and runs the script with this text.
+fn run_text<K: Sink>(
+    alloc: Global,
+    script: &[u8],
+    graph: Graph,
+    engine: &mut Engine,
+    sink: &mut K,
+) -> u8
+    requires closed { opened_of engine.old.state ≡ None }
+    requires sound { IsSound (engine_seen (map (λ b. meaning (b.vtable, b.value)) engine.old.boxes.items) engine.old.state) }
+    ensures sound { IsSound (engine_seen (map (λ b. meaning (b.vtable, b.value)) engine.new.boxes.items) engine.new.state) }
+    ensures runs { RunsFrom (text_task script.now (kinds_of (map (λ b. meaning (b.vtable, b.value)) engine.old.boxes.items))) graph.graph (K.written sink.old) (K.written sink.new) result (IsIn (engine_seen (map (λ b. meaning (b.vtable, b.value)) engine.new.boxes.items) engine.new.state)) }
+    ensures status { HasSinkStatus (K.faults sink.old) (K.faults sink.new) result }
+{
+    match engine.open(graph, Limits::program(), 2) {
+        Ok(()) => run_open(alloc, script, engine, sink),
+        Err(_) => Status::NoMemory as u8,
+    }
+}
+
+/// Runs the script with this text from the graph of the engine on.
+fn run_open<K: Sink>(alloc: Global, script: &[u8], engine: &mut Engine, sink: &mut K) -> u8
+    requires ready { IsOpen (engine_seen (map (λ b. meaning (b.vtable, b.value)) engine.old.boxes.items) engine.old.state) }
+    ensures sound { IsSound (engine_seen (map (λ b. meaning (b.vtable, b.value)) engine.new.boxes.items) engine.new.state) }
+    ensures runs { RunsScript (rules_for Brief) (state_in (engine_seen (map (λ b. meaning (b.vtable, b.value)) engine.old.boxes.items) engine.old.state)) (Some script.now) (K.written sink.old) (K.written sink.new) result (IsIn (engine_seen (map (λ b. meaning (b.vtable, b.value)) engine.new.boxes.items) engine.new.state)) }
+    ensures status { HasSinkStatus (K.faults sink.old) (K.faults sink.new) result }
+{
+    let mut shelf = TextShelf::new(script);
+    match run_lines(alloc, engine, Printing::Brief, &mut shelf, sink) {
+        Ok(ending) => status_of(ending),
+        Err(Stop::Shelf) => unreachable!(),
+        Err(Stop::Sink) => Status::NoOutput as u8,
+        Err(Stop::Memory) => Status::NoMemory as u8,
+    }
+}
