@@ -1,10 +1,10 @@
 -- A level after a change: nodes that aren't near keep their blocks, and the others go by their keys.
-use Rattle.std.proofs.Common.{◌≡◌, ℕ, suc, List, Option, Some, true, false, Bool, IsTrue, IsFalse, sym, ◌∙◌, ap, subst, inl, inr, arith}
+use Rattle.std.proofs.Common.{◌≡◌, ℕ, suc, List, Option, Some, Bool, IsTrue, IsFalse, sym, ◌∙◌, ap, subst, inl, inr, arith}
 use Rattle.std.proofs.lemmas.Bool.{false_from_ne_true, both_ways, cases_Bool}
-use Rattle.px_spec.specs.Shapes.{Shape, IsNode, IsParent, IsShape}
+use Rattle.px_spec.specs.Shapes.{Shape, IsShape}
 use Rattle.px_spec.specs.Members.{at}
 use Rattle.bisim_spec.specs.Bisimilarity.{Bis}
-use Rattle.bisim_spec.specs.Partitions.{Together, IsPartition, Agrees}
+use Rattle.bisim_spec.specs.Partitions.{IsPartition, Agrees}
 use Rattle.bisim_spec.specs.Reach.{near}
 use Rattle.bisim_spec.proofs.Bisimilar.{some_of}
 use Rattle.bisim_spec.proofs.Keys.{bis_from_key, key_from_bis}

@@ -1,8 +1,7 @@
 -- How much there is to read at near nodes.
-use Rattle.std.proofs.Common.{◌≡◌, ℕ, zero, suc, ◌+◌, ◌<◌, ◌≤◌, arith, inl, inr, true, false, Bool}
+use Rattle.std.proofs.Common.{◌≡◌, ℕ, ◌≤◌, arith, inl, inr, true, Bool}
 use Rattle.std.proofs.lemmas.Bool.{cases_Bool}
 use Rattle.px_spec.specs.Shapes.{Shape}
-use Rattle.bisim_spec.specs.Below.{sum_below}
 use Rattle.bisim_spec.specs.Reach.{near}
 use Rattle.bisim_spec.specs.Weights.{weight_at, weight}
 use Rattle.bisim_spec.proofs.Reached.{near_more}
