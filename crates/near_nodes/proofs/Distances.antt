@@ -1,5 +1,5 @@
 -- The search, one distance after the other.
-use Rattle.std.proofs.Common.{◌≡◌, ◌⊎◌, ℕ, zero, suc, ◌+◌, ◌<◌, ◌≤◌, List, [], ◌∷◌, ◌++◌, length, IsTrue, refl, sym, ◌∙◌, ap, subst, arith, inl, inr, true, Bool, ◌||◌, append-nil, take, get_or}
+use Rattle.std.proofs.Common.{◌≡◌, ℕ, zero, suc, ◌+◌, ◌<◌, ◌≤◌, List, [], ◌∷◌, ◌++◌, length, sym, ◌∙◌, ap, subst, arith, inl, inr, Bool, ◌||◌, append-nil, take}
 use Rattle.std.specs.Prelude.{nat_eq, slice_index}
 use Rattle.std.specs.List.{IsDistinct}
 use Rattle.std.proofs.lemmas.Bool.{cases_lt}
@@ -7,7 +7,7 @@ use Rattle.std.proofs.lemmas.List.{get_or_append_left, get_or_push, get_or_past,
 use Rattle.px_spec.specs.Members.{has, Lists}
 use Rattle.px_spec.specs.Shapes.{Shape, IsShape}
 use Rattle.bisim_spec.specs.Reach.{near}
-use Rattle.near_nodes.specs.Searches.{IsSpread, AreNear, Searched}
+use Rattle.near_nodes.specs.Searches.{IsSpread, AreNear}
 use Rattle.near_nodes.proofs.Spreading.{spread_on, spread_near, spread_longer}
 
 -- The nodes that are near by at most i edges are met, and how many they were for each fewer is noted. The children of those before the

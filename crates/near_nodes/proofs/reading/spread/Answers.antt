@@ -1,8 +1,6 @@
 use Rattle.std.proofs.Common.{◌≡◌, ◌+◌, ◌<◌, length, arith, ap, sym, ◌∙◌}
-use Rattle.std.proofs.lemmas.List.{take_all}
 use Rattle.std.proofs.lemmas.List.Sums.{sum_by-take-le}
 use Rattle.std.specs.Prelude.{slice_index}
-use Rattle.std.specs.List.{sum_by}
 use Rattle.px_spec.specs.Shapes.{shape_of}
 use Rattle.graph_update.specs.Pending.{graph_after}
 use Rattle.near_nodes.specs.Costs.{children_cost}

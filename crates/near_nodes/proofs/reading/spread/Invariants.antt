@@ -1,4 +1,4 @@
-use Rattle.std.proofs.Common.{◌≡◌, ◌+◌, ◌≤◌, take, length}
+use Rattle.std.proofs.Common.{◌+◌, ◌≤◌, take}
 use Rattle.std.specs.List.{sum_by}
 use Rattle.px_spec.specs.Shapes.{shape_of}
 use Rattle.graph_update.specs.Pending.{graph_after}

@@ -1,7 +1,5 @@
-use Rattle.std.proofs.Common.{◌≡◌, ◌+◌, ◌≤◌, ◌++◌, ◌∷◌, ℕ, List, length, take, [], arith, ap, sym, subst, ◌∙◌, refl}
-use Rattle.std.proofs.lemmas.List.{take-append-le, take_all}
-use Rattle.std.specs.Prelude.{nat_eq}
-use Rattle.std.specs.List.{sum_by, IsDistinct}
+use Rattle.std.proofs.Common.{◌≡◌, ◌+◌, ◌++◌, ◌∷◌, ℕ, List, length, [], arith, ap, sym, subst, ◌∙◌, refl}
+use Rattle.std.specs.List.{sum_by}
 use Rattle.px_spec.specs.Members.{has}
 use Rattle.px_spec.specs.Shapes.{shape_of}
 use Rattle.px_spec.proofs.GraphLaws.{is_shape}
