@@ -1,0 +1,46 @@
+-- Blocks that have keys, and nodes that are in the blocks of their keys.
+use Rattle.std.specs.Prelude.{◌≡◌, ℕ, Bool, List, [], ◌∷◌, Option, Some, IsFalse, option_and_then, slice_get}
+use Rattle.px_spec.specs.Graphs.{Graph}
+use Rattle.px_spec.specs.Shapes.{Shape, shape_of}
+use Rattle.px_spec.specs.Members.{at}
+use Rattle.label_graph.specs.Views.{label_number}
+use Rattle.bisim_spec.specs.Partitions.{IsPartition}
+use Rattle.bisim_spec.specs.Reach.{near}
+use Rattle.upkeep_spec.specs.Named.{AreNamed}
+use Rattle.upkeep_spec.specs.Supported.{AreEdgeCounts}
+use Rattle.bisim_levels.specs.Keys.{IsKey}
+
+-- the node's block, if it has one, has the key that the node has over the partition one level below
+pub record IsKeyed (s : Shape) (below block : List (Option ℕ)) (key : ℕ → Option (List ℕ)) (n : ℕ) : Type 0 where
+  pub keyed : (b : ℕ) → at block n ≡ Some b → (numbers : List ℕ) × (key b ≡ Some numbers) × IsKey (at below) below s.edge n numbers
+
+-- no two blocks have one key
+pub record AreApart (key : ℕ → Option (List ℕ)) : Type 0 where
+  pub apart : (a b : ℕ) (numbers : List ℕ) → key a ≡ Some numbers → key b ≡ Some numbers → a ≡ b
+
+-- keys that blocks have stay theirs
+pub record KeysStay (key key2 : ℕ → Option (List ℕ)) : Type 0 where
+  pub kept : (b : ℕ) (numbers : List ℕ) → key b ≡ Some numbers → key2 b ≡ Some numbers
+
+-- nodes that more than so many edges part from the targets have the blocks that they had
+pub record SameFar (target : ℕ → Bool) (s : Shape) (i : ℕ) (block block2 : List (Option ℕ)) : Type 0 where
+  pub same : (n : ℕ) → IsFalse (near s target i n) → at block2 n ≡ at block n
+
+-- the first number of a key: above the lowest level it is the block of the members one level below
+abbrev pub first_number : Option (List ℕ) → Option ℕ
+first_number key = option_and_then (λ numbers. slice_get numbers 0) key
+
+-- the key of a block at the lowest level is its label
+pub record AreLabelled (labels : List (Option ℕ)) (key : ℕ → Option (List ℕ)) : Type 0 where
+  pub is : (b l : ℕ) → at labels b ≡ Some l → key b ≡ Some (l ∷ [])
+
+-- The level shows a partition of the nodes of the graph, in which blocks have the labels of their members, and supports are the numbers of
+-- edges.
+pub record IsLevelOf (g : Graph) (block labels : List (Option ℕ)) (support : ℕ → ℕ → ℕ) : Type 0 where
+  pub partition : IsPartition (shape_of g) block
+  pub named : AreNamed block (at labels) (label_number g)
+  pub supports : AreEdgeCounts g block support
+
+-- a block has the label of the block one level below with which its key begins
+pub record LabelsGoUp (below_labels labels : List (Option ℕ)) (key : ℕ → Option (List ℕ)) : Type 0 where
+  pub is : (b number : ℕ) → first_number (key b) ≡ Some number → (l : ℕ) × (at below_labels number ≡ Some l) × (at labels b ≡ Some l)

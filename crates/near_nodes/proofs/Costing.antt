@@ -1,0 +1,100 @@
+-- What the search costs.
+use Rattle.std.proofs.Common.{◌≡◌, ℕ, zero, suc, ◌+◌, ◌<◌, ◌≤◌, List, Option, Some, None, length, refl, sym, ap, ◌∙◌, arith, inl, inr, true, Bool, cond, take, get_or}
+use Rattle.std.specs.Prelude.{nat_eq}
+use Rattle.std.specs.List.{IsDistinct, sum_by}
+use Rattle.std.proofs.lemmas.Bool.{cases_Bool}
+use Rattle.std.proofs.lemmas.Bool.Decides.{eqb_tells}
+use Rattle.std.proofs.lemmas.List.{take_more}
+use Rattle.std.proofs.lemmas.List.Sums.{sum_by_push, sum_by-take-le}
+use Rattle.px_spec.specs.Members.{has}
+use Rattle.px_spec.specs.Shapes.{Shape, IsShape, shape_of}
+use Rattle.bisim_spec.specs.Below.{sum_below}
+use Rattle.bisim_spec.specs.Reach.{near}
+use Rattle.bisim_spec.specs.Weights.{weight_at, weight}
+use Rattle.bisim_spec.proofs.BelowLaws.{bit_of}
+use Rattle.bisim_spec.proofs.Reached.{near_cases, near_more}
+use Rattle.graph_update.specs.Pending.{Pending, graph_after, lost_edge, lost_from}
+use Rattle.near_nodes.specs.Costs.{children_cost}
+use Rattle.upkeep_spec.proofs.Sums.{where_in, sum_listed, sum_most, sum_plus}
+use Rattle.near_nodes.proofs.Distances.{IsSearched}
+
+-- what is near is no number past the graph
+near_below : (s : Shape) (from : ℕ → Bool) → IsShape s → ((t : ℕ) → from t ≡ true → t < s.size) → (i n : ℕ) → near s from i n ≡ true → n < s.size
+near_below s from shape given zero n h = given n h
+near_below s from shape given (suc i) n h = elim (near_cases s from i n h) [
+  | inl e ↦ near_below s from shape given i n e
+  | inr (p, a, e) ↦ shape.below n (shape.onto p n e)
+]
+
+-- a number is met once
+once_before : (n v : ℕ) → n ≤ v → sum_below n (λ k. cond (nat_eq k v) 1 0) ≡ 0
+once_before zero v h = refl
+once_before (suc n) v h = elim (eqb_tells n v) [
+  | inl s ↦ absurd (let e = s.1 in omega (arith, h, e))
+  | inr d ↦ (
+      let rest = once_before n v (omega (arith, h)) in
+      let here : bit_of (nat_eq n v) ≡ 0 = ap bit_of d.0 in
+      omega (arith, rest, here))
+]
+
+once_most : (n v : ℕ) → sum_below n (λ k. cond (nat_eq k v) 1 0) ≤ 1
+once_most zero v = omega arith
+once_most (suc n) v = elim (eqb_tells n v) [
+  | inl s ↦ (
+      let e = s.1 in
+      let rest = once_before n v (omega (arith, e)) in
+      let here : bit_of (nat_eq n v) ≡ 1 = ap bit_of s.0 in
+      omega (arith, rest, here))
+  | inr d ↦ (
+      let rest = once_most n v in
+      let here : bit_of (nat_eq n v) ≡ 0 = ap bit_of d.0 in
+      omega (arith, rest, here))
+]
+
+zeros : (n : ℕ) → sum_below n (λ k. 0) ≡ 0
+zeros zero = refl
+zeros (suc n) = (let r = zeros n in omega (arith, r))
+
+-- an edge that is taken away begins at one node
+lost_most : (n : ℕ) (lost : Option (ℕ × ℕ)) → sum_below n (lost_from lost) ≤ 1
+lost_most n None = (let z = zeros n in omega (arith, z))
+lost_most n (Some e) = once_most n e.0
+
+-- the children of distinct nodes in the set
+read_most : (a : Pending) (inside : ℕ → Bool) (nodes : List ℕ) → IsDistinct nat_eq nodes
+    → ((n : ℕ) → has nodes n ≡ true → (n < (shape_of (graph_after a)).size) × (inside n ≡ true))
+    → sum_by (children_cost a) nodes ≤ weight (shape_of (graph_after a)) inside + 1
+read_most a inside nodes once within =
+    let s = shape_of (graph_after a) in
+    let w : ℕ → ℕ = where_in inside (weight_at s) in
+    let listed = sum_listed s.size inside (children_cost a) nodes once within in
+    let parts = sum_most s.size (where_in inside (children_cost a)) (λ k. w k + lost_from (lost_edge a.change) k) (λ k l. elim (cases_Bool (inside k)) [
+      | inl on ↦ rw on (omega arith)
+      | inr off ↦ rw off (omega arith)
+    ]) in
+    let plus = sum_plus s.size w (lost_from (lost_edge a.change)) in
+    let lost = lost_most s.size (lost_edge a.change) in
+    omega (arith, listed, parts, plus, lost)
+
+-- the children of the nodes that were met
+pub search_most : (a : Pending) (targets met ends : List ℕ) (i place k : ℕ) → IsShape (shape_of (graph_after a))
+    → ((t : ℕ) → has targets t ≡ true → t < (shape_of (graph_after a)).size) → IsSearched (shape_of (graph_after a)) (has targets) i place met ends → i ≤ k
+    → sum_by (children_cost a) met ≤ weight (shape_of (graph_after a)) (near (shape_of (graph_after a)) (has targets) k) + 1
+search_most a targets met ends i place k shape given p l =
+    let s = shape_of (graph_after a) in
+    read_most a (near s (has targets) k) met p.once (λ n h.
+    let there = sym (p.found n) ∙ h in
+    (near_below s (has targets) shape given i n there, near_more s (has targets) i k n l there))
+
+-- of the first nodes
+pub first_most : (a : Pending) (targets met ends : List ℕ) (i place k : ℕ) → IsShape (shape_of (graph_after a))
+    → ((t : ℕ) → has targets t ≡ true → t < (shape_of (graph_after a)).size) → IsSearched (shape_of (graph_after a)) (has targets) i place met ends → i ≤ k
+    → sum_by (children_cost a) (take place met) ≤ weight (shape_of (graph_after a)) (near (shape_of (graph_after a)) (has targets) k) + 1
+first_most a targets met ends i place k shape given p l =
+    let all = search_most a targets met ends i place k shape given p l in
+    let part = sum_by-take-le (children_cost a) met place in
+    omega (arith, all, part)
+
+-- one more node is read
+pub sum_next : (f : ℕ → ℕ) (xs : List ℕ) (i d : ℕ) → i < length xs → sum_by f (take (i + 1) xs) ≡ sum_by f (take i xs) + f (get_or xs i d)
+sum_next f xs i d h = ap (sum_by f) (take_more xs i d h) ∙ sum_by_push f (take i xs) (get_or xs i d)

@@ -1,0 +1,3 @@
+mod Spreading
+mod Distances
+mod Costing

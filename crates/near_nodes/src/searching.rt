@@ -1,0 +1,78 @@
+// The search.
+ghost use Rattle.std.specs.Prelude.{◌≡◌, ◌+◌, ◌<◌, ◌≤◌, ℕ, IfOk, IsTrue, length};
+ghost use Rattle.px_spec.specs.Members.{has};
+ghost use Rattle.px_spec.specs.Shapes.{shape_of};
+ghost use Rattle.bisim_spec.specs.Reach.{near};
+ghost use Rattle.bisim_spec.specs.Weights.{weight};
+ghost use Rattle.graph_update.specs.Pending.{graph_after};
+ghost use Rattle.near_nodes.specs.Searches.{AreNear, within};
+
+use crate::reading::{meet, spread};
+use graph_update::After;
+use indexmap::IndexSet;
+use px_base::{Memory, NodeId, Steps};
+use std::alloc::Global;
+use std::marker::Model;
+use std::sync::ledger::Ledger;
+
+/// The nodes to which few edges lead from the targets of a change, in the order of their distance, each once, and how many
+/// they are up to each distance. The memory is that of these nodes, whatever the size of the graph.
+#[derive(Drop)]
+pub struct NearNodes {
+    met: IndexSet<NodeId>,
+    ends: Vec<usize>,
+}
+
+impl Model for NearNodes {
+    ghost use Rattle.std.specs.Prelude.{ℕ, ◌≤◌, length, slice_index};
+    ghost use Rattle.near_nodes.specs.Searches.{Searched, searched_code};
+
+    ghost Value = { Searched };
+
+    ghost coded = { searched_code };
+
+    ghost view = { λ n. record { nodes = n.met.keys; ends = n.ends.items } };
+
+    ghost invariant = { λ n. (i : ℕ) → slice_index n.ends.items i ≤ length n.met.keys };
+}
+
+impl NearNodes {
+    /// The nodes to which at most `i` edges lead from the targets, each once, the targets first. O(1).
+    pub fn within(&self, i: u32) -> &[NodeId]
+        requires level { i < length self.now.ends }
+        ensures { result.now ≡ within self.now i }
+    {
+        &self.met.as_slice()[..self.ends[i as usize]]
+    }
+}
+
+/// Searches the graph after a change for the nodes to which at most `k` edges lead from its targets. The children of each of them
+/// that is nearer than `k` are read once: at most a step for each node that is found, one for each of its children, and one
+/// for the edge that the change takes away. No step is taken where `k` is 0.
+pub fn near_nodes<L: Ledger>(
+    alloc: Global,
+    after: &After<'_>,
+    targets: &[NodeId],
+    k: u32,
+    steps: &mut Steps<L>,
+) -> Result<NearNodes, Memory>
+    requires given { (t : ℕ) → IsTrue (has targets.now t) → t < length (graph_after after.now).given }
+    ensures near { IfOk result (AreNear (shape_of (graph_after after.now)) (has targets.now) k) }
+    ensures none { k ≡ 0 → steps.new ≡ steps.old }
+    ensures cost { steps.new ≤ steps.old + weight (shape_of (graph_after after.now)) (near (shape_of (graph_after after.now)) (has targets.now) k) + 1 }
+{
+    // This says that there is a graph, so that what is near is among its nodes.
+    let _ = after.created();
+    let mut met = IndexSet::new(alloc);
+    let mut ends = Vec::new(alloc);
+    meet(&mut met, targets)?;
+    ends.push(met.len())?;
+    let mut from = 0;
+    for _ in 0..k {
+        let end = met.len();
+        spread(&mut met, from, after, steps)?;
+        ends.push(met.len())?;
+        from = end;
+    }
+    Ok(NearNodes { met, ends })
+}
