@@ -1,5 +1,5 @@
 -- A made graph file loads.
-use Rattle.std.proofs.Common.{◌≡◌, ◌+◌, ◌*◌, ◌<◌, ◌≤◌, ℕ, zero, suc, List, [], ◌∷◌, length, map, refl, sym, arith, lit<, lit≤, subst, inr}
+use Rattle.std.proofs.Common.{◌+◌, ◌*◌, ◌<◌, ◌≤◌, ℕ, zero, suc, List, length, map, refl, sym, arith, lit<, lit≤, subst, inr}
 use Rattle.px_base.specs.declared.lines.TheConstants.{GRAPH_BYTES}
 use Rattle.px_spec.specs.Graphs.{Graph}
 use Rattle.px_spec.specs.Lines.{Line}

@@ -9,7 +9,7 @@ use Rattle.px_spec.specs.declared.limits.Limits.{Limits}
 use Rattle.px_spec.specs.declared.refusal.Refusal.{Refusal}
 use Rattle.px_spec.specs.declared.refusal.Refusal.TheVariants.{Limit, NoNode}
 use Rattle.px_spec.specs.Graphs.{Graph, edge_cmp, has_edge, is_live, is_seen}
-use Rattle.px_spec.specs.Changes.{apply, edge_fits, link, node, with_edge, with_label, with_node}
+use Rattle.px_spec.specs.Changes.{apply, edge_fits, link, node, with_edge, with_node}
 use Rattle.px_spec.proofs.EdgeOrder.{edge_cmp_total}
 use Rattle.px_spec.proofs.ListLemmas.{get_seam}
 use Rattle.triples_read.specs.declared.term.Term.{Term}
