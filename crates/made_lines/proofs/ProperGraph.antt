@@ -61,13 +61,13 @@ line_short s p o f g h =
     let k = h.short in
     omega (arith, a, b, c, d, e, i, j, k)
 
-record IsTripleLine (line : List ℕ) : Type 0 where
-  plain : list_all is_plain line ≡ true
-  short : length line ≤ 200
-  triple : Triple
-  spelled : Spells line triple
+pub record IsTripleLine (line : List ℕ) : Type 0 where
+  pub plain : list_all is_plain line ≡ true
+  pub short : length line ≤ 200
+  pub triple : Triple
+  pub spelled : Spells line triple
 
-line_proper : (x : ℕ) → IsTripleLine (graph_line x)
+pub line_proper : (x : ℕ) → IsTripleLine (graph_line x)
 line_proper x =
     let a = drawn_small (state_after 1 x) 4000 (lit< tt) in
     let b = drawn_small (state_after 2 x) 8 (lit< tt) in
@@ -81,10 +81,10 @@ line_proper x =
       spelled = t.1;
     }
 
-abbrev fed : List ℕ → Line
+abbrev pub fed : List ℕ → Line
 fed line = record { text = line; end = 10 ∷ [] }
 
-graph_cut : (n x : ℕ) → cut (lines_text (graph_lines n x)) ≡ map fed (graph_lines n x)
+pub graph_cut : (n x : ℕ) → cut (lines_text (graph_lines n x)) ≡ map fed (graph_lines n x)
 graph_cut zero x = refl
 graph_cut (suc n) x =
     cut-feed (graph_line x) (lines_text (graph_lines n (after_line x))) (uncut (graph_line x) (line_proper x).plain) ∙ ap (λ t. fed (graph_line x) ∷ t) (graph_cut n (after_line x))

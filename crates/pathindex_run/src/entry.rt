@@ -1,6 +1,6 @@
 // The top call.
-ghost use Rattle.std.specs.Prelude.{List, ◌≡◌, ◌≢◌, ◌≤◌, ◌⊎◌, map, string_bytes, option_map, None, Some};
-ghost use Rattle.command_line.specs.Forms.{runs};
+ghost use Rattle.std.specs.Prelude.{ℕ, List, ◌≡◌, ◌≢◌, ◌≤◌, ◌⊎◌, map, string_bytes, option_map, None, Some};
+ghost use Rattle.command_line.specs.Forms.{makes, runs};
 ghost use Rattle.command_line.specs.Shown.{shown_settings};
 ghost use Rattle.command_line.specs.Words.{form_of};
 ghost use Rattle.bisim_spec.specs.declared.kind.Kind.{Kind};
@@ -8,7 +8,7 @@ ghost use Rattle.index_api.specs.Kept.{kinds_of};
 ghost use Rattle.pathindex_core.specs.Engines.{engine_seen, opened_of, IsSound};
 ghost use Rattle.script_run.specs.EngineStates.{state_in, IsOpen, IsIn};
 ghost use Rattle.script_run.specs.States.{BeginsRun, left_out};
-ghost use Rattle.pathindex_run.specs.Headline.{Meets, HasStatus, Completes, NamesScript, kinds_for};
+ghost use Rattle.pathindex_run.specs.Headline.{Meets, HasStatus, Completes, NamesScript, NoFault, kinds_for};
 ghost use Rattle.pathindex_run.specs.ToldFiles.{BeginsTold};
 
 use crate::made::run_made;
@@ -43,9 +43,10 @@ use std::alloc::Global;
 /// | 6 | a call of the sink failed |
 /// | 7 | there is no memory |
 ///
-/// Where the shelf tells its files or a seed is given, a graph file that loads and a script with no line that is bad give 0, 1 or
-/// 7 where no call fails and no count of faults stands at its last value. At 5, 6 and 7 a front of what the run prints is
-/// written. The cost is linear in the bytes of both files but for what the commands cost.
+/// Where the shelf tells its files, a graph file that loads and a script with no line that is bad give 0, 1 or 7 where no call
+/// fails and no count of faults stands at its last value. So does every seed, where no call of the sink fails and its count
+/// doesn't stand there. At 5, 6 and 7 a front of what the run prints is written. The cost is linear in the bytes of both files
+/// but for what the commands cost.
 pub fn run<H: Shelf, K: Sink>(
     alloc: Global,
     words: &[String],
@@ -59,6 +60,7 @@ pub fn run<H: Shelf, K: Sink>(
     ensures meets { Meets (form_of (map string_bytes words.now)) (kinds_of (map (λ b. meaning (b.vtable, b.value)) engine.old.boxes.items)) (H.files shelf.old) (K.written sink.old) (K.written sink.new) result (IsIn (engine_seen (map (λ b. meaning (b.vtable, b.value)) engine.new.boxes.items) engine.new.state)) }
     ensures status { HasStatus (form_of (map string_bytes words.now)) (H.files shelf.old) (H.faults shelf.old) (H.faults shelf.new) (K.faults sink.old) (K.faults sink.new) result }
     ensures complete { Completes (form_of (map string_bytes words.now)) (H.files shelf.old) (H.faults shelf.old) (H.faults shelf.new) (K.faults sink.old) (K.faults sink.new) result }
+    ensures made { (seed : ℕ) → form_of (map string_bytes words.now) ≡ makes seed → NoFault (K.faults sink.old) (K.faults sink.new) → (result ≤ 1) ⊎ (result ≡ 7) }
     ensures files { H.files shelf.new ≡ H.files shelf.old }
     ensures idle { ¬ NamesScript (form_of (map string_bytes words.now)) → shelf.new ≡ shelf.old }
 {
