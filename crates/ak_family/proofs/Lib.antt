@@ -3,5 +3,9 @@ pub mod Filled
 pub mod Supported
 pub mod Drafted
 pub mod ParentKeys
+pub mod LabelKeys
+pub mod Reserved
+pub mod SettledBelow
+pub mod FamilyKept
 pub mod Built
 mod Examples

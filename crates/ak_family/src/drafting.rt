@@ -27,7 +27,7 @@ use std::sync::ledger::Ledger;
 /// it will be once the draft is settled. Each call is given the family; its blocks, labels and keys must stay while something is drafted.
 #[derive(Drop)]
 pub struct AkDraft {
-    levels: Vec<KeyedDraft>,
+    pub(crate) levels: Vec<KeyedDraft>,
 }
 
 impl Model for AkDraft {
@@ -74,7 +74,7 @@ impl AkFamily {
         ensures block { result ≡ at (blocks_shown self.now d.now i) n }
         ensures live { IfSome result (λ b. IsSome (at (labels_shown self.now d.now i) b)) }
     {
-        draft_of(&d.levels, i).block_of(level_of(&self.levels, i), n)
+        draft_of(&d.levels, i as usize).block_of(level_of(&self.levels, i), n)
     }
 
     /// The block of a level that has the key as shown, and none exactly where no block has it. It takes no memory.
@@ -84,7 +84,7 @@ impl AkFamily {
         ensures leads { (b : ℕ) → (result ≡ Some b) ↔ (key_shown self.now d.now i b ≡ Some key.now) }
         ensures live { IfSome result (λ b. IsSome (at (labels_shown self.now d.now i) b)) }
     {
-        draft_of(&d.levels, i).find(level_of(&self.levels, i), key)
+        draft_of(&d.levels, i as usize).find(level_of(&self.levels, i), key)
     }
 }
 
@@ -213,9 +213,9 @@ pub(crate) fn level_of(levels: &Vec<KeyedSummary>, i: u32) -> &KeyedSummary
 }
 
 // What is drafted at a level.
-fn draft_of(drafts: &Vec<KeyedDraft>, i: u32) -> &KeyedDraft
+pub(crate) fn draft_of(drafts: &Vec<KeyedDraft>, i: usize) -> &KeyedDraft
     requires { i < length drafts.now.items }
     ensures { result.now ≡ changes_at drafts.now.items i }
 {
-    &drafts[i as usize]
+    &drafts[i]
 }

@@ -6,6 +6,7 @@ mod family;
 mod keyed;
 mod labels;
 mod layers;
+mod settling;
 #[cfg(test)]
 mod tests;
 

@@ -79,7 +79,7 @@ all_led q d labels old now o keys n w b key e = elim (lookup_cases (lookup (nat_
       (l.0, w.kept l.0 b key l.1 none))
 ]
 
-left_at : (q : KeyedQuotient) (d : KeyedChanges) (labels2 : List (Option ℕ)) → labels2 ≡ inhabited_from (blocks_as_shown q d) 0 (labels_as_shown q d) → (b : ℕ)
+pub left_at : (q : KeyedQuotient) (d : KeyedChanges) (labels2 : List (Option ℕ)) → labels2 ≡ inhabited_from (blocks_as_shown q d) 0 (labels_as_shown q d) → (b : ℕ)
     → at labels2 b ≡ cond (has_member (blocks_as_shown q d) b) (at (labels_as_shown q d) b) None
 left_at q d labels2 left b =
     ap (λ ls. at ls b) left ∙ inhabited_at (blocks_as_shown q d) 0 (labels_as_shown q d) b

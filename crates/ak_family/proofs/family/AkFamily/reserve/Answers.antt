@@ -1,0 +1,15 @@
+use Rattle.std.proofs.Common.{List, subst}
+use Rattle.keyed_quotient.specs.Levels.{KeyedQuotient}
+use Rattle.ak_family.specs.Drafting.{AreSeenAs}
+use Rattle.ak_family.proofs.FamilyKept.{shows_seen}
+use Rattle.ak_family.proofs.family.AkFamily.reserve.Goals as goal
+
+pub returns-in_err-reserve_all-clause-shows : goal.returns-in_err-reserve_all-clause-shows
+returns-in_err-reserve_all-clause-shows c =
+    shows_seen c.args.self.now c.reserve_all.new.levels.items c.args.d.now
+    (subst (λ (f : List KeyedQuotient). AreSeenAs f c.reserve_all.new.levels.items) c.self.view_is c.reserve_all.ensures.same)
+
+pub returns-clause-shows : goal.returns-clause-shows
+returns-clause-shows c =
+    shows_seen c.args.self.now c.reserve_all.new.levels.items c.args.d.now
+    (subst (λ (f : List KeyedQuotient). AreSeenAs f c.reserve_all.new.levels.items) c.self.view_is c.reserve_all.ensures.same)

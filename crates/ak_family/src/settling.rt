@@ -1,0 +1,68 @@
+// Settling a draft in its family.
+ghost use Rattle.std.specs.Prelude.{◌≡◌, ◌<◌, ℕ, List, OnOk, length};
+ghost use Rattle.quotient.specs.Quotients.{view_of};
+ghost use Rattle.keyed_quotient.specs.Levels.{KeyedQuotient};
+ghost use Rattle.keyed_quotient.specs.Changes.{AreInhabited};
+ghost use Rattle.ak_family.specs.Families.{level_at, IsKeyedFamily};
+ghost use Rattle.ak_family.specs.Drafting.{AreOver, AreSeenAs, HaveRoom, ShowsFamily, AreSettled, AreEmpty};
+
+use crate::drafting::{AkDraft, draft_of};
+use crate::family::AkFamily;
+use keyed_quotient::{KeyedDraft, KeyedSummary};
+use px_base::Memory;
+
+impl AkFamily {
+    /// Makes the room that settling this draft needs. It leaves the family as it is seen. Linear in what is drafted.
+    pub fn reserve(&mut self, d: &AkDraft) -> Result<(), Memory>
+        requires over { AreOver self.old d.now }
+        ensures same { AreSeenAs self.old self.new }
+        ensures over { AreOver self.new d.now }
+        ensures shows { ShowsFamily self.old d.now → ShowsFamily self.new d.now }
+        ensures settled { (f : List KeyedQuotient) → AreSettled self.new d.now f → AreSettled self.old d.now f }
+        ensures room { OnOk result (HaveRoom self.new d.now) }
+    {
+        reserve_all(&mut self.levels, &d.levels)?;
+        Ok(())
+    }
+
+    /// Makes the family what the draft shows, without blocks that have no members, and drops what was drafted. It can't fail and takes
+    /// no memory. Linear in what is drafted, and for each pair that loses its support in the number of neighbours of both
+    /// blocks.
+    pub fn settle(&mut self, d: &mut AkDraft)
+        requires room { HaveRoom self.old d.old }
+        requires shows { ShowsFamily self.old d.old }
+        ensures settled { AreSettled self.old d.old self.new }
+        ensures keyed { IsKeyedFamily self.new }
+        ensures count { length d.new ≡ length d.old }
+        ensures empty { AreEmpty d.new }
+        ensures over { AreOver self.new d.new }
+    {
+        settle_all(&mut self.levels, &mut d.levels);
+    }
+}
+
+// Makes the room at each level.
+fn reserve_all(levels: &mut Vec<KeyedSummary>, drafts: &Vec<KeyedDraft>) -> Result<(), Memory>
+    requires over { AreOver levels.old.items drafts.now.items }
+    ensures same { AreSeenAs levels.old.items levels.new.items }
+    ensures room { OnOk result (HaveRoom levels.new.items drafts.now.items) }
+{
+    'levels: for i in 0..levels.len() {
+        draft_of(drafts, i).reserve(&mut levels[i])?;
+    }
+    Ok(())
+}
+
+// Settles the draft of each level.
+fn settle_all(levels: &mut Vec<KeyedSummary>, drafts: &mut Vec<KeyedDraft>)
+    requires room { HaveRoom levels.old.items drafts.old.items }
+    requires shows { ShowsFamily levels.old.items drafts.old.items }
+    requires inhabited { (i : ℕ) → i < length levels.old.items → AreInhabited (level_at levels.old.items i).quotient.blocks.labels (level_at levels.old.items i).quotient.blocks.block_of }
+    ensures settled { AreSettled levels.old.items drafts.old.items levels.new.items }
+    ensures count { length drafts.new.items ≡ length drafts.old.items }
+    ensures empty { AreEmpty drafts.new.items }
+{
+    'levels: for i in 0..levels.len() {
+        drafts[i].settle(&mut levels[i]);
+    }
+}
