@@ -63,9 +63,9 @@ def level(graph, i):
 
 def both_ways(graph):
     """The pairs of nodes that are bisimilar by parents and children."""
-    related = level(graph, 0)
-    for _ in graph.live():
-        related = refined(graph, related, [graph.parents, graph.children])
+    related, before = level(graph, 0), None
+    while related != before:
+        related, before = refined(graph, related, [graph.parents, graph.children]), related
     return related
 
 
@@ -582,4 +582,5 @@ def main():
     print(f"ok: {runs} runs")
 
 
-main()
+if __name__ == "__main__":
+    main()
