@@ -62,6 +62,20 @@ module _ (L : ℕ → Option ℕ) (edge : ℕ → ℕ → Bool) (ends : (u v : �
   along_ends tree.parent u v h = let e = ends v u h in (e.1, e.0)
   along_ends tree.above u v h = let e = reach_ends v u h in (e.1, e.0)
 
+  -- from where the hop leads on
+  pub set_last : (a : tree.Axis) (Step : ℕ → Type 0) (step found : List ℕ) → IsSetOf L step Step
+      → ((c : ℕ) → IsTrue (has found c) ↔ ((v : ℕ) × IsTrue (has step v) × Along edge (turned a) v c))
+      → IsSetOf L found (λ v. (c : ℕ) × Along edge a v c × Step c × Unit {0})
+  set_last a Step step found s f v = (
+    λ m.
+        let p = (f v).0 m in
+        let l = along_back edge a p.0 v p.2 in
+        ((along_ends a v p.0 l).0, (p.0, l, ((s p.0).0 p.1).1, tt)),
+    λ p.
+        let l = p.1.1 in
+        (f v).1 (p.1.0, (s p.1.0).1 ((along_ends a v p.1.0 l).1, p.1.2), back_along edge a p.1.0 v l),
+  )
+
   -- from where the hop leads to a member
   pub set_hop : (a : tree.Axis) (Step : ℕ → Type 0) (step behind both found : List ℕ) → IsSetOf L step Step
       → ((n : ℕ) → IsTrue (has both n) ↔ (IsTrue (has step n) × IsTrue (has behind n)))

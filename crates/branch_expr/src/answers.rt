@@ -5,7 +5,7 @@ ghost use Rattle.branch_spec.specs.Answers.{AreBranchAnswers};
 
 use crate::holding::step_set;
 use crate::tree::BranchTree;
-use branch_sets::{along, intersection};
+use branch_sets::{along, intersect};
 use label_graph::{Digraph, Labels};
 use px_base::{Bits, Memory};
 use std::alloc::Global;
@@ -28,8 +28,8 @@ pub fn eval<G: Digraph>(
     for j in 0..query.rest.len() {
         let hop = &query.rest[j];
         let reached = along(alloc, g, hop.axis, &set)?;
-        let step = step_set(alloc, g, labels, &hop.step)?;
-        set = intersection(alloc, &step, &reached)?;
+        set = step_set(alloc, g, labels, &hop.step)?;
+        intersect(&mut set, &reached);
     }
     // Called for its contract: the members rise.
     let _size = set.size();

@@ -1,5 +1,5 @@
 // Where the parts of a query hold.
-ghost use Rattle.std.specs.Prelude.{◌≡◌, ◌<◌, ℕ, ◌∷◌, Some, length, IsTrue, IsSome, IfOk};
+ghost use Rattle.std.specs.Prelude.{◌≡◌, ◌<◌, ℕ, ◌∷◌, [], Some, length, IsTrue, IsSome, IfOk};
 ghost use Rattle.px_spec.specs.Members.{has};
 ghost use Rattle.px_spec.specs.Shapes.{shape_by};
 ghost use Rattle.branch_spec.specs.Trees as tree;
@@ -9,7 +9,7 @@ ghost use Rattle.branch_expr.specs.Views.{test_of, step_of, chain_of, cond_of, a
 ghost use Rattle.branch_expr.specs.Sets.{IsSetOf};
 
 use crate::tree::{And, Cond, Hop, Or, Rel, Step, Test};
-use branch_sets::{along, complement, intersection, passing, union};
+use branch_sets::{along, complement, intersect, passing, unite};
 use label_graph::{Digraph, Labels};
 use px_base::{Bits, Memory, Text};
 use std::alloc::Global;
@@ -53,7 +53,7 @@ pub(crate) fn step_set<G: Digraph>(
     let mut set = test_set(alloc, g, labels, &step.test)?;
     for j in 0..step.preds.len() {
         let pred = or_set(alloc, g, labels, &step.preds[j])?;
-        set = intersection(alloc, &set, &pred)?;
+        intersect(&mut set, &pred);
     }
     Ok(set)
 }
@@ -71,9 +71,20 @@ fn hop_set<G: Digraph>(
     ensures size { IfOk result (λ b. b.size ≡ G.span g.now) }
     ensures set { IfOk result (λ b. IsSetOf (G.label_at g.now) b.members (λ v. (c : ℕ) × Along (G.edge g.now) (axis_of hop.now.axis) v c × Meets (shape_by labels.now.texts (G.span g.now) (G.label_at g.now) (G.edge g.now)) (step_of hop.now.step) c × IsTrue (has behind.now.members c))) }
 {
-    let step = step_set(alloc, g, labels, &hop.step)?;
-    let ends = intersection(alloc, &step, behind)?;
+    let mut ends = step_set(alloc, g, labels, &hop.step)?;
+    intersect(&mut ends, behind);
     along(alloc, g, hop.axis.turned(), &ends)
+}
+
+/// From where the hop leads to any node that meets its step.
+#[cycle(holds)]
+fn last_set<G: Digraph>(alloc: Global, g: &G, labels: &Labels, hop: &Hop) -> Result<Bits, Memory>
+    requires labelled { (n l : ℕ) → G.label_at g.now n ≡ Some l → l < length labels.now.texts }
+    ensures size { IfOk result (λ b. b.size ≡ G.span g.now) }
+    ensures set { IfOk result (λ b. IsSetOf (G.label_at g.now) b.members (Goes (shape_by labels.now.texts (G.span g.now) (G.label_at g.now) (G.edge g.now)) (chain_of (hop.now ∷ [])))) }
+{
+    let met = step_set(alloc, g, labels, &hop.step)?;
+    along(alloc, g, hop.axis.turned(), &met)
 }
 
 /// From where the hops lead on.
@@ -83,8 +94,12 @@ fn rel_set<G: Digraph>(alloc: Global, g: &G, labels: &Labels, rel: &Rel) -> Resu
     ensures size { IfOk result (λ b. b.size ≡ G.span g.now) }
     ensures set { IfOk result (λ b. IsSetOf (G.label_at g.now) b.members (Goes (shape_by labels.now.texts (G.span g.now) (G.label_at g.now) (G.edge g.now)) (chain_of (rel.now.first ∷ rel.now.rest.items)))) }
 {
-    let mut set = passing(alloc, g, None)?;
-    for j in (0..rel.rest.len()).rev() {
+    let count = rel.rest.len();
+    if count == 0 {
+        return last_set(alloc, g, labels, &rel.first);
+    }
+    let mut set = last_set(alloc, g, labels, &rel.rest[count - 1])?;
+    for j in (0..count - 1).rev() {
         set = hop_set(alloc, g, labels, &rel.rest[j], &set)?;
     }
     hop_set(alloc, g, labels, &rel.first, &set)
@@ -116,7 +131,7 @@ fn and_set<G: Digraph>(alloc: Global, g: &G, labels: &Labels, and: &And) -> Resu
     let mut set = cond_set(alloc, g, labels, &and.first)?;
     for j in 0..and.more.len() {
         let next = cond_set(alloc, g, labels, &and.more[j])?;
-        set = intersection(alloc, &set, &next)?;
+        intersect(&mut set, &next);
     }
     Ok(set)
 }
@@ -130,7 +145,7 @@ fn or_set<G: Digraph>(alloc: Global, g: &G, labels: &Labels, or: &Or) -> Result<
     let mut set = and_set(alloc, g, labels, &or.first)?;
     for j in 0..or.more.len() {
         let next = and_set(alloc, g, labels, &or.more[j])?;
-        set = union(alloc, &set, &next)?;
+        unite(&mut set, &next);
     }
     Ok(set)
 }

@@ -1,4 +1,4 @@
--- What the small automata find.
+-- What the small automaton finds.
 use Rattle.std.proofs.Common.{◌≡◌, ◌↔◌, ℕ, zero, suc, ◌<◌, ◌⊎◌, inl, inr, List, Bool, refl, sym, ap, ◌∙◌, subst, arith, cond, Option, Some, IsTrue}
 use Rattle.std.specs.Prelude.{slice_get, is_some, IsSome}
 use Rattle.std.proofs.lemmas.Bool.{ne_eqb}
@@ -7,7 +7,7 @@ use Rattle.path_search.specs.declared.state.State.{State}
 use Rattle.path_search.specs.declared.state.State.TheVariants.{End, Any}
 use Rattle.path_search.specs.Searches.{Succeeds, leads, Reached, begin, onward, AreEnds}
 use Rattle.branch_spec.specs.Answers.{Reaches, direct, further}
-use Rattle.branch_sets.specs.Automata.{near_states, far_states}
+use Rattle.branch_sets.specs.Automata.{far_states}
 
 module _ (size : ℕ) (label_at : ℕ → Option ℕ) (edge : ℕ → ℕ → Bool) (First : ℕ → Type 0)
     (below : (n : ℕ) → IsSome (label_at n) → n < size) (ends : (u v : ℕ) → IsTrue (edge u v) → IsSome (label_at u) × IsSome (label_at v))
@@ -15,44 +15,8 @@ module _ (size : ℕ) (label_at : ℕ → Option ℕ) (edge : ℕ → ℕ → Bo
   inside : (v c : ℕ) → v < size → leads size label_at edge v c ≡ edge v c
   inside v c h = ap (λ b. cond b (is_some (label_at c)) (edge v c)) (ne_eqb v size (λ e. absurd (omega arith)))
 
-  at_near : ℕ → Option State
-  at_near k = slice_get near_states k
-
   at_far : ℕ → Option State
   at_far k = slice_get far_states k
-
-  -- one edge
-
-  abbrev Near : ℕ → Type 0
-  Near c = (v : ℕ) × First v × IsTrue (edge v c)
-
-  abbrev GoodNear : ℕ → ℕ → Type 0
-  GoodNear zero c = Near c
-  GoodNear (suc zero) c = First c
-  GoodNear (suc (suc k)) c = ⊥
-
-  near_next : (s v s2 v2 : ℕ) → GoodNear s v → Succeeds size label_at edge (slice_get near_states s) v s2 v2 → GoodNear s2 v2
-  near_next zero v s2 v2 g k = absurd k
-  near_next (suc zero) v s2 v2 g k = subst (λ x. GoodNear x v2) (sym k.0) (v, g, sym (inside v v2 (below v (nodes v g))) ∙ k.1)
-  near_next (suc (suc n)) v s2 v2 g k = absurd g
-
-  near_good : (s v : ℕ) → Reached (λ k. slice_get near_states k) size label_at edge First 1 s v → GoodNear s v
-  near_good s v (begin v0 f) = f
-  near_good s v (onward s0 v0 s1 v1 r k) = near_next s0 v0 s v (near_good s0 v0 r) k
-
-  near_end : (s v : ℕ) → slice_get near_states s ≡ Some End → GoodNear s v → Near v
-  near_end zero v e g = g
-  near_end (suc zero) v e g = absurd (any_end e)
-    where
-      any_end : Some (Any 0) ≡ Some End → ⊥
-      any_end e = cc
-  near_end (suc (suc k)) v e g = absurd g
-
-  pub near_image : (found : List ℕ) → AreEnds (λ k. slice_get near_states k) size label_at edge First 1 found → (c : ℕ) → IsTrue (has found c) ↔ Near c
-  near_image found a c = (
-    λ h. let f = a.sound c h in near_end f.0 c f.1 (near_good f.0 c f.3),
-    λ n. a.complete 0 c refl (below c (ends n.0 c n.2).1) (onward 1 n.0 0 c (begin n.0 n.1) (refl, inside n.0 c (below n.0 (nodes n.0 n.1)) ∙ n.2)),
-  )
 
   -- one edge or more
 

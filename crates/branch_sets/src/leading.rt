@@ -1,10 +1,10 @@
 // Where a set of nodes leads along an axis.
-ghost use Rattle.std.specs.Prelude.{◌≡◌, ◌↔◌, ℕ, ◌∷◌, [], true, length, IsTrue, IsSome, IfOk};
+ghost use Rattle.std.specs.Prelude.{◌≡◌, ◌↔◌, ◌⊎◌, ℕ, ◌∷◌, [], true, length, IsTrue, IsSome, IfOk};
 ghost use Rattle.px_spec.specs.Members.{has};
 ghost use Rattle.path_search.specs.declared.state.State.TheVariants.{End, Any, Fork};
 ghost use Rattle.branch_spec.specs.Answers.{Along, Reaches};
 ghost use Rattle.branch_sets.specs.Axes.{axis_of};
-ghost use Rattle.branch_sets.specs.Automata.{near_states, far_states};
+ghost use Rattle.branch_sets.specs.Automata.{far_states};
 
 use crate::axis::Axis;
 use crate::mirror::Mirror;
@@ -12,15 +12,6 @@ use label_graph::Digraph;
 use path_search::{Program, State, search};
 use px_base::{Bits, Memory};
 use std::alloc::Global;
-
-/// The automaton that reads one label from state 1 on.
-fn near_program(alloc: Global) -> Result<Program, Memory>
-    ensures { IfOk result (λ p. p ≡ near_states) }
-{
-    let mut program = Program::new(alloc)?;
-    program.push(State::Any(0))?;
-    Ok(program)
-}
 
 /// The automaton that reads one label or more from state 1 on.
 fn far_program(alloc: Global) -> Result<Program, Memory>
@@ -46,15 +37,32 @@ fn members(alloc: Global, set: &Bits) -> Result<Vec<u32>, Memory>
     Ok(list)
 }
 
-/// The children of the members.
+/// Puts the children of a node into a set.
+fn insert_children<G: Digraph>(g: &G, n: u32, set: &mut Bits)
+    requires node { IsSome (G.label_at g.now n) }
+    requires size { set.old.size ≡ G.span g.now }
+    ensures size { set.new.size ≡ set.old.size }
+    ensures members { (c : ℕ) → IsTrue (has set.new.members c) ↔ (IsTrue (has set.old.members c) ⊎ IsTrue (G.edge g.now n c)) }
+{
+    let children = g.children(n);
+    for i in 0..children.len() {
+        set.insert(children[i]);
+    }
+}
+
+/// The children of the members. Each member's children are read once.
 fn near<G: Digraph>(alloc: Global, g: &G, set: &Bits) -> Result<Bits, Memory>
     requires { (v : ℕ) → IsTrue (has set.now.members v) → IsSome (G.label_at g.now v) }
     ensures size { IfOk result (λ b. b.size ≡ G.span g.now) }
     ensures image { IfOk result (λ b. (c : ℕ) → IsTrue (has b.members c) ↔ ((v : ℕ) × IsTrue (has set.now.members v) × IsTrue (G.edge g.now v c))) }
 {
-    let program = near_program(alloc)?;
-    let places = members(alloc, set)?;
-    search(alloc, g, &program, 1, &places)
+    let mut image = Bits::new(alloc, g.size())?;
+    for n in 0..set.size() {
+        if set.contains(n) {
+            insert_children(g, n, &mut image);
+        }
+    }
+    Ok(image)
 }
 
 /// What is reached from a member by one edge or more.
@@ -69,7 +77,7 @@ fn far<G: Digraph>(alloc: Global, g: &G, set: &Bits) -> Result<Bits, Memory>
 }
 
 /// The nodes to which the axis leads from a member of the set: a set of numbers below the graph's size. `Memory` comes at
-/// want of memory alone. One search: it takes time and memory in proportion to the nodes and edges at most.
+/// want of memory alone. Each node and edge is read once at most; the memory is in proportion to the nodes.
 pub fn along<G: Digraph>(alloc: Global, g: &G, axis: Axis, set: &Bits) -> Result<Bits, Memory>
     requires { (v : ℕ) → IsTrue (has set.now.members v) → IsSome (G.label_at g.now v) }
     ensures size { IfOk result (λ b. b.size ≡ G.span g.now) }

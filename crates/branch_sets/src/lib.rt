@@ -9,4 +9,4 @@ mod sets;
 pub use axis::Axis;
 pub use leading::along;
 pub use mirror::Mirror;
-pub use sets::{complement, intersection, passing, union};
+pub use sets::{complement, intersect, passing, unite};

@@ -7,33 +7,29 @@ use label_graph::Digraph;
 use px_base::{Bits, Memory, NodeId};
 use std::alloc::Global;
 
-/// The numbers that are in both sets. Linear in the size of the first, which the new set has.
-pub fn intersection(alloc: Global, a: &Bits, b: &Bits) -> Result<Bits, Memory>
-    ensures size { IfOk result (λ s. s.size ≡ a.now.size) }
-    ensures members { IfOk result (λ s. (n : ℕ) → IsTrue (has s.members n) ↔ (IsTrue (has a.now.members n) × IsTrue (has b.now.members n))) }
+/// Takes the numbers out of a set that aren't in another one. Linear in the size of the first; it takes no memory.
+pub fn intersect(set: &mut Bits, other: &Bits)
+    ensures size { set.new.size ≡ set.old.size }
+    ensures members { (n : ℕ) → IsTrue (has set.new.members n) ↔ (IsTrue (has set.old.members n) × IsTrue (has other.now.members n)) }
 {
-    let mut set = Bits::new(alloc, a.size())?;
-    for n in 0..a.size() {
-        if a.contains(n) && b.contains(n) {
-            set.insert(n);
+    for n in 0..set.size() {
+        if !other.contains(n) {
+            set.remove(n);
         }
     }
-    Ok(set)
 }
 
-/// The numbers that are in one of the sets or in both. Linear in their size.
-pub fn union(alloc: Global, a: &Bits, b: &Bits) -> Result<Bits, Memory>
-    requires { b.now.size ≡ a.now.size }
-    ensures size { IfOk result (λ s. s.size ≡ a.now.size) }
-    ensures members { IfOk result (λ s. (n : ℕ) → IsTrue (has s.members n) ↔ (IsTrue (has a.now.members n) ⊎ IsTrue (has b.now.members n))) }
+/// Puts the numbers of another set into a set, which has the same size. Linear in their size; it takes no memory.
+pub fn unite(set: &mut Bits, other: &Bits)
+    requires { other.now.size ≡ set.old.size }
+    ensures size { set.new.size ≡ set.old.size }
+    ensures members { (n : ℕ) → IsTrue (has set.new.members n) ↔ (IsTrue (has set.old.members n) ⊎ IsTrue (has other.now.members n)) }
 {
-    let mut set = Bits::new(alloc, a.size())?;
-    for n in 0..b.size() {
-        if a.contains(n) || b.contains(n) {
+    for n in 0..other.size() {
+        if other.contains(n) {
             set.insert(n);
         }
     }
-    Ok(set)
 }
 
 /// The nodes of the graph that aren't in the set. Linear in the graph's size.

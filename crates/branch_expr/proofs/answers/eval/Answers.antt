@@ -14,9 +14,9 @@ loop-j-preserved g c =
     let label_at = g.G.Digraph.label_at c.args.g.now in
     let s = shape_by c.args.labels.now.texts span label_at (g.G.Digraph.edge c.args.g.now) in
     record {
-      size = c.in_ok-set-2.ensures.size ∙ c.in_ok-step.ensures.size;
+      size = c.intersect.ensures.size ∙ c.in_ok-set-2.ensures.size;
       holds = set_query label_at s (g.met.G.Digraph.ends c.args.g.now) (step_of c.query.inside.first) c.query.inside.rest.items c.loop-j.j c.index-hop.result.now (omega arith) c.index-hop.ensures
-          c.loop-j.set.members c.in_ok-reached.reached.members c.in_ok-step.step.members c.in_ok-set-2.set.members c.loop-j.invariant.holds c.in_ok-reached.ensures.image c.in_ok-step.ensures.set c.in_ok-set-2.ensures.members;
+          c.loop-j.set.members c.in_ok-reached.reached.members c.in_ok-set-2.set.members c.intersect.new.set.members c.loop-j.invariant.holds c.in_ok-reached.ensures.image c.in_ok-set-2.ensures.set c.intersect.ensures.members;
     }
 
 pub returns-clause-answers : goal.returns-clause-answers

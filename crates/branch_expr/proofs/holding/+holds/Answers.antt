@@ -8,7 +8,7 @@ use Rattle.branch_sets.specs.Axes.{axis_of}
 use Rattle.branch_expr.specs.Views.{test_of, step_of, chain_of, cond_of, and_of}
 use Rattle.branch_expr.specs.Sets.{IsSetOf}
 use Rattle.branch_sets.specs.Axes.{turned}
-use Rattle.branch_expr.proofs.Laws.{set_and, set_or, set_preds, set_go, set_hop, drop_back, drop_none}
+use Rattle.branch_expr.proofs.Laws.{set_and, set_or, set_preds, set_go, set_hop, set_last, drop_back, drop_none}
 use Rattle.branch_expr.proofs.holding.+holds.Goals as goal
 
 pub and_set-loop-j-preserved : goal.and_set-loop-j-preserved
@@ -17,9 +17,9 @@ and_set-loop-j-preserved g t c =
     let label_at = g.G.Digraph.label_at c.args.g.now in
     let s = shape_by c.args.labels.now.texts span label_at (g.G.Digraph.edge c.args.g.now) in
     record {
-      size = c.in_ok-set-2.ensures.size ∙ c.loop-j.invariant.size;
+      size = c.intersect.ensures.size ∙ c.loop-j.invariant.size;
       holds = set_and label_at s (g.met.G.Digraph.ends c.args.g.now) (cond_of c.args.and.now.first) c.args.and.now.more.items c.loop-j.j c.index.result.now (omega arith) c.index.ensures
-          c.loop-j.set.members c.in_ok-next.next.members c.in_ok-set-2.set.members c.loop-j.invariant.holds c.in_ok-next.ensures.set c.in_ok-set-2.ensures.members;
+          c.loop-j.set.members c.in_ok-next.next.members c.intersect.new.set.members c.loop-j.invariant.holds c.in_ok-next.ensures.set c.intersect.ensures.members;
     }
 
 pub or_set-loop-j-preserved : goal.or_set-loop-j-preserved
@@ -28,9 +28,9 @@ or_set-loop-j-preserved g t c =
     let label_at = g.G.Digraph.label_at c.args.g.now in
     let s = shape_by c.args.labels.now.texts span label_at (g.G.Digraph.edge c.args.g.now) in
     record {
-      size = c.in_ok-set-2.ensures.size ∙ c.loop-j.invariant.size;
+      size = c.unite.ensures.size ∙ c.loop-j.invariant.size;
       holds = set_or label_at s (g.met.G.Digraph.ends c.args.g.now) (and_of c.or.inside.first) c.or.inside.more.items c.loop-j.j c.index.result.now (omega arith) c.index.ensures
-          c.loop-j.set.members c.in_ok-next.next.members c.in_ok-set-2.set.members c.loop-j.invariant.holds c.in_ok-next.ensures.set c.in_ok-set-2.ensures.members;
+          c.loop-j.set.members c.in_ok-next.next.members c.unite.new.set.members c.loop-j.invariant.holds c.in_ok-next.ensures.set c.unite.ensures.members;
     }
 
 pub step_set-loop-j-preserved : goal.step_set-loop-j-preserved
@@ -39,9 +39,9 @@ step_set-loop-j-preserved g t c =
     let label_at = g.G.Digraph.label_at c.args.g.now in
     let s = shape_by c.args.labels.now.texts span label_at (g.G.Digraph.edge c.args.g.now) in
     record {
-      size = c.in_ok-set-2.ensures.size ∙ c.loop-j.invariant.size;
+      size = c.intersect.ensures.size ∙ c.loop-j.invariant.size;
       holds = set_preds label_at s (g.met.G.Digraph.ends c.args.g.now) (test_of c.args.step.now.test) c.args.step.now.preds.items c.loop-j.j c.index.result.now (omega arith) c.index.ensures
-          c.loop-j.set.members c.in_ok-pred.pred.members c.in_ok-set-2.set.members c.loop-j.invariant.holds c.in_ok-pred.ensures.set c.in_ok-set-2.ensures.members;
+          c.loop-j.set.members c.in_ok-pred.pred.members c.intersect.new.set.members c.loop-j.invariant.holds c.in_ok-pred.ensures.set c.intersect.ensures.members;
     }
 
 pub rel_set-loop-j-preserved : goal.rel_set-loop-j-preserved
@@ -50,8 +50,8 @@ rel_set-loop-j-preserved g t c =
     let label_at = g.G.Digraph.label_at c.args.g.now in
     let s = shape_by c.args.labels.now.texts span label_at (g.G.Digraph.edge c.args.g.now) in
     let hs = c.args.rel.now.rest.items in
-    let x = c.index.result.now in
-    let back = drop_back hs c.loop-j.j x (omega arith) (omega arith) c.index.ensures in
+    let x = c.index-in-loop-j.result.now in
+    let back = drop_back hs c.loop-j.j x (omega arith) (omega arith) c.index-in-loop-j.ensures in
     record {
       size = c.in_ok-set-2.ensures.size;
       holds = subst (λ y. IsSetOf label_at c.in_ok-set-2.set.members (Goes s (chain_of y))) (sym back)
@@ -78,7 +78,20 @@ hop_set-returns-clause-set g t c =
     let edge = g.G.Digraph.edge c.args.g.now in
     let s = shape_by c.args.labels.now.texts span label_at edge in
     let h = c.args.hop.now in
-    let image = subst (λ a. IfOk c.along.result (λ b. (x : ℕ) → IsTrue (has b.members x) ↔ ((v : ℕ) × IsTrue (has c.in_ok-ends.ends.members v) × Along edge a v x))) c.turned.ensures c.along.ensures.image in
-    IfOk-weaker c.along.result (λ b. (x : ℕ) → IsTrue (has b.members x) ↔ ((v : ℕ) × IsTrue (has c.in_ok-ends.ends.members v) × Along edge (turned (axis_of h.axis)) v x)) _
-    (λ b k. set_hop label_at edge (g.met.G.Digraph.ends c.args.g.now) (axis_of h.axis) (Meets s (step_of h.step)) c.in_ok-step.step.members c.args.behind.now.members c.in_ok-ends.ends.members b.members
-    c.in_ok-step.ensures.set c.in_ok-ends.ensures.members k) image
+    let both = c.intersect.new.set.members in
+    let image = subst (λ a. IfOk c.along.result (λ b. (x : ℕ) → IsTrue (has b.members x) ↔ ((v : ℕ) × IsTrue (has both v) × Along edge a v x))) c.turned.ensures c.along.ensures.image in
+    IfOk-weaker c.along.result (λ b. (x : ℕ) → IsTrue (has b.members x) ↔ ((v : ℕ) × IsTrue (has both v) × Along edge (turned (axis_of h.axis)) v x)) _
+    (λ b k. set_hop label_at edge (g.met.G.Digraph.ends c.args.g.now) (axis_of h.axis) (Meets s (step_of h.step)) c.in_ok-ends.ends.members c.args.behind.now.members both b.members
+    c.in_ok-ends.ensures.set c.intersect.ensures.members k) image
+
+pub last_set-returns-clause-set : goal.last_set-returns-clause-set
+last_set-returns-clause-set g t c =
+    let span = g.G.Digraph.span c.args.g.now in
+    let label_at = g.G.Digraph.label_at c.args.g.now in
+    let edge = g.G.Digraph.edge c.args.g.now in
+    let s = shape_by c.args.labels.now.texts span label_at edge in
+    let h = c.args.hop.now in
+    let step = c.in_ok-met.met.members in
+    let image = subst (λ a. IfOk c.along.result (λ b. (x : ℕ) → IsTrue (has b.members x) ↔ ((v : ℕ) × IsTrue (has step v) × Along edge a v x))) c.turned.ensures c.along.ensures.image in
+    IfOk-weaker c.along.result (λ b. (x : ℕ) → IsTrue (has b.members x) ↔ ((v : ℕ) × IsTrue (has step v) × Along edge (turned (axis_of h.axis)) v x)) _
+    (λ b k. set_last label_at edge (g.met.G.Digraph.ends c.args.g.now) (axis_of h.axis) (Meets s (step_of h.step)) step b.members c.in_ok-met.ensures.set k) image
