@@ -77,6 +77,15 @@ impl AkFamily {
         draft_of(&d.levels, i as usize).block_of(level_of(&self.levels, i), n)
     }
 
+    /// How many blocks a level has as shown. O(1).
+    pub fn blocks_shown(&self, d: &AkDraft, i: u32) -> u32
+        requires over { AreOver self.now d.now }
+        requires level { i < length self.now }
+        ensures count { result ≡ count_by is_some (labels_shown self.now d.now i) }
+    {
+        draft_of(&d.levels, i as usize).blocks(level_of(&self.levels, i))
+    }
+
     /// The block of a level that has the key as shown, and none exactly where no block has it. It takes no memory.
     pub fn find_shown(&self, d: &AkDraft, i: u32, key: &[u32]) -> Option<u32>
         requires over { AreOver self.now d.now }

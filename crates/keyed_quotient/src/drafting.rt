@@ -76,6 +76,14 @@ impl KeyedDraft {
         self.draft.block_of(&base.summary, n)
     }
 
+    /// How many blocks there are as shown. O(1).
+    pub fn blocks(&self, base: &KeyedSummary) -> u32
+        requires over { IsKeyedOver base.now self.now }
+        ensures count { result ≡ count_by is_some (labels_as_shown base.now self.now) }
+    {
+        self.draft.blocks(&base.summary)
+    }
+
     /// The block that has the key as shown, and none exactly where no block has it.
     pub fn find(&self, base: &KeyedSummary, key: &[u32]) -> Option<u32>
         requires over { IsKeyedOver base.now self.now }

@@ -1,0 +1,27 @@
+-- What is drafted for a change of the graph of an A(k)-family.
+use Rattle.std.specs.Prelude.{◌+◌, ◌*◌, ◌<◌, ℕ, List, length}
+use Rattle.px_spec.specs.Graphs.{Graph}
+use Rattle.px_spec.specs.Changes.{Change, after}
+use Rattle.px_spec.specs.Shapes.{shape_of}
+use Rattle.bisim_spec.specs.Fits.{FitsLevel}
+use Rattle.bisim_spec.specs.Reach.{near}
+use Rattle.bisim_spec.specs.Targets.{target}
+use Rattle.bisim_spec.specs.Weights.{weight}
+use Rattle.quotient.specs.Quotients.{view_of}
+use Rattle.quotient_draft.specs.Drafts.{settled_view}
+use Rattle.keyed_quotient.specs.Levels.{KeyedQuotient}
+use Rattle.keyed_quotient.specs.Changes.{KeyedChanges}
+use Rattle.ak_family.specs.Families.{level_at}
+use Rattle.ak_family.specs.Drafting.{changes_at}
+
+-- each level is that of the graph
+abbrev pub FamilyFits : Graph → List KeyedQuotient → Type 0
+FamilyFits g f = (i : ℕ) → i < length f → FitsLevel g i (view_of (level_at f i).quotient)
+
+-- once the draft is settled, each level is that of the graph
+abbrev pub ShownFit : Graph → List KeyedQuotient → List KeyedChanges → Type 0
+ShownFit g f d = (i : ℕ) → i < length f → FitsLevel g i (settled_view (level_at f i).quotient (changes_at d i).drafted)
+
+-- how many steps a change may take, where levels up to k are kept
+abbrev pub most_steps : Graph → Change → ℕ → ℕ
+most_steps g c k = 8 * k * weight (shape_of (after c g)) (near (shape_of (after c g)) (target c g) k)

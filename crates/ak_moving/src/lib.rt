@@ -1,0 +1,6 @@
+//! A change of a graph moves the nodes near it between the blocks of each level of an A(k)-family, in a draft.
+#![tactic(auto)]
+
+mod moving;
+
+pub use moving::move_near;

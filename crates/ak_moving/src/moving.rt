@@ -1,0 +1,40 @@
+// Moving the nodes near a change, level by level.
+ghost use Rattle.std.specs.Prelude.{◌≡◌, ◌+◌, ◌*◌, ◌<◌, ◌≤◌, ◌∷◌, [], ℕ, OnOk, IsTrue, length};
+ghost use Rattle.px_spec.specs.Members.{has};
+ghost use Rattle.px_spec.specs.Shapes.{shape_of};
+ghost use Rattle.bisim_spec.specs.Reach.{near};
+ghost use Rattle.bisim_spec.specs.Weights.{weight};
+ghost use Rattle.graph_update.specs.Pending.{graph_after};
+ghost use Rattle.level_spec.specs.Keyed.{IsKeyed};
+ghost use Rattle.ak_family.specs.Drafting.{blocks_shown, key_shown};
+ghost use Rattle.ak_moving.specs.Moving.{IsMoving, AreKeyedNear};
+
+use ak_family::{AkDraft, AkFamily};
+use graph_update::After;
+use px_base::{Memory, NodeId, Steps};
+use std::alloc::Global;
+use std::sync::ledger::Ledger;
+
+/// Moves the nodes to which few edges lead from the target of a change, level by level from level 1 on: at level `i` those
+/// that at most `i` edges part from the target, each to the block of its key there, which is a further block where no block has the key.
+/// The edges of the change are drafted at each level already, and level 0 is done.
+///
+/// It takes at most `8 * k * w` steps, where `k` is the highest level, and `w` is one for each node that at most `k` edges part from the
+/// target, one for each of its parents and one for each of its children. After `Memory` the draft is only good to be dropped.
+pub fn move_near<L: Ledger>(
+    alloc: Global,
+    family: &AkFamily,
+    draft: &mut AkDraft,
+    after: &After<'_>,
+    target: NodeId,
+    steps: &mut Steps<L>,
+) -> Result<(), Memory>
+    requires given { target < length (graph_after after.now).given }
+    requires moving { IsMoving (has (target ∷ [])) (graph_after after.now) family.now draft.old }
+    ensures moving { OnOk result (IsMoving (has (target ∷ [])) (graph_after after.now) family.now draft.new) }
+    ensures keyed { OnOk result (AreKeyedNear (has (target ∷ [])) (graph_after after.now) family.now draft.new) }
+    ensures lowest { OnOk result (blocks_shown family.now draft.new 0 ≡ blocks_shown family.now draft.old 0) }
+    ensures cost { (k : ℕ) → length family.now ≡ k + 1 → steps.new ≤ steps.old + 8 * k * weight (shape_of (graph_after after.now)) (near (shape_of (graph_after after.now)) (has (target ∷ [])) k) }
+{
+    Err(Memory)
+}
