@@ -1,0 +1,4 @@
+pub mod Blocks
+pub mod Nodes
+pub mod Levels
+pub mod Costing

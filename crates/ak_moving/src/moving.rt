@@ -9,8 +9,11 @@ ghost use Rattle.level_spec.specs.Keyed.{IsKeyed};
 ghost use Rattle.ak_family.specs.Drafting.{blocks_shown, key_shown};
 ghost use Rattle.ak_moving.specs.Moving.{IsMoving, AreKeyedNear};
 
+use crate::buffers::Buffers;
+use crate::level::place_all;
 use ak_family::{AkDraft, AkFamily};
 use graph_update::After;
+use near_nodes::near_nodes;
 use px_base::{Memory, NodeId, Steps};
 use std::alloc::Global;
 use std::sync::ledger::Ledger;
@@ -36,5 +39,11 @@ pub fn move_near<L: Ledger>(
     ensures lowest { OnOk result (blocks_shown family.now draft.new 0 ≡ blocks_shown family.now draft.old 0) }
     ensures cost { (k : ℕ) → length family.now ≡ k + 1 → steps.new ≤ steps.old + 8 * k * weight (shape_of (graph_after after.now)) (near (shape_of (graph_after after.now)) (has (target ∷ [])) k) }
 {
-    Err(Memory)
+    let k = family.k();
+    let found = near_nodes(alloc, after, &[target], k, steps)?;
+    let mut buffers = Buffers::new(alloc);
+    for i in 0..k {
+        place_all(family, draft, i, after, found.within(i + 1), &mut buffers, steps)?;
+    }
+    Ok(())
 }

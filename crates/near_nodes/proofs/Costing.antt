@@ -19,7 +19,7 @@ use Rattle.upkeep_spec.proofs.Sums.{where_in, sum_listed, sum_most, sum_plus}
 use Rattle.near_nodes.proofs.Distances.{IsSearched}
 
 -- what is near is no number past the graph
-near_below : (s : Shape) (from : ℕ → Bool) → IsShape s → ((t : ℕ) → from t ≡ true → t < s.size) → (i n : ℕ) → near s from i n ≡ true → n < s.size
+pub near_below : (s : Shape) (from : ℕ → Bool) → IsShape s → ((t : ℕ) → from t ≡ true → t < s.size) → (i n : ℕ) → near s from i n ≡ true → n < s.size
 near_below s from shape given zero n h = given n h
 near_below s from shape given (suc i) n h = elim (near_cases s from i n h) [
   | inl e ↦ near_below s from shape given i n e
@@ -37,7 +37,7 @@ once_before (suc n) v h = elim (eqb_tells n v) [
       omega (arith, rest, here))
 ]
 
-once_most : (n v : ℕ) → sum_below n (λ k. cond (nat_eq k v) 1 0) ≤ 1
+pub once_most : (n v : ℕ) → sum_below n (λ k. cond (nat_eq k v) 1 0) ≤ 1
 once_most zero v = omega arith
 once_most (suc n) v = elim (eqb_tells n v) [
   | inl s ↦ (
@@ -56,7 +56,7 @@ zeros zero = refl
 zeros (suc n) = (let r = zeros n in omega (arith, r))
 
 -- an edge that is taken away begins at one node
-lost_most : (n : ℕ) (lost : Option (ℕ × ℕ)) → sum_below n (lost_from lost) ≤ 1
+pub lost_most : (n : ℕ) (lost : Option (ℕ × ℕ)) → sum_below n (lost_from lost) ≤ 1
 lost_most n None = (let z = zeros n in omega (arith, z))
 lost_most n (Some e) = once_most n e.0
 

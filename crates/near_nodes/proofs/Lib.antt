@@ -1,3 +1,3 @@
 mod Spreading
 mod Distances
-mod Costing
+pub mod Costing

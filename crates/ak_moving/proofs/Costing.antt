@@ -1,0 +1,110 @@
+-- What placing the near nodes costs.
+use Rattle.std.proofs.Common.{◌≡◌, ℕ, zero, suc, ◌+◌, ◌*◌, ◌<◌, ◌≤◌, List, [], ◌∷◌, Option, Some, None, length, refl, sym, ◌∙◌, ap, subst, arith, inl, inr, true, Bool, cond, take, get_or}
+use Rattle.std.specs.Prelude.{nat_eq}
+use Rattle.std.specs.List.{sum_by, IsDistinct}
+use Rattle.std.proofs.Math.Nat.{mul-le-mul_left}
+use Rattle.std.proofs.lemmas.Bool.{cases_Bool, cases_lt}
+use Rattle.std.proofs.lemmas.List.{take_more}
+use Rattle.std.proofs.lemmas.List.Sums.{sum_by_push, sum_by-take-le}
+use Rattle.px_spec.specs.Members.{has, Lists}
+use Rattle.px_spec.specs.Shapes.{Shape, IsShape, shape_of}
+use Rattle.bisim_spec.specs.Below.{sum_below}
+use Rattle.bisim_spec.specs.Reach.{near}
+use Rattle.bisim_spec.specs.Weights.{weight_at, weight}
+use Rattle.bisim_spec.proofs.Reached.{near_more}
+use Rattle.graph_update.specs.Pending.{Pending, graph_after, lost_edge, lost_from, lost_onto}
+use Rattle.near_nodes.proofs.Costing.{near_below, once_most, lost_most}
+use Rattle.level_spec.proofs.Weighed.{weight_near}
+use Rattle.upkeep_spec.proofs.Sums.{where_in, sum_listed, sum_without, first_has}
+use Rattle.ak_moving.specs.Costs.{place_cost}
+use Rattle.ak_moving.proofs.Nodes.{only_one}
+
+zeros : (n : ℕ) → sum_below n (λ k. 0) ≡ 0
+zeros zero = refl
+zeros (suc n) = (let r = zeros n in omega (arith, r))
+
+-- an edge that is taken away ends at one node
+lost_onto_most : (n : ℕ) (lost : Option (ℕ × ℕ)) → sum_below n (lost_onto lost) ≤ 1
+lost_onto_most n None = (let z = zeros n in omega (arith, z))
+lost_onto_most n (Some e) = once_most n e.1
+
+-- three times one sum, and two others
+sum_three : (n : ℕ) (f g h i : ℕ → ℕ) → ((k : ℕ) → f k ≤ 3 * g k + 2 * h k + i k) → sum_below n f ≤ 3 * sum_below n g + 2 * sum_below n h + sum_below n i
+sum_three zero f g h i e = omega arith
+sum_three (suc n) f g h i e = (let a = e n in let r = sum_three n f g h i e in omega (arith, a, r))
+
+-- distinct nodes in the set
+nodes_most : (a : Pending) (inside : ℕ → Bool) (nodes : List ℕ) → IsDistinct nat_eq nodes
+    → ((n : ℕ) → has nodes n ≡ true → (n < (shape_of (graph_after a)).size) × (inside n ≡ true))
+    → sum_by (place_cost a) nodes ≤ 3 * weight (shape_of (graph_after a)) inside + 3
+nodes_most a inside nodes once within =
+    let s = shape_of (graph_after a) in
+    let listed = sum_listed s.size inside (place_cost a) nodes once within in
+    let parts = sum_three s.size (where_in inside (place_cost a)) (where_in inside (weight_at s)) (lost_onto (lost_edge a.change)) (lost_from (lost_edge a.change)) (λ k. elim (cases_Bool (inside k)) [
+      | inl on ↦ rw on (omega arith)
+      | inr off ↦ rw off (omega arith)
+    ]) in
+    let onto = lost_onto_most s.size (lost_edge a.change) in
+    let from = lost_most s.size (lost_edge a.change) in
+    omega (arith, listed, parts, onto, from)
+
+-- the nodes that are near by at most i edges, where those near by at most k of them weigh w
+pub level_most : (a : Pending) (target i k : ℕ) (nodes : List ℕ) → IsShape (shape_of (graph_after a)) → target < (shape_of (graph_after a)).size
+    → Lists (near (shape_of (graph_after a)) (has (target ∷ [])) i) nodes → i ≤ k
+    → sum_by (place_cost a) nodes ≤ 3 * weight (shape_of (graph_after a)) (near (shape_of (graph_after a)) (has (target ∷ [])) k) + 3
+level_most a target i k nodes shape given l within =
+    let s = shape_of (graph_after a) in
+    let most = nodes_most a (near s (has (target ∷ [])) i) nodes l.once (λ n h.
+    let on = sym (l.members n) ∙ h in
+    (near_below s (has (target ∷ [])) shape (λ t e. targets t e) i n on, on)) in
+    let more = weight_near s (has (target ∷ [])) i k within in
+    omega (arith, most, more)
+  where
+    targets : (t : ℕ) → has (target ∷ []) t ≡ true → t < (shape_of (graph_after a)).size
+    targets t e = subst (λ n. n < (shape_of (graph_after a)).size) (sym (only_one target t e)) given
+
+-- what is near weighs something, since the target is
+pub some_weight : (s : Shape) (target k : ℕ) → target < s.size → 1 ≤ weight s (near s (has (target ∷ [])) k)
+some_weight s target k given =
+    let inside = near s (has (target ∷ [])) k in
+    let on = near_more s (has (target ∷ [])) 0 k target (omega arith) (first_has target []) in
+    let one = sum_without s.size inside (weight_at s) target given on in
+    omega (arith, one)
+
+mul-le : (a b c : ℕ) → a ≤ b → a * c ≤ b * c
+mul-le a b c h = (let k = mul-le-mul_left c h in omega (arith, k))
+
+-- A search and some levels, which cost so much each, are no more than eight times all levels.
+total_most : (w k i before now : ℕ) → 1 ≤ w → i ≤ k → 1 ≤ k → now ≤ before + (w + 1) + i * (3 * w + 3) → now ≤ before + 8 * k * w
+total_most w k i before now some within many cost =
+    let all = mul-le i k (3 * w + 3) within in
+    let three : 3 * w + 3 ≤ 6 * w = omega (arith, some) in
+    let levels : k * (3 * w + 3) ≤ k * (6 * w) = mul-le-mul_left k three in
+    let search : w + 1 ≤ 2 * w = omega (arith, some) in
+    let one : 1 * w ≤ k * w = mul-le 1 k w many in
+    omega (arith, cost, all, levels, search, one)
+
+-- what is spent so far is within the bound of all levels
+pub spent_most : (s : Shape) (target k i before now : ℕ) → target < s.size → i ≤ k → (k ≡ 0 → now ≡ before)
+    → now ≤ before + (weight s (near s (has (target ∷ [])) k) + 1) + i * (3 * weight s (near s (has (target ∷ [])) k) + 3) → (len m : ℕ) → len ≡ k + 1 → len ≡ m + 1
+    → now ≤ before + 8 * m * weight s (near s (has (target ∷ [])) m)
+spent_most s target k i before now given within none cost len m count e =
+    let same : k ≡ m = omega (arith, count, e) in
+    subst (λ m. now ≤ before + 8 * m * weight s (near s (has (target ∷ [])) m)) same (elim (cases_lt 0 k) [
+      | inl many ↦ total_most (weight s (near s (has (target ∷ [])) k)) k i before now (some_weight s target k given) within (omega (arith, many)) cost
+      | inr past ↦
+          (let zero_is : k ≡ 0 = omega (arith, past) in
+          let still = none zero_is in
+          omega (arith, still))
+    ])
+
+-- one more element
+pub sum_next : (f : ℕ → ℕ) (xs : List ℕ) (i d : ℕ) → i < length xs → sum_by f (take (i + 1) xs) ≡ sum_by f (take i xs) + f (get_or xs i d)
+sum_next f xs i d h = ap (sum_by f) (take_more xs i d h) ∙ sum_by_push f (take i xs) (get_or xs i d)
+
+-- the first elements are at most all
+pub sum_first : (f : ℕ → ℕ) (xs : List ℕ) (i d : ℕ) → i < length xs → sum_by f (take i xs) + f (get_or xs i d) ≤ sum_by f xs
+sum_first f xs i d h =
+    let a = sum_next f xs i d h in
+    let b = sum_by-take-le f xs (i + 1) in
+    omega (arith, a, b)
