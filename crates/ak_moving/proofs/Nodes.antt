@@ -1,7 +1,7 @@
 -- One node is placed, and then the next.
 use Rattle.std.proofs.Common.{◌≡◌, ◌≢◌, ◌⊎◌, ℕ, ◌+◌, List, [], ◌∷◌, ◌++◌, Option, Some, None, IsTrue, IsFalse, IsSome, is_some, refl, sym, ◌∙◌, ap, subst, arith, inl, inr, true, false, Bool, cond, true≢false}
 use Rattle.std.specs.Prelude.{nat_eq, ◌||◌, list_any}
-use Rattle.std.proofs.lemmas.Bool.{or_cases, cases_Bool, both_ways, false_from_ne_true}
+use Rattle.std.proofs.lemmas.Bool.{or_cases, or_left, cases_Bool}
 use Rattle.std.proofs.lemmas.Bool.Decides.{eqb_tells, Decides-eqb}
 use Rattle.std.proofs.lemmas.List.Folds.{list_any-append}
 use Rattle.px_spec.specs.Graphs.{Graph, has_edge, is_live}
@@ -24,7 +24,7 @@ pub only_one : (n m : ℕ) → has (n ∷ []) m ≡ true → m ≡ n
 only_one n m h = elim (or_cases (nat_eq m n) false h) [ inl e ↦ (Decides-eqb m n).0 e | inr e ↦ absurd (true≢false (sym e)) ]
 
 not_one : (n m : ℕ) → has (n ∷ []) m ≡ false → nat_eq m n ≡ false
-not_one n m h = elim (cases_Bool (nat_eq m n)) [ inl e ↦ absurd (true≢false (sym (rw e refl : has (n ∷ []) m ≡ true) ∙ h)) | inr e ↦ e ]
+not_one n m h = elim (cases_Bool (nat_eq m n)) [ inl e ↦ absurd (true≢false (sym (or_left (nat_eq m n) false e) ∙ h)) | inr e ↦ e ]
 
 -- a level is no other one
 lower_apart : (i : ℕ) → i ≢ i + 1

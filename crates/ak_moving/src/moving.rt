@@ -39,6 +39,8 @@ pub fn move_near<L: Ledger>(
     ensures lowest { OnOk result (blocks_shown family.now draft.new 0 ≡ blocks_shown family.now draft.old 0) }
     ensures cost { (k : ℕ) → length family.now ≡ k + 1 → steps.new ≤ steps.old + 8 * k * weight (shape_of (graph_after after.now)) (near (shape_of (graph_after after.now)) (has (target ∷ [])) k) }
 {
+    // This says that there is a graph, so that what is near is among its nodes.
+    let _ = after.created();
     let k = family.k();
     let found = near_nodes(alloc, after, &[target], k, steps)?;
     let mut buffers = Buffers::new(alloc);

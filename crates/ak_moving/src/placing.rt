@@ -103,6 +103,8 @@ fn place_in<L: Ledger>(
     ensures placed { OnOk result (ArePlaced (graph_after after.now) family.now draft.old draft.new i (n ∷ [])) }
     ensures cost { steps.new ≤ steps.old + place_cost after.now n }
 {
+    // This says that there are few levels.
+    let _ = family.k();
     write_key(&mut buffers.key, family, draft, i, after, n, own, &mut buffers.parents, steps)?;
     let b = block_of_key(family, draft, i + 1, after.label(n), &buffers.key)?;
     move_to(family, draft, i + 1, after, n, b, &mut buffers.near, &mut buffers.next, steps)?;

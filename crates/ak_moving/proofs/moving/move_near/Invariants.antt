@@ -14,6 +14,6 @@ invariant-loop-i g l = record {
   moving : IsMoving (has (l.target ∷ [])) (graph_after l.after) l.family l.draft;
   keyed : AreKeyedTo (has (l.target ∷ [])) (graph_after l.after) l.family l.draft l.i;
   lowest : blocks_shown l.family l.draft 0 ≡ blocks_shown l.family l.initial.draft 0;
-  none : l.k ≡ 0 → l.steps ≡ l.initial.steps;
-  cost : l.steps ≤ l.initial.steps + (weight (shape_of (graph_after l.after)) (near (shape_of (graph_after l.after)) (has (l.target ∷ [])) l.k) + 1) + l.i * (3 * weight (shape_of (graph_after l.after)) (near (shape_of (graph_after l.after)) (has (l.target ∷ [])) l.k) + 3);
+  none : l.k ≡ 0 → l.steps ≡ l.fn.steps;
+  cost : l.steps ≤ l.fn.steps + (weight (shape_of (graph_after l.after)) (near (shape_of (graph_after l.after)) (has (l.target ∷ [])) l.k) + 1) + l.i * (3 * weight (shape_of (graph_after l.after)) (near (shape_of (graph_after l.after)) (has (l.target ∷ [])) l.k) + 3);
 }
