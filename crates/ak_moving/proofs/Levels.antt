@@ -1,15 +1,15 @@
 -- The levels of a draft, one of which is done.
-use Rattle.std.proofs.Common.{◌≡◌, ◌≢◌, ℕ, ◌+◌, ◌<◌, ◌≤◌, List, Option, Some, Bool, IsTrue, IsFalse, refl, sym, ◌∙◌, ap, subst, arith, inl, inr, length}
+use Rattle.std.proofs.Common.{◌≡◌, ℕ, ◌+◌, ◌<◌, ◌≤◌, List, Some, Bool, IsTrue, sym, ◌∙◌, ap, subst, arith, inl, inr, length}
 use Rattle.std.proofs.lemmas.Bool.{cases_lt}
 use Rattle.std.proofs.lemmas.Bool.Decides.{eqb_tells}
 use Rattle.px_spec.specs.Graphs.{Graph}
 use Rattle.px_spec.specs.Shapes.{shape_of}
-use Rattle.px_spec.specs.Members.{at, has, Lists}
+use Rattle.px_spec.specs.Members.{at, Lists}
 use Rattle.bisim_spec.specs.Reach.{near}
 use Rattle.keyed_quotient.specs.Levels.{KeyedQuotient, key_at}
 use Rattle.keyed_quotient.specs.Changes.{KeyedChanges, blocks_as_shown, labels_as_shown, support_as_shown, shown_key}
 use Rattle.ak_family.specs.Families.{level_at, blocks_at}
-use Rattle.ak_family.specs.Drafting.{changes_at, blocks_shown, labels_shown, support_shown, key_shown, AreSameBut}
+use Rattle.ak_family.specs.Drafting.{blocks_shown, labels_shown, support_shown, key_shown}
 use Rattle.level_spec.specs.Keyed.{IsKeyed, KeysStay, SameFar, AreLabelled, IsLevelOf, LabelsGoUp, first_number}
 use Rattle.ak_moving.specs.Moving.{IsMoving, AreKeyedNear}
 use Rattle.ak_moving.specs.Placed.{AreTwoLevels, ArePlaced}
@@ -47,9 +47,11 @@ moving_placed target g f d d2 i nodes m p l = record {
         })
   ];
   stay = λ j h. elim (eqb_tells j (i + 1)) [
-    | inl s ↦ record { kept = λ b numbers e.
-        let before = (m.stay j h).kept b numbers e in
-        subst (λ j. key_shown f d2 j b ≡ Some numbers) (sym s.1) (p.keys.kept b numbers (subst (λ j. key_shown f d j b ≡ Some numbers) s.1 before)) }
+    | inl s ↦ record {
+      kept = λ b numbers e.
+          let before = (m.stay j h).kept b numbers e in
+          subst (λ j. key_shown f d2 j b ≡ Some numbers) (sym s.1) (p.keys.kept b numbers (subst (λ j. key_shown f d j b ≡ Some numbers) s.1 before));
+    }
     | inr t ↦ subst (λ (x : KeyedChanges). KeysStay (key_at (level_at f j).keys) (shown_key (level_at f j) x)) (sym (p.others j t.1)) (m.stay j h)
   ];
   far = λ j h. elim (eqb_tells j (i + 1)) [

@@ -1,24 +1,23 @@
 -- One node is placed, and then the next.
-use Rattle.std.proofs.Common.{◌≡◌, ◌≢◌, ◌⊎◌, ℕ, ◌+◌, List, [], ◌∷◌, ◌++◌, Option, Some, None, IsTrue, IsFalse, IsSome, is_some, refl, sym, ◌∙◌, ap, subst, arith, inl, inr, true, false, Bool, cond, true≢false}
-use Rattle.std.specs.Prelude.{nat_eq, ◌||◌, list_any}
+use Rattle.std.proofs.Common.{◌≡◌, ◌≢◌, ℕ, ◌+◌, List, [], ◌∷◌, ◌++◌, Option, Some, None, is_some, refl, sym, ◌∙◌, ap, subst, arith, inl, inr, true, false, Bool, cond, true≢false}
+use Rattle.std.specs.Prelude.{nat_eq, ◌||◌}
 use Rattle.std.proofs.lemmas.Bool.{or_cases, or_left, cases_Bool}
 use Rattle.std.proofs.lemmas.Bool.Decides.{eqb_tells, Decides-eqb}
 use Rattle.std.proofs.lemmas.List.Folds.{list_any-append}
-use Rattle.px_spec.specs.Graphs.{Graph, has_edge, is_live}
+use Rattle.px_spec.specs.Graphs.{Graph, has_edge}
 use Rattle.px_spec.specs.Shapes.{Shape, IsNode, shape_of}
 use Rattle.px_spec.specs.Members.{at, has}
 use Rattle.label_graph.specs.Views.{label_number}
 use Rattle.bisim_spec.specs.Partitions.{IsPartition}
 use Rattle.bisim_spec.specs.Supports.{edges_between}
-use Rattle.bisim_spec.proofs.Bisimilar.{some_of, none_or_some}
 use Rattle.bisim_levels.specs.Keys.{IsKey}
 use Rattle.upkeep_spec.specs.Supported.{AreEdgeCounts}
 use Rattle.keyed_quotient.specs.Levels.{KeyedQuotient}
 use Rattle.keyed_quotient.specs.Changes.{KeyedChanges, blocks_as_shown, labels_as_shown, support_as_shown}
 use Rattle.ak_family.specs.Families.{level_at}
-use Rattle.ak_family.specs.Drafting.{changes_at, blocks_shown, labels_shown, support_shown, key_shown, AreSameBut}
-use Rattle.level_spec.specs.Keyed.{IsKeyed, IsLevelOf, LabelsGoUp, first_number}
-use Rattle.ak_moving.specs.Placed.{LabelsKept, AreTwoLevels, HasBlock, HasMoved, ArePlaced}
+use Rattle.ak_family.specs.Drafting.{changes_at, blocks_shown, labels_shown, key_shown}
+use Rattle.level_spec.specs.Keyed.{IsLevelOf, first_number}
+use Rattle.ak_moving.specs.Placed.{AreTwoLevels, HasBlock, HasMoved, ArePlaced}
 
 pub only_one : (n m : ℕ) → has (n ∷ []) m ≡ true → m ≡ n
 only_one n m h = elim (or_cases (nat_eq m n) false h) [ inl e ↦ (Decides-eqb m n).0 e | inr e ↦ absurd (true≢false (sym e)) ]
@@ -159,9 +158,9 @@ placed_none g f d i n t none = record {
   blocks = λ m off. refl;
   keyed = λ m on. record {
     keyed = λ c e. absurd (
-    let s = only_one n m on in
-    let node = t.upper.partition.only n (ap is_some (ap (at (blocks_shown f d (i + 1))) (sym s) ∙ e)) in
-    true≢false (sym (t.lower.partition.live n node) ∙ ap is_some none));
+        let s = only_one n m on in
+        let node = t.upper.partition.only n (ap is_some (ap (at (blocks_shown f d (i + 1))) (sym s) ∙ e)) in
+        true≢false (sym (t.lower.partition.live n node) ∙ ap is_some none));
   };
 }
 

@@ -1,5 +1,5 @@
 -- What holds of the levels of a draft while the nodes near a change move between blocks.
-use Rattle.std.specs.Prelude.{◌≡◌, ◌+◌, ◌<◌, ℕ, Bool, List, IsTrue, length}
+use Rattle.std.specs.Prelude.{◌+◌, ◌<◌, ℕ, Bool, List, IsTrue, length}
 use Rattle.px_spec.specs.Graphs.{Graph}
 use Rattle.px_spec.specs.Shapes.{shape_of}
 use Rattle.bisim_spec.specs.Reach.{near}

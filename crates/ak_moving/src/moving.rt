@@ -1,12 +1,11 @@
 // Moving the nodes near a change, level by level.
-ghost use Rattle.std.specs.Prelude.{◌≡◌, ◌+◌, ◌*◌, ◌<◌, ◌≤◌, ◌∷◌, [], ℕ, OnOk, IsTrue, length};
+ghost use Rattle.std.specs.Prelude.{◌≡◌, ◌+◌, ◌*◌, ◌<◌, ◌≤◌, ◌∷◌, [], ℕ, OnOk, length};
 ghost use Rattle.px_spec.specs.Members.{has};
 ghost use Rattle.px_spec.specs.Shapes.{shape_of};
 ghost use Rattle.bisim_spec.specs.Reach.{near};
 ghost use Rattle.bisim_spec.specs.Weights.{weight};
 ghost use Rattle.graph_update.specs.Pending.{graph_after};
-ghost use Rattle.level_spec.specs.Keyed.{IsKeyed};
-ghost use Rattle.ak_family.specs.Drafting.{blocks_shown, key_shown};
+ghost use Rattle.ak_family.specs.Drafting.{blocks_shown};
 ghost use Rattle.ak_moving.specs.Moving.{IsMoving, AreKeyedNear};
 
 use crate::buffers::Buffers;
@@ -45,7 +44,8 @@ pub fn move_near<L: Ledger>(
     let found = near_nodes(alloc, after, &[target], k, steps)?;
     let mut buffers = Buffers::new(alloc);
     for i in 0..k {
-        place_all(family, draft, i, after, found.within(i + 1), &mut buffers, steps)?;
+        let nodes = found.within(i + 1);
+        place_all(family, draft, i, after, nodes, &mut buffers, steps)?;
     }
     Ok(())
 }

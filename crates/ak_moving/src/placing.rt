@@ -105,9 +105,29 @@ fn place_in<L: Ledger>(
 {
     // This says that there are few levels.
     let _ = family.k();
-    write_key(&mut buffers.key, family, draft, i, after, n, own, &mut buffers.parents, steps)?;
+    write_key(
+        &mut buffers.key,
+        family,
+        draft,
+        i,
+        after,
+        n,
+        own,
+        &mut buffers.parents,
+        steps,
+    )?;
     let b = block_of_key(family, draft, i + 1, after.label(n), &buffers.key)?;
-    move_to(family, draft, i + 1, after, n, b, &mut buffers.near, &mut buffers.next, steps)?;
+    move_to(
+        family,
+        draft,
+        i + 1,
+        after,
+        n,
+        b,
+        &mut buffers.near,
+        &mut buffers.next,
+        steps,
+    )?;
     Ok(())
 }
 

@@ -1,4 +1,4 @@
-use Rattle.std.proofs.Common.{◌≡◌, ◌+◌, ◌≤◌, take}
+use Rattle.std.proofs.Common.{◌+◌, ◌≤◌, take}
 use Rattle.std.specs.List.{sum_by}
 use Rattle.graph_update.specs.Pending.{graph_after}
 use Rattle.ak_moving.specs.Placed.{ArePlaced}

@@ -1,4 +1,4 @@
-use Rattle.std.proofs.Common.{◌≡◌, ◌+◌, ◌≤◌, ◌∷◌, [], ℕ, Bool, sym, ◌∙◌, ap, subst, arith, length}
+use Rattle.std.proofs.Common.{◌+◌, ◌≤◌, ◌∷◌, [], ℕ, Bool, sym, ◌∙◌, ap, subst, arith, length}
 use Rattle.px_spec.specs.Members.{has, Lists}
 use Rattle.px_spec.specs.Shapes.{shape_of}
 use Rattle.px_spec.proofs.GraphLaws.{is_shape}
@@ -18,14 +18,14 @@ loop-i-preserved g c =
     let below : c.loop-i.i + 1 ≤ c.k-k.result = omega arith in
     let inv = c.loop-i.invariant in
     let placed = c.in_ok-place_all.ensures.placed in
-    let listed : Lists (near (shape_of graph) target (c.loop-i.i + 1)) c.within.result.now =
-    subst (Lists (near (shape_of graph) target (c.loop-i.i + 1))) (sym c.within.ensures) (c.in_ok-found.ensures.near.each (c.loop-i.i + 1) below) in
-    let most = level_most c.args.after.now c.args.target (c.loop-i.i + 1) c.k-k.result c.within.result.now (is_shape graph c.created.ensures.after) c.requires.given listed below in
+    let listed : Lists (near (shape_of graph) target (c.loop-i.i + 1)) c.within-nodes.result.now =
+    subst (Lists (near (shape_of graph) target (c.loop-i.i + 1))) (sym c.within-nodes.ensures) (c.in_ok-found.ensures.near.each (c.loop-i.i + 1) below) in
+    let most = level_most c.args.after.now c.args.target (c.loop-i.i + 1) c.k-k.result c.within-nodes.result.now (is_shape graph c.created.ensures.after) c.requires.given listed below in
     let so_far = inv.cost in
     let here = c.place_all.ensures.cost in
     record {
-      moving = moving_placed target graph c.args.family.now c.loop-i.draft c.place_all.new.draft i c.within.result.now inv.moving placed listed;
-      keyed = keyed_next target graph c.args.family.now c.loop-i.draft c.place_all.new.draft i c.within.result.now inv.keyed placed listed;
+      moving = moving_placed target graph c.args.family.now c.loop-i.draft c.place_all.new.draft i c.within-nodes.result.now inv.moving placed listed;
+      keyed = keyed_next target graph c.args.family.now c.loop-i.draft c.place_all.new.draft i c.within-nodes.result.now inv.keyed placed listed;
       lowest = ap (λ (x : KeyedChanges). blocks_as_shown (level_at c.args.family.now 0) x) (placed.others 0 (λ e. absurd (omega (arith, e)))) ∙ inv.lowest;
       none = λ e. absurd (omega (arith, e, below));
       cost = omega (arith, most, so_far, here);
@@ -42,9 +42,9 @@ returns-in_err-place_all-clause-cost g c = λ k e.
     let graph = graph_after c.args.after.now in
     let target : ℕ → Bool = has (c.args.target ∷ []) in
     let below : c.loop-i.i + 1 ≤ c.k-k.result = omega arith in
-    let listed : Lists (near (shape_of graph) target (c.loop-i.i + 1)) c.within.result.now =
-    subst (Lists (near (shape_of graph) target (c.loop-i.i + 1))) (sym c.within.ensures) (c.in_ok-found.ensures.near.each (c.loop-i.i + 1) below) in
-    let most = level_most c.args.after.now c.args.target (c.loop-i.i + 1) c.k-k.result c.within.result.now (is_shape graph c.created.ensures.after) c.requires.given listed below in
+    let listed : Lists (near (shape_of graph) target (c.loop-i.i + 1)) c.within-nodes.result.now =
+    subst (Lists (near (shape_of graph) target (c.loop-i.i + 1))) (sym c.within-nodes.ensures) (c.in_ok-found.ensures.near.each (c.loop-i.i + 1) below) in
+    let most = level_most c.args.after.now c.args.target (c.loop-i.i + 1) c.k-k.result c.within-nodes.result.now (is_shape graph c.created.ensures.after) c.requires.given listed below in
     let so_far = c.loop-i.invariant.cost in
     let here = c.place_all.ensures.cost in
     spent_most (shape_of graph) c.args.target c.k-k.result (c.loop-i.i + 1) c.args.steps.now c.place_all.new.steps c.requires.given below (λ z. absurd (omega (arith, z, below)))

@@ -1,4 +1,3 @@
-use Rattle.std.proofs.Common.{◌≡◌, sym, ◌∙◌}
 use Rattle.ak_moving.proofs.Blocks.{block_found}
 use Rattle.ak_moving.proofs.placing.block_of_key.Goals as goal
 
