@@ -1,11 +1,10 @@
 -- What placing the near nodes costs.
-use Rattle.std.proofs.Common.{◌≡◌, ℕ, zero, suc, ◌+◌, ◌*◌, ◌<◌, ◌≤◌, List, [], ◌∷◌, Option, Some, None, length, refl, sym, ◌∙◌, ap, subst, arith, inl, inr, true, Bool, take, get_or}
+use Rattle.std.proofs.Common.{◌≡◌, ℕ, zero, suc, ◌+◌, ◌*◌, ◌<◌, ◌≤◌, List, [], ◌∷◌, Option, Some, None, length, sym, ◌∙◌, subst, arith, inl, inr, true, Bool, take, get_or}
 use Rattle.std.specs.Prelude.{nat_eq}
 use Rattle.std.specs.List.{sum_by, IsDistinct}
 use Rattle.std.proofs.Math.Nat.{mul-le-mul_left}
 use Rattle.std.proofs.lemmas.Bool.{cases_Bool, cases_lt}
-use Rattle.std.proofs.lemmas.List.{take_more}
-use Rattle.std.proofs.lemmas.List.Sums.{sum_by_push, sum_by-take-le}
+use Rattle.std.proofs.lemmas.List.Sums.{sum_by-take-le}
 use Rattle.px_spec.specs.Members.{has, Lists}
 use Rattle.px_spec.specs.Shapes.{Shape, IsShape, shape_of}
 use Rattle.bisim_spec.specs.Below.{sum_below}
@@ -13,15 +12,11 @@ use Rattle.bisim_spec.specs.Reach.{near}
 use Rattle.bisim_spec.specs.Weights.{weight_at, weight}
 use Rattle.bisim_spec.proofs.Reached.{near_more}
 use Rattle.graph_update.specs.Pending.{Pending, graph_after, lost_edge, lost_from, lost_onto}
-use Rattle.near_nodes.proofs.Costing.{near_below, once_most, lost_most}
+use Rattle.near_nodes.proofs.Costing.{near_below, once_most, zeros, lost_most, sum_next}
 use Rattle.level_spec.proofs.Weighed.{weight_near}
 use Rattle.upkeep_spec.proofs.Sums.{where_in, sum_listed, sum_without, first_has}
 use Rattle.ak_moving.specs.Costs.{place_cost}
 use Rattle.ak_moving.proofs.Nodes.{only_one}
-
-zeros : (n : ℕ) → sum_below n (λ k. 0) ≡ 0
-zeros zero = refl
-zeros (suc n) = (let r = zeros n in omega (arith, r))
 
 -- an edge that is taken away ends at one node
 lost_onto_most : (n : ℕ) (lost : Option (ℕ × ℕ)) → sum_below n (lost_onto lost) ≤ 1
@@ -97,10 +92,6 @@ spent_most s target k i before now given within none cost len m count e =
           let still = none zero_is in
           omega (arith, still))
     ])
-
--- one more element
-pub sum_next : (f : ℕ → ℕ) (xs : List ℕ) (i d : ℕ) → i < length xs → sum_by f (take (i + 1) xs) ≡ sum_by f (take i xs) + f (get_or xs i d)
-sum_next f xs i d h = ap (sum_by f) (take_more xs i d h) ∙ sum_by_push f (take i xs) (get_or xs i d)
 
 -- the first elements are at most all
 pub sum_first : (f : ℕ → ℕ) (xs : List ℕ) (i d : ℕ) → i < length xs → sum_by f (take i xs) + f (get_or xs i d) ≤ sum_by f xs

@@ -51,7 +51,7 @@ once_most (suc n) v = elim (eqb_tells n v) [
       omega (arith, rest, here))
 ]
 
-zeros : (n : ℕ) → sum_below n (λ k. 0) ≡ 0
+pub zeros : (n : ℕ) → sum_below n (λ k. 0) ≡ 0
 zeros zero = refl
 zeros (suc n) = (let r = zeros n in omega (arith, r))
 
