@@ -1,17 +1,89 @@
 // What a change makes of a family.
 ghost use Rattle.std.specs.Prelude.{◌≡◌, ◌+◌, ◌≤◌, ℕ, OnOk, length};
-ghost use Rattle.px_spec.specs.Changes.{after};
+ghost use Rattle.px_spec.specs.Changes.{after, link, unlink, drop};
 ghost use Rattle.graph_update.specs.NewChanges.{IsNew};
 ghost use Rattle.graph_update.specs.Judging.{change_of};
 ghost use Rattle.ak_family.specs.Drafting.{AreOver, AreEmpty, ShowsFamily};
 ghost use Rattle.ak_drafting.specs.Drafting.{FamilyFits, ShownFit, most_steps};
+ghost use Rattle.ak_drafting.specs.Stages.{IsBefore, AreMoved, IsNodeChange};
 
+use crate::edges::{draft_link, draft_unlink};
+use crate::nodes::{draft_drop, draft_node};
 use ak_family::{AkDraft, AkFamily};
-use graph_update::Change;
+use ak_moving::move_near;
+use graph_update::{After, Change};
 use label_graph::Graph;
-use px_base::{Memory, Steps};
+use px_base::{Memory, NodeId, Steps};
 use std::alloc::Global;
 use std::sync::ledger::Ledger;
+
+// An edge comes.
+fn add_edge<L: Ledger>(
+    alloc: Global,
+    family: &AkFamily,
+    draft: &mut AkDraft,
+    after: &After<'_>,
+    u: NodeId,
+    v: NodeId,
+    steps: &mut Steps<L>,
+) -> Result<(), Memory>
+    requires before { IsBefore after.now family.now }
+    requires over { AreOver family.now draft.old }
+    requires empty { AreEmpty draft.old }
+    requires links { after.now.change ≡ link u v }
+    ensures moved { OnOk result (AreMoved after.now family.now draft.new) }
+    ensures cost { (k : ℕ) → length family.now ≡ k + 1 → steps.new ≤ steps.old + most_steps after.now.before after.now.change k }
+{
+    draft_link(family, draft, after, u, v)?;
+    move_near(alloc, family, draft, after, v, steps)?;
+    Ok(())
+}
+
+// An edge goes.
+fn drop_edge<L: Ledger>(
+    alloc: Global,
+    family: &AkFamily,
+    draft: &mut AkDraft,
+    after: &After<'_>,
+    u: NodeId,
+    v: NodeId,
+    steps: &mut Steps<L>,
+) -> Result<(), Memory>
+    requires before { IsBefore after.now family.now }
+    requires over { AreOver family.now draft.old }
+    requires empty { AreEmpty draft.old }
+    requires unlinks { after.now.change ≡ unlink u v }
+    ensures moved { OnOk result (AreMoved after.now family.now draft.new) }
+    ensures cost { (k : ℕ) → length family.now ≡ k + 1 → steps.new ≤ steps.old + most_steps after.now.before after.now.change k }
+{
+    draft_unlink(family, draft, after, u, v)?;
+    move_near(alloc, family, draft, after, v, steps)?;
+    Ok(())
+}
+
+// What the change makes.
+fn draft_pending<L: Ledger>(
+    alloc: Global,
+    family: &AkFamily,
+    draft: &mut AkDraft,
+    after: &After<'_>,
+    change: &Change,
+    steps: &mut Steps<L>,
+) -> Result<(), Memory>
+    requires before { IsBefore after.now family.now }
+    requires over { AreOver family.now draft.old }
+    requires empty { AreEmpty draft.old }
+    requires same { after.now.change ≡ change_of change.now }
+    ensures moved { OnOk result (AreMoved after.now family.now draft.new) }
+    ensures cost { (k : ℕ) → length family.now ≡ k + 1 → steps.new ≤ steps.old + most_steps after.now.before after.now.change k }
+{
+    match change {
+        Change::Node(_) => draft_node(family, draft, after),
+        Change::Link(u, v) => add_edge(alloc, family, draft, after, *u, *v, steps),
+        Change::Unlink(u, v) => drop_edge(alloc, family, draft, after, *u, *v, steps),
+        Change::Drop(u) => draft_drop(family, draft, after, *u),
+    }
+}
 
 /// Drafts what a change, which `judge` accepts as new, will make of the A(0)- to A(k)-indexes of a graph. The graph is as it was. Once
 /// the draft is settled, each level is that of the graph after the change.
@@ -34,5 +106,10 @@ pub fn draft_change<L: Ledger>(
     ensures fits { OnOk result (ShownFit (after (change_of change.now) graph.now.graph) family.now draft.new) }
     ensures cost { (k : ℕ) → length family.now ≡ k + 1 → steps.new ≤ steps.old + most_steps graph.now.graph (change_of change.now) k }
 {
-    Err(Memory)
+    // Called for their contracts: edges are few, and the keys are as the levels say.
+    let _edges = graph.edge_count();
+    let _k = family.k();
+    let after = After::new(graph, change);
+    draft_pending(alloc, family, draft, &after, change, steps)?;
+    Ok(())
 }

@@ -2,5 +2,7 @@
 #![tactic(auto)]
 
 mod drafting;
+mod edges;
+mod nodes;
 
 pub use drafting::draft_change;

@@ -1,0 +1,92 @@
+-- What is drafted at each level for an edge or a node that comes or goes.
+use Rattle.std.specs.Prelude.{◌≡◌, ◌≢◌, ℕ, zero, suc, ◌+◌, ◌<◌, ◌≤◌, ◌^◌, ◌&&◌, List, [], ◌∷◌, length, Option, Some, None, nat_eq, if◌then◌else◌}
+use Rattle.std.specs.FinSet as set
+use Rattle.px_spec.specs.Graphs.{Graph, IsGraph}
+use Rattle.px_spec.specs.Changes.{Change, node}
+use Rattle.px_spec.specs.Members.{at}
+use Rattle.bisim_spec.specs.Targets.{target}
+use Rattle.bisim_spec.specs.Views.{support_at}
+use Rattle.graph_update.specs.NewChanges.{IsNew}
+use Rattle.graph_update.specs.Pending.{Pending, graph_after}
+use Rattle.quotient.specs.Joined.{one_if}
+use Rattle.keyed_quotient.specs.Levels.{KeyedQuotient, key_at}
+use Rattle.keyed_quotient.specs.Changes.{KeyedChanges, blocks_as_shown, labels_as_shown, support_as_shown, shown_key}
+use Rattle.level_spec.specs.Keyed.{KeysStay}
+use Rattle.ak_family.specs.Families.{level_at, IsKeyedFamily}
+use Rattle.ak_family.specs.Drafting.{changes_at, blocks_shown, AreOver}
+use Rattle.ak_moving.specs.Moving.{IsMoving, AreKeyedNear}
+use Rattle.ak_drafting.specs.Drafting.{FamilyFits}
+
+-- the family is that of the graph before the change, and the change is new
+pub record IsBefore (a : Pending) (f : List KeyedQuotient) : Type 0 where
+  pub fits : FamilyFits a.before f
+  pub family : IsKeyedFamily f
+  pub some : 0 < length f
+  pub new : IsNew a.change a.before
+  pub graph : IsGraph a.before
+  pub graph_after : IsGraph (graph_after a)
+  pub few : set.len a.before.edges ≤ 2 ^ 30
+
+-- each level shows the graph after the change, and nodes near the target are in the blocks of their keys
+pub record AreMoved (a : Pending) (f : List KeyedQuotient) (d : List KeyedChanges) : Type 0 where
+  pub moving : IsMoving (target a.change a.before) (graph_after a) f d
+  pub keyed : AreKeyedNear (target a.change a.before) (graph_after a) f d
+
+-- blocks keep their labels and their keys
+pub record HasSameKeys (q : KeyedQuotient) (d : KeyedChanges) : Type 0 where
+  pub labels : labels_as_shown q d ≡ q.quotient.blocks.labels
+  pub keys : (b : ℕ) → shown_key q d b ≡ key_at q.keys b
+
+-- One more edge leads from the block of u to that of v, and nothing else has changed.
+pub record IsLinked (u v : ℕ) (q : KeyedQuotient) (d : KeyedChanges) : Type 0 where
+  pub blocks : blocks_as_shown q d ≡ q.quotient.blocks.block_of
+  pub keys : HasSameKeys q d
+  pub first : ℕ
+  pub second : ℕ
+  pub from : at q.quotient.blocks.block_of u ≡ Some first
+  pub onto : at q.quotient.blocks.block_of v ≡ Some second
+  pub raised : (x y : ℕ) → support_as_shown q d x y ≡ support_at q.quotient.supports x y + one_if (nat_eq x first && nat_eq y second)
+
+-- One edge fewer leads from the block of u to that of v, and nothing else has changed.
+pub record IsUnlinked (u v : ℕ) (q : KeyedQuotient) (d : KeyedChanges) : Type 0 where
+  pub blocks : blocks_as_shown q d ≡ q.quotient.blocks.block_of
+  pub keys : HasSameKeys q d
+  pub first : ℕ
+  pub second : ℕ
+  pub from : at q.quotient.blocks.block_of u ≡ Some first
+  pub onto : at q.quotient.blocks.block_of v ≡ Some second
+  pub lowered : (x y : ℕ) → support_as_shown q d x y + one_if (nat_eq x first && nat_eq y second) ≡ support_at q.quotient.supports x y
+
+-- The node has no block, and nothing else has changed.
+pub record IsGone (u : ℕ) (q : KeyedQuotient) (d : KeyedChanges) : Type 0 where
+  pub keys : HasSameKeys q d
+  pub blocks : (m : ℕ) → at (blocks_as_shown q d) m ≡ (if nat_eq m u then None else at q.quotient.blocks.block_of m)
+  pub supports : (x y : ℕ) → support_as_shown q d x y ≡ support_at q.quotient.supports x y
+
+-- The block has this label, and the number alone as its key. The others are as they were, and it is so too if it was a block.
+pub record HasBlock (label number block : ℕ) (labels labels2 : List (Option ℕ)) (key key2 : ℕ → Option (List ℕ)) : Type 0 where
+  pub label_is : at labels2 block ≡ Some label
+  pub key_is : key2 block ≡ Some (number ∷ [])
+  pub other_labels : (b : ℕ) → b ≢ block → at labels2 b ≡ at labels b
+  pub other_keys : (b : ℕ) → b ≢ block → key2 b ≡ key b
+  pub labels_stay : (b l : ℕ) → at labels b ≡ Some l → at labels2 b ≡ Some l
+  pub stay : KeysStay key key2
+
+-- The node has come into a block with this label, whose key is its own number alone.
+pub record IsJoined (n label : ℕ) (own : Option ℕ) (q : KeyedQuotient) (d : KeyedChanges) : Type 0 where
+  pub number : ℕ
+  pub block : ℕ
+  pub own_is : own ≡ Some number
+  pub blocks : (m : ℕ) → at (blocks_as_shown q d) m ≡ (if nat_eq m n then Some block else at q.quotient.blocks.block_of m)
+  pub has_block : HasBlock label number block q.quotient.blocks.labels (labels_as_shown q d) (key_at q.keys) (shown_key q d)
+  pub supports : (x y : ℕ) → support_as_shown q d x y ≡ support_at q.quotient.supports x y
+
+-- the number with which the key of a node begins: its label at the lowest level, and above it its block one level below
+abbrev pub own_number : List KeyedQuotient → List KeyedChanges → ℕ → ℕ → ℕ → Option ℕ
+own_number f d label n zero = Some label
+own_number f d label n (suc i) = at (blocks_shown f d i) n
+
+-- a node comes
+pub record IsNodeChange (c : Change) : Type 0 where
+  pub label : List ℕ
+  pub is : c ≡ node label
