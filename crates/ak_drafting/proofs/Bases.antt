@@ -10,6 +10,7 @@ use Rattle.bisim_spec.specs.Bisimilarity.{Bis}
 use Rattle.bisim_spec.specs.Partitions.{Agrees}
 use Rattle.bisim_spec.specs.Views.{View, support_at}
 use Rattle.bisim_spec.specs.Fits.{FitsLevel}
+use Rattle.bisim_levels.specs.Keys.{IsKey}
 use Rattle.quotient.specs.Quotients.{view_of}
 use Rattle.keyed_quotient.specs.Levels.{KeyedQuotient, key_at}
 use Rattle.level_spec.specs.Keyed.{IsKeyed, AreLabelled, IsLevelOf, LabelsGoUp, first_number}
@@ -52,6 +53,11 @@ first_some : (o : Option (List ℕ)) (n : ℕ) → first_number o ≡ Some n →
 first_some None n e = absurd (cc)
 first_some (Some x) n e = refl
 
+-- the number with which a block's key begins is the block of its members one level below
+own_first : (g : Graph) (below : List (Option ℕ)) (key : ℕ → Option (List ℕ)) (n b number : ℕ) (numbers : List ℕ) → key b ≡ Some numbers
+    → IsKey (at below) below (has_edge g) n numbers → first_number (key b) ≡ Some number → at below n ≡ Some number
+own_first g below key n b number numbers e k first = k.own_is ∙ sym (ap first_number (e ∙ ap Some k.is)) ∙ first
+
 -- a member has the labels of both of its blocks
 base_up : (g : Graph) (f : List KeyedQuotient) → IsGraph g → FamilyFits g f → IsKeyedFamily f → (i : ℕ) → i + 1 < length f
     → LabelsGoUp (level_at f i).quotient.blocks.labels (level_at f (i + 1)).quotient.blocks.labels (key_at (level_at f (i + 1)).keys)
@@ -61,7 +67,7 @@ base_up g f graph fits family i h = record {
       let live = sym ((family.keyed (i + 1) h).exactly b) ∙ first_some (key_at (level_at f (i + 1)).keys b) number first in
       let m = (fits (i + 1) h).view.inhabited b live in
       let k = (base_keyed g f fits family i m.0 h).keyed b m.1 in
-      let own = k.2.own_is ∙ sym (ap first_number (k.1 ∙ ap Some k.2.is)) ∙ first in
+      let own = own_first g (blocks_at f i) (key_at (level_at f (i + 1)).keys) m.0 b number k.0 k.1 k.2 first in
       let below = (base_level g i (view_of (level_at f i).quotient) graph (fits i lower)).named.is m.0 number own in
       let here = (base_level g (i + 1) (view_of (level_at f (i + 1)).quotient) graph (fits (i + 1) h)).named.is m.0 b m.1 in
       (below.0, below.1, here.1 ∙ sym here.2 ∙ below.2);

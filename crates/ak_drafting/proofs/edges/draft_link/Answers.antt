@@ -1,8 +1,25 @@
 use Rattle.std.proofs.Common.{arith}
 use Rattle.ak_drafting.specs.Stages.{IsLinked}
-use Rattle.ak_drafting.proofs.Below.{done_start, done_next, done_all}
-use Rattle.ak_drafting.proofs.LinkedLevels.{link_from, link_onto, support_few, support_some, link_given, link_moving}
+use Rattle.ak_drafting.proofs.Below.{done_all}
+use Rattle.ak_drafting.proofs.LinkedLevels.{support_few, link_given, link_moving}
 use Rattle.ak_drafting.proofs.edges.draft_link.Goals as goal
 
-pub links-init : goal.links-init
-links-init c = done_start (IsLinked c.args.u c.args.v) c.args.family.now c.args.draft.now c.requires.over c.requires.empty
+pub link_level-requires-clause-few : goal.link_level-requires-clause-few
+link_level-requires-clause-few c =
+    let test = c.links-test.true in
+    let count = c.k-i-end.ensures.count in
+    support_few c.args.after.now c.args.family.now c.links.i c.requires.before (omega (arith, test, count))
+
+pub returns-in_err-link_level-clause-given : goal.returns-in_err-link_level-clause-given
+returns-in_err-link_level-clause-given c = link_given c.args.after.now c.args.family.now c.args.u c.args.v c.requires.before c.requires.links
+
+pub returns-clause-given : goal.returns-clause-given
+returns-clause-given c = link_given c.args.after.now c.args.family.now c.args.u c.args.v c.requires.before c.requires.links
+
+pub returns-clause-moving : goal.returns-clause-moving
+returns-clause-moving c =
+    let test = c.links-test.false in
+    let count = c.k-i-end.ensures.count in
+    let w = c.links.invariant in
+    link_moving c.args.after.now c.args.family.now c.links.draft c.args.u c.args.v c.requires.before c.requires.links w.over
+    (done_all (IsLinked c.args.u c.args.v) c.args.family.now c.links.draft c.links.i w (omega (arith, test, count)))

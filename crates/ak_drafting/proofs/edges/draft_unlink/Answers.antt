@@ -1,8 +1,25 @@
 use Rattle.std.proofs.Common.{arith}
 use Rattle.ak_drafting.specs.Stages.{IsUnlinked}
-use Rattle.ak_drafting.proofs.Below.{done_start, done_next, done_all}
-use Rattle.ak_drafting.proofs.LinkedLevels.{unlink_from, unlink_onto, support_few, support_some, unlink_given, unlink_moving}
+use Rattle.ak_drafting.proofs.Below.{done_all}
+use Rattle.ak_drafting.proofs.LinkedLevels.{support_some, unlink_given, unlink_moving}
 use Rattle.ak_drafting.proofs.edges.draft_unlink.Goals as goal
 
-pub unlinks-init : goal.unlinks-init
-unlinks-init c = done_start (IsUnlinked c.args.u c.args.v) c.args.family.now c.args.draft.now c.requires.over c.requires.empty
+pub unlink_level-requires-clause-some : goal.unlink_level-requires-clause-some
+unlink_level-requires-clause-some c =
+    let test = c.unlinks-test.true in
+    let count = c.k-i-end.ensures.count in
+    support_some c.args.after.now c.args.family.now c.args.u c.args.v c.unlinks.i c.requires.before c.requires.unlinks (omega (arith, test, count))
+
+pub returns-in_err-unlink_level-clause-given : goal.returns-in_err-unlink_level-clause-given
+returns-in_err-unlink_level-clause-given c = unlink_given c.args.after.now c.args.family.now c.args.u c.args.v c.requires.before c.requires.unlinks
+
+pub returns-clause-given : goal.returns-clause-given
+returns-clause-given c = unlink_given c.args.after.now c.args.family.now c.args.u c.args.v c.requires.before c.requires.unlinks
+
+pub returns-clause-moving : goal.returns-clause-moving
+returns-clause-moving c =
+    let test = c.unlinks-test.false in
+    let count = c.k-i-end.ensures.count in
+    let w = c.unlinks.invariant in
+    unlink_moving c.args.after.now c.args.family.now c.unlinks.draft c.args.u c.args.v c.requires.before c.requires.unlinks w.over
+    (done_all (IsUnlinked c.args.u c.args.v) c.args.family.now c.unlinks.draft c.unlinks.i w (omega (arith, test, count)))
