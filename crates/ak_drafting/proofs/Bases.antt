@@ -58,6 +58,11 @@ own_first : (g : Graph) (below : List (Option ℕ)) (key : ℕ → Option (List 
     → IsKey (at below) below (has_edge g) n numbers → first_number (key b) ≡ Some number → at below n ≡ Some number
 own_first g below key n b number numbers e k first = k.own_is ∙ sym (ap first_number (e ∙ ap Some k.is)) ∙ first
 
+-- two blocks of one node have one label
+one_label : (g : Graph) (below_labels labels : ℕ → Option ℕ) (a b n : ℕ) → (d : ℕ) × (below_labels a ≡ Some d) × (label_number g n ≡ Some d)
+    → (d : ℕ) × (labels b ≡ Some d) × (label_number g n ≡ Some d) → (l : ℕ) × (below_labels a ≡ Some l) × (labels b ≡ Some l)
+one_label g below_labels labels a b n (l, below, e) (d, here, f) = (l, below, here ∙ sym f ∙ e)
+
 -- a member has the labels of both of its blocks
 base_up : (g : Graph) (f : List KeyedQuotient) → IsGraph g → FamilyFits g f → IsKeyedFamily f → (i : ℕ) → i + 1 < length f
     → LabelsGoUp (level_at f i).quotient.blocks.labels (level_at f (i + 1)).quotient.blocks.labels (key_at (level_at f (i + 1)).keys)
@@ -70,7 +75,7 @@ base_up g f graph fits family i h = record {
       let own = own_first g (blocks_at f i) (key_at (level_at f (i + 1)).keys) m.0 b number k.0 k.1 k.2 first in
       let below = (base_level g i (view_of (level_at f i).quotient) graph (fits i lower)).named.is m.0 number own in
       let here = (base_level g (i + 1) (view_of (level_at f (i + 1)).quotient) graph (fits (i + 1) h)).named.is m.0 b m.1 in
-      (below.0, below.1, here.1 ∙ sym here.2 ∙ below.2);
+      one_label g (at (level_at f i).quotient.blocks.labels) (at (level_at f (i + 1)).quotient.blocks.labels) number b m.0 below here;
 }
 
 pub bases : (g : Graph) (f : List KeyedQuotient) → IsGraph g → FamilyFits g f → IsKeyedFamily f → AreBases g f

@@ -1,8 +1,15 @@
 use Rattle.std.proofs.Common.{arith}
 use Rattle.ak_drafting.specs.Stages.{IsGone}
-use Rattle.ak_drafting.proofs.Below.{done_start, done_next, done_all}
-use Rattle.ak_drafting.proofs.GoneLevels.{drop_small, drop_moved}
+use Rattle.ak_drafting.proofs.Below.{done_all}
+use Rattle.ak_drafting.proofs.GoneLevels.{drop_moved}
 use Rattle.ak_drafting.proofs.nodes.draft_drop.Goals as goal
 
-pub leaves-init : goal.leaves-init
-leaves-init c = done_start (IsGone c.args.u) c.args.family.now c.args.draft.now c.requires.over c.requires.empty
+pub returns : goal.returns
+returns c =
+    let test = c.leaves-test.false in
+    let count = c.k-i-end.ensures.count in
+    let w = c.leaves.invariant in
+    record {
+      moved = drop_moved c.args.after.now c.args.family.now c.leaves.draft c.args.u c.requires.before c.requires.drops w.over
+          (done_all (IsGone c.args.u) c.args.family.now c.leaves.draft c.leaves.i w (omega (arith, test, count)));
+    }

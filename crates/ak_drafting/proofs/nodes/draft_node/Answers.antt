@@ -1,9 +1,30 @@
 use Rattle.std.proofs.Common.{arith}
-use Rattle.ak_drafting.proofs.JoinedLevels.{joined_start, joined_next, joined_all, joined_labels, node_live, node_count, node_moved}
+use Rattle.ak_drafting.proofs.JoinedLevels.{joined_next, joined_all, joined_labels, node_live, node_count, node_moved}
+use Rattle.ak_drafting.proofs.LinkedLevels.{bases_before}
 use Rattle.ak_drafting.proofs.nodes.draft_node.Goals as goal
 
 pub label-label-requires : goal.label-label-requires
-label-label-requires c = node_live c.args.after.now c.created.result c.requires.node c.created.ensures.count
+label-label-requires c = record { live = node_live c.args.after.now c.created-n.result c.requires.node c.created-n.ensures.count }
 
-pub joins-init : goal.joins-init
-joins-init c = joined_start c.n c.label-label.result c.args.family.now c.args.draft.now c.requires.over c.requires.empty
+pub join_level-requires-clause-labelled : goal.join_level-requires-clause-labelled
+join_level-requires-clause-labelled c =
+    let test = c.joins-test.true in
+    let count = c.k-i-end.ensures.count in
+    joined_labels c.args.after.now.before _ c.label-label.result c.args.family.now c.joins.draft c.joins.i c.joins.number (bases_before c.args.after.now c.args.family.now c.requires.before)
+    c.requires.before.family (omega (arith, test, count)) c.joins.invariant
+
+pub joins-preserved : goal.joins-preserved
+joins-preserved c =
+    joined_next _ c.label-label.result c.args.family.now c.joins.draft c.join_level.new.draft c.joins.i c.joins.number c.in_ok-number.number c.joins.invariant c.join_level.ensures.others
+    c.join_level.ensures.over c.in_ok-number.ensures.joined c.in_ok-number.ensures.there
+
+pub returns : goal.returns
+returns c =
+    let test = c.joins-test.false in
+    let count = c.k-i-end.ensures.count in
+    let w = c.joins.invariant in
+    record {
+      moved = node_moved c.args.after.now c.args.family.now c.joins.draft _ c.label-label.result c.requires.before c.requires.node
+          (node_count c.args.after.now c.created-n.result c.requires.node c.created-n.ensures.count) c.label-label.ensures.number w.over
+          (joined_all _ c.label-label.result c.args.family.now c.joins.draft c.joins.i c.joins.number w (omega (arith, test, count)));
+    }
