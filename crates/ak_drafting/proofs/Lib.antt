@@ -6,3 +6,4 @@ pub mod JoinedLevels
 pub mod KeyedBlocks
 pub mod GoneLevels
 pub mod Below
+pub mod Aimed
