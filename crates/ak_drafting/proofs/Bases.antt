@@ -1,5 +1,5 @@
 -- What a family that fits a graph says of its levels, their labels and their keys.
-use Rattle.std.proofs.Common.{◌≡◌, ℕ, suc, ◌+◌, ◌<◌, List, ◌∷◌, length, Option, Some, None, IsSome, is_some, refl, sym, ◌∙◌, ap, subst, arith}
+use Rattle.std.proofs.Common.{◌≡◌, ℕ, suc, ◌+◌, ◌<◌, List, length, Option, Some, None, IsSome, refl, sym, ◌∙◌, ap, subst, arith}
 use Rattle.std.specs.Prelude.{slice_get, option_and_then, position, bytes_eq}
 use Rattle.px_spec.specs.Graphs.{Graph, IsGraph, label_of, has_edge}
 use Rattle.px_spec.specs.Shapes.{shape_of}
@@ -44,7 +44,7 @@ base_keyed : (g : Graph) (f : List KeyedQuotient) → FamilyFits g f → IsKeyed
     → IsKeyed (shape_of g) (blocks_at f i) (blocks_at f (i + 1)) (key_at (level_at f (i + 1)).keys) n
 base_keyed g f fits family i n h =
     let w = parent_keys g f i family h (fits (i + 1) h).view (fits i (omega (arith, h))).agrees
-        (subst (λ j. Agrees (shape_of g) (blocks_at f (i + 1)) (Bis (shape_of g) j)) (next_is i) (fits (i + 1) h).agrees) in
+    (subst (λ j. Agrees (shape_of g) (blocks_at f (i + 1)) (Bis (shape_of g) j)) (next_is i) (fits (i + 1) h).agrees) in
     record {
       keyed = λ b e. let m = member_key (at (blocks_at f i)) (blocks_at f i) (has_edge g) (blocks_at f (i + 1)) (key_at (level_at f (i + 1)).keys) w n b e in (m.numbers, m.at, m.is);
     }

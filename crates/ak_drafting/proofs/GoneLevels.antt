@@ -1,27 +1,24 @@
 -- A node that has gone from each level: the draft shows the graph without it.
-use Rattle.std.proofs.Common.{◌≡◌, ◌≢◌, ℕ, zero, suc, ◌+◌, ◌<◌, ◌≤◌, ◌^◌, List, [], ◌∷◌, length, Option, Some, None, IsSome, IsTrue, true, false, refl, sym, ◌∙◌, ap, subst, arith, Bool, is_some, inl, inr, true≢false, cond}
+use Rattle.std.proofs.Common.{◌≡◌, ◌≢◌, ℕ, zero, suc, ◌+◌, ◌<◌, List, [], ◌∷◌, length, Option, Some, None, false, refl, sym, ◌∙◌, ap, subst, arith, is_some, inl, inr, true≢false}
 use Rattle.std.specs.Prelude.{nat_eq, slice_get, slice_set, option_and_then, position, bytes_eq}
 use Rattle.std.specs.FinSet as set
 use Rattle.std.proofs.lemmas.Bool.{both_ways}
 use Rattle.std.proofs.lemmas.Bool.Decides.{eqb_tells, Decides-eqb}
-use Rattle.std.proofs.lemmas.List.{length-set}
-use Rattle.px_spec.specs.Graphs.{Graph, IsGraph, label_of, has_edge}
+use Rattle.px_spec.specs.Graphs.{Graph, label_of}
 use Rattle.px_spec.specs.Changes.{Change, drop, after, without_node, is_used}
 use Rattle.px_spec.specs.Shapes.{Shape, IsNode, shape_of}
 use Rattle.px_spec.specs.Members.{at}
-use Rattle.px_spec.proofs.GraphLaws.{is_shape}
 use Rattle.px_spec.proofs.Uses.{unused_bare}
-use Rattle.label_graph.specs.Views.{label_number}
 use Rattle.bisim_spec.specs.Reach.{near}
 use Rattle.bisim_spec.specs.Targets.{target}
 use Rattle.bisim_spec.specs.Views.{support_at}
 use Rattle.bisim_spec.proofs.Differs.{differs_drop}
 use Rattle.bisim_spec.proofs.Reached.{near_more}
 use Rattle.graph_update.specs.NewChanges.{IsNew}
-use Rattle.graph_update.specs.Pending.{Pending, graph_after}
+use Rattle.graph_update.specs.Pending.{Pending}
 use Rattle.keyed_quotient.specs.Levels.{KeyedQuotient}
 use Rattle.keyed_quotient.specs.Changes.{KeyedChanges, blocks_as_shown, labels_as_shown, support_as_shown}
-use Rattle.level_spec.specs.Keyed.{IsLevelOf, IsKeyed, SameFar}
+use Rattle.level_spec.specs.Keyed.{IsLevelOf, SameFar}
 use Rattle.level_spec.proofs.Lone.{IsPut, put_same, put_other, IsLone, counts_lone, near_lone}
 use Rattle.ak_family.specs.Families.{level_at, blocks_at}
 use Rattle.ak_family.specs.Drafting.{changes_at, blocks_shown, AreOver}
@@ -109,13 +106,6 @@ gone_near g u f d unused w = record {
 
 drop_new : (a : Pending) (f : List KeyedQuotient) (u : ℕ) → IsBefore a f → a.change ≡ drop u → IsNew (drop u) a.before
 drop_new a f u before is = subst (λ c. IsNew c a.before) is before.new
-
-pub drop_small : (a : Pending) (f : List KeyedQuotient) (u n : ℕ) → IsBefore a f → a.change ≡ drop u → n ≡ length (graph_after a).given → n ≤ 2 ^ 30 → u < 2 ^ 31
-drop_small a f u n before is count few =
-    let below = (is_shape a.before before.graph).below u (drop_new a f u before is).live in
-    let same = length-set a.before.given u None in
-    let given : length (graph_after a).given ≡ length (without_node a.before u).given = ap (λ (c : Change). length (after c a.before).given) is in
-    omega (arith, below, same, given, count, few)
 
 pub drop_moved : (a : Pending) (f : List KeyedQuotient) (d : List KeyedChanges) (u : ℕ) → IsBefore a f → a.change ≡ drop u → AreOver f d
     → ((i : ℕ) → i < length f → IsGone u (level_at f i) (changes_at d i)) → AreMoved a f d

@@ -1,12 +1,11 @@
 -- A node that has come at each level: the draft shows the graph with it.
-use Rattle.std.proofs.Common.{◌≡◌, ◌≢◌, ℕ, zero, suc, ◌+◌, ◌-◌, ◌<◌, ◌≤◌, ◌^◌, List, [], ◌∷◌, ◌++◌, length, Option, Some, None, IsSome, IsTrue, true, false, refl, sym, ◌∙◌, ap, subst, arith, Bool, is_some, inl, inr, true≢false, cond, length-append}
+use Rattle.std.proofs.Common.{◌≡◌, ◌≢◌, ℕ, zero, suc, ◌+◌, ◌-◌, ◌<◌, ◌≤◌, List, [], ◌∷◌, ◌++◌, length, Option, Some, None, IsTrue, true, false, refl, sym, ◌∙◌, ap, subst, arith, Bool, is_some, inl, inr, true≢false, cond, length-append}
 use Rattle.std.specs.Prelude.{nat_eq, slice_get, option_and_then, position, bytes_eq}
-use Rattle.std.specs.FinSet as set
 use Rattle.std.proofs.lemmas.Bool.{false_from_ne_true, cases_lt}
 use Rattle.std.proofs.lemmas.Bool.Decides.{eqb_tells}
 use Rattle.px_spec.specs.Graphs.{Graph, IsGraph, label_of, has_edge, is_live, is_seen}
-use Rattle.px_spec.specs.Changes.{Change, node, after, with_node}
-use Rattle.px_spec.specs.Shapes.{IsNode, shape_of}
+use Rattle.px_spec.specs.Changes.{Change, after, with_node}
+use Rattle.px_spec.specs.Shapes.{shape_of}
 use Rattle.px_spec.specs.Members.{at}
 use Rattle.label_graph.specs.Views.{label_number}
 use Rattle.label_graph.proofs.Positions.{text-at}
@@ -21,9 +20,9 @@ use Rattle.bisim_levels.specs.Keys.{IsKey}
 use Rattle.level_spec.specs.Keyed.{IsLevelOf, IsKeyed, AreLabelled, LabelsGoUp, first_number}
 use Rattle.level_spec.proofs.Lone.{IsPut, put_same, put_other, IsLone, counts_lone, near_lone}
 use Rattle.ak_family.specs.Families.{level_at, blocks_at, IsKeyedFamily}
-use Rattle.ak_family.specs.Drafting.{changes_at, blocks_shown, labels_shown, key_shown, AreOver, AreSameBut, AreEmpty}
+use Rattle.ak_family.specs.Drafting.{changes_at, blocks_shown, labels_shown, key_shown, AreOver, AreSameBut}
 use Rattle.ak_moving.specs.Moving.{IsMoving, AreKeyedNear}
-use Rattle.ak_drafting.specs.Stages.{IsBefore, AreMoved, HasBlock, IsJoined, IsNodeChange, own_number}
+use Rattle.ak_drafting.specs.Stages.{IsBefore, AreMoved, IsJoined, IsNodeChange, own_number}
 use Rattle.ak_drafting.proofs.Bases.{next_is, number_of, AreBases, bases}
 use Rattle.ak_drafting.proofs.GoneLevels.{far_put}
 
@@ -241,9 +240,6 @@ pub record AreJoinedBelow (n label : ℕ) (f : List KeyedQuotient) (d : List Key
   pub done : (j : ℕ) → j < i → IsJoined n label (own_number f d label n j) (level_at f j) (changes_at d j)
   pub rest : (j : ℕ) → i ≤ j → changes_at d j ≡ no_keyed_changes
   pub own_is : own_number f d label n i ≡ Some number
-
-pub joined_start : (n label : ℕ) (f : List KeyedQuotient) (d : List KeyedChanges) → AreOver f d → AreEmpty d → AreJoinedBelow n label f d 0 label
-joined_start n label f d over empty = record { over = over; done = λ j h. absurd (omega (arith, h)); rest = λ j h. empty j; own_is = refl }
 
 -- the levels below decide the number
 own_same : (n label : ℕ) (f : List KeyedQuotient) (d d2 : List KeyedChanges) (i j : ℕ) → AreSameBut i d d2 → j ≤ i → own_number f d2 label n j ≡ own_number f d label n j

@@ -1,10 +1,8 @@
 -- An edge that has come or gone at each level: the draft shows the graph after it, with nodes in the blocks in which they were.
-use Rattle.std.proofs.Common.{◌≡◌, ℕ, ◌+◌, ◌<◌, ◌≤◌, ◌^◌, List, [], ◌∷◌, length, Option, Some, IsSome, true, false, refl, sym, ◌∙◌, ap, subst, arith, Bool, is_some}
+use Rattle.std.proofs.Common.{◌≡◌, ℕ, ◌+◌, ◌<◌, ◌^◌, List, [], ◌∷◌, length, Option, Some, IsSome, true, false, refl, sym, ◌∙◌, ap, subst, arith, Bool, is_some}
 use Rattle.std.specs.Prelude.{nat_eq, ◌&&◌}
-use Rattle.std.specs.FinSet as set
-use Rattle.px_spec.specs.Graphs.{Graph, IsGraph, label_of, has_edge}
+use Rattle.px_spec.specs.Graphs.{Graph, label_of, has_edge}
 use Rattle.px_spec.specs.Changes.{Change, link, unlink, after, with_edge, without_edge}
-use Rattle.px_spec.specs.Shapes.{shape_of}
 use Rattle.px_spec.specs.Members.{at, has}
 use Rattle.px_spec.proofs.GraphLaws.{is_shape}
 use Rattle.label_graph.specs.Views.{label_number}
@@ -18,7 +16,7 @@ use Rattle.keyed_quotient.specs.Changes.{KeyedChanges, no_keyed_changes, blocks_
 use Rattle.level_spec.specs.Keyed.{IsLevelOf}
 use Rattle.level_spec.proofs.Linked.{counts_linked, counts_unlinked, count_few, count_some}
 use Rattle.ak_family.specs.Families.{level_at, blocks_at}
-use Rattle.ak_family.specs.Drafting.{changes_at, blocks_shown, support_shown, AreOver}
+use Rattle.ak_family.specs.Drafting.{changes_at, support_shown, AreOver}
 use Rattle.ak_moving.specs.Moving.{IsMoving}
 use Rattle.ak_drafting.specs.Stages.{IsBefore, HasSameKeys, IsLinked, IsUnlinked}
 use Rattle.ak_drafting.proofs.Bases.{AreBases, bases}
@@ -93,21 +91,6 @@ new_unlink a f u v before is = subst (λ c. IsNew c a.before) is before.new
 
 pub bases_before : (a : Pending) (f : List KeyedQuotient) → IsBefore a f → AreBases a.before f
 bases_before a f before = bases a.before f before.graph before.fits before.family
-
-node_block : (g : Graph) (f : List KeyedQuotient) (i n : ℕ) → AreBases g f → i < length f → IsSome (label_of g n) → IsSome (at (blocks_at f i) n)
-node_block g f i n base h live = (base.levels i h).partition.live n live
-
-pub link_from : (a : Pending) (f : List KeyedQuotient) (u v i : ℕ) → IsBefore a f → a.change ≡ link u v → i < length f → IsSome (at (blocks_at f i) u)
-link_from a f u v i before is h = node_block a.before f i u (bases_before a f before) h (new_link a f u v before is).from
-
-pub link_onto : (a : Pending) (f : List KeyedQuotient) (u v i : ℕ) → IsBefore a f → a.change ≡ link u v → i < length f → IsSome (at (blocks_at f i) v)
-link_onto a f u v i before is h = node_block a.before f i v (bases_before a f before) h (new_link a f u v before is).onto
-
-pub unlink_from : (a : Pending) (f : List KeyedQuotient) (u v i : ℕ) → IsBefore a f → a.change ≡ unlink u v → i < length f → IsSome (at (blocks_at f i) u)
-unlink_from a f u v i before is h = node_block a.before f i u (bases_before a f before) h (new_unlink a f u v before is).from
-
-pub unlink_onto : (a : Pending) (f : List KeyedQuotient) (u v i : ℕ) → IsBefore a f → a.change ≡ unlink u v → i < length f → IsSome (at (blocks_at f i) v)
-unlink_onto a f u v i before is h = node_block a.before f i v (bases_before a f before) h (new_unlink a f u v before is).onto
 
 pub support_few : (a : Pending) (f : List KeyedQuotient) (i : ℕ) → IsBefore a f → i < length f → (x y : ℕ) → support_at (level_at f i).quotient.supports x y < 2 ^ 31
 support_few a f i before h x y =

@@ -2,7 +2,7 @@
 use Rattle.std.proofs.Common.{◌≡◌, ℕ, zero, suc, ◌+◌, ◌<◌, List, [], ◌∷◌, length, Option, Some, None, IsSome, IsTrue, is_some, refl, sym, ◌∙◌, ap, subst, arith, true, false, Bool, cond, true≢false}
 use Rattle.std.specs.Prelude.{slice_get, option_and_then, position, bytes_eq}
 use Rattle.px_spec.specs.Graphs.{Graph, IsGraph, label_of}
-use Rattle.px_spec.specs.Shapes.{Shape, IsShape, shape_of}
+use Rattle.px_spec.specs.Shapes.{Shape, shape_of}
 use Rattle.px_spec.specs.Members.{at}
 use Rattle.px_spec.proofs.GraphLaws.{is_shape}
 use Rattle.label_graph.proofs.Positions.{text-at}

@@ -1,5 +1,5 @@
 -- What is drafted for a change of the graph of an A(k)-family.
-use Rattle.std.specs.Prelude.{◌+◌, ◌*◌, ◌<◌, ℕ, List, length}
+use Rattle.std.specs.Prelude.{◌*◌, ◌<◌, ℕ, List, length}
 use Rattle.px_spec.specs.Graphs.{Graph}
 use Rattle.px_spec.specs.Changes.{Change, after}
 use Rattle.px_spec.specs.Shapes.{shape_of}

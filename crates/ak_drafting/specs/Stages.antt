@@ -1,7 +1,7 @@
 -- What is drafted at each level for an edge or a node that comes or goes.
 use Rattle.std.specs.Prelude.{◌≡◌, ◌≢◌, ℕ, zero, suc, ◌+◌, ◌<◌, ◌≤◌, ◌^◌, ◌&&◌, List, [], ◌∷◌, length, Option, Some, None, nat_eq, if◌then◌else◌}
 use Rattle.std.specs.FinSet as set
-use Rattle.px_spec.specs.Graphs.{Graph, IsGraph}
+use Rattle.px_spec.specs.Graphs.{IsGraph}
 use Rattle.px_spec.specs.Changes.{Change, node}
 use Rattle.px_spec.specs.Members.{at}
 use Rattle.bisim_spec.specs.Targets.{target}
@@ -12,8 +12,8 @@ use Rattle.quotient.specs.Joined.{one_if}
 use Rattle.keyed_quotient.specs.Levels.{KeyedQuotient, key_at}
 use Rattle.keyed_quotient.specs.Changes.{KeyedChanges, blocks_as_shown, labels_as_shown, support_as_shown, shown_key}
 use Rattle.level_spec.specs.Keyed.{KeysStay}
-use Rattle.ak_family.specs.Families.{level_at, IsKeyedFamily}
-use Rattle.ak_family.specs.Drafting.{changes_at, blocks_shown, AreOver}
+use Rattle.ak_family.specs.Families.{IsKeyedFamily}
+use Rattle.ak_family.specs.Drafting.{blocks_shown}
 use Rattle.ak_moving.specs.Moving.{IsMoving, AreKeyedNear}
 use Rattle.ak_drafting.specs.Drafting.{FamilyFits}
 
