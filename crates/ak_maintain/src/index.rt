@@ -1,73 +1,110 @@
 // The index.
-ghost use Rattle.std.specs.Prelude.{◌≡◌, IfOk, None};
-ghost use Rattle.ak_maintain.specs.Fitting.{meaning_of};
+ghost use Rattle.std.specs.Prelude.{◌≡◌, ◌+◌, ◌≤◌, ◌<◌, ℕ, IfOk, OnOk, OnErr, None, length};
+ghost use Rattle.graph_update.specs.NewChanges.{IsNew};
+ghost use Rattle.graph_update.specs.Judging.{change_of};
+ghost use Rattle.index_api.specs.Meanings.{IsReady, IsPrepared};
+ghost use Rattle.ak_drafting.specs.Drafting.{most_steps};
+ghost use Rattle.ak_maintain.specs.Keeping.{meaning_of};
 
-use crate::rebuilding::{family_after, family_of_view};
+use crate::kept::Kept;
 use ak_family::AkFamily;
 use graph_update::Change;
 use index_api::{Kind, PathIndex};
 use label_graph::{Graph, GraphView};
-use px_base::Memory;
+use px_base::{Memory, Steps};
 use quotient::Summary;
 use std::alloc::Global;
+use std::marker::Brand;
+use std::sync::ledger::{Blank, Ledger};
 
-/// The A(0)- to A(k)-indexes of a graph, kept while it changes. So far a change is prepared by a build of the graph that it will leave, in a copy of the graph: O(nodes + edges) memory
-/// and k + 1 passes over the edges for each change.
+/// The A(0)- to A(k)-indexes of a graph, kept while it changes. A change is drafted over the family in force: at each level the
+/// nodes near the change's target move to the blocks of their keys. How much of the graph is read depends on what is near the
+/// change, and not on the size of the graph.
 #[derive(Drop)]
 pub struct AkIndex {
     alloc: Global,
-    family: Option<AkFamily>,
-    staged: Option<AkFamily>,
+    kept: Option<Kept>,
 }
 
 impl AkIndex {
     /// An index without views. It takes no memory until it is built.
     pub fn new(alloc: Global) -> Result<AkIndex, Memory>
-        ensures { IfOk result (λ index. meaning_of index.family index.staged ≡ meaning_of None None) }
+        ensures { IfOk result (λ index. meaning_of index.kept ≡ meaning_of None) }
     {
-        Ok(AkIndex {
-            alloc,
-            family: None,
-            staged: None,
-        })
+        Ok(AkIndex { alloc, kept: None })
+    }
+
+    /// Stages what a change will make of the index, as `prepare` does, and counts steps: at most `8 * k * w`, where levels up to `k`
+    /// are kept, and `w` is one for each node that at most `k` edges part from the change's target in the graph after it, one for each
+    /// of its parents and one for each of its children.
+    pub fn prepare_counted<L: Ledger>(
+        &mut self,
+        graph: &Graph,
+        change: &Change,
+        steps: &mut Steps<L>,
+    ) -> Result<(), Memory>
+        requires ready { IsReady (meaning_of self.old.kept) graph.now.graph }
+        requires new { IsNew (change_of change.now) graph.now.graph }
+        ensures staged { OnOk result (IsPrepared (meaning_of self.old.kept) (meaning_of self.new.kept) (change_of change.now) graph.now.graph) }
+        ensures err { OnErr result (meaning_of self.new.kept ≡ meaning_of self.old.kept) }
+        ensures cost { (k : ℕ) → length (meaning_of self.old.kept).views ≡ k + 1 → steps.new ≤ steps.old + most_steps graph.now.graph (change_of change.now) k }
+    {
+        let alloc = self.alloc;
+        match &mut self.kept {
+            Some(kept) => kept.prepare(alloc, graph, change, steps),
+            None => unreachable!(),
+        }
     }
 }
 
-impl PathIndex for AkIndex {
-    ghost use Rattle.ak_maintain.specs.Fitting.{meaning_of as the_meaning_of};
+// Stages what a change will make of the index, and forgets what it costs.
+fn prepare_uncounted<L: Ledger>(
+    index: &mut AkIndex,
+    graph: &Graph,
+    change: &Change,
+    blank: Blank,
+) -> Result<(), Memory>
+    requires name { blank.name ≡ L.name }
+    requires parts { blank.parts ≡ L.parts }
+    requires some { 0 < blank.parts }
+    requires ready { IsReady (meaning_of index.old.kept) graph.now.graph }
+    requires new { IsNew (change_of change.now) graph.now.graph }
+    ensures staged { OnOk result (IsPrepared (meaning_of index.old.kept) (meaning_of index.new.kept) (change_of change.now) graph.now.graph) }
+    ensures err { OnErr result (meaning_of index.new.kept ≡ meaning_of index.old.kept) }
+{
+    let mut steps = Steps::<L>::new(blank);
+    index.prepare_counted(graph, change, &mut steps)
+}
 
-    ghost meaning = { λ index. the_meaning_of index.family index.staged };
+impl PathIndex for AkIndex {
+    ghost use Rattle.ak_maintain.specs.Keeping.{meaning_of as the_meaning_of};
+
+    ghost meaning = { λ index. the_meaning_of index.kept };
 
     fn kind(&self) -> Kind {
         Kind::A
     }
 
     fn build(&mut self, view: &GraphView<'_>, k: u32) -> Result<(), Memory> {
-        let family = family_of_view(self.alloc, view, k)?;
-        self.family = Some(family);
-        self.staged = None;
+        let family = AkFamily::build(self.alloc, view, k)?;
+        self.kept = Some(Kept::of(family));
         Ok(())
     }
 
     fn prepare(&mut self, graph: &Graph, change: &Change) -> Result<(), Memory> {
-        match &self.family {
-            Some(family) => {
-                let next = family_after(self.alloc, graph, change, family.k())?;
-                self.staged = Some(next);
-                Ok(())
-            }
-            None => unreachable!(),
-        }
+        prepare_uncounted::<Brand>(self, graph, change, Blank::new(1))
     }
 
     fn commit(&mut self) {
-        if let Some(next) = self.staged.take() {
-            self.family = Some(next);
+        if let Some(kept) = &mut self.kept {
+            kept.commit();
         }
     }
 
     fn cancel(&mut self) {
-        self.staged = None;
+        if let Some(kept) = &mut self.kept {
+            kept.cancel();
+        }
     }
 
     fn refresh(&mut self, _view: &GraphView<'_>) -> Result<(), Memory> {
@@ -75,12 +112,15 @@ impl PathIndex for AkIndex {
     }
 
     fn summary(&self, level: u32) -> Option<&Summary> {
-        match &self.family {
-            Some(family) => if level <= family.k() {
-                Some(family.level(level))
-            } else {
-                None
-            },
+        match &self.kept {
+            Some(kept) => {
+                let family = kept.family();
+                if level <= family.k() {
+                    Some(family.level(level))
+                } else {
+                    None
+                }
+            }
             None => None,
         }
     }

@@ -1,7 +1,9 @@
-//! The A(k)-index, kept while its graph changes.
+//! The A(0)- to A(k)-indexes, kept while their graph changes.
 #![tactic(auto)]
 
 mod index;
-mod rebuilding;
+mod kept;
+#[cfg(test)]
+mod tests;
 
 pub use index::AkIndex;

@@ -1,0 +1,113 @@
+-- What is staged, and what is in force once it is committed.
+use Rattle.std.proofs.Common.{◌≡◌, ℕ, ◌+◌, ◌<◌, ◌≤◌, List, Option, Some, None, IsSome, IfSome, length, option_map, refl, sym, ◌∙◌, ap, subst, arith, true, false, true≢false}
+use Rattle.px_spec.specs.Graphs.{Graph}
+use Rattle.px_spec.specs.Changes.{Change, after}
+use Rattle.bisim_spec.specs.declared.kind.Kind.TheVariants.{A}
+use Rattle.bisim_spec.specs.Views.{View}
+use Rattle.bisim_spec.specs.Fits.{Fits, FitsAt, FitsLevel, view_at}
+use Rattle.keyed_quotient.specs.Levels.{KeyedQuotient}
+use Rattle.keyed_quotient.specs.Changes.{KeyedChanges}
+use Rattle.ak_family.specs.Drafting.{AreSeenAs, AreSettled}
+use Rattle.ak_drafting.specs.Drafting.{FamilyFits, ShownFit}
+use Rattle.index_api.specs.Meanings.{Meaning, IsReady, IsBuilt, IsPrepared, IsCommitted, IsRefreshed, unstaged}
+use Rattle.ak_maintain.specs.Keeping.{KeptFamily, views_of, settled_views, kept_views, staged_views, meaning_of}
+use Rattle.ak_maintain.proofs.Views.{view_total, settled_total, family_fits, fits_family, shown_fits, same_views, views_settled}
+
+-- an index that is ready has a family, with nothing staged
+pub record IsReadyKept (k : KeptFamily) (g : Graph) : Type 0 where
+  pub fits : FamilyFits g k.base
+  pub some : 0 < length k.base
+  pub unstaged : k.staged ≡ None
+
+none_mapped : (f : List KeyedChanges → List (Option View)) (o : Option (List KeyedChanges)) → option_map f o ≡ None → o ≡ None
+none_mapped f None h = refl
+none_mapped f (Some d) h = absurd (cc)
+
+pub ready_kept : (k : KeptFamily) (g : Graph) → IsReady (meaning_of (Some k)) g → IsReadyKept k g
+ready_kept k g ready =
+    let total = view_total k.base in
+    let count = ready.fits.count in
+    record { fits = fits_family g k.base ready.fits; some = omega (arith, total, count); unstaged = none_mapped (settled_views k.base) k.staged ready.unstaged }
+
+pub none_ready : (g : Graph) → IsReady (meaning_of None) g → ⊥
+none_ready g ready = let count = ready.fits.count in omega (arith, count)
+
+-- a draft is staged over a family that is the same but for room
+prepared_by : (k k2 : KeptFamily) (g : Graph) (c : Change) (o : Option (List KeyedChanges)) → AreSeenAs k.base k2.base → 0 < length k.base → k2.staged ≡ o → IsSome o
+    → IfSome o (ShownFit (after c g) k2.base) → IsPrepared (meaning_of (Some k)) (meaning_of (Some k2)) c g
+prepared_by k k2 g c None same some e there fits = absurd (true≢false (sym there))
+prepared_by k k2 g c (Some d) same some e there fits =
+    let count = same.count in
+    let total = settled_total k2.base d in
+    let total2 = view_total k.base in
+    record {
+      kind = refl;
+      views = same_views k.base k2.base same;
+      next = settled_views k2.base d;
+      staged = ap (option_map (settled_views k2.base)) e;
+      are_next = record { count = omega (arith, count, total, total2); fits = shown_fits (after c g) k2.base d (omega (arith, some, count)) fits; step = tt };
+    }
+
+pub prepared : (k k2 : KeptFamily) (g : Graph) (c : Change) → IsReadyKept k g → AreSeenAs k.base k2.base → IsSome k2.staged → IfSome k2.staged (ShownFit (after c g) k2.base)
+    → IsPrepared (meaning_of (Some k)) (meaning_of (Some k2)) c g
+prepared k k2 g c ready same there fits = prepared_by k k2 g c k2.staged same ready.some refl there fits
+
+-- nothing is staged after as before
+pub kept_meaning : (k k2 : KeptFamily) → AreSeenAs k.base k2.base → k.staged ≡ None → k2.staged ≡ None → meaning_of (Some k2) ≡ meaning_of (Some k)
+kept_meaning k k2 same was is =
+    let views = same_views k.base k2.base same in
+    let staged = ap (option_map (settled_views k2.base)) is ∙ sym (ap (option_map (settled_views k.base)) was) in
+    λ j. record { kind = A; views = views j; staged = staged j }
+
+committed_by : (k k2 : KeptFamily) (o : Option (List KeyedChanges)) → k.staged ≡ o → IsSome o → IfSome o (λ d. AreSettled k.base d k2.base) → k2.staged ≡ None
+    → IsCommitted (meaning_of (Some k)) (meaning_of (Some k2))
+committed_by k k2 None e there settled is = absurd (true≢false (sym there))
+committed_by k k2 (Some d) e there settled is = record {
+  kind = refl;
+  views = ap (option_map (settled_views k.base)) e ∙ ap (λ (vs : List (Option View)). Some vs) (views_settled k.base k2.base d settled);
+  unstaged = ap (option_map (settled_views k2.base)) is;
+}
+
+pub committed : (k k2 : KeptFamily) → IsSome k.staged → IfSome k.staged (λ d. AreSettled k.base d k2.base) → k2.staged ≡ None → IsCommitted (meaning_of (Some k)) (meaning_of (Some k2))
+committed k k2 there settled is = committed_by k k2 k.staged refl there settled is
+
+pub cancelled : (k k2 : KeptFamily) → k2.base ≡ k.base → k2.staged ≡ None → meaning_of (Some k2) ≡ unstaged (meaning_of (Some k))
+cancelled k k2 base is =
+    let views = ap views_of base in
+    let staged = ap (option_map (settled_views k2.base)) is in
+    λ j. record { kind = A; views = views j; staged = staged j }
+
+some_mapped : (f : List KeyedChanges → List (Option View)) (o : Option (List KeyedChanges)) → IsSome (option_map f o) → IsSome o
+some_mapped f None h = h
+some_mapped f (Some d) h = refl
+
+-- an index that has views staged has a draft
+pub some_staged : (k : KeptFamily) → IsSome (meaning_of (Some k)).staged → IsSome k.staged
+some_staged k h = some_mapped (settled_views k.base) k.staged h
+
+pub none_some : IsSome (meaning_of None).staged → ⊥
+none_some h = true≢false (sym h)
+
+-- an index that is built, whatever it had before
+pub built : (o : Option KeptFamily) (k : KeptFamily) (f : List KeyedQuotient) (g : Graph) (n : ℕ) → k.base ≡ f → k.staged ≡ None → length f ≡ n + 1 → FamilyFits g f
+    → IsBuilt (meaning_of o) (meaning_of (Some k)) g n
+built o k f g n base is count fits =
+    let total : length (views_of k.base) ≡ n + 1 = ap (λ x. length (views_of x)) base ∙ view_total f ∙ count in
+    record {
+      kind = refl;
+      ready = record { fits = subst (λ x. Fits A (views_of x) g) (sym base) (family_fits g f (omega (arith, count)) fits); unstaged = ap (option_map (settled_views k.base)) is };
+      count = total;
+      whole = tt;
+    }
+
+level_there : (g : Graph) (i : ℕ) (o : Option View) → FitsAt A g i o → IsSome o
+level_there g i None h = absurd h
+level_there g i (Some v) h = refl
+
+-- an index that is ready has each view
+pub all_there : (o : Option KeptFamily) (g : Graph) → IsReady (meaning_of o) g → IsRefreshed (meaning_of o) (meaning_of o) g
+all_there o g ready = record {
+  keeps = record { kind = refl; count = refl; kept = λ i v h. h };
+  ready = ready;
+  computed = λ i w. level_there g i (view_at (kept_views o) i) (ready.fits.each i w);
+}

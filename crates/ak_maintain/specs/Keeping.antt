@@ -1,0 +1,77 @@
+-- A family of A(k)-indexes that is kept: the family in force, and a draft over it of what a change to come will make of it.
+use Rattle.std.specs.Prelude.{◌≡◌, ◌+◌, ℕ, List, [], ◌∷◌, Option, Some, None, map, option_map, refl}
+use Rattle.std.specs.Coded.{Coded, code_by, coded×, coded_ℕ, coded_list, coded_option}
+use Rattle.bisim_spec.specs.declared.kind.Kind.TheVariants.{A}
+use Rattle.bisim_spec.specs.Views.{View}
+use Rattle.quotient.specs.Quotients.{view_of}
+use Rattle.quotient_draft.specs.Drafts.{Drafted, settled_view}
+use Rattle.keyed_quotient.specs.Levels.{KeyedQuotient, keyed_code}
+use Rattle.keyed_quotient.specs.Changes.{KeyedChanges}
+use Rattle.ak_family.specs.Drafting.{changes_at, HaveRoom, ShowsFamily}
+use Rattle.index_api.specs.Meanings.{Meaning}
+
+pub record KeptFamily : Type 0 where
+  pub base : List KeyedQuotient
+  -- what a change will make of the family, where one is prepared
+  pub staged : Option (List KeyedChanges)
+
+-- a draft of a level is stored as its lists, and what is kept as its parts
+abbrev DraftParts : Type 0
+DraftParts = List (ℕ × ℕ) × (List (ℕ × Option ℕ) × (List ℕ × (List (ℕ × ℕ) × List ((ℕ × ℕ) × ℕ))))
+
+abbrev drafted_code : Coded Drafted
+drafted_code =
+    code_by DraftParts
+    (coded× (coded_list (coded× coded_ℕ coded_ℕ))
+    (coded× (coded_list (coded× coded_ℕ (coded_option coded_ℕ)))
+    (coded× (coded_list coded_ℕ) (coded× (coded_list (coded× coded_ℕ coded_ℕ)) (coded_list (coded× (coded× coded_ℕ coded_ℕ) coded_ℕ))))))
+    (λ d. (d.added, (d.moves, (d.left, (d.taken, d.supports)))))
+    (λ p. record { added = p.0; moves = p.1.0; left = p.1.1.0; taken = p.1.1.1.0; supports = p.1.1.1.1 })
+    (λ _. refl)
+
+abbrev changes_code : Coded KeyedChanges
+changes_code =
+    code_by (Drafted × List (ℕ × List ℕ)) (coded× drafted_code (coded_list (coded× coded_ℕ (coded_list coded_ℕ)))) (λ d. (d.drafted, d.keys))
+    (λ p. record { drafted = p.0; keys = p.1 }) (λ _. refl)
+
+abbrev pub kept_code : Coded KeptFamily
+kept_code =
+    code_by (List KeyedQuotient × Option (List KeyedChanges)) (coded× (coded_list keyed_code) (coded_option (coded_list changes_code))) (λ k. (k.base, k.staged))
+    (λ p. record { base = p.0; staged = p.1 }) (λ _. refl)
+
+-- what the draft needs to be settled in its base: room, and that it shows a family
+pub record CanSettle (f : List KeyedQuotient) (d : List KeyedChanges) : Type 0 where
+  pub room : HaveRoom f d
+  pub shows : ShowsFamily f d
+
+-- a draft that is staged can be settled
+abbrev pub IsKeptDraft : List KeyedQuotient → Option (List KeyedChanges) → Type 0
+IsKeptDraft f None = Unit {0}
+IsKeptDraft f (Some d) = CanSettle f d
+
+-- the views of a family, one for each level
+abbrev pub views_of : List KeyedQuotient → List (Option View)
+views_of levels = map (λ l. Some (view_of l.quotient)) levels
+
+-- the views of these levels once the draft is settled, where the first of them is level i
+abbrev pub settled_from : List KeyedQuotient → List KeyedChanges → ℕ → List (Option View)
+settled_from [] d i = []
+settled_from (l ∷ levels) d i = Some (settled_view l.quotient (changes_at d i).drafted) ∷ settled_from levels d (i + 1)
+
+-- the views of a family once the draft is settled
+abbrev pub settled_views : List KeyedQuotient → List KeyedChanges → List (Option View)
+settled_views f d = settled_from f d 0
+
+-- no views before the first build
+abbrev pub kept_views : Option KeptFamily → List (Option View)
+kept_views None = []
+kept_views (Some k) = views_of k.base
+
+-- the views that are staged, if any are
+abbrev pub staged_views : Option KeptFamily → Option (List (Option View))
+staged_views None = None
+staged_views (Some k) = option_map (settled_views k.base) k.staged
+
+-- what an index means that keeps this family
+abbrev pub meaning_of : Option KeptFamily → Meaning
+meaning_of kept = record { kind = A; views = kept_views kept; staged = staged_views kept }
