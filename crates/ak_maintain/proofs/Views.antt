@@ -3,13 +3,16 @@ use Rattle.std.proofs.Common.{◌≡◌, ℕ, zero, suc, ◌+◌, ◌<◌, ◌�
 use Rattle.std.proofs.lemmas.List.{get_or-map, length-map, get_or_past, ext_get_or}
 use Rattle.px_spec.specs.Graphs.{Graph}
 use Rattle.bisim_spec.specs.declared.kind.Kind.TheVariants.{A}
-use Rattle.bisim_spec.specs.Views.{View}
+use Rattle.px_spec.specs.Shapes.{shape_of}
+use Rattle.bisim_spec.specs.Bisimilarity.{Bis}
+use Rattle.bisim_spec.specs.Partitions.{Agrees}
+use Rattle.bisim_spec.specs.Views.{View, ViewFits}
 use Rattle.bisim_spec.specs.Fits.{Fits, FitsAt, FitsLevel, view_at}
 use Rattle.quotient.specs.Quotients.{view_of}
 use Rattle.quotient_draft.specs.Drafts.{settled_view}
 use Rattle.keyed_quotient.specs.Levels.{KeyedQuotient, no_level}
 use Rattle.keyed_quotient.specs.Changes.{KeyedChanges}
-use Rattle.ak_family.specs.Families.{level_at}
+use Rattle.ak_family.specs.Families.{level_at, blocks_at}
 use Rattle.ak_family.specs.Drafting.{changes_at, AreSeenAs, AreSettled}
 use Rattle.ak_drafting.specs.Drafting.{FamilyFits, ShownFit}
 use Rattle.ak_maintain.specs.Keeping.{views_of, settled_from, settled_views}
@@ -28,14 +31,15 @@ view_total levels = length-map levels (λ l. Some (view_of l.quotient))
 settled_level_from : (levels : List KeyedQuotient) (d : List KeyedChanges) (i j : ℕ) → j < length levels
     → view_at (settled_from levels d i) j ≡ Some (settled_view (level_at levels j).quotient (changes_at d (i + j)).drafted)
 settled_level_from [] d i j h = absurd (omega (arith, h))
-settled_level_from (l ∷ levels) d i zero h = refl
+settled_level_from (l ∷ levels) d i zero h = let place : i ≡ i + 0 = omega arith in ap (λ n. Some (settled_view l.quotient (changes_at d n).drafted)) place
 settled_level_from (l ∷ levels) d i (suc j) h =
     let place : i + 1 + j ≡ i + suc j = omega arith in
     settled_level_from levels d (i + 1) j (omega (arith, h)) ∙ ap (λ n. Some (settled_view (level_at levels j).quotient (changes_at d n).drafted)) place
 
 pub settled_level : (f : List KeyedQuotient) (d : List KeyedChanges) (i : ℕ) → i < length f
     → view_at (settled_views f d) i ≡ Some (settled_view (level_at f i).quotient (changes_at d i).drafted)
-settled_level f d i h = settled_level_from f d 0 i h
+settled_level f d i h =
+    let place : 0 + i ≡ i = omega arith in settled_level_from f d 0 i h ∙ ap (λ n. Some (settled_view (level_at f i).quotient (changes_at d n).drafted)) place
 
 settled_total_from : (levels : List KeyedQuotient) (d : List KeyedChanges) (i : ℕ) → length (settled_from levels d i) ≡ length levels
 settled_total_from [] d i = refl
@@ -43,6 +47,11 @@ settled_total_from (l ∷ levels) d i = ap suc (settled_total_from levels d (i +
 
 pub settled_total : (f : List KeyedQuotient) (d : List KeyedChanges) → length (settled_views f d) ≡ length f
 settled_total f d = settled_total_from f d 0
+
+-- the levels of a family that is built fit the graph
+pub levels_fit : (g : Graph) (f : List KeyedQuotient) (k : ℕ) → length f ≡ k + 1 → ((i : ℕ) → i ≤ k → ViewFits g (view_of (level_at f i).quotient))
+    → ((i : ℕ) → i ≤ k → Agrees (shape_of g) (blocks_at f i) (Bis (shape_of g) i)) → FamilyFits g f
+levels_fit g f k count views agrees i h = record { view = views i (omega (arith, h, count)); agrees = agrees i (omega (arith, h, count)) }
 
 -- the levels of a graph fit it as views, and the other way round
 pub family_fits : (g : Graph) (f : List KeyedQuotient) → 0 < length f → FamilyFits g f → Fits A (views_of f) g

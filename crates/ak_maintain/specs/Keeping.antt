@@ -1,6 +1,7 @@
 -- A family of A(k)-indexes that is kept: the family in force, and a draft over it of what a change to come will make of it.
 use Rattle.std.specs.Prelude.{◌≡◌, ◌+◌, ℕ, List, [], ◌∷◌, Option, Some, None, map, option_map, refl}
 use Rattle.std.specs.Coded.{Coded, code_by, coded×, coded_ℕ, coded_list, coded_option}
+use Rattle.px_spec.specs.Graphs.{Graph}
 use Rattle.bisim_spec.specs.declared.kind.Kind.TheVariants.{A}
 use Rattle.bisim_spec.specs.Views.{View}
 use Rattle.quotient.specs.Quotients.{view_of}
@@ -8,6 +9,7 @@ use Rattle.quotient_draft.specs.Drafts.{Drafted, settled_view}
 use Rattle.keyed_quotient.specs.Levels.{KeyedQuotient, keyed_code}
 use Rattle.keyed_quotient.specs.Changes.{KeyedChanges}
 use Rattle.ak_family.specs.Drafting.{changes_at, HaveRoom, ShowsFamily}
+use Rattle.ak_drafting.specs.Drafting.{ShownFit}
 use Rattle.index_api.specs.Meanings.{Meaning}
 
 pub record KeptFamily : Type 0 where
@@ -48,6 +50,11 @@ pub record CanSettle (f : List KeyedQuotient) (d : List KeyedChanges) : Type 0 w
 abbrev pub IsKeptDraft : List KeyedQuotient → Option (List KeyedChanges) → Type 0
 IsKeptDraft f None = Unit {0}
 IsKeptDraft f (Some d) = CanSettle f d
+
+-- a draft is staged, and once it is settled the family is that of the graph
+abbrev pub IsStagedFor : Graph → List KeyedQuotient → Option (List KeyedChanges) → Type 0
+IsStagedFor g f None = ⊥
+IsStagedFor g f (Some d) = ShownFit g f d
 
 -- the views of a family, one for each level
 abbrev pub views_of : List KeyedQuotient → List (Option View)

@@ -5,7 +5,7 @@ ghost use Rattle.graph_update.specs.NewChanges.{IsNew};
 ghost use Rattle.graph_update.specs.Judging.{change_of};
 ghost use Rattle.ak_family.specs.Drafting.{AreSeenAs, AreSettled, ShowsFamily};
 ghost use Rattle.ak_drafting.specs.Drafting.{FamilyFits, ShownFit, most_steps};
-ghost use Rattle.ak_maintain.specs.Keeping.{CanSettle};
+ghost use Rattle.ak_maintain.specs.Keeping.{CanSettle, IsStagedFor};
 
 use ak_drafting::draft_change;
 use ak_family::{AkDraft, AkFamily};
@@ -106,8 +106,7 @@ impl Kept {
         requires unstaged { self.old.staged ≡ None }
         requires new { IsNew (change_of change.now) graph.now.graph }
         ensures same { AreSeenAs self.old.base self.new.base }
-        ensures staged { OnOk result (IsSome self.new.staged) }
-        ensures fits { OnOk result (IfSome self.new.staged (ShownFit (after (change_of change.now) graph.now.graph) self.new.base)) }
+        ensures staged { OnOk result (IsStagedFor (after (change_of change.now) graph.now.graph) self.new.base self.new.staged) }
         ensures unstaged { OnErr result (self.new.staged ≡ None) }
         ensures cost { (k : ℕ) → length self.old.base ≡ k + 1 → steps.new ≤ steps.old + most_steps graph.now.graph (change_of change.now) k }
     {
