@@ -1,16 +1,16 @@
 -- What is staged, and what is in force once it is committed.
-use Rattle.std.proofs.Common.{◌≡◌, ℕ, ◌+◌, ◌<◌, ◌≤◌, List, Option, Some, None, IsSome, IfSome, length, option_map, refl, sym, ◌∙◌, ap, subst, arith, true, false, true≢false}
+use Rattle.std.proofs.Common.{◌≡◌, ℕ, ◌+◌, ◌<◌, List, Option, Some, None, IsSome, IfSome, length, option_map, refl, sym, ◌∙◌, ap, subst, arith, true≢false}
 use Rattle.px_spec.specs.Graphs.{Graph}
 use Rattle.px_spec.specs.Changes.{Change, after}
 use Rattle.bisim_spec.specs.declared.kind.Kind.TheVariants.{A}
 use Rattle.bisim_spec.specs.Views.{View}
-use Rattle.bisim_spec.specs.Fits.{Fits, FitsAt, FitsLevel, view_at}
+use Rattle.bisim_spec.specs.Fits.{Fits, FitsAt, view_at}
 use Rattle.keyed_quotient.specs.Levels.{KeyedQuotient}
 use Rattle.keyed_quotient.specs.Changes.{KeyedChanges}
 use Rattle.ak_family.specs.Drafting.{AreSeenAs, AreSettled}
-use Rattle.ak_drafting.specs.Drafting.{FamilyFits, ShownFit}
-use Rattle.index_api.specs.Meanings.{Meaning, IsReady, IsBuilt, IsPrepared, IsCommitted, IsRefreshed, unstaged}
-use Rattle.ak_maintain.specs.Keeping.{KeptFamily, IsStagedFor, views_of, settled_views, kept_views, staged_views, meaning_of}
+use Rattle.ak_drafting.specs.Drafting.{FamilyFits}
+use Rattle.index_api.specs.Meanings.{IsReady, IsBuilt, IsPrepared, IsCommitted, IsRefreshed, unstaged}
+use Rattle.ak_maintain.specs.Keeping.{KeptFamily, IsStagedFor, views_of, settled_views, kept_views, meaning_of}
 use Rattle.ak_maintain.proofs.Views.{view_total, settled_total, family_fits, fits_family, shown_fits, same_views, views_settled}
 
 -- an index that is ready has a family, with nothing staged

@@ -1,5 +1,5 @@
 -- The views of a family, and those that it will have once a draft is settled.
-use Rattle.std.proofs.Common.{◌≡◌, ℕ, zero, suc, ◌+◌, ◌<◌, ◌≤◌, List, [], ◌∷◌, Option, Some, None, IsSome, length, map, arith, refl, sym, ap, ◌∙◌, subst}
+use Rattle.std.proofs.Common.{◌≡◌, ℕ, zero, suc, ◌+◌, ◌<◌, ◌≤◌, List, [], ◌∷◌, Some, None, length, arith, refl, sym, ap, ◌∙◌, subst}
 use Rattle.std.proofs.lemmas.List.{get_or-map, length-map, get_or_past, ext_get_or}
 use Rattle.px_spec.specs.Graphs.{Graph}
 use Rattle.bisim_spec.specs.declared.kind.Kind.TheVariants.{A}
@@ -7,7 +7,7 @@ use Rattle.px_spec.specs.Shapes.{shape_of}
 use Rattle.bisim_spec.specs.Bisimilarity.{Bis}
 use Rattle.bisim_spec.specs.Partitions.{Agrees}
 use Rattle.bisim_spec.specs.Views.{View, ViewFits}
-use Rattle.bisim_spec.specs.Fits.{Fits, FitsAt, FitsLevel, view_at}
+use Rattle.bisim_spec.specs.Fits.{Fits, FitsAt, view_at}
 use Rattle.quotient.specs.Quotients.{view_of}
 use Rattle.quotient_draft.specs.Drafts.{settled_view}
 use Rattle.keyed_quotient.specs.Levels.{KeyedQuotient, no_level}

@@ -1,5 +1,5 @@
 // A family in force, with what a change to come will make of it.
-ghost use Rattle.std.specs.Prelude.{◌≡◌, ◌+◌, ◌≤◌, ℕ, Some, None, IsSome, IfOk, IfSome, OnOk, OnErr, length};
+ghost use Rattle.std.specs.Prelude.{◌≡◌, ◌+◌, ◌≤◌, ℕ, None, IsSome, IfOk, IfSome, OnOk, OnErr, length};
 ghost use Rattle.px_spec.specs.Changes.{after};
 ghost use Rattle.graph_update.specs.NewChanges.{IsNew};
 ghost use Rattle.graph_update.specs.Judging.{change_of};

@@ -1,5 +1,5 @@
 // The levels of two chains, of which one gets a further parent.
-ghost use Rattle.std.specs.Prelude.{◌≡◌, ◌<◌, IfOk, OnOk, IsSome};
+ghost use Rattle.std.specs.Prelude.{◌≡◌, ◌<◌, IfOk, OnOk};
 ghost use Rattle.graph_update.specs.Judging.{change_of};
 ghost use Rattle.index_api.specs.Meanings.{IsReady, IsPrepared};
 ghost use Rattle.ak_maintain.specs.Keeping.{meaning_of};
