@@ -8,7 +8,7 @@ use label_graph::{Graph, GraphView};
 use path_query::ExprError;
 use px_base::{Bits, NodeId, Steps, Text};
 use px_spec::Limits;
-use std::alloc::Global;
+use std::alloc::{AllocError, Global};
 use std::marker::Brand;
 use std::process::Abort;
 use std::sync::ledger::{Blank, Ledger};
@@ -106,6 +106,45 @@ fn passes_limit(alloc: Global, text: &str) -> bool {
 fn limits_come_first(rt: HostRuntime) {
     for (text, past) in PAST {
         assert!(rt; passes_limit(rt.alloc(), text) == *past, "at {text}");
+    }
+}
+
+/// What stands before brackets, the opening of one, what stands within them, its end, and the end of the first one.
+const NESTED: &[[&str; 5]] = &[
+    ["a[/", "a[/", "a", "]", "]"],
+    ["a[", "(", "/b", ")", "]"],
+    ["a[", "not(", "/b", ")", "]"],
+];
+
+/// The text of the row, with so many brackets within the first one.
+fn nested(alloc: Global, row: &[&str; 5], count: u32) -> Result<String, AllocError> {
+    let mut text = String::from_str(alloc, row[0])?;
+    for _ in 0..count {
+        text.push_str(row[1])?;
+    }
+    text.push_str(row[2])?;
+    for _ in 0..count {
+        text.push_str(row[3])?;
+    }
+    text.push_str(row[4])?;
+    Ok(text)
+}
+
+/// Whether the text of the row passes the program's limits, if it is read or passes them.
+fn is_past_program(alloc: Global, row: &[&str; 5], count: u32) -> Option<bool> {
+    let text = nested(alloc, row, count).ok()?;
+    match Branch::parse(alloc, text.as_bytes(), &Limits::program()) {
+        Ok(_) => Some(false),
+        Err(ExprError::Limit) => Some(true),
+        Err(_) => None,
+    }
+}
+
+#[test]
+fn brackets_nest_64_deep(rt: HostRuntime) {
+    for row in NESTED {
+        assert_eq!(rt; is_past_program(rt.alloc(), row, 63), Some(false));
+        assert_eq!(rt; is_past_program(rt.alloc(), row, 64), Some(true));
     }
 }
 

@@ -1,12 +1,14 @@
 // The engine over an A(k)-index, alone and beside an index that finds no memory.
-ghost use Rattle.std.specs.Prelude.{◌≡◌, ◌<◌, [], ◌∷◌, Some, None, IsSome, map, if◌then◌else◌};
+ghost use Rattle.std.specs.Prelude.{◌≡◌, ◌≢◌, ◌<◌, [], ◌∷◌, Some, None, IsSome, map, if◌then◌else◌};
 ghost use Rattle.bisim_spec.specs.declared.kind.Kind.TheVariants.{Fb};
+ghost use Rattle.index_api.specs.declared.kinds.Via.TheVariants.{Data};
 ghost use Rattle.pathindex_core.specs.Engines.{engine_seen, opened_of, IsSound};
 
 use ak_maintain::AkIndex;
 use graph_update::{Applied, Change};
 use index_api::{Kind, PathIndex, Via};
 use label_graph::{Graph, GraphView};
+use path_query::PathExpr;
 use pathindex_core::{AskError, Engine, UpdateError};
 use px_base::{Limits, Memory, Refusal, Steps, Text};
 use quotient::Summary;
@@ -95,5 +97,79 @@ fn a_tired_box_leaves_all(rt: HostRuntime) -> Result<(), Fail> {
     assert_eq!(rt; engine.graph().created(), 0);
     assert!(rt; engine.forget(Kind::Fb).is_ok());
     assert!(rt; node(&mut engine, alloc)? == Ok(Applied::Added(0)));
+    Ok(())
+}
+
+// The list through the index, or no memory for it.
+fn lists<L: Ledger>(
+    engine: &mut Engine,
+    alloc: Global,
+    via: Via,
+    list: Option<&str>,
+    blank: Blank,
+) -> bool
+    requires index { via ≢ Data }
+    requires name { blank.name ≡ L.name }
+    requires parts { blank.parts ≡ L.parts }
+    requires some { 0 < blank.parts }
+    requires open { IsSome (opened_of engine.old.state) }
+    requires sound { IsSound (engine_seen (map (λ b. meaning (b.vtable, b.value)) engine.old.boxes.items) engine.old.state) }
+    ensures open { IsSome (opened_of engine.new.state) }
+    ensures sound { IsSound (engine_seen (map (λ b. meaning (b.vtable, b.value)) engine.new.boxes.items) engine.new.state) }
+{
+    let mut steps = Steps::<L>::new(blank);
+    match engine.extents(alloc, via, &mut steps) {
+        Ok(text) => list == Some(text.as_str()),
+        Err(error) => list.is_none() && error == AskError::Memory,
+    }
+}
+
+// The path has no answer in the graph itself.
+fn finds_none<L: Ledger>(engine: &mut Engine, alloc: Global, path: &str, blank: Blank) -> bool
+    requires name { blank.name ≡ L.name }
+    requires parts { blank.parts ≡ L.parts }
+    requires some { 0 < blank.parts }
+    requires open { IsSome (opened_of engine.old.state) }
+    requires sound { IsSound (engine_seen (map (λ b. meaning (b.vtable, b.value)) engine.old.boxes.items) engine.old.state) }
+    ensures open { IsSome (opened_of engine.new.state) }
+    ensures sound { IsSound (engine_seen (map (λ b. meaning (b.vtable, b.value)) engine.new.boxes.items) engine.new.state) }
+{
+    let mut steps = Steps::<L>::new(blank);
+    let Ok(expr) = PathExpr::parse(alloc, path.as_bytes(), &FEW) else {
+        return false;
+    };
+    match engine.path(alloc, Via::Data, &expr, &mut steps) {
+        Ok(answer) => answer.nodes.count() == 0,
+        Err(_) => false,
+    }
+}
+
+// The tired box finds no memory for its list, and the next calls answer as ever.
+fn goes_on(engine: &mut Engine, alloc: Global) -> bool
+    requires open { IsSome (opened_of engine.old.state) }
+    requires sound { IsSound (engine_seen (map (λ b. meaning (b.vtable, b.value)) engine.old.boxes.items) engine.old.state) }
+    ensures open { IsSome (opened_of engine.new.state) }
+    ensures sound { IsSound (engine_seen (map (λ b. meaning (b.vtable, b.value)) engine.new.boxes.items) engine.new.state) }
+{
+    lists::<Brand>(engine, alloc, Via::Fb, None, Blank::new(1))
+        && lists::<Brand>(engine, alloc, Via::A(0), Some("blocks 0\n"), Blank::new(1))
+        && finds_none::<Brand>(engine, alloc, "a", Blank::new(1))
+}
+
+#[test]
+fn a_tired_box_lists_nothing(rt: HostRuntime) -> Result<(), Fail> {
+    let alloc = rt.alloc();
+    let mut boxes: Vec<Box<dyn PathIndex>> = Vec::new(alloc);
+    boxes.push(Box::new(alloc, AkIndex::new(alloc)?)?)?;
+    boxes.push(Box::new(
+        alloc,
+        Tired {
+            is_built: false,
+            is_staged: false,
+        },
+    )?)?;
+    let mut engine = Engine::new(boxes);
+    engine.open(Graph::new(alloc)?, FEW, 2)?;
+    assert!(rt; goes_on(&mut engine, alloc));
     Ok(())
 }

@@ -1,10 +1,7 @@
 //! The program `pathindex`: it carries out a script over a graph, as its words ask for.
 #![tactic(auto)]
 
-use ak_maintain::AkIndex;
-use fb_index::FbIndex;
-use index_api::PathIndex;
-use one_maintain::OneKept;
+use full_engine::{EngineTask, with_full_engine};
 use pathindex_core::Engine;
 use pathindex_run::{HostShelf, HostSink, Status, break_reason, run};
 use px_base::Memory;
@@ -27,17 +24,31 @@ fn tell(rt: &impl Eprint, status: u8) {
     }
 }
 
+/// What the words ask for, over the real files and standard output.
+#[derive(Drop)]
+struct Run<'a, R: Files + Print + AllocGlobal> {
+    rt: &'a R,
+    words: &'a [String],
+}
+
+impl<'a, R: Files + Print + AllocGlobal> EngineTask for Run<'a, R> {
+    ghost use Rattle.std.specs.Prelude.{⊤};
+
+    type Answer = u8;
+
+    // Real files tell nothing, so nothing is said of the status.
+    ghost gives = { λ _ _. ⊤ };
+
+    fn carry_out(self, engine: &mut Engine) -> u8 {
+        let mut shelf = HostShelf::new(self.rt);
+        let mut sink = HostSink::new(self.rt);
+        run(self.rt.alloc(), self.words, engine, &mut shelf, &mut sink)
+    }
+}
+
 /// Carries out what the words ask for, on an engine with an index of each kind, and answers the exit status.
 fn run_words(rt: &(impl Files + Print + AllocGlobal), words: &[String]) -> Result<u8, Memory> {
-    let alloc = rt.alloc();
-    let mut boxes: Vec<Box<dyn PathIndex>> = Vec::new(alloc);
-    boxes.push(Box::new(alloc, AkIndex::new(alloc)?)?)?;
-    boxes.push(Box::new(alloc, OneKept::new(alloc)?)?)?;
-    boxes.push(Box::new(alloc, FbIndex::new(alloc)?)?)?;
-    let mut engine = Engine::new(boxes);
-    let mut shelf = HostShelf::new(rt);
-    let mut sink = HostSink::new(rt);
-    Ok(run(alloc, words, &mut engine, &mut shelf, &mut sink))
+    with_full_engine(rt.alloc(), Run { rt, words })
 }
 
 fn main(rt: HostRuntime) -> ExitCode {

@@ -270,6 +270,54 @@ fn failing_calls_lose_no_line(rt: HostRuntime) {
     assert!(rt; ends(rt.alloc(), write_fails, "", 6));
 }
 
+const LINES: &str = "node a\nnode b\nlink n0 n1\npath data a/b\n";
+
+const REPLIES: &str = "added n0\nadded n1\nok\nanswers 1\nn1\n";
+
+/// Whether the run in which these calls fail ends with that status, and has written a front of the replies.
+fn breaks_over(
+    alloc: Global,
+    failing: (u32, u32),
+    sink: &mut MemSink,
+    status: u8,
+) -> Result<bool, Memory> {
+    let given = Given {
+        failing,
+        ..script(LINES)
+    };
+    let words = named(alloc, given.words)?;
+    let mut shelf = shelf_of(alloc, given)?;
+    let ended = run_over(alloc, &words, &mut shelf, sink)?;
+    Ok(ended == status && REPLIES.as_bytes().starts_with(sink.written()))
+}
+
+/// Whether the run ends so.
+fn breaks(alloc: Global, failing: (u32, u32), status: u8) -> bool {
+    match sink_of(alloc, failing.1) {
+        Ok(mut sink) => match breaks_over(alloc, failing, &mut sink, status) {
+            Ok(right) => right,
+            Err(_) => false,
+        },
+        Err(_) => false,
+    }
+}
+
+// The file is opened by one call, and read by six, of which the last finds its end. All is written by twelve.
+#[test]
+fn each_failing_call_leaves_a_front(rt: HostRuntime) {
+    for call in 1..=7 {
+        assert!(rt; breaks(rt.alloc(), (call, 0), 5), "{call}");
+    }
+    for call in 1..=12 {
+        assert!(rt; breaks(rt.alloc(), (0, call), 6), "{call}");
+    }
+    let whole = Given {
+        failing: (8, 13),
+        ..script(LINES)
+    };
+    assert!(rt; ends(rt.alloc(), whole, REPLIES, 0));
+}
+
 /// A graph file whose two spellings of one IRI are one node, and three that are broken.
 const SPELLINGS: &str =
     "# two spellings\r\n<http://e/a> <http://e/p> <http://e/\\u0061> .\r\n<http://e/\\u0061> <http://e/p> <http://e/a>.";

@@ -1,8 +1,8 @@
 use Rattle.std.proofs.Common.{◌≡◌, refl, sym, subst}
 use Rattle.bisim_spec.specs.declared.kind.Kind.TheVariants.{A, One, Fb}
-use Rattle.pathindex_main.proofs.run_words.OwnLists.{own-1}
-use Rattle.pathindex_main.proofs.Apart.{three_apart, kept_is_one}
-use Rattle.pathindex_main.proofs.run_words.Goals as goal
+use Rattle.full_engine.proofs.engine.with_full_engine.OwnLists.{own-1}
+use Rattle.full_engine.proofs.Apart.{three_apart, kept_is_one}
+use Rattle.full_engine.proofs.engine.with_full_engine.Goals as goal
 
 pub new-engine-requires : goal.new-engine-requires
 new-engine-requires g c = record {

@@ -1,0 +1,188 @@
+// One query, through each index and the graph itself.
+ghost use Rattle.std.specs.Prelude.{◌≡◌, ◌<◌, true, None, IsSome, map};
+ghost use Rattle.pathindex_core.specs.Engines.{engine_seen, opened_of, IsSound};
+
+use branch_text::Branch;
+use full_engine::{EngineTask, with_full_engine};
+use graph_update::Change;
+use index_api::{Answer, Via};
+use label_graph::Graph;
+use path_query::PathExpr;
+use pathindex_core::{AskError, Engine};
+use px_base::{Limits, NodeId, Steps, Text};
+use std::alloc::Global;
+use std::marker::Brand;
+use std::sync::ledger::{Blank, Ledger};
+
+/// Opens the engine with an empty graph.
+fn opens(engine: &mut Engine, alloc: Global) -> bool
+    requires closed { opened_of engine.old.state ≡ None }
+    requires sound { IsSound (engine_seen (map (λ b. meaning (b.vtable, b.value)) engine.old.boxes.items) engine.old.state) }
+    ensures open { result ≡ true → IsSome (opened_of engine.new.state) }
+    ensures sound { IsSound (engine_seen (map (λ b. meaning (b.vtable, b.value)) engine.new.boxes.items) engine.new.state) }
+{
+    match Graph::new(alloc) {
+        Ok(graph) => engine.open(graph, Limits::program(), 1).is_ok(),
+        Err(_) => false,
+    }
+}
+
+/// Makes a change.
+fn makes(engine: &mut Engine, alloc: Global, change: Change) -> bool
+    requires open { IsSome (opened_of engine.old.state) }
+    requires sound { IsSound (engine_seen (map (λ b. meaning (b.vtable, b.value)) engine.old.boxes.items) engine.old.state) }
+    ensures open { IsSome (opened_of engine.new.state) }
+    ensures sound { IsSound (engine_seen (map (λ b. meaning (b.vtable, b.value)) engine.new.boxes.items) engine.new.state) }
+{
+    engine.update(alloc, change).is_ok()
+}
+
+/// Adds a node with this label.
+fn adds(engine: &mut Engine, alloc: Global, label: &str) -> bool
+    requires open { IsSome (opened_of engine.old.state) }
+    requires sound { IsSound (engine_seen (map (λ b. meaning (b.vtable, b.value)) engine.old.boxes.items) engine.old.state) }
+    ensures open { IsSome (opened_of engine.new.state) }
+    ensures sound { IsSound (engine_seen (map (λ b. meaning (b.vtable, b.value)) engine.new.boxes.items) engine.new.state) }
+{
+    match Text::from_bytes(alloc, label.as_bytes()) {
+        Ok(label) => makes(engine, alloc, Change::Node(label)),
+        Err(_) => false,
+    }
+}
+
+/// Adds an `a` with two children `b`, of which the first has a child `c`.
+fn grows(engine: &mut Engine, alloc: Global) -> bool
+    requires open { IsSome (opened_of engine.old.state) }
+    requires sound { IsSound (engine_seen (map (λ b. meaning (b.vtable, b.value)) engine.old.boxes.items) engine.old.state) }
+    ensures open { IsSome (opened_of engine.new.state) }
+    ensures sound { IsSound (engine_seen (map (λ b. meaning (b.vtable, b.value)) engine.new.boxes.items) engine.new.state) }
+{
+    adds(engine, alloc, "a")
+        && adds(engine, alloc, "b")
+        && adds(engine, alloc, "b")
+        && adds(engine, alloc, "c")
+        && makes(engine, alloc, Change::Link(0, 1))
+        && makes(engine, alloc, Change::Link(0, 2))
+        && makes(engine, alloc, Change::Link(1, 3))
+}
+
+/// Whether these are the nodes of the answer.
+fn are(answer: &Result<Answer, AskError>, nodes: &[NodeId]) -> bool {
+    match answer {
+        Ok(answer) => {
+            answer.nodes.count() as usize == nodes.len()
+                && nodes.iter().all(|n| answer.nodes.contains(*n))
+        }
+        Err(_) => false,
+    }
+}
+
+/// Whether these nodes answer the path, asked so.
+fn path_gives<L: Ledger>(
+    engine: &mut Engine,
+    alloc: Global,
+    via: Via,
+    expr: &PathExpr,
+    nodes: &[NodeId],
+    blank: Blank,
+) -> bool
+    requires open { IsSome (opened_of engine.old.state) }
+    requires sound { IsSound (engine_seen (map (λ b. meaning (b.vtable, b.value)) engine.old.boxes.items) engine.old.state) }
+    requires name { blank.name ≡ L.name }
+    requires parts { blank.parts ≡ L.parts }
+    requires some { 0 < blank.parts }
+    ensures open { IsSome (opened_of engine.new.state) }
+    ensures sound { IsSound (engine_seen (map (λ b. meaning (b.vtable, b.value)) engine.new.boxes.items) engine.new.state) }
+{
+    let mut steps = Steps::<L>::new(blank);
+    are(&engine.path(alloc, via, expr, &mut steps), nodes)
+}
+
+/// Whether these nodes answer the branching query, asked so.
+fn branch_gives<L: Ledger>(
+    engine: &mut Engine,
+    alloc: Global,
+    via: Via,
+    query: &Branch,
+    nodes: &[NodeId],
+    blank: Blank,
+) -> bool
+    requires open { IsSome (opened_of engine.old.state) }
+    requires sound { IsSound (engine_seen (map (λ b. meaning (b.vtable, b.value)) engine.old.boxes.items) engine.old.state) }
+    requires name { blank.name ≡ L.name }
+    requires parts { blank.parts ≡ L.parts }
+    requires some { 0 < blank.parts }
+    ensures open { IsSome (opened_of engine.new.state) }
+    ensures sound { IsSound (engine_seen (map (λ b. meaning (b.vtable, b.value)) engine.new.boxes.items) engine.new.state) }
+{
+    let mut steps = Steps::<L>::new(blank);
+    are(&engine.branch(alloc, via, query, &mut steps), nodes)
+}
+
+/// Whether these nodes answer the path, through each index and the graph itself.
+fn path_gives_always(engine: &mut Engine, alloc: Global, text: &str, nodes: &[NodeId]) -> bool
+    requires open { IsSome (opened_of engine.old.state) }
+    requires sound { IsSound (engine_seen (map (λ b. meaning (b.vtable, b.value)) engine.old.boxes.items) engine.old.state) }
+    ensures open { IsSome (opened_of engine.new.state) }
+    ensures sound { IsSound (engine_seen (map (λ b. meaning (b.vtable, b.value)) engine.new.boxes.items) engine.new.state) }
+{
+    match PathExpr::parse(alloc, text.as_bytes(), &Limits::program()) {
+        Ok(e) => {
+            path_gives::<Brand>(engine, alloc, Via::Data, &e, nodes, Blank::new(1))
+                && path_gives::<Brand>(engine, alloc, Via::A(0), &e, nodes, Blank::new(1))
+                && path_gives::<Brand>(engine, alloc, Via::A(1), &e, nodes, Blank::new(1))
+                && path_gives::<Brand>(engine, alloc, Via::One, &e, nodes, Blank::new(1))
+                && path_gives::<Brand>(engine, alloc, Via::Fb, &e, nodes, Blank::new(1))
+        }
+        Err(_) => false,
+    }
+}
+
+/// Whether these nodes answer the branching query, through each index and the graph itself.
+fn branch_gives_always(engine: &mut Engine, alloc: Global, text: &str, nodes: &[NodeId]) -> bool
+    requires open { IsSome (opened_of engine.old.state) }
+    requires sound { IsSound (engine_seen (map (λ b. meaning (b.vtable, b.value)) engine.old.boxes.items) engine.old.state) }
+    ensures open { IsSome (opened_of engine.new.state) }
+    ensures sound { IsSound (engine_seen (map (λ b. meaning (b.vtable, b.value)) engine.new.boxes.items) engine.new.state) }
+{
+    match Branch::parse(alloc, text.as_bytes(), &Limits::program()) {
+        Ok(q) => {
+            branch_gives::<Brand>(engine, alloc, Via::Data, &q, nodes, Blank::new(1))
+                && branch_gives::<Brand>(engine, alloc, Via::A(0), &q, nodes, Blank::new(1))
+                && branch_gives::<Brand>(engine, alloc, Via::A(1), &q, nodes, Blank::new(1))
+                && branch_gives::<Brand>(engine, alloc, Via::One, &q, nodes, Blank::new(1))
+                && branch_gives::<Brand>(engine, alloc, Via::Fb, &q, nodes, Blank::new(1))
+        }
+        Err(_) => false,
+    }
+}
+
+/// Whether each of a few queries has its answers over the small graph, however it is asked.
+#[derive(Drop)]
+struct Asks {
+    alloc: Global,
+}
+
+impl EngineTask for Asks {
+    ghost use Rattle.std.specs.Prelude.{⊤};
+
+    type Answer = bool;
+
+    ghost gives = { λ _ _. ⊤ };
+
+    fn carry_out(self, engine: &mut Engine) -> bool {
+        opens(engine, self.alloc)
+            && grows(engine, self.alloc)
+            && path_gives_always(engine, self.alloc, "a/b", &[1, 2])
+            && path_gives_always(engine, self.alloc, "a/b/c", &[3])
+            && path_gives_always(engine, self.alloc, "c/b", &[])
+            && branch_gives_always(engine, self.alloc, "b[not(/c)]", &[2])
+            && branch_gives_always(engine, self.alloc, "b\\a[/b/c]", &[0])
+    }
+}
+
+#[test]
+fn each_index_gives_the_graphs_answers(rt: HostRuntime) {
+    let alloc = rt.alloc();
+    assert_eq!(rt; with_full_engine(alloc, Asks { alloc }), Ok(true));
+}

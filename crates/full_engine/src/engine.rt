@@ -1,0 +1,44 @@
+// The engine with a box of each kind.
+ghost use Rattle.std.specs.Prelude.{◌≡◌, [], ◌∷◌, None, map, IfOk};
+ghost use Rattle.index_api.specs.Kept.{kinds_of};
+ghost use Rattle.pathindex_core.specs.Engines.{engine_seen, opened_of, IsSound};
+
+use ak_maintain::AkIndex;
+use fb_index::FbIndex;
+use index_api::{Kind, PathIndex};
+use one_maintain::OneKept;
+use pathindex_core::Engine;
+use px_base::Memory;
+use std::alloc::Global;
+
+/// What is done with an engine that keeps all indexes: the A(k)-indexes, the 1-index, and the forward and backward index.
+pub trait EngineTask: Drop {
+    /// What comes of it.
+    type Answer: Drop;
+
+    /// What holds of the answer.
+    ghost gives: { Self → Self.Answer → Type 0 };
+
+    /// Does it. The engine isn't open yet.
+    fn carry_out(self, engine: &mut Engine) -> Self::Answer
+        requires kinds { kinds_of (map (λ b. meaning (b.vtable, b.value)) engine.old.boxes.items) ≡ Kind.A ∷ Kind.One ∷ Kind.Fb ∷ [] }
+        requires closed { opened_of engine.old.state ≡ None }
+        requires sound { IsSound (engine_seen (map (λ b. meaning (b.vtable, b.value)) engine.old.boxes.items) engine.old.state) }
+        ensures { gives self result };
+}
+
+/// Makes an engine that keeps all indexes, has the task done with it, and drops it. `Memory` comes only where there is none for the
+/// three boxes, and then the task isn't begun. Beside the task it costs O(1), and what it takes to drop the engine.
+///
+/// The engine is lent, and not handed out: what its boxes mean is known only where they are made.
+pub fn with_full_engine<T: EngineTask>(alloc: Global, task: T) -> Result<T::Answer, Memory>
+    ensures { IfOk result (T.gives task) }
+{
+    let mut boxes: Vec<Box<dyn PathIndex>> = Vec::new(alloc);
+    boxes.push(Box::new(alloc, AkIndex::new(alloc)?)?)?;
+    boxes.push(Box::new(alloc, OneKept::new(alloc)?)?)?;
+    boxes.push(Box::new(alloc, FbIndex::new(alloc)?)?)?;
+    let mut engine = Engine::new(boxes);
+    let answer = task.carry_out(&mut engine);
+    Ok(answer)
+}

@@ -1,0 +1,20 @@
+-- What the program asks, from the text of the triples to the nodes.
+use Rattle.std.specs.Prelude.{ℕ, ◌≡◌, List, Ok}
+use Rattle.px_spec.specs.ProgramLimits.{program_limits}
+use Rattle.px_spec.specs.Graphs.{Graph}
+use Rattle.px_spec.specs.Changes.{apply, link}
+use Rattle.px_spec.specs.Shapes.{shape_of}
+use Rattle.graph_load.specs.Loads as outcome
+use Rattle.path_spec.specs.Trees.{Expr}
+use Rattle.path_query.specs.Parsed.{Spells}
+use Rattle.branch_query.specs.Queries as query
+
+-- The nodes are those to which the path leads in the graph of the triples, once the edge is there.
+pub record AreAnswers (triples : List ℕ) (from to : ℕ) (path nodes : List ℕ) : Type 0 where
+  pub loaded : Graph
+  pub loads : outcome.Loads program_limits triples (outcome.loaded loaded)
+  pub linked : Graph
+  pub links : apply (link from to) loaded program_limits ≡ Ok linked
+  pub expr : Expr
+  pub spells : Spells path expr
+  pub answers : query.AreQueryAnswers (shape_of linked) (query.path expr) nodes
