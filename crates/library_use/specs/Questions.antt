@@ -9,12 +9,12 @@ use Rattle.path_spec.specs.Trees.{Expr}
 use Rattle.path_query.specs.Parsed.{Spells}
 use Rattle.branch_query.specs.Queries as query
 
--- The nodes are those to which the path leads in the graph of the triples, once the edge is there.
-pub record AreAnswers (triples : List ℕ) (from to : ℕ) (path nodes : List ℕ) : Type 0 where
-  pub loaded : Graph
-  pub loads : outcome.Loads program_limits triples (outcome.loaded loaded)
+-- The nodes are those to which the path leads in the graph of the triples, once n3 has an edge to n0.
+pub record AreAnswers (triples path nodes : List ℕ) : Type 0 where
+  pub graph : Graph
+  pub loads : outcome.Loads program_limits triples (outcome.loaded graph)
   pub linked : Graph
-  pub links : apply (link from to) loaded program_limits ≡ Ok linked
+  pub links : apply (link 3 0) graph program_limits ≡ Ok linked
   pub expr : Expr
   pub spells : Spells path expr
   pub answers : query.AreQueryAnswers (shape_of linked) (query.path expr) nodes
