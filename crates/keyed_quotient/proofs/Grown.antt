@@ -22,7 +22,7 @@ grows_twice t u v g h = record {
   number_of = λ b k e. h.number_of b k (g.number_of b k e);
 }
 
-leads_grown : (t u : Numbering) (k b : ℕ) (key : List ℕ) → Grows t u → Leads t k b key → Leads u k b key
+pub leads_grown : (t u : Numbering) (k b : ℕ) (key : List ℕ) → Grows t u → Leads t k b key → Leads u k b key
 leads_grown t u k b key g l = record { number = g.number_of b k l.number; block = g.block_of k b l.block; key_is = g.table k key l.key_is }
 
 pub numbering_grown : (labels : List (Option ℕ)) (t u : Numbering) → IsNumbering labels t → Grows t u → AreDistinct u.table → length u.table ≤ length u.block_of → IsNumbering labels u
@@ -32,7 +32,7 @@ numbering_grown labels t u n g distinct fits = record {
   blocks = λ b h. (let l = n.blocks b h in (l.0, l.1, leads_grown t u l.0 b l.1 g l.2));
 }
 
-keys_alike : (f g : ℕ → Option (List ℕ)) (from : ℕ) (labels : List (Option ℕ)) → ((b : ℕ) → IsSome (at labels b) → f (from + b) ≡ g (from + b)) → keys_from f from labels ≡ keys_from g from labels
+pub keys_alike : (f g : ℕ → Option (List ℕ)) (from : ℕ) (labels : List (Option ℕ)) → ((b : ℕ) → IsSome (at labels b) → f (from + b) ≡ g (from + b)) → keys_from f from labels ≡ keys_from g from labels
 keys_alike f g from [] same = refl
 keys_alike f g from (None ∷ labels) same =
     ap (λ ks. None ∷ ks) (keys_alike f g (from + 1) labels (λ b h. let e : from + suc b ≡ from + 1 + b = omega arith in subst (λ n. f n ≡ g n) e (same (suc b) h)))

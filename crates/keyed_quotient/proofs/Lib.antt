@@ -4,3 +4,4 @@ pub mod Given
 pub mod Shown
 pub mod SettledKeys
 pub mod Grown
+pub mod Compacted

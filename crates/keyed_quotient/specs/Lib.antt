@@ -1,3 +1,4 @@
 pub mod Levels
 pub mod Changes
 pub mod Numberings
+pub mod Compacting

@@ -15,6 +15,7 @@ use std::marker::Model;
 /// A quotient, and the key of each of its blocks: a list of numbers, by which the block is found.
 #[derive(Drop)]
 pub struct KeyedSummary {
+    pub(crate) alloc: Global,
     pub(crate) summary: Summary,
     pub(crate) numbers: KeyNumbers,
 }
@@ -41,7 +42,11 @@ impl KeyedSummary {
         ensures keys { IfOk result (λ s. (b : ℕ) → key_at s.keys b ≡ slice_get keys b) }
     {
         let numbers = KeyNumbers::of(alloc, keys)?;
-        Ok(KeyedSummary { summary, numbers })
+        Ok(KeyedSummary {
+            alloc,
+            summary,
+            numbers,
+        })
     }
 
     /// The quotient.
@@ -111,7 +116,7 @@ fn is_led(summary: &Summary, numbers: &KeyNumbers, k: u32, b: u32) -> bool
 }
 
 // The key of a block that has one.
-fn key_in(numbers: &KeyNumbers, b: u32) -> &[u32]
+pub(crate) fn key_in(numbers: &KeyNumbers, b: u32) -> &[u32]
     requires { (k : ℕ) × (key : List ℕ) × Leads numbers.now k b key }
     ensures { numbered_key numbers.now b ≡ Some result.now }
 {

@@ -1,6 +1,6 @@
 // Keys by number, with the block of each.
 ghost use Rattle.std.specs.Prelude.{◌≡◌, ◌+◌, ◌<◌, ◌≤◌, ◌++◌, ℕ, List, Some, IfOk, IfSome, IfNone, OnOk, length, slice_get, slice_set};
-ghost use Rattle.key_table.specs.Interning.{AreDistinct, IsAbsent};
+ghost use Rattle.key_table.specs.Interning.{AreDistinct, IsAbsent, Interns};
 ghost use Rattle.keyed_quotient.specs.Changes.{IsKnown};
 ghost use Rattle.keyed_quotient.specs.Numberings.{Leads, Grows, Gives};
 
@@ -128,6 +128,8 @@ impl KeyNumbers {
         ensures distinct { AreDistinct self.old.table → AreDistinct self.new.table }
         ensures fits { length self.new.table ≤ length self.new.block_of }
         ensures known { OnOk result (IsKnown self.new.table key.now) }
+        ensures number_of { self.new.number_of ≡ self.old.number_of }
+        ensures interns { OnOk result ((k : ℕ) × Interns self.old.table self.new.table key.now k) }
     {
         grow(&mut self.block_of, self.table.len() as usize + 1)?;
         self.table.intern(key)?;

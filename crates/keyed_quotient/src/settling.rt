@@ -6,6 +6,7 @@ ghost use Rattle.keyed_quotient.specs.Numberings.{Grows, AreApart, GivenBelow};
 ghost use Rattle.quotient.specs.Quotients.{view_of};
 ghost use Rattle.keyed_quotient.specs.Changes.{no_keyed_changes, blocks_as_shown, support_as_shown, IsKeyedOver, IsKnown, HasKeyRoom, IsSettled, AreInhabited, AreUnsupported};
 
+use crate::compacting::compact;
 use crate::drafting::{KeyedDraft, read};
 use crate::keyed::KeyedSummary;
 use crate::numbering::KeyNumbers;
@@ -14,7 +15,8 @@ use px_base::Memory;
 
 impl KeyedDraft {
     /// Makes the room in the base that settling this draft needs. It leaves the base as it is seen. Linear in what is
-    /// drafted.
+    /// drafted; and where the base keeps more than 64 keys, and more than one and a half times as many as it has blocks, also in
+    /// the numbers of its blocks and in their keys, since it then drops the keys that no block has.
     pub fn reserve(&self, base: &mut KeyedSummary) -> Result<(), Memory>
         requires over { IsKeyedOver base.old self.now }
         ensures view { view_of base.new.quotient ≡ view_of base.old.quotient }
@@ -22,6 +24,7 @@ impl KeyedDraft {
         ensures room { OnOk result (HasKeyRoom base.new self.now) }
     {
         self.draft.reserve(&mut base.summary)?;
+        compact(base.alloc, &base.summary, &mut base.numbers)?;
         know_all(&mut base.numbers, &self.keys)?;
         base.numbers.reach(self.draft.span(&base.summary))?;
         Ok(())

@@ -1,0 +1,18 @@
+-- Keys that are carried over to new numbers.
+use Rattle.std.specs.Prelude.{ℕ, ◌≡◌, ◌*◌, ◌<◌, ◌≤◌, ◌⊎◌, List, length, take, Option, Some, is_some, count_by, slice_get}
+use Rattle.key_table.specs.Interning.{AreDistinct}
+use Rattle.keyed_quotient.specs.Levels.{key_at}
+use Rattle.keyed_quotient.specs.Numberings.{Numbering, block_keys, Leads}
+
+-- The new numbers have the keys of the blocks below b, each once and leading to its block, and no other keys.
+pub record AreCarried (labels : List (Option ℕ)) (old new : Numbering) (b : ℕ) : Type 0 where
+  pub distinct : AreDistinct new.table
+  pub fits : length new.table ≤ length new.block_of
+  pub span : length labels ≤ length new.number_of
+  pub led : (c : ℕ) (key : List ℕ) → c < b → key_at (block_keys labels old) c ≡ Some key → (k : ℕ) × Leads new k c key
+  pub only : (k : ℕ) (key : List ℕ) → slice_get new.table k ≡ Some key → (c : ℕ) × (c < b) × (key_at (block_keys labels old) c ≡ Some key)
+  pub count : length new.table ≡ count_by is_some (take b labels)
+
+-- at most 64 keys, or at most one and a half times as many as blocks
+abbrev pub AreFew : ℕ → ℕ → Type 0
+AreFew keys blocks = (keys ≤ 64) ⊎ (keys * 2 ≤ blocks * 3)

@@ -1,0 +1,76 @@
+// Numbers made anew, without the keys that no block has.
+ghost use Rattle.std.specs.Prelude.{◌≡◌, ◌<◌, ◌≤◌, ◌+◌, IsTrue, IsFalse, IfOk, OnOk, OnErr, length};
+ghost use Rattle.block_partition.specs.Partitions.{block_count};
+ghost use Rattle.keyed_quotient.specs.Numberings.{block_keys, IsNumbering};
+ghost use Rattle.keyed_quotient.specs.Compacting.{AreCarried, AreFew};
+
+use crate::keyed::key_in;
+use crate::numbering::KeyNumbers;
+use key_table::KeyTable;
+use label_graph::Digraph;
+use px_base::Memory;
+use quotient::Summary;
+use std::alloc::Global;
+
+/// Where there are more than 64 keys, and more than one and a half times as many as blocks, makes the numbers anew with the keys
+/// of the blocks alone. On `Memory` they stay as they were. O(1) where nothing is to be done; else linear in the numbers of
+/// blocks and in their keys, and more than a third of the keys are dropped.
+pub(crate) fn compact(alloc: Global, summary: &Summary, numbers: &mut KeyNumbers) -> Result<(), Memory>
+    requires { IsNumbering summary.now.blocks.labels numbers.old }
+    ensures numbering { IsNumbering summary.now.blocks.labels numbers.new }
+    ensures keys { block_keys summary.now.blocks.labels numbers.new ≡ block_keys summary.now.blocks.labels numbers.old }
+    ensures few { OnOk result (AreFew (length numbers.new.table) (block_count summary.now.blocks)) }
+    ensures err { OnErr result (numbers.new ≡ numbers.old) }
+{
+    if are_few(numbers.len(), summary.blocks()) {
+        return Ok(());
+    }
+    let new = anew(alloc, summary, numbers)?;
+    *numbers = new;
+    Ok(())
+}
+
+// Whether there are so few keys that they stay.
+fn are_few(keys: u32, blocks: u32) -> bool
+    ensures { IsTrue result → AreFew keys blocks }
+{
+    keys <= 64 || keys as u64 * 2 <= blocks as u64 * 3
+}
+
+// Numbers for the keys of the blocks, in the order of the blocks.
+fn anew(alloc: Global, summary: &Summary, numbers: &KeyNumbers) -> Result<KeyNumbers, Memory>
+    requires { IsNumbering summary.now.blocks.labels numbers.now }
+    ensures { IfOk result (λ k. AreCarried summary.now.blocks.labels numbers.now k (length summary.now.blocks.labels)) }
+{
+    let mut new = empty(alloc, summary.size())?;
+    'blocks: for b in 0..summary.size() {
+        carry(summary, numbers, &mut new, b)?;
+    }
+    Ok(new)
+}
+
+// Without keys, and with room for blocks with numbers below this one.
+fn empty(alloc: Global, span: u32) -> Result<KeyNumbers, Memory>
+    ensures none { IfOk result (λ k. length k.table ≡ 0) }
+    ensures span { IfOk result (λ k. span ≤ length k.number_of) }
+{
+    let table = KeyTable::new(alloc)?;
+    let mut numbers = KeyNumbers::of(alloc, table)?;
+    numbers.reach(span)?;
+    Ok(numbers)
+}
+
+// Carries the key of the next number over, where that is a block.
+fn carry(summary: &Summary, old: &KeyNumbers, new: &mut KeyNumbers, b: u32) -> Result<(), Memory>
+    requires within { b < length summary.now.blocks.labels }
+    requires numbering { IsNumbering summary.now.blocks.labels old.now }
+    requires before { AreCarried summary.now.blocks.labels old.now new.old b }
+    ensures { OnOk result (AreCarried summary.now.blocks.labels old.now new.new (b + 1)) }
+{
+    if summary.is_block(b) {
+        let key = key_in(old, b);
+        new.know(key)?;
+        new.give(key, b);
+    }
+    Ok(())
+}
