@@ -52,6 +52,10 @@ keys_grown labels t u n g = keys_alike (numbered_key u) (numbered_key t) 0 label
 pub keys_stay : (labels labels2 : List (Option ℕ)) (t u : Numbering) → labels2 ≡ labels → IsNumbering labels t → Grows t u → block_keys labels2 u ≡ block_keys labels t
 keys_stay labels labels2 t u same n g = ap (λ (ls : List (Option ℕ)). block_keys ls u) same ∙ keys_grown labels t u n g
 
+-- the same where the numbers were made anew before they grew
+pub keys_anew : (labels labels2 : List (Option ℕ)) (t v u : Numbering) → labels2 ≡ labels → block_keys labels2 v ≡ block_keys labels2 t → IsNumbering labels2 v → Grows v u → block_keys labels2 u ≡ block_keys labels t
+keys_anew labels labels2 t v u same anew n g = keys_grown labels2 v u n g ∙ anew ∙ ap (λ (ls : List (Option ℕ)). block_keys ls t) same
+
 -- the first i keys are known
 pub record KnownBelow (keys : List (List ℕ)) (i : ℕ) (old now : Numbering) : Type 0 where
   pub grows : Grows old now

@@ -15,7 +15,11 @@ use std::alloc::Global;
 /// Where there are more than 64 keys, and more than one and a half times as many as blocks, makes the numbers anew with the keys
 /// of the blocks alone. On `Memory` they stay as they were. O(1) where nothing is to be done; else linear in the numbers of
 /// blocks and in their keys, and more than a third of the keys are dropped.
-pub(crate) fn compact(alloc: Global, summary: &Summary, numbers: &mut KeyNumbers) -> Result<(), Memory>
+pub(crate) fn compact(
+    alloc: Global,
+    summary: &Summary,
+    numbers: &mut KeyNumbers,
+) -> Result<(), Memory>
     requires { IsNumbering summary.now.blocks.labels numbers.old }
     ensures numbering { IsNumbering summary.now.blocks.labels numbers.new }
     ensures keys { block_keys summary.now.blocks.labels numbers.new ≡ block_keys summary.now.blocks.labels numbers.old }

@@ -7,24 +7,24 @@ use Rattle.quotient_draft.specs.Drafts.{with_added}
 use Rattle.keyed_quotient.specs.Levels.{KeyedQuotient}
 use Rattle.keyed_quotient.specs.Changes.{KeyedChanges, IsKeyedOver, IsKnown, HasKeyRoom}
 use Rattle.keyed_quotient.specs.Numberings.{block_keys}
-use Rattle.keyed_quotient.proofs.Grown.{keys_stay, grows_twice, further_below}
+use Rattle.keyed_quotient.proofs.Grown.{keys_anew, grows_twice, further_below}
 use Rattle.keyed_quotient.proofs.Shown.{zip_got}
 use Rattle.keyed_quotient.proofs.drafting.KeyedDraft.reserve.Goals as goal
 
 pub returns-in_err-know_all-clause-keys : goal.returns-in_err-know_all-clause-keys
 returns-in_err-know_all-clause-keys c =
     let labels : c.reserve.new.base.blocks.labels ≡ c.base.inside.summary.blocks.labels = ap (λ (v : View). v.labels) c.reserve.ensures.same in
-    keys_stay c.base.inside.summary.blocks.labels c.reserve.new.base.blocks.labels c.base.inside.numbers c.know_all.new.numbers labels c.base.invariant c.know_all.ensures.grows ∙ ap (λ (x : KeyedQuotient). x.keys) c.base.view_is
+    keys_anew c.base.inside.summary.blocks.labels c.reserve.new.base.blocks.labels c.base.inside.numbers c.compact.new.numbers c.know_all.new.numbers labels c.compact.ensures.keys c.compact.ensures.numbering c.know_all.ensures.grows ∙ ap (λ (x : KeyedQuotient). x.keys) c.base.view_is
 
 pub returns-in_err-reach-clause-keys : goal.returns-in_err-reach-clause-keys
 returns-in_err-reach-clause-keys c =
     let labels : c.reserve.new.base.blocks.labels ≡ c.base.inside.summary.blocks.labels = ap (λ (v : View). v.labels) c.reserve.ensures.same in
-    keys_stay c.base.inside.summary.blocks.labels c.reserve.new.base.blocks.labels c.base.inside.numbers c.reach.new.self labels c.base.invariant (grows_twice c.base.inside.numbers c.know_all.new.numbers c.reach.new.self c.know_all.ensures.grows c.reach.ensures.grows) ∙ ap (λ (x : KeyedQuotient). x.keys) c.base.view_is
+    keys_anew c.base.inside.summary.blocks.labels c.reserve.new.base.blocks.labels c.base.inside.numbers c.compact.new.numbers c.reach.new.self labels c.compact.ensures.keys c.compact.ensures.numbering (grows_twice c.compact.new.numbers c.know_all.new.numbers c.reach.new.self c.know_all.ensures.grows c.reach.ensures.grows) ∙ ap (λ (x : KeyedQuotient). x.keys) c.base.view_is
 
 pub returns-clause-keys : goal.returns-clause-keys
 returns-clause-keys c =
     let labels : c.reserve.new.base.blocks.labels ≡ c.base.inside.summary.blocks.labels = ap (λ (v : View). v.labels) c.reserve.ensures.same in
-    keys_stay c.base.inside.summary.blocks.labels c.reserve.new.base.blocks.labels c.base.inside.numbers c.reach.new.self labels c.base.invariant (grows_twice c.base.inside.numbers c.know_all.new.numbers c.reach.new.self c.know_all.ensures.grows c.reach.ensures.grows) ∙ ap (λ (x : KeyedQuotient). x.keys) c.base.view_is
+    keys_anew c.base.inside.summary.blocks.labels c.reserve.new.base.blocks.labels c.base.inside.numbers c.compact.new.numbers c.reach.new.self labels c.compact.ensures.keys c.compact.ensures.numbering (grows_twice c.compact.new.numbers c.know_all.new.numbers c.reach.new.self c.know_all.ensures.grows c.reach.ensures.grows) ∙ ap (λ (x : KeyedQuotient). x.keys) c.base.view_is
 
 pub returns-clause-room : goal.returns-clause-room
 returns-clause-room c =
