@@ -61,7 +61,7 @@ lost_most n None = (let z = zeros n in omega (arith, z))
 lost_most n (Some e) = once_most n e.0
 
 -- the children of distinct nodes in the set
-read_most : (a : Pending) (inside : ℕ → Bool) (nodes : List ℕ) → IsDistinct nat_eq nodes
+pub read_most : (a : Pending) (inside : ℕ → Bool) (nodes : List ℕ) → IsDistinct nat_eq nodes
     → ((n : ℕ) → has nodes n ≡ true → (n < (shape_of (graph_after a)).size) × (inside n ≡ true))
     → sum_by (children_cost a) nodes ≤ weight (shape_of (graph_after a)) inside + 1
 read_most a inside nodes once within =

@@ -1,3 +1,4 @@
 mod Spreading
 mod Distances
 pub mod Costing
+mod Rounds

@@ -41,7 +41,7 @@ pub one_once : (t : ℕ) → IsDistinct nat_eq (t ∷ [])
 unfolding IsDistinct
 one_once t = (tt, tt)
 
-same_test : (g : Graph) (c : Change) (t : ℕ) → IsOnlyTarget g c t → has (t ∷ []) ≡ target c g
+pub same_test : (g : Graph) (c : Change) (t : ℕ) → IsOnlyTarget g c t → has (t ∷ []) ≡ target c g
 same_test g c t h = λ j n. h.is n j
 
 pub stable_there : (g : Graph) (c : Change) (t : ℕ) (q : Quotient) (d : Drafted) → IsGraph g → IsGraph (after c g) → FitsOne g (view_of q) → IsOnlyTarget g c t → ShowsChange g c q d
@@ -141,10 +141,10 @@ pub reach_cost : (g : Graph) (c : Change) (t old new : ℕ) → IsGraph (after c
 reach_cost g c t old new graph2 target_is cost =
     cost (reached g c) (reach_closed (shape_of (after c g)) (target c g) (is_shape (after c g) graph2)) (target_reached g c t target_is)
 
-own_has : (t : ℕ) → has (t ∷ []) t ≡ true
+pub own_has : (t : ℕ) → has (t ∷ []) t ≡ true
 own_has t = elim (eqb_tells t t) [ inl s ↦ ap (λ b. b || false) s.0 | inr k ↦ absurd (k.1 refl) ]
 
-more_times : (r w : ℕ) → w ≤ (r + 1) * w
+pub more_times : (r w : ℕ) → w ≤ (r + 1) * w
 more_times r w = (let e : (r + 1) * w ≡ r * w + w = omega arith in omega (arith, e))
 
 -- reading the parents of the target once costs no more than a split may

@@ -1,13 +1,14 @@
 -- What is drafted for a change of the graph of a 1-index (K. Yi, H. He, I. Stanoi and J. Yang, "Incremental Maintenance of XML
 -- Structural Indexes", SIGMOD 2004).
-use Rattle.std.specs.Prelude.{◌≡◌, ◌<◌, ◌≤◌, ◌^◌, ℕ, ◌+◌, ◌*◌, Bool, List, [], ◌∷◌, length, Some}
+use Rattle.std.specs.Prelude.{◌≡◌, ◌<◌, ◌≤◌, ◌^◌, ◌↔◌, ℕ, ◌+◌, ◌*◌, Bool, List, Option, [], ◌∷◌, length, Some, IsFalse}
 use Rattle.std.specs.FinSet as set
 use Rattle.px_spec.specs.Graphs.{Graph, IsGraph}
 use Rattle.px_spec.specs.Changes.{Change, node, after}
-use Rattle.px_spec.specs.Shapes.{Shape, shape_of}
+use Rattle.px_spec.specs.Shapes.{Shape, IsNode, shape_of}
 use Rattle.px_spec.specs.Members.{at, has}
 use Rattle.label_graph.specs.Views.{label_number}
-use Rattle.bisim_spec.specs.Partitions.{IsPartition}
+use Rattle.bisim_spec.specs.Partitions.{IsPartition, Together}
+use Rattle.bisim_spec.specs.Stability.{Stable, Minimal}
 use Rattle.bisim_spec.specs.Reach.{reach}
 use Rattle.bisim_spec.specs.Weights.{size_of, weight}
 use Rattle.bisim_spec.specs.Targets.{KeepsBlocks, target}
@@ -75,6 +76,14 @@ pub record IsNodeChange (c : Change) : Type 0 where
 pub record IsOnlyTarget (g : Graph) (c : Change) (t : ℕ) : Type 0 where
   pub is : (n : ℕ) → has (t ∷ []) n ≡ target c g n
   pub given : t < length (after c g).given
+
+-- The partition shown came by splitting that of the base: this one was stable and no two of its blocks could be merged, and nodes of
+-- both graphs that the change doesn't reach are together as in it.
+pub record IsSplitOf (g : Graph) (c : Change) (block shown : List (Option ℕ)) : Type 0 where
+  pub stable : Stable (shape_of g) block
+  pub minimal : Minimal (shape_of g) block
+  pub outside : (u v : ℕ) → IsNode (shape_of g) u → IsNode (shape_of g) v → IsNode (shape_of (after c g)) u → IsNode (shape_of (after c g)) v → IsFalse (reached g c u)
+      → IsFalse (reached g c v) → Together shown u v ↔ Together block u v
 
 -- supports alone are drafted
 pub record AreSupportsAlone (d : Drafted) : Type 0 where

@@ -4,6 +4,8 @@
 mod drafting;
 mod linking;
 mod nodes;
+mod phases;
 mod resettling;
 
 pub use drafting::draft_change;
+pub use phases::{merge, split};

@@ -17,8 +17,13 @@ use quotient_draft::Draft;
 use std::alloc::Global;
 use std::sync::ledger::Ledger;
 
-// Adds the block of a node to a list of blocks, where it has one.
-fn add_block(base: &Summary, draft: &Draft, n: NodeId, blocks: &mut Vec<u32>) -> Result<(), Memory>
+/// Adds the block of a node to a list of blocks, where it has one.
+pub(crate) fn add_block(
+    base: &Summary,
+    draft: &Draft,
+    n: NodeId,
+    blocks: &mut Vec<u32>,
+) -> Result<(), Memory>
     requires over { IsOver base.now.blocks.block_of base.now.blocks.labels draft.now }
     ensures kept { OnOk result ((b : ℕ) → IsTrue (has blocks.old.items b) → IsTrue (has blocks.new.items b)) }
     ensures there { OnOk result ((b : ℕ) → at (shown_blocks base.now draft.now) n ≡ Some b → IsTrue (has blocks.new.items b)) }

@@ -1,0 +1,17 @@
+use Rattle.std.proofs.Common.{◌+◌, ◌≤◌, ◌-◌, length, take}
+use Rattle.std.specs.List.{sum_by}
+use Rattle.px_spec.specs.Members.{has}
+use Rattle.px_spec.specs.Shapes.{shape_of}
+use Rattle.graph_update.specs.Pending.{graph_after}
+use Rattle.near_nodes.specs.Costs.{children_cost}
+use Rattle.near_nodes.proofs.Rounds.{IsReaching}
+use Rattle.near_nodes.proofs.reaching.reached_nodes.Given as goal
+
+abbrev pub invariant-rounds : goal.invariant-rounds
+invariant-rounds g l = record {
+  reaching : IsReaching (shape_of (graph_after l.after)) (has l.targets) l.from l.met.keys;
+  cost : l.steps ≤ l.initial.steps + sum_by (children_cost l.after) (take l.from l.met.keys);
+}
+
+abbrev pub decreases-rounds : goal.decreases-rounds
+decreases-rounds g l = length (graph_after l.after).given - l.from

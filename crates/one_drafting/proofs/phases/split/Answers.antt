@@ -1,0 +1,37 @@
+use Rattle.std.proofs.Common.{refl, []}
+use Rattle.px_spec.specs.Members.{has}
+use Rattle.px_spec.specs.Shapes.{shape_of}
+use Rattle.graph_update.specs.Pending.{graph_after}
+use Rattle.quotient_draft.specs.Drafts.{shown_blocks}
+use Rattle.upkeep_spec.proofs.Splitting.{stable_at_end}
+use Rattle.one_drafting.proofs.Stepping.{one_once, reach_cost}
+use Rattle.one_drafting.proofs.Unreached.{split_reached}
+use Rattle.one_drafting.proofs.phases.split.Goals as goal
+
+pub split-requires-clause-once : goal.split-requires-clause-once
+split-requires-clause-once g c = one_once c.args.target
+
+pub returns-in_err-split-clause-cost : goal.returns-in_err-split-clause-cost
+returns-in_err-split-clause-cost g c =
+    reach_cost c.args.after.now.before c.args.after.now.change c.args.target c.args.steps.now c.split.new.steps c.created.ensures.after c.requires.target c.split.ensures.cost
+
+pub returns-clause-cost : goal.returns-clause-cost
+returns-clause-cost g c =
+    reach_cost c.args.after.now.before c.args.after.now.change c.args.target c.args.steps.now c.split.new.steps c.created.ensures.after c.requires.target c.split.ensures.cost
+
+pub returns-clause-stable : goal.returns-clause-stable
+returns-clause-stable g c =
+    let p2 = shown_blocks c.args.base.now c.split.new.draft in
+    stable_at_end (shape_of (graph_after c.args.after.now)) p2 (has []) (λ n. refl)
+    (split_reached c.args.after.now.before c.args.after.now.change c.args.target (shown_blocks c.args.base.now c.args.draft.now) p2 c.split.new.made.items c.created.ensures.after
+    c.requires.target (record { split = c.in_ok-split.ensures.split })).stable
+
+pub returns-clause-within : goal.returns-clause-within
+returns-clause-within g c =
+    (split_reached c.args.after.now.before c.args.after.now.change c.args.target (shown_blocks c.args.base.now c.args.draft.now) (shown_blocks c.args.base.now c.split.new.draft)
+    c.split.new.made.items c.created.ensures.after c.requires.target (record { split = c.in_ok-split.ensures.split })).within
+
+pub returns-clause-same : goal.returns-clause-same
+returns-clause-same g c =
+    (split_reached c.args.after.now.before c.args.after.now.change c.args.target (shown_blocks c.args.base.now c.args.draft.now) (shown_blocks c.args.base.now c.split.new.draft)
+    c.split.new.made.items c.created.ensures.after c.requires.target (record { split = c.in_ok-split.ensures.split })).same

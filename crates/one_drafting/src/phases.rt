@@ -1,0 +1,110 @@
+// The two phases of the upkeep, each by itself: blocks are split, and then merged.
+ghost use Rattle.std.specs.Prelude.{◌≡◌, ◌+◌, ◌*◌, ◌∷◌, [], ◌≤◌, ℕ, Some, IsTrue, OnOk};
+ghost use Rattle.px_spec.specs.Members.{at, has};
+ghost use Rattle.px_spec.specs.Shapes.{shape_of};
+ghost use Rattle.label_graph.specs.Views.{label_number};
+ghost use Rattle.bisim_spec.specs.Stability.{Minimal, Stable, StableBut};
+ghost use Rattle.upkeep_spec.specs.Named.{AreNamed, AreNamedOff};
+ghost use Rattle.upkeep_spec.specs.Rounds.{IsRefinement, SameBut};
+ghost use Rattle.upkeep_spec.specs.Supported.{AreEdgeCounts};
+ghost use Rattle.graph_update.specs.Pending.{graph_after};
+ghost use Rattle.quotient_draft.specs.Drafts.{shown_blocks, shown_labels, shown_support};
+ghost use Rattle.quotient_draft.specs.Basis.{IsOver};
+ghost use Rattle.one_drafting.specs.Drafting.{IsOnlyTarget, IsSplitOf, reached, rounds_cost};
+
+use crate::resettling::add_block;
+use graph_update::After;
+use near_nodes::reached_nodes;
+use px_base::{Memory, NodeId, Steps};
+use quotient::Summary;
+use quotient_draft::Draft;
+use std::alloc::Global;
+use std::sync::ledger::Ledger;
+
+/// Splits blocks in the draft until the partition shown is stable on the graph after the change, where before it was so but
+/// maybe at the target. The target's block may have another label than the target. Each block that is shown then lies within one
+/// that was shown. Only what the target reaches is read and moved.
+///
+/// It takes at most `4 * (r + 1) * w` steps, where the target reaches `r` nodes, and `w` is one for each of them, one for each of its
+/// parents and one for each of its children. After `Memory`, which also comes past 2^31 blocks, the draft is only good to be cleared.
+pub fn split<L: Ledger>(
+    alloc: Global,
+    base: &Summary,
+    draft: &mut Draft,
+    after: &After<'_>,
+    target: NodeId,
+    steps: &mut Steps<L>,
+) -> Result<(), Memory>
+    requires target { IsOnlyTarget after.now.before after.now.change target }
+    requires over { IsOver base.now.blocks.block_of base.now.blocks.labels draft.old }
+    requires supports { AreEdgeCounts (graph_after after.now) (shown_blocks base.now draft.old) (shown_support base.now draft.old) }
+    requires stable { StableBut (shape_of (graph_after after.now)) (shown_blocks base.now draft.old) (has (target ∷ [])) }
+    requires named { AreNamedOff (has (target ∷ [])) (shown_blocks base.now draft.old) (at (shown_labels base.now draft.old)) (label_number (graph_after after.now)) }
+    ensures over { OnOk result (IsOver base.now.blocks.block_of base.now.blocks.labels draft.new) }
+    ensures supports { OnOk result (AreEdgeCounts (graph_after after.now) (shown_blocks base.now draft.new) (shown_support base.now draft.new)) }
+    ensures stable { OnOk result (Stable (shape_of (graph_after after.now)) (shown_blocks base.now draft.new)) }
+    ensures named { OnOk result (AreNamed (shown_blocks base.now draft.new) (at (shown_labels base.now draft.new)) (label_number (graph_after after.now))) }
+    ensures within { OnOk result (IsRefinement (shown_blocks base.now draft.old) (shown_blocks base.now draft.new)) }
+    ensures same { OnOk result (SameBut (shown_blocks base.now draft.old) (shown_blocks base.now draft.new) (reached after.now.before after.now.change)) }
+    ensures cost { steps.new ≤ steps.old + 4 * rounds_cost (shape_of (graph_after after.now)) (reached after.now.before after.now.change) }
+{
+    // This says that there is a graph, so that what is reached is closed under edges.
+    let _ = after.created();
+    let mut made = Vec::new(alloc);
+    one_splitting::split(alloc, base, draft, after, &[target], &mut made, steps)?;
+    Ok(())
+}
+
+// Adds the blocks of the nodes to a list of blocks.
+fn add_blocks(
+    base: &Summary,
+    draft: &Draft,
+    nodes: &[NodeId],
+    blocks: &mut Vec<u32>,
+) -> Result<(), Memory>
+    requires over { IsOver base.now.blocks.block_of base.now.blocks.labels draft.now }
+    ensures there { OnOk result ((n b : ℕ) → IsTrue (has nodes.now n) → at (shown_blocks base.now draft.now) n ≡ Some b → IsTrue (has blocks.new.items b)) }
+{
+    for i in 0..nodes.len() {
+        add_block(base, draft, nodes[i], blocks)?;
+    }
+    Ok(())
+}
+
+/// Merges blocks in the draft until no two can be merged, where the partition shown is stable on the graph after the change and
+/// came by splitting that of the base, of which no two blocks could be merged. The graph is read only to find what the target
+/// reaches: of each two blocks that can be merged one has no other members. The rest is done by the tables of blocks.
+///
+/// It takes at most `3 * (r + 1) * w` steps, where the target reaches `r` nodes, and `w` is one for each of them, one for each of its
+/// parents and one for each of its children. After `Memory` the draft is only good to be cleared.
+pub fn merge<L: Ledger>(
+    alloc: Global,
+    base: &Summary,
+    draft: &mut Draft,
+    after: &After<'_>,
+    target: NodeId,
+    steps: &mut Steps<L>,
+) -> Result<(), Memory>
+    requires target { IsOnlyTarget after.now.before after.now.change target }
+    requires over { IsOver base.now.blocks.block_of base.now.blocks.labels draft.old }
+    requires supports { AreEdgeCounts (graph_after after.now) (shown_blocks base.now draft.old) (shown_support base.now draft.old) }
+    requires stable { Stable (shape_of (graph_after after.now)) (shown_blocks base.now draft.old) }
+    requires named { AreNamed (shown_blocks base.now draft.old) (at (shown_labels base.now draft.old)) (label_number (graph_after after.now)) }
+    requires split { IsSplitOf after.now.before after.now.change base.now.blocks.block_of (shown_blocks base.now draft.old) }
+    ensures over { OnOk result (IsOver base.now.blocks.block_of base.now.blocks.labels draft.new) }
+    ensures supports { OnOk result (AreEdgeCounts (graph_after after.now) (shown_blocks base.now draft.new) (shown_support base.now draft.new)) }
+    ensures stable { OnOk result (Stable (shape_of (graph_after after.now)) (shown_blocks base.now draft.new)) }
+    ensures minimal { OnOk result (Minimal (shape_of (graph_after after.now)) (shown_blocks base.now draft.new)) }
+    ensures named { OnOk result (AreNamed (shown_blocks base.now draft.new) (at (shown_labels base.now draft.new)) (label_number (graph_after after.now))) }
+    ensures same { OnOk result (SameBut (shown_blocks base.now draft.old) (shown_blocks base.now draft.new) (reached after.now.before after.now.change)) }
+    ensures cost { steps.new ≤ steps.old + 3 * rounds_cost (shape_of (graph_after after.now)) (reached after.now.before after.now.change) }
+{
+    // These say that there is a graph, and that it has few edges.
+    let _ = after.created();
+    let _edges = after.edge_count();
+    let nodes = reached_nodes(alloc, after, &[target], steps)?;
+    let mut blocks = Vec::new(alloc);
+    add_blocks(base, draft, &nodes, &mut blocks)?;
+    one_merging::merge(alloc, base, draft, &blocks)?;
+    Ok(())
+}
