@@ -13,7 +13,7 @@ use Rattle.px_spec.proofs.GraphLaws.{is_shape}
 use Rattle.bisim_spec.specs.Partitions.{Together}
 use Rattle.bisim_spec.specs.Stability.{Stable, Minimal}
 use Rattle.bisim_spec.specs.Reach.{reach}
-use Rattle.bisim_spec.specs.Targets.{target}
+use Rattle.bisim_spec.specs.Targets.{KeepsBlocks, target}
 use Rattle.bisim_spec.specs.Weights.{weight_at, weight, size_of}
 use Rattle.bisim_spec.proofs.Changed.{live_before}
 use Rattle.bisim_spec.proofs.Differs.{differs_after}
@@ -139,3 +139,15 @@ search_light g c t old new target_is cost =
     let some : weight_at s t ≤ weight s set = omega (arith, own) in
     let more = more_times (size_of s set) (weight s set) in
     omega (arith, some, more, cost2)
+
+-- Where nodes kept the blocks that they had, what a split makes of the partition is what merging asks.
+pub split_of : (g : Graph) (c : Change) (p p1 p2 : List (Option ℕ)) → Stable (shape_of g) p → Minimal (shape_of g) p → KeepsBlocks (shape_of g) (shape_of (after c g)) p p1
+    → SameBut p1 p2 (reached g c) → IsSplitOf g c p p2
+split_of g c p p1 p2 stable minimal keeps same = record {
+  stable = stable;
+  minimal = minimal;
+  outside = λ u v nu nv mu mv ou ov. (
+    λ t. let k = same.back u v ou ov t in (k.0, sym (keeps.kept u nu mu) ∙ k.1, sym (keeps.kept v nv mv) ∙ k.2),
+    λ t. same.into u v ou ov (t.0, keeps.kept u nu mu ∙ t.1, keeps.kept v nv mv ∙ t.2),
+  );
+}

@@ -6,6 +6,8 @@ mod linking;
 mod nodes;
 mod phases;
 mod resettling;
+#[cfg(test)]
+mod tests;
 
 pub use drafting::draft_change;
 pub use phases::{merge, split};
