@@ -1,7 +1,7 @@
 //! A caller of the library: it loads two triples, adds an edge, and asks a path through the 1-index.
 #![tactic(auto)]
 
-ghost use Rattle.std.specs.Prelude.{◌≡◌, ◌<◌, Ok, None, map, IfSome, IsSome};
+ghost use Rattle.std.specs.Prelude.{◌≡◌, ◌<◌, Ok, None, map, IfOk, IfSome, IsSome};
 ghost use Rattle.px_spec.specs.ProgramLimits.{program_limits};
 ghost use Rattle.px_spec.specs.Changes.{apply, link};
 ghost use Rattle.px_spec.specs.Shapes.{shape_of};
@@ -17,7 +17,7 @@ use graph_update::Change;
 use index_api::Via;
 use label_graph::Graph;
 use path_query::PathExpr;
-use pathindex_core::Engine;
+use pathindex_core::{AskError, Engine};
 use px_base::{Bits, Limits, MemShelf, Steps, Text};
 use std::alloc::Global;
 use std::io;
@@ -59,18 +59,33 @@ fn link(alloc: Global, engine: &mut Engine, graph: Graph) -> Option<()>
 }
 
 /// The nodes to which the path leads. They are asked of the 1-index, and are those of the graph. None where there is no answer.
-fn nodes_of<L: Ledger>(alloc: Global, engine: &mut Engine, path: &str, blank: Blank) -> Option<Bits>
+fn nodes_of(alloc: Global, engine: &mut Engine, text: &str) -> Option<Bits>
+    requires open { IsSome (opened_of engine.old.state) }
+    requires sound { IsSound (engine_seen (map (λ b. meaning (b.vtable, b.value)) engine.old.boxes.items) engine.old.state) }
+    ensures { IfSome result (λ nodes. (e : Expr) × Spells text.now e × AreQueryAnswers (shape_of (graph_in (opened_of engine.old.state))) (path e) nodes.members) }
+{
+    let expr = PathExpr::parse(alloc, text.as_bytes(), &Limits::program()).ok()?;
+    let nodes = ask::<Brand>(alloc, engine, &expr, Blank::new(1)).ok()?;
+    Some(nodes)
+}
+
+/// What the engine answers, with a count of its steps.
+fn ask<L: Ledger>(
+    alloc: Global,
+    engine: &mut Engine,
+    expr: &PathExpr,
+    blank: Blank,
+) -> Result<Bits, AskError>
     requires open { IsSome (opened_of engine.old.state) }
     requires sound { IsSound (engine_seen (map (λ b. meaning (b.vtable, b.value)) engine.old.boxes.items) engine.old.state) }
     requires name { blank.name ≡ L.name }
     requires parts { blank.parts ≡ L.parts }
     requires some { 0 < blank.parts }
-    ensures { IfSome result (λ nodes. (e : Expr) × Spells path.now e × AreQueryAnswers (shape_of (graph_in (opened_of engine.old.state))) (path e) nodes.members) }
+    ensures { IfOk result (λ nodes. AreQueryAnswers (shape_of (graph_in (opened_of engine.old.state))) (path expr.now) nodes.members) }
 {
     let mut steps = Steps::<L>::new(blank);
-    let expr = PathExpr::parse(alloc, path.as_bytes(), &Limits::program()).ok()?;
-    let answer = engine.path(alloc, Via::One, &expr, &mut steps).ok()?;
-    Some(answer.nodes)
+    let answer = engine.path(alloc, Via::One, expr, &mut steps)?;
+    Ok(answer.nodes)
 }
 
 /// Where a path leads in the graph of the triples, once Bo knows Ana too.
@@ -92,7 +107,7 @@ impl EngineTask for Question<'_> {
     fn carry_out(self, engine: &mut Engine) -> Option<Bits> {
         let graph = load_triples(self.alloc, self.triples)?;
         link(self.alloc, engine, graph)?;
-        nodes_of::<Brand>(self.alloc, engine, self.path, Blank::new(1))
+        nodes_of(self.alloc, engine, self.path)
     }
 }
 
