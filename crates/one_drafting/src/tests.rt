@@ -1,7 +1,12 @@
 // Two chains that are alike, until an edge leads to the second.
 ghost use Rattle.std.specs.Prelude.{◌≡◌, ◌<◌};
 ghost use Rattle.px_spec.specs.Changes.{link};
+ghost use Rattle.bisim_spec.specs.Fits.{FitsOne};
+ghost use Rattle.graph_update.specs.NewChanges.{IsNew};
+ghost use Rattle.graph_update.specs.Judging.{change_of};
+ghost use Rattle.quotient.specs.Quotients.{view_of};
 ghost use Rattle.quotient_draft.specs.Basis.{IsOver};
+ghost use Rattle.quotient_draft.specs.Drafts.{no_changes};
 ghost use Rattle.one_drafting.specs.Drafting.{IsBefore};
 
 use super::*;
@@ -53,26 +58,74 @@ fn is_alone(base: &Summary, draft: &Draft, n: NodeId) -> bool
     }
 }
 
-// Whether the end of an edge that comes, and the next two nodes, are alone after a split, and after merges too.
+// Whether each node of the second chain is alone.
+fn are_alone(base: &Summary, draft: &Draft) -> bool
+    requires over { IsOver base.now.blocks.block_of base.now.blocks.labels draft.now }
+{
+    for n in 3..6 {
+        if !is_alone(base, draft, n) {
+            return false;
+        }
+    }
+    true
+}
+
+// Splits and merges for an edge that comes, and tells whether the second chain was parted in between.
 fn are_parted<L: Ledger>(
     alloc: Global,
     base: &Summary,
+    draft: &mut Draft,
     after: &After<'_>,
     u: NodeId,
     v: NodeId,
     steps: &mut Steps<L>,
 ) -> Result<bool, Memory>
     requires before { IsBefore after.now base.now }
+    requires empty { draft.old ≡ no_changes }
     requires links { after.now.change ≡ link u v }
 {
+    draft_link(base, draft, after, u, v)?;
+    split(alloc, base, draft, after, v, steps)?;
+    let parted = are_alone(base, draft);
+    merge(alloc, base, draft, after, v, steps)?;
+    Ok(parted)
+}
+
+// Whether the edge that the change brings parts the second chain.
+fn is_parting<L: Ledger>(
+    alloc: Global,
+    graph: &Graph,
+    base: &Summary,
+    change: &Change,
+    steps: &mut Steps<L>,
+) -> Result<bool, Memory>
+    requires fits { FitsOne graph.now.graph (view_of base.now) }
+    requires new { IsNew (change_of change.now) graph.now.graph }
+    requires links { change_of change.now ≡ link 6 3 }
+{
+    // Called for its contract: edges are few.
+    let _edges = graph.edge_count();
+    let after = After::new(graph, change);
     let mut draft = Draft::new(alloc)?;
-    draft_link(base, &mut draft, after, u, v)?;
-    split(alloc, base, &mut draft, after, v, steps)?;
-    let split_alone = is_alone(base, &draft, 3)
-        && is_alone(base, &draft, 4)
-        && is_alone(base, &draft, 5);
-    merge(alloc, base, &mut draft, after, v, steps)?;
-    Ok(split_alone && is_alone(base, &draft, 5))
+    are_parted(alloc, base, &mut draft, &after, 6, 3, steps)
+}
+
+fn check_link<L: Ledger>(
+    rt: &impl Abort,
+    alloc: Global,
+    graph: &Graph,
+    base: &Summary,
+    steps: &mut Steps<L>,
+) -> Result<(), Fail>
+    requires fits { FitsOne graph.now.graph (view_of base.now) }
+{
+    let change = Change::Link(6, 3);
+    let Ok(Verdict::New) = judge(graph, &change, &Limits::program()) else {
+        return Err("not new".into());
+    };
+    let parted = is_parting(alloc, graph, base, &change, steps)?;
+    assert!(rt; parted);
+    Ok(())
 }
 
 fn check_chains<L: Ledger>(
@@ -87,16 +140,7 @@ fn check_chains<L: Ledger>(
 {
     let mut steps = Steps::<L>::new(blank);
     let base = OneIndex::build(alloc, &graph.view(&mut steps))?;
-    let change = Change::Link(6, 3);
-    let Ok(Verdict::New) = judge(graph, &change, &Limits::program()) else {
-        return Err("not new".into());
-    };
-    // Called for its contract: edges are few.
-    let _edges = graph.edge_count();
-    let after = After::new(graph, &change);
-    let parted = are_parted(alloc, &base, &after, 6, 3, &mut steps)?;
-    assert!(rt; parted);
-    Ok(())
+    check_link(rt, alloc, graph, &base, &mut steps)
 }
 
 #[test]

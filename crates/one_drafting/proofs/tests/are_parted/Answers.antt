@@ -1,0 +1,24 @@
+use Rattle.px_spec.specs.Members.{at, has}
+use Rattle.std.proofs.Common.{[], ◌∷◌}
+use Rattle.label_graph.specs.Views.{label_number}
+use Rattle.graph_update.specs.Pending.{graph_after}
+use Rattle.quotient_draft.specs.Drafts.{shown_blocks, shown_labels}
+use Rattle.one_drafting.proofs.Stepping.{named_off, stable_there}
+use Rattle.one_drafting.proofs.Unreached.{split_of}
+use Rattle.one_drafting.proofs.tests.are_parted.Goals as goal
+
+pub split-requires-clause-stable : goal.split-requires-clause-stable
+split-requires-clause-stable g c =
+    stable_there c.args.after.now.before c.args.after.now.change c.args.v c.args.base.now c.draft_link.new.draft c.requires.before.graph c.requires.before.graph_after
+    c.requires.before.fits c.draft_link.ensures.target c.in_ok-draft_link.ensures.changed
+
+pub split-requires-clause-named : goal.split-requires-clause-named
+split-requires-clause-named g c =
+    named_off (has (c.args.v ∷ [])) (shown_blocks c.args.base.now c.draft_link.new.draft) (at (shown_labels c.args.base.now c.draft_link.new.draft))
+    (label_number (graph_after c.args.after.now)) c.in_ok-draft_link.ensures.changed.named
+
+pub merge-requires-clause-split : goal.merge-requires-clause-split
+merge-requires-clause-split g c =
+    split_of c.args.after.now.before c.args.after.now.change c.args.base.now.blocks.block_of (shown_blocks c.args.base.now c.draft_link.new.draft)
+    (shown_blocks c.args.base.now c.split.new.draft) c.requires.before.fits.index.stable c.requires.before.fits.index.minimal c.in_ok-draft_link.ensures.changed.keeps
+    c.in_ok-split.ensures.same
