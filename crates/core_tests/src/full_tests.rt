@@ -77,15 +77,51 @@ fn are(answer: &Result<Answer, AskError>, nodes: &[NodeId]) -> bool {
     }
 }
 
+/// The answer to the path, asked so.
+fn path_counted<L: Ledger>(
+    engine: &mut Engine,
+    alloc: Global,
+    via: Via,
+    expr: &PathExpr,
+    blank: Blank,
+) -> Result<Answer, AskError>
+    requires open { IsSome (opened_of engine.old.state) }
+    requires sound { IsSound (engine_seen (map (λ b. meaning (b.vtable, b.value)) engine.old.boxes.items) engine.old.state) }
+    requires name { blank.name ≡ L.name }
+    requires parts { blank.parts ≡ L.parts }
+    requires some { 0 < blank.parts }
+    ensures open { IsSome (opened_of engine.new.state) }
+    ensures sound { IsSound (engine_seen (map (λ b. meaning (b.vtable, b.value)) engine.new.boxes.items) engine.new.state) }
+{
+    let mut steps = Steps::<L>::new(blank);
+    engine.path(alloc, via, expr, &mut steps)
+}
+
 /// Whether these nodes answer the path, asked so.
-fn path_gives<L: Ledger>(
+fn path_gives(
     engine: &mut Engine,
     alloc: Global,
     via: Via,
     expr: &PathExpr,
     nodes: &[NodeId],
-    blank: Blank,
 ) -> bool
+    requires open { IsSome (opened_of engine.old.state) }
+    requires sound { IsSound (engine_seen (map (λ b. meaning (b.vtable, b.value)) engine.old.boxes.items) engine.old.state) }
+    ensures open { IsSome (opened_of engine.new.state) }
+    ensures sound { IsSound (engine_seen (map (λ b. meaning (b.vtable, b.value)) engine.new.boxes.items) engine.new.state) }
+{
+    let answer = path_counted::<Brand>(engine, alloc, via, expr, Blank::new(1));
+    are(&answer, nodes)
+}
+
+/// The answer to the branching query, asked so.
+fn branch_counted<L: Ledger>(
+    engine: &mut Engine,
+    alloc: Global,
+    via: Via,
+    query: &Branch,
+    blank: Blank,
+) -> Result<Answer, AskError>
     requires open { IsSome (opened_of engine.old.state) }
     requires sound { IsSound (engine_seen (map (λ b. meaning (b.vtable, b.value)) engine.old.boxes.items) engine.old.state) }
     requires name { blank.name ≡ L.name }
@@ -95,28 +131,24 @@ fn path_gives<L: Ledger>(
     ensures sound { IsSound (engine_seen (map (λ b. meaning (b.vtable, b.value)) engine.new.boxes.items) engine.new.state) }
 {
     let mut steps = Steps::<L>::new(blank);
-    are(&engine.path(alloc, via, expr, &mut steps), nodes)
+    engine.branch(alloc, via, query, &mut steps)
 }
 
 /// Whether these nodes answer the branching query, asked so.
-fn branch_gives<L: Ledger>(
+fn branch_gives(
     engine: &mut Engine,
     alloc: Global,
     via: Via,
     query: &Branch,
     nodes: &[NodeId],
-    blank: Blank,
 ) -> bool
     requires open { IsSome (opened_of engine.old.state) }
     requires sound { IsSound (engine_seen (map (λ b. meaning (b.vtable, b.value)) engine.old.boxes.items) engine.old.state) }
-    requires name { blank.name ≡ L.name }
-    requires parts { blank.parts ≡ L.parts }
-    requires some { 0 < blank.parts }
     ensures open { IsSome (opened_of engine.new.state) }
     ensures sound { IsSound (engine_seen (map (λ b. meaning (b.vtable, b.value)) engine.new.boxes.items) engine.new.state) }
 {
-    let mut steps = Steps::<L>::new(blank);
-    are(&engine.branch(alloc, via, query, &mut steps), nodes)
+    let answer = branch_counted::<Brand>(engine, alloc, via, query, Blank::new(1));
+    are(&answer, nodes)
 }
 
 /// Whether these nodes answer the path, through each index and the graph itself.
@@ -128,11 +160,11 @@ fn path_gives_always(engine: &mut Engine, alloc: Global, text: &str, nodes: &[No
 {
     match PathExpr::parse(alloc, text.as_bytes(), &Limits::program()) {
         Ok(e) => {
-            path_gives::<Brand>(engine, alloc, Via::Data, &e, nodes, Blank::new(1))
-                && path_gives::<Brand>(engine, alloc, Via::A(0), &e, nodes, Blank::new(1))
-                && path_gives::<Brand>(engine, alloc, Via::A(1), &e, nodes, Blank::new(1))
-                && path_gives::<Brand>(engine, alloc, Via::One, &e, nodes, Blank::new(1))
-                && path_gives::<Brand>(engine, alloc, Via::Fb, &e, nodes, Blank::new(1))
+            path_gives(engine, alloc, Via::Data, &e, nodes)
+                && path_gives(engine, alloc, Via::A(0), &e, nodes)
+                && path_gives(engine, alloc, Via::A(1), &e, nodes)
+                && path_gives(engine, alloc, Via::One, &e, nodes)
+                && path_gives(engine, alloc, Via::Fb, &e, nodes)
         }
         Err(_) => false,
     }
@@ -147,11 +179,11 @@ fn branch_gives_always(engine: &mut Engine, alloc: Global, text: &str, nodes: &[
 {
     match Branch::parse(alloc, text.as_bytes(), &Limits::program()) {
         Ok(q) => {
-            branch_gives::<Brand>(engine, alloc, Via::Data, &q, nodes, Blank::new(1))
-                && branch_gives::<Brand>(engine, alloc, Via::A(0), &q, nodes, Blank::new(1))
-                && branch_gives::<Brand>(engine, alloc, Via::A(1), &q, nodes, Blank::new(1))
-                && branch_gives::<Brand>(engine, alloc, Via::One, &q, nodes, Blank::new(1))
-                && branch_gives::<Brand>(engine, alloc, Via::Fb, &q, nodes, Blank::new(1))
+            branch_gives(engine, alloc, Via::Data, &q, nodes)
+                && branch_gives(engine, alloc, Via::A(0), &q, nodes)
+                && branch_gives(engine, alloc, Via::A(1), &q, nodes)
+                && branch_gives(engine, alloc, Via::One, &q, nodes)
+                && branch_gives(engine, alloc, Via::Fb, &q, nodes)
         }
         Err(_) => false,
     }

@@ -6,7 +6,7 @@ ghost use Rattle.pathindex_core.specs.Engines.{engine_seen, opened_of, IsSound};
 
 use ak_maintain::AkIndex;
 use graph_update::{Applied, Change};
-use index_api::{Kind, PathIndex, Via};
+use index_api::{Answer, Kind, PathIndex, Via};
 use label_graph::{Graph, GraphView};
 use path_query::PathExpr;
 use pathindex_core::{AskError, Engine, UpdateError};
@@ -100,45 +100,70 @@ fn a_tired_box_leaves_all(rt: HostRuntime) -> Result<(), Fail> {
     Ok(())
 }
 
-// The list through the index, or no memory for it.
-fn lists<L: Ledger>(
+// The list through the index.
+fn listed<L: Ledger>(
     engine: &mut Engine,
     alloc: Global,
     via: Via,
-    list: Option<&str>,
     blank: Blank,
-) -> bool
+) -> Result<Text, AskError>
     requires index { via ≢ Data }
+    requires open { IsSome (opened_of engine.old.state) }
+    requires sound { IsSound (engine_seen (map (λ b. meaning (b.vtable, b.value)) engine.old.boxes.items) engine.old.state) }
     requires name { blank.name ≡ L.name }
     requires parts { blank.parts ≡ L.parts }
     requires some { 0 < blank.parts }
+    ensures open { IsSome (opened_of engine.new.state) }
+    ensures sound { IsSound (engine_seen (map (λ b. meaning (b.vtable, b.value)) engine.new.boxes.items) engine.new.state) }
+{
+    let mut steps = Steps::<L>::new(blank);
+    engine.extents(alloc, via, &mut steps)
+}
+
+// Whether that is the list through the index; none where there is no memory for it.
+fn lists(engine: &mut Engine, alloc: Global, via: Via, list: Option<&str>) -> bool
+    requires index { via ≢ Data }
     requires open { IsSome (opened_of engine.old.state) }
     requires sound { IsSound (engine_seen (map (λ b. meaning (b.vtable, b.value)) engine.old.boxes.items) engine.old.state) }
     ensures open { IsSome (opened_of engine.new.state) }
     ensures sound { IsSound (engine_seen (map (λ b. meaning (b.vtable, b.value)) engine.new.boxes.items) engine.new.state) }
 {
-    let mut steps = Steps::<L>::new(blank);
-    match engine.extents(alloc, via, &mut steps) {
+    match listed::<Brand>(engine, alloc, via, Blank::new(1)) {
         Ok(text) => list == Some(text.as_str()),
         Err(error) => list.is_none() && error == AskError::Memory,
     }
 }
 
-// The path has no answer in the graph itself.
-fn finds_none<L: Ledger>(engine: &mut Engine, alloc: Global, path: &str, blank: Blank) -> bool
+// The answer of the graph itself.
+fn found<L: Ledger>(
+    engine: &mut Engine,
+    alloc: Global,
+    expr: &PathExpr,
+    blank: Blank,
+) -> Result<Answer, AskError>
+    requires open { IsSome (opened_of engine.old.state) }
+    requires sound { IsSound (engine_seen (map (λ b. meaning (b.vtable, b.value)) engine.old.boxes.items) engine.old.state) }
     requires name { blank.name ≡ L.name }
     requires parts { blank.parts ≡ L.parts }
     requires some { 0 < blank.parts }
+    ensures open { IsSome (opened_of engine.new.state) }
+    ensures sound { IsSound (engine_seen (map (λ b. meaning (b.vtable, b.value)) engine.new.boxes.items) engine.new.state) }
+{
+    let mut steps = Steps::<L>::new(blank);
+    engine.path(alloc, Via::Data, expr, &mut steps)
+}
+
+// Whether the path has no answer in the graph itself.
+fn finds_none(engine: &mut Engine, alloc: Global, path: &str) -> bool
     requires open { IsSome (opened_of engine.old.state) }
     requires sound { IsSound (engine_seen (map (λ b. meaning (b.vtable, b.value)) engine.old.boxes.items) engine.old.state) }
     ensures open { IsSome (opened_of engine.new.state) }
     ensures sound { IsSound (engine_seen (map (λ b. meaning (b.vtable, b.value)) engine.new.boxes.items) engine.new.state) }
 {
-    let mut steps = Steps::<L>::new(blank);
     let Ok(expr) = PathExpr::parse(alloc, path.as_bytes(), &FEW) else {
         return false;
     };
-    match engine.path(alloc, Via::Data, &expr, &mut steps) {
+    match found::<Brand>(engine, alloc, &expr, Blank::new(1)) {
         Ok(answer) => answer.nodes.count() == 0,
         Err(_) => false,
     }
@@ -151,9 +176,9 @@ fn goes_on(engine: &mut Engine, alloc: Global) -> bool
     ensures open { IsSome (opened_of engine.new.state) }
     ensures sound { IsSound (engine_seen (map (λ b. meaning (b.vtable, b.value)) engine.new.boxes.items) engine.new.state) }
 {
-    lists::<Brand>(engine, alloc, Via::Fb, None, Blank::new(1))
-        && lists::<Brand>(engine, alloc, Via::A(0), Some("blocks 0\n"), Blank::new(1))
-        && finds_none::<Brand>(engine, alloc, "a", Blank::new(1))
+    lists(engine, alloc, Via::Fb, None)
+        && lists(engine, alloc, Via::A(0), Some("blocks 0\n"))
+        && finds_none(engine, alloc, "a")
 }
 
 #[test]
