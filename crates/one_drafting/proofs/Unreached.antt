@@ -1,5 +1,5 @@
 -- A split and the merges after it, each by itself: what the change doesn't reach stays together.
-use Rattle.std.proofs.Common.{◌≡◌, ℕ, ◌+◌, ◌*◌, ◌≤◌, ◌<◌, List, [], ◌∷◌, Option, Some, IsTrue, IsFalse, is_some, refl, sym, ◌∙◌, ap, subst, arith, inl, inr, true, false, Bool, nat_lt, true≢false}
+use Rattle.std.proofs.Common.{◌≡◌, ℕ, ◌+◌, ◌*◌, ◌≤◌, ◌<◌, List, [], ◌∷◌, Option, Some, IsTrue, IsFalse, is_some, refl, sym, ◌∙◌, ap, subst, arith, inl, inr, false, Bool, nat_lt, true≢false}
 use Rattle.std.specs.Prelude.{not, nat_eq}
 use Rattle.std.proofs.Math.Bool.{or-false}
 use Rattle.std.proofs.lemmas.Bool.Decides.{eqb_tells}
@@ -10,7 +10,6 @@ use Rattle.px_spec.specs.Changes.{Change, after}
 use Rattle.px_spec.specs.Members.{has, at, Lists}
 use Rattle.px_spec.specs.Shapes.{Shape, IsNode, shape_of}
 use Rattle.px_spec.proofs.GraphLaws.{is_shape}
-use Rattle.bisim_spec.specs.Partitions.{Together}
 use Rattle.bisim_spec.specs.Stability.{Stable, Minimal}
 use Rattle.bisim_spec.specs.Reach.{reach}
 use Rattle.bisim_spec.specs.Targets.{KeepsBlocks, target}

@@ -1,7 +1,6 @@
 use Rattle.std.proofs.Common.{◌≤◌, ◌^◌, arith, sym, subst}
 use Rattle.std.specs.FinSet as set
 use Rattle.px_spec.specs.Members.{at, Lists}
-use Rattle.px_spec.specs.Shapes.{shape_of}
 use Rattle.graph_update.specs.Pending.{graph_after}
 use Rattle.quotient_draft.specs.Drafts.{shown_blocks, shown_labels, shown_support}
 use Rattle.one_drafting.specs.Drafting.{reached}
