@@ -4,4 +4,4 @@ pub mod NodeChanges
 pub mod EdgeChanges
 pub mod Stepping
 pub mod Pendings
-mod Unreached
+pub mod Unreached
