@@ -1,13 +1,13 @@
 -- Keys that are carried over to new numbers.
-use Rattle.std.proofs.Common.{◌≡◌, ◌≢◌, ℕ, zero, suc, ◌+◌, ◌*◌, ◌<◌, ◌≤◌, ◌⊎◌, List, [], ◌∷◌, ◌++◌, length, take, count_by, Option, Some, None, IsSome, is_some, true, false, true≢false, slice_get, refl, sym, ◌∙◌, ap, subst, arith, inl, inr}
+use Rattle.std.proofs.Common.{◌≡◌, ℕ, zero, suc, ◌+◌, ◌<◌, ◌≤◌, ◌⊎◌, List, [], ◌∷◌, ◌++◌, length, count_by, Option, Some, None, IsSome, is_some, false, true≢false, slice_get, refl, sym, ◌∙◌, ap, subst, arith, inl, inr}
 use Rattle.std.proofs.lemmas.Bool.{cases_lt}
 use Rattle.std.proofs.lemmas.List.Sums.{count_by_more_yes, count_by_more_no}
 use Rattle.std.proofs.lemmas.Option.{slice_get_within}
 use Rattle.std.proofs.Math.Seq.{take-length}
 use Rattle.px_spec.specs.Members.{at}
 use Rattle.bisim_spec.proofs.Bisimilar.{some_of}
-use Rattle.key_table.specs.Interning.{AreDistinct, IsAbsent, Interns}
-use Rattle.keyed_quotient.specs.Levels.{key_at, AreKeyed}
+use Rattle.key_table.specs.Interning.{AreDistinct, Interns}
+use Rattle.keyed_quotient.specs.Levels.{key_at}
 use Rattle.keyed_quotient.specs.Numberings.{Numbering, numbered_key, block_keys, Leads, IsNumbering, Grows, Gives}
 use Rattle.keyed_quotient.specs.Compacting.{AreCarried, AreFew}
 use Rattle.keyed_quotient.proofs.Given.{set_length, given_here, given_there}

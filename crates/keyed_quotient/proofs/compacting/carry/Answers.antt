@@ -1,4 +1,4 @@
-use Rattle.std.proofs.Common.{ℕ, List, ◌≡◌, ◌<◌, ◌∙◌, length, sym, ap, arith}
+use Rattle.std.proofs.Common.{ℕ, List, ◌∙◌, length, sym, ap, arith}
 use Rattle.keyed_quotient.proofs.Compacted.{carried_next, carried_past}
 use Rattle.keyed_quotient.proofs.compacting.carry.Goals as goal
 
