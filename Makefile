@@ -45,6 +45,7 @@ bench:
 	@test -x bin/pathindex || { echo 'make bench: bin/pathindex is missing; make run builds it' >&2; exit 1; }
 	@python3 tools/bench.py
 	@python3 tools/bench_indexes.py
+	@python3 tools/bench_updates.py
 	@command -v serdi >/dev/null || { echo "make bench: serdi isn't on the path, so triples_count has nothing to stand beside; apt-get install serdi brings it" >&2; exit 1; }
 	@test -x $(COUNTER)/out/triples_count || { echo 'make bench: triples_count is missing; make test builds it' >&2; exit 1; }
 	@python3 tools/bench_triples.py

@@ -1,0 +1,79 @@
+#!/usr/bin/env python3
+"""Has bin/pathindex change generated graphs, and prints what an update takes while only the A(k)-indexes are kept, and while only the
+1-index is; and then what the run of a seed takes, with its 2,000 changes and 12 queries over all indexes. The gate doesn't run this.
+
+    bench_updates.py [PROGRAM]
+
+PROGRAM is run in place of bin/pathindex. Updates are a node, two links from it and an unlink, in turn. Their times are the best of some
+turns, less those of the same run without them.
+"""
+import os
+import pathlib
+import random
+import subprocess
+import sys
+import tempfile
+
+from bench_indexes import best_of
+
+ROOT = pathlib.Path(__file__).resolve().parent.parent
+MAKE = ROOT / "tools" / "make_triples.py"
+CASES = [(20_000, 9), (200_000, 7), (1_600_000, 3)]
+UPDATES = 2_000
+# the indexes that are kept, by the flags that the program is given and the first line of the script
+KEPT = {
+    "A(0) to A(2)": (["--k", "2", "--without-one", "--without-fb"], ""),
+    "1-index": (["--k", "0", "--without-fb"], "forget a\n"),
+}
+SEED = "1"
+
+
+def changes(nodes):
+    """Lines that make UPDATES changes of a graph with so many nodes."""
+    pick = random.Random(1)
+    for new in range(nodes, nodes + UPDATES // 4):
+        first, second = pick.sample(range(nodes), 2)
+        yield from (f"node g{pick.randrange(4)}", f"link n{new} n{first}", f"link n{new} n{second}", f"unlink n{new} n{first}")
+
+
+def node_count(program, script, graph):
+    done = subprocess.run(
+        [program, script, "--graph", graph, "--k", "0", "--without-one", "--without-fb"], capture_output=True, text=True, check=True,
+    )
+    return int(done.stdout.split()[1])
+
+
+def write(folder, name, text):
+    path = os.path.join(folder, name)
+    with open(path, "w") as out:
+        out.write(text)
+    return path
+
+
+def measure(program, folder, count, turns):
+    graph = os.path.join(folder, f"{count}.nt")
+    with open(graph, "wb") as out:
+        subprocess.run([sys.executable, MAKE, str(count)], stdout=out, check=True)
+    lines = "".join(line + "\n" for line in changes(node_count(program, write(folder, "sizes", "sizes\n"), graph)))
+    for name, (flags, first) in KEPT.items():
+        scripts = {"without": write(folder, "without", first), "with": write(folder, "with", first + lines)}
+        taken = best_of({key: [program, script, "--graph", graph, *flags] for key, script in scripts.items()}, turns)
+        each = (taken["with"][0] - taken["without"][0]) / UPDATES
+        print(f"{count:,} triples, {name:<12} {each * 1e6:>9.1f} microseconds an update", flush=True)
+
+
+def main():
+    if len(sys.argv) > 2:
+        sys.exit(__doc__)
+    program = pathlib.Path(sys.argv[1]).resolve() if len(sys.argv) == 2 else ROOT / "bin" / "pathindex"
+    if not os.access(program, os.X_OK):
+        sys.exit(f"bench_updates.py: {program} is missing; make run builds bin/pathindex")
+    with tempfile.TemporaryDirectory() as folder:
+        for count, turns in CASES:
+            measure(program, folder, count, turns)
+    seconds, peak = best_of({"made": [program, "--make", SEED]}, 3)["made"]
+    print(f"--make {SEED}: {seconds:.2f} seconds, peak {peak:.0f} MB")
+
+
+if __name__ == "__main__":
+    main()
