@@ -50,6 +50,28 @@ fn adds(engine: &mut Engine, alloc: Global, label: &str) -> bool
     }
 }
 
+/// Adds two nodes with these labels.
+fn adds_both(engine: &mut Engine, alloc: Global, first: &str, second: &str) -> bool
+    requires open { IsSome (opened_of engine.old.state) }
+    requires sound { IsSound (engine_seen (map (λ b. meaning (b.vtable, b.value)) engine.old.boxes.items) engine.old.state) }
+    ensures open { IsSome (opened_of engine.new.state) }
+    ensures sound { IsSound (engine_seen (map (λ b. meaning (b.vtable, b.value)) engine.new.boxes.items) engine.new.state) }
+{
+    adds(engine, alloc, first) && adds(engine, alloc, second)
+}
+
+/// Links the first node to the second and the third, and the second to the fourth.
+fn links(engine: &mut Engine, alloc: Global) -> bool
+    requires open { IsSome (opened_of engine.old.state) }
+    requires sound { IsSound (engine_seen (map (λ b. meaning (b.vtable, b.value)) engine.old.boxes.items) engine.old.state) }
+    ensures open { IsSome (opened_of engine.new.state) }
+    ensures sound { IsSound (engine_seen (map (λ b. meaning (b.vtable, b.value)) engine.new.boxes.items) engine.new.state) }
+{
+    makes(engine, alloc, Change::Link(0, 1))
+        && makes(engine, alloc, Change::Link(0, 2))
+        && makes(engine, alloc, Change::Link(1, 3))
+}
+
 /// Adds an `a` with two children `b`, of which the first has a child `c`.
 fn grows(engine: &mut Engine, alloc: Global) -> bool
     requires open { IsSome (opened_of engine.old.state) }
@@ -57,13 +79,7 @@ fn grows(engine: &mut Engine, alloc: Global) -> bool
     ensures open { IsSome (opened_of engine.new.state) }
     ensures sound { IsSound (engine_seen (map (λ b. meaning (b.vtable, b.value)) engine.new.boxes.items) engine.new.state) }
 {
-    adds(engine, alloc, "a")
-        && adds(engine, alloc, "b")
-        && adds(engine, alloc, "b")
-        && adds(engine, alloc, "c")
-        && makes(engine, alloc, Change::Link(0, 1))
-        && makes(engine, alloc, Change::Link(0, 2))
-        && makes(engine, alloc, Change::Link(1, 3))
+    adds_both(engine, alloc, "a", "b") && adds_both(engine, alloc, "b", "c") && links(engine, alloc)
 }
 
 /// Whether these are the nodes of the answer.
@@ -151,6 +167,34 @@ fn branch_gives(
     are(&answer, nodes)
 }
 
+/// Whether these nodes answer the path, through both A(k)-indexes.
+fn path_gives_by_levels(
+    engine: &mut Engine,
+    alloc: Global,
+    expr: &PathExpr,
+    nodes: &[NodeId],
+) -> bool
+    requires open { IsSome (opened_of engine.old.state) }
+    requires sound { IsSound (engine_seen (map (λ b. meaning (b.vtable, b.value)) engine.old.boxes.items) engine.old.state) }
+    ensures open { IsSome (opened_of engine.new.state) }
+    ensures sound { IsSound (engine_seen (map (λ b. meaning (b.vtable, b.value)) engine.new.boxes.items) engine.new.state) }
+{
+    path_gives(engine, alloc, Via::A(0), expr, nodes)
+        && path_gives(engine, alloc, Via::A(1), expr, nodes)
+}
+
+/// Whether these nodes answer the path, through the other indexes and the graph itself.
+fn path_gives_else(engine: &mut Engine, alloc: Global, expr: &PathExpr, nodes: &[NodeId]) -> bool
+    requires open { IsSome (opened_of engine.old.state) }
+    requires sound { IsSound (engine_seen (map (λ b. meaning (b.vtable, b.value)) engine.old.boxes.items) engine.old.state) }
+    ensures open { IsSome (opened_of engine.new.state) }
+    ensures sound { IsSound (engine_seen (map (λ b. meaning (b.vtable, b.value)) engine.new.boxes.items) engine.new.state) }
+{
+    path_gives(engine, alloc, Via::Data, expr, nodes)
+        && path_gives(engine, alloc, Via::One, expr, nodes)
+        && path_gives(engine, alloc, Via::Fb, expr, nodes)
+}
+
 /// Whether these nodes answer the path, through each index and the graph itself.
 fn path_gives_always(engine: &mut Engine, alloc: Global, text: &str, nodes: &[NodeId]) -> bool
     requires open { IsSome (opened_of engine.old.state) }
@@ -159,15 +203,40 @@ fn path_gives_always(engine: &mut Engine, alloc: Global, text: &str, nodes: &[No
     ensures sound { IsSound (engine_seen (map (λ b. meaning (b.vtable, b.value)) engine.new.boxes.items) engine.new.state) }
 {
     match PathExpr::parse(alloc, text.as_bytes(), &Limits::program()) {
-        Ok(e) => {
-            path_gives(engine, alloc, Via::Data, &e, nodes)
-                && path_gives(engine, alloc, Via::A(0), &e, nodes)
-                && path_gives(engine, alloc, Via::A(1), &e, nodes)
-                && path_gives(engine, alloc, Via::One, &e, nodes)
-                && path_gives(engine, alloc, Via::Fb, &e, nodes)
+        Ok(expr) => {
+            path_gives_by_levels(engine, alloc, &expr, nodes)
+                && path_gives_else(engine, alloc, &expr, nodes)
         }
         Err(_) => false,
     }
+}
+
+/// Whether these nodes answer the branching query, through both A(k)-indexes.
+fn branch_gives_by_levels(
+    engine: &mut Engine,
+    alloc: Global,
+    query: &Branch,
+    nodes: &[NodeId],
+) -> bool
+    requires open { IsSome (opened_of engine.old.state) }
+    requires sound { IsSound (engine_seen (map (λ b. meaning (b.vtable, b.value)) engine.old.boxes.items) engine.old.state) }
+    ensures open { IsSome (opened_of engine.new.state) }
+    ensures sound { IsSound (engine_seen (map (λ b. meaning (b.vtable, b.value)) engine.new.boxes.items) engine.new.state) }
+{
+    branch_gives(engine, alloc, Via::A(0), query, nodes)
+        && branch_gives(engine, alloc, Via::A(1), query, nodes)
+}
+
+/// Whether these nodes answer the branching query, through the other indexes and the graph itself.
+fn branch_gives_else(engine: &mut Engine, alloc: Global, query: &Branch, nodes: &[NodeId]) -> bool
+    requires open { IsSome (opened_of engine.old.state) }
+    requires sound { IsSound (engine_seen (map (λ b. meaning (b.vtable, b.value)) engine.old.boxes.items) engine.old.state) }
+    ensures open { IsSome (opened_of engine.new.state) }
+    ensures sound { IsSound (engine_seen (map (λ b. meaning (b.vtable, b.value)) engine.new.boxes.items) engine.new.state) }
+{
+    branch_gives(engine, alloc, Via::Data, query, nodes)
+        && branch_gives(engine, alloc, Via::One, query, nodes)
+        && branch_gives(engine, alloc, Via::Fb, query, nodes)
 }
 
 /// Whether these nodes answer the branching query, through each index and the graph itself.
@@ -178,12 +247,9 @@ fn branch_gives_always(engine: &mut Engine, alloc: Global, text: &str, nodes: &[
     ensures sound { IsSound (engine_seen (map (λ b. meaning (b.vtable, b.value)) engine.new.boxes.items) engine.new.state) }
 {
     match Branch::parse(alloc, text.as_bytes(), &Limits::program()) {
-        Ok(q) => {
-            branch_gives(engine, alloc, Via::Data, &q, nodes)
-                && branch_gives(engine, alloc, Via::A(0), &q, nodes)
-                && branch_gives(engine, alloc, Via::A(1), &q, nodes)
-                && branch_gives(engine, alloc, Via::One, &q, nodes)
-                && branch_gives(engine, alloc, Via::Fb, &q, nodes)
+        Ok(query) => {
+            branch_gives_by_levels(engine, alloc, &query, nodes)
+                && branch_gives_else(engine, alloc, &query, nodes)
         }
         Err(_) => false,
     }
