@@ -196,17 +196,24 @@ fn path_gives_else(engine: &mut Engine, alloc: Global, expr: &PathExpr, nodes: &
 }
 
 /// Whether these nodes answer the path, through each index and the graph itself.
-fn path_gives_always(engine: &mut Engine, alloc: Global, text: &str, nodes: &[NodeId]) -> bool
+fn path_gives_always(engine: &mut Engine, alloc: Global, expr: &PathExpr, nodes: &[NodeId]) -> bool
+    requires open { IsSome (opened_of engine.old.state) }
+    requires sound { IsSound (engine_seen (map (λ b. meaning (b.vtable, b.value)) engine.old.boxes.items) engine.old.state) }
+    ensures open { IsSome (opened_of engine.new.state) }
+    ensures sound { IsSound (engine_seen (map (λ b. meaning (b.vtable, b.value)) engine.new.boxes.items) engine.new.state) }
+{
+    path_gives_by_levels(engine, alloc, expr, nodes) && path_gives_else(engine, alloc, expr, nodes)
+}
+
+/// Whether these nodes answer the path with that text.
+fn path_text_gives(engine: &mut Engine, alloc: Global, text: &str, nodes: &[NodeId]) -> bool
     requires open { IsSome (opened_of engine.old.state) }
     requires sound { IsSound (engine_seen (map (λ b. meaning (b.vtable, b.value)) engine.old.boxes.items) engine.old.state) }
     ensures open { IsSome (opened_of engine.new.state) }
     ensures sound { IsSound (engine_seen (map (λ b. meaning (b.vtable, b.value)) engine.new.boxes.items) engine.new.state) }
 {
     match PathExpr::parse(alloc, text.as_bytes(), &Limits::program()) {
-        Ok(expr) => {
-            path_gives_by_levels(engine, alloc, &expr, nodes)
-                && path_gives_else(engine, alloc, &expr, nodes)
-        }
+        Ok(expr) => path_gives_always(engine, alloc, &expr, nodes),
         Err(_) => false,
     }
 }
@@ -240,19 +247,50 @@ fn branch_gives_else(engine: &mut Engine, alloc: Global, query: &Branch, nodes: 
 }
 
 /// Whether these nodes answer the branching query, through each index and the graph itself.
-fn branch_gives_always(engine: &mut Engine, alloc: Global, text: &str, nodes: &[NodeId]) -> bool
+fn branch_gives_always(engine: &mut Engine, alloc: Global, query: &Branch, nodes: &[NodeId]) -> bool
+    requires open { IsSome (opened_of engine.old.state) }
+    requires sound { IsSound (engine_seen (map (λ b. meaning (b.vtable, b.value)) engine.old.boxes.items) engine.old.state) }
+    ensures open { IsSome (opened_of engine.new.state) }
+    ensures sound { IsSound (engine_seen (map (λ b. meaning (b.vtable, b.value)) engine.new.boxes.items) engine.new.state) }
+{
+    branch_gives_by_levels(engine, alloc, query, nodes)
+        && branch_gives_else(engine, alloc, query, nodes)
+}
+
+/// Whether these nodes answer the branching query with that text.
+fn branch_text_gives(engine: &mut Engine, alloc: Global, text: &str, nodes: &[NodeId]) -> bool
     requires open { IsSome (opened_of engine.old.state) }
     requires sound { IsSound (engine_seen (map (λ b. meaning (b.vtable, b.value)) engine.old.boxes.items) engine.old.state) }
     ensures open { IsSome (opened_of engine.new.state) }
     ensures sound { IsSound (engine_seen (map (λ b. meaning (b.vtable, b.value)) engine.new.boxes.items) engine.new.state) }
 {
     match Branch::parse(alloc, text.as_bytes(), &Limits::program()) {
-        Ok(query) => {
-            branch_gives_by_levels(engine, alloc, &query, nodes)
-                && branch_gives_else(engine, alloc, &query, nodes)
-        }
+        Ok(query) => branch_gives_always(engine, alloc, &query, nodes),
         Err(_) => false,
     }
+}
+
+/// Whether a few paths have their answers over the small graph.
+fn paths_give(engine: &mut Engine, alloc: Global) -> bool
+    requires open { IsSome (opened_of engine.old.state) }
+    requires sound { IsSound (engine_seen (map (λ b. meaning (b.vtable, b.value)) engine.old.boxes.items) engine.old.state) }
+    ensures open { IsSome (opened_of engine.new.state) }
+    ensures sound { IsSound (engine_seen (map (λ b. meaning (b.vtable, b.value)) engine.new.boxes.items) engine.new.state) }
+{
+    path_text_gives(engine, alloc, "a/b", &[1, 2])
+        && path_text_gives(engine, alloc, "a/b/c", &[3])
+        && path_text_gives(engine, alloc, "c/b", &[])
+}
+
+/// Whether a few branching queries do.
+fn branches_give(engine: &mut Engine, alloc: Global) -> bool
+    requires open { IsSome (opened_of engine.old.state) }
+    requires sound { IsSound (engine_seen (map (λ b. meaning (b.vtable, b.value)) engine.old.boxes.items) engine.old.state) }
+    ensures open { IsSome (opened_of engine.new.state) }
+    ensures sound { IsSound (engine_seen (map (λ b. meaning (b.vtable, b.value)) engine.new.boxes.items) engine.new.state) }
+{
+    branch_text_gives(engine, alloc, "b[not(/c)]", &[2])
+        && branch_text_gives(engine, alloc, "b\\a[/b/c]", &[0])
 }
 
 /// Whether each of a few queries has its answers over the small graph, however it is asked.
@@ -271,11 +309,8 @@ impl EngineTask for Asks {
     fn carry_out(self, engine: &mut Engine) -> bool {
         opens(engine, self.alloc)
             && grows(engine, self.alloc)
-            && path_gives_always(engine, self.alloc, "a/b", &[1, 2])
-            && path_gives_always(engine, self.alloc, "a/b/c", &[3])
-            && path_gives_always(engine, self.alloc, "c/b", &[])
-            && branch_gives_always(engine, self.alloc, "b[not(/c)]", &[2])
-            && branch_gives_always(engine, self.alloc, "b\\a[/b/c]", &[0])
+            && paths_give(engine, self.alloc)
+            && branches_give(engine, self.alloc)
     }
 }
 
