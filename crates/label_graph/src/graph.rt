@@ -208,20 +208,6 @@ impl Graph {
         })
     }
 
-    /// An equal graph with an equal table of labels, and no room. O(nodes + edges + the bytes of all labels), in time and in
-    /// memory.
-    pub fn copy(&self, alloc: Global) -> Result<Graph, Memory>
-        ensures { IfOk result (λ g. g ≡ record { graph = self.now.graph; room = no_room }) }
-    {
-        Ok(Graph {
-            labels: self.labels.copy(alloc)?,
-            nodes: self.nodes.copy(alloc)?,
-            node_count: self.node_count,
-            edge_count: self.edge_count,
-            room: Reserved::Nothing,
-        })
-    }
-
     /// Makes room for a node with that label, in place of the room that there was. Where memory runs out
     /// that room stays.
     pub fn reserve_node(&mut self, alloc: Global, label: &Text) -> Result<(), Memory>

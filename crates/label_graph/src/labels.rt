@@ -78,22 +78,6 @@ impl Labels {
         }
     }
 
-    /// The labels, with no text ahead. O(the bytes of all labels), in time and in memory.
-    pub(crate) fn copy(&self, alloc: Global) -> Result<Labels, Memory>
-        ensures { IfOk result (λ l. l ≡ record { texts = self.now.texts; ahead = None }) }
-    {
-        let mut table = IndexSet::new(alloc);
-        for l in 0..self.shown {
-            let text = self.table.as_slice()[l].copy(alloc)?;
-            table.insert(text)?;
-        }
-        Ok(Labels {
-            table,
-            shown: self.shown,
-            at_hand: self.at_hand,
-        })
-    }
-
     // The number at hand, where it is that of the label.
     fn near(&self, t: &Text) -> Option<u32>
         ensures { IfSome result (λ l. position (bytes_eq t.now) self.now.texts ≡ Some l) }

@@ -118,16 +118,6 @@ impl Nodes {
         }
     }
 
-    /// The same nodes and edges. O(nodes + edges), in time and in memory.
-    pub(crate) fn copy(&self, alloc: Global) -> Result<Nodes, Memory>
-        ensures { IfOk result (λ n. n.nodes ≡ self.now.nodes) }
-    {
-        Ok(Nodes {
-            rows: self.rows.to_vec(alloc)?,
-            cells: self.cells.to_vec(alloc)?,
-        })
-    }
-
     /// Makes room for a node.
     pub(crate) fn reserve_node(&mut self) -> Result<(), Memory>
         ensures same { self.new.nodes ≡ self.old.nodes }

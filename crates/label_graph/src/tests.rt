@@ -117,7 +117,6 @@ fn read_small_graph<L: Ledger>(rt: &impl Abort, alloc: Global, blank: Blank) -> 
     check_small(rt, &graph, &mut steps);
     assert!(rt; graph.is_live(3));
     assert!(rt; graph.label(3) == 2);
-    check_small(rt, &graph.copy(alloc)?, &mut steps);
     Ok(())
 }
 
@@ -202,9 +201,7 @@ fn take_apart<L: Ledger>(rt: &impl Abort, alloc: Global, blank: Blank) -> Result
     check_any(rt, &graph, &mut steps);
     take_hub(rt, &mut graph, &mut steps);
     put_again(rt, alloc, &mut graph, &mut steps)?;
-    // A copy has the gone nodes and the labels too.
-    let copy = graph.copy(alloc)?;
-    assert!(rt; copy.created() == 7 && copy.node_count() == 5 && copy.labels().len() == 3);
+    assert!(rt; graph.created() == 7 && graph.node_count() == 5 && graph.labels().len() == 3);
     Ok(())
 }
 
