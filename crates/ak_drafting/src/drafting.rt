@@ -88,7 +88,7 @@ fn draft_pending<L: Ledger>(
 /// Drafts what a change, which `judge` accepts as new, will make of the A(0)- to A(k)-indexes of a graph. The graph is as it was. Once
 /// the draft is settled, each level is that of the graph after the change.
 ///
-/// It takes at most `8 * k * w` steps, where `w` is one for each node that at most `k` edges part from the target of the change in the graph
+/// It takes at most `8 * k * w` steps, where `w` is one for each node within `k` edges of the target of the change in the graph
 /// after it, one for each of its parents and one for each of its children. At want of memory the draft is only good to be dropped.
 pub fn draft_change<L: Ledger>(
     alloc: Global,

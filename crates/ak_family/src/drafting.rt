@@ -53,7 +53,7 @@ impl AkDraft {
         Ok(AkDraft { levels })
     }
 
-    /// Drops all that is drafted. It takes no memory.
+    /// Drops all that is drafted. It takes no memory, and time linear in the largest size that the draft has had.
     pub fn clear(&mut self)
         ensures count { length self.new ≡ length self.old }
         ensures empty { AreEmpty self.new }

@@ -12,7 +12,8 @@ use keyed_quotient::{KeyedDraft, KeyedSummary};
 use px_base::Memory;
 
 impl AkFamily {
-    /// Makes the room that settling this draft needs. It leaves the family as it is seen. Linear in what is drafted.
+    /// Makes the room that settling this draft needs. It leaves the family as it is seen. Linear in what is drafted;
+    /// where a level holds many keys of blocks that are gone, these are dropped first, which takes time linear in its block numbers and keys.
     pub fn reserve(&mut self, d: &AkDraft) -> Result<(), Memory>
         requires over { AreOver self.old d.now }
         ensures same { AreSeenAs self.old self.new }

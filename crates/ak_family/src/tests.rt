@@ -4,56 +4,14 @@ ghost use Rattle.px_spec.specs.Shapes.{IsNode, shape_of};
 ghost use Rattle.bisim_spec.specs.Bisimilarity.{Bis};
 
 use super::*;
-use label_graph::{Graph, GraphView};
-use px_base::{Memory, NodeId, Steps, Text};
+use label_graph::GraphView;
+use px_base::{Memory, NodeId, Steps};
 use std::alloc::Global;
 use std::marker::Brand;
 use std::process::Abort;
 use std::sync::ledger::{Blank, Ledger};
 use std::test::Fail;
-
-const MOST: u32 = 1 << 30;
-
-fn put_node(rt: &impl Abort, alloc: Global, graph: &mut Graph, label: u8) -> Result<(), Fail> {
-    assert!(rt; graph.created() < MOST);
-    graph.reserve_node(alloc, &Text::from_bytes(alloc, &[label])?)?;
-    graph.add_node();
-    Ok(())
-}
-
-fn put_edge<L: Ledger>(
-    rt: &impl Abort,
-    graph: &mut Graph,
-    u: NodeId,
-    v: NodeId,
-    steps: &mut Steps<L>,
-) -> Result<(), Fail> {
-    assert!(rt; graph.is_live(u));
-    assert!(rt; graph.is_live(v));
-    assert!(rt; graph.edge_count() < MOST);
-    assert!(rt; !graph.has_edge(u, v, steps));
-    graph.reserve_edge(u, v)?;
-    graph.add_edge(u, v);
-    Ok(())
-}
-
-// A graph whose nodes have these labels, a byte each.
-fn drawn<L: Ledger>(
-    rt: &impl Abort,
-    alloc: Global,
-    labels: &[u8],
-    edges: &[(NodeId, NodeId)],
-    steps: &mut Steps<L>,
-) -> Result<Graph, Fail> {
-    let mut graph = Graph::new(alloc)?;
-    for label in labels {
-        put_node(rt, alloc, &mut graph, *label)?;
-    }
-    for (u, v) in edges {
-        put_edge(rt, &mut graph, *u, *v, steps)?;
-    }
-    Ok(graph)
-}
+use test_graphs::drawn;
 
 // Whether two nodes are bisimilar to a level, by a family that is built for it.
 fn is_bisimilar(
@@ -91,24 +49,25 @@ fn are_blocks(alloc: Global, view: &GraphView<'_>, blocks: &[u32]) -> Result<boo
     Ok(has_blocks(&AkFamily::build(alloc, view, 2)?, blocks))
 }
 
-// Two chains a, b, c.
+// Two chains a, b, c, and the same with an x in front of the second one.
 const CHAINS: &[(NodeId, NodeId)] = &[(0, 1), (1, 2), (3, 4), (4, 5)];
 
-// The blocks of the nodes while the x stands alone, and once an edge leads from it to the second chain.
+const LINKED_CHAINS: &[(NodeId, NodeId)] = &[(0, 1), (1, 2), (3, 4), (4, 5), (6, 3)];
+
+// The blocks of the nodes where the x stands alone, and where an edge leads from it to the second chain.
 const APART: &[u32] = &[0, 1, 2, 0, 1, 2, 3];
 
 const LINKED: &[u32] = &[0, 1, 2, 3, 4, 2, 5];
 
-// Two chains, and an x, which may stand in front of the second one.
 fn check_chains<L: Ledger>(rt: &impl Abort, alloc: Global, blank: Blank) -> Result<(), Fail>
     requires name { blank.name ≡ L.name }
     requires parts { blank.parts ≡ L.parts }
     requires some { 0 < blank.parts }
 {
     let mut steps = Steps::<L>::new(blank);
-    let mut chains = drawn(rt, alloc, b"abcabcx", CHAINS, &mut steps)?;
+    let chains = drawn(alloc, b"abcabcx", CHAINS, &mut steps)?;
     let apart = are_blocks(alloc, &chains.view(&mut steps), APART)?;
-    put_edge(rt, &mut chains, 6, 3, &mut steps)?;
+    let chains = drawn(alloc, b"abcabcx", LINKED_CHAINS, &mut steps)?;
     let linked = are_blocks(alloc, &chains.view(&mut steps), LINKED)?;
     assert!(rt; apart && linked);
     Ok(())
@@ -153,7 +112,7 @@ fn check_family<L: Ledger>(rt: &impl Abort, alloc: Global, blank: Blank) -> Resu
     requires some { 0 < blank.parts }
 {
     let mut steps = Steps::<L>::new(blank);
-    let graph = drawn(rt, alloc, b"aabb", &[(0, 2), (1, 2), (0, 3)], &mut steps)?;
+    let graph = drawn(alloc, b"aabb", &[(0, 2), (1, 2), (0, 3)], &mut steps)?;
     let family = AkFamily::build(alloc, &graph.view(&mut steps), 1)?;
     assert!(rt; has_blocks(&family, &[0, 0, 1, 1]));
     check_keys(rt, &family);
@@ -173,7 +132,7 @@ fn check_loops<L: Ledger>(rt: &impl Abort, alloc: Global, blank: Blank) -> Resul
     requires some { 0 < blank.parts }
 {
     let mut steps = Steps::<L>::new(blank);
-    let loops = drawn(rt, alloc, b"aa", &[(0, 0), (1, 1)], &mut steps)?;
+    let loops = drawn(alloc, b"aa", &[(0, 0), (1, 1)], &mut steps)?;
     assert!(rt; loops.is_live(0));
     assert!(rt; loops.is_live(1));
     let same = is_bisimilar(alloc, &loops.view(&mut steps), 3, 0, 1)?;

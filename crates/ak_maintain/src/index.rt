@@ -35,7 +35,7 @@ impl AkIndex {
     }
 
     /// Stages what a change will make of the index, as `prepare` does, and counts steps: at most `8 * k * w`, where levels up to `k`
-    /// are kept, and `w` is one for each node that at most `k` edges part from the change's target in the graph after it, one for each
+    /// are kept, and `w` is one for each node within `k` edges of the change's target in the graph after it, one for each
     /// of its parents and one for each of its children. At want of memory it leaves the index as it was.
     pub fn prepare_counted<L: Ledger>(
         &mut self,

@@ -18,10 +18,10 @@ use std::alloc::Global;
 use std::sync::ledger::Ledger;
 
 /// Moves the nodes to which few edges lead from the target of a change, level by level from level 1 on: at level `i` those
-/// that at most `i` edges part from the target, each to the block of its key there, which is a further block where no block has the key.
+/// within `i` edges of the target, each to the block of its key there, which is a further block where no block has the key.
 /// The edges of the change are drafted at each level already, and level 0 is done.
 ///
-/// It takes at most `8 * k * w` steps, where `k` is the highest level, and `w` is one for each node that at most `k` edges part from the
+/// It takes at most `8 * k * w` steps, where `k` is the highest level, and `w` is one for each node within `k` edges of the
 /// target, one for each of its parents and one for each of its children. After `Memory` the draft is only good to be dropped.
 pub fn move_near<L: Ledger>(
     alloc: Global,

@@ -2,56 +2,14 @@
 ghost use Rattle.std.specs.Prelude.{◌≡◌, ◌<◌};
 
 use super::*;
-use label_graph::{Graph, GraphView};
-use px_base::{Memory, NodeId, Steps, Text};
+use label_graph::GraphView;
+use px_base::{Memory, NodeId, Steps};
 use std::alloc::Global;
 use std::marker::Brand;
 use std::process::Abort;
 use std::sync::ledger::{Blank, Ledger};
 use std::test::Fail;
-
-const MOST: u32 = 1 << 30;
-
-fn put_node(rt: &impl Abort, alloc: Global, graph: &mut Graph, label: u8) -> Result<(), Fail> {
-    assert!(rt; graph.created() < MOST);
-    graph.reserve_node(alloc, &Text::from_bytes(alloc, &[label])?)?;
-    graph.add_node();
-    Ok(())
-}
-
-fn put_edge<L: Ledger>(
-    rt: &impl Abort,
-    graph: &mut Graph,
-    u: NodeId,
-    v: NodeId,
-    steps: &mut Steps<L>,
-) -> Result<(), Fail> {
-    assert!(rt; graph.is_live(u));
-    assert!(rt; graph.is_live(v));
-    assert!(rt; graph.edge_count() < MOST);
-    assert!(rt; !graph.has_edge(u, v, steps));
-    graph.reserve_edge(u, v)?;
-    graph.add_edge(u, v);
-    Ok(())
-}
-
-// A graph whose nodes have these labels, a byte each.
-fn drawn<L: Ledger>(
-    rt: &impl Abort,
-    alloc: Global,
-    labels: &[u8],
-    edges: &[(NodeId, NodeId)],
-    steps: &mut Steps<L>,
-) -> Result<Graph, Fail> {
-    let mut graph = Graph::new(alloc)?;
-    for label in labels {
-        put_node(rt, alloc, &mut graph, *label)?;
-    }
-    for (u, v) in edges {
-        put_edge(rt, &mut graph, *u, *v, steps)?;
-    }
-    Ok(graph)
-}
+use test_graphs::drawn;
 
 // Whether each node has the block of the same place.
 fn is_parted(block: &[Option<u32>], numbers: &[u32]) -> bool {
@@ -81,7 +39,7 @@ fn check_chains<L: Ledger>(rt: &impl Abort, alloc: Global, blank: Blank) -> Resu
     requires some { 0 < blank.parts }
 {
     let mut steps = Steps::<L>::new(blank);
-    let chains = drawn(rt, alloc, b"abcabcx", CHAINS, &mut steps)?;
+    let chains = drawn(alloc, b"abcabcx", CHAINS, &mut steps)?;
     let (labels, first, second) = three_levels(alloc, &chains.view(&mut steps))?;
     check_levels(rt, &labels, &first, &second);
     Ok(())
@@ -114,7 +72,7 @@ fn check_children<L: Ledger>(rt: &impl Abort, alloc: Global, blank: Blank) -> Re
 {
     let mut steps = Steps::<L>::new(blank);
     // an a with a child b, and an a without
-    let graph = drawn(rt, alloc, b"aba", &[(0, 1)], &mut steps)?;
+    let graph = drawn(alloc, b"aba", &[(0, 1)], &mut steps)?;
     let (parents, both) = first_levels(alloc, &graph.view(&mut steps))?;
     check_both(rt, &parents, &both);
     Ok(())

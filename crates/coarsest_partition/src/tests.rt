@@ -6,56 +6,14 @@ use super::*;
 use crate::labels::by_labels;
 use block_partition::Blocks;
 use block_splitting::split_by;
-use label_graph::{Digraph, Graph, GraphView};
-use px_base::{NodeId, Steps, Text};
+use label_graph::{Digraph, GraphView};
+use px_base::{NodeId, Steps};
 use std::alloc::Global;
 use std::marker::Brand;
 use std::process::Abort;
 use std::sync::ledger::{Blank, Ledger};
 use std::test::Fail;
-
-const MOST: u32 = 1 << 30;
-
-fn put_node(rt: &impl Abort, alloc: Global, graph: &mut Graph, label: u8) -> Result<(), Fail> {
-    assert!(rt; graph.created() < MOST);
-    graph.reserve_node(alloc, &Text::from_bytes(alloc, &[label])?)?;
-    graph.add_node();
-    Ok(())
-}
-
-fn put_edge<L: Ledger>(
-    rt: &impl Abort,
-    graph: &mut Graph,
-    u: NodeId,
-    v: NodeId,
-    steps: &mut Steps<L>,
-) -> Result<(), Fail> {
-    assert!(rt; graph.is_live(u));
-    assert!(rt; graph.is_live(v));
-    assert!(rt; graph.edge_count() < MOST);
-    assert!(rt; !graph.has_edge(u, v, steps));
-    graph.reserve_edge(u, v)?;
-    graph.add_edge(u, v);
-    Ok(())
-}
-
-// A graph whose nodes have these labels, a byte each.
-fn drawn<L: Ledger>(
-    rt: &impl Abort,
-    alloc: Global,
-    labels: &[u8],
-    edges: &[(NodeId, NodeId)],
-    steps: &mut Steps<L>,
-) -> Result<Graph, Fail> {
-    let mut graph = Graph::new(alloc)?;
-    for label in labels {
-        put_node(rt, alloc, &mut graph, *label)?;
-    }
-    for (u, v) in edges {
-        put_edge(rt, &mut graph, *u, *v, steps)?;
-    }
-    Ok(graph)
-}
+use test_graphs::drawn;
 
 // Whether there are so many blocks, and the nodes of each pair are in one block. Where all nodes that are to be
 // together are joined by pairs, this says what the partition is.
@@ -103,7 +61,7 @@ fn check_both<L: Ledger>(rt: &impl Abort, alloc: Global, blank: Blank) -> Result
     requires some { 0 < blank.parts }
 {
     let mut steps = Steps::<L>::new(blank);
-    let graph = drawn(rt, alloc, b"llllll", CHAINS, &mut steps)?;
+    let graph = drawn(alloc, b"llllll", CHAINS, &mut steps)?;
     let view = graph.view(&mut steps);
     check_chains(rt, alloc, &view)?;
     check_splitter(rt, alloc, &view, 1, 3, SPLIT_CHAINS)
@@ -123,7 +81,7 @@ fn check_rings<L: Ledger>(rt: &impl Abort, alloc: Global, blank: Blank) -> Resul
     requires some { 0 < blank.parts }
 {
     let mut steps = Steps::<L>::new(blank);
-    let graph = drawn(rt, alloc, b"aaa", RINGS, &mut steps)?;
+    let graph = drawn(alloc, b"aaa", RINGS, &mut steps)?;
     let both = full_bisimulation_both_ways(alloc, &graph.view(&mut steps))?;
     assert!(rt; is_parted(&both, 1, &[(0, 1), (1, 2)]));
     Ok(())
@@ -141,7 +99,7 @@ fn check_one_edge<L: Ledger>(rt: &impl Abort, alloc: Global, blank: Blank) -> Re
     requires some { 0 < blank.parts }
 {
     let mut steps = Steps::<L>::new(blank);
-    let graph = drawn(rt, alloc, b"aba", &[(0, 1)], &mut steps)?;
+    let graph = drawn(alloc, b"aba", &[(0, 1)], &mut steps)?;
     check_splitter(rt, alloc, &graph.view(&mut steps), 2, 3, &[])
 }
 

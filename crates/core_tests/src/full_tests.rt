@@ -295,9 +295,7 @@ fn branches_give(engine: &mut Engine, alloc: Global) -> bool
 
 /// Whether each of a few queries has its answers over the small graph, however it is asked.
 #[derive(Drop)]
-struct Asks {
-    alloc: Global,
-}
+struct Asks {}
 
 impl EngineTask for Asks {
     ghost use Rattle.std.specs.Prelude.{⊤};
@@ -306,16 +304,15 @@ impl EngineTask for Asks {
 
     ghost gives = { λ _ _. ⊤ };
 
-    fn carry_out(self, engine: &mut Engine) -> bool {
-        opens(engine, self.alloc)
-            && grows(engine, self.alloc)
-            && paths_give(engine, self.alloc)
-            && branches_give(engine, self.alloc)
+    fn carry_out(self, alloc: Global, engine: &mut Engine) -> bool {
+        opens(engine, alloc)
+            && grows(engine, alloc)
+            && paths_give(engine, alloc)
+            && branches_give(engine, alloc)
     }
 }
 
 #[test]
 fn each_index_gives_the_graphs_answers(rt: HostRuntime) {
-    let alloc = rt.alloc();
-    assert_eq!(rt; with_full_engine(alloc, Asks { alloc }), Ok(true));
+    assert_eq!(rt; with_full_engine(rt.alloc(), Asks {}), Ok(true));
 }

@@ -5,57 +5,17 @@ ghost use Rattle.extent_report.specs.Summaries.{LabelsHaveTexts};
 use super::*;
 use block_partition::Blocks;
 use index_api::Via;
-use label_graph::{Digraph, Graph, GraphView, Labels};
-use px_base::{NodeId, Steps, Text};
+use label_graph::{Digraph, GraphView, Labels};
+use px_base::{NodeId, Steps};
 use quotient::Summary;
 use std::alloc::Global;
 use std::marker::Brand;
 use std::process::Abort;
 use std::sync::ledger::{Blank, Ledger};
 use std::test::Fail;
+use test_graphs::drawn;
 
 const MOST: u32 = 1 << 30;
-
-// Adds a node whose label is this byte.
-fn put_node(rt: &impl Abort, alloc: Global, graph: &mut Graph, label: u8) -> Result<(), Fail> {
-    assert!(rt; graph.created() < MOST);
-    graph.reserve_node(alloc, &Text::from_bytes(alloc, &[label])?)?;
-    graph.add_node();
-    Ok(())
-}
-
-fn put_edge<L: Ledger>(
-    rt: &impl Abort,
-    graph: &mut Graph,
-    u: NodeId,
-    v: NodeId,
-    steps: &mut Steps<L>,
-) -> Result<(), Fail> {
-    assert!(rt; graph.is_live(u));
-    assert!(rt; graph.is_live(v));
-    assert!(rt; graph.edge_count() < MOST);
-    assert!(rt; !graph.has_edge(u, v, steps));
-    graph.reserve_edge(u, v)?;
-    graph.add_edge(u, v);
-    Ok(())
-}
-
-fn drawn<L: Ledger>(
-    rt: &impl Abort,
-    alloc: Global,
-    labels: &[u8],
-    edges: &[(NodeId, NodeId)],
-    steps: &mut Steps<L>,
-) -> Result<Graph, Fail> {
-    let mut graph = Graph::new(alloc)?;
-    for label in labels {
-        put_node(rt, alloc, &mut graph, *label)?;
-    }
-    for (u, v) in edges {
-        put_edge(rt, &mut graph, *u, *v, steps)?;
-    }
-    Ok(graph)
-}
 
 fn put_block(rt: &impl Abort, blocks: &mut Blocks, label: u32) -> Result<(), Fail> {
     assert!(rt; blocks.numbers() < MOST);
@@ -185,7 +145,7 @@ fn check_row<L: Ledger>(
     row: &Row,
     steps: &mut Steps<L>,
 ) -> Result<(), Fail> {
-    let graph = drawn(rt, alloc, row.labels, row.edges, steps)?;
+    let graph = drawn(alloc, row.labels, row.edges, steps)?;
     let summary = summary_of(rt, alloc, row, &graph.view(steps))?;
     check_texts(rt, alloc, &summary, graph.labels(), row)
 }

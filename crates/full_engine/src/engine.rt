@@ -13,14 +13,14 @@ use std::alloc::Global;
 
 /// What is done with an engine that keeps all indexes: the A(k)-indexes, the 1-index, and the forward and backward index.
 pub trait EngineTask: Drop {
-    /// What comes of it.
+    /// What the task answers.
     type Answer: Drop;
 
     /// What holds of the answer.
     ghost gives: { Self → Self.Answer → Type 0 };
 
-    /// Does it. The engine isn't open yet.
-    fn carry_out(self, engine: &mut Engine) -> Self::Answer
+    /// Does it, with memory from this allocator. The engine isn't open yet.
+    fn carry_out(self, alloc: Global, engine: &mut Engine) -> Self::Answer
         requires kinds { kinds_of (map (λ b. meaning (b.vtable, b.value)) engine.old.boxes.items) ≡ Kind.A ∷ Kind.One ∷ Kind.Fb ∷ [] }
         requires closed { opened_of engine.old.state ≡ None }
         requires sound { IsSound (engine_seen (map (λ b. meaning (b.vtable, b.value)) engine.old.boxes.items) engine.old.state) }
@@ -39,6 +39,6 @@ pub fn with_full_engine<T: EngineTask>(alloc: Global, task: T) -> Result<T::Answ
     boxes.push(Box::new(alloc, OneKept::new(alloc)?)?)?;
     boxes.push(Box::new(alloc, FbIndex::new(alloc)?)?)?;
     let mut engine = Engine::new(boxes);
-    let answer = task.carry_out(&mut engine);
+    let answer = task.carry_out(alloc, &mut engine);
     Ok(answer)
 }

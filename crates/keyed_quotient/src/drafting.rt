@@ -243,7 +243,7 @@ impl KeyedDraft {
         Ok(())
     }
 
-    /// Drops all that is drafted. It takes no memory.
+    /// Drops all that is drafted. It takes no memory, and time linear in the largest size that the draft has had.
     pub fn clear(&mut self)
         ensures empty { self.new ≡ no_keyed_changes }
     {

@@ -22,7 +22,7 @@ pub record AreApart (key : ℕ → Option (List ℕ)) : Type 0 where
 pub record KeysStay (key key2 : ℕ → Option (List ℕ)) : Type 0 where
   pub kept : (b : ℕ) (numbers : List ℕ) → key b ≡ Some numbers → key2 b ≡ Some numbers
 
--- nodes that more than so many edges part from the targets have the blocks that they had
+-- nodes that aren't within so many edges of the targets have the blocks that they had
 pub record SameFar (target : ℕ → Bool) (s : Shape) (i : ℕ) (block block2 : List (Option ℕ)) : Type 0 where
   pub same : (n : ℕ) → IsFalse (near s target i n) → at block2 n ≡ at block n
 

@@ -37,10 +37,9 @@ fn load_triples(alloc: Global, triples: &str) -> Option<Graph>
     ensures { IfSome result (λ g. Loads program_limits triples.now (loaded g.graph)) }
 {
     let name = Text::from_bytes(alloc, b"triples").ok()?;
+    let bytes = triples.as_bytes().to_vec(alloc).ok()?;
     let mut files = Vec::new(alloc);
-    files
-        .push((name, triples.as_bytes().to_vec(alloc).ok()?))
-        .ok()?;
+    files.push((name, bytes)).ok()?;
     let mut shelf = MemShelf::new(files, 64, Vec::new(alloc));
     load(alloc, &mut shelf, "triples", &Limits::program()).ok()
 }
@@ -65,8 +64,7 @@ fn nodes_of(alloc: Global, engine: &mut Engine, text: &str) -> Option<Bits>
     ensures { IfSome result (λ nodes. (e : Expr) × Spells text.now e × AreQueryAnswers (shape_of (graph_in (opened_of engine.old.state))) (path e) nodes.members) }
 {
     let expr = PathExpr::parse(alloc, text.as_bytes(), &Limits::program()).ok()?;
-    let nodes = ask::<Brand>(alloc, engine, &expr, Blank::new(1)).ok()?;
-    Some(nodes)
+    ask::<Brand>(alloc, engine, &expr, Blank::new(1)).ok()
 }
 
 /// What the engine answers, with a count of its steps.
@@ -84,14 +82,12 @@ fn ask<L: Ledger>(
     ensures { IfOk result (λ nodes. AreQueryAnswers (shape_of (graph_in (opened_of engine.old.state))) (path expr.now) nodes.members) }
 {
     let mut steps = Steps::<L>::new(blank);
-    let answer = engine.path(alloc, Via::One, expr, &mut steps)?;
-    Ok(answer.nodes)
+    Ok(engine.path(alloc, Via::One, expr, &mut steps)?.nodes)
 }
 
 /// Where a path leads in the graph of the triples, once Bo knows Ana too.
 #[derive(Drop)]
 struct Question<'a> {
-    alloc: Global,
     triples: &'a str,
     path: &'a str,
 }
@@ -104,20 +100,20 @@ impl EngineTask for Question<'_> {
 
     ghost gives = { λ q answer. IfSome answer (λ nodes. AreAnswers q.triples.now q.path.now nodes.members) };
 
-    fn carry_out(self, engine: &mut Engine) -> Option<Bits> {
-        let graph = load_triples(self.alloc, self.triples)?;
-        link(self.alloc, engine, graph)?;
-        nodes_of(self.alloc, engine, self.path)
+    fn carry_out(self, alloc: Global, engine: &mut Engine) -> Option<Bits> {
+        let graph = load_triples(alloc, self.triples)?;
+        link(alloc, engine, graph)?;
+        nodes_of(alloc, engine, self.path)
     }
 }
 
 fn main(rt: HostRuntime) -> io::Result<ExitCode> {
     let question = Question {
-        alloc: rt.alloc(),
         triples: TRIPLES,
         path: PATH,
     };
     let Ok(Some(nodes)) = with_full_engine(rt.alloc(), question) else {
+        eprintln!(rt; "library_use: there is no answer")?;
         return Ok(ExitCode::FAILURE);
     };
     for node in 0..nodes.size() {

@@ -14,8 +14,8 @@ use std::alloc::Global;
 use std::sync::ledger::Ledger;
 
 /// Searches the graph after a change for all nodes to which edges lead from its targets, each once, in the order of their
-/// distance. The search ends once a round meets no new node. The children of each node that is found are read once: at most a
-/// step for each node, one for each of its children, and one for the edge that the change takes away. The memory is that of these
+/// distance. The search ends once a round meets no new node. The children of each node that is found are read once. It takes
+/// at most `w + 1` steps, where `w` is one for each node that is found, one for each of its parents and one for each of its children. The memory is that of these
 /// nodes, whatever the size of the graph; the one error is that it runs out.
 pub fn reached_nodes<L: Ledger>(
     alloc: Global,

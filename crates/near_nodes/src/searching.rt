@@ -47,8 +47,8 @@ impl NearNodes {
 }
 
 /// Searches the graph after a change for the nodes to which at most `k` edges lead from its targets. The children of each of them
-/// that is nearer than `k` are read once: at most a step for each node that is found, one for each of its children, and one
-/// for the edge that the change takes away. No step is taken where `k` is 0.
+/// that is nearer than `k` are read once. It takes at most `w + 1` steps, where `w` is one for each node that is found, one for each of its
+/// parents and one for each of its children, and no step where `k` is 0.
 pub fn near_nodes<L: Ledger>(
     alloc: Global,
     after: &After<'_>,

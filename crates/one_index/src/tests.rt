@@ -3,59 +3,15 @@ ghost use Rattle.std.specs.Prelude.{◌≡◌, ◌<◌, ◌≤◌, length};
 
 use super::*;
 use block_partition::Blocks;
-use label_graph::{Digraph, Graph, GraphView};
-use px_base::{Memory, NodeId, Steps, Text};
+use label_graph::{Digraph, GraphView};
+use px_base::{Memory, NodeId, Steps};
 use quotient::Summary;
 use std::alloc::Global;
 use std::marker::Brand;
 use std::process::Abort;
 use std::sync::ledger::{Blank, Ledger};
 use std::test::Fail;
-
-const MOST: u32 = 1 << 30;
-
-// Adds a node with that label.
-fn put_node(rt: &impl Abort, alloc: Global, graph: &mut Graph, label: u8) -> Result<(), Fail> {
-    assert!(rt; graph.created() < MOST);
-    graph.reserve_node(alloc, &Text::from_bytes(alloc, &[label])?)?;
-    graph.add_node();
-    Ok(())
-}
-
-// Adds an edge between live nodes that isn't there yet.
-fn put_edge<L: Ledger>(
-    rt: &impl Abort,
-    graph: &mut Graph,
-    u: NodeId,
-    v: NodeId,
-    steps: &mut Steps<L>,
-) -> Result<(), Fail> {
-    assert!(rt; graph.is_live(u));
-    assert!(rt; graph.is_live(v));
-    assert!(rt; graph.edge_count() < MOST);
-    assert!(rt; !graph.has_edge(u, v, steps));
-    graph.reserve_edge(u, v)?;
-    graph.add_edge(u, v);
-    Ok(())
-}
-
-// A graph whose nodes have these labels, a byte each.
-fn drawn<L: Ledger>(
-    rt: &impl Abort,
-    alloc: Global,
-    labels: &[u8],
-    edges: &[(NodeId, NodeId)],
-    steps: &mut Steps<L>,
-) -> Result<Graph, Fail> {
-    let mut graph = Graph::new(alloc)?;
-    for label in labels {
-        put_node(rt, alloc, &mut graph, *label)?;
-    }
-    for (u, v) in edges {
-        put_edge(rt, &mut graph, *u, *v, steps)?;
-    }
-    Ok(graph)
-}
+use test_graphs::drawn;
 
 // Makes blocks with these labels.
 fn put_blocks(blocks: &mut Blocks, labels: &[u32])
@@ -234,7 +190,7 @@ fn check_row<L: Ledger>(
     requires some { 0 < blank.parts }
 {
     let mut steps = Steps::<L>::new(blank);
-    let graph = drawn(rt, alloc, row.nodes, row.edges, &mut steps)?;
+    let graph = drawn(alloc, row.nodes, row.edges, &mut steps)?;
     let view = graph.view(&mut steps);
     let summary = Summary::of(alloc, parted(rt, alloc, row.labels, row.members)?, &view)?;
     assert!(rt; is_right(&summary, &view, row));

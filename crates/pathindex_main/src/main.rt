@@ -5,6 +5,7 @@ use full_engine::{EngineTask, with_full_engine};
 use pathindex_core::Engine;
 use pathindex_run::{HostShelf, HostSink, Status, break_reason, run};
 use px_base::Memory;
+use std::alloc::Global;
 use std::env::Env;
 use std::io::ErrorKind;
 use std::process::ExitCode;
@@ -36,13 +37,13 @@ impl<'a, R: Files + Print + AllocGlobal> EngineTask for Run<'a, R> {
 
     type Answer = u8;
 
-    // Real files tell nothing, so nothing is said of the status.
+    // `run` says what the status is by what files and output tell of themselves, and real ones tell nothing.
     ghost gives = { λ _ _. ⊤ };
 
-    fn carry_out(self, engine: &mut Engine) -> u8 {
+    fn carry_out(self, alloc: Global, engine: &mut Engine) -> u8 {
         let mut shelf = HostShelf::new(self.rt);
         let mut sink = HostSink::new(self.rt);
-        run(self.rt.alloc(), self.words, engine, &mut shelf, &mut sink)
+        run(alloc, self.words, engine, &mut shelf, &mut sink)
     }
 }
 

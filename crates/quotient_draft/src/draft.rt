@@ -19,7 +19,7 @@ use std::marker::Model;
 /// labels must stay while something is drafted, and what is shown follows the base's blocks and supports.
 ///
 /// Each call takes constant time but for hashing, except `new_block`, which looks for the next free number, and
-/// the calls that read or write lists, which say what they take.
+/// `clear` and the calls that read or write lists, which say what they take.
 #[derive(Drop)]
 pub struct Draft {
     pub(crate) added: Added,
@@ -159,7 +159,7 @@ impl Draft {
         Ok(())
     }
 
-    /// Drops all that is drafted. It takes no memory.
+    /// Drops all that is drafted. It takes no memory, and time linear in the largest size that the draft has had.
     pub fn clear(&mut self)
         ensures empty { self.new ≡ no_changes }
         ensures over { (block labels : List (Option ℕ)) → IsOver block labels self.new }

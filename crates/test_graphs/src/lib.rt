@@ -1,0 +1,60 @@
+//! Small graphs for the tests of other crates.
+#![tactic(auto)]
+
+ghost use Rattle.std.specs.Prelude.{◌<◌};
+
+use label_graph::Graph;
+use px_base::{NodeId, Steps, Text};
+use std::alloc::Global;
+use std::sync::ledger::Ledger;
+use std::test::Fail;
+
+/// How many nodes and how many edges a graph has at most.
+const MOST: u32 = 1 << 30;
+
+fn put_node(alloc: Global, graph: &mut Graph, label: u8) -> Result<(), Fail> {
+    if graph.created() >= MOST {
+        return Err("there are too many nodes".into());
+    }
+    graph.reserve_node(alloc, &Text::from_bytes(alloc, &[label])?)?;
+    graph.add_node();
+    Ok(())
+}
+
+fn put_edge<L: Ledger>(
+    graph: &mut Graph,
+    u: NodeId,
+    v: NodeId,
+    steps: &mut Steps<L>,
+) -> Result<(), Fail> {
+    if !graph.is_live(u) || !graph.is_live(v) {
+        return Err("an edge ends at no node".into());
+    }
+    if graph.edge_count() >= MOST {
+        return Err("there are too many edges".into());
+    }
+    if graph.has_edge(u, v, steps) {
+        return Err("an edge comes twice".into());
+    }
+    graph.reserve_edge(u, v)?;
+    graph.add_edge(u, v);
+    Ok(())
+}
+
+/// A graph whose nodes have these labels, a byte each, and these edges. It fails where an edge comes twice or one of its ends is no
+/// node. O(nodes + edges) but for the reads of `Graph::has_edge`.
+pub fn drawn<L: Ledger>(
+    alloc: Global,
+    labels: &[u8],
+    edges: &[(NodeId, NodeId)],
+    steps: &mut Steps<L>,
+) -> Result<Graph, Fail> {
+    let mut graph = Graph::new(alloc)?;
+    for label in labels {
+        put_node(alloc, &mut graph, *label)?;
+    }
+    for (u, v) in edges {
+        put_edge(&mut graph, *u, *v, steps)?;
+    }
+    Ok(graph)
+}
