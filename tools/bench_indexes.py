@@ -1,7 +1,7 @@
 #!/usr/bin/env python3
 """Has bin/pathindex build the 1-index and the forward and backward index of generated graphs of three shapes, and prints what each
-build takes above a load, in time and in memory, what a path query takes through each index, and what a branching query takes of
-the graph itself and through the forward and backward index. The gate doesn't run this.
+build takes above a load, in time and in memory, what path queries take of the graph itself and through each index, and what a
+branching query takes of the graph and through the forward and backward index. The gate doesn't run this.
 
     bench_indexes.py [PROGRAM]
 
@@ -23,12 +23,21 @@ QUERIES = 200
 # the script of each query, by its name, and the index that it needs
 ASKED = {
     "path data": ("none", f"path data {QUERY}"),
+    "path data, a choice": ("none", "path data (<http://e/p0>|<http://e/p1>)/iri//literal"),
+    "path data, repeated": ("none", "path data _*/iri/_+"),
+    "path a2": ("a", f"path a2 {QUERY}"),
     "path one": ("one", f"path one {QUERY}"),
     "path fb": ("fb", f"path fb {QUERY}"),
     "branch data": ("none", f"branch data {BRANCH}"),
     "branch fb": ("fb", f"branch fb {BRANCH}"),
 }
-INDEXES = {"none": ["--without-one", "--without-fb"], "one": ["--without-fb"], "fb": ["--without-one"]}
+LEVELS = ["--k", "0"]
+INDEXES = {
+    "none": [*LEVELS, "--without-one", "--without-fb"],
+    "a": ["--k", "2", "--without-one", "--without-fb"],
+    "one": [*LEVELS, "--without-fb"],
+    "fb": [*LEVELS, "--without-one"],
+}
 
 
 def run(command):
@@ -56,7 +65,7 @@ def measure(program, folder, kind, count, turns):
     text = os.path.join(folder, f"{kind}{count}.nt")
     with open(text, "wb") as out:
         subprocess.run([sys.executable, MAKE, str(count), "1", kind], stdout=out, check=True)
-    words = ["--graph", text, "--k", "0"]
+    words = ["--graph", text]
     commands = {name: [program, os.path.join(folder, "empty"), *words, *flags] for name, flags in INDEXES.items()}
     for name, (kept, _) in ASKED.items():
         commands[name] = [program, os.path.join(folder, name), *words, *INDEXES[kept]]

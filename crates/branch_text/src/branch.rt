@@ -75,7 +75,7 @@ impl Branch {
     }
 
     /// The relaxed form: what is denied by a `not` that stands in no other one is left out, also in the steps of a
-    /// predicate, and what holds everywhere stands in its place. Each answer of the query is one of it. Linear in the query.
+    /// predicate, and what holds everywhere stands in its place. Linear in the query.
     pub fn relax(&self, alloc: Global) -> Result<Branch, Memory>
         ensures { IfOk result (λ q. q ≡ relax self.now) }
     {

@@ -6,13 +6,14 @@ ghost use Rattle.branch_text.specs.Parsed.{has_text};
 use super::*;
 use label_graph::{Graph, GraphView};
 use path_query::ExprError;
-use px_base::{Bits, NodeId, Steps, Text};
+use px_base::{Bits, NodeId, Steps};
 use px_spec::Limits;
 use std::alloc::{AllocError, Global};
 use std::marker::Brand;
 use std::process::Abort;
 use std::sync::ledger::{Blank, Ledger};
 use std::test::Fail;
+use test_graphs::drawn;
 
 /// Texts, and what they are read as: the canonical text of a query, or the name of another answer.
 const TEXTS: &[(&str, &str)] = &[
@@ -148,50 +149,10 @@ fn brackets_nest_64_deep(rt: HostRuntime) {
     }
 }
 
-const MOST: u32 = 100;
-
 /// The labels of six nodes, a byte each, and their edges.
 const NODES: &[u8] = b"abccad";
 
 const EDGES: &[(NodeId, NodeId)] = &[(0, 1), (1, 2), (0, 3), (3, 4), (4, 4)];
-
-fn add_node(rt: &impl Abort, alloc: Global, graph: &mut Graph, label: u8) -> Result<(), Fail> {
-    assert!(rt; graph.created() < MOST);
-    graph.reserve_node(alloc, &Text::from_bytes(alloc, &[label])?)?;
-    graph.add_node();
-    Ok(())
-}
-
-fn add_edge<L: Ledger>(
-    rt: &impl Abort,
-    graph: &mut Graph,
-    from: NodeId,
-    to: NodeId,
-    steps: &mut Steps<L>,
-) -> Result<(), Fail> {
-    assert!(rt; graph.is_live(from));
-    assert!(rt; graph.is_live(to));
-    assert!(rt; !graph.has_edge(from, to, steps));
-    assert!(rt; graph.edge_count() < MOST);
-    graph.reserve_edge(from, to)?;
-    graph.add_edge(from, to);
-    Ok(())
-}
-
-fn small_graph<L: Ledger>(
-    rt: &impl Abort,
-    alloc: Global,
-    steps: &mut Steps<L>,
-) -> Result<Graph, Fail> {
-    let mut graph = Graph::new(alloc)?;
-    for label in NODES {
-        add_node(rt, alloc, &mut graph, *label)?;
-    }
-    for (from, to) in EDGES {
-        add_edge(rt, &mut graph, *from, *to, steps)?;
-    }
-    Ok(graph)
-}
 
 /// Queries, their answers over the small graph, and those of their relaxed forms.
 const ANSWERS: &[(&str, &[NodeId], &[NodeId])] = &[
@@ -290,7 +251,7 @@ fn check_small_graph<L: Ledger>(rt: &impl Abort, alloc: Global, blank: Blank) ->
     requires some { 0 < blank.parts }
 {
     let mut steps = Steps::<L>::new(blank);
-    let graph = small_graph(rt, alloc, &mut steps)?;
+    let graph = drawn(alloc, NODES, EDGES, &mut steps)?;
     let view = graph.view(&mut steps);
     check_answers(rt, alloc, &graph, &view);
     Ok(())

@@ -80,7 +80,8 @@ impl PathExpr {
         Ok(Text::from_string(out))
     }
 
-    /// The number of labels of the longest matching word, None exactly where there is no longest. It takes no memory.
+    /// The number of labels of the longest matching word, None exactly where there is no longest, and 2^32 - 1 where it has
+    /// more. It takes no memory. Linear in the expression.
     pub fn longest(&self) -> Option<u32>
         ensures { result ≡ capped (2 ^ 32 - 1) (longest self.now) }
     {

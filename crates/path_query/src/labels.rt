@@ -92,7 +92,7 @@ fn opens_iri(text: &[u8]) -> bool
 
 /// The label at the front of the text, and how many bytes spell it. Where a label stands there and no
 /// name goes on behind it, that one is read. None where no label stands there. Linear in what it reads.
-pub fn read_front(alloc: Global, text: &[u8]) -> Result<Option<(Text, usize)>, Memory>
+pub(crate) fn read_front(alloc: Global, text: &[u8]) -> Result<Option<(Text, usize)>, Memory>
     ensures found { IfOk result (λ r. IfSome r (λ f. IsLabelFront text.now f.1 f.0)) }
     ensures only { (n : ℕ) (t : List ℕ) → IsLabelFront text.now n t → EndsName (drop n text.now) → IfOk result (λ r. IsSomeAnd r (λ f. (f.0 ≡ t) × (f.1 ≡ n))) }
 {

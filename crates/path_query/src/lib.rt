@@ -15,8 +15,7 @@ mod writing;
 
 pub use answers::eval;
 pub use expr::{ExprError, PathExpr};
-pub use labels::{name_len, read_front, read_label};
-pub use marks::ends_name;
+pub use labels::{name_len, read_label};
 pub use parsing::is_past;
 pub use words::{skip_blanks, split_word, trim_end_blanks};
 

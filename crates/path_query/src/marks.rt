@@ -54,7 +54,7 @@ pub(crate) fn mark_front(text: &[u8]) -> Option<(Token, &[u8])>
 }
 
 /// Whether no name goes on into the text. O(1).
-pub fn ends_name(text: &[u8]) -> bool
+pub(crate) fn ends_name(text: &[u8]) -> bool
     ensures { IsTrue result ↔ EndsName text.now }
 {
     match text.split_first() {

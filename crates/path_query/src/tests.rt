@@ -4,13 +4,14 @@ ghost use Rattle.label_graph.specs.Views.{label_number};
 
 use super::*;
 use label_graph::{Graph, GraphView};
-use px_base::{Bits, NodeId, Steps, Text};
+use px_base::{Bits, NodeId, Steps};
 use px_spec::Limits;
 use std::alloc::Global;
 use std::marker::Brand;
 use std::process::Abort;
 use std::sync::ledger::{Blank, Ledger};
 use std::test::Fail;
+use test_graphs::drawn;
 
 /// Texts, what they are read as, and the length of the longest word: the canonical text of an expression, or the name of
 /// another answer.
@@ -123,6 +124,26 @@ fn limits_come_first(rt: HostRuntime) {
     }
 }
 
+/// Whether a chain of an `a` and so many more passes the program's limits, if it is read or passes them.
+fn is_past_program(alloc: Global, more: u32) -> Option<bool> {
+    let mut text = String::from_str(alloc, "a").ok()?;
+    for _ in 0..more {
+        text.push_str("/a").ok()?;
+    }
+    match PathExpr::parse(alloc, text.as_bytes(), &Limits::program()) {
+        Ok(_) => Some(false),
+        Err(ExprError::Limit) => Some(true),
+        Err(_) => None,
+    }
+}
+
+// They have 4,095 bytes and 4,097.
+#[test]
+fn texts_have_4096_bytes_at_most(rt: HostRuntime) {
+    assert_eq!(rt; is_past_program(rt.alloc(), 2047), Some(false));
+    assert_eq!(rt; is_past_program(rt.alloc(), 2048), Some(true));
+}
+
 /// Words, and the labels that they spell.
 const LABELS: &[(&str, &str)] = &[
     ("a", "a"),
@@ -193,50 +214,10 @@ fn blanks_alone_are_left_out(rt: HostRuntime) {
     assert!(rt; trim_end_blanks(b" \t").is_empty());
 }
 
-const MOST: u32 = 100;
-
 /// The labels of five nodes, a byte each, and their edges.
 const NODES: &[u8] = b"ababc";
 
 const EDGES: &[(NodeId, NodeId)] = &[(0, 1), (1, 4), (2, 4), (3, 3)];
-
-fn add_node(rt: &impl Abort, alloc: Global, graph: &mut Graph, label: u8) -> Result<(), Fail> {
-    assert!(rt; graph.created() < MOST);
-    graph.reserve_node(alloc, &Text::from_bytes(alloc, &[label])?)?;
-    graph.add_node();
-    Ok(())
-}
-
-fn add_edge<L: Ledger>(
-    rt: &impl Abort,
-    graph: &mut Graph,
-    from: NodeId,
-    to: NodeId,
-    steps: &mut Steps<L>,
-) -> Result<(), Fail> {
-    assert!(rt; graph.is_live(from));
-    assert!(rt; graph.is_live(to));
-    assert!(rt; !graph.has_edge(from, to, steps));
-    assert!(rt; graph.edge_count() < MOST);
-    graph.reserve_edge(from, to)?;
-    graph.add_edge(from, to);
-    Ok(())
-}
-
-fn small_graph<L: Ledger>(
-    rt: &impl Abort,
-    alloc: Global,
-    steps: &mut Steps<L>,
-) -> Result<Graph, Fail> {
-    let mut graph = Graph::new(alloc)?;
-    for label in NODES {
-        add_node(rt, alloc, &mut graph, *label)?;
-    }
-    for (from, to) in EDGES {
-        add_edge(rt, &mut graph, *from, *to, steps)?;
-    }
-    Ok(graph)
-}
 
 /// Expressions, and their answers over the small graph.
 const ANSWERS: &[(&str, &[NodeId])] = &[
@@ -298,7 +279,7 @@ fn check_small_graph<L: Ledger>(rt: &impl Abort, alloc: Global, blank: Blank) ->
     requires some { 0 < blank.parts }
 {
     let mut steps = Steps::<L>::new(blank);
-    let graph = small_graph(rt, alloc, &mut steps)?;
+    let graph = drawn(alloc, NODES, EDGES, &mut steps)?;
     let view = graph.view(&mut steps);
     check_answers(rt, alloc, &graph, &view);
     Ok(())
