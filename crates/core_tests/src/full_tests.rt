@@ -14,15 +14,15 @@ use std::alloc::Global;
 use std::marker::Brand;
 use std::sync::ledger::{Blank, Ledger};
 
-/// Opens the engine with an empty graph.
-fn opens(engine: &mut Engine, alloc: Global) -> bool
+/// Opens the engine with an empty graph under these limits.
+pub(crate) fn opens(engine: &mut Engine, alloc: Global, limits: Limits) -> bool
     requires closed { opened_of engine.old.state ≡ None }
     requires sound { IsSound (engine_seen (map (λ b. meaning (b.vtable, b.value)) engine.old.boxes.items) engine.old.state) }
     ensures open { result ≡ true → IsSome (opened_of engine.new.state) }
     ensures sound { IsSound (engine_seen (map (λ b. meaning (b.vtable, b.value)) engine.new.boxes.items) engine.new.state) }
 {
     match Graph::new(alloc) {
-        Ok(graph) => engine.open(graph, Limits::program(), 1).is_ok(),
+        Ok(graph) => engine.open(graph, limits, 1).is_ok(),
         Err(_) => false,
     }
 }
@@ -305,7 +305,7 @@ impl EngineTask for Asks {
     ghost gives = { λ _ _. ⊤ };
 
     fn carry_out(self, alloc: Global, engine: &mut Engine) -> bool {
-        opens(engine, alloc)
+        opens(engine, alloc, Limits::program())
             && grows(engine, alloc)
             && paths_give(engine, alloc)
             && branches_give(engine, alloc)

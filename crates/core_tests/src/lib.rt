@@ -4,4 +4,6 @@
 #[cfg(test)]
 mod full_tests;
 #[cfg(test)]
+mod limit_tests;
+#[cfg(test)]
 mod tests;
