@@ -2,6 +2,7 @@
 ghost use Rattle.std.specs.Prelude.{◌≡◌, ◌<◌, true, None, IsSome, map};
 ghost use Rattle.pathindex_core.specs.Engines.{engine_seen, opened_of, IsSound};
 
+use crate::calls::opens;
 use branch_text::Branch;
 use full_engine::{EngineTask, with_full_engine};
 use graph_update::Change;
@@ -13,19 +14,6 @@ use px_base::{Limits, NodeId, Steps, Text};
 use std::alloc::Global;
 use std::marker::Brand;
 use std::sync::ledger::{Blank, Ledger};
-
-/// Opens the engine with an empty graph under these limits.
-pub(crate) fn opens(engine: &mut Engine, alloc: Global, limits: Limits) -> bool
-    requires closed { opened_of engine.old.state ≡ None }
-    requires sound { IsSound (engine_seen (map (λ b. meaning (b.vtable, b.value)) engine.old.boxes.items) engine.old.state) }
-    ensures open { result ≡ true → IsSome (opened_of engine.new.state) }
-    ensures sound { IsSound (engine_seen (map (λ b. meaning (b.vtable, b.value)) engine.new.boxes.items) engine.new.state) }
-{
-    match Graph::new(alloc) {
-        Ok(graph) => engine.open(graph, limits, 1).is_ok(),
-        Err(_) => false,
-    }
-}
 
 /// Makes a change.
 fn makes(engine: &mut Engine, alloc: Global, change: Change) -> bool
@@ -305,7 +293,7 @@ impl EngineTask for Asks {
     ghost gives = { λ _ _. ⊤ };
 
     fn carry_out(self, alloc: Global, engine: &mut Engine) -> bool {
-        opens(engine, alloc, Limits::program())
+        opens(engine, Graph::new(alloc).ok(), Limits::program())
             && grows(engine, alloc)
             && paths_give(engine, alloc)
             && branches_give(engine, alloc)

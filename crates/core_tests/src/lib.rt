@@ -2,8 +2,12 @@
 #![tactic(auto)]
 
 #[cfg(test)]
+mod calls;
+#[cfg(test)]
 mod full_tests;
 #[cfg(test)]
 mod limit_tests;
 #[cfg(test)]
-mod tests;
+mod tired;
+#[cfg(test)]
+mod tired_tests;

@@ -2,34 +2,13 @@
 ghost use Rattle.std.specs.Prelude.{IsSome, map};
 ghost use Rattle.pathindex_core.specs.Engines.{engine_seen, opened_of, IsSound};
 
-use crate::full_tests::opens;
-use crate::tests::{FEW, lists, node};
+use crate::calls::{FEW, adds_node, fails_to_add, lists, opens};
 use full_engine::{EngineTask, with_full_engine};
-use graph_update::Applied;
 use index_api::Via;
+use label_graph::Graph;
 use pathindex_core::{Engine, UpdateError};
 use px_base::Refusal;
 use std::alloc::Global;
-
-/// Whether one more node is added with that number.
-fn adds(engine: &mut Engine, alloc: Global, number: u32) -> bool
-    requires open { IsSome (opened_of engine.old.state) }
-    requires sound { IsSound (engine_seen (map (λ b. meaning (b.vtable, b.value)) engine.old.boxes.items) engine.old.state) }
-    ensures open { IsSome (opened_of engine.new.state) }
-    ensures sound { IsSound (engine_seen (map (λ b. meaning (b.vtable, b.value)) engine.new.boxes.items) engine.new.state) }
-{
-    node(engine, alloc) == Some(Ok(Applied::Added(number)))
-}
-
-/// Whether one more node is refused for its limit.
-fn refuses(engine: &mut Engine, alloc: Global) -> bool
-    requires open { IsSome (opened_of engine.old.state) }
-    requires sound { IsSound (engine_seen (map (λ b. meaning (b.vtable, b.value)) engine.old.boxes.items) engine.old.state) }
-    ensures open { IsSome (opened_of engine.new.state) }
-    ensures sound { IsSound (engine_seen (map (λ b. meaning (b.vtable, b.value)) engine.new.boxes.items) engine.new.state) }
-{
-    node(engine, alloc) == Some(Err(UpdateError::Refused(Refusal::Limit)))
-}
 
 /// Whether there are two nodes, together in each index.
 fn has_two(engine: &mut Engine, alloc: Global) -> bool
@@ -51,7 +30,7 @@ fn fills(engine: &mut Engine, alloc: Global) -> bool
     ensures open { IsSome (opened_of engine.new.state) }
     ensures sound { IsSound (engine_seen (map (λ b. meaning (b.vtable, b.value)) engine.new.boxes.items) engine.new.state) }
 {
-    adds(engine, alloc, 0) && adds(engine, alloc, 1)
+    adds_node(engine, alloc, 0) && adds_node(engine, alloc, 1)
 }
 
 /// Whether a third node is refused, and leaves the graph and its indexes as they were.
@@ -66,9 +45,9 @@ impl EngineTask for Overfills {
     ghost gives = { λ _ _. ⊤ };
 
     fn carry_out(self, alloc: Global, engine: &mut Engine) -> bool {
-        opens(engine, alloc, FEW)
+        opens(engine, Graph::new(alloc).ok(), FEW)
             && fills(engine, alloc)
-            && refuses(engine, alloc)
+            && fails_to_add(engine, alloc, UpdateError::Refused(Refusal::Limit))
             && has_two(engine, alloc)
     }
 }

@@ -120,6 +120,7 @@ fn ask_kept<L: Ledger>(
     ensures kept { All (IsKeptFor (opened state.now)) (map meaning boxes.new.items) }
     ensures answered { IfOk result (λ answer. IsAnswered state.now.graph.graph (kept_of (map meaning boxes.old.items) state.now.k) via (query_of query.now) answer.how answer.nodes.members) }
     ensures no_index { (result ≡ Err AskError.NoIndex) ↔ (is_kept (kept_of (map meaning boxes.old.items) state.now.k) via ≡ false) }
+    ensures computed { via ≡ Fb → OnOk result (IsFbComputed (map meaning boxes.new.items)) }
     ensures cost { IsExact via (query_of query.now) → steps.new ≤ steps.old + 1 + live_count state.now.graph.graph + edge_count state.now.graph.graph }
     ensures free { IsExact via (query_of query.now) → via ≢ Fb → steps.new ≡ steps.old }
     ensures still { IsExact via (query_of query.now) → IsFbComputed (map meaning boxes.old.items) → steps.new ≡ steps.old }
@@ -144,6 +145,7 @@ pub(crate) fn ask<L: Ledger>(
     ensures kept { All (IsKeptFor (opened state.now)) (map meaning boxes.new.items) }
     ensures answered { IfOk result (λ answer. IsAnswered state.now.graph.graph (kept_of (map meaning boxes.old.items) state.now.k) via (query_of query.now) answer.how answer.nodes.members) }
     ensures no_index { (result ≡ Err AskError.NoIndex) ↔ IsUnkept (kept_of (map meaning boxes.old.items) state.now.k) via }
+    ensures computed { via ≡ Fb → OnOk result (IsFbComputed (map meaning boxes.new.items)) }
     ensures graph { via ≡ Data → steps.new ≡ steps.old + 1 + live_count state.now.graph.graph + edge_count state.now.graph.graph }
     ensures cost { IsExact via (query_of query.now) → steps.new ≤ steps.old + 1 + live_count state.now.graph.graph + edge_count state.now.graph.graph }
     ensures free { IsExact via (query_of query.now) → via ≢ Fb → steps.new ≡ steps.old }

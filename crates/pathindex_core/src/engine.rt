@@ -175,6 +175,7 @@ impl Engine {
         ensures kept { kept_of (map meaning self.new.boxes.items) (level_in (opened_of self.old.state)) ≡ kept_of (map meaning self.old.boxes.items) (level_in (opened_of self.old.state)) }
         ensures answered { IfOk result (λ answer. IsAnswered (graph_in (opened_of self.old.state)) (kept_of (map meaning self.old.boxes.items) (level_in (opened_of self.old.state))) via (path expr.now) answer.how answer.nodes.members) }
         ensures no_index { (result ≡ Err AskError.NoIndex) ↔ IsUnkept (kept_of (map meaning self.old.boxes.items) (level_in (opened_of self.old.state))) via }
+        ensures computed { via ≡ TheFb → OnOk result (IsFbComputed (map meaning self.new.boxes.items)) }
         ensures graph { via ≡ TheGraph → steps.new ≡ steps.old + 1 + live_count (graph_in (opened_of self.old.state)) + edge_count (graph_in (opened_of self.old.state)) }
         ensures cost { IsExact via (path expr.now) → steps.new ≤ steps.old + 1 + live_count (graph_in (opened_of self.old.state)) + edge_count (graph_in (opened_of self.old.state)) }
         ensures free { IsExact via (path expr.now) → via ≢ TheFb → steps.new ≡ steps.old }
@@ -203,6 +204,7 @@ impl Engine {
         ensures kept { kept_of (map meaning self.new.boxes.items) (level_in (opened_of self.old.state)) ≡ kept_of (map meaning self.old.boxes.items) (level_in (opened_of self.old.state)) }
         ensures answered { IfOk result (λ answer. IsAnswered (graph_in (opened_of self.old.state)) (kept_of (map meaning self.old.boxes.items) (level_in (opened_of self.old.state))) via (branch query.now) answer.how answer.nodes.members) }
         ensures no_index { (result ≡ Err AskError.NoIndex) ↔ IsUnkept (kept_of (map meaning self.old.boxes.items) (level_in (opened_of self.old.state))) via }
+        ensures computed { via ≡ TheFb → OnOk result (IsFbComputed (map meaning self.new.boxes.items)) }
         ensures graph { via ≡ TheGraph → steps.new ≡ steps.old + 1 + live_count (graph_in (opened_of self.old.state)) + edge_count (graph_in (opened_of self.old.state)) }
         ensures cost { IsExact via (branch query.now) → steps.new ≤ steps.old + 1 + live_count (graph_in (opened_of self.old.state)) + edge_count (graph_in (opened_of self.old.state)) }
         ensures free { IsExact via (branch query.now) → via ≢ TheFb → steps.new ≡ steps.old }
@@ -215,9 +217,10 @@ impl Engine {
         }
     }
 
-    /// The list of the blocks of an index that isn't the graph itself, each with its nodes. `NoIndex` comes exactly where the index isn't kept, memory or not. That of
-    /// the forward and backward index is first computed, where it isn't; no other call to this function computes anything. An error
-    /// leaves the graph and each view that is computed.
+    /// The list of the blocks of an index that isn't the graph itself, each with its nodes. `NoIndex` comes exactly where the index
+    /// isn't kept, memory or not. That of the forward and backward index is first computed, where it isn't, at the cost of a view of the
+    /// graph; else nothing of the graph is read, and the list costs what it has of nodes and bytes. An error leaves the graph and each
+    /// view that is computed.
     pub fn extents<L: Ledger>(
         &mut self,
         alloc: Global,
@@ -234,6 +237,9 @@ impl Engine {
         ensures others { via ≢ TheFb → map meaning self.new.boxes.items ≡ map meaning self.old.boxes.items }
         ensures text { IfOk result (ListsIndex (graph_in (opened_of self.old.state)) (kept_of (map meaning self.old.boxes.items) (level_in (opened_of self.old.state))) via) }
         ensures no_index { (result ≡ Err AskError.NoIndex) ↔ (is_kept (kept_of (map meaning self.old.boxes.items) (level_in (opened_of self.old.state))) via ≡ false) }
+        ensures computed { via ≡ TheFb → OnOk result (IsFbComputed (map meaning self.new.boxes.items)) }
+        ensures free { via ≢ TheFb → steps.new ≡ steps.old }
+        ensures still { IsFbComputed (map meaning self.old.boxes.items) → steps.new ≡ steps.old }
         ensures cost { steps.new ≤ steps.old + 1 + live_count (graph_in (opened_of self.old.state)) + edge_count (graph_in (opened_of self.old.state)) }
     {
         match &self.state {
@@ -243,7 +249,8 @@ impl Engine {
     }
 
     /// The size of the graph and of each index that is kept, in the order of `Via::nth`. The forward and backward index is first
-    /// computed, where it is kept and isn't. Want of memory leaves the graph and each view that is computed.
+    /// computed, where it is kept and isn't, at the cost of a view of the graph; else nothing of the graph is read. `Memory` leaves the
+    /// graph and each view that is computed.
     pub fn sizes<L: Ledger>(&mut self, alloc: Global, steps: &mut Steps<L>) -> Result<Text, Memory>
         requires open { IsSome (opened_of self.old.state) }
         requires sound { IsSound (engine_seen (map meaning self.old.boxes.items) self.old.state) }
@@ -252,6 +259,8 @@ impl Engine {
         ensures keeps { EachBecomes KeepsViews (map meaning self.old.boxes.items) (map meaning self.new.boxes.items) }
         ensures kept { kept_of (map meaning self.new.boxes.items) (level_in (opened_of self.old.state)) ≡ kept_of (map meaning self.old.boxes.items) (level_in (opened_of self.old.state)) }
         ensures text { IfOk result (ListsSizes (graph_in (opened_of self.old.state)) (kept_of (map meaning self.old.boxes.items) (level_in (opened_of self.old.state)))) }
+        ensures computed { OnOk result (IsFbComputed (map meaning self.new.boxes.items)) }
+        ensures still { IsFbComputed (map meaning self.old.boxes.items) → steps.new ≡ steps.old }
         ensures cost { steps.new ≤ steps.old + 1 + live_count (graph_in (opened_of self.old.state)) + edge_count (graph_in (opened_of self.old.state)) }
     {
         match &self.state {

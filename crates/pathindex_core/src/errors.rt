@@ -1,5 +1,5 @@
 // Why an engine refuses.
-use px_base::{Memory, Refusal};
+use px_base::Refusal;
 
 /// Why a change isn't made.
 #[derive(Clone, Copy, Debug, PartialEq, Eq, Drop)]
@@ -10,12 +10,6 @@ pub enum UpdateError {
     Memory,
 }
 
-impl From<Memory> for UpdateError {
-    fn from(_memory: Memory) -> UpdateError {
-        UpdateError::Memory
-    }
-}
-
 /// Why a query or a list isn't answered.
 #[derive(Clone, Copy, Debug, PartialEq, Eq, Drop)]
 pub enum AskError {
@@ -23,10 +17,4 @@ pub enum AskError {
     NoIndex,
     /// Want of memory.
     Memory,
-}
-
-impl From<Memory> for AskError {
-    fn from(_memory: Memory) -> AskError {
-        AskError::Memory
-    }
 }

@@ -53,6 +53,9 @@ pub(crate) fn list<L: Ledger>(
     ensures others { via ≢ Fb → map meaning boxes.new.items ≡ map meaning boxes.old.items }
     ensures text { IfOk result (ListsIndex state.now.graph.graph (kept_of (map meaning boxes.old.items) state.now.k) via) }
     ensures no_index { (result ≡ Err AskError.NoIndex) ↔ (is_kept (kept_of (map meaning boxes.old.items) state.now.k) via ≡ false) }
+    ensures computed { via ≡ Fb → OnOk result (IsFbComputed (map meaning boxes.new.items)) }
+    ensures free { via ≢ Fb → steps.new ≡ steps.old }
+    ensures still { IsFbComputed (map meaning boxes.old.items) → steps.new ≡ steps.old }
     ensures cost { steps.new ≤ steps.old + 1 + live_count state.now.graph.graph + edge_count state.now.graph.graph }
 {
     match refresh_for(boxes, via, &state.graph, steps) {
@@ -113,6 +116,8 @@ pub(crate) fn measure<L: Ledger>(
     ensures keeps { EachBecomes KeepsViews (map meaning boxes.old.items) (map meaning boxes.new.items) }
     ensures kept { All (IsKeptFor (opened state.now)) (map meaning boxes.new.items) }
     ensures text { IfOk result (ListsSizes state.now.graph.graph (kept_of (map meaning boxes.old.items) state.now.k)) }
+    ensures computed { OnOk result (IsFbComputed (map meaning boxes.new.items)) }
+    ensures still { IsFbComputed (map meaning boxes.old.items) → steps.new ≡ steps.old }
     ensures cost { steps.new ≤ steps.old + 1 + live_count state.now.graph.graph + edge_count state.now.graph.graph }
 {
     refresh_fb(boxes, &state.graph, steps)?;

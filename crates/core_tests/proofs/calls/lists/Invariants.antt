@@ -1,4 +1,4 @@
-use Rattle.core_tests.proofs.tests.lists.Given as goal
+use Rattle.core_tests.proofs.calls.lists.Given as goal
 
 abbrev pub ghosts-listed : goal.ghosts-listed
 ghosts-listed g a = record { name = a.blank.name; parts = a.blank.parts }

@@ -1,0 +1,73 @@
+// An engine of three boxes, of which the last finds no memory once it is built.
+ghost use Rattle.std.specs.Prelude.{[], ◌∷◌, Some, None, IfOk, if◌then◌else◌};
+ghost use Rattle.bisim_spec.specs.declared.kind.Kind.TheVariants.{Fb};
+
+use ak_maintain::AkIndex;
+use full_engine::EngineTask;
+use graph_update::Change;
+use index_api::{Kind, PathIndex};
+use label_graph::{Graph, GraphView};
+use one_maintain::OneKept;
+use pathindex_core::Engine;
+use px_base::Memory;
+use quotient::Summary;
+use std::alloc::Global;
+
+/// A forward and backward index that is built without its view, and then never finds memory.
+#[derive(Drop)]
+struct Tired {
+    is_built: bool,
+    is_staged: bool,
+}
+
+impl PathIndex for Tired {
+    ghost meaning = { λ t. record { kind = Fb; views = if t.is_built then None ∷ [] else []; staged = if t.is_staged then Some [] else None } };
+
+    fn kind(&self) -> Kind {
+        Kind::Fb
+    }
+
+    fn build(&mut self, _view: &GraphView<'_>, _k: u32) -> Result<(), Memory> {
+        self.is_built = true;
+        self.is_staged = false;
+        Ok(())
+    }
+
+    fn prepare(&mut self, _graph: &Graph, _change: &Change) -> Result<(), Memory> {
+        Err(Memory)
+    }
+
+    fn commit(&mut self) {
+        self.is_built = false;
+        self.is_staged = false;
+    }
+
+    fn cancel(&mut self) {
+        self.is_staged = false;
+    }
+
+    fn refresh(&mut self, _view: &GraphView<'_>) -> Result<(), Memory> {
+        Err(Memory)
+    }
+
+    fn summary(&self, _level: u32) -> Option<&Summary> {
+        None
+    }
+}
+
+/// Has the task done with an engine that keeps the A(k)-indexes, the 1-index, and an index that never finds memory.
+pub(crate) fn with_tired_engine<T: EngineTask>(alloc: Global, task: T) -> Result<T::Answer, Memory>
+    ensures { IfOk result (T.gives task) }
+{
+    let tired = Tired {
+        is_built: false,
+        is_staged: false,
+    };
+    let mut boxes: Vec<Box<dyn PathIndex>> = Vec::new(alloc);
+    boxes.push(Box::new(alloc, AkIndex::new(alloc)?)?)?;
+    boxes.push(Box::new(alloc, OneKept::new(alloc)?)?)?;
+    boxes.push(Box::new(alloc, tired)?)?;
+    let mut engine = Engine::new(boxes);
+    let answer = task.carry_out(alloc, &mut engine);
+    Ok(answer)
+}

@@ -1,0 +1,179 @@
+// An engine of which one box finds no memory: what fails leaves all, and what needs no memory there goes on.
+ghost use Rattle.std.specs.Prelude.{◌≡◌, ◌<◌, ⊤, None, IsSome, map};
+ghost use Rattle.pathindex_core.specs.Engines.{engine_seen, opened_of, IsSound};
+
+use crate::calls::{FEW, adds_node, fails_to_add, lists, opens};
+use crate::tired::with_tired_engine;
+use full_engine::EngineTask;
+use index_api::{Answer, Kind, Via};
+use label_graph::Graph;
+use path_query::PathExpr;
+use pathindex_core::{AskError, Engine, UpdateError};
+use pathindex_run::run;
+use px_base::{MemShelf, MemSink, Memory, Steps, Text};
+use std::alloc::Global;
+use std::marker::Brand;
+use std::sync::ledger::{Blank, Ledger};
+
+/// A graph of one node with the label `a`.
+fn one_node(alloc: Global) -> Option<Graph> {
+    let label = Text::from_bytes(alloc, b"a").ok()?;
+    let mut graph = Graph::new(alloc).ok()?;
+    graph.reserve_node(alloc, &label).ok()?;
+    graph.add_node();
+    Some(graph)
+}
+
+/// Whether there is that node alone, in the graph and in the indexes that have views.
+fn has_one(engine: &mut Engine, alloc: Global) -> bool
+    requires open { IsSome (opened_of engine.old.state) }
+    requires sound { IsSound (engine_seen (map (λ b. meaning (b.vtable, b.value)) engine.old.boxes.items) engine.old.state) }
+    ensures open { IsSome (opened_of engine.new.state) }
+    ensures sound { IsSound (engine_seen (map (λ b. meaning (b.vtable, b.value)) engine.new.boxes.items) engine.new.state) }
+{
+    engine.graph().created() == 1
+        && lists(engine, alloc, Via::A(0), Some("blocks 1\na n0\n"))
+        && lists(engine, alloc, Via::A(1), Some("blocks 1\na n0\n"))
+        && lists(engine, alloc, Via::One, Some("blocks 1\na n0\n"))
+}
+
+/// Whether nodes are added once the tired box is forgotten.
+fn goes_on_without(engine: &mut Engine, alloc: Global) -> bool
+    requires open { IsSome (opened_of engine.old.state) }
+    requires sound { IsSound (engine_seen (map (λ b. meaning (b.vtable, b.value)) engine.old.boxes.items) engine.old.state) }
+    ensures open { IsSome (opened_of engine.new.state) }
+    ensures sound { IsSound (engine_seen (map (λ b. meaning (b.vtable, b.value)) engine.new.boxes.items) engine.new.state) }
+{
+    engine.forget(Kind::Fb).is_ok() && adds_node(engine, alloc, 1)
+}
+
+/// Whether a change for which one box finds no memory leaves all.
+#[derive(Drop)]
+struct Changes {}
+
+impl EngineTask for Changes {
+    type Answer = bool;
+
+    ghost gives = { λ _ _. ⊤ };
+
+    fn carry_out(self, alloc: Global, engine: &mut Engine) -> bool {
+        opens(engine, one_node(alloc), FEW)
+            && fails_to_add(engine, alloc, UpdateError::Memory)
+            && has_one(engine, alloc)
+            && goes_on_without(engine, alloc)
+    }
+}
+
+#[test]
+fn a_change_without_memory_leaves_all(rt: HostRuntime) {
+    assert_eq!(rt; with_tired_engine(rt.alloc(), Changes {}), Ok(true));
+}
+
+/// The answer of the graph itself.
+fn found<L: Ledger>(
+    engine: &mut Engine,
+    alloc: Global,
+    expr: &PathExpr,
+    blank: Blank,
+) -> Result<Answer, AskError>
+    requires open { IsSome (opened_of engine.old.state) }
+    requires sound { IsSound (engine_seen (map (λ b. meaning (b.vtable, b.value)) engine.old.boxes.items) engine.old.state) }
+    requires name { blank.name ≡ L.name }
+    requires parts { blank.parts ≡ L.parts }
+    requires some { 0 < blank.parts }
+    ensures open { IsSome (opened_of engine.new.state) }
+    ensures sound { IsSound (engine_seen (map (λ b. meaning (b.vtable, b.value)) engine.new.boxes.items) engine.new.state) }
+{
+    let mut steps = Steps::<L>::new(blank);
+    engine.path(alloc, Via::Data, expr, &mut steps)
+}
+
+/// Whether the path has no answer in the graph itself.
+fn finds_none(engine: &mut Engine, alloc: Global, path: &str) -> bool
+    requires open { IsSome (opened_of engine.old.state) }
+    requires sound { IsSound (engine_seen (map (λ b. meaning (b.vtable, b.value)) engine.old.boxes.items) engine.old.state) }
+    ensures open { IsSome (opened_of engine.new.state) }
+    ensures sound { IsSound (engine_seen (map (λ b. meaning (b.vtable, b.value)) engine.new.boxes.items) engine.new.state) }
+{
+    let Ok(expr) = PathExpr::parse(alloc, path.as_bytes(), &FEW) else {
+        return false;
+    };
+    match found::<Brand>(engine, alloc, &expr, Blank::new(1)) {
+        Ok(answer) => answer.nodes.count() == 0,
+        Err(_) => false,
+    }
+}
+
+/// Whether a list for which there is no memory leaves all.
+#[derive(Drop)]
+struct Lists {}
+
+impl EngineTask for Lists {
+    type Answer = bool;
+
+    ghost gives = { λ _ _. ⊤ };
+
+    fn carry_out(self, alloc: Global, engine: &mut Engine) -> bool {
+        opens(engine, one_node(alloc), FEW)
+            && lists(engine, alloc, Via::Fb, None)
+            && has_one(engine, alloc)
+            && finds_none(engine, alloc, "b")
+    }
+}
+
+#[test]
+fn a_list_without_memory_leaves_all(rt: HostRuntime) {
+    assert_eq!(rt; with_tired_engine(rt.alloc(), Lists {}), Ok(true));
+}
+
+/// A run of this script.
+#[derive(Drop)]
+struct Run {
+    script: &'static str,
+}
+
+/// A shelf with the script as the file `s`.
+fn shelf_of(alloc: Global, script: &str) -> Option<MemShelf> {
+    let name = Text::from_bytes(alloc, b"s").ok()?;
+    let bytes = script.as_bytes().to_vec(alloc).ok()?;
+    let mut files = Vec::new(alloc);
+    files.push((name, bytes)).ok()?;
+    Some(MemShelf::new(files, 64, Vec::new(alloc)))
+}
+
+/// The words `s` alone.
+fn words(alloc: Global) -> Option<Vec<String>> {
+    let mut words = Vec::new(alloc);
+    words.push(String::from_str(alloc, "s").ok()?).ok()?;
+    Some(words)
+}
+
+impl EngineTask for Run {
+    // the status, and the count of bytes
+    type Answer = Option<(u8, usize)>;
+
+    ghost gives = { λ _ _. ⊤ };
+
+    fn carry_out(self, alloc: Global, engine: &mut Engine) -> Option<(u8, usize)> {
+        let words = words(alloc)?;
+        let mut shelf = shelf_of(alloc, self.script)?;
+        let mut sink = MemSink::new(alloc, 64, Vec::new(alloc), 64).ok()?;
+        let status = run(alloc, &words, engine, &mut shelf, &mut sink);
+        Some((status, sink.written().len()))
+    }
+}
+
+/// Scripts, and the status and the count of bytes that a run of each writes.
+const RUNS: &[(&str, u8, usize)] = &[
+    ("node a\n", 7, 0),
+    ("extents fb\n", 7, 0),
+    ("extents a0\n", 0, 9),
+];
+
+#[test]
+fn a_run_ends_where_a_box_finds_no_memory(rt: HostRuntime) {
+    for (script, status, count) in RUNS {
+        let ended = with_tired_engine(rt.alloc(), Run { script });
+        assert_eq!(rt; ended, Ok(Some((*status, *count))), "{script}");
+    }
+}
