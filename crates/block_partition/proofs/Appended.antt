@@ -3,7 +3,7 @@ use Rattle.std.proofs.Common.{◌≡◌, ℕ, ◌+◌, ◌-◌, ◌<◌, List, [
 use Rattle.std.proofs.Math.ListN.{replicate}
 use Rattle.std.proofs.lemmas.List.{length-append, get_or_past}
 use Rattle.px_spec.specs.Members.{at}
-use Rattle.block_partition.specs.Tables.{Table, Heap, set_at, grown, IsIn}
+use Rattle.block_partition.specs.Tables.{Table, Gaps, set_at, grown, IsIn}
 use Rattle.block_partition.specs.Soundness.{IsSoundPartition}
 use Rattle.block_partition.proofs.Growth.{length_grown}
 use Rattle.block_partition.proofs.Mirrors.{at_grown}
@@ -25,7 +25,7 @@ pub in_longer : (o : Option ℕ) (xs ys : List (Option ℕ)) → IsIn o xs → I
 in_longer None xs ys h = tt
 in_longer (Some i) xs ys h = let l = length-append xs ys in omega (arith, l, h)
 
-pub sound_appended : (bl nx pv fs : Table) (lb : List (Option ℕ)) (lc : ℕ) (sz : List ℕ) (sc : ℕ) (fr : Heap) (count nr br b : ℕ)
+pub sound_appended : (bl nx pv fs : Table) (lb : List (Option ℕ)) (lc : ℕ) (sz : List ℕ) (sc : ℕ) (fr : Gaps) (count nr br b : ℕ)
     → IsSoundPartition bl nx pv fs lb lc sz sc fr count nr br → 0 < nr → IsSome (at lb b)
     → IsSoundPartition (put_in bl (bl.places ++ Some b ∷ [])) (put_in nx (nx.places ++ at fs.places b ∷ []))
     (put_in pv (set_at (pv.places ++ None ∷ []) (at fs.places b) (Some (length bl.places)))) (put_in fs (slice_set fs.places b (Some (length bl.places))))

@@ -1,20 +1,20 @@
 -- Tables that are sound stay so.
 use Rattle.std.proofs.Common.{◌≡◌, ◌≢◌, ℕ, ◌+◌, ◌-◌, ◌<◌, ◌≤◌, List, [], ◌∷◌, ◌++◌, length, Option, Some, None, IsSome, refl, sym, ◌∙◌, ap, arith, slice_set, slice_index, subst, count_by}
 use Rattle.std.specs.Prelude.{is_some}
-use Rattle.std.specs.List.Sorted.{IsPermutation}
 use Rattle.std.proofs.lemmas.List.{length-set, length-append}
 use Rattle.px_spec.specs.Members.{at, is_this}
-use Rattle.block_partition.specs.Tables.{Table, Heap, set_at, head_where, grown}
-use Rattle.block_partition.specs.Soundness.{IsSoundPartition}
+use Rattle.block_partition.specs.Tables.{Table, Gaps, gap_room, set_at, head_where, grown}
+use Rattle.block_partition.specs.Soundness.{IsSoundPartition, AreGaps}
 use Rattle.block_partition.proofs.Mirrors.{length-set_at, mirrored_out, mirrored_in, mirrored_same, at_grown}
 use Rattle.block_partition.proofs.Counts.{some_within, counted_out, counted_in, counted_grown, counted_again, counted_next, counted_retired}
 use Rattle.block_partition.proofs.Growth.{length_grown}
-use Rattle.block_partition.proofs.FreedNumbers.{freed_within, lists_taken, lists_put, lists_next, all_blocks, count_all, no_freed}
+use Rattle.block_partition.specs.Partitions.{IsLeastFree}
+use Rattle.block_partition.proofs.FreedNumbers.{least_is_next, count_all, no_gaps}
 
 abbrev pub put_in : Table → List (Option ℕ) → Table
 put_in t places = record { places = places; capacity = t.capacity }
 
-pub sound_out : (bl nx pv fs : Table) (lb : List (Option ℕ)) (lc : ℕ) (sz : List ℕ) (sc : ℕ) (fr : Heap) (count nr br n b : ℕ)
+pub sound_out : (bl nx pv fs : Table) (lb : List (Option ℕ)) (lc : ℕ) (sz : List ℕ) (sc : ℕ) (fr : Gaps) (count nr br n b : ℕ)
     → IsSoundPartition bl nx pv fs lb lc sz sc fr count nr br → at bl.places n ≡ Some b
     → IsSoundPartition (put_in bl (slice_set bl.places n None)) (put_in nx (slice_set (set_at nx.places (at pv.places n) (at nx.places n)) n None))
     (put_in pv (slice_set (set_at pv.places (at nx.places n) (at pv.places n)) n None)) (put_in fs (set_at fs.places (head_where b (at pv.places n)) (at nx.places n)))
@@ -33,14 +33,14 @@ sound_out bl nx pv fs lb lc sz sc fr count nr br n b s has =
             length_first = length-set_at fs.places (head_where b (at pv.places n)) (at nx.places n) ∙ first;
             length_sizes = length-set sz b (slice_index sz b - 1) ∙ sizes;
             few = s.tables.few;
-            freed_are = s.tables.freed_are;
+            gaps = s.tables.gaps;
             all_fit = s.tables.all_fit;
           };
       nodes_fit = record { few = rw len f.few; block_fits = rw len f.block_fits; next_fits = rw len f.next_fits; prev_fits = rw len f.prev_fits };
       blocks_fit = s.blocks_fit;
     }
 
-pub sound_in : (bl nx pv fs : Table) (lb : List (Option ℕ)) (lc : ℕ) (sz : List ℕ) (sc : ℕ) (fr : Heap) (count nr br n b : ℕ)
+pub sound_in : (bl nx pv fs : Table) (lb : List (Option ℕ)) (lc : ℕ) (sz : List ℕ) (sc : ℕ) (fr : Gaps) (count nr br n b : ℕ)
     → IsSoundPartition bl nx pv fs lb lc sz sc fr count nr br → at bl.places n ≡ None → n < length bl.places → IsSome (at lb b)
     → IsSoundPartition (put_in bl (slice_set bl.places n (Some b))) (put_in nx (slice_set nx.places n (at fs.places b)))
     (put_in pv (set_at pv.places (at fs.places b) (Some n))) (put_in fs (slice_set fs.places b (Some n)))
@@ -59,7 +59,7 @@ sound_in bl nx pv fs lb lc sz sc fr count nr br n b s none in_bl is_block =
             length_first = length-set fs.places b (Some n) ∙ first;
             length_sizes = length-set sz b (slice_index sz b + 1) ∙ sizes;
             few = s.tables.few;
-            freed_are = s.tables.freed_are;
+            gaps = s.tables.gaps;
             all_fit = s.tables.all_fit;
           };
       nodes_fit = record { few = rw len f.few; block_fits = rw len f.block_fits; next_fits = rw len f.next_fits; prev_fits = rw len f.prev_fits };
@@ -67,7 +67,7 @@ sound_in bl nx pv fs lb lc sz sc fr count nr br n b s none in_bl is_block =
     }
 
 -- the list grows by its room
-pub sound_grown : (bl nx pv fs : Table) (lb : List (Option ℕ)) (lc : ℕ) (sz : List ℕ) (sc : ℕ) (fr : Heap) (count nr br len : ℕ)
+pub sound_grown : (bl nx pv fs : Table) (lb : List (Option ℕ)) (lc : ℕ) (sz : List ℕ) (sc : ℕ) (fr : Gaps) (count nr br len : ℕ)
     → IsSoundPartition bl nx pv fs lb lc sz sc fr count nr br → len ≤ length bl.places + nr
     → IsSoundPartition (put_in bl (grown bl.places len)) (put_in nx (grown nx.places len)) (put_in pv (grown pv.places len)) fs
     lb lc sz sc fr count (nr - (length (grown bl.places len) - length bl.places)) br
@@ -92,11 +92,11 @@ sound_grown bl nx pv fs lb lc sz sc fr count nr br len s h =
     }
 
 -- a block without members is no block any more
-pub sound_retired : (bl nx pv fs : Table) (lb : List (Option ℕ)) (lc : ℕ) (sz : List ℕ) (sc : ℕ) (fr fr' : Heap) (count nr br b l : ℕ)
+pub sound_retired : (bl nx pv fs : Table) (lb : List (Option ℕ)) (lc : ℕ) (sz : List ℕ) (sc : ℕ) (fr fr' : Gaps) (count nr br b l : ℕ)
     → IsSoundPartition bl nx pv fs lb lc sz sc fr count nr br → at lb b ≡ Some l → ((n : ℕ) → at bl.places n ≢ Some b)
-    → IsPermutation (b ∷ fr.numbers) fr'.numbers → fr.capacity ≤ fr'.capacity
+    → AreGaps (slice_set lb b None) fr' → gap_room fr' ≡ gap_room fr
     → IsSoundPartition bl nx pv fs (slice_set lb b None) lc sz sc fr' (count - 1) nr br
-sound_retired bl nx pv fs lb lc sz sc fr fr' count nr br b l s is_block empty p more =
+sound_retired bl nx pv fs lb lc sz sc fr fr' count nr br b l s is_block empty gaps same =
     let k = counted_retired bl.places lb sz count b s.counted (subst IsSome (sym is_block) refl) empty in
     let some = k.0 in
     let len = length-set lb b None in
@@ -115,8 +115,8 @@ sound_retired bl nx pv fs lb lc sz sc fr fr' count nr br b l s is_block empty p 
             length_first = t.length_first ∙ sym len;
             length_sizes = t.length_sizes ∙ sym len;
             few = rw len t.few;
-            freed_are = lists_put lb fr.numbers fr'.numbers b l t.freed_are is_block p;
-            all_fit = rw len (let all = t.all_fit in omega (arith, all, more));
+            gaps = gaps;
+            all_fit = rw (len, same) t.all_fit;
           };
       nodes_fit = s.nodes_fit;
       blocks_fit =
@@ -125,18 +125,17 @@ sound_retired bl nx pv fs lb lc sz sc fr fr' count nr br b l s is_block empty p 
             first_fits = omega (arith, some, x1);
             labels_fit = omega (arith, some, x2);
             sizes_fit = omega (arith, some, x3);
-            freed_fit = omega (arith, some, x4, more);
+            freed_fit = rw same (omega (arith, some, x4));
           };
     }
 
 -- a number that was freed is a block again
-pub sound_again : (bl nx pv fs : Table) (lb : List (Option ℕ)) (lc : ℕ) (sz : List ℕ) (sc : ℕ) (fr fr' : Heap) (count nr br b label : ℕ)
+pub sound_again : (bl nx pv fs : Table) (lb : List (Option ℕ)) (lc : ℕ) (sz : List ℕ) (sc : ℕ) (fr fr' : Gaps) (count nr br b label : ℕ)
     → IsSoundPartition bl nx pv fs lb lc sz sc fr count nr br → 0 < br
-    → IsPermutation fr.numbers (b ∷ fr'.numbers) → fr'.capacity ≡ fr.capacity
+    → at lb b ≡ None → b < length lb → AreGaps (slice_set lb b (Some label)) fr' → gap_room fr' ≡ gap_room fr
     → IsSoundPartition bl nx pv fs (slice_set lb b (Some label)) lc sz sc fr' (count + 1) nr (br - 1)
-sound_again bl nx pv fs lb lc sz sc fr fr' count nr br b label s room p same =
+sound_again bl nx pv fs lb lc sz sc fr fr' count nr br b label s room free within gaps same =
     let t = s.tables in
-    let is = freed_within lb fr.numbers fr'.numbers b t.freed_are p in
     let len = length-set lb b (Some label) in
     let f = s.blocks_fit in
     let x0 = f.few in
@@ -146,14 +145,14 @@ sound_again bl nx pv fs lb lc sz sc fr fr' count nr br b label s room p same =
     let x4 = f.freed_fit in
     record {
       mirrored = s.mirrored;
-      counted = counted_again bl.places lb sz count b label s.counted is.1 is.0;
+      counted = counted_again bl.places lb sz count b label s.counted free within;
       tables =
           record {
             length_first = t.length_first ∙ sym len;
             length_sizes = t.length_sizes ∙ sym len;
             few = rw len t.few;
-            freed_are = lists_taken lb fr.numbers fr'.numbers b label t.freed_are p;
-            all_fit = rw len (let all = t.all_fit in omega (arith, all, same));
+            gaps = gaps;
+            all_fit = rw (len, same) t.all_fit;
           };
       nodes_fit = s.nodes_fit;
       blocks_fit =
@@ -162,23 +161,24 @@ sound_again bl nx pv fs lb lc sz sc fr fr' count nr br b label s room p same =
             first_fits = omega (arith, room, x1);
             labels_fit = omega (arith, room, x2);
             sizes_fit = omega (arith, room, x3);
-            freed_fit = omega (arith, room, x4, same);
+            freed_fit = rw same (omega (arith, room, x4));
           };
     }
 
--- where no number is free, there are as many blocks as numbers
-pub count_full : (bl nx pv fs : Table) (lb : List (Option ℕ)) (lc : ℕ) (sz : List ℕ) (sc : ℕ) (fr : Heap) (count nr br : ℕ)
-    → IsSoundPartition bl nx pv fs lb lc sz sc fr count nr br → fr.numbers ≡ [] → count ≡ length lb
-count_full bl nx pv fs lb lc sz sc fr count nr br s none = s.counted.count_is ∙ count_all lb (all_blocks lb fr.numbers s.tables.freed_are none)
+-- where the least free number is past the end, there are as many blocks as numbers
+pub count_full : (bl nx pv fs : Table) (lb : List (Option ℕ)) (lc : ℕ) (sz : List ℕ) (sc : ℕ) (fr : Gaps) (count nr br b : ℕ)
+    → IsSoundPartition bl nx pv fs lb lc sz sc fr count nr br → length lb ≤ b → IsLeastFree lb b → count ≡ length lb
+count_full bl nx pv fs lb lc sz sc fr count nr br b s past least =
+    let next = least_is_next lb b past least in
+    s.counted.count_is ∙ count_all lb (λ c h. least.least c (omega (arith, h, next)))
 
 -- the next number is a block
-pub sound_next : (bl nx pv fs : Table) (lb : List (Option ℕ)) (lc : ℕ) (sz : List ℕ) (sc : ℕ) (fr fr' : Heap) (count nr br label : ℕ)
+pub sound_next : (bl nx pv fs : Table) (lb : List (Option ℕ)) (lc : ℕ) (sz : List ℕ) (sc : ℕ) (fr fr' : Gaps) (count nr br label : ℕ)
     → IsSoundPartition bl nx pv fs lb lc sz sc fr count nr br → 0 < br
-    → fr.numbers ≡ [] → fr'.numbers ≡ [] → fr'.capacity ≡ fr.capacity
+    → count ≡ length lb → AreGaps (lb ++ Some label ∷ []) fr' → gap_room fr' ≡ gap_room fr
     → IsSoundPartition bl nx pv (put_in fs (fs.places ++ None ∷ [])) (lb ++ Some label ∷ []) lc (sz ++ 0 ∷ []) sc fr' (count + 1) nr (br - 1)
-sound_next bl nx pv fs lb lc sz sc fr fr' count nr br label s room none none' same =
+sound_next bl nx pv fs lb lc sz sc fr fr' count nr br label s room full gaps same =
     let t = s.tables in
-    let full = count_full bl nx pv fs lb lc sz sc fr count nr br s none in
     let len = length-append lb (Some label ∷ []) in
     let first = length-append fs.places (None ∷ []) in
     let sizes = length-append sz (0 ∷ []) in
@@ -200,8 +200,8 @@ sound_next bl nx pv fs lb lc sz sc fr fr' count nr br label s room none none' sa
             length_first = omega (arith, first, len, lf);
             length_sizes = omega (arith, sizes, len, ls);
             few = omega (arith, len, full, x0, room);
-            freed_are = lists_next lb fr.numbers fr'.numbers label t.freed_are none none';
-            all_fit = omega (arith, len, full, x4, same, room);
+            gaps = gaps;
+            all_fit = rw same (omega (arith, len, full, x4, room));
           };
       nodes_fit = s.nodes_fit;
       blocks_fit =
@@ -210,7 +210,7 @@ sound_next bl nx pv fs lb lc sz sc fr fr' count nr br label s room none none' sa
             first_fits = omega (arith, room, x1);
             labels_fit = omega (arith, room, x2);
             sizes_fit = omega (arith, room, x3);
-            freed_fit = omega (arith, room, x4, same);
+            freed_fit = rw same (omega (arith, room, x4));
           };
     }
 
@@ -218,8 +218,8 @@ nowhere : (xs : List (Option ℕ)) (n v : ℕ) → xs ≡ [] → at xs n ≡ Som
 nowhere xs n v e h = let none : at xs n ≡ None = ap (λ ys. at ys n) e in cc
 
 -- tables that are empty
-pub sound_none : (bl nx pv fs : Table) (lb : List (Option ℕ)) (lc : ℕ) (sz : List ℕ) (sc : ℕ) (fr : Heap)
-    → bl.places ≡ [] → nx.places ≡ [] → pv.places ≡ [] → fs.places ≡ [] → lb ≡ [] → sz ≡ [] → fr.numbers ≡ []
+pub sound_none : (bl nx pv fs : Table) (lb : List (Option ℕ)) (lc : ℕ) (sz : List ℕ) (sc : ℕ) (fr : Gaps)
+    → bl.places ≡ [] → nx.places ≡ [] → pv.places ≡ [] → fs.places ≡ [] → lb ≡ [] → sz ≡ [] → fr.low ≡ 0
     → IsSoundPartition bl nx pv fs lb lc sz sc fr 0 0 0
 sound_none bl nx pv fs lb lc sz sc fr eb en ep ef el es er =
     let b0 : length bl.places ≡ 0 = ap length eb in
@@ -260,7 +260,7 @@ sound_none bl nx pv fs lb lc sz sc fr eb en ep ef el es er =
             length_first = omega (arith, f0, l0);
             length_sizes = omega (arith, s0, l0);
             few = omega (arith, l0);
-            freed_are = rw er (no_freed lb el);
+            gaps = no_gaps lb fr el er;
             all_fit = omega (arith, l0);
           };
       nodes_fit = record { few = omega (arith, b0); block_fits = omega (arith, b0); next_fits = omega (arith, b0); prev_fits = omega (arith, b0) };

@@ -1,8 +1,8 @@
 -- What holds of the tables of each partition.
-use Rattle.std.specs.Prelude.{◌≡◌, ℕ, ◌+◌, ◌<◌, ◌≤◌, ◌^◌, ◌&&◌, not, Bool, List, length, Option, None, Some, IsSome, is_some, nat_lt, slice_index}
+use Rattle.std.specs.Prelude.{◌≡◌, ℕ, ◌+◌, ◌/◌, ◌<◌, ◌≤◌, ◌^◌, false, List, length, Option, None, Some, IsSome, is_some, slice_index}
 use Rattle.std.specs.List.{count_by}
-use Rattle.px_spec.specs.Members.{Lists, at, is_this}
-use Rattle.block_partition.specs.Tables.{Table, Heap}
+use Rattle.px_spec.specs.Members.{at, is_this}
+use Rattle.block_partition.specs.Tables.{Table, Gaps, flag_at, gap_room}
 
 -- The members of a block form a doubly linked list: the block of a node, the next member and the one before it, and the
 -- first member of a block. Ranks fall along each list, so none runs in a ring
@@ -32,17 +32,18 @@ pub record AreBlockCounts (block labels : List (Option ℕ)) (sizes : List ℕ) 
   pub sizes_are : (b : ℕ) → slice_index sizes b ≡ count_by (is_this b) block
   pub count_is : count ≡ count_by is_some labels
 
--- the number is free, and was a block
-abbrev pub is_freed : List (Option ℕ) → ℕ → Bool
-is_freed labels b = nat_lt b (length labels) && not (is_some (at labels b))
+-- all free numbers stand in runs with flags, and none of them is too low
+pub record AreGaps (labels : List (Option ℕ)) (g : Gaps) : Type 0 where
+  pub above : (c : ℕ) → c < g.low → IsSome (at labels c)
+  pub flagged : (c : ℕ) → c < length labels → flag_at g (c / 64) ≡ false → IsSome (at labels c)
 
--- the tables by block are of one length, and the freed numbers are at hand
-pub record AreTables (first labels : List (Option ℕ)) (sizes : List ℕ) (freed : Heap) : Type 0 where
+-- the tables by block are of one length, and free numbers are found
+pub record AreTables (first labels : List (Option ℕ)) (sizes : List ℕ) (freed : Gaps) : Type 0 where
   pub length_first : length first ≡ length labels
   pub length_sizes : length sizes ≡ length labels
   pub few : length labels ≤ 2 ^ 31
-  pub freed_are : Lists (is_freed labels) freed.numbers
-  pub all_fit : length labels ≤ freed.capacity
+  pub gaps : AreGaps labels freed
+  pub all_fit : length labels ≤ gap_room freed
 
 -- that many more numbers fit behind the list
 pub record NodesFit (block next prev : Table) (more : ℕ) : Type 0 where
@@ -60,9 +61,9 @@ pub record BlocksFit (count first labels sizes freed more : ℕ) : Type 0 where
   pub freed_fit : count + more ≤ freed
 
 pub record IsSoundPartition (block next prev first : Table) (labels : List (Option ℕ)) (labels_capacity : ℕ) (sizes : List ℕ)
-    (sizes_capacity : ℕ) (freed : Heap) (count node_room block_room : ℕ) : Type 0 where
+    (sizes_capacity : ℕ) (freed : Gaps) (count node_room block_room : ℕ) : Type 0 where
   pub mirrored : AreMirrored block.places next.places prev.places first.places
   pub counted : AreBlockCounts block.places labels sizes count
   pub tables : AreTables first.places labels sizes freed
   pub nodes_fit : NodesFit block next prev node_room
-  pub blocks_fit : BlocksFit count first.capacity labels_capacity sizes_capacity freed.capacity block_room
+  pub blocks_fit : BlocksFit count first.capacity labels_capacity sizes_capacity (gap_room freed) block_room

@@ -1,5 +1,5 @@
 -- The tables in which a partition is kept.
-use Rattle.std.specs.Prelude.{◌≡◌, ℕ, ◌+◌, ◌-◌, ◌<◌, ◌≤◌, List, ◌++◌, length, Option, None, Some, nat_eq, if◌then◌else◌, slice_set}
+use Rattle.std.specs.Prelude.{◌≡◌, ℕ, ◌+◌, ◌-◌, ◌*◌, ◌<◌, ◌≤◌, Bool, false, slice_index_or, List, ◌++◌, length, Option, None, Some, nat_eq, if◌then◌else◌, slice_set}
 use Rattle.std.proofs.Math.ListN.{replicate}
 use Rattle.block_partition.specs.Partitions.{Partition}
 
@@ -8,10 +8,18 @@ pub record Table : Type 0 where
   pub places : List (Option ℕ)
   pub capacity : ℕ
 
--- numbers, and how many fit with no more memory
-pub record Heap : Type 0 where
-  pub numbers : List ℕ
-  pub capacity : ℕ
+-- for each run of 64 numbers whether one of them may be free, and a number below which none is
+pub record Gaps : Type 0 where
+  pub flags : List Bool
+  pub low : ℕ
+
+-- the flag of a run, and none past the end
+abbrev pub flag_at : Gaps → ℕ → Bool
+flag_at g k = slice_index_or g.flags k false
+
+-- so many numbers have flags
+abbrev pub gap_room : Gaps → ℕ
+gap_room g = 64 * length g.flags
 
 -- the greatest value of 32 bits stands for none
 abbrev pub slot_value : ℕ → Option ℕ

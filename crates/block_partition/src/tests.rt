@@ -108,6 +108,33 @@ fn least_number_again(rt: HostRuntime) -> Result<(), Fail> {
     Ok(())
 }
 
+// Of four blocks the first and the third are taken away.
+#[test]
+fn finds_gaps(rt: HostRuntime) -> Result<(), Fail> {
+    let mut blocks = Blocks::new(rt.alloc())?;
+    blocks.reserve(0, 4)?;
+    blocks.new_block(5);
+    blocks.new_block(5);
+    blocks.new_block(5);
+    blocks.new_block(5);
+    retire(&rt, &mut blocks, 0);
+    retire(&rt, &mut blocks, 2);
+    check_gaps(&rt, &blocks);
+    Ok(())
+}
+
+fn check_gaps(rt: &impl Abort, blocks: &Blocks) {
+    assert_eq!(rt; (blocks.next_free(0), blocks.next_free(1)), (0, 2));
+    assert_eq!(rt; (blocks.next_free(3), blocks.next_free(6)), (4, 6));
+}
+
+// Takes a block of a partition without nodes away.
+fn retire(rt: &impl Abort, blocks: &mut Blocks, b: u32) {
+    assert!(rt; blocks.numbers() == 0);
+    assert!(rt; blocks.is_block(b));
+    blocks.retire_block(b);
+}
+
 // Nodes 5 and 0 leave the first block for one of their own.
 fn split_first(rt: &impl Abort, blocks: &mut Blocks) -> Result<(), Fail> {
     if blocks.numbers() > 6 || blocks.count() > 2 {

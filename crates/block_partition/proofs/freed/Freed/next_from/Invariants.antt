@@ -1,0 +1,12 @@
+use Rattle.std.proofs.Common.{ℕ, ◌≤◌, ◌<◌, ◌-◌, IsSome, length}
+use Rattle.px_spec.specs.Members.{at}
+use Rattle.block_partition.proofs.freed.Freed.next_from.Given as goal
+
+abbrev pub invariant-numbers : goal.invariant-numbers
+invariant-numbers l = record {
+  from : l.from ≤ l.n;
+  passed : (c : ℕ) → l.from ≤ c → c < l.n → c < length l.labels → IsSome (at l.labels c);
+}
+
+abbrev pub decreases-numbers : goal.decreases-numbers
+decreases-numbers l = length l.labels - l.n
