@@ -1,5 +1,5 @@
 // The index graph of a partition.
-ghost use Rattle.std.specs.Prelude.{◌≡◌, ◌<◌, ◌≤◌, ◌^◌, ℕ, List, Some, true, is_some, IsSome, IfOk, IfSome, length};
+ghost use Rattle.std.specs.Prelude.{◌≡◌, ◌<◌, ◌≤◌, ◌^◌, ℕ, List, Some, None, true, is_some, IsSome, IfOk, IfSome, length};
 ghost use Rattle.px_spec.specs.Members.{Lists, at};
 ghost use Rattle.px_spec.specs.Shapes.{shape_by};
 ghost use Rattle.block_partition.specs.Partitions.{is_member, member_count, block_count};
@@ -78,6 +78,16 @@ impl Summary {
         ensures live { (n : ℕ) → at self.now.blocks.block_of n ≡ Some b → result ≡ true }
     {
         b < self.blocks.span() && self.blocks.is_block(b)
+    }
+
+    /// The least number from this one on that is no block: O(`size` / 64), and O(1) where each number below
+    /// `size` is a block.
+    pub fn next_free(&self, from: u32) -> u32
+        ensures free { at self.now.blocks.labels result ≡ None }
+        ensures from { from ≤ result }
+        ensures passed { (b : ℕ) → from ≤ b → b < result → IsSome (at self.now.blocks.labels b) }
+    {
+        self.blocks.next_free(from)
     }
 
     /// The members of a block, each once, in no stated order.
