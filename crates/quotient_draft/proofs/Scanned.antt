@@ -4,7 +4,7 @@ use Rattle.std.specs.Prelude.{nat_eq}
 use Rattle.std.specs.Map.{lookup}
 use Rattle.std.proofs.lemmas.Bool.{cases_lt}
 use Rattle.std.proofs.lemmas.Bool.Decides.{eqb_tells}
-use Rattle.std.proofs.lemmas.List.Sums.{sum_by-append, count_by-le-length}
+use Rattle.std.proofs.lemmas.List.Sums.{sum_by-append}
 use Rattle.px_spec.specs.Members.{at}
 use Rattle.block_partition.specs.Partitions.{put, IsLeastFree}
 use Rattle.quotient_draft.specs.Drafts.{with_added}
@@ -94,18 +94,6 @@ count_none xs =
     let parts : count_by is_some (no_label ++ xs) ≡ count_by is_some no_label + count_by is_some xs = sum_by-append (λ (o : Option ℕ). cond (is_some o) 1 0) no_label xs in
     let zero_is : count_by is_some no_label ≡ 0 = refl in
     omega (arith, parts, zero_is)
-
--- where as many are blocks as there are numbers, each is one
-pub full : (xs : List (Option ℕ)) → count_by is_some xs ≡ length xs → (c : ℕ) → c < length xs → IsSome (at xs c)
-full [] e c h = absurd (omega (arith, h))
-full (None ∷ xs) e c h =
-    let none = count_none xs in
-    let most = count_by-le-length (λ (o : Option ℕ). is_some o) xs in
-    absurd (omega (arith, e, none, most))
-full (Some x ∷ xs) e zero h = refl
-full (Some x ∷ xs) e (suc c) h =
-    let one = count_some xs x in
-    full xs (omega (arith, e, one)) c (omega (arith, h))
 
 -- so many numbers are blocks
 pub below_count : (labels : List (Option ℕ)) (b : ℕ) → ((c : ℕ) → c < b → IsSome (at labels c)) → b ≤ count_by is_some labels

@@ -59,7 +59,7 @@ impl Added {
         ensures ok { IfOk result (λ b. self.new ≡ self.old ++ (b, label) ∷ []) }
         ensures err { OnErr result (self.new ≡ self.old) }
     {
-        let b = next_free(base, self.from());
+        let b = base.next_free(self.from());
         self.blocks.insert(b, label)?;
         Ok(b)
     }
@@ -147,33 +147,4 @@ fn base_label(base: &Summary, b: u32) -> Option<u32>
         return Some(base.label(b));
     }
     None
-}
-
-// A number from this one on up to which all are blocks of the base: where each number below its end is one, the end.
-fn past_full(base: &Summary, from: u32) -> u32
-    ensures from { from ≤ result }
-    ensures passed { (c : ℕ) → from ≤ c → c < result → IsSome (at base.now.blocks.labels c) }
-{
-    if base.blocks() == base.size() {
-        return from.max(base.size());
-    }
-    from
-}
-
-// The least number from one on that is no block of the base. Where the base has no gaps it isn't looked for.
-fn next_free(base: &Summary, from: u32) -> u32
-    requires { from ≤ 2 ^ 31 }
-    ensures free { at base.now.blocks.labels result ≡ None }
-    ensures from { from ≤ result }
-    ensures passed { (c : ℕ) → from ≤ c → c < result → IsSome (at base.now.blocks.labels c) }
-{
-    let end = base.size();
-    let mut b = past_full(base, from);
-    'numbers: while b < end {
-        if !base.is_node(b) {
-            return b;
-        }
-        b += 1;
-    }
-    b
 }

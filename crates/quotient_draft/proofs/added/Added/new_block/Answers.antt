@@ -11,13 +11,6 @@ from-requires c =
     let few = c.requires.few in
     omega (arith, some, few)
 
-pub next_free-b-requires : goal.next_free-b-requires
-next_free-b-requires c =
-    let some = from_few c.args.base.now.blocks.labels c.args.self.now c.requires.least in
-    let few = c.requires.few in
-    let is = c.from.ensures in
-    omega (arith, some, few, is)
-
 pub returns-clause-least : goal.returns-clause-least
 returns-clause-least c =
     let is = c.from.ensures in
