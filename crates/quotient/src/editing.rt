@@ -102,8 +102,8 @@ impl Summary {
         }
     }
 
-    /// Writes the support of a pair of blocks, by the room of one pair, one child and one parent. Where the pair
-    /// loses its support it looks through the neighbours of both blocks.
+    /// Writes the support of a pair of blocks, by the room of one pair, one child and one parent. O(1), but for
+    /// hashing.
     pub fn set_support(&mut self, a: u32, b: u32, n: u32)
         requires from { IsBlock self.old.blocks a }
         requires onto { IsBlock self.old.blocks b }

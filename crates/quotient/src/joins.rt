@@ -6,6 +6,7 @@ ghost use Rattle.quotient.specs.Joined.{AreNear, list_at, one_if};
 ghost use Rattle.quotient.specs.Kept.{IsWritten};
 
 use crate::neighbours::Neighbours;
+use crate::places::Place;
 use crate::supports::Supports;
 use px_base::Memory;
 use std::alloc::Global;
@@ -46,6 +47,8 @@ impl Joins {
         ensures parents { OnOk result (length self.new.parents.lists ≡ length self.old.parents.lists) }
     {
         if self.supports.raise(hand, a, b)? {
+            let place = Place::new(self.children.count(a), self.parents.count(b));
+            self.supports.push_place(place)?;
             self.children.push(a, b)?;
             self.parents.push(b, a)?;
         }
@@ -67,8 +70,7 @@ impl Joins {
         Ok(())
     }
 
-    /// Writes the support of a pair of blocks, for which there is room. It takes no memory; where the pair loses
-    /// its support it looks through the neighbours of both blocks.
+    /// Writes the support of a pair of blocks, for which there is room. O(1), but for hashing; it takes no memory.
     pub(crate) fn set(&mut self, a: u32, b: u32, n: u32)
         requires from { a < length self.old.children.lists }
         requires onto { b < length self.old.parents.lists }
@@ -98,6 +100,8 @@ impl Joins {
     {
         self.supports.set(a, b, n);
         if n > 0 {
+            let place = Place::new(self.children.count(a), self.parents.count(b));
+            self.supports.add_place(place);
             self.children.add(a, b);
             self.parents.add(b, a);
         }
@@ -112,10 +116,26 @@ impl Joins {
         requires some { 0 < support_at self.old.supports.pairs a b }
         ensures { IsWritten a b n self.old.supports self.new.supports self.old.children self.new.children self.old.parents self.new.parents }
     {
-        self.supports.set(a, b, n);
         if n == 0 {
-            self.children.remove(a, b);
-            self.parents.remove(b, a);
+            self.part(a, b);
+        } else {
+            self.supports.set(a, b, n);
         }
+    }
+
+    // Takes the support from a pair that has some. In each list the last neighbour comes to the place of the one
+    // that goes, which is noted for it.
+    fn part(&mut self, a: u32, b: u32)
+        requires from { a < length self.old.children.lists }
+        requires onto { b < length self.old.parents.lists }
+        requires near { AreNear self.old.supports.pairs self.old.children.lists self.old.parents.lists }
+        requires some { 0 < support_at self.old.supports.pairs a b }
+        ensures { IsWritten a b 0 self.old.supports self.new.supports self.old.children self.new.children self.old.parents self.new.parents }
+    {
+        let place = self.supports.remove(a, b);
+        let (i, child) = self.children.remove(a, b, place.child);
+        let (j, parent) = self.parents.remove(b, a, place.parent);
+        self.supports.note_child(a, child, i);
+        self.supports.note_parent(parent, b, j);
     }
 }

@@ -6,6 +6,7 @@ mod edges;
 mod editing;
 mod joins;
 mod neighbours;
+mod places;
 mod summary;
 mod supports;
 #[cfg(test)]

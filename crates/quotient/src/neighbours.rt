@@ -47,6 +47,13 @@ impl Neighbours {
         self.lists[n as usize].as_slice()
     }
 
+    /// How many neighbours the list with this number has.
+    pub(crate) fn count(&self, n: u32) -> usize
+        requires { n < length self.now.lists }
+    {
+        self.get(n).len()
+    }
+
     /// Puts a neighbour behind the list with this number.
     pub(crate) fn push(&mut self, n: u32, b: u32) -> Result<(), Memory>
         requires { n < length self.old.lists }
@@ -101,27 +108,50 @@ impl Neighbours {
         self.lists[n as usize].push_reserved(b);
     }
 
-    /// Takes a neighbour out of the list with this number. It looks through the list, and takes no memory.
-    pub(crate) fn remove(&mut self, n: u32, b: u32)
+    /// Takes a neighbour out of the list with this number, and answers at which place, and which neighbour stood
+    /// last: that one stands at the place now. O(1), where the neighbour stands at the place that is given; else
+    /// the list is searched. It takes no memory.
+    pub(crate) fn remove(&mut self, n: u32, b: u32, place: u32) -> (usize, u32)
         requires within { n < length self.old.lists }
         requires member { IsTrue (has (list_at self.old.lists n) b) }
         ensures lists { self.new.lists ≡ slice_set self.old.lists n (list_at self.new.lists n) }
         ensures taken { IsPermutation (list_at self.old.lists n) (b ∷ list_at self.new.lists n) }
         ensures room { UsesOne n self.old.room self.new.room }
     {
-        let Some(i) = find_in(self.get(n), b) else {
+        let Some(i) = find_in(self.get(n), b, place as usize) else {
             unreachable!()
         };
+        let last = last_of(self.get(n));
         self.lists[n as usize].swap_remove(i);
+        (i, last)
     }
 }
 
-// Where a number stands in a list, if it does.
-fn find_in(list: &[u32], b: u32) -> Option<usize>
+// Where a number stands in a list, if it does. It is looked for at one place first.
+fn find_in(list: &[u32], b: u32, first: usize) -> Option<usize>
     ensures at { IfSome result (λ i. slice_get list.now i ≡ Some b) }
     ensures none { IfNone result (has list.now b ≡ false) }
 {
+    if stands_at(list, b, first) {
+        return Some(first);
+    }
     place_in(list, b)
+}
+
+fn stands_at(list: &[u32], b: u32, i: usize) -> bool
+    ensures { IsTrue result → slice_get list.now i ≡ Some b }
+{
+    match list.get(i) {
+        Some(c) => *c == b,
+        None => false,
+    }
+}
+
+fn last_of(list: &[u32]) -> u32 {
+    match list.last() {
+        Some(b) => *b,
+        None => 0,
+    }
 }
 
 fn place_in(list: &[u32], b: u32) -> Option<usize>

@@ -6,15 +6,18 @@ ghost use Rattle.bisim_spec.specs.Views.{support_at};
 ghost use Rattle.quotient.specs.Quotients.{pair_count, with_support};
 ghost use Rattle.quotient.specs.Joined.{with_one_more};
 
+use crate::places::{Place, Places};
 use indexmap::IndexMap;
 use px_base::Memory;
 use std::alloc::Global;
 use std::marker::Model;
 
-/// The number of edges for each pair of blocks that has one.
+/// The number of edges for each pair of blocks that has one, and where the pair stands in the lists of
+/// neighbours.
 #[derive(Drop)]
 pub(crate) struct Supports {
     table: IndexMap<(u32, u32), u32>,
+    places: Places,
 }
 
 impl Model for Supports {
@@ -38,6 +41,7 @@ impl Supports {
     {
         Supports {
             table: IndexMap::new(alloc),
+            places: Places::new(alloc),
         }
     }
 
@@ -64,7 +68,7 @@ impl Supports {
         ensures room { OnOk result (more ≤ self.new.room) }
     {
         self.table.reserve(more)?;
-        Ok(())
+        self.places.reserve(more)
     }
 
     /// Writes the support of a pair, for which there is room. It takes no memory.
@@ -80,12 +84,15 @@ impl Supports {
         }
     }
 
-    // Takes a pair out, where it is in.
-    fn remove(&mut self, a: u32, b: u32)
+    /// Takes a pair out, where it is in, and gives the place that was noted for it. It takes no memory.
+    pub(crate) fn remove(&mut self, a: u32, b: u32) -> Place
         ensures pairs { self.new.pairs ≡ map.remove self.old.pairs (a, b) }
         ensures room { self.old.room ≤ self.new.room }
     {
-        self.table.swap_remove(&(a, b));
+        match self.table.swap_remove_full(&(a, b)) {
+            Some((i, _, _)) => self.places.take(i),
+            None => Place::new(0, 0),
+        }
     }
 
     // Writes the support of a pair, which isn't 0.
@@ -98,6 +105,38 @@ impl Supports {
         match self.table.insert((a, b), n) {
             Ok(_) => {}
             Err(_) => unreachable!(),
+        }
+    }
+
+    /// Notes the place of the pair that came last into the table.
+    pub(crate) fn push_place(&mut self, place: Place) -> Result<(), Memory>
+        ensures { self.new ≡ self.old }
+    {
+        self.places.push(place)
+    }
+
+    /// Notes the place of the pair that came last into the table, by the room of one. It takes no memory.
+    pub(crate) fn add_place(&mut self, place: Place)
+        ensures { self.new ≡ self.old }
+    {
+        self.places.add(place);
+    }
+
+    /// Notes another place of b among the children of a, where the pair is in.
+    pub(crate) fn note_child(&mut self, a: u32, b: u32, place: usize)
+        ensures { self.new ≡ self.old }
+    {
+        if let Some(i) = self.table.get_index_of(&(a, b)) {
+            self.places.write_child(i, place);
+        }
+    }
+
+    /// Notes another place of a among the parents of b, where the pair is in.
+    pub(crate) fn note_parent(&mut self, a: u32, b: u32, place: usize)
+        ensures { self.new ≡ self.old }
+    {
+        if let Some(i) = self.table.get_index_of(&(a, b)) {
+            self.places.write_parent(i, place);
         }
     }
 

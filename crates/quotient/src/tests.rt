@@ -43,12 +43,18 @@ fn put_edge<L: Ledger>(
     Ok(())
 }
 
-fn tree<L: Ledger>(rt: &impl Abort, alloc: Global, steps: &mut Steps<L>) -> Result<Graph, Fail> {
+fn drawn<L: Ledger>(
+    rt: &impl Abort,
+    alloc: Global,
+    labels: &[u8],
+    edges: &[(NodeId, NodeId)],
+    steps: &mut Steps<L>,
+) -> Result<Graph, Fail> {
     let mut graph = Graph::new(alloc)?;
-    for label in LABELS {
+    for label in labels {
         put_node(rt, alloc, &mut graph, *label)?;
     }
-    for (u, v) in EDGES {
+    for (u, v) in edges {
         put_edge(rt, &mut graph, *u, *v, steps)?;
     }
     Ok(graph)
@@ -151,7 +157,7 @@ fn read_tree<L: Ledger>(rt: &impl Abort, alloc: Global, blank: Blank) -> Result<
     requires some { 0 < blank.parts }
 {
     let mut steps = Steps::<L>::new(blank);
-    let graph = tree(rt, alloc, &mut steps)?;
+    let graph = drawn(rt, alloc, LABELS, EDGES, &mut steps)?;
     let view = graph.view(&mut steps);
     assert_eq!(rt; view.edge_count(), 7);
     let blocks = by_label(rt, alloc)?;
@@ -165,4 +171,119 @@ fn read_tree<L: Ledger>(rt: &impl Abort, alloc: Global, blank: Blank) -> Result<
 #[test]
 fn small_tree(rt: HostRuntime) -> Result<(), Fail> {
     read_tree::<Brand>(&rt, rt.alloc(), Blank::new(1))
+}
+
+// A hub with five children, which are its parents too, each with a label of its own.
+const HUB: &[u8] = b"habcde";
+
+const SPOKES: &[(NodeId, NodeId)] = &[
+    (0, 1),
+    (0, 2),
+    (0, 3),
+    (0, 4),
+    (0, 5),
+    (1, 0),
+    (2, 0),
+    (3, 0),
+    (4, 0),
+    (5, 0),
+];
+
+// Supports that are written one after another, and which children and parents the hub has then.
+const WRITES: &[(u32, u32, u32, &[u32], &[u32])] = &[
+    (0, 2, 0, &[1, 3, 4, 5], &[1, 2, 3, 4, 5]),
+    (0, 5, 0, &[1, 3, 4], &[1, 2, 3, 4, 5]),
+    (4, 0, 0, &[1, 3, 4], &[1, 2, 3, 5]),
+    (0, 2, 7, &[1, 2, 3, 4], &[1, 2, 3, 5]),
+    (0, 1, 0, &[2, 3, 4], &[1, 2, 3, 5]),
+    (1, 0, 0, &[2, 3, 4], &[2, 3, 5]),
+    (0, 2, 0, &[3, 4], &[2, 3, 5]),
+    (5, 0, 0, &[3, 4], &[2, 3]),
+    (0, 4, 0, &[3], &[2, 3]),
+    (2, 0, 0, &[3], &[3]),
+    (0, 3, 0, &[], &[3]),
+    (3, 0, 0, &[], &[]),
+];
+
+// A block for each node.
+fn alone(rt: &impl Abort, alloc: Global) -> Result<Blocks, Fail> {
+    let mut blocks = Blocks::new(alloc)?;
+    blocks.reserve(6, 6)?;
+    let (hub, a, b) = (
+        blocks.new_block(0),
+        blocks.new_block(1),
+        blocks.new_block(2),
+    );
+    let (c, d, e) = (
+        blocks.new_block(3),
+        blocks.new_block(4),
+        blocks.new_block(5),
+    );
+    put(rt, &mut blocks, 0, hub);
+    put(rt, &mut blocks, 1, a);
+    put(rt, &mut blocks, 2, b);
+    put(rt, &mut blocks, 3, c);
+    put(rt, &mut blocks, 4, d);
+    put(rt, &mut blocks, 5, e);
+    Ok(blocks)
+}
+
+// Writes a support between two of eight blocks, with the room that it takes.
+fn write(rt: &impl Abort, summary: &mut Summary, a: u32, b: u32, n: u32) -> Result<(), Fail> {
+    assert!(rt; a < 8);
+    assert!(rt; b < 8);
+    assert!(rt; summary.numbers() < MOST);
+    assert!(rt; summary.blocks() < MOST);
+    summary.reserve(0, 0, 1)?;
+    summary.reserve_span(8)?;
+    summary.reserve_children(a, 1)?;
+    summary.reserve_parents(b, 1)?;
+    assert!(rt; summary.is_block(a));
+    assert!(rt; summary.is_block(b));
+    summary.set_support(a, b, n);
+    Ok(())
+}
+
+// Whether the list has these and no others, if each stands in it once.
+fn has_just(list: &[u32], blocks: &[u32]) -> bool {
+    for b in blocks {
+        if !list.contains(b) {
+            return false;
+        }
+    }
+    list.len() == blocks.len()
+}
+
+fn check_hub(rt: &impl Abort, summary: &Summary, children: &[u32], parents: &[u32]) {
+    assert!(rt; summary.is_node(0));
+    assert!(rt; has_just(summary.children(0), children), "{children:?}");
+    assert!(rt; has_just(summary.parents(0), parents), "{parents:?}");
+    assert_eq!(rt; summary.pairs(), (children.len() + parents.len()) as u64);
+}
+
+fn check_writes(rt: &impl Abort, summary: &mut Summary) -> Result<(), Fail> {
+    for (a, b, n, children, parents) in WRITES {
+        write(rt, summary, *a, *b, *n)?;
+        assert_eq!(rt; summary.support(*a, *b), *n);
+        check_hub(rt, summary, children, parents);
+    }
+    Ok(())
+}
+
+fn take_spokes<L: Ledger>(rt: &impl Abort, alloc: Global, blank: Blank) -> Result<(), Fail>
+    requires name { blank.name ≡ L.name }
+    requires parts { blank.parts ≡ L.parts }
+    requires some { 0 < blank.parts }
+{
+    let mut steps = Steps::<L>::new(blank);
+    let graph = drawn(rt, alloc, HUB, SPOKES, &mut steps)?;
+    let view = graph.view(&mut steps);
+    let blocks = alone(rt, alloc)?;
+    let mut summary = Summary::of(alloc, blocks, &view)?;
+    check_writes(rt, &mut summary)
+}
+
+#[test]
+fn hub_loses_its_spokes(rt: HostRuntime) -> Result<(), Fail> {
+    take_spokes::<Brand>(&rt, rt.alloc(), Blank::new(1))
 }

@@ -5,13 +5,13 @@ use Rattle.quotient.proofs.Near.{near_more, near_first, zero_from, some_from}
 use Rattle.quotient.proofs.joins.Joins.count.Goals as goal
 
 pub returns-in_ok-push-2-clause-supports : goal.returns-in_ok-push-2-clause-supports
-returns-in_ok-push-2-clause-supports c = λ x y. rw c.in_ok-raise.ensures.raised (support_with c.args.self.now.supports.pairs c.args.a c.args.b x y)
+returns-in_ok-push-2-clause-supports c = λ x y. rw (c.push_place.ensures, c.in_ok-raise.ensures.raised) (support_with c.args.self.now.supports.pairs c.args.a c.args.b x y)
 
 pub returns-in_ok-push-2-clause-near : goal.returns-in_ok-push-2-clause-near
 returns-in_ok-push-2-clause-near c =
     let old = c.args.self.now in
     let none = zero_from (support_at old.supports.pairs c.args.a c.args.b) (sym c.in_ok-raise.ensures.first ∙ c.if-branch.true) in
-    rw (c.in_ok-raise.ensures.raised, c.in_ok-push.ensures, c.in_ok-push-2.ensures)
+    rw (c.push_place.ensures, c.in_ok-raise.ensures.raised, c.in_ok-push.ensures, c.in_ok-push-2.ensures)
     (near_first old.supports.pairs old.children.lists old.parents.lists c.args.a c.args.b none c.requires.from c.requires.onto c.requires.near)
 
 pub returns-else-branch-clause-supports : goal.returns-else-branch-clause-supports

@@ -3,6 +3,7 @@ use Rattle.std.specs.Prelude.{nat_lt}
 use Rattle.std.proofs.lemmas.List.{length-set}
 use Rattle.bisim_spec.specs.Views.{SupportTable}
 use Rattle.quotient.specs.Joined.{AreNear, is_supported}
+use Rattle.quotient.specs.Kept.{KeptPairs}
 use Rattle.quotient.proofs.Rooms.{uses_none}
 use Rattle.quotient.proofs.Taken.{near_added, near_still}
 use Rattle.quotient.proofs.joins.Joins.set_first.Goals as goal
@@ -12,10 +13,13 @@ returns-then-n-gt0 c =
     let old = c.args.self.now in
     let cs = old.children.lists in
     let ps = old.parents.lists in
+    let pairs = ap (λ (k : KeptPairs). k.pairs) c.add_place.ensures ∙ c.set.ensures.pairs in
+    let before = c.set.ensures.room in
+    let same_room = ap (λ (k : KeptPairs). k.room) c.add_place.ensures in
     record {
-      pairs = c.set.ensures.pairs;
-      pair_room = c.set.ensures.room;
-      near = subst (λ (t : SupportTable). AreNear t c.add.new.self.lists c.add-then-n-gt0.new.self.lists) (sym c.set.ensures.pairs)
+      pairs = pairs;
+      pair_room = omega (arith, before, same_room);
+      near = subst (λ (t : SupportTable). AreNear t c.add.new.self.lists c.add-then-n-gt0.new.self.lists) (sym pairs)
           (near_added old.supports.pairs cs ps c.add.new.self.lists c.add-then-n-gt0.new.self.lists c.args.a c.args.b c.args.n c.requires.none c.if-n-gt0.true c.requires.from c.requires.onto
           c.add.ensures.lists c.add-then-n-gt0.ensures.lists c.requires.near);
       length_children = ap length c.add.ensures.lists ∙ length-set cs c.args.a _;

@@ -1,4 +1,4 @@
-use Rattle.std.proofs.Common.{◌≡◌, ◌∙◌, List, Option, arith, sym, ap}
+use Rattle.std.proofs.Common.{◌∙◌, arith, ap}
 use Rattle.px_spec.specs.Members.{at}
 use Rattle.quotient.specs.Quotients.{Quotient}
 use Rattle.quotient.specs.Laws.{below_span}
