@@ -27,8 +27,7 @@ impl AkFamily {
     }
 
     /// Makes the family what the draft shows, without blocks that have no members, and drops what was drafted. It can't fail and takes
-    /// no memory. Linear in what is drafted, and for each pair that loses its support in the number of neighbours of both
-    /// blocks.
+    /// no memory. Linear in what is drafted, but for hashing.
     pub fn settle(&mut self, d: &mut AkDraft)
         requires room { HaveRoom self.old d.old }
         requires shows { ShowsFamily self.old d.old }

@@ -32,8 +32,7 @@ impl KeyedDraft {
 
     /// Makes the base what the draft shows, without blocks that have no members, and drops what was drafted.
     /// It can't fail and takes no memory. Each block of the base has a member, and a block that has none as shown
-    /// has no support as shown. Linear in what is drafted, and for each pair that loses its support in the number of
-    /// neighbours of both blocks.
+    /// has no support as shown. Linear in what is drafted, but for hashing.
     pub fn settle(&mut self, base: &mut KeyedSummary)
         requires over { IsKeyedOver base.old self.old }
         requires room { HasKeyRoom base.old self.old }

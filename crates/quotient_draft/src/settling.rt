@@ -40,8 +40,7 @@ impl Draft {
 
     /// Makes the base what the draft shows, without blocks that have no members, and drops what was drafted.
     /// It can't fail and takes no memory. Each block of the base has a member, and a block that has none as shown
-    /// has no support as shown. Linear in what is drafted, and for each pair that loses its support in the number of
-    /// neighbours of both blocks.
+    /// has no support as shown. Linear in what is drafted, but for hashing.
     pub fn settle(&mut self, base: &mut Summary)
         requires over { IsOver base.old.blocks.block_of base.old.blocks.labels self.old }
         requires room { HasRoomFor base.old self.old }
