@@ -1,12 +1,13 @@
 #!/usr/bin/env python3
 """Compares the program with slow, plain definitions: check_by_definition.py PROGRAM [RUNS [changes]].
 
-Each run makes a small random script of changes, queries, lists and sizes. With the word changes it is of changes alone, and after
-each the 1-index and the A(k)-indexes are listed. What the program writes must be what the definitions below give, which work on
-pairs of nodes and know neither splitting of blocks nor automata nor sets that spread along an axis. Where walks come back to
-their beginning several partitions of the 1-index are lawful, so of that which the program lists the demands are tested: it is
-stable, no two blocks can be merged, and since it was last listed nodes that no change reaches are together as before. The
-first script whose output is wrong is printed with it, and the exit status is 1.
+Each run makes a small random script of changes, queries, lists and sizes. With the word changes it is of changes alone, and
+after each the 1-index and the A(k)-indexes are listed; in some of these runs a node gains many neighbours one by one, and loses
+them. What the program writes must be what the definitions below give, which work on pairs of nodes and know neither splitting
+of blocks nor automata nor sets that spread along an axis. Where walks come back to their beginning several partitions of the
+1-index are lawful, so of that which the program lists the demands are tested: it is stable, no two blocks can be merged, and
+since it was last listed nodes that no change reaches are together as before. The first script whose output is wrong is printed
+with it, and the exit status is 1.
 """
 import random
 import subprocess
@@ -17,6 +18,8 @@ LABELS = "abc"
 NODES = 7
 LINKS = 9
 LINES = 60
+HUB_RUNS = 4  # of so many runs of changes one has a hub
+SPOKES = 20, 40
 RUNS = 300
 
 
@@ -47,9 +50,11 @@ class Graph:
 
 def refined(graph, related, sides):
     """The pairs that stay related when on each side each neighbour must have a partner."""
-    def partners(side, u, v):
-        return all(any((p, q) in related for q in side(v)) for p in side(u))
-    return {(u, v) for u, v in related if all(partners(s, u, v) and partners(s, v, u) for s in sides)}
+    tables = [{n: side(n) for n in graph.live()} for side in sides]
+
+    def partners(table, u, v):
+        return all(any((p, q) in related for q in table[v]) for p in table[u])
+    return {(u, v) for u, v in related if all(partners(t, u, v) and partners(t, v, u) for t in tables)}
 
 
 def level(graph, i):
@@ -57,7 +62,9 @@ def level(graph, i):
     live = graph.live()
     related = {(u, v) for u in live for v in live if graph.labels[u] == graph.labels[v]}
     for _ in range(i):
-        related = refined(graph, related, [graph.parents])
+        related, before = refined(graph, related, [graph.parents]), related
+        if related == before:
+            break
     return related
 
 
@@ -399,7 +406,7 @@ class Run:
 
     def __init__(self, seed, changes_alone):
         self.pick = random.Random(seed)
-        self.k = self.pick.randrange(4)
+        self.k = self.pick.randrange(5 if changes_alone else 4)
         self.kept = {"a", "one", "fb"} - {kind for kind in ("one", "fb") if self.pick.randrange(8) == 0}
         self.words = ["--k", str(self.k)] + [f"--without-{kind}" for kind in ("one", "fb") if kind not in self.kept]
         self.graph = Graph()
@@ -409,6 +416,9 @@ class Run:
         self.tests = []
         for change in [self.node] * NODES + [self.link] * LINKS:
             change()
+        if changes_alone and self.pick.randrange(HUB_RUNS) == 0:
+            self.hub()
+            return
         changes = [self.node, self.link, self.link, self.link, self.unlink, self.unlink, self.drop]
         asks = [self.path, self.path, self.branch, self.branch, self.extents, self.sizes]
         for _ in range(LINES):
@@ -443,14 +453,21 @@ class Run:
             self.say(f"extents a{i}", lists(self.graph.copy(), classes(self.graph, level(self.graph, i))))
 
     def node(self):
-        self.graph.labels.append(self.pick.choice(LABELS))
+        self.add(self.pick.choice(LABELS))
+
+    def add(self, label):
+        self.graph.labels.append(label)
         self.moved(len(self.graph.labels) - 1)
-        self.say(f"node {self.graph.labels[-1]}", writes(f"added n{len(self.graph.labels) - 1}"))
+        self.say(f"node {label}", writes(f"added n{len(self.graph.labels) - 1}"))
+        return len(self.graph.labels) - 1
 
     def link(self):
         edge = self.any_node(), self.any_node()
         if not self.may_have_rings:
             edge = min(edge), max(edge[1], min(edge) + 1)
+        self.link_edge(edge)
+
+    def link_edge(self, edge):
         are_live = all(map(self.graph.is_live, edge))
         if are_live and edge not in self.graph.edges:
             self.graph.edges.add(edge)
@@ -458,7 +475,9 @@ class Run:
         self.say("link n%d n%d" % edge, writes("ok" if are_live else "refused no-node"))
 
     def unlink(self):
-        edge = self.pick.choice(sorted(self.graph.edges) + [(self.any_node(), self.any_node())])
+        self.unlink_edge(self.pick.choice(sorted(self.graph.edges) + [(self.any_node(), self.any_node())]))
+
+    def unlink_edge(self, edge):
         if not all(map(self.graph.is_live, edge)):
             reply = "refused no-node"
         else:
@@ -479,6 +498,30 @@ class Run:
             self.graph.labels[node] = None
             self.moved(node)
         self.say(f"drop n{node}", writes(reply))
+
+    def spokes(self):
+        """Further nodes, of which about half have a label of their own."""
+        return [self.add(self.pick.choice(LABELS) if self.pick.randrange(2) else f"s{i}") for i in range(self.pick.randint(*SPOKES) // 2)]
+
+    def hub(self):
+        """A node gains many parents and children one by one, changes some of them, and loses all in another order."""
+        front, hub, back = self.spokes(), self.add(self.pick.choice(LABELS)), self.spokes()
+        edges = [(n, hub) for n in front] + [(hub, n) for n in back]
+        if self.may_have_rings:
+            edges += [(v, u) for u, v in edges if self.pick.randrange(4) == 0]
+        self.turn(self.pick.sample(edges, len(edges)))
+        self.turn(self.pick.choices(edges, k=len(edges) // 2))
+        left = [edge for edge in edges if edge in self.graph.edges]
+        self.turn(self.pick.sample(left, len(left)))
+
+    def turn(self, edges):
+        """Adds each edge, or takes it where it is there."""
+        for edge in edges:
+            if edge in self.graph.edges:
+                self.unlink_edge(edge)
+            else:
+                self.link_edge(edge)
+            self.list_all()
 
     def index(self):
         """The word of an index, and its level where it is an A(k)-index; the index may not be kept."""
