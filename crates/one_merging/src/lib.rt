@@ -4,6 +4,8 @@
 mod members;
 mod merging;
 mod partners;
+mod roots;
 mod suspects;
 
 pub use merging::merge;
+pub use roots::Roots;

@@ -12,9 +12,11 @@ ghost use Rattle.quotient_draft.specs.Basis.{IsOver};
 ghost use Rattle.block_joining.specs.Mates.{shown_joined};
 ghost use Rattle.block_joining.specs.Merged.{HasGraph};
 ghost use Rattle.one_merging.specs.Merging.{IsShown, HasShownGraph, AreShownMates, AreShownSuspects};
+ghost use Rattle.one_merging.specs.Roots.{CoversBase};
 
 use crate::members::larger_first;
 use crate::partners::{Rooms, partner_of};
+use crate::roots::Roots;
 use crate::suspects::Suspects;
 use block_joining::join;
 use px_base::Memory;
@@ -26,17 +28,19 @@ use std::alloc::Global;
 fn next_pair(
     base: &Summary,
     draft: &Draft,
+    roots: &Roots,
     suspects: &mut Suspects,
     rooms: &mut Rooms,
 ) -> Result<Option<(u32, u32)>, Memory>
     requires over { IsOver base.now.blocks.block_of base.now.blocks.labels draft.now }
     requires graph { HasShownGraph base.now draft.now }
+    requires covers { CoversBase base.now roots.now }
     ensures some { IfOk result (λ pair. IfSome pair (λ r. AreShownMates base.now draft.now r.0 r.1)) }
     ensures rest { IfOk result (λ pair. IfSome pair (λ r. (s : Shape) → IsShown s base.now draft.now → AreShownSuspects s base.now draft.now (λ b. IsTrue (has suspects.old b)) → AreShownSuspects s base.now draft.now (λ b. ((b ≡ r.0) ⊎ (b ≡ r.1)) ⊎ IsTrue (has suspects.new b)))) }
     ensures none { IfOk result (λ pair. IfNone pair ((s : Shape) → IsShown s base.now draft.now → AreShownSuspects s base.now draft.now (λ b. IsTrue (has suspects.old b)) → AreShownSuspects s base.now draft.now (λ b. ⊥))) }
 {
     'look: while let Some(a) = suspects.take() {
-        if let Some(b) = partner_of(base, draft, a, rooms)? {
+        if let Some(b) = partner_of(base, draft, roots, a, rooms)? {
             return Ok(Some(larger_first(base, draft, a, b)));
         }
     }
@@ -65,17 +69,19 @@ fn push_near(
 fn merge_pairs(
     base: &Summary,
     draft: &mut Draft,
+    roots: &Roots,
     suspects: &mut Suspects,
     rooms: &mut Rooms,
 ) -> Result<(), Memory>
     requires over { IsOver base.now.blocks.block_of base.now.blocks.labels draft.old }
     requires graph { HasShownGraph base.now draft.old }
+    requires covers { CoversBase base.now roots.now }
     ensures over { OnOk result (IsOver base.now.blocks.block_of base.now.blocks.labels draft.new) }
     ensures merged { OnOk result ((s : Shape) → IsShown s base.now draft.old → AreShownSuspects s base.now draft.old (λ b. IsTrue (has suspects.old b)) → IsDone s (shown_blocks base.now draft.old) (shown_blocks base.now draft.new)) }
     ensures supports { OnOk result ((g : Graph) → AreEdgeCounts g (shown_blocks base.now draft.old) (shown_support base.now draft.old) → AreEdgeCounts g (shown_blocks base.now draft.new) (shown_support base.now draft.new)) }
     ensures named { OnOk result ((names : ℕ → Option ℕ) → AreNamed (shown_blocks base.now draft.old) (at (shown_labels base.now draft.old)) names → AreNamed (shown_blocks base.now draft.new) (at (shown_labels base.now draft.new)) names) }
 {
-    'pairs: while let Some((a, b)) = next_pair(base, draft, suspects, rooms)? {
+    'pairs: while let Some((a, b)) = next_pair(base, draft, roots, suspects, rooms)? {
         join(base, draft, a, b, &mut rooms.others)?;
         push_near(base, draft, a, suspects, &mut rooms.children)?;
     }
@@ -89,16 +95,18 @@ fn merge_pairs(
 ///
 /// Of two blocks that are merged the smaller is moved, and each block next to it is written once. A suspect is
 /// compared with another parent of it and the children of that one, where of its parents the one with the
-/// fewest children in the base is taken; only where it has no other parent than itself, all blocks are looked
-/// through.
+/// fewest children in the base is taken. Where it has no other parent than itself, it is compared with its children, with the blocks
+/// noted for its label, and with those that the draft touches.
 pub fn merge(
     alloc: Global,
     base: &Summary,
     draft: &mut Draft,
+    roots: &Roots,
     suspects: &[u32],
 ) -> Result<(), Memory>
     requires over { IsOver base.now.blocks.block_of base.now.blocks.labels draft.old }
     requires graph { HasGraph (shown_blocks base.now draft.old) (at (shown_labels base.now draft.old)) (shown_support base.now draft.old) }
+    requires covers { CoversBase base.now roots.now }
     ensures over { OnOk result (IsOver base.now.blocks.block_of base.now.blocks.labels draft.new) }
     ensures merged { OnOk result ((s : Shape) → IsViewed s (shown_blocks base.now draft.old) (at (shown_labels base.now draft.old)) (shown_joined base.now draft.old) → AreSuspects s (shown_blocks base.now draft.old) (λ b. IsTrue (has suspects.now b)) → IsDone s (shown_blocks base.now draft.old) (shown_blocks base.now draft.new)) }
     ensures supports { OnOk result ((g : Graph) → AreEdgeCounts g (shown_blocks base.now draft.old) (shown_support base.now draft.old) → AreEdgeCounts g (shown_blocks base.now draft.new) (shown_support base.now draft.new)) }
@@ -107,6 +115,6 @@ pub fn merge(
     let mut waiting = Suspects::new(alloc);
     waiting.add_all(suspects)?;
     let mut rooms = Rooms::new(alloc);
-    merge_pairs(base, draft, &mut waiting, &mut rooms)?;
+    merge_pairs(base, draft, roots, &mut waiting, &mut rooms)?;
     Ok(())
 }

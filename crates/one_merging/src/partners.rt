@@ -1,12 +1,15 @@
 // With which block one can be merged.
-ghost use Rattle.std.specs.Prelude.{◌≡◌, ◌≢◌, ◌⊎◌, ℕ, Some, None, IsTrue, IsFalse, IfSome, IfNone, IfOk};
+ghost use Rattle.std.specs.Prelude.{◌≡◌, ◌≢◌, ◌⊎◌, ℕ, Some, None, IsTrue, IsFalse, IfSome, IfNone, IfOk, OnOk, false};
 ghost use Rattle.px_spec.specs.Members.{at, has, Lists};
-ghost use Rattle.quotient_draft.specs.Drafts.{shown_labels, shown_blocks};
+ghost use Rattle.bisim_spec.specs.Views.{support_at};
+ghost use Rattle.quotient_draft.specs.Drafts.{shown_labels, shown_blocks, shown_support};
 ghost use Rattle.quotient_draft.specs.Basis.{IsOver};
 ghost use Rattle.block_joining.specs.Mates.{shown_joined};
 ghost use Rattle.one_merging.specs.Merging.{HasShownGraph, AreShownMates, AreNoShownMates};
+ghost use Rattle.one_merging.specs.Roots.{IsNoted, CoversBase};
 
 use crate::members::has_members;
+use crate::roots::Roots;
 use block_joining::mergeable;
 use label_graph::Digraph;
 use px_base::Memory;
@@ -139,35 +142,55 @@ fn find_among(
     Ok(None)
 }
 
-// A partner of the block among all. This alone looks at blocks that aren't near the first one.
-fn find_anywhere(
+// Lists the blocks among which a partner is of a block that has no other parent than itself: its children, the blocks noted for its
+// label, and the blocks that the draft touches.
+fn fill_candidates(
     base: &Summary,
     draft: &Draft,
+    roots: &Roots,
+    a: u32,
+    label: u32,
+    list: &mut Vec<u32>,
+) -> Result<(), Memory>
+    ensures children { OnOk result ((b : ℕ) → IsTrue (shown_joined base.now draft.now a b) → IsTrue (has list.new.items b)) }
+    ensures noted { OnOk result ((b : ℕ) → IsNoted roots.now label b → IsTrue (has list.new.items b)) }
+    ensures labels { OnOk result ((b : ℕ) → has list.new.items b ≡ false → at (shown_labels base.now draft.now) b ≡ at base.now.blocks.labels b) }
+    ensures supports { OnOk result ((x b : ℕ) → has list.new.items b ≡ false → shown_support base.now draft.now x b ≡ support_at base.now.supports x b) }
+{
+    draft.fill_children(base, a, list)?;
+    roots.add_to(label, list)?;
+    draft.add_touched(list)?;
+    Ok(())
+}
+
+// A partner of a block that has no other parent than itself.
+fn find_lone(
+    base: &Summary,
+    draft: &Draft,
+    roots: &Roots,
     a: u32,
     parents: &[u32],
+    list: &mut Vec<u32>,
     others: &mut Vec<u32>,
 ) -> Result<Option<u32>, Memory>
     requires over { IsOver base.now.blocks.block_of base.now.blocks.labels draft.now }
     requires graph { HasShownGraph base.now draft.now }
+    requires covers { CoversBase base.now roots.now }
     requires members { (n : ℕ) × (at (shown_blocks base.now draft.now) n ≡ Some a) }
     requires parents { Lists (λ x. shown_joined base.now draft.now x a) parents.now }
+    requires lone { (x : ℕ) → IsTrue (has parents.now x) → x ≡ a }
     ensures some { IfOk result (λ found. IfSome found (AreShownMates base.now draft.now a)) }
     ensures none { IfOk result (λ found. IfNone found ((b : ℕ) → AreNoShownMates base.now draft.now a b)) }
 {
-    let label = draft.label(base, a);
-    for b in 0..draft.span(base) {
-        if is_partner(base, draft, a, label, b, parents, others)? {
-            return Ok(Some(b));
-        }
-    }
-    Ok(None)
+    fill_candidates(base, draft, roots, a, draft.label(base, a), list)?;
+    find_among(base, draft, a, list, parents, others)
 }
 
-// A partner of the block, which has members and these parents: another parent, or a child of that; only where
-// there is no other parent any block.
+// A partner of the block, which has members and these parents: another parent, or a child of that, where there is another parent.
 fn find_partner(
     base: &Summary,
     draft: &Draft,
+    roots: &Roots,
     a: u32,
     parents: &[u32],
     children: &mut Vec<u32>,
@@ -175,13 +198,14 @@ fn find_partner(
 ) -> Result<Option<u32>, Memory>
     requires over { IsOver base.now.blocks.block_of base.now.blocks.labels draft.now }
     requires graph { HasShownGraph base.now draft.now }
+    requires covers { CoversBase base.now roots.now }
     requires members { (n : ℕ) × (at (shown_blocks base.now draft.now) n ≡ Some a) }
     requires parents { Lists (λ x. shown_joined base.now draft.now x a) parents.now }
     ensures some { IfOk result (λ found. IfSome found (AreShownMates base.now draft.now a)) }
     ensures none { IfOk result (λ found. IfNone found ((b : ℕ) → AreNoShownMates base.now draft.now a b)) }
 {
     let Some(x) = other_than(base, parents, a) else {
-        return find_anywhere(base, draft, a, parents, others);
+        return find_lone(base, draft, roots, a, parents, children, others);
     };
     if is_partner(base, draft, a, draft.label(base, a), x, parents, others)? {
         return Ok(Some(x));
@@ -194,11 +218,13 @@ fn find_partner(
 pub(crate) fn partner_of(
     base: &Summary,
     draft: &Draft,
+    roots: &Roots,
     a: u32,
     rooms: &mut Rooms,
 ) -> Result<Option<u32>, Memory>
     requires over { IsOver base.now.blocks.block_of base.now.blocks.labels draft.now }
     requires graph { HasShownGraph base.now draft.now }
+    requires covers { CoversBase base.now roots.now }
     ensures some { IfOk result (λ found. IfSome found (AreShownMates base.now draft.now a)) }
     ensures none { IfOk result (λ found. IfNone found ((b : ℕ) → AreNoShownMates base.now draft.now a b)) }
 {
@@ -209,6 +235,7 @@ pub(crate) fn partner_of(
     find_partner(
         base,
         draft,
+        roots,
         a,
         &rooms.parents,
         &mut rooms.children,

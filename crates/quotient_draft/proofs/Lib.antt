@@ -14,3 +14,4 @@ pub mod Settled
 mod Noted
 mod Supported
 mod Forgotten
+mod Touched

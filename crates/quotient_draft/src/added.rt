@@ -1,7 +1,7 @@
 // Blocks that are drafted.
-ghost use Rattle.std.specs.Prelude.{◌≡◌, ◌+◌, ◌-◌, ◌<◌, ◌≤◌, ◌^◌, ◌++◌, ◌∷◌, [], ℕ, List, Some, None, IsSome, is_some, false, IfOk, OnErr, IfSome, IfNone, length, slice_get, count_by};
+ghost use Rattle.std.specs.Prelude.{◌≡◌, ◌+◌, ◌-◌, ◌<◌, ◌≤◌, ◌^◌, ◌++◌, ◌∷◌, [], ℕ, List, Option, Some, None, IsSome, is_some, false, IfOk, OnErr, IfSome, IfNone, length, slice_get, count_by};
 ghost use Rattle.std.specs.Map.{keys_of};
-ghost use Rattle.px_spec.specs.Members.{at};
+ghost use Rattle.px_spec.specs.Members.{at, has};
 ghost use Rattle.bisim_spec.specs.Views.{support_at};
 ghost use Rattle.block_partition.specs.Partitions.{IsLeastFree};
 ghost use Rattle.quotient_draft.specs.Drafts.{with_added, has_member};
@@ -76,6 +76,13 @@ impl Added {
         ensures { result ≡ length self.now }
     {
         self.blocks.len()
+    }
+
+    /// The numbers of the blocks. All others have the labels that they have in the base.
+    pub(crate) fn numbers(&self) -> &[u32]
+        ensures { (labels : List (Option ℕ)) (b : ℕ) → has result.now b ≡ false → at (with_added labels self.now) b ≡ at labels b }
+    {
+        self.blocks.keys().as_slice()
     }
 
     /// Makes the blocks in the base, which has room for them, under the same numbers.

@@ -77,6 +77,13 @@ impl Changed {
         ends_of(&self.onto, b)
     }
 
+    /// The blocks at which drafted pairs end. To others each block has the support of the base.
+    pub(crate) fn targets(&self) -> &[u32]
+        ensures { (t : SupportTable) (a b : ℕ) → has result.now b ≡ false → support_at (with_supports t self.now) a b ≡ support_at t a b }
+    {
+        self.onto.keys().as_slice()
+    }
+
     /// Drafts the support of a pair.
     pub(crate) fn set(&mut self, a: u32, b: u32, n: u32) -> Result<(), Memory>
         ensures looked { OnOk result ((p : ℕ × ℕ) → lookup (is_pair p) self.new ≡ (if is_pair p (a, b) then Some n else lookup (is_pair p) self.old)) }

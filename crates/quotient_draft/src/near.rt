@@ -38,8 +38,8 @@ impl Draft {
     }
 }
 
-// The blocks of the base that have support to this one.
-fn base_parents(base: &Summary, b: u32) -> &[u32]
+/// The blocks of the base that have support to this one.
+pub(crate) fn base_parents(base: &Summary, b: u32) -> &[u32]
     ensures { Lists (λ a. nat_lt 0 (support_at base.now.supports a b)) result.now }
 {
     // This says that only blocks have support.

@@ -1,0 +1,109 @@
+-- Blocks to which no other block has support.
+use Rattle.std.proofs.Common.{◌≡◌, ◌≢◌, ℕ, ◌<◌, ◌≤◌, ◌⊎◌, List, [], ◌∷◌, ◌++◌, length, take, Option, Some, None, IsTrue, IsSome, is_some, refl, sym, ◌∙◌, ap, subst, arith, inl, inr, true, false, Bool, not, true≢false}
+use Rattle.std.specs.Prelude.{nat_eq, nat_lt, ◌||◌, IfNone, IfOk, Result, Ok, Err, get_or}
+use Rattle.std.specs.List.{list_any}
+use Rattle.std.proofs.lemmas.Bool.{cases_Bool, cases_lt, both_ways, or_cases, or_left, or_right}
+use Rattle.std.proofs.lemmas.Bool.Decides.{Decides-eqb, Decides-ltb, eqb_tells}
+use Rattle.std.proofs.lemmas.List.{get_or_past}
+use Rattle.px_spec.specs.Members.{has, at, Lists}
+use Rattle.px_spec.specs.Shapes.{Shape}
+use Rattle.bisim_spec.proofs.Merging.{mergeable_blocks}
+use Rattle.bisim_spec.specs.Views.{support_at}
+use Rattle.upkeep_spec.specs.Merges.{IsMergeablePair, IsChildBlock}
+use Rattle.upkeep_spec.specs.Viewed.{IsViewed}
+use Rattle.upkeep_spec.proofs.Suspects.{partner_alone}
+use Rattle.quotient.specs.Quotients.{Quotient}
+use Rattle.quotient_draft.specs.Drafts.{Drafted, shown_labels, shown_support}
+use Rattle.quotient_draft.specs.Ends.{listed}
+use Rattle.block_joining.specs.Mates.{AreNoMates}
+use Rattle.one_merging.specs.Roots.{RootLists, IsNoted, IsRoot, CoversRoots, CoversBase, CoversShown}
+use Rattle.one_merging.proofs.Laws.{more_hold, take_end}
+
+zero_by : (n : ℕ) → nat_lt 0 n ≡ false → n ≡ 0
+zero_by n h = grind (arith, h)
+
+-- The tables of a base and what a draft shows of them, and a list: the children of a are in it, the blocks that are noted for a label, and
+-- all blocks whose labels or parents aren't those of the base.
+pub record AreCandidates (labels base_labels : ℕ → Option ℕ) (support base_support : ℕ → ℕ → ℕ) (roots : RootLists) (a label : ℕ) (list : List ℕ) : Type 0 where
+  pub children : (b : ℕ) → IsTrue (nat_lt 0 (support a b)) → IsTrue (has list b)
+  pub noted : (b : ℕ) → IsNoted roots label b → IsTrue (has list b)
+  pub labels_are : (b : ℕ) → has list b ≡ false → labels b ≡ base_labels b
+  pub supports_are : (x b : ℕ) → has list b ≡ false → support x b ≡ base_support x b
+
+-- a block that is in no such list is no partner of a block that has no other parent than itself
+pub no_mates_lone : (p : List (Option ℕ)) (labels base_labels : ℕ → Option ℕ) (support base_support : ℕ → ℕ → ℕ) (roots : RootLists) (a label : ℕ) (list : List ℕ)
+    → ((x : ℕ) → IsTrue (nat_lt 0 (support x a)) → x ≡ a) → labels a ≡ Some label → CoversRoots base_labels base_support roots
+    → AreCandidates labels base_labels support base_support roots a label list
+    → ((b : ℕ) → IsTrue (has list b) → AreNoMates p labels (λ x y. nat_lt 0 (support x y)) a b) → (b : ℕ) → AreNoMates p labels (λ x y. nat_lt 0 (support x y)) a b
+no_mates_lone p labels base_labels support base_support roots a label list lone own covers are among b s v can = elim (cases_Bool (has list b)) [
+  | inl there ↦ among b there s v can
+  | inr off ↦ (
+      let m = (mergeable_blocks s p a b can.first.0 can.second.0 v.shape v.stable can.first.1 can.second.1).0 can.can in
+      let same = (v.labelled.same can.first.0 can.second.0 a b can.first.1 can.second.1).1 (m.label can.first.0 can.second.0 can.first.1 can.second.1) in
+      both_ways (has list b) off (are.noted b (covers.each b label (sym (are.labels_are b off) ∙ sym same ∙ own) (λ x ne. sym (are.supports_are x b off) ∙ alone s v can off x ne))))
+]
+  where
+    alone : (s : Shape) → IsViewed s p labels (λ x y. nat_lt 0 (support x y)) → IsMergeablePair s p a b → has list b ≡ false → (x : ℕ) → x ≢ b → support x b ≡ 0
+    alone s v can off x ne = elim (cases_Bool (nat_lt 0 (support x b))) [
+      | inr none ↦ zero_by (support x b) none
+      | inl some ↦ absurd (elim (partner_alone s p a b x can (λ z k. lone z (v.into z a k)) (v.from x b some)) [
+        | inl e ↦ both_ways (has list b) off (are.children b (ap (λ z. nat_lt 0 (support z b)) (sym e) ∙ some))
+        | inr e ↦ ne e
+      ])
+    ]
+
+pub none_lone : {E : Type 0} (r : Result (Option ℕ) E) (p : List (Option ℕ)) (labels base_labels : ℕ → Option ℕ) (support base_support : ℕ → ℕ → ℕ) (roots : RootLists) (a label : ℕ)
+    (xs list : List ℕ) → Lists (λ x. nat_lt 0 (support x a)) xs → ((x : ℕ) → IsTrue (has xs x) → x ≡ a) → labels a ≡ Some label → CoversRoots base_labels base_support roots
+    → AreCandidates labels base_labels support base_support roots a label list
+    → IfOk r (λ o. IfNone o ((b : ℕ) → IsTrue (has list b) → AreNoMates p labels (λ x y. nat_lt 0 (support x y)) a b))
+    → IfOk r (λ o. IfNone o ((b : ℕ) → AreNoMates p labels (λ x y. nat_lt 0 (support x y)) a b))
+none_lone (Ok None) p labels base_labels support base_support roots a label xs list parents lone own covers are among =
+    no_mates_lone p labels base_labels support base_support roots a label list (λ x h. lone x (parents.members x ∙ h)) own covers are among
+none_lone (Ok (Some c)) p labels base_labels support base_support roots a label xs list parents lone own covers are among = among
+none_lone (Err e) p labels base_labels support base_support roots a label xs list parents lone own covers are among = among
+
+-- what is noted stays covered
+pub covers_kept : (labels : ℕ → Option ℕ) (support : ℕ → ℕ → ℕ) (roots roots2 : RootLists) → ((l c : ℕ) → IsNoted roots l c → IsNoted roots2 l c) → CoversRoots labels support roots
+    → CoversRoots labels support roots2
+covers_kept labels support roots roots2 kept covers = record { each = λ b l h k. kept l b (covers.each b l h k) }
+
+-- where those of the touched blocks are noted, and the others have the labels and the parents of the base
+pub covers_touched : (q : Quotient) (d : Drafted) (roots roots2 : RootLists) (touched : List ℕ) → CoversBase q roots → ((l c : ℕ) → IsNoted roots l c → IsNoted roots2 l c)
+    → ((b : ℕ) → has touched b ≡ false → at (shown_labels q d) b ≡ at q.blocks.labels b) → ((a b : ℕ) → has touched b ≡ false → shown_support q d a b ≡ support_at q.supports a b)
+    → ((b l : ℕ) → IsTrue (has touched b) → at (shown_labels q d) b ≡ Some l → IsRoot (shown_support q d) b → IsNoted roots2 l b) → CoversShown q d roots2
+covers_touched q d roots roots2 touched covers kept labels supports noted = record {
+  each = λ b l h k. elim (cases_Bool (has touched b)) [
+    | inl there ↦ noted b l there h k
+    | inr off ↦ kept l b (covers.each b l (sym (labels b off) ∙ h) (λ a ne. sym (supports a b off) ∙ k a ne))
+  ];
+}
+
+-- Those below a number are noted.
+pub record CoversBelow (labels : ℕ → Option ℕ) (support : ℕ → ℕ → ℕ) (roots : RootLists) (n : ℕ) : Type 0 where
+  pub each : (b label : ℕ) → b < n → labels b ≡ Some label → IsRoot support b → IsNoted roots label b
+
+pub covers_all : (labels : List (Option ℕ)) (support : ℕ → ℕ → ℕ) (roots : RootLists) (n : ℕ) → length labels ≤ n → CoversBelow (at labels) support roots n → CoversRoots (at labels) support roots
+covers_all labels support roots n past below = record {
+  each = λ b l h k. elim (cases_lt b n) [
+    | inl less ↦ below.each b l less h k
+    | inr over ↦ absurd (true≢false (sym (ap is_some h) ∙ ap is_some (get_or_past labels b None (omega (arith, past, over)))))
+  ];
+}
+
+-- all parents are the block itself
+pub all_own : (support : ℕ → ℕ) (b : ℕ) (xs : List ℕ) → Lists (λ a. nat_lt 0 (support a)) xs → ((a : ℕ) → a ≢ b → support a ≡ 0) → not (list_any (λ a. not (nat_eq a b)) xs) ≡ true
+all_own support b xs parents root = elim (cases_Bool (list_any (λ a. not (nat_eq a b)) xs)) [
+  | inr off ↦ ap not off
+  | inl on ↦ absurd (
+      let found = any_get (λ a. not (nat_eq a b)) xs on in
+      let zero = root found.0 (λ same. true≢false (sym found.2 ∙ ap not ((Decides-eqb found.0 b).1 same))) in
+      let some = (Decides-ltb 0 (support found.0)).0 (sym (parents.members found.0) ∙ found.1) in
+      omega (arith, zero, some))
+]
+  where
+    any_get : (p : ℕ → Bool) (xs : List ℕ) → list_any p xs ≡ true → (a : ℕ) × (has xs a ≡ true) × (p a ≡ true)
+    any_get p [] h = absurd (true≢false (sym h))
+    any_get p (x ∷ xs) h = elim (or_cases (p x) (list_any p xs) h) [
+      | inl here ↦ (x, or_left (nat_eq x x) (has xs x) ((Decides-eqb x x).1 refl), here)
+      | inr there ↦ (let r = any_get p xs there in (r.0, or_right (nat_eq r.0 x) (has xs r.0) r.1, r.2))
+    ]

@@ -1,0 +1,32 @@
+-- Blocks to which no other block has support, noted by their labels.
+use Rattle.std.specs.Prelude.{◌≡◌, ◌≢◌, ℕ, List, Option, Some, IsTrue}
+use Rattle.smallvec.specs.SmallVec.{SmallVec}
+use Rattle.px_spec.specs.Members.{at, has}
+use Rattle.bisim_spec.specs.Views.{support_at}
+use Rattle.quotient.specs.Quotients.{Quotient}
+use Rattle.quotient_draft.specs.Drafts.{Drafted, shown_labels, shown_support}
+use Rattle.quotient_draft.specs.Ends.{listed}
+
+-- labels, each with the blocks that are noted for it
+abbrev pub RootLists : Type 0
+RootLists = List (ℕ × SmallVec ℕ)
+
+-- whether a block is noted for a label
+abbrev pub IsNoted : RootLists → ℕ → ℕ → Type 0
+IsNoted roots label b = IsTrue (has (listed roots label) b)
+
+-- no other block has support to this one
+abbrev pub IsRoot : (ℕ → ℕ → ℕ) → ℕ → Type 0
+IsRoot support b = (a : ℕ) → a ≢ b → support a b ≡ 0
+
+-- Each block to which no other has support is noted for its label. Others may be noted too.
+pub record CoversRoots (labels : ℕ → Option ℕ) (support : ℕ → ℕ → ℕ) (roots : RootLists) : Type 0 where
+  pub each : (b label : ℕ) → labels b ≡ Some label → IsRoot support b → IsNoted roots label b
+
+-- those of a quotient
+abbrev pub CoversBase : Quotient → RootLists → Type 0
+CoversBase q roots = CoversRoots (at q.blocks.labels) (support_at q.supports) roots
+
+-- those of a quotient as a draft shows it
+abbrev pub CoversShown : Quotient → Drafted → RootLists → Type 0
+CoversShown q d roots = CoversRoots (at (shown_labels q d)) (shown_support q d) roots

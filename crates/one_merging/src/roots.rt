@@ -1,0 +1,194 @@
+// The blocks without other parents than themselves, by their labels.
+ghost use Rattle.std.specs.Prelude.{◌≡◌, ◌++◌, ℕ, Some, IsTrue, IsSome, IfOk, OnOk, true, not, nat_eq};
+ghost use Rattle.std.specs.List.{list_any};
+ghost use Rattle.px_spec.specs.Members.{at, has};
+ghost use Rattle.bisim_spec.specs.Views.{support_at};
+ghost use Rattle.quotient_draft.specs.Basis.{IsOver};
+ghost use Rattle.quotient_draft.specs.Drafts.{shown_labels, shown_support};
+ghost use Rattle.quotient_draft.specs.Ends.{listed};
+ghost use Rattle.one_merging.specs.Roots.{IsNoted, IsRoot, CoversBase, CoversShown};
+
+use indexmap::IndexMap;
+use label_graph::Digraph;
+use px_base::Memory;
+use quotient::Summary;
+use quotient_draft::Draft;
+use smallvec::SmallVec;
+use std::alloc::Global;
+use std::marker::Model;
+
+/// For each label a list of blocks. Short lists take no memory of their own.
+type Lists = IndexMap<u32, SmallVec<u32, 4>>;
+
+/// The blocks to which no other block has support, by their labels. Blocks that were so once may be there too.
+#[derive(Drop)]
+pub struct Roots {
+    lists: Lists,
+    made: usize,
+    further: usize,
+}
+
+impl Model for Roots {
+    ghost use Rattle.one_merging.specs.Roots.{RootLists};
+
+    ghost Value = { RootLists };
+
+    ghost view = { λ r. r.lists.entries };
+}
+
+impl Roots {
+    /// Those of a base. Linear in its blocks and their supports.
+    pub fn of(alloc: Global, base: &Summary) -> Result<Roots, Memory>
+        ensures covers { IfOk result (CoversBase base.now) }
+    {
+        let mut roots = Roots {
+            lists: IndexMap::new(alloc),
+            made: 0,
+            further: 0,
+        };
+        roots.note_base(base)?;
+        roots.made = roots.further;
+        roots.further = 0;
+        Ok(roots)
+    }
+
+    /// Whether far more blocks were noted since these were made than then.
+    pub fn are_many(&self) -> bool {
+        self.further > self.made.saturating_add(64)
+    }
+
+    /// Adds to the list the blocks that are noted for a label. Linear in these.
+    pub(crate) fn add_to(&self, label: u32, list: &mut Vec<u32>) -> Result<(), Memory>
+        ensures { OnOk result (list.new.items ≡ list.old.items ++ listed self.now label) }
+    {
+        list.extend_from_slice(blocks_of(&self.lists, label))?;
+        Ok(())
+    }
+
+    /// Notes those that a draft brings, so that those that it shows are noted. Linear in what is drafted and in the parents of the
+    /// blocks that it touches.
+    pub fn note_touched(&mut self, alloc: Global, base: &Summary, draft: &Draft) -> Result<(), Memory>
+        requires over { IsOver base.now.blocks.block_of base.now.blocks.labels draft.now }
+        requires covers { CoversBase base.now self.old }
+        ensures kept { CoversBase base.now self.new }
+        ensures shown { OnOk result (CoversShown base.now draft.now self.new) }
+    {
+        let mut touched = Vec::new(alloc);
+        draft.add_touched(&mut touched)?;
+        self.note_roots(base, draft, &touched)?;
+        Ok(())
+    }
+
+    // Notes those of a base.
+    fn note_base(&mut self, base: &Summary) -> Result<(), Memory>
+        ensures covers { OnOk result (CoversBase base.now self.new) }
+    {
+        for b in 0..base.size() {
+            if is_root(base, b) {
+                self.note(base.label(b), b)?;
+            }
+        }
+        Ok(())
+    }
+
+    // Notes those of the blocks to which no other has support as shown.
+    fn note_roots(&mut self, base: &Summary, draft: &Draft, blocks: &[u32]) -> Result<(), Memory>
+        requires over { IsOver base.now.blocks.block_of base.now.blocks.labels draft.now }
+        ensures kept { (l c : ℕ) → IsNoted self.old l c → IsNoted self.new l c }
+        ensures noted { OnOk result ((b label : ℕ) → IsTrue (has blocks.now b) → at (shown_labels base.now draft.now) b ≡ Some label → IsRoot (shown_support base.now draft.now) b → IsNoted self.new label b) }
+    {
+        for i in 0..blocks.len() {
+            self.note_shown(base, draft, blocks[i])?;
+        }
+        Ok(())
+    }
+
+    // Notes a block, where no other has support to it as shown.
+    fn note_shown(&mut self, base: &Summary, draft: &Draft, b: u32) -> Result<(), Memory>
+        requires over { IsOver base.now.blocks.block_of base.now.blocks.labels draft.now }
+        ensures kept { (l c : ℕ) → IsNoted self.old l c → IsNoted self.new l c }
+        ensures noted { OnOk result ((label : ℕ) → at (shown_labels base.now draft.now) b ≡ Some label → IsRoot (shown_support base.now draft.now) b → IsNoted self.new label b) }
+    {
+        if !draft.is_block(base, b) {
+            return Ok(());
+        }
+        if draft.has_other_parent(base, b) {
+            return Ok(());
+        }
+        self.note(draft.label(base, b), b)
+    }
+
+    // Notes a block for a label, once.
+    fn note(&mut self, label: u32, b: u32) -> Result<(), Memory>
+        ensures kept { (l c : ℕ) → IsNoted self.old l c → IsNoted self.new l c }
+        ensures noted { OnOk result (IsNoted self.new label b) }
+    {
+        if is_listed(&self.lists, label, b) {
+            return Ok(());
+        }
+        add(&mut self.lists, label, b)?;
+        self.further = self.further.saturating_add(1);
+        Ok(())
+    }
+}
+
+// The blocks that are noted for a label.
+fn blocks_of(lists: &Lists, label: u32) -> &[u32]
+    ensures { result.now ≡ listed lists.now.entries label }
+{
+    match lists.get(&label) {
+        Some(list) => list.as_slice(),
+        None => &[],
+    }
+}
+
+// Whether a block is noted for a label.
+fn is_listed(lists: &Lists, label: u32, b: u32) -> bool
+    ensures { result ≡ has (listed lists.now.entries label) b }
+{
+    blocks_of(lists, label).contains(&b)
+}
+
+// Notes a block for a label.
+fn add(lists: &mut Lists, label: u32, b: u32) -> Result<(), Memory>
+    ensures kept { (l c : ℕ) → IsNoted lists.old.entries l c → IsNoted lists.new.entries l c }
+    ensures noted { OnOk result (IsNoted lists.new.entries label b) }
+{
+    match lists.get_mut(&label) {
+        Some(list) => list.push(b)?,
+        None => add_list(lists, label, b)?,
+    }
+    Ok(())
+}
+
+// Notes the first block for a label.
+fn add_list(lists: &mut Lists, label: u32, b: u32) -> Result<(), Memory>
+    requires { listed lists.old.entries label ≡ [] }
+    ensures kept { (l c : ℕ) → IsNoted lists.old.entries l c → IsNoted lists.new.entries l c }
+    ensures noted { OnOk result (IsNoted lists.new.entries label b) }
+{
+    let mut list = SmallVec::new(*lists.allocator());
+    list.push(b)?;
+    lists.insert(label, list)?;
+    Ok(())
+}
+
+// Whether the number is that of a block to which no other has support.
+fn is_root(base: &Summary, b: u32) -> bool
+    ensures block { IsTrue result → IsSome (at base.now.blocks.labels b) }
+    ensures all { IsSome (at base.now.blocks.labels b) → IsRoot (support_at base.now.supports) b → IsTrue result }
+{
+    // This says that only blocks have support.
+    let _ = base.blocks();
+    if !base.is_node(b) {
+        return false;
+    }
+    are_all(base.parents(b), b)
+}
+
+// Whether each of the blocks is this one.
+fn are_all(blocks: &[u32], b: u32) -> bool
+    ensures { result ≡ not (list_any (λ a. not (nat_eq a b)) blocks.now) }
+{
+    !blocks.iter().any(|a| *a != b)
+}
