@@ -7,6 +7,7 @@ ghost use Rattle.graph_update.specs.NewChanges.{IsNew};
 ghost use Rattle.graph_update.specs.Judging.{change_of};
 ghost use Rattle.quotient.specs.Quotients.{view_of};
 ghost use Rattle.quotient_draft.specs.Drafts.{no_changes, has_member, settled_view, shown_blocks, shown_support};
+ghost use Rattle.one_merging.specs.Roots.{CoversBase};
 ghost use Rattle.one_drafting.specs.Drafting.{IsBefore, IsDrafted, IsNodeChange, IsSupported, most_steps};
 
 use crate::linking::{draft_link, draft_unlink};
@@ -14,6 +15,7 @@ use crate::nodes::{draft_drop, draft_node};
 use crate::resettling::resettle;
 use graph_update::{After, Change};
 use label_graph::Graph;
+use one_merging::Roots;
 use px_base::{Memory, NodeId, Steps};
 use quotient::Summary;
 use quotient_draft::Draft;
@@ -25,17 +27,19 @@ fn add_node<L: Ledger>(
     alloc: Global,
     base: &Summary,
     draft: &mut Draft,
+    roots: &Roots,
     after: &After<'_>,
     steps: &mut Steps<L>,
 ) -> Result<(), Memory>
     requires before { IsBefore after.now base.now }
+    requires covers { CoversBase base.now roots.now }
     requires empty { draft.old ≡ no_changes }
     requires node { IsNodeChange after.now.change }
     ensures drafted { OnOk result (IsDrafted after.now.before after.now.change base.now draft.new) }
     ensures cost { steps.new ≤ steps.old + most_steps after.now.before after.now.change }
 {
     let n = draft_node(base, draft, after)?;
-    resettle(alloc, base, draft, after, n, steps)
+    resettle(alloc, base, draft, roots, after, n, steps)
 }
 
 // A node goes.
@@ -43,18 +47,20 @@ fn drop_node<L: Ledger>(
     alloc: Global,
     base: &Summary,
     draft: &mut Draft,
+    roots: &Roots,
     after: &After<'_>,
     u: NodeId,
     steps: &mut Steps<L>,
 ) -> Result<(), Memory>
     requires before { IsBefore after.now base.now }
+    requires covers { CoversBase base.now roots.now }
     requires empty { draft.old ≡ no_changes }
     requires drops { after.now.change ≡ drop u }
     ensures drafted { OnOk result (IsDrafted after.now.before after.now.change base.now draft.new) }
     ensures cost { steps.new ≤ steps.old + most_steps after.now.before after.now.change }
 {
     draft_drop(base, draft, after, u)?;
-    resettle(alloc, base, draft, after, u, steps)
+    resettle(alloc, base, draft, roots, after, u, steps)
 }
 
 // An edge comes.
@@ -62,12 +68,14 @@ fn add_edge<L: Ledger>(
     alloc: Global,
     base: &Summary,
     draft: &mut Draft,
+    roots: &Roots,
     after: &After<'_>,
     u: NodeId,
     v: NodeId,
     steps: &mut Steps<L>,
 ) -> Result<(), Memory>
     requires before { IsBefore after.now base.now }
+    requires covers { CoversBase base.now roots.now }
     requires empty { draft.old ≡ no_changes }
     requires links { after.now.change ≡ link u v }
     ensures drafted { OnOk result (IsDrafted after.now.before after.now.change base.now draft.new) }
@@ -77,7 +85,7 @@ fn add_edge<L: Ledger>(
     if draft_link(base, draft, after, u, v)? {
         return Ok(());
     }
-    resettle(alloc, base, draft, after, v, steps)
+    resettle(alloc, base, draft, roots, after, v, steps)
 }
 
 // An edge goes.
@@ -85,12 +93,14 @@ fn drop_edge<L: Ledger>(
     alloc: Global,
     base: &Summary,
     draft: &mut Draft,
+    roots: &Roots,
     after: &After<'_>,
     u: NodeId,
     v: NodeId,
     steps: &mut Steps<L>,
 ) -> Result<(), Memory>
     requires before { IsBefore after.now base.now }
+    requires covers { CoversBase base.now roots.now }
     requires empty { draft.old ≡ no_changes }
     requires unlinks { after.now.change ≡ unlink u v }
     ensures drafted { OnOk result (IsDrafted after.now.before after.now.change base.now draft.new) }
@@ -99,7 +109,7 @@ fn drop_edge<L: Ledger>(
     if draft_unlink(base, draft, after, u, v, steps)? {
         return Ok(());
     }
-    resettle(alloc, base, draft, after, v, steps)
+    resettle(alloc, base, draft, roots, after, v, steps)
 }
 
 // What the change makes.
@@ -107,11 +117,13 @@ fn draft_pending<L: Ledger>(
     alloc: Global,
     base: &Summary,
     draft: &mut Draft,
+    roots: &Roots,
     after: &After<'_>,
     change: &Change,
     steps: &mut Steps<L>,
 ) -> Result<(), Memory>
     requires before { IsBefore after.now base.now }
+    requires covers { CoversBase base.now roots.now }
     requires empty { draft.old ≡ no_changes }
     requires same { after.now.change ≡ change_of change.now }
     ensures drafted { OnOk result (IsDrafted after.now.before after.now.change base.now draft.new) }
@@ -119,16 +131,16 @@ fn draft_pending<L: Ledger>(
     ensures free { (u v : ℕ) → change_of change.now ≡ link u v → IsSupported (view_of base.now) u v → steps.new ≡ steps.old }
 {
     match change {
-        Change::Node(_) => add_node(alloc, base, draft, after, steps),
-        Change::Link(u, v) => add_edge(alloc, base, draft, after, *u, *v, steps),
-        Change::Unlink(u, v) => drop_edge(alloc, base, draft, after, *u, *v, steps),
-        Change::Drop(u) => drop_node(alloc, base, draft, after, *u, steps),
+        Change::Node(_) => add_node(alloc, base, draft, roots, after, steps),
+        Change::Link(u, v) => add_edge(alloc, base, draft, roots, after, *u, *v, steps),
+        Change::Unlink(u, v) => drop_edge(alloc, base, draft, roots, after, *u, *v, steps),
+        Change::Drop(u) => drop_node(alloc, base, draft, roots, after, *u, steps),
     }
 }
 
 /// Drafts what a change, which `judge` accepts as new, will make of the 1-index of a graph: the next partition,
 /// its labels and its supports. The graph is as it was. Once the draft is settled, the 1-index is that of the graph
-/// after the change.
+/// after the change. The blocks of the base to which no other has support are among the roots.
 ///
 /// It takes at most `8 * (r + 1) * w` steps, where the change reaches `r` nodes, and `w` is one for each of them, one
 /// for each of its parents and one for each of its children. It takes no step for an edge between blocks that have support. At want of memory the draft is only good to be cleared.
@@ -136,11 +148,13 @@ pub fn draft_change<L: Ledger>(
     alloc: Global,
     base: &Summary,
     draft: &mut Draft,
+    roots: &Roots,
     graph: &Graph,
     change: &Change,
     steps: &mut Steps<L>,
 ) -> Result<(), Memory>
     requires fits { FitsOne graph.now.graph (view_of base.now) }
+    requires covers { CoversBase base.now roots.now }
     requires new { IsNew (change_of change.now) graph.now.graph }
     requires empty { draft.old ≡ no_changes }
     ensures drafted { OnOk result (IsDrafted graph.now.graph (change_of change.now) base.now draft.new) }
@@ -153,6 +167,6 @@ pub fn draft_change<L: Ledger>(
     // Called for its contract: edges are few.
     let _edges = graph.edge_count();
     let after = After::new(graph, change);
-    draft_pending(alloc, base, draft, &after, change, steps)?;
+    draft_pending(alloc, base, draft, roots, &after, change, steps)?;
     Ok(())
 }

@@ -4,17 +4,20 @@ ghost use Rattle.px_spec.specs.Members.{at, has};
 ghost use Rattle.px_spec.specs.Shapes.{shape_of};
 ghost use Rattle.label_graph.specs.Views.{label_number};
 ghost use Rattle.bisim_spec.specs.Stability.{Minimal, Stable, StableBut};
+ghost use Rattle.bisim_spec.specs.Targets.{KeepsBlocks};
 ghost use Rattle.upkeep_spec.specs.Named.{AreNamed, AreNamedOff};
 ghost use Rattle.upkeep_spec.specs.Rounds.{IsRefinement, SameBut};
 ghost use Rattle.upkeep_spec.specs.Supported.{AreEdgeCounts};
 ghost use Rattle.graph_update.specs.Pending.{graph_after};
 ghost use Rattle.quotient_draft.specs.Drafts.{shown_blocks, shown_labels, shown_support};
 ghost use Rattle.quotient_draft.specs.Basis.{IsOver};
+ghost use Rattle.one_merging.specs.Roots.{CoversBase};
 ghost use Rattle.one_drafting.specs.Drafting.{IsOnlyTarget, IsSplitOf, reached, rounds_cost};
 
 use crate::resettling::add_block;
 use graph_update::After;
 use near_nodes::reached_nodes;
+use one_merging::Roots;
 use px_base::{Memory, NodeId, Steps};
 use quotient::Summary;
 use quotient_draft::Draft;
@@ -23,7 +26,8 @@ use std::sync::ledger::Ledger;
 
 /// Splits blocks in the draft until the partition shown is stable on the graph after the change, where before it was so but
 /// maybe at the target. The target's block may have another label than the target. Each block that is shown then lies within one
-/// that was shown. Only what the target reaches is read and moved.
+/// that was shown. Only what the target reaches is read and moved. Where the base was stable and no two of its blocks could be merged, and
+/// the nodes were in its blocks, it leaves what `merge` asks.
 ///
 /// It takes at most `4 * (r + 1) * w` steps, where the target reaches `r` nodes, and `w` is one for each of them, one for each of its
 /// parents and one for each of its children. After `Memory`, which also comes past 2^31 blocks, the draft is only good to be cleared.
@@ -46,6 +50,7 @@ pub fn split<L: Ledger>(
     ensures named { OnOk result (AreNamed (shown_blocks base.now draft.new) (at (shown_labels base.now draft.new)) (label_number (graph_after after.now))) }
     ensures within { OnOk result (IsRefinement (shown_blocks base.now draft.old) (shown_blocks base.now draft.new)) }
     ensures same { OnOk result (SameBut (shown_blocks base.now draft.old) (shown_blocks base.now draft.new) (reached after.now.before after.now.change)) }
+    ensures split { OnOk result (Stable (shape_of after.now.before) base.now.blocks.block_of → Minimal (shape_of after.now.before) base.now.blocks.block_of → KeepsBlocks (shape_of after.now.before) (shape_of (graph_after after.now)) base.now.blocks.block_of (shown_blocks base.now draft.old) → IsSplitOf after.now.before after.now.change base.now.blocks.block_of (shown_blocks base.now draft.new)) }
     ensures cost { steps.new ≤ steps.old + 4 * rounds_cost (shape_of (graph_after after.now)) (reached after.now.before after.now.change) }
 {
     // This says that there is a graph, so that what is reached is closed under edges.
@@ -73,7 +78,8 @@ fn add_blocks(
 
 /// Merges blocks in the draft until no two can be merged, where the partition shown is stable on the graph after the change and
 /// came by splitting that of the base, of which no two blocks could be merged. The graph is read only to find what the target
-/// reaches: of each two blocks that can be merged one has no other members. The rest is done by the tables of blocks.
+/// reaches: of each two blocks that can be merged one has no other members. The rest is done by the tables of blocks. The blocks of the
+/// base to which no other has support are among the roots.
 ///
 /// It takes at most `3 * (r + 1) * w` steps, where the target reaches `r` nodes, and `w` is one for each of them, one for each of its
 /// parents and one for each of its children. After `Memory` the draft is only good to be cleared.
@@ -81,11 +87,13 @@ pub fn merge<L: Ledger>(
     alloc: Global,
     base: &Summary,
     draft: &mut Draft,
+    roots: &Roots,
     after: &After<'_>,
     target: NodeId,
     steps: &mut Steps<L>,
 ) -> Result<(), Memory>
     requires target { IsOnlyTarget after.now.before after.now.change target }
+    requires covers { CoversBase base.now roots.now }
     requires over { IsOver base.now.blocks.block_of base.now.blocks.labels draft.old }
     requires supports { AreEdgeCounts (graph_after after.now) (shown_blocks base.now draft.old) (shown_support base.now draft.old) }
     requires stable { Stable (shape_of (graph_after after.now)) (shown_blocks base.now draft.old) }
@@ -105,6 +113,6 @@ pub fn merge<L: Ledger>(
     let nodes = reached_nodes(alloc, after, &[target], steps)?;
     let mut blocks = Vec::new(alloc);
     add_blocks(base, draft, &nodes, &mut blocks)?;
-    one_merging::merge(alloc, base, draft, &blocks)?;
+    one_merging::merge(alloc, base, draft, roots, &blocks)?;
     Ok(())
 }

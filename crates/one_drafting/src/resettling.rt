@@ -6,10 +6,11 @@ ghost use Rattle.bisim_spec.specs.Targets.{KeepsParents};
 ghost use Rattle.graph_update.specs.Pending.{graph_after};
 ghost use Rattle.quotient_draft.specs.Drafts.{shown_blocks};
 ghost use Rattle.quotient_draft.specs.Basis.{IsOver};
+ghost use Rattle.one_merging.specs.Roots.{CoversBase};
 ghost use Rattle.one_drafting.specs.Drafting.{IsBefore, ShowsChange, IsDrafted, IsOnlyTarget, reached, rounds_cost};
 
 use graph_update::After;
-use one_merging::merge;
+use one_merging::{Roots, merge};
 use one_splitting::split;
 use px_base::{Memory, NodeId, Steps};
 use quotient::Summary;
@@ -40,11 +41,13 @@ pub(crate) fn resettle<L: Ledger>(
     alloc: Global,
     base: &Summary,
     draft: &mut Draft,
+    roots: &Roots,
     after: &After<'_>,
     target: NodeId,
     steps: &mut Steps<L>,
 ) -> Result<(), Memory>
     requires before { IsBefore after.now base.now }
+    requires covers { CoversBase base.now roots.now }
     requires changed { ShowsChange after.now.before after.now.change base.now draft.old }
     requires target { IsOnlyTarget after.now.before after.now.change target }
     requires moves { KeepsParents after.now.change (graph_after after.now) base.now.blocks.block_of → ⊥ }
@@ -54,6 +57,6 @@ pub(crate) fn resettle<L: Ledger>(
     let mut blocks = Vec::new(alloc);
     split(alloc, base, draft, after, &[target], &mut blocks, steps)?;
     add_block(base, draft, target, &mut blocks)?;
-    merge(alloc, base, draft, &blocks)?;
+    merge(alloc, base, draft, roots, &blocks)?;
     Ok(())
 }

@@ -1,4 +1,4 @@
-// Two chains that are alike, until an edge leads to the second.
+// Two chains that are alike, until an edge leads to the second from where one leads to a third.
 ghost use Rattle.std.specs.Prelude.{◌≡◌, ◌<◌};
 ghost use Rattle.px_spec.specs.Changes.{link};
 ghost use Rattle.bisim_spec.specs.Fits.{FitsOne};
@@ -7,6 +7,7 @@ ghost use Rattle.graph_update.specs.Judging.{change_of};
 ghost use Rattle.quotient.specs.Quotients.{view_of};
 ghost use Rattle.quotient_draft.specs.Basis.{IsOver};
 ghost use Rattle.quotient_draft.specs.Drafts.{no_changes};
+ghost use Rattle.one_merging.specs.Roots.{CoversBase};
 ghost use Rattle.one_drafting.specs.Drafting.{IsBefore};
 
 use super::*;
@@ -14,6 +15,7 @@ use crate::linking::draft_link;
 use graph_update::{After, Change, Verdict, commit, judge, stage};
 use label_graph::Graph;
 use one_index::OneIndex;
+use one_merging::Roots;
 use px_base::{Limits, Memory, NodeId, Steps, Text};
 use quotient::Summary;
 use quotient_draft::Draft;
@@ -48,50 +50,57 @@ fn graph_of(alloc: Global, labels: &[u8], edges: &[(NodeId, NodeId)]) -> Result<
     Ok(graph)
 }
 
-// Whether the node is alone in its block, as shown.
-fn is_alone(base: &Summary, draft: &Draft, n: NodeId) -> bool
+// The least node that is in the block of this one as shown.
+fn first_beside(base: &Summary, draft: &Draft, n: NodeId) -> NodeId
     requires over { IsOver base.now.blocks.block_of base.now.blocks.labels draft.now }
 {
-    match draft.block_of(base, n) {
-        Some(b) => draft.member_count(base, b) == 1,
-        None => false,
+    let own = draft.block_of(base, n);
+    for m in 0..n {
+        if draft.block_of(base, m) == own {
+            return m;
+        }
     }
+    n
 }
 
-// Whether each node of the second chain is alone.
-fn are_alone(base: &Summary, draft: &Draft) -> bool
+// Whether just these are together as shown: for each node the least one that is together with it.
+fn is_shown(base: &Summary, draft: &Draft, firsts: &[NodeId; 10]) -> bool
     requires over { IsOver base.now.blocks.block_of base.now.blocks.labels draft.now }
 {
-    for n in 3..6 {
-        if !is_alone(base, draft, n) {
+    for n in 0..10 {
+        if first_beside(base, draft, n) != firsts[n as usize] {
             return false;
         }
     }
     true
 }
 
-// Splits and merges for an edge that comes, and tells whether the second chain was parted in between.
+// Splits and merges for an edge that comes, and tells whether the second chain left the first one, and then came to the third.
 fn are_parted<L: Ledger>(
     alloc: Global,
     base: &Summary,
     draft: &mut Draft,
+    roots: &Roots,
     after: &After<'_>,
     u: NodeId,
     v: NodeId,
     steps: &mut Steps<L>,
 ) -> Result<bool, Memory>
     requires before { IsBefore after.now base.now }
+    requires covers { CoversBase base.now roots.now }
     requires empty { draft.old ≡ no_changes }
     requires links { after.now.change ≡ link u v }
 {
     draft_link(base, draft, after, u, v)?;
+    let before = is_shown(base, draft, &[0, 1, 2, 0, 1, 2, 6, 7, 8, 9]);
     split(alloc, base, draft, after, v, steps)?;
-    let parted = are_alone(base, draft);
-    merge(alloc, base, draft, after, v, steps)?;
-    Ok(parted)
+    let parted = is_shown(base, draft, &[0, 1, 2, 3, 4, 5, 6, 7, 8, 9]);
+    merge(alloc, base, draft, roots, after, v, steps)?;
+    let merged = is_shown(base, draft, &[0, 1, 2, 3, 4, 5, 6, 3, 4, 5]);
+    Ok(before && parted && merged)
 }
 
-// Whether the edge that the change brings parts the second chain.
+// Whether the edge that the change brings leads the second chain from the first one to the third.
 fn is_parting<L: Ledger>(
     alloc: Global,
     graph: &Graph,
@@ -107,7 +116,8 @@ fn is_parting<L: Ledger>(
     let _edges = graph.edge_count();
     let after = After::new(graph, change);
     let mut draft = Draft::new(alloc)?;
-    are_parted(alloc, base, &mut draft, &after, 6, 3, steps)
+    let roots = Roots::of(alloc, base)?;
+    are_parted(alloc, base, &mut draft, &roots, &after, 6, 3, steps)
 }
 
 fn check_link<L: Ledger>(
@@ -145,6 +155,10 @@ fn check_chains<L: Ledger>(
 
 #[test]
 fn chains_come_apart(rt: HostRuntime) -> Result<(), Fail> {
-    let graph = graph_of(rt.alloc(), b"abcabcx", &[(0, 1), (1, 2), (3, 4), (4, 5)])?;
+    let graph = graph_of(
+        rt.alloc(),
+        b"abcabcxabc",
+        &[(0, 1), (1, 2), (3, 4), (4, 5), (6, 7), (7, 8), (8, 9)],
+    )?;
     check_chains::<Brand>(&rt, rt.alloc(), &graph, Blank::new(1))
 }

@@ -1,8 +1,9 @@
 -- What is staged, and what is in force once it is committed.
-use Rattle.std.proofs.Common.{◌≡◌, ℕ, List, [], ◌∷◌, Option, Some, None, IsSome, refl, sym, ◌∙◌, ap, subst, arith, true, false, Bool, true≢false}
+use Rattle.std.proofs.Common.{◌≡◌, ℕ, zero, suc, ◌+◌, cond, List, [], ◌∷◌, Option, Some, None, IsSome, refl, sym, ◌∙◌, ap, subst, arith, true, false, Bool, true≢false}
 use Rattle.px_spec.specs.Graphs.{Graph}
 use Rattle.px_spec.specs.Changes.{Change, after}
 use Rattle.std.specs.Prelude.{unwrap_or}
+use Rattle.px_spec.specs.Members.{at}
 use Rattle.px_spec.specs.Shapes.{shape_of}
 use Rattle.bisim_spec.specs.declared.kind.Kind.TheVariants.{One}
 use Rattle.bisim_spec.specs.Views.{View, support_at}
@@ -11,10 +12,11 @@ use Rattle.bisim_spec.specs.Bisimilarity.{Bisim}
 use Rattle.bisim_spec.specs.Partitions.{Agrees}
 use Rattle.bisim_spec.specs.OneStep.{OneStep}
 use Rattle.quotient.specs.Quotients.{Quotient, view_of}
-use Rattle.quotient_draft.specs.Drafts.{Drafted, has_member, shown_blocks, shown_support, settled_view, inhabited_from, with_moves, with_added, with_supports}
+use Rattle.quotient_draft.specs.Drafts.{Drafted, no_changes, has_member, shown_labels, shown_blocks, shown_support, settled_view, inhabited_from, with_moves, with_added, with_supports}
 use Rattle.quotient_draft.specs.Basis.{IsOver}
 use Rattle.quotient_draft.specs.Rooms.{HasRoomFor}
 use Rattle.quotient_draft.proofs.Gone.{member_there}
+use Rattle.one_merging.specs.Roots.{RootLists, CoversRoots, CoversBase, CoversShown}
 use Rattle.index_api.specs.Meanings.{IsReady, IsBuilt, IsPrepared, IsCommitted, unstaged}
 use Rattle.one_maintain.specs.Keeping.{KeptQuotient, CanSettle, meaning_of, staged_views}
 use Rattle.one_drafting.specs.Drafting.{IsSupported}
@@ -131,3 +133,27 @@ pub built : (o : Option KeptQuotient) (k : KeptQuotient) (q : Quotient) (g : Gra
     → Agrees (shape_of g) q.blocks.block_of (Bisim (shape_of g)) → IsBuilt (meaning_of o) (meaning_of (Some k)) g n
 built None k q g n base is fits whole = record { kind = refl; ready = ready_new k q g base is fits; count = refl; whole = whole_new k q g base whole }
 built (Some k0) k q g n base is fits whole = record { kind = refl; ready = ready_new k q g base is fits; count = refl; whole = whole_new k q g base whole }
+
+-- ---- the blocks to which no other has support
+
+labels_kept : (block : List (Option ℕ)) (n : ℕ) (labels : List (Option ℕ)) (b l : ℕ) → at (inhabited_from block n labels) b ≡ Some l → at labels b ≡ Some l
+labels_kept block n [] b l h = absurd (cc)
+labels_kept block n (x ∷ xs) zero l h = by (has_member block n) h
+  where
+    by : (t : Bool) → cond t x None ≡ Some l → x ≡ Some l
+    by true e = e
+    by false e = absurd (cc)
+labels_kept block n (x ∷ xs) (suc b) l h = labels_kept block (n + 1) xs b l h
+
+-- those that a draft shows are those of its base once it is settled
+pub covers_settled : (q q2 : Quotient) (d : Drafted) (roots : RootLists) → view_of q2 ≡ settled_view q d → CoversShown q d roots → CoversBase q2 roots
+covers_settled q q2 d roots view covers =
+    subst (λ (v : View). CoversRoots (at v.labels) (support_at v.supports) roots) (sym view)
+    (record { each = λ b l h k. covers.each b l (labels_kept (shown_blocks q d) 0 (shown_labels q d) b l h) k })
+
+-- and they are the same over a base that is seen the same
+pub covers_same : (q q2 : Quotient) (roots : RootLists) → view_of q2 ≡ view_of q → CoversBase q roots → CoversBase q2 roots
+covers_same q q2 roots same covers = subst (λ (v : View). CoversRoots (at v.labels) (support_at v.supports) roots) (sym same) covers
+
+pub covers_cleared : (q : Quotient) (d : Drafted) (roots : RootLists) → d ≡ no_changes → CoversBase q roots → CoversShown q d roots
+covers_cleared q d roots empty covers = subst (λ x. CoversShown q x roots) (sym empty) covers

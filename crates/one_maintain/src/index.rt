@@ -23,7 +23,7 @@ use std::sync::ledger::{Blank, Ledger};
 /// The 1-index of a graph, kept while it changes (K. Yi, H. He, I. Stanoi and J. Yang, "Incremental Maintenance of XML Structural
 /// Indexes", SIGMOD 2004). A change is drafted over the index in force: blocks are split from the change's target on, and then
 /// merged. How much of the graph is read depends on what the change reaches, and not on the size of the graph. The tables of the index are
-/// looked through for the next free number of a block, and for a block like one without other parents than itself.
+/// looked through for the next free number of a block alone.
 #[derive(Drop)]
 pub struct OneKept {
     alloc: Global,

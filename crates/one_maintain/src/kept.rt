@@ -7,12 +7,14 @@ ghost use Rattle.graph_update.specs.NewChanges.{IsNew};
 ghost use Rattle.graph_update.specs.Judging.{change_of};
 ghost use Rattle.quotient.specs.Quotients.{view_of};
 ghost use Rattle.quotient_draft.specs.Drafts.{no_changes, settled_view};
+ghost use Rattle.one_merging.specs.Roots.{CoversBase, CoversShown};
 ghost use Rattle.one_drafting.specs.Drafting.{IsSupported, most_steps};
 ghost use Rattle.one_maintain.specs.Keeping.{CanSettle};
 
 use graph_update::Change;
 use label_graph::Graph;
 use one_drafting::draft_change;
+use one_merging::Roots;
 use px_base::{Memory, Steps};
 use quotient::Summary;
 use quotient_draft::Draft;
@@ -20,15 +22,18 @@ use std::alloc::Global;
 use std::marker::Model;
 use std::sync::ledger::Ledger;
 
-/// A 1-index in force, and a draft of what a change to come will make of it. Where none is staged nothing is drafted.
+/// A 1-index in force, and a draft of what a change to come will make of it. Where none is staged nothing is drafted. The blocks to which
+/// no other has support are known, those of the base and those as shown.
 #[derive(Drop)]
 pub(crate) struct Kept {
     base: Summary,
+    roots: Roots,
     draft: Draft,
     staged: bool,
 }
 
 impl Model for Kept {
+    ghost use Rattle.one_merging.specs.Roots.{CoversBase, CoversShown};
     ghost use Rattle.one_maintain.specs.Keeping.{KeptQuotient, IsKeptDraft, kept_code};
 
     ghost Value = { KeptQuotient };
@@ -37,13 +42,15 @@ impl Model for Kept {
 
     ghost view = { λ k. record { base = k.base; draft = k.draft; staged = k.staged } };
 
-    ghost invariant = { λ k. record { kept : IsKeptDraft k.base k.draft k.staged } };
+    ghost invariant = { λ k. record { kept : IsKeptDraft k.base k.draft k.staged; roots : CoversBase k.base k.roots; shown : CoversShown k.base k.draft k.roots } };
 }
 
-// Drafts what a change will make of a quotient, and makes the room that settling it needs.
+// Drafts what a change will make of a quotient, makes the room that settling it needs, and notes the blocks to which no other has support
+// then.
 fn fill<L: Ledger>(
     alloc: Global,
     base: &mut Summary,
+    roots: &mut Roots,
     draft: &mut Draft,
     graph: &Graph,
     change: &Change,
@@ -52,15 +59,19 @@ fn fill<L: Ledger>(
     requires fits { FitsOne graph.now.graph (view_of base.old) }
     requires new { IsNew (change_of change.now) graph.now.graph }
     requires empty { draft.old ≡ no_changes }
+    requires covers { CoversBase base.old roots.old }
     ensures same { view_of base.new ≡ view_of base.old }
+    ensures covers { CoversBase base.new roots.new }
+    ensures shown { OnOk result (CoversShown base.new draft.new roots.new) }
     ensures ready { OnOk result (CanSettle base.new draft.new) }
     ensures step { OnOk result (OneStep graph.now.graph base.old.blocks.block_of (change_of change.now) (after (change_of change.now) graph.now.graph) (settled_view base.new draft.new).block_of) }
     ensures fits { OnOk result (FitsOne (after (change_of change.now) graph.now.graph) (settled_view base.new draft.new)) }
     ensures cost { steps.new ≤ steps.old + most_steps graph.now.graph (change_of change.now) }
     ensures free { (u v : ℕ) → change_of change.now ≡ link u v → IsSupported (view_of base.old) u v → steps.new ≡ steps.old }
 {
-    draft_change(alloc, base, draft, graph, change, steps)?;
+    draft_change(alloc, base, draft, roots, graph, change, steps)?;
     draft.reserve(base)?;
+    roots.note_touched(alloc, base, draft)?;
     Ok(())
 }
 
@@ -75,6 +86,20 @@ fn renew(alloc: Global, draft: &mut Draft)
     }
 }
 
+// Makes the roots anew from the base where far more were noted since than then, so that blocks which are none any more go. Without
+// memory for it they stay.
+fn renew_roots(alloc: Global, base: &Summary, roots: &mut Roots)
+    requires covers { CoversBase base.now roots.old }
+    ensures covers { CoversBase base.now roots.new }
+{
+    if !roots.are_many() {
+        return;
+    }
+    if let Ok(fresh) = Roots::of(alloc, base) {
+        *roots = fresh;
+    }
+}
+
 impl Kept {
     /// The quotient, with nothing staged.
     pub(crate) fn of(alloc: Global, base: Summary) -> Result<Kept, Memory>
@@ -82,8 +107,10 @@ impl Kept {
         ensures unstaged { IfOk result (λ k. k.staged ≡ false) }
     {
         let draft = Draft::new(alloc)?;
+        let roots = Roots::of(alloc, &base)?;
         Ok(Kept {
             base,
+            roots,
             draft,
             staged: false,
         })
@@ -115,7 +142,16 @@ impl Kept {
         ensures cost { steps.new ≤ steps.old + most_steps graph.now.graph (change_of change.now) }
         ensures free { (u v : ℕ) → change_of change.now ≡ link u v → IsSupported (view_of self.old.base) u v → steps.new ≡ steps.old }
     {
-        match fill(alloc, &mut self.base, &mut self.draft, graph, change, steps) {
+        renew_roots(alloc, &self.base, &mut self.roots);
+        match fill(
+            alloc,
+            &mut self.base,
+            &mut self.roots,
+            &mut self.draft,
+            graph,
+            change,
+            steps,
+        ) {
             Ok(()) => {
                 self.staged = true;
                 Ok(())

@@ -8,6 +8,7 @@ use graph_update::{Change, Verdict, commit, judge, stage};
 use index_api::PathIndex;
 use label_graph::Graph;
 use px_base::{Limits, NodeId, Steps, Text};
+use quotient::Summary;
 use std::alloc::Global;
 use std::marker::Brand;
 use std::process::Abort;
@@ -39,10 +40,31 @@ fn graph_of(alloc: Global, labels: &[u8], edges: &[(NodeId, NodeId)]) -> Result<
     Ok(graph)
 }
 
-// Whether there is one view, and it has so many blocks.
-fn has_blocks(kept: &OneKept, blocks: u32) -> bool {
+// The least node that is in the block of this one.
+fn first_beside(summary: &Summary, n: NodeId) -> NodeId {
+    let own = summary.block_of(n);
+    for m in 0..n {
+        if summary.block_of(m) == own {
+            return m;
+        }
+    }
+    n
+}
+
+// Whether just these of the four nodes are together: for each the least one that is together with it.
+fn are_together(summary: &Summary, firsts: &[NodeId; 4]) -> bool {
+    for n in 0..4 {
+        if first_beside(summary, n) != firsts[n as usize] {
+            return false;
+        }
+    }
+    true
+}
+
+// Whether there is one view, and just these are together in it.
+fn shows(kept: &OneKept, firsts: &[NodeId; 4]) -> bool {
     match kept.summary(0) {
-        Some(summary) => kept.summary(1).is_none() && summary.blocks() == blocks,
+        Some(summary) => kept.summary(1).is_none() && are_together(summary, firsts),
         None => false,
     }
 }
@@ -101,10 +123,10 @@ fn check_rings(rt: &impl Abort, kept: &mut OneKept, graph: &Graph) -> Result<(),
 {
     let change = Change::Unlink(2, 3);
     prepare(kept, graph, &change)?;
-    assert!(rt; has_blocks(kept, 2));
+    assert!(rt; shows(kept, &[0, 1, 0, 1]));
     kept.commit();
     kept.cancel();
-    assert!(rt; has_blocks(kept, 4));
+    assert!(rt; shows(kept, &[0, 1, 2, 3]));
     Ok(())
 }
 
@@ -115,7 +137,7 @@ fn check_twins(rt: &impl Abort, kept: &mut OneKept, graph: &Graph) -> Result<(),
     let change = Change::Link(1, 3);
     prepare_counted::<Brand>(kept, graph, &change, Blank::new(1))?;
     kept.commit();
-    assert!(rt; has_blocks(kept, 2));
+    assert!(rt; shows(kept, &[0, 0, 2, 2]));
     Ok(())
 }
 

@@ -11,12 +11,13 @@ use Rattle.bisim_spec.proofs.Merging.{mergeable_blocks}
 use Rattle.upkeep_spec.specs.Merges.{IsMergeablePair, IsMerged, one_more, none, AreSuspects}
 use Rattle.upkeep_spec.specs.Viewed.{IsViewed, IsDone}
 use Rattle.upkeep_spec.proofs.Merging.{can_swap}
-use Rattle.upkeep_spec.proofs.Suspects.{partner, minimal_from, suspect_cleared, suspects_merged}
+use Rattle.upkeep_spec.proofs.Suspects.{partner, minimal_from, suspect_cleared}
 use Rattle.block_partition.specs.Partitions.{put}
 use Rattle.quotient_draft.specs.Drafts.{with_added}
 use Rattle.quotient_draft.specs.Basis.{AreLeastFree}
 use Rattle.block_joining.specs.Mates.{AreMates, AreNoMates}
 use Rattle.one_merging.specs.Merging.{IsMerging}
+use Rattle.one_merging.proofs.Near.{suspects_near}
 
 -- the order of the two makes no difference
 pub mates_swap : (p : List (Option ℕ)) (labels : ℕ → Option ℕ) (joined : ℕ → ℕ → Bool) (a b : ℕ) → AreMates p labels joined a b → AreMates p labels joined b a
@@ -44,11 +45,6 @@ no_mates_label p labels joined a b label own ne s v can =
 
 pub no_mates_alone : (p : List (Option ℕ)) (labels : ℕ → Option ℕ) (joined : ℕ → ℕ → Bool) (a : ℕ) → ((n : ℕ) → at p n ≢ Some a) → (b : ℕ) → AreNoMates p labels joined a b
 no_mates_alone p labels joined a empty b s v can = empty can.first.0 can.first.1
-
--- no partner among all blocks with members
-pub no_mates_all : (p : List (Option ℕ)) (labels : ℕ → Option ℕ) (joined : ℕ → ℕ → Bool) (a span : ℕ) → ((b : ℕ) → b < span → AreNoMates p labels joined a b)
-    → ((n b : ℕ) → at p n ≡ Some b → IsSome (labels b)) → ((b : ℕ) → IsSome (labels b) → b < span) → (b : ℕ) → AreNoMates p labels joined a b
-no_mates_all p labels joined a span before live below b = λ s v can. before b (below b (live can.second.0 b can.second.1)) s v can
 
 -- no partner, where a parent block is none and no child of it is
 pub no_mates_by : (p : List (Option ℕ)) (labels : ℕ → Option ℕ) (joined : ℕ → ℕ → Bool) (a x : ℕ) → x ≢ a → IsTrue (joined x a) → AreNoMates p labels joined a x
@@ -152,7 +148,7 @@ pub merged_more : (s : Shape) (first p p2 : List (Option ℕ)) (labels labels2 :
     → IsMerging s first p labels joined suspects → AreMates p labels joined a b
     → (IsViewed s p labels joined → AreSuspects s p (λ c. IsTrue (has suspects c)) → AreSuspects s p (λ c. ((c ≡ a) ⊎ (c ≡ b)) ⊎ IsTrue (has rest c)))
     → IsMerged a b p p2 → (IsViewed s p labels joined → IsViewed s p2 labels2 joined2)
-    → IsTrue (has after a) → ((c : ℕ) → IsTrue (has rest c) → IsTrue (has after c)) → ((c : ℕ) → IsTrue (joined2 a c) → IsTrue (has after c))
+    → IsTrue (has after a) → ((c : ℕ) → IsTrue (has rest c) → IsTrue (has after c)) → ((c : ℕ) → IsTrue (joined b c) → IsTrue (has after c))
     → IsMerging s first p2 labels2 joined2 after
 merged_more s first p p2 labels labels2 joined joined2 suspects rest after a b m mates rests merged tables own kept children =
     let can : IsMergeablePair s p a b = record { apart = mates.apart; first = mates.first; second = mates.second; can = mates.can s m.viewed } in
@@ -160,8 +156,8 @@ merged_more s first p p2 labels labels2 joined joined2 suspects rest after a b m
     record {
       merges = one_more p p2 a b m.merges can merged;
       viewed = viewed;
-      suspects_are = suspects_merged s p p2 a b (λ c. ((c ≡ a) ⊎ (c ≡ b)) ⊎ IsTrue (has rest c)) (λ c. IsTrue (has after c)) viewed.shape m.viewed.stable merged can.apart
-          (rests m.viewed m.suspects_are) own (λ c k. children c (viewed.into a c k)) (λ c ne h. elim h [
+      suspects_are = suspects_near s p p2 labels joined a b (λ c. ((c ≡ a) ⊎ (c ≡ b)) ⊎ IsTrue (has rest c)) (λ c. IsTrue (has after c)) m.viewed merged can.apart
+          (rests m.viewed m.suspects_are) own children (λ c ne h. elim h [
             | inl (inl e) ↦ ap (has after) e ∙ own
             | inl (inr e) ↦ absurd (ne e)
             | inr there ↦ kept c there

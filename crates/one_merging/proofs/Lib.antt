@@ -1,3 +1,4 @@
 mod Laws
 mod Counted
+mod Near
 mod Rooted

@@ -1,8 +1,8 @@
 -- Blocks to which no other block has support.
-use Rattle.std.proofs.Common.{◌≡◌, ◌≢◌, ℕ, ◌<◌, ◌≤◌, ◌⊎◌, List, [], ◌∷◌, ◌++◌, length, take, Option, Some, None, IsTrue, IsSome, is_some, refl, sym, ◌∙◌, ap, subst, arith, inl, inr, true, false, Bool, not, true≢false}
+use Rattle.std.proofs.Common.{◌≡◌, ◌≢◌, ℕ, ◌+◌, ◌<◌, ◌≤◌, ◌⊎◌, List, [], ◌∷◌, ◌++◌, length, take, Option, Some, None, IsTrue, IsSome, is_some, refl, sym, ◌∙◌, ap, subst, arith, inl, inr, true, false, Bool, not, true≢false}
 use Rattle.std.specs.Prelude.{nat_eq, nat_lt, ◌||◌, IfNone, IfOk, Result, Ok, Err, get_or}
-use Rattle.std.specs.List.{list_any}
-use Rattle.std.proofs.lemmas.Bool.{cases_Bool, cases_lt, both_ways, or_cases, or_left, or_right}
+use Rattle.std.specs.List.{list_all}
+use Rattle.std.proofs.lemmas.Bool.{cases_Bool, cases_lt, both_ways, or_left, or_right, and_from}
 use Rattle.std.proofs.lemmas.Bool.Decides.{Decides-eqb, Decides-ltb, eqb_tells}
 use Rattle.std.proofs.lemmas.List.{get_or_past}
 use Rattle.px_spec.specs.Members.{has, at, Lists}
@@ -90,20 +90,42 @@ covers_all labels support roots n past below = record {
   ];
 }
 
+-- the same numbers are listed
+pub lists_as : (p q : ℕ → Bool) (xs : List ℕ) → ((n : ℕ) → p n ≡ q n) → Lists p xs → Lists q xs
+lists_as p q xs same l = record { once = l.once; members = λ n. l.members n ∙ same n }
+
 -- all parents are the block itself
-pub all_own : (support : ℕ → ℕ) (b : ℕ) (xs : List ℕ) → Lists (λ a. nat_lt 0 (support a)) xs → ((a : ℕ) → a ≢ b → support a ≡ 0) → not (list_any (λ a. not (nat_eq a b)) xs) ≡ true
-all_own support b xs parents root = elim (cases_Bool (list_any (λ a. not (nat_eq a b)) xs)) [
-  | inr off ↦ ap not off
-  | inl on ↦ absurd (
-      let found = any_get (λ a. not (nat_eq a b)) xs on in
-      let zero = root found.0 (λ same. true≢false (sym found.2 ∙ ap not ((Decides-eqb found.0 b).1 same))) in
-      let some = (Decides-ltb 0 (support found.0)).0 (sym (parents.members found.0) ∙ found.1) in
+pub all_own : (support : ℕ → ℕ) (b : ℕ) (xs : List ℕ) → Lists (λ a. nat_lt 0 (support a)) xs → ((a : ℕ) → a ≢ b → support a ≡ 0) → list_all (λ a. nat_eq a b) xs ≡ true
+all_own support b xs parents root = all_from xs (λ a h. elim (eqb_tells a b) [
+  | inl s ↦ s.0
+  | inr d ↦ absurd (
+      let zero = root a d.1 in
+      let some = (Decides-ltb 0 (support a)).0 (sym (parents.members a) ∙ h) in
       omega (arith, zero, some))
-]
+])
   where
-    any_get : (p : ℕ → Bool) (xs : List ℕ) → list_any p xs ≡ true → (a : ℕ) × (has xs a ≡ true) × (p a ≡ true)
-    any_get p [] h = absurd (true≢false (sym h))
-    any_get p (x ∷ xs) h = elim (or_cases (p x) (list_any p xs) h) [
-      | inl here ↦ (x, or_left (nat_eq x x) (has xs x) ((Decides-eqb x x).1 refl), here)
-      | inr there ↦ (let r = any_get p xs there in (r.0, or_right (nat_eq r.0 x) (has xs r.0) r.1, r.2))
-    ]
+    all_from : (ys : List ℕ) → ((a : ℕ) → has ys a ≡ true → nat_eq a b ≡ true) → list_all (λ a. nat_eq a b) ys ≡ true
+    all_from [] h = refl
+    all_from (y ∷ ys) h =
+        and_from (nat_eq y b) (list_all (λ a. nat_eq a b) ys) (h y (or_left (nat_eq y y) (has ys y) ((Decides-eqb y y).1 refl)))
+        (all_from ys (λ a k. h a (or_right (nat_eq a y) (has ys a) k)))
+
+-- one number more
+pub below_more : (labels : ℕ → Option ℕ) (support : ℕ → ℕ → ℕ) (roots roots2 : RootLists) (n : ℕ) → ((l c : ℕ) → IsNoted roots l c → IsNoted roots2 l c)
+    → ((label : ℕ) → labels n ≡ Some label → IsRoot support n → IsNoted roots2 label n) → CoversBelow labels support roots n → CoversBelow labels support roots2 (n + 1)
+below_more labels support roots roots2 n kept here below = record {
+  each = λ b l less h k. elim (cases_lt b n) [
+    | inl before ↦ kept l b (below.each b l before h k)
+    | inr over ↦ (
+        let same : b ≡ n = omega (arith, less, over) in
+        ap (λ x. has (listed roots2 l) x) same ∙ here l (ap labels (sym same) ∙ h) (subst (IsRoot support) same k))
+  ];
+}
+
+-- one block of a list more
+pub noted_more : (labels : ℕ → Option ℕ) (support : ℕ → ℕ → ℕ) (now next : RootLists) (xs : List ℕ) (i d : ℕ) → i < length xs
+    → ((b l : ℕ) → IsTrue (has (take i xs) b) → labels b ≡ Some l → IsRoot support b → IsNoted now l b) → ((l c : ℕ) → IsNoted now l c → IsNoted next l c)
+    → ((l : ℕ) → labels (get_or xs i d) ≡ Some l → IsRoot support (get_or xs i d) → IsNoted next l (get_or xs i d))
+    → (b : ℕ) → IsTrue (has (take (i + 1) xs) b) → (l : ℕ) → labels b ≡ Some l → IsRoot support b → IsNoted next l b
+noted_more labels support now next xs i d less before kept here =
+    more_hold (λ b. (l : ℕ) → labels b ≡ Some l → IsRoot support b → IsNoted next l b) xs i d less (λ b h l e k. kept l b (before b l h e k)) here

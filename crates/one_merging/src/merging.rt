@@ -47,25 +47,19 @@ fn next_pair(
     Ok(None)
 }
 
-// A block and its children wait too.
-fn push_near(
-    base: &Summary,
-    draft: &Draft,
-    a: u32,
-    suspects: &mut Suspects,
-    children: &mut Vec<u32>,
-) -> Result<(), Memory>
+// A block waits too, and these others.
+fn push_near(a: u32, children: &[u32], suspects: &mut Suspects) -> Result<(), Memory>
     ensures own { OnOk result (IsTrue (has suspects.new a)) }
     ensures kept { OnOk result ((b : ℕ) → IsTrue (has suspects.old b) → IsTrue (has suspects.new b)) }
-    ensures children { OnOk result ((b : ℕ) → IsTrue (shown_joined base.now draft.now a b) → IsTrue (has suspects.new b)) }
+    ensures children { OnOk result ((b : ℕ) → IsTrue (has children.now b) → IsTrue (has suspects.new b)) }
 {
     suspects.add(a)?;
-    draft.fill_children(base, a, children)?;
     suspects.add_all(children)?;
     Ok(())
 }
 
-// Merges pairs until no two blocks can be merged. Each merge leaves one block fewer with members.
+// Merges pairs until no two blocks can be merged. Each merge leaves one block fewer with members. After it only the merged block, and
+// those that were children of the smaller of the two, may be merged with blocks with which they couldn't be before.
 fn merge_pairs(
     base: &Summary,
     draft: &mut Draft,
@@ -82,8 +76,9 @@ fn merge_pairs(
     ensures named { OnOk result ((names : ℕ → Option ℕ) → AreNamed (shown_blocks base.now draft.old) (at (shown_labels base.now draft.old)) names → AreNamed (shown_blocks base.now draft.new) (at (shown_labels base.now draft.new)) names) }
 {
     'pairs: while let Some((a, b)) = next_pair(base, draft, roots, suspects, rooms)? {
+        draft.fill_children(base, b, &mut rooms.children)?;
         join(base, draft, a, b, &mut rooms.others)?;
-        push_near(base, draft, a, suspects, &mut rooms.children)?;
+        push_near(a, &rooms.children, suspects)?;
     }
     Ok(())
 }

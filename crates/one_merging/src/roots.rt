@@ -1,6 +1,6 @@
 // The blocks without other parents than themselves, by their labels.
-ghost use Rattle.std.specs.Prelude.{◌≡◌, ◌++◌, ℕ, Some, IsTrue, IsSome, IfOk, OnOk, true, not, nat_eq};
-ghost use Rattle.std.specs.List.{list_any};
+ghost use Rattle.std.specs.Prelude.{◌≡◌, ◌++◌, [], ℕ, Some, IsTrue, IsSome, IfOk, OnOk, true, nat_eq};
+ghost use Rattle.std.specs.List.{list_all};
 ghost use Rattle.px_spec.specs.Members.{at, has};
 ghost use Rattle.bisim_spec.specs.Views.{support_at};
 ghost use Rattle.quotient_draft.specs.Basis.{IsOver};
@@ -84,9 +84,18 @@ impl Roots {
         ensures covers { OnOk result (CoversBase base.now self.new) }
     {
         for b in 0..base.size() {
-            if is_root(base, b) {
-                self.note(base.label(b), b)?;
-            }
+            self.note_one(base, b)?;
+        }
+        Ok(())
+    }
+
+    // Notes a block of a base, where no other has support to it.
+    fn note_one(&mut self, base: &Summary, b: u32) -> Result<(), Memory>
+        ensures kept { (l c : ℕ) → IsNoted self.old l c → IsNoted self.new l c }
+        ensures noted { OnOk result ((label : ℕ) → at base.now.blocks.labels b ≡ Some label → IsRoot (support_at base.now.supports) b → IsNoted self.new label b) }
+    {
+        if is_root(base, b) {
+            return self.note(base.label(b), b);
         }
         Ok(())
     }
@@ -188,7 +197,7 @@ fn is_root(base: &Summary, b: u32) -> bool
 
 // Whether each of the blocks is this one.
 fn are_all(blocks: &[u32], b: u32) -> bool
-    ensures { result ≡ not (list_any (λ a. not (nat_eq a b)) blocks.now) }
+    ensures { result ≡ list_all (λ a. nat_eq a b) blocks.now }
 {
-    !blocks.iter().any(|a| *a != b)
+    blocks.iter().all(|a| *a == b)
 }

@@ -1,16 +1,15 @@
 -- What a draft leaves as it is in the base.
-use Rattle.std.proofs.Common.{◌≡◌, ◌≢◌, ℕ, ◌<◌, List, [], ◌∷◌, ◌++◌, Option, Some, None, refl, sym, ◌∙◌, ap, arith, inl, inr, true, false, Bool, ◌&&◌, ◌||◌, not, true≢false}
+use Rattle.std.proofs.Common.{◌≡◌, ◌≢◌, ℕ, ◌<◌, List, [], ◌∷◌, Option, None, refl, sym, ◌∙◌, ap, arith, inl, inr, true, false, Bool, ◌&&◌, ◌||◌, not, true≢false}
 use Rattle.std.specs.Prelude.{nat_eq, nat_lt}
 use Rattle.std.specs.List.{list_any}
 use Rattle.std.specs.Map.{lookup, keys_of}
 use Rattle.std.specs.Option.{option_map_or}
 use Rattle.std.proofs.lemmas.Bool.{cases_Bool, or_cases, or_left, or_right, and_parts, and_from, both_ways}
 use Rattle.std.proofs.lemmas.Bool.Decides.{Decides-eqb, Decides-ltb, eqb_tells}
-use Rattle.std.proofs.lemmas.List.Folds.{list_any-append}
 use Rattle.smallvec.specs.SmallVec.{SmallVec}
 use Rattle.px_spec.specs.Members.{has, Lists}
 use Rattle.bisim_spec.specs.Views.{SupportTable, support_at}
-use Rattle.quotient_draft.specs.Drafts.{with_supports, is_pair}
+use Rattle.quotient_draft.specs.Drafts.{with_supports}
 use Rattle.quotient_draft.specs.Ends.{listed, ends_onto}
 use Rattle.quotient_draft.proofs.Noted.{unlisted_onto}
 use Rattle.quotient_draft.proofs.Written.{supports_absent}

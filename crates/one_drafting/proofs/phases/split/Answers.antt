@@ -5,7 +5,7 @@ use Rattle.graph_update.specs.Pending.{graph_after}
 use Rattle.quotient_draft.specs.Drafts.{shown_blocks}
 use Rattle.upkeep_spec.proofs.Splitting.{stable_at_end}
 use Rattle.one_drafting.proofs.Stepping.{one_once, reach_cost}
-use Rattle.one_drafting.proofs.Unreached.{split_reached}
+use Rattle.one_drafting.proofs.Unreached.{split_reached, split_of}
 use Rattle.one_drafting.proofs.phases.split.Goals as goal
 
 pub split-requires-clause-once : goal.split-requires-clause-once
@@ -33,5 +33,12 @@ returns-clause-within g c =
 
 pub returns-clause-same : goal.returns-clause-same
 returns-clause-same g c =
+    (split_reached c.args.after.now.before c.args.after.now.change c.args.target (shown_blocks c.args.base.now c.args.draft.now) (shown_blocks c.args.base.now c.split.new.draft)
+    c.split.new.made.items c.created.ensures.after c.requires.target (record { split = c.in_ok-split.ensures.split })).same
+
+pub returns-clause-split : goal.returns-clause-split
+returns-clause-split g c = λ stable minimal keeps.
+    split_of c.args.after.now.before c.args.after.now.change c.args.base.now.blocks.block_of (shown_blocks c.args.base.now c.args.draft.now) (shown_blocks c.args.base.now c.split.new.draft) stable
+    minimal keeps
     (split_reached c.args.after.now.before c.args.after.now.change c.args.target (shown_blocks c.args.base.now c.args.draft.now) (shown_blocks c.args.base.now c.split.new.draft)
     c.split.new.made.items c.created.ensures.after c.requires.target (record { split = c.in_ok-split.ensures.split })).same

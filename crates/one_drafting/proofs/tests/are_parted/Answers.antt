@@ -4,7 +4,6 @@ use Rattle.label_graph.specs.Views.{label_number}
 use Rattle.graph_update.specs.Pending.{graph_after}
 use Rattle.quotient_draft.specs.Drafts.{shown_blocks, shown_labels}
 use Rattle.one_drafting.proofs.Stepping.{named_off, stable_there}
-use Rattle.one_drafting.proofs.Unreached.{split_of}
 use Rattle.one_drafting.proofs.tests.are_parted.Goals as goal
 
 pub split-requires-clause-stable : goal.split-requires-clause-stable
@@ -19,6 +18,4 @@ split-requires-clause-named g c =
 
 pub merge-requires-clause-split : goal.merge-requires-clause-split
 merge-requires-clause-split g c =
-    split_of c.args.after.now.before c.args.after.now.change c.args.base.now.blocks.block_of (shown_blocks c.args.base.now c.draft_link.new.draft)
-    (shown_blocks c.args.base.now c.split.new.draft) c.requires.before.fits.index.stable c.requires.before.fits.index.minimal c.in_ok-draft_link.ensures.changed.keeps
-    c.in_ok-split.ensures.same
+    c.in_ok-split.ensures.split c.requires.before.fits.index.stable c.requires.before.fits.index.minimal c.in_ok-draft_link.ensures.changed.keeps

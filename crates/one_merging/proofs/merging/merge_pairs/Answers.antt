@@ -1,4 +1,4 @@
-use Rattle.std.proofs.Common.{◌≡◌, ◌⊎◌, Some, None, IsTrue, rules}
+use Rattle.std.proofs.Common.{◌≡◌, ◌⊎◌, ◌∙◌, Some, None, IsTrue, ap, rules}
 use Rattle.px_spec.specs.Members.{at, has}
 use Rattle.px_spec.specs.Shapes.{Shape}
 use Rattle.quotient_draft.specs.Drafts.{shown_labels, shown_blocks}
@@ -40,7 +40,7 @@ pairs-preserved c =
           merged_more s (shown_blocks c.args.base.now c.args.draft.now) (shown_blocks c.args.base.now c.pairs.draft) (shown_blocks c.args.base.now c.join.new.draft)
           (at (shown_labels c.args.base.now c.pairs.draft)) (at (shown_labels c.args.base.now c.join.new.draft)) (shown_joined c.args.base.now c.pairs.draft)
           (shown_joined c.args.base.now c.join.new.draft) c.pairs.suspects c.next_pair.new.suspects c.push_near.new.suspects c.in-Some.a c.in-Some.b (c.pairs.invariant.merging s v h) mates
-          (rest s) c.in_ok-join.ensures.merged (c.in_ok-join.ensures.viewed s) c.in_ok-push_near.ensures.own c.in_ok-push_near.ensures.kept c.in_ok-push_near.ensures.children;
+          (rest s) c.in_ok-join.ensures.merged (c.in_ok-join.ensures.viewed s) c.in_ok-push_near.ensures.own c.in_ok-push_near.ensures.kept (λ x j. c.in_ok-push_near.ensures.children x (ap (λ xs. has xs x) c.deref.ensures.value ∙ c.in_ok-fill_children.ensures.children.members x ∙ j));
       supports = λ g h. c.in_ok-join.ensures.supports g (c.pairs.invariant.supports g h);
       named = λ names h. c.in_ok-join.ensures.named names (c.pairs.invariant.named names h);
     }

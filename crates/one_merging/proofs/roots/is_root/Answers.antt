@@ -1,0 +1,12 @@
+use Rattle.std.proofs.Common.{◌∙◌, ap, []}
+use Rattle.px_spec.specs.Shapes.{Shape}
+use Rattle.px_spec.specs.Members.{at}
+use Rattle.bisim_spec.specs.Views.{support_at}
+use Rattle.one_merging.proofs.Rooted.{all_own, lists_as}
+use Rattle.one_merging.proofs.roots.is_root.Goals as goal
+
+pub returns-clause-all : goal.returns-clause-all
+returns-clause-all c = λ some root.
+    c.are_all.ensures
+    ∙ all_own (λ a. support_at c.args.base.now.supports a c.args.b) c.args.b c.parents.result.now
+    (lists_as _ _ _ (λ a. ap (λ (s : Shape). s.edge a c.args.b) (c.blocks-2.ensures.shape [])) c.parents.ensures) root
