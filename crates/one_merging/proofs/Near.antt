@@ -1,5 +1,5 @@
 -- Which blocks may be merged once two are: the merged one, and the children that one of the two had.
-use Rattle.std.proofs.Common.{◌≡◌, ◌≢◌, ℕ, ◌⊎◌, List, Option, Some, None, IsTrue, refl, sym, ◌∙◌, ap, subst, inl, inr, Bool, cond, true, false}
+use Rattle.std.proofs.Common.{◌≡◌, ◌≢◌, ℕ, ◌⊎◌, List, Option, Some, None, IsTrue, refl, sym, ◌∙◌, ap, subst, inl, inr, Bool, cond}
 use Rattle.std.specs.Prelude.{nat_eq}
 use Rattle.std.proofs.lemmas.Bool.{cases_Bool, both_ways}
 use Rattle.std.proofs.lemmas.Bool.Decides.{eqb_tells}

@@ -1,6 +1,6 @@
 -- Blocks to which no other block has support.
-use Rattle.std.proofs.Common.{◌≡◌, ◌≢◌, ℕ, ◌+◌, ◌<◌, ◌≤◌, ◌⊎◌, List, [], ◌∷◌, ◌++◌, length, take, Option, Some, None, IsTrue, IsSome, is_some, refl, sym, ◌∙◌, ap, subst, arith, inl, inr, true, false, Bool, not, true≢false}
-use Rattle.std.specs.Prelude.{nat_eq, nat_lt, ◌||◌, IfNone, IfOk, Result, Ok, Err, get_or}
+use Rattle.std.proofs.Common.{◌≡◌, ◌≢◌, ℕ, ◌+◌, ◌<◌, ◌≤◌, List, [], ◌∷◌, length, take, Option, Some, None, IsTrue, is_some, refl, sym, ◌∙◌, ap, subst, arith, inl, inr, true, false, Bool, true≢false}
+use Rattle.std.specs.Prelude.{nat_eq, nat_lt, IfNone, IfOk, Result, Ok, Err, get_or}
 use Rattle.std.specs.List.{list_all}
 use Rattle.std.proofs.lemmas.Bool.{cases_Bool, cases_lt, both_ways, or_left, or_right, and_from}
 use Rattle.std.proofs.lemmas.Bool.Decides.{Decides-eqb, Decides-ltb, eqb_tells}
@@ -9,7 +9,7 @@ use Rattle.px_spec.specs.Members.{has, at, Lists}
 use Rattle.px_spec.specs.Shapes.{Shape}
 use Rattle.bisim_spec.proofs.Merging.{mergeable_blocks}
 use Rattle.bisim_spec.specs.Views.{support_at}
-use Rattle.upkeep_spec.specs.Merges.{IsMergeablePair, IsChildBlock}
+use Rattle.upkeep_spec.specs.Merges.{IsMergeablePair}
 use Rattle.upkeep_spec.specs.Viewed.{IsViewed}
 use Rattle.upkeep_spec.proofs.Suspects.{partner_alone}
 use Rattle.quotient.specs.Quotients.{Quotient}
@@ -17,7 +17,7 @@ use Rattle.quotient_draft.specs.Drafts.{Drafted, shown_labels, shown_support}
 use Rattle.quotient_draft.specs.Ends.{listed}
 use Rattle.block_joining.specs.Mates.{AreNoMates}
 use Rattle.one_merging.specs.Roots.{RootLists, IsNoted, IsRoot, CoversRoots, CoversBase, CoversShown}
-use Rattle.one_merging.proofs.Laws.{more_hold, take_end}
+use Rattle.one_merging.proofs.Laws.{more_hold}
 
 zero_by : (n : ℕ) → nat_lt 0 n ≡ false → n ≡ 0
 zero_by n h = grind (arith, h)

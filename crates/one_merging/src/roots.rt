@@ -67,7 +67,12 @@ impl Roots {
 
     /// Notes those that a draft brings, so that those that it shows are noted. Linear in what is drafted and in the parents of the
     /// blocks that it touches.
-    pub fn note_touched(&mut self, alloc: Global, base: &Summary, draft: &Draft) -> Result<(), Memory>
+    pub fn note_touched(
+        &mut self,
+        alloc: Global,
+        base: &Summary,
+        draft: &Draft,
+    ) -> Result<(), Memory>
         requires over { IsOver base.now.blocks.block_of base.now.blocks.labels draft.now }
         requires covers { CoversBase base.now self.old }
         ensures kept { CoversBase base.now self.new }

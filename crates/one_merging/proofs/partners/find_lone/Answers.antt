@@ -1,4 +1,4 @@
-use Rattle.std.proofs.Common.{ℕ, sym, subst, List}
+use Rattle.std.proofs.Common.{sym, subst}
 use Rattle.px_spec.specs.Members.{at}
 use Rattle.bisim_spec.specs.Views.{support_at}
 use Rattle.quotient_draft.specs.Drafts.{shown_labels, shown_blocks, shown_support}

@@ -1,6 +1,5 @@
 use Rattle.std.proofs.Common.{◌∙◌, ap, []}
 use Rattle.px_spec.specs.Shapes.{Shape}
-use Rattle.px_spec.specs.Members.{at}
 use Rattle.bisim_spec.specs.Views.{support_at}
 use Rattle.one_merging.proofs.Rooted.{all_own, lists_as}
 use Rattle.one_merging.proofs.roots.is_root.Goals as goal

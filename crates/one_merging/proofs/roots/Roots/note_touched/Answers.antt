@@ -1,4 +1,4 @@
-use Rattle.std.proofs.Common.{◌∙◌, ap, ℕ}
+use Rattle.std.proofs.Common.{◌∙◌, ap}
 use Rattle.px_spec.specs.Members.{at, has}
 use Rattle.bisim_spec.specs.Views.{support_at}
 use Rattle.one_merging.proofs.Rooted.{covers_touched, covers_kept}
