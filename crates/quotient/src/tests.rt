@@ -3,13 +3,14 @@ ghost use Rattle.std.specs.Prelude.{◌≡◌, ◌<◌, ◌≤◌, ◌+◌, leng
 
 use super::*;
 use block_partition::Blocks;
-use label_graph::{Digraph, Graph, GraphView};
-use px_base::{NodeId, Steps, Text};
+use label_graph::{Digraph, GraphView};
+use px_base::{NodeId, Steps};
 use std::alloc::Global;
 use std::marker::Brand;
 use std::process::Abort;
 use std::sync::ledger::{Blank, Ledger};
 use std::test::Fail;
+use test_graphs::drawn;
 
 const MOST: u32 = 1 << 30;
 
@@ -17,48 +18,6 @@ const MOST: u32 = 1 << 30;
 const LABELS: &[u8] = b"raabbc";
 
 const EDGES: &[(NodeId, NodeId)] = &[(0, 1), (0, 2), (1, 3), (1, 4), (2, 4), (2, 5), (5, 5)];
-
-// Adds a node with that label.
-fn put_node(rt: &impl Abort, alloc: Global, graph: &mut Graph, label: u8) -> Result<(), Fail> {
-    assert!(rt; graph.created() < MOST);
-    graph.reserve_node(alloc, &Text::from_bytes(alloc, &[label])?)?;
-    graph.add_node();
-    Ok(())
-}
-
-// Adds an edge between live nodes that isn't there yet.
-fn put_edge<L: Ledger>(
-    rt: &impl Abort,
-    graph: &mut Graph,
-    u: NodeId,
-    v: NodeId,
-    steps: &mut Steps<L>,
-) -> Result<(), Fail> {
-    assert!(rt; graph.is_live(u));
-    assert!(rt; graph.is_live(v));
-    assert!(rt; graph.edge_count() < MOST);
-    assert!(rt; !graph.has_edge(u, v, steps));
-    graph.reserve_edge(u, v)?;
-    graph.add_edge(u, v);
-    Ok(())
-}
-
-fn drawn<L: Ledger>(
-    rt: &impl Abort,
-    alloc: Global,
-    labels: &[u8],
-    edges: &[(NodeId, NodeId)],
-    steps: &mut Steps<L>,
-) -> Result<Graph, Fail> {
-    let mut graph = Graph::new(alloc)?;
-    for label in labels {
-        put_node(rt, alloc, &mut graph, *label)?;
-    }
-    for (u, v) in edges {
-        put_edge(rt, &mut graph, *u, *v, steps)?;
-    }
-    Ok(graph)
-}
 
 // Puts a node that has no block into one.
 fn put(rt: &impl Abort, blocks: &mut Blocks, n: NodeId, b: u32)
@@ -157,7 +116,7 @@ fn read_tree<L: Ledger>(rt: &impl Abort, alloc: Global, blank: Blank) -> Result<
     requires some { 0 < blank.parts }
 {
     let mut steps = Steps::<L>::new(blank);
-    let graph = drawn(rt, alloc, LABELS, EDGES, &mut steps)?;
+    let graph = drawn(alloc, LABELS, EDGES, &mut steps)?;
     let view = graph.view(&mut steps);
     assert_eq!(rt; view.edge_count(), 7);
     let blocks = by_label(rt, alloc)?;
@@ -276,7 +235,7 @@ fn take_spokes<L: Ledger>(rt: &impl Abort, alloc: Global, blank: Blank) -> Resul
     requires some { 0 < blank.parts }
 {
     let mut steps = Steps::<L>::new(blank);
-    let graph = drawn(rt, alloc, HUB, SPOKES, &mut steps)?;
+    let graph = drawn(alloc, HUB, SPOKES, &mut steps)?;
     let view = graph.view(&mut steps);
     let blocks = alone(rt, alloc)?;
     let mut summary = Summary::of(alloc, blocks, &view)?;
