@@ -144,8 +144,8 @@ fn is_past_program(alloc: Global, row: &[&str; 5], count: u32) -> Option<bool> {
 #[test]
 fn brackets_nest_64_deep(rt: HostRuntime) {
     for row in NESTED {
-        assert_eq!(rt; is_past_program(rt.alloc(), row, 63), Some(false));
-        assert_eq!(rt; is_past_program(rt.alloc(), row, 64), Some(true));
+        assert_eq!(rt; is_past_program(rt.alloc(), row, 63), Some(false), "{row:?}");
+        assert_eq!(rt; is_past_program(rt.alloc(), row, 64), Some(true), "{row:?}");
     }
 }
 

@@ -128,7 +128,7 @@ fn texts_load_to_graphs(rt: HostRuntime) -> Result<(), Fail> {
         (MANY, EIGHTEEN_EDGES, Err(LoadError::Limit(10))),
     ];
     for (content, limits, size) in rows {
-        assert!(rt; size_of(rt.alloc(), content, &limits)? == size);
+        assert!(rt; size_of(rt.alloc(), content, &limits)? == size, "{content:?}");
     }
     Ok(())
 }
@@ -158,7 +158,7 @@ fn nodes_have_their_numbers_and_labels(rt: HostRuntime) -> Result<(), Fail> {
         "iri", name, "literal", knows, "iri", knows, "blank", name, "literal", knows,
     ];
     for n in 0..labels.len() {
-        assert!(rt; label_of(&graph, n as u32) == labels[n]);
+        assert!(rt; label_of(&graph, n as u32) == labels[n], "{n}");
     }
     Ok(())
 }

@@ -11,7 +11,7 @@ fn indexes_have_places(rt: HostRuntime) -> Result<(), Fail> {
         (Via::Fb, Some((Kind::Fb, 0))),
     ];
     for (via, place) in rows {
-        assert_eq!(rt; via.place(), place);
+        assert_eq!(rt; via.place(), place, "{via:?}");
     }
     Ok(())
 }
@@ -26,7 +26,7 @@ fn indexes_are_listed(rt: HostRuntime) -> Result<(), Fail> {
         (5, None),
     ];
     for (n, via) in rows {
-        assert_eq!(rt; Via::nth(n, 2), via);
+        assert_eq!(rt; Via::nth(n, 2), via, "{n}");
     }
     Ok(())
 }

@@ -69,7 +69,8 @@ fn lines_are_commands(rt: HostRuntime) -> Result<(), Fail> {
         (b" forget fb\t", Short::Forget(Kind::Fb)),
     ];
     for (line, short) in rows {
-        assert_eq!(rt; shorten(read(rt.alloc(), line, &Limits::program())), short);
+        let read = shorten(read(rt.alloc(), line, &Limits::program()));
+        assert_eq!(rt; read, short, "{line:?}");
     }
     Ok(())
 }
@@ -109,10 +110,8 @@ fn near_misses_are_bad(rt: HostRuntime) -> Result<(), Fail> {
         b"forget one fb",
     ];
     for line in lines {
-        assert_eq!(rt;
-            shorten(read(rt.alloc(), line, &Limits::program())),
-            Short::Bad
-        );
+        let read = shorten(read(rt.alloc(), line, &Limits::program()));
+        assert_eq!(rt; read, Short::Bad, "{line:?}");
     }
     Ok(())
 }
@@ -150,7 +149,7 @@ fn limits_come_before_the_language(rt: HostRuntime) -> Result<(), Fail> {
         (b"node abcdefgh", Short::Node),
     ];
     for (line, short) in rows {
-        assert_eq!(rt; shorten(read(rt.alloc(), line, &few)), short);
+        assert_eq!(rt; shorten(read(rt.alloc(), line, &few)), short, "{line:?}");
     }
     Ok(())
 }
