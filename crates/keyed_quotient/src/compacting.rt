@@ -12,9 +12,10 @@ use px_base::Memory;
 use quotient::Summary;
 use std::alloc::Global;
 
-/// Where there are more than 64 keys, and more than one and a half times as many as blocks, makes the numbers anew with the keys
-/// of the blocks alone. On `Memory` they stay as they were. O(1) where nothing is to be done; else linear in the numbers of
-/// blocks and in their keys, and more than a third of the keys are dropped.
+/// Makes the numbers anew, with the keys of the blocks alone, where there are more than 64 keys and more than one and a half times
+/// as many as blocks, or where a key has no block and all have become one and a half times as long together, and 64 numbers
+/// more, since this was last done. On `Memory` they stay as they were. O(1) where nothing is to be done; else linear in the numbers of
+/// blocks and in their keys, for which the keys that came since then pay.
 pub(crate) fn compact(
     alloc: Global,
     summary: &Summary,
@@ -26,7 +27,7 @@ pub(crate) fn compact(
     ensures few { OnOk result (AreFew (length numbers.new.table) (block_count summary.now.blocks)) }
     ensures err { OnErr result (numbers.new ≡ numbers.old) }
 {
-    if are_few(numbers.len(), summary.blocks()) {
+    if are_few(numbers.len(), summary.blocks()) && are_short(numbers, summary.blocks()) {
         return Ok(());
     }
     let new = anew(alloc, summary, numbers)?;
@@ -41,6 +42,11 @@ fn are_few(keys: u32, blocks: u32) -> bool
     keys <= 64 || keys as u64 * 2 <= blocks as u64 * 3
 }
 
+// Whether each key has a block, or they are so short that they stay.
+fn are_short(numbers: &KeyNumbers, blocks: u32) -> bool {
+    numbers.len() <= blocks || numbers.are_short()
+}
+
 // Numbers for the keys of the blocks, in the order of the blocks.
 fn anew(alloc: Global, summary: &Summary, numbers: &KeyNumbers) -> Result<KeyNumbers, Memory>
     requires { IsNumbering summary.now.blocks.labels numbers.now }
@@ -50,6 +56,7 @@ fn anew(alloc: Global, summary: &Summary, numbers: &KeyNumbers) -> Result<KeyNum
     'blocks: for b in 0..summary.size() {
         carry(summary, numbers, &mut new, b)?;
     }
+    new.mark_anew();
     Ok(new)
 }
 

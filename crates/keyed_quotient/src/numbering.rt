@@ -16,6 +16,9 @@ pub(crate) struct KeyNumbers {
     table: KeyTable,
     block_of: Vec<u32>,
     number_of: Vec<u32>,
+    // The lengths of the keys together, now and when the numbers were made anew.
+    words: u64,
+    words_anew: u64,
 }
 
 impl Model for KeyNumbers {
@@ -68,6 +71,15 @@ fn write(list: &mut Vec<u32>, i: u32, v: u32)
     list[i as usize] = v;
 }
 
+// The lengths of all keys together.
+fn words_of(table: &KeyTable) -> u64 {
+    let mut words: u64 = 0;
+    for k in 0..table.len() {
+        words = words.saturating_add(table.key(k).len() as u64);
+    }
+    words
+}
+
 impl KeyNumbers {
     /// The block of each key is its number.
     pub(crate) fn of(alloc: Global, table: KeyTable) -> Result<KeyNumbers, Memory>
@@ -77,10 +89,13 @@ impl KeyNumbers {
     {
         let block_of = count_up(alloc, table.len())?;
         let number_of = count_up(alloc, table.len())?;
+        let words = words_of(&table);
         Ok(KeyNumbers {
             table,
             block_of,
             number_of,
+            words,
+            words_anew: words,
         })
     }
 
@@ -131,9 +146,25 @@ impl KeyNumbers {
         ensures number_of { self.new.number_of ≡ self.old.number_of }
         ensures interns { OnOk result ((k : ℕ) × Interns self.old.table self.new.table key.now k) }
     {
-        grow(&mut self.block_of, self.table.len() as usize + 1)?;
+        let len = self.table.len();
+        grow(&mut self.block_of, len as usize + 1)?;
         self.table.intern(key)?;
+        if self.table.len() > len {
+            self.words = self.words.saturating_add(key.len() as u64);
+        }
         Ok(())
+    }
+
+    /// Notes that the numbers were made anew.
+    pub(crate) fn mark_anew(&mut self)
+        ensures { self.new ≡ self.old }
+    {
+        self.words_anew = self.words;
+    }
+
+    /// Whether the keys are little longer together than when the numbers were made anew. O(1).
+    pub(crate) fn are_short(&self) -> bool {
+        self.words <= self.words_anew.saturating_add(self.words_anew / 2 + 64)
     }
 
     /// Makes room for blocks with numbers below this one.

@@ -15,8 +15,8 @@ use px_base::Memory;
 
 impl KeyedDraft {
     /// Makes the room in the base that settling this draft needs. It leaves the base as it is seen. Linear in what is
-    /// drafted; and where the base keeps more than 64 keys, and more than one and a half times as many as it has blocks, also in
-    /// the numbers of its blocks and in their keys, since it then drops the keys that no block has.
+    /// drafted; and where the base keeps more than 64 keys, and more than one and a half times as many as it has blocks, or where
+    /// keys that no block has may be long, also in the numbers of its blocks and in their keys, since it then drops those keys.
     pub fn reserve(&self, base: &mut KeyedSummary) -> Result<(), Memory>
         requires over { IsKeyedOver base.old self.now }
         ensures view { view_of base.new.quotient ≡ view_of base.old.quotient }
