@@ -1,6 +1,7 @@
 // Where a set of nodes leads along an axis.
 ghost use Rattle.std.specs.Prelude.{◌≡◌, ◌↔◌, ◌⊎◌, ℕ, ◌∷◌, [], true, length, IsTrue, IsSome, IfOk};
 ghost use Rattle.px_spec.specs.Members.{has};
+ghost use Rattle.path_search.specs.Spreading.{Passes};
 ghost use Rattle.path_search.specs.declared.state.State.TheVariants.{End, Any, Fork};
 ghost use Rattle.branch_spec.specs.Answers.{Along, Reaches};
 ghost use Rattle.branch_sets.specs.Axes.{axis_of};
@@ -8,6 +9,7 @@ ghost use Rattle.branch_sets.specs.Automata.{far_states};
 
 use crate::axis::Axis;
 use crate::mirror::Mirror;
+use crate::sets::is_passing;
 use label_graph::Digraph;
 use path_search::{Program, State, search};
 use px_base::{Bits, Memory};
@@ -59,6 +61,21 @@ fn near<G: Digraph>(alloc: Global, g: &G, set: &Bits) -> Result<Bits, Memory>
     let mut image = Bits::new(alloc, g.size())?;
     for n in 0..set.size() {
         if set.contains(n) {
+            insert_children(g, n, &mut image);
+        }
+    }
+    Ok(image)
+}
+
+/// The children of the nodes whose label passes: any one, or the one with the number. Linear in the graph's size, and the edges
+/// that lead from those nodes. Each node is read once.
+pub fn passing_children<G: Digraph>(alloc: Global, g: &G, test: Option<u32>) -> Result<Bits, Memory>
+    ensures size { IfOk result (λ b. b.size ≡ G.span g.now) }
+    ensures image { IfOk result (λ b. (c : ℕ) → IsTrue (has b.members c) ↔ ((v : ℕ) × Passes (G.label_at g.now) test v × IsTrue (G.edge g.now v c))) }
+{
+    let mut image = Bits::new(alloc, g.size())?;
+    for n in 0..g.size() {
+        if is_passing(g, test, n) {
             insert_children(g, n, &mut image);
         }
     }

@@ -7,6 +7,6 @@ mod mirror;
 mod sets;
 
 pub use axis::Axis;
-pub use leading::along;
+pub use leading::{along, passing_children};
 pub use mirror::Mirror;
-pub use sets::{complement, intersect, passing, unite};
+pub use sets::{copy, intersect, passing, subtract, unite};

@@ -32,21 +32,30 @@ pub fn unite(set: &mut Bits, other: &Bits)
     }
 }
 
-/// The nodes of the graph that aren't in the set. Linear in the graph's size.
-pub fn complement<G: Digraph>(alloc: Global, g: &G, a: &Bits) -> Result<Bits, Memory>
-    ensures size { IfOk result (λ s. s.size ≡ G.span g.now) }
-    ensures members { IfOk result (λ s. (n : ℕ) → IsTrue (has s.members n) ↔ (IsSome (G.label_at g.now n) × (IsTrue (has a.now.members n) → ⊥))) }
+/// Takes the numbers of another set out of a set. Linear in the size of the first; it takes no memory.
+pub fn subtract(set: &mut Bits, gone: &Bits)
+    ensures size { set.new.size ≡ set.old.size }
+    ensures members { (n : ℕ) → IsTrue (has set.new.members n) ↔ (IsTrue (has set.old.members n) × (IsTrue (has gone.now.members n) → ⊥)) }
 {
-    let mut set = Bits::new(alloc, g.size())?;
-    for n in 0..g.size() {
-        if g.is_node(n) && !a.contains(n) {
-            set.insert(n);
+    for n in 0..set.size() {
+        if gone.contains(n) {
+            set.remove(n);
         }
     }
-    Ok(set)
+}
+
+/// The same set once more. Linear in its size.
+pub fn copy(alloc: Global, set: &Bits) -> Result<Bits, Memory>
+    ensures size { IfOk result (λ s. s.size ≡ set.now.size) }
+    ensures members { IfOk result (λ s. (n : ℕ) → IsTrue (has s.members n) ↔ IsTrue (has set.now.members n)) }
+{
+    let mut copied = Bits::new(alloc, set.size())?;
+    unite(&mut copied, set);
+    Ok(copied)
 }
 
 /// Whether the node's label passes: any one, or the one with the number.
+#[inline(always)]
 fn passes<G: Digraph>(g: &G, test: Option<u32>, n: NodeId) -> bool
     requires { IsSome (G.label_at g.now n) }
     ensures { IsTrue result ↔ Passes (G.label_at g.now) test n }
@@ -58,8 +67,10 @@ fn passes<G: Digraph>(g: &G, test: Option<u32>, n: NodeId) -> bool
 }
 
 /// Whether the number is that of a node whose label passes.
-fn is_passing<G: Digraph>(g: &G, test: Option<u32>, n: NodeId) -> bool
-    ensures { IsTrue result ↔ Passes (G.label_at g.now) test n }
+#[inline(always)]
+pub(crate) fn is_passing<G: Digraph>(g: &G, test: Option<u32>, n: NodeId) -> bool
+    ensures passes { IsTrue result ↔ Passes (G.label_at g.now) test n }
+    ensures node { IsTrue result → IsSome (G.label_at g.now n) }
 {
     g.is_node(n) && passes(g, test, n)
 }
