@@ -5,39 +5,46 @@ use Rattle.std.proofs.lemmas.List.{take_more, drop_more}
 use Rattle.px_spec.specs.Members.{has}
 use Rattle.px_spec.specs.Shapes.{Shape, IsNode}
 use Rattle.branch_spec.specs.Trees as tree
-use Rattle.branch_spec.specs.Answers.{Reaches, direct, further, Along, Meets, HoldAll, HoldsOr, HoldsAnd, HoldsCond, Goes, Ends}
+use Rattle.branch_spec.specs.Answers.{Reaches, direct, further, Along, Passes, Meets, HoldAll, HoldsOr, HoldsAnd, HoldsCond, Goes, Ends}
 use Rattle.branch_sets.specs.Axes.{axis_of}
 use Rattle.branch_expr.specs.declared.tree.Cond.{Cond}
 use Rattle.branch_expr.specs.declared.tree.And.{And}
 use Rattle.branch_expr.specs.declared.tree.Hop.{Hop}
 use Rattle.branch_expr.specs.Views.{preds_of, step_of, chain_of, cond_of, and_from, and_of, or_from}
-use Rattle.branch_expr.specs.Sets.{IsSetOf}
+use Rattle.branch_expr.specs.Sets.{IsSetOf, Keeps}
 use Rattle.branch_sets.specs.Axes.{turned}
 
 module _ (L : ℕ → Option ℕ) where
   pub set_as : (xs : List ℕ) (H K : ℕ → Type 0) → ((v : ℕ) → H v → K v) → ((v : ℕ) → K v → H v) → IsSetOf L xs H → IsSetOf L xs K
   set_as xs H K to from h v = (λ m. let p = (h v).0 m in (p.0, to v p.1), λ p. (h v).1 (p.0, from v p.1))
 
-  pub set_both : (a b s : List ℕ) (H K : ℕ → Type 0) → IsSetOf L a H → IsSetOf L b K → ((n : ℕ) → IsTrue (has s n) ↔ (IsTrue (has a n) × IsTrue (has b n))) → IsSetOf L s (λ v. H v × K v)
-  set_both a b s H K h k e v = (
-    λ m. let p = (e v).0 m in let x = (h v).0 p.0 in let y = (k v).0 p.1 in (x.0, (x.1, y.1)),
-    λ p. (e v).1 ((h v).1 (p.0, p.1.0), (k v).1 (p.0, p.1.1)),
+  set_kept : (a r : List ℕ) (H K : ℕ → Type 0) → IsSetOf L a H → Keeps a r K → IsSetOf L r (λ v. H v × K v)
+  set_kept a r H K h k v = (
+    λ m. let p = (k v).0 m in let x = (h v).0 p.0 in (x.0, (x.1, p.1)),
+    λ p. (k v).1 ((h v).1 (p.0, p.1.0), p.1.1),
   )
 
-  pub set_either : (a b s : List ℕ) (H K : ℕ → Type 0) → IsSetOf L a H → IsSetOf L b K → ((n : ℕ) → IsTrue (has s n) ↔ (IsTrue (has a n) ⊎ IsTrue (has b n))) → IsSetOf L s (λ v. H v ⊎ K v)
-  set_either a b s H K h k e v = (
-    λ m. elim ((e v).0 m) [ inl x ↦ (let p = (h v).0 x in (p.0, inl p.1)) | inr y ↦ (let p = (k v).0 y in (p.0, inr p.1)) ],
-    λ p. elim p.1 [ inl x ↦ (e v).1 (inl ((h v).1 (p.0, x))) | inr y ↦ (e v).1 (inr ((k v).1 (p.0, y))) ],
-  )
+keeps_as : (a r : List ℕ) (H K : ℕ → Type 0) → ((v : ℕ) → H v → K v) → ((v : ℕ) → K v → H v) → Keeps a r H → Keeps a r K
+keeps_as a r H K to from h v = (λ m. let p = (h v).0 m in (p.0, to v p.1), λ p. (h v).1 (p.0, from v p.1))
 
-  pub set_without : (a s : List ℕ) (H : ℕ → Type 0) → IsSetOf L a H → ((n : ℕ) → IsTrue (has s n) ↔ (IsSome (L n) × (IsTrue (has a n) → ⊥))) → IsSetOf L s (λ v. H v → ⊥)
-  set_without a s H h e v = (
-    λ m. let p = (e v).0 m in (p.0, λ x. p.1 ((h v).1 (p.0, x))),
-    λ p. (e v).1 (p.0, λ m. p.1 ((h v).0 m).1),
-  )
+keeps_both : (a b r : List ℕ) (H K : ℕ → Type 0) → Keeps a b H → Keeps b r K → Keeps a r (λ v. H v × K v)
+keeps_both a b r H K h k v = (
+  λ m. let p = (k v).0 m in let q = (h v).0 p.0 in (q.0, (q.1, p.1)),
+  λ p. (k v).1 ((h v).1 (p.0, p.1.0), p.1.1),
+)
 
-  pub set_all : (s : List ℕ) → ((n : ℕ) → IsTrue (has s n) ↔ IsSome (L n)) → IsSetOf L s (λ v. Unit {0})
-  set_all s e v = (λ m. ((e v).0 m, tt), λ p. (e v).1 p.0)
+-- what stays of a copy
+pub keeps_copied : (a c r : List ℕ) (H : ℕ → Type 0) → ((n : ℕ) → IsTrue (has c n) ↔ IsTrue (has a n)) → Keeps c r H → Keeps a r H
+keeps_copied a c r H same h v = (
+  λ m. let p = (h v).0 m in ((same v).0 p.0, p.1),
+  λ p. (h v).1 ((same v).1 p.0, p.1),
+)
+
+keeps_either : (a b n r : List ℕ) (H K : ℕ → Type 0) → Keeps a b H → Keeps a n K → ((v : ℕ) → IsTrue (has r v) ↔ (IsTrue (has b v) ⊎ IsTrue (has n v))) → Keeps a r (λ v. H v ⊎ K v)
+keeps_either a b n r H K h k e v = (
+  λ m. elim ((e v).0 m) [ inl x ↦ (let p = (h v).0 x in (p.0, inl p.1)) | inr y ↦ (let p = (k v).0 y in (p.0, inr p.1)) ],
+  λ p. elim p.1 [ inl x ↦ (e v).1 (inl ((h v).1 (p.0, x))) | inr y ↦ (e v).1 (inr ((k v).1 (p.0, y))) ],
+)
 
 pub along_back : (edge : ℕ → ℕ → Bool) (a : tree.Axis) (u v : ℕ) → Along edge (turned a) u v → Along edge a v u
 along_back edge tree.child u v h = h
@@ -141,31 +148,57 @@ drop_back xs j x some le e =
 pub drop_none : {X : Type 0} (xs : List X) (j : ℕ) → j ≤ 0 → drop j xs ≡ xs
 drop_none xs j h = let none : j ≡ 0 = omega arith in ap (λ n. drop n xs) none
 
+pub no_items : {X : Type 0} (xs : List X) → length xs ≡ 0 → [] ≡ xs
+no_items [] h = refl
+no_items (x ∷ xs) h = absurd (omega arith)
+
 module _ (L : ℕ → Option ℕ) (s : Shape) (ends : (u v : ℕ) → IsTrue (s.edge u v) → IsSome (L u) × IsSome (L v)) where
-  pub set_and : (c : tree.Cond) (ds : List Cond) (j : ℕ) (d : Cond) → j < length ds → d ≡ get_or ds j d → (a b r : List ℕ) → IsSetOf L a (HoldsAnd s (and_from c (take j ds)))
-      → IsSetOf L b (HoldsCond s (cond_of d)) → ((n : ℕ) → IsTrue (has r n) ↔ (IsTrue (has a n) × IsTrue (has b n))) → IsSetOf L r (HoldsAnd s (and_from c (take (j + 1) ds)))
-  set_and c ds j d within e a b r h k i =
-      subst (λ y. IsSetOf L r (HoldsAnd s (and_from c y))) (taken ds j d within e)
-      (set_as L r (λ v. HoldsAnd s (and_from c (take j ds)) v × HoldsCond s (cond_of d) v) (HoldsAnd s (and_from c (take j ds ++ d ∷ [])))
+  pub keeps_and : (c : tree.Cond) (ds : List Cond) (j : ℕ) (d : Cond) → j < length ds → d ≡ get_or ds j d → (a b r : List ℕ) → Keeps a b (HoldsAnd s (and_from c (take j ds)))
+      → Keeps b r (HoldsCond s (cond_of d)) → Keeps a r (HoldsAnd s (and_from c (take (j + 1) ds)))
+  keeps_and c ds j d within e a b r h k =
+      subst (λ y. Keeps a r (HoldsAnd s (and_from c y))) (taken ds j d within e)
+      (keeps_as a r (λ v. HoldsAnd s (and_from c (take j ds)) v × HoldsCond s (cond_of d) v) (HoldsAnd s (and_from c (take j ds ++ d ∷ [])))
       (λ v x. and_in s c (take j ds) d v x) (λ v x. and_out s c (take j ds) d v x)
-      (set_both L a b r (HoldsAnd s (and_from c (take j ds))) (HoldsCond s (cond_of d)) h k i))
+      (keeps_both a b r (HoldsAnd s (and_from c (take j ds))) (HoldsCond s (cond_of d)) h k))
 
-  pub set_or : (c : tree.And) (ds : List And) (j : ℕ) (d : And) → j < length ds → d ≡ get_or ds j d → (a b r : List ℕ) → IsSetOf L a (HoldsOr s (or_from c (take j ds)))
-      → IsSetOf L b (HoldsAnd s (and_of d)) → ((n : ℕ) → IsTrue (has r n) ↔ (IsTrue (has a n) ⊎ IsTrue (has b n))) → IsSetOf L r (HoldsOr s (or_from c (take (j + 1) ds)))
-  set_or c ds j d within e a b r h k i =
-      subst (λ y. IsSetOf L r (HoldsOr s (or_from c y))) (taken ds j d within e)
-      (set_as L r (λ v. HoldsOr s (or_from c (take j ds)) v ⊎ HoldsAnd s (and_of d) v) (HoldsOr s (or_from c (take j ds ++ d ∷ [])))
+  pub keeps_or : (c : tree.And) (ds : List And) (j : ℕ) (d : And) → j < length ds → d ≡ get_or ds j d → (a b n r : List ℕ) → Keeps a b (HoldsOr s (or_from c (take j ds)))
+      → Keeps a n (HoldsAnd s (and_of d)) → ((v : ℕ) → IsTrue (has r v) ↔ (IsTrue (has b v) ⊎ IsTrue (has n v))) → Keeps a r (HoldsOr s (or_from c (take (j + 1) ds)))
+  keeps_or c ds j d within e a b n r h k i =
+      subst (λ y. Keeps a r (HoldsOr s (or_from c y))) (taken ds j d within e)
+      (keeps_as a r (λ v. HoldsOr s (or_from c (take j ds)) v ⊎ HoldsAnd s (and_of d) v) (HoldsOr s (or_from c (take j ds ++ d ∷ [])))
       (λ v x. or_in s c (take j ds) d v x) (λ v x. or_out s c (take j ds) d v x)
-      (set_either L a b r (HoldsOr s (or_from c (take j ds))) (HoldsAnd s (and_of d)) h k i))
+      (keeps_either a b n r (HoldsOr s (or_from c (take j ds))) (HoldsAnd s (and_of d)) h k i))
 
-  pub set_preds : (t : tree.Test) (ps : List tree.Or) (j : ℕ) (o : tree.Or) → j < length ps → o ≡ get_or ps j o → (a b r : List ℕ) → IsSetOf L a (Meets s (tree.step t (preds_of (take j ps))))
-      → IsSetOf L b (HoldsOr s o) → ((n : ℕ) → IsTrue (has r n) ↔ (IsTrue (has a n) × IsTrue (has b n))) → IsSetOf L r (Meets s (tree.step t (preds_of (take (j + 1) ps))))
-  set_preds t ps j o within e a b r h k i =
+  pub set_preds : (t : tree.Test) (ps : List tree.Or) (j : ℕ) (o : tree.Or) → j < length ps → o ≡ get_or ps j o → (a r : List ℕ) → IsSetOf L a (Meets s (tree.step t (preds_of (take j ps))))
+      → Keeps a r (HoldsOr s o) → IsSetOf L r (Meets s (tree.step t (preds_of (take (j + 1) ps))))
+  set_preds t ps j o within e a r h k =
       subst (λ y. IsSetOf L r (Meets s (tree.step t (preds_of y)))) (taken ps j o within e)
       (set_as L r (λ v. Meets s (tree.step t (preds_of (take j ps))) v × HoldsOr s o v) (Meets s (tree.step t (preds_of (take j ps ++ o ∷ []))))
       (λ v x. (x.0.0, preds_in s (take j ps) o v (x.0.1, x.1)))
       (λ v x. let p = preds_out s (take j ps) o v x.1 in ((x.0, p.0), p.1))
-      (set_both L a b r (Meets s (tree.step t (preds_of (take j ps)))) (HoldsOr s o) h k i))
+      (set_kept L a r (Meets s (tree.step t (preds_of (take j ps)))) (HoldsOr s o) h k))
+
+  -- to where an axis leads from the nodes whose label passes
+  abbrev pub IsLed : tree.Axis → tree.Test → List ℕ → Type 0
+  IsLed a t found = (c : ℕ) → IsTrue (has found c) ↔ ((v : ℕ) × Passes s t v × Along s.edge a v c)
+
+  pub set_led : (a : tree.Axis) (t : tree.Test) (met found : List ℕ) → IsSetOf L met (Passes s t)
+      → ((c : ℕ) → IsTrue (has found c) ↔ ((v : ℕ) × IsTrue (has met v) × Along s.edge a v c)) → IsLed a t found
+  set_led a t met found h image c = (
+    λ m. let p = (image c).0 m in (p.0, ((h p.0).0 p.1).1, p.2),
+    λ p. (image c).1 (p.0, (h p.0).1 ((along_ends L s.edge ends a p.0 c p.2).0, p.1), p.2),
+  )
+
+  pub set_plain : (a : tree.Axis) (t : tree.Test) (ps : List tree.Or) (found : List ℕ) → [] ≡ ps → IsLed (turned a) t found → IsSetOf L found (Goes s (tree.go a (tree.step t (preds_of ps)) tree.end))
+  set_plain a t ps found none image =
+      subst (λ y. IsSetOf L found (Goes s (tree.go a (tree.step t (preds_of y)) tree.end))) none
+      (λ v. (
+        λ m.
+            let p = (image v).0 m in
+            let l = along_back s.edge a p.0 v p.2 in
+            ((along_ends L s.edge ends a v p.0 l).0, (p.0, l, (p.1, tt), tt)),
+        λ p. (image v).1 (p.1.0, p.1.2.0, back_along s.edge a p.1.0 v p.1.1),
+      ))
 
   pub set_go : (a : tree.Axis) (st : tree.Step) (ch : tree.Chain) (behind r : List ℕ) → IsSetOf L behind (Goes s ch)
       → IsSetOf L r (λ v. (c : ℕ) × Along s.edge a v c × Meets s st c × IsTrue (has behind c)) → IsSetOf L r (Goes s (tree.go a st ch))

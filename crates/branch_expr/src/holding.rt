@@ -1,15 +1,17 @@
 // Where the parts of a query hold.
-ghost use Rattle.std.specs.Prelude.{◌≡◌, ◌<◌, ℕ, ◌∷◌, [], Some, length, IsTrue, IsSome, IfOk};
+ghost use Rattle.std.specs.Prelude.{◌≡◌, ◌<◌, ◌↔◌, ℕ, ◌∷◌, [], Some, length, IsTrue, IsSome, IfOk, OnOk};
 ghost use Rattle.px_spec.specs.Members.{has};
 ghost use Rattle.px_spec.specs.Shapes.{shape_by};
 ghost use Rattle.branch_spec.specs.Trees as tree;
 ghost use Rattle.branch_spec.specs.Answers.{Along, Passes, Meets, HoldsOr, HoldsAnd, HoldsCond, Goes};
 ghost use Rattle.branch_sets.specs.Axes.{axis_of};
 ghost use Rattle.branch_expr.specs.Views.{test_of, step_of, chain_of, cond_of, and_of};
-ghost use Rattle.branch_expr.specs.Sets.{IsSetOf};
+ghost use Rattle.branch_expr.specs.Sets.{IsSetOf, Keeps};
 
 use crate::tree::{And, Cond, Hop, Or, Rel, Step, Test};
-use branch_sets::{along, complement, intersect, passing, unite};
+use branch_sets::{
+    Axis, Mirror, along, copy, intersect, passing, passing_children, subtract, unite,
+};
 use label_graph::{Digraph, Labels};
 use px_base::{Bits, Memory, Text};
 use std::alloc::Global;
@@ -38,6 +40,75 @@ fn test_set<G: Digraph>(alloc: Global, g: &G, labels: &Labels, test: &Test) -> R
     }
 }
 
+/// The nodes to which an edge leads from a node with the label.
+fn label_leading<G: Digraph>(
+    alloc: Global,
+    g: &G,
+    labels: &Labels,
+    text: &Text,
+) -> Result<Bits, Memory>
+    requires labelled { (n l : ℕ) → G.label_at g.now n ≡ Some l → l < length labels.now.texts }
+    ensures size { IfOk result (λ b. b.size ≡ G.span g.now) }
+    ensures image { IfOk result (λ b. (c : ℕ) → IsTrue (has b.members c) ↔ ((v : ℕ) × Passes (shape_by labels.now.texts (G.span g.now) (G.label_at g.now) (G.edge g.now)) (tree.label text.now) v × IsTrue (G.edge g.now v c))) }
+{
+    match labels.find(text) {
+        Some(label) => passing_children(alloc, g, Some(label)),
+        None => Bits::new(alloc, g.size()),
+    }
+}
+
+/// The nodes to which an edge leads from a node whose label passes.
+fn test_leading<G: Digraph>(
+    alloc: Global,
+    g: &G,
+    labels: &Labels,
+    test: &Test,
+) -> Result<Bits, Memory>
+    requires labelled { (n l : ℕ) → G.label_at g.now n ≡ Some l → l < length labels.now.texts }
+    ensures size { IfOk result (λ b. b.size ≡ G.span g.now) }
+    ensures image { IfOk result (λ b. (c : ℕ) → IsTrue (has b.members c) ↔ ((v : ℕ) × Passes (shape_by labels.now.texts (G.span g.now) (G.label_at g.now) (G.edge g.now)) (test_of test.now) v × IsTrue (G.edge g.now v c))) }
+{
+    match test {
+        Test::Any => passing_children(alloc, g, None),
+        Test::Label(text) => label_leading(alloc, g, labels, text),
+    }
+}
+
+/// The nodes to which the axis leads from a node whose label passes.
+fn far_leading<G: Digraph>(
+    alloc: Global,
+    g: &G,
+    labels: &Labels,
+    axis: Axis,
+    test: &Test,
+) -> Result<Bits, Memory>
+    requires labelled { (n l : ℕ) → G.label_at g.now n ≡ Some l → l < length labels.now.texts }
+    ensures size { IfOk result (λ b. b.size ≡ G.span g.now) }
+    ensures image { IfOk result (λ b. (c : ℕ) → IsTrue (has b.members c) ↔ ((v : ℕ) × Passes (shape_by labels.now.texts (G.span g.now) (G.label_at g.now) (G.edge g.now)) (test_of test.now) v × Along (G.edge g.now) (axis_of axis) v c)) }
+{
+    let met = test_set(alloc, g, labels, test)?;
+    along(alloc, g, axis, &met)
+}
+
+/// The same. Where the axis leads along one edge, each node is read once.
+fn axis_leading<G: Digraph>(
+    alloc: Global,
+    g: &G,
+    labels: &Labels,
+    axis: Axis,
+    test: &Test,
+) -> Result<Bits, Memory>
+    requires labelled { (n l : ℕ) → G.label_at g.now n ≡ Some l → l < length labels.now.texts }
+    ensures size { IfOk result (λ b. b.size ≡ G.span g.now) }
+    ensures image { IfOk result (λ b. (c : ℕ) → IsTrue (has b.members c) ↔ ((v : ℕ) × Passes (shape_by labels.now.texts (G.span g.now) (G.label_at g.now) (G.edge g.now)) (test_of test.now) v × Along (G.edge g.now) (axis_of axis) v c)) }
+{
+    match axis {
+        Axis::Child => test_leading(alloc, g, labels, test),
+        Axis::Parent => test_leading(alloc, &Mirror { graph: g }, labels, test),
+        _ => far_leading(alloc, g, labels, axis, test),
+    }
+}
+
 /// The nodes that meet the step.
 #[cycle(holds)]
 pub(crate) fn step_set<G: Digraph>(
@@ -52,8 +123,7 @@ pub(crate) fn step_set<G: Digraph>(
 {
     let mut set = test_set(alloc, g, labels, &step.test)?;
     for j in 0..step.preds.len() {
-        let pred = or_set(alloc, g, labels, &step.preds[j])?;
-        intersect(&mut set, &pred);
+        keep_or(alloc, g, labels, &step.preds[j], &mut set)?;
     }
     Ok(set)
 }
@@ -83,6 +153,9 @@ fn last_set<G: Digraph>(alloc: Global, g: &G, labels: &Labels, hop: &Hop) -> Res
     ensures size { IfOk result (λ b. b.size ≡ G.span g.now) }
     ensures set { IfOk result (λ b. IsSetOf (G.label_at g.now) b.members (Goes (shape_by labels.now.texts (G.span g.now) (G.label_at g.now) (G.edge g.now)) (chain_of (hop.now ∷ [])))) }
 {
+    if hop.step.preds.is_empty() {
+        return axis_leading(alloc, g, labels, hop.axis.turned(), &hop.step.test);
+    }
     let met = step_set(alloc, g, labels, &hop.step)?;
     along(alloc, g, hop.axis.turned(), &met)
 }
@@ -105,47 +178,82 @@ fn rel_set<G: Digraph>(alloc: Global, g: &G, labels: &Labels, rel: &Rel) -> Resu
     hop_set(alloc, g, labels, &rel.first, &set)
 }
 
+/// Keeps the members at which the condition holds.
 #[cycle(holds)]
-fn cond_set<G: Digraph>(alloc: Global, g: &G, labels: &Labels, cond: &Cond) -> Result<Bits, Memory>
+fn keep_cond<G: Digraph>(
+    alloc: Global,
+    g: &G,
+    labels: &Labels,
+    cond: &Cond,
+    set: &mut Bits,
+) -> Result<(), Memory>
     requires labelled { (n l : ℕ) → G.label_at g.now n ≡ Some l → l < length labels.now.texts }
-    ensures size { IfOk result (λ b. b.size ≡ G.span g.now) }
-    ensures set { IfOk result (λ b. IsSetOf (G.label_at g.now) b.members (HoldsCond (shape_by labels.now.texts (G.span g.now) (G.label_at g.now) (G.edge g.now)) (cond_of cond.now))) }
+    requires nodes { (v : ℕ) → IsTrue (has set.old.members v) → IsSome (G.label_at g.now v) }
+    ensures size { OnOk result (set.new.size ≡ set.old.size) }
+    ensures keeps { OnOk result (Keeps set.old.members set.new.members (HoldsCond (shape_by labels.now.texts (G.span g.now) (G.label_at g.now) (G.edge g.now)) (cond_of cond.now))) }
 {
     match cond {
         Cond::Not(or) => {
-            let set = or_set(alloc, g, labels, or)?;
-            complement(alloc, g, &set)
+            let mut denied = copy(alloc, set)?;
+            keep_or(alloc, g, labels, or, &mut denied)?;
+            subtract(set, &denied);
+            Ok(())
         }
-        Cond::Group(or) => or_set(alloc, g, labels, or),
-        Cond::Rel(rel) => rel_set(alloc, g, labels, rel),
-        Cond::True => passing(alloc, g, None),
+        Cond::Group(or) => keep_or(alloc, g, labels, or, set),
+        Cond::Rel(rel) => {
+            let from = rel_set(alloc, g, labels, rel)?;
+            intersect(set, &from);
+            Ok(())
+        }
+        Cond::True => Ok(()),
     }
 }
 
+/// Keeps the members at which each condition holds.
 #[cycle(holds)]
-fn and_set<G: Digraph>(alloc: Global, g: &G, labels: &Labels, and: &And) -> Result<Bits, Memory>
+fn keep_and<G: Digraph>(
+    alloc: Global,
+    g: &G,
+    labels: &Labels,
+    and: &And,
+    set: &mut Bits,
+) -> Result<(), Memory>
     requires labelled { (n l : ℕ) → G.label_at g.now n ≡ Some l → l < length labels.now.texts }
-    ensures size { IfOk result (λ b. b.size ≡ G.span g.now) }
-    ensures set { IfOk result (λ b. IsSetOf (G.label_at g.now) b.members (HoldsAnd (shape_by labels.now.texts (G.span g.now) (G.label_at g.now) (G.edge g.now)) (and_of and.now))) }
+    requires nodes { (v : ℕ) → IsTrue (has set.old.members v) → IsSome (G.label_at g.now v) }
+    ensures size { OnOk result (set.new.size ≡ set.old.size) }
+    ensures keeps { OnOk result (Keeps set.old.members set.new.members (HoldsAnd (shape_by labels.now.texts (G.span g.now) (G.label_at g.now) (G.edge g.now)) (and_of and.now))) }
 {
-    let mut set = cond_set(alloc, g, labels, &and.first)?;
+    keep_cond(alloc, g, labels, &and.first, set)?;
     for j in 0..and.more.len() {
-        let next = cond_set(alloc, g, labels, &and.more[j])?;
-        intersect(&mut set, &next);
+        keep_cond(alloc, g, labels, &and.more[j], set)?;
     }
-    Ok(set)
+    Ok(())
 }
 
+/// Keeps the members at which one of the alternatives holds.
 #[cycle(holds)]
-fn or_set<G: Digraph>(alloc: Global, g: &G, labels: &Labels, or: &Or) -> Result<Bits, Memory>
+fn keep_or<G: Digraph>(
+    alloc: Global,
+    g: &G,
+    labels: &Labels,
+    or: &Or,
+    set: &mut Bits,
+) -> Result<(), Memory>
     requires labelled { (n l : ℕ) → G.label_at g.now n ≡ Some l → l < length labels.now.texts }
-    ensures size { IfOk result (λ b. b.size ≡ G.span g.now) }
-    ensures set { IfOk result (λ b. IsSetOf (G.label_at g.now) b.members (HoldsOr (shape_by labels.now.texts (G.span g.now) (G.label_at g.now) (G.edge g.now)) or.now)) }
+    requires nodes { (v : ℕ) → IsTrue (has set.old.members v) → IsSome (G.label_at g.now v) }
+    ensures size { OnOk result (set.new.size ≡ set.old.size) }
+    ensures keeps { OnOk result (Keeps set.old.members set.new.members (HoldsOr (shape_by labels.now.texts (G.span g.now) (G.label_at g.now) (G.edge g.now)) or.now)) }
 {
-    let mut set = and_set(alloc, g, labels, &or.first)?;
-    for j in 0..or.more.len() {
-        let next = and_set(alloc, g, labels, &or.more[j])?;
-        unite(&mut set, &next);
+    if or.more.is_empty() {
+        return keep_and(alloc, g, labels, &or.first, set);
     }
-    Ok(set)
+    let mut found = copy(alloc, set)?;
+    keep_and(alloc, g, labels, &or.first, &mut found)?;
+    for j in 0..or.more.len() {
+        let mut next = copy(alloc, set)?;
+        keep_and(alloc, g, labels, &or.more[j], &mut next)?;
+        unite(&mut found, &next);
+    }
+    intersect(set, &found);
+    Ok(())
 }

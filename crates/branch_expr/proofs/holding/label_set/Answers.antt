@@ -1,16 +1,10 @@
-use Rattle.std.proofs.Common.{◌≡◌, ◌↔◌, ◌∙◌, ℕ, List, sym, ap, subst, Option, Some, IsTrue, true≢false}
-use Rattle.std.specs.Prelude.{slice_get, option_and_then, is_some, IsSome, bytes_eq}
-use Rattle.std.specs.List.{IsDistinct, position}
+use Rattle.std.proofs.Common.{◌≡◌, ◌↔◌, ◌∙◌, ℕ, sym, ap, subst, Some, IsTrue, true≢false}
+use Rattle.std.specs.Prelude.{slice_get, option_and_then, is_some, IsSome}
 use Rattle.std.proofs.lemmas.Result.{IfOk-weaker}
 use Rattle.px_spec.specs.Members.{has}
-use Rattle.path_expr.proofs.LabelNumbers.{number_is, text_is}
-use Rattle.path_expr.proofs.Following.{some_is}
+use Rattle.path_expr.proofs.LabelNumbers.{text_is}
+use Rattle.branch_expr.proofs.Labelled.{number_of}
 use Rattle.branch_expr.proofs.holding.label_set.Goals as goal
-
-number_of : (texts : List (List ℕ)) (t : List ℕ) (o : Option ℕ) → IsDistinct bytes_eq texts → IsSome o → option_and_then (λ l. slice_get texts l) o ≡ Some t → o ≡ position (bytes_eq t) texts
-number_of texts t o d some e =
-    let l = some_is o some in
-    l.1 ∙ sym (number_is t texts l.0 d (sym (ap (λ x. option_and_then (λ l. slice_get texts l) x) l.1) ∙ e))
 
 pub returns-in-Some-clause-set : goal.returns-in-Some-clause-set
 returns-in-Some-clause-set g c =
