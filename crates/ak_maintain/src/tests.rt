@@ -9,6 +9,7 @@ use graph_update::{Change, Verdict, commit, judge, stage};
 use index_api::PathIndex;
 use label_graph::Graph;
 use px_base::{Limits, NodeId, Steps, Text};
+use quotient::Summary;
 use std::alloc::Global;
 use std::marker::Brand;
 use std::process::Abort;
@@ -46,6 +47,56 @@ fn has_blocks(index: &AkIndex, level: u32, blocks: u32) -> bool {
         Some(summary) => summary.blocks() == blocks,
         None => false,
     }
+}
+
+// Whether two nodes are together exactly where their letters agree.
+fn agree(summary: &Summary, letters: &[u8; 7], u: NodeId, v: NodeId) -> bool {
+    let together = summary.block_of(u) == summary.block_of(v);
+    let alike = letters.get(u as usize) == letters.get(v as usize);
+    together == alike
+}
+
+// The same of a node, which has a block, with each of the seven.
+fn agrees(summary: &Summary, letters: &[u8; 7], u: NodeId) -> bool {
+    for v in 0..7 {
+        if !agree(summary, letters, u, v) {
+            return false;
+        }
+    }
+    summary.block_of(u).is_some()
+}
+
+fn all_agree(summary: &Summary, letters: &[u8; 7]) -> bool {
+    for u in 0..7 {
+        if !agrees(summary, letters, u) {
+            return false;
+        }
+    }
+    true
+}
+
+// Whether at the level the seven nodes are together exactly where their letters agree.
+fn is_parted(index: &AkIndex, level: u32, letters: &[u8; 7]) -> bool {
+    match index.summary(level) {
+        Some(summary) => all_agree(summary, letters),
+        None => false,
+    }
+}
+
+// At each level nodes with equal letters are together.
+fn check_before(rt: &impl Abort, index: &AkIndex) {
+    assert!(rt; has_sizes(index, 4, 4, 4));
+    assert!(rt; is_parted(index, 0, b"abcabcx"));
+    assert!(rt; is_parted(index, 1, b"abcabcx"));
+    assert!(rt; is_parted(index, 2, b"abcabcx"));
+}
+
+// The a's part at level 1, and the b's at level 2.
+fn check_after(rt: &impl Abort, index: &AkIndex) {
+    assert!(rt; has_sizes(index, 4, 5, 6));
+    assert!(rt; is_parted(index, 0, b"abcabcx"));
+    assert!(rt; is_parted(index, 1, b"abcdbcx"));
+    assert!(rt; is_parted(index, 2, b"abcdecx"));
 }
 
 // Whether there are three levels, with so many blocks.
@@ -101,24 +152,29 @@ fn prepare_in_vain(index: &mut AkIndex, graph: &Graph, change: &Change) -> Resul
     Ok(())
 }
 
-// Prepares a change, and puts it in force.
-fn prepare_and_commit(index: &mut AkIndex, graph: &Graph, change: &Change) -> Result<(), Fail>
+// Prepares a change, which isn't seen yet, and puts it in force.
+fn prepare_and_commit(
+    rt: &impl Abort,
+    index: &mut AkIndex,
+    graph: &Graph,
+    change: &Change,
+) -> Result<(), Fail>
     requires ready { IsReady (meaning_of index.old.kept) graph.now.graph }
 {
     prepare::<Brand>(index, graph, change, Blank::new(1))?;
+    check_before(rt, index);
     index.commit();
     Ok(())
 }
 
-// The a's part at level 1, and the b's at level 2.
 fn check_kept(rt: &impl Abort, index: &mut AkIndex, graph: &Graph) -> Result<(), Fail>
     requires ready { IsReady (meaning_of index.old.kept) graph.now.graph }
 {
     let change = Change::Link(6, 3);
     prepare_in_vain(index, graph, &change)?;
-    assert!(rt; has_sizes(index, 4, 4, 4));
-    prepare_and_commit(index, graph, &change)?;
-    assert!(rt; has_sizes(index, 4, 5, 6));
+    check_before(rt, index);
+    prepare_and_commit(rt, index, graph, &change)?;
+    check_after(rt, index);
     Ok(())
 }
 
@@ -131,16 +187,16 @@ fn check_index(rt: &impl Abort, alloc: Global, graph: &Graph) -> Result<(), Fail
 fn check_fresh(rt: &impl Abort, alloc: Global, graph: &mut Graph) -> Result<(), Fail> {
     make(alloc, graph, &Change::Link(6, 3))?;
     let index = built::<Brand>(alloc, graph, Blank::new(1))?;
-    assert!(rt; has_sizes(&index, 4, 5, 6));
+    check_after(rt, &index);
     Ok(())
 }
 
-// An r over two chains of an a, a b and a c.
-const CHAINS: &[(NodeId, NodeId)] = &[(0, 1), (1, 2), (2, 5), (0, 3), (3, 4), (4, 6)];
+// Two chains of an a, a b and a c, and an x, which becomes a parent of the second a.
+const CHAINS: &[(NodeId, NodeId)] = &[(0, 1), (1, 2), (3, 4), (4, 5)];
 
 #[test]
 fn a_link_moves_nodes(rt: HostRuntime) -> Result<(), Fail> {
-    let mut graph = graph_of(rt.alloc(), b"rababcc", CHAINS)?;
+    let mut graph = graph_of(rt.alloc(), b"abcabcx", CHAINS)?;
     check_index(&rt, rt.alloc(), &graph)?;
     check_fresh(&rt, rt.alloc(), &mut graph)
 }
