@@ -155,5 +155,10 @@ covers_settled q q2 d roots view covers =
 pub covers_same : (q q2 : Quotient) (roots : RootLists) → view_of q2 ≡ view_of q → CoversBase q roots → CoversBase q2 roots
 covers_same q q2 roots same covers = subst (λ (v : View). CoversRoots (at v.labels) (support_at v.supports) roots) (sym same) covers
 
+pub shown_same : (q q2 : Quotient) (d : Drafted) (roots : RootLists) → view_of q2 ≡ view_of q → CoversShown q d roots → CoversShown q2 d roots
+shown_same q q2 d roots same covers =
+    subst (λ (v : View). CoversRoots (at (with_added v.labels d.added)) (support_at (with_supports v.supports d.supports)) roots) (sym same) covers
+
+-- where nothing is drafted
 pub covers_cleared : (q : Quotient) (d : Drafted) (roots : RootLists) → d ≡ no_changes → CoversBase q roots → CoversShown q d roots
 covers_cleared q d roots empty covers = subst (λ x. CoversShown q x roots) (sym empty) covers

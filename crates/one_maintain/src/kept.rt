@@ -45,8 +45,8 @@ impl Model for Kept {
     ghost invariant = { λ k. record { kept : IsKeptDraft k.base k.draft k.staged; roots : CoversBase k.base k.roots; shown : CoversShown k.base k.draft k.roots } };
 }
 
-// Drafts what a change will make of a quotient, makes the room that settling it needs, and notes the blocks to which no other has support
-// then.
+// Drafts what a change will make of a quotient, notes the blocks to which no other has support then, and makes the room that settling it
+// needs.
 fn fill<L: Ledger>(
     alloc: Global,
     base: &mut Summary,
@@ -70,8 +70,8 @@ fn fill<L: Ledger>(
     ensures free { (u v : ℕ) → change_of change.now ≡ link u v → IsSupported (view_of base.old) u v → steps.new ≡ steps.old }
 {
     draft_change(alloc, base, draft, roots, graph, change, steps)?;
-    draft.reserve(base)?;
     roots.note_touched(alloc, base, draft)?;
+    draft.reserve(base)?;
     Ok(())
 }
 

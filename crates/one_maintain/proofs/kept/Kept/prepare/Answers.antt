@@ -2,6 +2,7 @@ use Rattle.std.proofs.Common.{sym, subst}
 use Rattle.quotient.specs.Quotients.{view_of}
 use Rattle.one_drafting.specs.Drafting.{IsSupported}
 use Rattle.one_maintain.specs.Keeping.{KeptQuotient}
+use Rattle.one_maintain.proofs.Staged.{covers_cleared}
 use Rattle.one_maintain.proofs.kept.Kept.prepare.Goals as goal
 
 pub returns-in-Ok-clause-free : goal.returns-in-Ok-clause-free
@@ -9,3 +10,10 @@ returns-in-Ok-clause-free g c = λ u v e s. c.fill.ensures.free u v e (subst (λ
 
 pub returns-in-Err-clause-free : goal.returns-in-Err-clause-free
 returns-in-Err-clause-free g c = λ u v e s. c.fill.ensures.free u v e (subst (λ (k : KeptQuotient). IsSupported (view_of k.base) u v) (sym c.self.view_is) s)
+
+pub invariant_of-self-in-Err : goal.invariant_of-self-in-Err
+invariant_of-self-in-Err g c = record {
+  kept = c.clear.ensures.empty;
+  roots = c.fill.ensures.covers;
+  shown = covers_cleared c.fill.new.base c.clear.new.self c.fill.new.roots c.clear.ensures.empty c.fill.ensures.covers;
+}
