@@ -144,7 +144,11 @@ fn is_past_program(alloc: Global, row: &[&str; 5], count: u32) -> Option<bool> {
 #[test]
 fn brackets_nest_64_deep(rt: HostRuntime) {
     for row in NESTED {
-        assert_eq!(rt; is_past_program(rt.alloc(), row, 63), Some(false), "{row:?}");
+        assert_eq!(rt;
+            is_past_program(rt.alloc(), row, 63),
+            Some(false),
+            "{row:?}"
+        );
         assert_eq!(rt; is_past_program(rt.alloc(), row, 64), Some(true), "{row:?}");
     }
 }

@@ -128,7 +128,10 @@ fn texts_load_to_graphs(rt: HostRuntime) -> Result<(), Fail> {
         (MANY, EIGHTEEN_EDGES, Err(LoadError::Limit(10))),
     ];
     for (content, limits, size) in rows {
-        assert!(rt; size_of(rt.alloc(), content, &limits)? == size, "{content:?}");
+        assert!(rt;
+            size_of(rt.alloc(), content, &limits)? == size,
+            "{content:?}"
+        );
     }
     Ok(())
 }

@@ -114,7 +114,10 @@ const TRIPLES: [&str; 5] = [
 fn lines_are_read_with_spare_texts(rt: HostRuntime) {
     let mut spare = SpareTexts::new(rt.alloc());
     for line in TRIPLES {
-        assert!(rt; is_read_the_same(rt.alloc(), &mut spare, line.as_bytes()), "{line}");
+        assert!(rt;
+            is_read_the_same(rt.alloc(), &mut spare, line.as_bytes()),
+            "{line}"
+        );
     }
 }
 
