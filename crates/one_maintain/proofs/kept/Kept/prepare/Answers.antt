@@ -1,7 +1,7 @@
-use Rattle.std.proofs.Common.{sym, subst}
+use Rattle.std.proofs.Common.{◌≡◌, false, sym, subst, ap, ◌∙◌}
 use Rattle.quotient.specs.Quotients.{view_of}
 use Rattle.one_drafting.specs.Drafting.{IsSupported}
-use Rattle.one_maintain.specs.Keeping.{KeptQuotient}
+use Rattle.one_maintain.specs.Keeping.{KeptQuotient, IsKeptDraft}
 use Rattle.one_maintain.proofs.Staged.{covers_cleared}
 use Rattle.one_maintain.proofs.kept.Kept.prepare.Goals as goal
 
@@ -12,8 +12,10 @@ pub returns-in-Err-clause-free : goal.returns-in-Err-clause-free
 returns-in-Err-clause-free g c = λ u v e s. c.fill.ensures.free u v e (subst (λ (k : KeptQuotient). IsSupported (view_of k.base) u v) (sym c.self.view_is) s)
 
 pub invariant_of-self-in-Err : goal.invariant_of-self-in-Err
-invariant_of-self-in-Err g c = record {
-  kept = c.clear.ensures.empty;
-  roots = c.fill.ensures.covers;
-  shown = covers_cleared c.fill.new.base c.clear.new.self c.fill.new.roots c.clear.ensures.empty c.fill.ensures.covers;
-}
+invariant_of-self-in-Err g c =
+    let unstaged : c.self.inside.staged ≡ false = ap (λ (k : KeptQuotient). k.staged) c.self.view_is ∙ c.requires.unstaged in
+    record {
+      kept = subst (IsKeptDraft c.fill.new.base c.clear.new.self) (sym unstaged) c.clear.ensures.empty;
+      roots = c.fill.ensures.covers;
+      shown = covers_cleared c.fill.new.base c.clear.new.self c.fill.new.roots c.clear.ensures.empty c.fill.ensures.covers;
+    }
