@@ -10,6 +10,18 @@ use pathindex_core::{Engine, UpdateError};
 use px_base::Refusal;
 use std::alloc::Global;
 
+/// Whether there are two nodes together in each index.
+fn lists_two(engine: &mut Engine, alloc: Global) -> bool
+    requires open { IsSome (opened_of engine.old.state) }
+    requires sound { IsSound (engine_seen (map (λ b. meaning (b.vtable, b.value)) engine.old.boxes.items) engine.old.state) }
+    ensures open { IsSome (opened_of engine.new.state) }
+    ensures sound { IsSound (engine_seen (map (λ b. meaning (b.vtable, b.value)) engine.new.boxes.items) engine.new.state) }
+{
+    lists(engine, alloc, Via::A(1), Some("blocks 1\na n0 n1\n"))
+        && lists(engine, alloc, Via::One, Some("blocks 1\na n0 n1\n"))
+        && lists(engine, alloc, Via::Fb, Some("blocks 1\na n0 n1\n"))
+}
+
 /// Whether there are two nodes, together in each index.
 fn has_two(engine: &mut Engine, alloc: Global) -> bool
     requires open { IsSome (opened_of engine.old.state) }
@@ -17,10 +29,7 @@ fn has_two(engine: &mut Engine, alloc: Global) -> bool
     ensures open { IsSome (opened_of engine.new.state) }
     ensures sound { IsSound (engine_seen (map (λ b. meaning (b.vtable, b.value)) engine.new.boxes.items) engine.new.state) }
 {
-    engine.graph().created() == 2
-        && lists(engine, alloc, Via::A(1), Some("blocks 1\na n0 n1\n"))
-        && lists(engine, alloc, Via::One, Some("blocks 1\na n0 n1\n"))
-        && lists(engine, alloc, Via::Fb, Some("blocks 1\na n0 n1\n"))
+    engine.graph().created() == 2 && lists_two(engine, alloc)
 }
 
 /// Whether two nodes are added.

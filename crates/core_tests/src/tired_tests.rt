@@ -16,12 +16,24 @@ use std::marker::Brand;
 use std::sync::ledger::{Blank, Ledger};
 
 /// A graph of one node with the label `a`.
-fn one_node(alloc: Global) -> Option<Graph> {
-    let label = Text::from_bytes(alloc, b"a").ok()?;
-    let mut graph = Graph::new(alloc).ok()?;
-    graph.reserve_node(alloc, &label).ok()?;
+fn one_node(alloc: Global) -> Result<Graph, Memory> {
+    let label = Text::from_bytes(alloc, b"a").map_err(|_| Memory)?;
+    let mut graph = Graph::new(alloc)?;
+    graph.reserve_node(alloc, &label)?;
     graph.add_node();
-    Some(graph)
+    Ok(graph)
+}
+
+/// Whether each index that has views has that node alone.
+fn lists_one(engine: &mut Engine, alloc: Global) -> bool
+    requires open { IsSome (opened_of engine.old.state) }
+    requires sound { IsSound (engine_seen (map (λ b. meaning (b.vtable, b.value)) engine.old.boxes.items) engine.old.state) }
+    ensures open { IsSome (opened_of engine.new.state) }
+    ensures sound { IsSound (engine_seen (map (λ b. meaning (b.vtable, b.value)) engine.new.boxes.items) engine.new.state) }
+{
+    lists(engine, alloc, Via::A(0), Some("blocks 1\na n0\n"))
+        && lists(engine, alloc, Via::A(1), Some("blocks 1\na n0\n"))
+        && lists(engine, alloc, Via::One, Some("blocks 1\na n0\n"))
 }
 
 /// Whether there is that node alone, in the graph and in the indexes that have views.
@@ -31,10 +43,7 @@ fn has_one(engine: &mut Engine, alloc: Global) -> bool
     ensures open { IsSome (opened_of engine.new.state) }
     ensures sound { IsSound (engine_seen (map (λ b. meaning (b.vtable, b.value)) engine.new.boxes.items) engine.new.state) }
 {
-    engine.graph().created() == 1
-        && lists(engine, alloc, Via::A(0), Some("blocks 1\na n0\n"))
-        && lists(engine, alloc, Via::A(1), Some("blocks 1\na n0\n"))
-        && lists(engine, alloc, Via::One, Some("blocks 1\na n0\n"))
+    engine.graph().created() == 1 && lists_one(engine, alloc)
 }
 
 /// Whether nodes are added once the tired box is forgotten.
@@ -57,7 +66,7 @@ impl EngineTask for Changes {
     ghost gives = { λ _ _. ⊤ };
 
     fn carry_out(self, alloc: Global, engine: &mut Engine) -> bool {
-        opens(engine, one_node(alloc), FEW)
+        opens(engine, one_node(alloc).ok(), FEW)
             && fails_to_add(engine, alloc, UpdateError::Memory)
             && has_one(engine, alloc)
             && goes_on_without(engine, alloc)
@@ -114,7 +123,7 @@ impl EngineTask for Lists {
     ghost gives = { λ _ _. ⊤ };
 
     fn carry_out(self, alloc: Global, engine: &mut Engine) -> bool {
-        opens(engine, one_node(alloc), FEW)
+        opens(engine, one_node(alloc).ok(), FEW)
             && lists(engine, alloc, Via::Fb, None)
             && has_one(engine, alloc)
             && finds_none(engine, alloc, "b")
