@@ -16,7 +16,7 @@ use std::marker::Brand;
 use std::sync::ledger::{Blank, Ledger};
 
 /// Makes a change.
-fn makes(engine: &mut Engine, alloc: Global, change: Change) -> bool
+pub(crate) fn makes(engine: &mut Engine, alloc: Global, change: Change) -> bool
     requires open { IsSome (opened_of engine.old.state) }
     requires sound { IsSound (engine_seen (map (λ b. meaning (b.vtable, b.value)) engine.old.boxes.items) engine.old.state) }
     ensures open { IsSome (opened_of engine.new.state) }

@@ -3,7 +3,5 @@
 
 mod index;
 mod kept;
-#[cfg(test)]
-mod tests;
 
 pub use index::OneKept;

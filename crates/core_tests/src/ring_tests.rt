@@ -1,0 +1,107 @@
+// The 1-index of an engine with all indexes, over graphs that it is opened with.
+ghost use Rattle.std.specs.Prelude.{◌≡◌, ◌<◌, IsSome, map};
+ghost use Rattle.pathindex_core.specs.Engines.{engine_seen, opened_of, IsSound};
+
+use crate::calls::{lists, opens};
+use crate::full_tests::makes;
+use full_engine::{EngineTask, with_full_engine};
+use graph_update::Change;
+use index_api::Via;
+use label_graph::Graph;
+use pathindex_core::Engine;
+use px_base::{Limits, NodeId, Steps};
+use std::alloc::Global;
+use std::marker::Brand;
+use std::sync::ledger::{Blank, Ledger};
+use std::test::Fail;
+use test_graphs::drawn;
+
+/// A graph whose nodes have these labels, a byte each, and these edges.
+fn graph_of<L: Ledger>(
+    alloc: Global,
+    labels: &[u8],
+    edges: &[(NodeId, NodeId)],
+    blank: Blank,
+) -> Result<Graph, Fail>
+    requires name { blank.name ≡ L.name }
+    requires parts { blank.parts ≡ L.parts }
+    requires some { 0 < blank.parts }
+{
+    let mut steps = Steps::<L>::new(blank);
+    drawn(alloc, labels, edges, &mut steps)
+}
+
+/// Whether the change leads from the one list of the 1-index to the other.
+fn moves(engine: &mut Engine, alloc: Global, before: &str, change: Change, after: &str) -> bool
+    requires open { IsSome (opened_of engine.old.state) }
+    requires sound { IsSound (engine_seen (map (λ b. meaning (b.vtable, b.value)) engine.old.boxes.items) engine.old.state) }
+    ensures open { IsSome (opened_of engine.new.state) }
+    ensures sound { IsSound (engine_seen (map (λ b. meaning (b.vtable, b.value)) engine.new.boxes.items) engine.new.state) }
+{
+    lists(engine, alloc, Via::One, Some(before))
+        && makes(engine, alloc, change)
+        && lists(engine, alloc, Via::One, Some(after))
+}
+
+/// The lists of two rings, together and apart.
+const TOGETHER: &str = "blocks 2\na n0 n2\nb n1 n3\n";
+
+const APART: &str = "blocks 4\na n0\nb n1\na n2\nb n3\n";
+
+/// Whether two rings come apart once an edge of one goes, and stay so when it comes again.
+#[derive(Drop)]
+struct Rings {
+    graph: Graph,
+}
+
+impl EngineTask for Rings {
+    ghost use Rattle.std.specs.Prelude.{⊤};
+
+    type Answer = bool;
+
+    ghost gives = { λ _ _. ⊤ };
+
+    fn carry_out(self, alloc: Global, engine: &mut Engine) -> bool {
+        opens(engine, Some(self.graph), Limits::program())
+            && moves(engine, alloc, TOGETHER, Change::Unlink(2, 3), APART)
+            && moves(engine, alloc, APART, Change::Link(2, 3), APART)
+    }
+}
+
+#[test]
+fn rings_come_apart(rt: HostRuntime) -> Result<(), Fail> {
+    let edges = &[(0, 1), (1, 0), (2, 3), (3, 2)];
+    let graph = graph_of::<Brand>(rt.alloc(), b"abab", edges, Blank::new(1))?;
+    assert_eq!(rt; with_full_engine(rt.alloc(), Rings { graph }), Ok(true));
+    Ok(())
+}
+
+/// The list of two `a` over two `b`.
+const TWINS: &str = "blocks 2\na n0 n1\nb n2 n3\n";
+
+/// Whether an edge between blocks that have support leaves the list.
+#[derive(Drop)]
+struct Twins {
+    graph: Graph,
+}
+
+impl EngineTask for Twins {
+    ghost use Rattle.std.specs.Prelude.{⊤};
+
+    type Answer = bool;
+
+    ghost gives = { λ _ _. ⊤ };
+
+    fn carry_out(self, alloc: Global, engine: &mut Engine) -> bool {
+        opens(engine, Some(self.graph), Limits::program())
+            && moves(engine, alloc, TWINS, Change::Link(1, 3), TWINS)
+    }
+}
+
+#[test]
+fn twins_stay_together(rt: HostRuntime) -> Result<(), Fail> {
+    let edges = &[(0, 2), (1, 2), (0, 3)];
+    let graph = graph_of::<Brand>(rt.alloc(), b"aabb", edges, Blank::new(1))?;
+    assert_eq!(rt; with_full_engine(rt.alloc(), Twins { graph }), Ok(true));
+    Ok(())
+}
