@@ -31,24 +31,34 @@ fn graph_of<L: Ledger>(
     drawn(alloc, labels, edges, &mut steps)
 }
 
-/// Whether the change leads from the one list of the 1-index to the other.
-fn moves(engine: &mut Engine, alloc: Global, before: &str, change: Change, after: &str) -> bool
-    requires open { IsSome (opened_of engine.old.state) }
-    requires sound { IsSound (engine_seen (map (λ b. meaning (b.vtable, b.value)) engine.old.boxes.items) engine.old.state) }
-    ensures open { IsSome (opened_of engine.new.state) }
-    ensures sound { IsSound (engine_seen (map (λ b. meaning (b.vtable, b.value)) engine.new.boxes.items) engine.new.state) }
-{
-    lists(engine, alloc, Via::One, Some(before))
-        && makes(engine, alloc, change)
-        && lists(engine, alloc, Via::One, Some(after))
-}
-
 /// The lists of two rings, together and apart.
 const TOGETHER: &str = "blocks 2\na n0 n2\nb n1 n3\n";
 
 const APART: &str = "blocks 4\na n0\nb n1\na n2\nb n3\n";
 
-/// Whether two rings come apart once an edge of one goes, and stay so when it comes again.
+/// Whether they come apart once an edge of one goes.
+fn comes_apart(engine: &mut Engine, alloc: Global) -> bool
+    requires open { IsSome (opened_of engine.old.state) }
+    requires sound { IsSound (engine_seen (map (λ b. meaning (b.vtable, b.value)) engine.old.boxes.items) engine.old.state) }
+    ensures open { IsSome (opened_of engine.new.state) }
+    ensures sound { IsSound (engine_seen (map (λ b. meaning (b.vtable, b.value)) engine.new.boxes.items) engine.new.state) }
+{
+    lists(engine, alloc, Via::One, Some(TOGETHER))
+        && makes(engine, alloc, Change::Unlink(2, 3))
+        && lists(engine, alloc, Via::One, Some(APART))
+}
+
+/// Whether they stay so when it comes again.
+fn stays_apart(engine: &mut Engine, alloc: Global) -> bool
+    requires open { IsSome (opened_of engine.old.state) }
+    requires sound { IsSound (engine_seen (map (λ b. meaning (b.vtable, b.value)) engine.old.boxes.items) engine.old.state) }
+    ensures open { IsSome (opened_of engine.new.state) }
+    ensures sound { IsSound (engine_seen (map (λ b. meaning (b.vtable, b.value)) engine.new.boxes.items) engine.new.state) }
+{
+    makes(engine, alloc, Change::Link(2, 3)) && lists(engine, alloc, Via::One, Some(APART))
+}
+
+/// Whether two rings come apart, and stay so.
 #[derive(Drop)]
 struct Rings {
     graph: Graph,
@@ -63,8 +73,8 @@ impl EngineTask for Rings {
 
     fn carry_out(self, alloc: Global, engine: &mut Engine) -> bool {
         opens(engine, Some(self.graph), Limits::program())
-            && moves(engine, alloc, TOGETHER, Change::Unlink(2, 3), APART)
-            && moves(engine, alloc, APART, Change::Link(2, 3), APART)
+            && comes_apart(engine, alloc)
+            && stays_apart(engine, alloc)
     }
 }
 
@@ -79,7 +89,19 @@ fn rings_come_apart(rt: HostRuntime) -> Result<(), Fail> {
 /// The list of two `a` over two `b`.
 const TWINS: &str = "blocks 2\na n0 n1\nb n2 n3\n";
 
-/// Whether an edge between blocks that have support leaves the list.
+/// Whether an edge between the blocks, which have support, leaves them.
+fn stays_together(engine: &mut Engine, alloc: Global) -> bool
+    requires open { IsSome (opened_of engine.old.state) }
+    requires sound { IsSound (engine_seen (map (λ b. meaning (b.vtable, b.value)) engine.old.boxes.items) engine.old.state) }
+    ensures open { IsSome (opened_of engine.new.state) }
+    ensures sound { IsSound (engine_seen (map (λ b. meaning (b.vtable, b.value)) engine.new.boxes.items) engine.new.state) }
+{
+    lists(engine, alloc, Via::One, Some(TWINS))
+        && makes(engine, alloc, Change::Link(1, 3))
+        && lists(engine, alloc, Via::One, Some(TWINS))
+}
+
+/// Whether twins stay together.
 #[derive(Drop)]
 struct Twins {
     graph: Graph,
@@ -93,8 +115,7 @@ impl EngineTask for Twins {
     ghost gives = { λ _ _. ⊤ };
 
     fn carry_out(self, alloc: Global, engine: &mut Engine) -> bool {
-        opens(engine, Some(self.graph), Limits::program())
-            && moves(engine, alloc, TWINS, Change::Link(1, 3), TWINS)
+        opens(engine, Some(self.graph), Limits::program()) && stays_together(engine, alloc)
     }
 }
 
