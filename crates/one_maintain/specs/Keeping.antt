@@ -1,11 +1,11 @@
 -- A 1-index that is kept: the quotient in force, and a draft over it of what a change to come will make of it.
 use Rattle.std.specs.Prelude.{◌≡◌, ℕ, Bool, true, false, IsTrue, IsSome, List, [], ◌∷◌, Option, Some, None, refl}
-use Rattle.std.specs.Coded.{Coded, code_by, coded×, coded_ℕ, coded_list, coded_option, coded_bool}
+use Rattle.std.specs.Coded.{Coded, code_by, coded×, coded_bool}
 use Rattle.px_spec.specs.Members.{at}
 use Rattle.bisim_spec.specs.declared.kind.Kind.TheVariants.{One}
 use Rattle.bisim_spec.specs.Views.{View}
 use Rattle.quotient.specs.Quotients.{Quotient, quotient_code, view_of}
-use Rattle.quotient_draft.specs.Drafts.{Drafted, no_changes, has_member, shown_blocks, shown_support, settled_view}
+use Rattle.quotient_draft.specs.Drafts.{Drafted, drafted_code, no_changes, has_member, shown_blocks, shown_support, settled_view}
 use Rattle.quotient_draft.specs.Basis.{IsOver}
 use Rattle.quotient_draft.specs.Rooms.{HasRoomFor}
 use Rattle.index_api.specs.Meanings.{Meaning}
@@ -16,20 +16,7 @@ pub record KeptQuotient : Type 0 where
   -- whether the draft is what a change will make of the quotient
   pub staged : Bool
 
--- a draft is stored as its lists, and what is kept as its parts
-abbrev DraftParts : Type 0
-DraftParts = List (ℕ × ℕ) × (List (ℕ × Option ℕ) × (List ℕ × (List (ℕ × ℕ) × List ((ℕ × ℕ) × ℕ))))
-
-abbrev drafted_code : Coded Drafted
-drafted_code =
-    code_by DraftParts
-    (coded× (coded_list (coded× coded_ℕ coded_ℕ))
-    (coded× (coded_list (coded× coded_ℕ (coded_option coded_ℕ)))
-    (coded× (coded_list coded_ℕ) (coded× (coded_list (coded× coded_ℕ coded_ℕ)) (coded_list (coded× (coded× coded_ℕ coded_ℕ) coded_ℕ))))))
-    (λ d. (d.added, (d.moves, (d.left, (d.taken, d.supports)))))
-    (λ p. record { added = p.0; moves = p.1.0; left = p.1.1.0; taken = p.1.1.1.0; supports = p.1.1.1.1 })
-    (λ _. refl)
-
+-- what is kept is stored as its parts
 abbrev pub kept_code : Coded KeptQuotient
 kept_code =
     code_by (Quotient × (Drafted × Bool)) (coded× quotient_code (coded× drafted_code coded_bool)) (λ k. (k.base, (k.draft, k.staged)))

@@ -43,6 +43,9 @@ unfolding IsStrictlySortedBy IsDistinct
 sorted_once [] h = h
 sorted_once (x ∷ xs) h = (above_differ x xs h.0, sorted_once xs h.1)
 
+pub deduped_once : (sorted kept : List ℕ) → IsSorted nat_cmp sorted → kept ≡ dedup nat_eq sorted → IsDistinct nat_eq kept
+deduped_once sorted kept is_sorted e = sorted_once kept (sorted_from_strictly_increasing kept (deduped_rising sorted kept is_sorted e))
+
 settle : (p q d : Bool) → (d ≡ false → p ≡ q) → (p && (q || d)) ≡ p
 settle false q d h = refl
 settle true true d h = refl

@@ -1,5 +1,6 @@
 -- What is drafted over an index graph. It shows the partition and the supports that come of writing it into the base.
-use Rattle.std.specs.Prelude.{ℕ, ◌+◌, ◌&&◌, Bool, List, [], ◌∷◌, ◌++◌, Option, None, Some, cond, nat_eq}
+use Rattle.std.specs.Prelude.{ℕ, ◌+◌, ◌&&◌, Bool, List, [], ◌∷◌, ◌++◌, Option, None, Some, cond, nat_eq, refl}
+use Rattle.std.specs.Coded.{Coded, code_by, coded×, coded_ℕ, coded_list, coded_option}
 use Rattle.std.specs.List.{list_any}
 use Rattle.px_spec.specs.Members.{is_this}
 use Rattle.block_partition.specs.Partitions.{put}
@@ -17,6 +18,20 @@ pub record Drafted : Type 0 where
   pub taken : List (ℕ × ℕ)
   -- pairs of blocks, each once, with their supports
   pub supports : List ((ℕ × ℕ) × ℕ)
+
+-- a draft is stored as its lists
+abbrev DraftParts : Type 0
+DraftParts = List (ℕ × ℕ) × (List (ℕ × Option ℕ) × (List ℕ × (List (ℕ × ℕ) × List ((ℕ × ℕ) × ℕ))))
+
+abbrev pub drafted_code : Coded Drafted
+drafted_code =
+    code_by DraftParts
+    (coded× (coded_list (coded× coded_ℕ coded_ℕ))
+    (coded× (coded_list (coded× coded_ℕ (coded_option coded_ℕ)))
+    (coded× (coded_list coded_ℕ) (coded× (coded_list (coded× coded_ℕ coded_ℕ)) (coded_list (coded× (coded× coded_ℕ coded_ℕ) coded_ℕ))))))
+    (λ d. (d.added, (d.moves, (d.left, (d.taken, d.supports)))))
+    (λ p. record { added = p.0; moves = p.1.0; left = p.1.1.0; taken = p.1.1.1.0; supports = p.1.1.1.1 })
+    (λ _. refl)
 
 abbrev pub no_changes : Drafted
 no_changes = record { added = []; moves = []; left = []; taken = []; supports = [] }
@@ -50,10 +65,6 @@ shown_supports q d = with_supports q.supports d.supports
 -- the support of a pair of blocks as shown
 abbrev pub shown_support : Quotient → Drafted → ℕ → ℕ → ℕ
 shown_support q d a b = support_at (shown_supports q d) a b
-
--- the index graph as shown
-abbrev pub shown_view : Quotient → Drafted → View
-shown_view q d = record { block_of = shown_blocks q d; labels = shown_labels q d; supports = shown_supports q d }
 
 -- whether two pairs are the same
 abbrev pub is_pair : ℕ × ℕ → ℕ × ℕ → Bool

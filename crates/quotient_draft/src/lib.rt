@@ -12,6 +12,7 @@ mod near;
 mod put_log;
 mod retiring;
 mod settling;
+mod sorting;
 mod touching;
 mod writing;
 

@@ -1,7 +1,6 @@
 // Moves that are drafted.
 ghost use Rattle.std.specs.Prelude.{◌≡◌, ◌+◌, ◌-◌, ◌<◌, ◌≤◌, ◌^◌, ◌||◌, [], ℕ, List, Option, Some, None, IsSome, IfSome, unwrap_or, true, OnOk, OnErr, nat_eq, length, vec_len, vec_capacity, count_by, if◌then◌else◌};
 ghost use Rattle.std.specs.List.{IsDistinct};
-ghost use Rattle.std.specs.List.Retain.{IsFiltered, DiffersFromLast};
 ghost use Rattle.std.specs.Map.{lookup, keys_of};
 ghost use Rattle.indexmap.specs.IndexMap.{spare};
 ghost use Rattle.px_spec.specs.Members.{Lists, at, has, is_this};
@@ -12,6 +11,7 @@ ghost use Rattle.quotient_draft.specs.PutLogs.{has_put, is_kept, is_moved_to};
 
 use crate::counts::{count_of, count_one};
 use crate::put_log::PutLog;
+use crate::sorting::sort_once;
 use indexmap::IndexMap;
 use px_base::{Memory, NodeId};
 use quotient::Summary;
@@ -340,20 +340,4 @@ fn push_if(list: &mut Vec<NodeId>, n: NodeId, test: bool) -> Result<(), Memory>
         list.push(n)?;
     }
     Ok(())
-}
-
-// Sorts the numbers, and keeps each once.
-fn sort_once(numbers: &mut Vec<u32>)
-    ensures once { IsDistinct nat_eq numbers.new.items }
-    ensures same { (n : ℕ) → has numbers.new.items n ≡ has numbers.old.items n }
-{
-    numbers.sort_unstable();
-    drop_repeats(numbers);
-}
-
-// Of numbers that follow one another and are equal only the first stays.
-fn drop_repeats(numbers: &mut Vec<u32>)
-    ensures { IsFiltered (DiffersFromLast nat_eq) [] numbers.old.items numbers.new.items }
-{
-    numbers.dedup();
 }

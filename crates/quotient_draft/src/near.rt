@@ -1,13 +1,13 @@
 // The blocks that have support to a block as shown, and those to which it has support.
-ghost use Rattle.std.specs.Prelude.{◌≡◌, ◌++◌, [], ℕ, OnOk, nat_eq, nat_lt, filter};
-ghost use Rattle.std.specs.List.Retain.{IsFiltered, DiffersFromLast};
+ghost use Rattle.std.specs.Prelude.{◌≡◌, ◌++◌, ℕ, OnOk, false, nat_eq, nat_lt, filter};
 ghost use Rattle.std.specs.List.Sorted.{IsStrictlyIncreasing};
 ghost use Rattle.px_spec.specs.Members.{Lists, has};
-ghost use Rattle.bisim_spec.specs.Views.{support_at};
+ghost use Rattle.bisim_spec.specs.Views.{SupportTable, support_at};
 ghost use Rattle.quotient_draft.specs.Drafts.{shown_support, with_supports};
 
 use crate::changed::Changed;
 use crate::draft::Draft;
+use crate::sorting::sort_once;
 use label_graph::Digraph;
 use px_base::Memory;
 use quotient::Summary;
@@ -35,6 +35,20 @@ impl Draft {
         sort_once(list);
         keep_children(list, base, &self.changed, a);
         Ok(())
+    }
+
+    /// The blocks of which the support to `b` is drafted. From all others it has that of the base. O(1) expected.
+    pub fn drafted_parents(&self, b: u32) -> &[u32]
+        ensures { (t : SupportTable) (a : ℕ) → has result.now a ≡ false → support_at (with_supports t self.now.supports) a b ≡ support_at t a b }
+    {
+        self.changed.parents(b)
+    }
+
+    /// The blocks to which the support of `a` is drafted. To all others it has that of the base. O(1) expected.
+    pub fn drafted_children(&self, a: u32) -> &[u32]
+        ensures { (t : SupportTable) (b : ℕ) → has result.now b ≡ false → support_at (with_supports t self.now.supports) a b ≡ support_at t a b }
+    {
+        self.changed.children(a)
     }
 }
 
@@ -70,22 +84,6 @@ fn join_lists(list: &mut Vec<u32>, first: &[u32], second: &[u32]) -> Result<(), 
     list.extend_from_slice(first)?;
     list.extend_from_slice(second)?;
     Ok(())
-}
-
-// Of numbers that follow one another and are equal only the first stays.
-fn drop_repeats(numbers: &mut Vec<u32>)
-    ensures { IsFiltered (DiffersFromLast nat_eq) [] numbers.old.items numbers.new.items }
-{
-    numbers.dedup();
-}
-
-// Sorts the numbers, and keeps each once.
-fn sort_once(numbers: &mut Vec<u32>)
-    ensures rising { IsStrictlyIncreasing numbers.new.items }
-    ensures same { (b : ℕ) → has numbers.new.items b ≡ has numbers.old.items b }
-{
-    numbers.sort_unstable();
-    drop_repeats(numbers);
 }
 
 // Keeps the blocks that have support to this one as shown.
