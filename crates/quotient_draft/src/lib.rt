@@ -17,3 +17,4 @@ mod touching;
 mod writing;
 
 pub use draft::Draft;
+pub use near::{base_children, base_parents};

@@ -52,8 +52,8 @@ impl Draft {
     }
 }
 
-/// The blocks of the base that have support to this one.
-pub(crate) fn base_parents(base: &Summary, b: u32) -> &[u32]
+/// The blocks that have support to this one in the base; none where it is no block there. O(1).
+pub fn base_parents(base: &Summary, b: u32) -> &[u32]
     ensures { Lists (λ a. nat_lt 0 (support_at base.now.supports a b)) result.now }
 {
     // This says that only blocks have support.
@@ -64,8 +64,8 @@ pub(crate) fn base_parents(base: &Summary, b: u32) -> &[u32]
     &[]
 }
 
-// The blocks of the base to which this one has support.
-fn base_children(base: &Summary, a: u32) -> &[u32]
+/// The blocks to which this one has support in the base; none where it is no block there. O(1).
+pub fn base_children(base: &Summary, a: u32) -> &[u32]
     ensures { Lists (λ b. nat_lt 0 (support_at base.now.supports a b)) result.now }
 {
     // This says that only blocks have support.
