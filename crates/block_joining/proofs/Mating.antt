@@ -11,6 +11,7 @@ use Rattle.bisim_spec.proofs.Bisimilar.{none_or_some}
 use Rattle.bisim_spec.proofs.Together.{at_merged}
 use Rattle.bisim_spec.proofs.Merging.{IsParentBlock, mergeable_blocks}
 use Rattle.upkeep_spec.specs.Viewed.{IsViewed}
+use Rattle.upkeep_spec.proofs.Merging.{can_swap}
 use Rattle.block_joining.specs.Mates.{renamed, met, ParentsAreMet, AreMates, AreNoMates}
 
 same_is : (x y : ℕ) → x ≡ y → nat_eq x y ≡ true
@@ -172,6 +173,10 @@ no_mates_back p labels joined a b xs lists off s v can =
 pub no_mates_unmet : (p : List (Option ℕ)) (labels : ℕ → Option ℕ) (joined : ℕ → ℕ → Bool) (a b : ℕ) → ((x : ℕ) × IsTrue (joined x b) × (met joined a b a x ≡ false)) → AreNoMates p labels joined a b
 no_mates_unmet p labels joined a b off s v can =
     both_ways (met joined a b a off.0) off.2 (((mates_by_tables s p labels joined a b v can.first.0 can.second.0 can.first.1 can.second.1).0 can.can).2.each off.0 off.1)
+
+-- the order of the two makes no difference
+pub no_mates_swap : (p : List (Option ℕ)) (labels : ℕ → Option ℕ) (joined : ℕ → ℕ → Bool) (a b : ℕ) → AreNoMates p labels joined b a → AreNoMates p labels joined a b
+no_mates_swap p labels joined a b none s v can = none s v (can_swap s p a b v.stable.partition can)
 
 not_true : (t : Bool) → not t ≡ true → t ≡ false
 not_true true h = absurd (cc)

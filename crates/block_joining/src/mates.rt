@@ -1,7 +1,7 @@
 // Whether two blocks can be merged.
 ghost use Rattle.std.specs.Prelude.{◌≡◌, ◌≢◌, ◌&&◌, ℕ, Some, IsTrue, IsFalse, IfOk, not, false};
 ghost use Rattle.std.specs.List.{list_all, list_any};
-ghost use Rattle.px_spec.specs.Members.{at, Lists};
+ghost use Rattle.px_spec.specs.Members.{at};
 ghost use Rattle.quotient_draft.specs.Drafts.{shown_labels, shown_blocks, shown_support};
 ghost use Rattle.quotient_draft.specs.Basis.{IsOver};
 ghost use Rattle.block_joining.specs.Mates.{shown_joined, met, AreMates, AreNoMates};
@@ -10,7 +10,7 @@ ghost use Rattle.block_joining.specs.Merged.{HasGraph};
 use label_graph::Digraph;
 use px_base::Memory;
 use quotient::Summary;
-use quotient_draft::Draft;
+use quotient_draft::{Draft, base_parents};
 
 // Whether x is joined to y.
 fn joins(base: &Summary, draft: &Draft, x: u32, y: u32) -> bool
@@ -62,26 +62,21 @@ fn is_any_unmet(base: &Summary, draft: &Draft, a: u32, b: u32, blocks: &[u32]) -
     blocks.iter().any(|x| is_unmet(base, draft, a, b, *x))
 }
 
-// Whether a parent of b in the base rules out that the two can be merged. No list is made, so it is a cheap
-// test to put first; parents that the draft adds are not seen.
+// Whether a parent of b in the base rules out that the two can be merged. No list is made, so it is a cheap test to put
+// first; parents that the draft adds are not seen.
 fn has_unmet_parent(base: &Summary, draft: &Draft, a: u32, b: u32) -> bool
     ensures { IsTrue result → (x : ℕ) × IsTrue (shown_joined base.now draft.now x b) × (met (shown_joined base.now draft.now) a b a x ≡ false) }
 {
-    if !base.is_block(b) {
-        return false;
-    }
-    is_any_unmet(base, draft, a, b, base.parents(b))
+    is_any_unmet(base, draft, a, b, base_parents(base, b))
 }
 
-/// Whether two blocks with members, of which the first has these parent blocks, can be merged: they have one
-/// label, and the same parent blocks once the two count as one. The parents of the second are listed only where
-/// it has those of the first, and the first has those that the base names. `list` is room that is used again.
+/// Whether two blocks with members can be merged: they have one label, and the same parent blocks once the two count as
+/// one. Their parents are listed only where the base has none that rules it out. `list` is room that is used again.
 pub fn mergeable(
     base: &Summary,
     draft: &Draft,
     a: u32,
     b: u32,
-    parents: &[u32],
     list: &mut Vec<u32>,
 ) -> Result<bool, Memory>
     requires over { IsOver base.now.blocks.block_of base.now.blocks.labels draft.now }
@@ -89,17 +84,20 @@ pub fn mergeable(
     requires apart { a ≢ b }
     requires first { (n : ℕ) × (at (shown_blocks base.now draft.now) n ≡ Some a) }
     requires second { (n : ℕ) × (at (shown_blocks base.now draft.now) n ≡ Some b) }
-    requires parents { Lists (λ x. shown_joined base.now draft.now x a) parents.now }
     ensures yes { IfOk result (λ can. IsTrue can → AreMates (shown_blocks base.now draft.now) (at (shown_labels base.now draft.now)) (shown_joined base.now draft.now) a b) }
     ensures no { IfOk result (λ can. IsFalse can → AreNoMates (shown_blocks base.now draft.now) (at (shown_labels base.now draft.now)) (shown_joined base.now draft.now) a b) }
 {
     if !same_label(base, draft, a, b) {
         return Ok(false);
     }
-    if !are_met(base, draft, a, b, b, parents) {
+    if has_unmet_parent(base, draft, a, b) {
         return Ok(false);
     }
-    if has_unmet_parent(base, draft, a, b) {
+    if has_unmet_parent(base, draft, b, a) {
+        return Ok(false);
+    }
+    draft.fill_parents(base, a, list)?;
+    if !are_met(base, draft, a, b, b, list) {
         return Ok(false);
     }
     draft.fill_parents(base, b, list)?;

@@ -11,7 +11,6 @@ ghost use Rattle.upkeep_spec.specs.Supported.{AreEdgeCounts};
 ghost use Rattle.graph_update.specs.Pending.{graph_after};
 ghost use Rattle.quotient_draft.specs.Drafts.{shown_blocks, shown_labels, shown_support};
 ghost use Rattle.quotient_draft.specs.Basis.{IsOver};
-ghost use Rattle.one_merging.specs.Roots.{CoversBase};
 ghost use Rattle.one_drafting.specs.Drafting.{IsOnlyTarget, IsSplitOf, reached, rounds_cost};
 
 use crate::resettling::add_block;
@@ -78,8 +77,8 @@ fn add_blocks(
 
 /// Merges blocks in the draft until no two can be merged, where the partition shown is stable on the graph after the change and
 /// came by splitting that of the base, of which no two blocks could be merged. The graph is read only to find what the target
-/// reaches: of each two blocks that can be merged one has no other members. The rest is done by the tables of blocks. The blocks of the
-/// base to which no other has support are among the roots.
+/// reaches: of each two blocks that can be merged one has no other members. The rest is done by the tables of blocks, which are looked
+/// through once for the blocks to which no other has support.
 ///
 /// It takes at most `3 * (r + 1) * w` steps, where the target reaches `r` nodes, and `w` is one for each of them, one for each of its
 /// parents and one for each of its children. After `Memory` the draft is only good to be cleared.
@@ -87,13 +86,11 @@ pub fn merge<L: Ledger>(
     alloc: Global,
     base: &Summary,
     draft: &mut Draft,
-    roots: &Roots,
     after: &After<'_>,
     target: NodeId,
     steps: &mut Steps<L>,
 ) -> Result<(), Memory>
     requires target { IsOnlyTarget after.now.before after.now.change target }
-    requires covers { CoversBase base.now roots.now }
     requires over { IsOver base.now.blocks.block_of base.now.blocks.labels draft.old }
     requires supports { AreEdgeCounts (graph_after after.now) (shown_blocks base.now draft.old) (shown_support base.now draft.old) }
     requires stable { Stable (shape_of (graph_after after.now)) (shown_blocks base.now draft.old) }
@@ -113,6 +110,7 @@ pub fn merge<L: Ledger>(
     let nodes = reached_nodes(alloc, after, &[target], steps)?;
     let mut blocks = Vec::new(alloc);
     add_blocks(base, draft, &nodes, &mut blocks)?;
-    one_merging::merge(alloc, base, draft, roots, &blocks)?;
+    let roots = Roots::of(alloc, base)?;
+    one_merging::merge(alloc, base, draft, &roots, &blocks)?;
     Ok(())
 }

@@ -7,16 +7,14 @@ ghost use Rattle.graph_update.specs.Judging.{change_of};
 ghost use Rattle.quotient.specs.Quotients.{view_of};
 ghost use Rattle.quotient_draft.specs.Basis.{IsOver};
 ghost use Rattle.quotient_draft.specs.Drafts.{no_changes};
-ghost use Rattle.one_merging.specs.Roots.{CoversBase};
 ghost use Rattle.one_drafting.specs.Drafting.{IsBefore};
 
 use super::*;
 use crate::linking::draft_link;
-use graph_update::{After, Change, Verdict, commit, judge, stage};
+use graph_update::{After, Change, Verdict, judge};
 use label_graph::Graph;
 use one_index::OneIndex;
-use one_merging::Roots;
-use px_base::{Limits, Memory, NodeId, Steps, Text};
+use px_base::{Limits, Memory, NodeId, Steps};
 use quotient::Summary;
 use quotient_draft::Draft;
 use std::alloc::Global;
@@ -24,31 +22,7 @@ use std::marker::Brand;
 use std::process::Abort;
 use std::sync::ledger::{Blank, Ledger};
 use std::test::Fail;
-
-// Makes a change that alters the graph.
-fn make(alloc: Global, graph: &mut Graph, change: &Change) -> Result<(), Fail> {
-    let Ok(Verdict::New) = judge(graph, change, &Limits::program()) else {
-        return Err("not new".into());
-    };
-    let staged = stage(alloc, graph, change)?;
-    commit(graph, staged);
-    Ok(())
-}
-
-fn graph_of(alloc: Global, labels: &[u8], edges: &[(NodeId, NodeId)]) -> Result<Graph, Fail> {
-    let mut graph = Graph::new(alloc)?;
-    for label in labels {
-        make(
-            alloc,
-            &mut graph,
-            &Change::Node(Text::from_bytes(alloc, &[*label])?),
-        )?;
-    }
-    for (u, v) in edges {
-        make(alloc, &mut graph, &Change::Link(*u, *v))?;
-    }
-    Ok(graph)
-}
+use test_graphs::drawn;
 
 // The least node that is in the block of this one as shown.
 fn first_beside(base: &Summary, draft: &Draft, n: NodeId) -> NodeId
@@ -80,14 +54,12 @@ fn are_parted<L: Ledger>(
     alloc: Global,
     base: &Summary,
     draft: &mut Draft,
-    roots: &Roots,
     after: &After<'_>,
     u: NodeId,
     v: NodeId,
     steps: &mut Steps<L>,
 ) -> Result<bool, Memory>
     requires before { IsBefore after.now base.now }
-    requires covers { CoversBase base.now roots.now }
     requires empty { draft.old ≡ no_changes }
     requires links { after.now.change ≡ link u v }
 {
@@ -95,7 +67,7 @@ fn are_parted<L: Ledger>(
     let before = is_shown(base, draft, &[0, 1, 2, 0, 1, 2, 6, 7, 8, 9]);
     split(alloc, base, draft, after, v, steps)?;
     let parted = is_shown(base, draft, &[0, 1, 2, 3, 4, 5, 6, 7, 8, 9]);
-    merge(alloc, base, draft, roots, after, v, steps)?;
+    merge(alloc, base, draft, after, v, steps)?;
     let merged = is_shown(base, draft, &[0, 1, 2, 3, 4, 5, 6, 3, 4, 5]);
     Ok(before && parted && merged)
 }
@@ -116,8 +88,7 @@ fn is_parting<L: Ledger>(
     let _edges = graph.edge_count();
     let after = After::new(graph, change);
     let mut draft = Draft::new(alloc)?;
-    let roots = Roots::of(alloc, base)?;
-    are_parted(alloc, base, &mut draft, &roots, &after, 6, 3, steps)
+    are_parted(alloc, base, &mut draft, &after, 6, 3, steps)
 }
 
 fn check_link<L: Ledger>(

@@ -17,6 +17,7 @@ use Rattle.quotient_draft.specs.Basis.{IsOver}
 use Rattle.quotient_draft.specs.Rooms.{HasRoomFor}
 use Rattle.quotient_draft.proofs.Gone.{member_there}
 use Rattle.one_merging.specs.Roots.{RootLists, CoversRoots, CoversBase, CoversShown}
+use Rattle.one_merging.proofs.Rooted.{labels_kept}
 use Rattle.index_api.specs.Meanings.{IsReady, IsBuilt, IsPrepared, IsCommitted, unstaged}
 use Rattle.one_maintain.specs.Keeping.{KeptQuotient, CanSettle, meaning_of, staged_views}
 use Rattle.one_drafting.specs.Drafting.{IsSupported}
@@ -136,29 +137,18 @@ built (Some k0) k q g n base is fits whole = record { kind = refl; ready = ready
 
 -- ---- the blocks to which no other has support
 
-labels_kept : (block : List (Option ℕ)) (n : ℕ) (labels : List (Option ℕ)) (b l : ℕ) → at (inhabited_from block n labels) b ≡ Some l → at labels b ≡ Some l
-labels_kept block n [] b l h = absurd (cc)
-labels_kept block n (x ∷ xs) zero l h = by (has_member block n) h
-  where
-    by : (t : Bool) → cond t x None ≡ Some l → x ≡ Some l
-    by true e = e
-    by false e = absurd (cc)
-labels_kept block n (x ∷ xs) (suc b) l h = labels_kept block (n + 1) xs b l h
-
--- those that a draft shows are those of its base once it is settled
+-- those that the base has once a draft is settled
 pub covers_settled : (q q2 : Quotient) (d : Drafted) (roots : RootLists) → view_of q2 ≡ settled_view q d → CoversShown q d roots → CoversBase q2 roots
-covers_settled q q2 d roots view covers =
-    subst (λ (v : View). CoversRoots (at v.labels) (support_at v.supports) roots) (sym view)
-    (record { each = λ b l h k. covers.each b l (labels_kept (shown_blocks q d) 0 (shown_labels q d) b l h) k })
+covers_settled q q2 d roots view covers = subst (λ (v : View). CoversRoots (at v.labels) (support_at v.supports) roots) (sym view) covers
 
 -- and they are the same over a base that is seen the same
 pub covers_same : (q q2 : Quotient) (roots : RootLists) → view_of q2 ≡ view_of q → CoversBase q roots → CoversBase q2 roots
 covers_same q q2 roots same covers = subst (λ (v : View). CoversRoots (at v.labels) (support_at v.supports) roots) (sym same) covers
 
 pub shown_same : (q q2 : Quotient) (d : Drafted) (roots : RootLists) → view_of q2 ≡ view_of q → CoversShown q d roots → CoversShown q2 d roots
-shown_same q q2 d roots same covers =
-    subst (λ (v : View). CoversRoots (at (with_added v.labels d.added)) (support_at (with_supports v.supports d.supports)) roots) (sym same) covers
+shown_same q q2 d roots same covers = subst (λ (v : View). CoversRoots (at (settled_by v d).labels) (support_at (with_supports v.supports d.supports)) roots) (sym same) covers
 
 -- where nothing is drafted
 pub covers_cleared : (q : Quotient) (d : Drafted) (roots : RootLists) → d ≡ no_changes → CoversBase q roots → CoversShown q d roots
-covers_cleared q d roots empty covers = subst (λ x. CoversShown q x roots) (sym empty) covers
+covers_cleared q d roots empty covers =
+    subst (λ x. CoversShown q x roots) (sym empty) (record { each = λ b l h k. covers.each b l (labels_kept (shown_blocks q no_changes) 0 (shown_labels q no_changes) b l h) k })

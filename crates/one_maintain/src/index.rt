@@ -23,7 +23,8 @@ use std::sync::ledger::{Blank, Ledger};
 /// The 1-index of a graph, kept while it changes (K. Yi, H. He, I. Stanoi and J. Yang, "Incremental Maintenance of XML Structural
 /// Indexes", SIGMOD 2004). A change is drafted over the index in force: blocks are split from the change's target on, and then
 /// merged. How much of the graph is read depends on what the change reaches, and not on the size of the graph. The tables of the index are
-/// looked through for the next free number of a block alone.
+/// looked through for the next free number of a block, and for the blocks without other parents where as many came since they were last looked
+/// for as there were then, and 64 more.
 #[derive(Drop)]
 pub struct OneKept {
     alloc: Global,
@@ -109,8 +110,9 @@ impl PathIndex for OneKept {
     }
 
     fn cancel(&mut self) {
+        let alloc = self.alloc;
         if let Some(kept) = &mut self.kept {
-            kept.cancel();
+            kept.cancel(alloc);
         }
     }
 

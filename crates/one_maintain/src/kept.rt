@@ -75,8 +75,16 @@ fn fill<L: Ledger>(
     Ok(())
 }
 
-// Puts a new draft in place of an empty one. Emptying a table takes time for the largest size that it had, so one large
-// change would slow each later one.
+// Empties a draft. Emptying a table takes time for the largest size that it had, so one large change would slow each later one
+// and hold its memory: a new draft takes its place, where there is memory for that.
+fn empty(alloc: Global, draft: &mut Draft)
+    ensures { draft.new ≡ no_changes }
+{
+    draft.clear();
+    renew(alloc, draft);
+}
+
+// Puts a new draft in place of an empty one.
 fn renew(alloc: Global, draft: &mut Draft)
     requires empty { draft.old ≡ no_changes }
     ensures { draft.new ≡ no_changes }
@@ -86,8 +94,8 @@ fn renew(alloc: Global, draft: &mut Draft)
     }
 }
 
-// Makes the roots anew from the base where far more were noted since than then, so that blocks which are none any more go. Without
-// memory for it they stay.
+// Makes the roots anew from the base where far more were noted since than then, so that blocks which are none any more go. It looks
+// through all blocks then; without memory for it the roots stay.
 fn renew_roots(alloc: Global, base: &Summary, roots: &mut Roots)
     requires covers { CoversBase base.now roots.old }
     ensures covers { CoversBase base.now roots.new }
@@ -157,7 +165,7 @@ impl Kept {
                 Ok(())
             }
             Err(error) => {
-                self.draft.clear();
+                empty(alloc, &mut self.draft);
                 Err(error)
             }
         }
@@ -175,11 +183,11 @@ impl Kept {
     }
 
     /// Lets go of what is staged, if anything is.
-    pub(crate) fn cancel(&mut self)
+    pub(crate) fn cancel(&mut self, alloc: Global)
         ensures base { self.new.base ≡ self.old.base }
         ensures unstaged { self.new.staged ≡ false }
     {
-        self.draft.clear();
+        empty(alloc, &mut self.draft);
         self.staged = false;
     }
 }

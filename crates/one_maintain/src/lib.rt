@@ -1,7 +1,8 @@
-//! The 1-index, kept while its graph changes.
+//! The 1-index, kept while its graph changes, and the two phases of a change.
 #![tactic(auto)]
 
 mod index;
 mod kept;
 
 pub use index::OneKept;
+pub use one_drafting::{merge, split};

@@ -1,7 +1,8 @@
 -- What the tables say of pairs that can be merged.
-use Rattle.std.proofs.Common.{◌≡◌, ◌≢◌, ℕ, zero, suc, ◌+◌, ◌<◌, ◌≤◌, ◌⊎◌, List, [], ◌∷◌, ◌++◌, length, take, Option, Some, None, IsTrue, refl, sym, ◌∙◌, ap, subst, inl, inr, true, false, Bool, true≢false}
-use Rattle.std.specs.Prelude.{nat_eq, ◌||◌, IfNone, IfSome, IfOk, Result, Ok, Err, get_or, cond}
-use Rattle.std.proofs.lemmas.Bool.{or_cases, or_left, or_right}
+use Rattle.std.proofs.Common.{◌≡◌, ◌≢◌, ℕ, zero, suc, ◌+◌, ◌<◌, ◌≤◌, ◌⊎◌, List, [], ◌∷◌, ◌++◌, length, take, Option, Some, None, IsTrue, refl, sym, ◌∙◌, ap, subst, arith, inl, inr, true, false, Bool, true≢false}
+use Rattle.std.specs.Prelude.{nat_eq, nat_lt, ◌||◌, ◌&&◌, not, IfNone, IfSome, IfOk, Result, Ok, Err, get_or, cond}
+use Rattle.std.specs.List.{list_any}
+use Rattle.std.proofs.lemmas.Bool.{cases_Bool, both_ways, or_cases, or_left, or_right, and_parts}
 use Rattle.std.proofs.lemmas.Bool.Decides.{Decides-eqb, eqb_tells}
 use Rattle.std.proofs.lemmas.List.{take_more, take_all}
 use Rattle.std.proofs.lemmas.List.Folds.{list_any-append}
@@ -46,6 +47,45 @@ no_mates_label p labels joined a b label own ne s v can =
 pub no_mates_alone : (p : List (Option ℕ)) (labels : ℕ → Option ℕ) (joined : ℕ → ℕ → Bool) (a : ℕ) → ((n : ℕ) → at p n ≢ Some a) → (b : ℕ) → AreNoMates p labels joined a b
 no_mates_alone p labels joined a empty b s v can = empty can.first.0 can.first.1
 
+-- a parent of b that is none of a rules the pair out
+no_mates_strange : (p : List (Option ℕ)) (labels : ℕ → Option ℕ) (joined : ℕ → ℕ → Bool) (a b x : ℕ) → IsTrue (joined x b) → x ≢ a → x ≢ b → joined x a ≡ false → AreNoMates p labels joined a b
+no_mates_strange p labels joined a b x there na nb off s v can = elim (partner s p b a x (can_swap s p a b v.stable.partition can) (v.from x b there) nb) [
+  | inl e ↦ na (sym e)
+  | inr k ↦ both_ways (joined x a) off (v.into x a k)
+]
+
+pub has_none : (xs : List ℕ) (x : ℕ) → true ≡ nat_eq (length xs) 0 → has xs x ≡ false
+has_none [] x h = refl
+has_none (y ∷ ys) x h = absurd (let none = (Decides-eqb (length (y ∷ ys)) 0).0 (sym h) in omega (arith, none))
+
+-- a number of a list that passes
+any_get : (t : ℕ → Bool) (xs : List ℕ) → list_any t xs ≡ true → (x : ℕ) × IsTrue (has xs x) × IsTrue (t x)
+any_get t [] h = absurd (true≢false (sym h))
+any_get t (x ∷ xs) h = elim (or_cases (t x) (list_any t xs) h) [
+  | inl here ↦ (x, or_left (nat_eq x x) (has xs x) ((Decides-eqb x x).1 refl), here)
+  | inr there ↦ (let r = any_get t xs there in (r.0, or_right (nat_eq r.0 x) (has xs r.0) r.1, r.2))
+]
+
+off_by : (t : Bool) → not t ≡ true → t ≡ false
+off_by true h = absurd (true≢false (sym h))
+off_by false h = refl
+
+ne_by : (x y : ℕ) → not (nat_eq x y) ≡ true → x ≢ y
+ne_by x y h e = both_ways (nat_eq x y) (off_by (nat_eq x y) h) ((Decides-eqb x y).1 e)
+
+-- one of the parents of b, which are those of the base, is none of a
+pub no_mates_by_stranger : (p : List (Option ℕ)) (labels : ℕ → Option ℕ) (support base_support : ℕ → ℕ → ℕ) (a b : ℕ) (xs own drafted : List ℕ) → Lists (λ x. nat_lt 0 (base_support x b)) xs
+    → Lists (λ x. nat_lt 0 (base_support x a)) own → ((x : ℕ) → support x b ≡ base_support x b) → ((x : ℕ) → has drafted x ≡ false → support x a ≡ base_support x a)
+    → list_any (λ x. (not (nat_eq x a) && not (nat_eq x b)) && (not (has own x) && not (has drafted x))) xs ≡ true → AreNoMates p labels (λ x y. nat_lt 0 (support x y)) a b
+no_mates_by_stranger p labels support base_support a b xs own drafted parents owns same_b same_a any =
+    let r = any_get (λ x. (not (nat_eq x a) && not (nat_eq x b)) && (not (has own x) && not (has drafted x))) xs any in
+    let x = r.0 in
+    let halves = and_parts (not (nat_eq x a) && not (nat_eq x b)) (not (has own x) && not (has drafted x)) r.2 in
+    let differ = and_parts (not (nat_eq x a)) (not (nat_eq x b)) halves.0 in
+    let none = and_parts (not (has own x)) (not (has drafted x)) halves.1 in
+    no_mates_strange p labels (λ y z. nat_lt 0 (support y z)) a b x (ap (nat_lt 0) (same_b x) ∙ sym (parents.members x) ∙ r.1) (ne_by x a differ.0) (ne_by x b differ.1)
+    (ap (nat_lt 0) (same_a x (off_by (has drafted x) none.1)) ∙ sym (owns.members x) ∙ off_by (has own x) none.0)
+
 -- no partner, where a parent block is none and no child of it is
 pub no_mates_by : (p : List (Option ℕ)) (labels : ℕ → Option ℕ) (joined : ℕ → ℕ → Bool) (a x : ℕ) → x ≢ a → IsTrue (joined x a) → AreNoMates p labels joined a x
     → ((b : ℕ) → IsTrue (joined x b) → AreNoMates p labels joined a b) → (b : ℕ) → AreNoMates p labels joined a b
@@ -54,13 +94,18 @@ no_mates_by p labels joined a x ne parent here children b = λ s v can. elim (pa
   | inr k ↦ children b (v.into x b k) s v can
 ]
 
-pub none_by : {E : Type 0} (r : Result (Option ℕ) E) (p : List (Option ℕ)) (labels : ℕ → Option ℕ) (joined : ℕ → ℕ → Bool) (a x : ℕ) (xs ys : List ℕ) → Lists (λ z. joined z a) xs
-    → IsTrue (has xs x) → x ≢ a → AreNoMates p labels joined a x → Lists (joined x) ys
-    → IfOk r (λ o. IfNone o ((b : ℕ) → IsTrue (has ys b) → AreNoMates p labels joined a b)) → IfOk r (λ o. IfNone o ((b : ℕ) → AreNoMates p labels joined a b))
-none_by (Ok None) p labels joined a x xs ys parents there ne here children among =
-    no_mates_by p labels joined a x ne (sym (parents.members x) ∙ there) here (λ b j. among b (children.members b ∙ j))
-none_by (Ok (Some c)) p labels joined a x xs ys parents there ne here children among = among
-none_by (Err e) p labels joined a x xs ys parents there ne here children among = among
+pub none_near : {E : Type 0} (r : Result (Option ℕ) E) (p : List (Option ℕ)) (labels : ℕ → Option ℕ) (support base_support : ℕ → ℕ → ℕ) (a x : ℕ) (ys drafted : List ℕ) → x ≢ a
+    → IsTrue (nat_lt 0 (support x a)) → AreNoMates p labels (λ y z. nat_lt 0 (support y z)) a x → Lists (λ b. nat_lt 0 (base_support x b)) ys
+    → ((b : ℕ) → has drafted b ≡ false → support x b ≡ base_support x b) → ((b : ℕ) → IsTrue (has ys b) → AreNoMates p labels (λ y z. nat_lt 0 (support y z)) a b)
+    → IfOk r (λ o. IfNone o ((b : ℕ) → IsTrue (has drafted b) → AreNoMates p labels (λ y z. nat_lt 0 (support y z)) a b))
+    → IfOk r (λ o. IfNone o ((b : ℕ) → AreNoMates p labels (λ y z. nat_lt 0 (support y z)) a b))
+none_near (Ok None) p labels support base_support a x ys drafted ne parent here children same in_base among =
+    no_mates_by p labels (λ y z. nat_lt 0 (support y z)) a x ne parent here (λ b j. elim (cases_Bool (has drafted b)) [
+      | inl there ↦ among b there
+      | inr off ↦ in_base b (children.members b ∙ sym (ap (nat_lt 0) (same b off)) ∙ j)
+    ])
+none_near (Ok (Some c)) p labels support base_support a x ys drafted ne parent here children same in_base among = among
+none_near (Err e) p labels support base_support a x ys drafted ne parent here children same in_base among = among
 
 pub if_none : {X : Type 0} (o : Option X) (P : Type 0) → o ≡ None → IfNone o P → P
 if_none None P e h = h
@@ -176,29 +221,28 @@ merging_end s first p labels joined suspects m over = record { merges = m.merges
 pub suspects_same : (s : Shape) (p : List (Option ℕ)) (xs ys : List ℕ) → ((b : ℕ) → has ys b ≡ has xs b) → AreSuspects s p (λ b. IsTrue (has xs b)) → AreSuspects s p (λ b. IsTrue (has ys b))
 suspects_same s p xs ys e h = record { one = λ b c can. elim (h.one b c can) [ inl k ↦ inl (e b ∙ k) | inr k ↦ inr (e c ∙ k) ] }
 
--- a block of the list other than this one, if there is one
-pub record IsOther (a : ℕ) (xs : List ℕ) (o : Option ℕ) : Type 0 where
-  pub some : IfSome o (λ x. IsTrue (has xs x))
-  pub other : IfSome o (λ x. x ≢ a)
-  pub none : IfNone o ((x : ℕ) → IsTrue (has xs x) → x ≡ a)
+-- A block other than a that is joined to it, where there is one: what was found first, or one of the list.
+pub record IsOther (joined : ℕ → Bool) (a : ℕ) (first : Option ℕ) (xs : List ℕ) (o : Option ℕ) : Type 0 where
+  pub some : IfSome o (λ x. (x ≢ a) × IsTrue (joined x))
+  pub none : o ≡ None → (first ≡ None) × ((x : ℕ) → IsTrue (has xs x) → IsTrue (joined x) → x ≡ a)
 
-pub other_more : (a : ℕ) (xs : List ℕ) (i d : ℕ) (old new : Option ℕ) → i < length xs → IsOther a (take i xs) old → (new ≡ old) ⊎ ((new ≡ Some (get_or xs i d)) × (get_or xs i d ≢ a))
-    → (new ≡ None → (old ≡ None) × (get_or xs i d ≡ a)) → IsOther a (take (i + 1) xs) new
-other_more a xs i d old None h before one lone =
-    let no = lone refl in
-    let nothing = if_none old ((x : ℕ) → IsTrue (has (take i xs) x) → x ≡ a) no.0 before.none in
-    record { some = tt; other = tt; none = more_hold (λ x. x ≡ a) xs i d h nothing no.1 }
-other_more a xs i d old (Some x) h before one lone = elim one [
-  | inl e ↦ (
-      let there = if_some old x (λ y. IsTrue (has (take i xs) y)) (sym e) before.some in
-      record { some = has_more xs i d x h ∙ or_left (has (take i xs) x) (nat_eq x (get_or xs i d)) there; other = if_some old x (λ y. y ≢ a) (sym e) before.other; none = tt })
-  | inr k ↦ (
-      let same : x ≡ get_or xs i d = let e = k.0 in cc in
-      record {
-        some = has_more xs i d x h ∙ or_right (has (take i xs) x) (nat_eq x (get_or xs i d)) ((Decides-eqb x (get_or xs i d)).1 same);
-        other = subst (λ y. y ≢ a) (sym same) k.1;
-        none = tt;
-      })
+pub other_more : (joined : ℕ → Bool) (a : ℕ) (first : Option ℕ) (xs : List ℕ) (i d : ℕ) (old new : Option ℕ) → i < length xs → IsOther joined a first (take i xs) old
+    → (new ≡ old) ⊎ ((new ≡ Some (get_or xs i d)) × ((get_or xs i d ≢ a) × IsTrue (joined (get_or xs i d)))) → (new ≡ None → (old ≡ None) × (IsTrue (joined (get_or xs i d)) → get_or xs i d ≡ a))
+    → IsOther joined a first (take (i + 1) xs) new
+other_more joined a first xs i d old new h before one lone = record {
+  some = elim one [
+    | inl e ↦ subst (λ o. IfSome o (λ x. (x ≢ a) × IsTrue (joined x))) (sym e) before.some
+    | inr k ↦ subst (λ o. IfSome o (λ x. (x ≢ a) × IsTrue (joined x))) (sym k.0) k.1
+  ];
+  none = λ e. let no = lone e in let was = before.none no.0 in (was.0, more_hold (λ x. IsTrue (joined x) → x ≡ a) xs i d h was.1 no.1);
+}
+
+-- parents of a block that are neither in its drafted ones nor in those of the base are none
+pub other_end : (support base_support : ℕ → ℕ) (a : ℕ) (xs drafted : List ℕ) → Lists (λ x. nat_lt 0 (base_support x)) xs → ((x : ℕ) → has drafted x ≡ false → support x ≡ base_support x)
+    → ((x : ℕ) → IsTrue (has xs x) → IsTrue (nat_lt 0 (support x)) → x ≡ a) → ((x : ℕ) → IsTrue (has drafted x) → IsTrue (nat_lt 0 (support x)) → x ≡ a) → (x : ℕ) → IsTrue (nat_lt 0 (support x)) → x ≡ a
+other_end support base_support a xs drafted parents same in_base among x j = elim (cases_Bool (has drafted x)) [
+  | inl there ↦ among x there j
+  | inr off ↦ in_base x (parents.members x ∙ sym (ap (nat_lt 0) (same x off)) ∙ j) j
 ]
 
 -- a block keeps its label when another number is given to a new one

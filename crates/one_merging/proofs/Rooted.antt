@@ -1,34 +1,47 @@
 -- Blocks to which no other block has support.
-use Rattle.std.proofs.Common.{◌≡◌, ◌≢◌, ℕ, ◌+◌, ◌<◌, ◌≤◌, List, [], ◌∷◌, length, take, Option, Some, None, IsTrue, is_some, refl, sym, ◌∙◌, ap, subst, arith, inl, inr, true, false, Bool, true≢false}
-use Rattle.std.specs.Prelude.{nat_eq, nat_lt, IfNone, IfOk, Result, Ok, Err, get_or}
+use Rattle.std.proofs.Common.{◌≡◌, ◌≢◌, ℕ, zero, suc, ◌+◌, ◌<◌, ◌≤◌, List, [], ◌∷◌, length, take, Option, Some, None, IsTrue, is_some, refl, sym, ◌∙◌, ap, subst, arith, inl, inr, true, false, Bool, count_by, true≢false}
+use Rattle.std.specs.Prelude.{nat_eq, nat_lt, cond, IfNone, IfOk, Result, Ok, Err, get_or}
 use Rattle.std.specs.List.{list_all}
 use Rattle.std.proofs.lemmas.Bool.{cases_Bool, cases_lt, both_ways, or_left, or_right, and_from}
 use Rattle.std.proofs.lemmas.Bool.Decides.{Decides-eqb, Decides-ltb, eqb_tells}
 use Rattle.std.proofs.lemmas.List.{get_or_past}
-use Rattle.px_spec.specs.Members.{has, at, Lists}
+use Rattle.px_spec.specs.Members.{has, at, is_this, Lists}
 use Rattle.px_spec.specs.Shapes.{Shape}
-use Rattle.bisim_spec.proofs.Merging.{mergeable_blocks}
+use Rattle.bisim_spec.proofs.Together.{together_at, merged_cases}
+use Rattle.bisim_spec.proofs.Merging.{mergeable_blocks, merges_from}
 use Rattle.bisim_spec.specs.Views.{support_at}
-use Rattle.upkeep_spec.specs.Merges.{IsMergeablePair}
+use Rattle.upkeep_spec.specs.Merges.{IsMergeablePair, IsChildBlock}
 use Rattle.upkeep_spec.specs.Viewed.{IsViewed}
 use Rattle.upkeep_spec.proofs.Suspects.{partner_alone}
 use Rattle.quotient.specs.Quotients.{Quotient}
-use Rattle.quotient_draft.specs.Drafts.{Drafted, shown_labels, shown_support}
+use Rattle.quotient_draft.specs.Drafts.{Drafted, has_member, inhabited_from, settled_view, shown_blocks, shown_labels, shown_support}
 use Rattle.quotient_draft.specs.Ends.{listed}
 use Rattle.block_joining.specs.Mates.{AreNoMates}
 use Rattle.one_merging.specs.Roots.{RootLists, IsNoted, IsRoot, CoversRoots, CoversBase, CoversShown}
+use Rattle.one_merging.proofs.Counted.{member_counted}
 use Rattle.one_merging.proofs.Laws.{more_hold}
 
 zero_by : (n : ℕ) → nat_lt 0 n ≡ false → n ≡ 0
 zero_by n h = grind (arith, h)
 
--- The tables of a base and what a draft shows of them, and a list: the children of a are in it, the blocks that are noted for a label, and
+-- The tables of a base and what a draft shows of them, and a list: the children of a are in it where a is one of them, the blocks that are noted for a label, and
 -- all blocks whose labels or parents aren't those of the base.
 pub record AreCandidates (labels base_labels : ℕ → Option ℕ) (support base_support : ℕ → ℕ → ℕ) (roots : RootLists) (a label : ℕ) (list : List ℕ) : Type 0 where
-  pub children : (b : ℕ) → IsTrue (nat_lt 0 (support a b)) → IsTrue (has list b)
+  pub children : IsTrue (nat_lt 0 (support a a)) → (b : ℕ) → IsTrue (nat_lt 0 (support a b)) → IsTrue (has list b)
   pub noted : (b : ℕ) → IsNoted roots label b → IsTrue (has list b)
   pub labels_are : (b : ℕ) → has list b ≡ false → labels b ≡ base_labels b
   pub supports_are : (x b : ℕ) → has list b ≡ false → support x b ≡ base_support x b
+
+-- where a block is a parent of its partner, it has a parent itself
+partner_back : (s : Shape) (p : List (Option ℕ)) (a b : ℕ) → IsMergeablePair s p a b → IsChildBlock s p a b → (z : ℕ) × IsChildBlock s p z a
+partner_back s p a b can k =
+    let y = can.first in
+    let r = (merges_from s p a b y.0 k.onto can.can y.1 k.onto_at).parents.back k.from k.edge in
+    elim (merged_cases a b p k.from r.0 r.2) [
+      | inl near ↦ (a, record { from = r.0; onto = y.0; edge = r.1; from_at = together_at p k.from r.0 a near k.from_at; onto_at = y.1 })
+      | inr (inl (ef, er)) ↦ (b, record { from = r.0; onto = y.0; edge = r.1; from_at = er; onto_at = y.1 })
+      | inr (inr (ef, er)) ↦ (a, record { from = r.0; onto = y.0; edge = r.1; from_at = er; onto_at = y.1 })
+    ]
 
 -- a block that is in no such list is no partner of a block that has no other parent than itself
 pub no_mates_lone : (p : List (Option ℕ)) (labels base_labels : ℕ → Option ℕ) (support base_support : ℕ → ℕ → ℕ) (roots : RootLists) (a label : ℕ) (list : List ℕ)
@@ -47,34 +60,73 @@ no_mates_lone p labels base_labels support base_support roots a label list lone 
     alone s v can off x ne = elim (cases_Bool (nat_lt 0 (support x b))) [
       | inr none ↦ zero_by (support x b) none
       | inl some ↦ absurd (elim (partner_alone s p a b x can (λ z k. lone z (v.into z a k)) (v.from x b some)) [
-        | inl e ↦ both_ways (has list b) off (are.children b (ap (λ z. nat_lt 0 (support z b)) (sym e) ∙ some))
+        | inl e ↦ (
+            let joined : IsTrue (nat_lt 0 (support a b)) = ap (λ z. nat_lt 0 (support z b)) (sym e) ∙ some in
+            let z = partner_back s p a b can (v.from a b joined) in
+            let own : IsTrue (nat_lt 0 (support a a)) = ap (λ c. nat_lt 0 (support c a)) (sym (lone z.0 (v.into z.0 a z.1))) ∙ v.into z.0 a z.1 in
+            both_ways (has list b) off (are.children own b joined))
         | inr e ↦ ne e
       ])
     ]
 
 pub none_lone : {E : Type 0} (r : Result (Option ℕ) E) (p : List (Option ℕ)) (labels base_labels : ℕ → Option ℕ) (support base_support : ℕ → ℕ → ℕ) (roots : RootLists) (a label : ℕ)
-    (xs list : List ℕ) → Lists (λ x. nat_lt 0 (support x a)) xs → ((x : ℕ) → IsTrue (has xs x) → x ≡ a) → labels a ≡ Some label → CoversRoots base_labels base_support roots
+    (list : List ℕ) → ((x : ℕ) → IsTrue (nat_lt 0 (support x a)) → x ≡ a) → labels a ≡ Some label → CoversRoots base_labels base_support roots
     → AreCandidates labels base_labels support base_support roots a label list
     → IfOk r (λ o. IfNone o ((b : ℕ) → IsTrue (has list b) → AreNoMates p labels (λ x y. nat_lt 0 (support x y)) a b))
     → IfOk r (λ o. IfNone o ((b : ℕ) → AreNoMates p labels (λ x y. nat_lt 0 (support x y)) a b))
-none_lone (Ok None) p labels base_labels support base_support roots a label xs list parents lone own covers are among =
-    no_mates_lone p labels base_labels support base_support roots a label list (λ x h. lone x (parents.members x ∙ h)) own covers are among
-none_lone (Ok (Some c)) p labels base_labels support base_support roots a label xs list parents lone own covers are among = among
-none_lone (Err e) p labels base_labels support base_support roots a label xs list parents lone own covers are among = among
+none_lone (Ok None) p labels base_labels support base_support roots a label list lone own covers are among =
+    no_mates_lone p labels base_labels support base_support roots a label list lone own covers are among
+none_lone (Ok (Some c)) p labels base_labels support base_support roots a label list lone own covers are among = among
+none_lone (Err e) p labels base_labels support base_support roots a label list lone own covers are among = among
 
 -- what is noted stays covered
 pub covers_kept : (labels : ℕ → Option ℕ) (support : ℕ → ℕ → ℕ) (roots roots2 : RootLists) → ((l c : ℕ) → IsNoted roots l c → IsNoted roots2 l c) → CoversRoots labels support roots
     → CoversRoots labels support roots2
 covers_kept labels support roots roots2 kept covers = record { each = λ b l h k. kept l b (covers.each b l h k) }
 
+-- a label that is left when blocks without members go was there before
+pub labels_kept : (block : List (Option ℕ)) (n : ℕ) (labels : List (Option ℕ)) (b l : ℕ) → at (inhabited_from block n labels) b ≡ Some l → at labels b ≡ Some l
+labels_kept block n [] b l h = absurd (cc)
+labels_kept block n (x ∷ xs) zero l h = by (has_member block n) h
+  where
+    by : (t : Bool) → cond t x None ≡ Some l → x ≡ Some l
+    by true e = e
+    by false e = absurd (cc)
+labels_kept block n (x ∷ xs) (suc b) l h = labels_kept block (n + 1) xs b l h
+
+-- and its block has members
+label_inhabited : (block : List (Option ℕ)) (n : ℕ) (labels : List (Option ℕ)) (b l : ℕ) → at (inhabited_from block n labels) b ≡ Some l → has_member block (n + b) ≡ true
+label_inhabited block n [] b l h = absurd (cc)
+label_inhabited block n (x ∷ xs) zero l h = subst (λ m. has_member block m ≡ true) (let e : n ≡ n + 0 = omega arith in e) (by (has_member block n) refl h)
+  where
+    by : (t : Bool) → has_member block n ≡ t → cond t x None ≡ Some l → has_member block n ≡ true
+    by true e h = e
+    by false e h = absurd (cc)
+label_inhabited block n (x ∷ xs) (suc b) l h = subst (λ m. has_member block m ≡ true) (let e : (n + 1) + b ≡ n + suc b = omega arith in e) (label_inhabited block (n + 1) xs b l h)
+
+-- a block as shown that is none, or has no members, has no label once the draft is settled
+pub no_label : (q : Quotient) (d : Drafted) (b l : ℕ) → is_some (at (shown_labels q d) b) ≡ false → at (settled_view q d).labels b ≡ Some l → ⊥
+no_label q d b l none h = true≢false (sym (ap is_some (labels_kept (shown_blocks q d) 0 (shown_labels q d) b l h)) ∙ none)
+
+pub no_member : (q : Quotient) (d : Drafted) (b l : ℕ) → count_by (is_this b) (shown_blocks q d) ≡ 0 → at (settled_view q d).labels b ≡ Some l → ⊥
+no_member q d b l none h =
+    let some = member_counted (shown_blocks q d) b (subst (λ m. has_member (shown_blocks q d) m ≡ true) (let e : 0 + b ≡ b = omega arith in e) (label_inhabited (shown_blocks q d) 0 (shown_labels q d) b l h)) in
+    omega (arith, some, none)
+
+-- the label of a block is that which it has once the draft is settled, where it has one
+pub label_settled : (q : Quotient) (d : Drafted) (roots : RootLists) (b l label : ℕ) → at (shown_labels q d) b ≡ Some l → IsNoted roots l b → at (settled_view q d).labels b ≡ Some label → IsNoted roots label b
+label_settled q d roots b l label own noted h =
+    let e = labels_kept (shown_blocks q d) 0 (shown_labels q d) b label h in
+    subst (λ m. IsNoted roots m b) (let same : l ≡ label = cc in same) noted
+
 -- where those of the touched blocks are noted, and the others have the labels and the parents of the base
 pub covers_touched : (q : Quotient) (d : Drafted) (roots roots2 : RootLists) (touched : List ℕ) → CoversBase q roots → ((l c : ℕ) → IsNoted roots l c → IsNoted roots2 l c)
     → ((b : ℕ) → has touched b ≡ false → at (shown_labels q d) b ≡ at q.blocks.labels b) → ((a b : ℕ) → has touched b ≡ false → shown_support q d a b ≡ support_at q.supports a b)
-    → ((b l : ℕ) → IsTrue (has touched b) → at (shown_labels q d) b ≡ Some l → IsRoot (shown_support q d) b → IsNoted roots2 l b) → CoversShown q d roots2
+    → ((b l : ℕ) → IsTrue (has touched b) → at (settled_view q d).labels b ≡ Some l → IsRoot (shown_support q d) b → IsNoted roots2 l b) → CoversShown q d roots2
 covers_touched q d roots roots2 touched covers kept labels supports noted = record {
   each = λ b l h k. elim (cases_Bool (has touched b)) [
     | inl there ↦ noted b l there h k
-    | inr off ↦ kept l b (covers.each b l (sym (labels b off) ∙ h) (λ a ne. sym (supports a b off) ∙ k a ne))
+    | inr off ↦ kept l b (covers.each b l (sym (labels b off) ∙ labels_kept (shown_blocks q d) 0 (shown_labels q d) b l h) (λ a ne. sym (supports a b off) ∙ k a ne))
   ];
 }
 

@@ -4,7 +4,7 @@ use Rattle.smallvec.specs.SmallVec.{SmallVec}
 use Rattle.px_spec.specs.Members.{at, has}
 use Rattle.bisim_spec.specs.Views.{support_at}
 use Rattle.quotient.specs.Quotients.{Quotient}
-use Rattle.quotient_draft.specs.Drafts.{Drafted, shown_labels, shown_support}
+use Rattle.quotient_draft.specs.Drafts.{Drafted, settled_view, shown_support}
 use Rattle.quotient_draft.specs.Ends.{listed}
 
 -- labels, each with the blocks that are noted for it
@@ -27,6 +27,6 @@ pub record CoversRoots (labels : ℕ → Option ℕ) (support : ℕ → ℕ → 
 abbrev pub CoversBase : Quotient → RootLists → Type 0
 CoversBase q roots = CoversRoots (at q.blocks.labels) (support_at q.supports) roots
 
--- those of a quotient as a draft shows it
+-- those that a quotient has once a draft is settled
 abbrev pub CoversShown : Quotient → Drafted → RootLists → Type 0
-CoversShown q d roots = CoversRoots (at (shown_labels q d)) (shown_support q d) roots
+CoversShown q d roots = CoversRoots (at (settled_view q d).labels) (shown_support q d) roots

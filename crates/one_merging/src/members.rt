@@ -1,4 +1,4 @@
-// Blocks with members.
+// The members and the children of blocks.
 ghost use Rattle.std.specs.Prelude.{◌≡◌, ◌≢◌, ◌⊎◌, ℕ, Some, IsTrue, IsFalse};
 ghost use Rattle.px_spec.specs.Members.{at};
 ghost use Rattle.quotient_draft.specs.Drafts.{shown_blocks};
@@ -6,7 +6,7 @@ ghost use Rattle.quotient_draft.specs.Basis.{IsOver};
 ghost use Rattle.one_merging.specs.Merging.{HasShownGraph, AreShownMates};
 
 use quotient::Summary;
-use quotient_draft::Draft;
+use quotient_draft::{Draft, base_children};
 
 /// Whether the number is that of a block with members.
 pub(crate) fn has_members(base: &Summary, draft: &Draft, b: u32) -> bool
@@ -21,7 +21,15 @@ pub(crate) fn has_members(base: &Summary, draft: &Draft, b: u32) -> bool
     draft.member_count(base, b) > 0
 }
 
-/// The two blocks, with the larger one in front.
+/// How many children a block has in the base, and how many further pairs are drafted from it: about what it costs to look
+/// among its children.
+pub(crate) fn children_count(base: &Summary, draft: &Draft, b: u32) -> usize {
+    base_children(base, b)
+        .len()
+        .saturating_add(draft.drafted_children(b).len())
+}
+
+/// The two blocks. That which it costs more to move, by its members and its children, is in front.
 pub(crate) fn larger_first(base: &Summary, draft: &Draft, a: u32, b: u32) -> (u32, u32)
     requires over { IsOver base.now.blocks.block_of base.now.blocks.labels draft.now }
     requires graph { HasShownGraph base.now draft.now }
@@ -29,9 +37,9 @@ pub(crate) fn larger_first(base: &Summary, draft: &Draft, a: u32, b: u32) -> (u3
     ensures mates { AreShownMates base.now draft.now result.0 result.1 }
     ensures one { (a ≡ result.0) ⊎ (a ≡ result.1) }
 {
-    if draft.member_count(base, a) < draft.member_count(base, b) {
-        (b, a)
-    } else {
-        (a, b)
-    }
+    let own = (draft.member_count(base, a) as usize).saturating_add(children_count(base, draft, a));
+    let other = (draft.member_count(base, b) as usize).saturating_add(children_count(
+        base, draft, b,
+    ));
+    if own < other { (b, a) } else { (a, b) }
 }

@@ -15,7 +15,7 @@ ghost use Rattle.one_merging.specs.Merging.{IsShown, HasShownGraph, AreShownMate
 ghost use Rattle.one_merging.specs.Roots.{CoversBase};
 
 use crate::members::larger_first;
-use crate::partners::{Rooms, partner_of};
+use crate::partners::{Buffers, partner_of};
 use crate::roots::Roots;
 use crate::suspects::Suspects;
 use block_joining::join;
@@ -30,7 +30,7 @@ fn next_pair(
     draft: &Draft,
     roots: &Roots,
     suspects: &mut Suspects,
-    rooms: &mut Rooms,
+    buffers: &mut Buffers,
 ) -> Result<Option<(u32, u32)>, Memory>
     requires over { IsOver base.now.blocks.block_of base.now.blocks.labels draft.now }
     requires graph { HasShownGraph base.now draft.now }
@@ -40,7 +40,7 @@ fn next_pair(
     ensures none { IfOk result (λ pair. IfNone pair ((s : Shape) → IsShown s base.now draft.now → AreShownSuspects s base.now draft.now (λ b. IsTrue (has suspects.old b)) → AreShownSuspects s base.now draft.now (λ b. ⊥))) }
 {
     'look: while let Some(a) = suspects.take() {
-        if let Some(b) = partner_of(base, draft, roots, a, rooms)? {
+        if let Some(b) = partner_of(base, draft, roots, a, buffers)? {
             return Ok(Some(larger_first(base, draft, a, b)));
         }
     }
@@ -65,7 +65,7 @@ fn merge_pairs(
     draft: &mut Draft,
     roots: &Roots,
     suspects: &mut Suspects,
-    rooms: &mut Rooms,
+    buffers: &mut Buffers,
 ) -> Result<(), Memory>
     requires over { IsOver base.now.blocks.block_of base.now.blocks.labels draft.old }
     requires graph { HasShownGraph base.now draft.old }
@@ -75,10 +75,10 @@ fn merge_pairs(
     ensures supports { OnOk result ((g : Graph) → AreEdgeCounts g (shown_blocks base.now draft.old) (shown_support base.now draft.old) → AreEdgeCounts g (shown_blocks base.now draft.new) (shown_support base.now draft.new)) }
     ensures named { OnOk result ((names : ℕ → Option ℕ) → AreNamed (shown_blocks base.now draft.old) (at (shown_labels base.now draft.old)) names → AreNamed (shown_blocks base.now draft.new) (at (shown_labels base.now draft.new)) names) }
 {
-    'pairs: while let Some((a, b)) = next_pair(base, draft, roots, suspects, rooms)? {
-        draft.fill_children(base, b, &mut rooms.children)?;
-        join(base, draft, a, b, &mut rooms.others)?;
-        push_near(a, &rooms.children, suspects)?;
+    'pairs: while let Some((a, b)) = next_pair(base, draft, roots, suspects, buffers)? {
+        draft.fill_children(base, b, &mut buffers.children)?;
+        join(base, draft, a, b, &mut buffers.others)?;
+        push_near(a, &buffers.children, suspects)?;
     }
     Ok(())
 }
@@ -88,10 +88,10 @@ fn merge_pairs(
 /// with at most 2^30 edges, and blocks with members have labels. Where memory runs out, the draft may have a
 /// part of it.
 ///
-/// Of two blocks that are merged the smaller is moved, and each block next to it is written once. A suspect is
-/// compared with another parent of it and the children of that one, where of its parents the one with the
-/// fewest children in the base is taken. Where it has no other parent than itself, it is compared with its children, with the blocks
-/// noted for its label, and with those that the draft touches.
+/// Of two blocks that are merged the one with fewer members and children is moved, and each block next to it is written
+/// once. A suspect is compared with another parent of it and the children of that one: of its parents one with few children is
+/// taken, or else the one with the fewest. Where it has no other parent than itself, it is compared with the blocks noted for its
+/// label, with those that the draft touches, and with its children where it is a parent of itself.
 pub fn merge(
     alloc: Global,
     base: &Summary,
@@ -109,7 +109,7 @@ pub fn merge(
 {
     let mut waiting = Suspects::new(alloc);
     waiting.add_all(suspects)?;
-    let mut rooms = Rooms::new(alloc);
-    merge_pairs(base, draft, roots, &mut waiting, &mut rooms)?;
+    let mut buffers = Buffers::new(alloc);
+    merge_pairs(base, draft, roots, &mut waiting, &mut buffers)?;
     Ok(())
 }

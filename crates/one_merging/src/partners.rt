@@ -1,6 +1,7 @@
 // With which block one can be merged.
-ghost use Rattle.std.specs.Prelude.{◌≡◌, ◌≢◌, ◌⊎◌, ℕ, Some, None, IsTrue, IsFalse, IfSome, IfNone, IfOk, OnOk, false};
-ghost use Rattle.px_spec.specs.Members.{at, has, Lists};
+ghost use Rattle.std.specs.Prelude.{◌≡◌, ◌≢◌, ◌⊎◌, ◌&&◌, ℕ, Some, None, IsTrue, IsFalse, IfSome, IfNone, IfOk, OnOk, not, nat_eq, false};
+ghost use Rattle.std.specs.List.{list_any};
+ghost use Rattle.px_spec.specs.Members.{at, has};
 ghost use Rattle.bisim_spec.specs.Views.{support_at};
 ghost use Rattle.quotient_draft.specs.Drafts.{shown_labels, shown_blocks, shown_support};
 ghost use Rattle.quotient_draft.specs.Basis.{IsOver};
@@ -8,27 +9,25 @@ ghost use Rattle.block_joining.specs.Mates.{shown_joined};
 ghost use Rattle.one_merging.specs.Merging.{HasShownGraph, AreShownMates, AreNoShownMates};
 ghost use Rattle.one_merging.specs.Roots.{IsNoted, CoversBase};
 
-use crate::members::has_members;
+use crate::members::{children_count, has_members};
 use crate::roots::Roots;
 use block_joining::mergeable;
 use label_graph::Digraph;
 use px_base::Memory;
 use quotient::Summary;
-use quotient_draft::Draft;
+use quotient_draft::{Draft, base_children, base_parents};
 use std::alloc::Global;
 
 /// Lists of blocks, in memory that is used again.
 #[derive(Drop)]
-pub(crate) struct Rooms {
-    pub(crate) parents: Vec<u32>,
+pub(crate) struct Buffers {
     pub(crate) children: Vec<u32>,
     pub(crate) others: Vec<u32>,
 }
 
-impl Rooms {
-    pub(crate) fn new(alloc: Global) -> Rooms {
-        Rooms {
-            parents: Vec::new(alloc),
+impl Buffers {
+    pub(crate) fn new(alloc: Global) -> Buffers {
+        Buffers {
             children: Vec::new(alloc),
             others: Vec::new(alloc),
         }
@@ -50,22 +49,44 @@ fn is_labelled(base: &Summary, draft: &Draft, b: u32, label: u32) -> bool
     draft.label(base, b) == label
 }
 
-// Whether two blocks, of which the first has members, this label and these parents, differ and can be merged.
-// Most blocks have another label, so that is looked at first.
+// Whether one of the blocks is other than these two and in neither list.
+fn any_stranger(blocks: &[u32], a: u32, b: u32, own: &[u32], drafted: &[u32]) -> bool
+    ensures { result ≡ list_any (λ x. (not (nat_eq x a) && not (nat_eq x b)) && (not (has own.now x) && not (has drafted.now x))) blocks.now }
+{
+    blocks.iter().any(|x| (*x != a && *x != b) && (!own.contains(x) && !drafted.contains(x)))
+}
+
+// Whether a parent of b is none of a, where b has the parents that it has in the base. Nothing but lists is looked at, so it is
+// the cheapest test of the parents.
+fn has_stranger(base: &Summary, draft: &Draft, a: u32, b: u32) -> bool
+    ensures { IsTrue result → AreNoShownMates base.now draft.now a b }
+{
+    if !draft.drafted_parents(b).is_empty() {
+        return false;
+    }
+    any_stranger(
+        base_parents(base, b),
+        a,
+        b,
+        base_parents(base, a),
+        draft.drafted_parents(a),
+    )
+}
+
+// Whether two blocks, of which the first has members and this label, differ and can be merged. Most blocks have another label or
+// another parent, so these are looked at first.
 fn is_partner(
     base: &Summary,
     draft: &Draft,
     a: u32,
     label: u32,
     b: u32,
-    parents: &[u32],
     others: &mut Vec<u32>,
 ) -> Result<bool, Memory>
     requires over { IsOver base.now.blocks.block_of base.now.blocks.labels draft.now }
     requires graph { HasShownGraph base.now draft.now }
     requires members { (n : ℕ) × (at (shown_blocks base.now draft.now) n ≡ Some a) }
     requires label { at (shown_labels base.now draft.now) a ≡ Some label }
-    requires parents { Lists (λ x. shown_joined base.now draft.now x a) parents.now }
     ensures yes { IfOk result (λ can. IsTrue can → AreShownMates base.now draft.now a b) }
     ensures no { IfOk result (λ can. IsFalse can → AreNoShownMates base.now draft.now a b) }
 {
@@ -75,46 +96,86 @@ fn is_partner(
     if !is_labelled(base, draft, b, label) {
         return Ok(false);
     }
+    if has_stranger(base, draft, a, b) {
+        return Ok(false);
+    }
     if !has_members(base, draft, b) {
         return Ok(false);
     }
-    mergeable(base, draft, a, b, parents, others)
+    mergeable(base, draft, a, b, others)
 }
 
-// How many children a block has in the base, and 0 where it is no block of it: about what it costs to look
-// among them.
-fn base_children(base: &Summary, x: u32) -> usize {
-    if !base.is_block(x) {
-        return 0;
-    }
-    base.children(x).len()
-}
-
-// Of two blocks the one with fewer children in the base, where the second is other than this one; else the first.
-fn fewer_children(base: &Summary, a: u32, found: Option<u32>, x: u32) -> Option<u32>
-    ensures one { (result ≡ found) ⊎ ((result ≡ Some x) × (x ≢ a)) }
-    ensures none { result ≡ None → (found ≡ None) × (x ≡ a) }
+// Whether x is other than a and has support to it as shown.
+fn is_other_parent(base: &Summary, draft: &Draft, a: u32, x: u32) -> bool
+    ensures yes { IsTrue result → (x ≢ a) × IsTrue (shown_joined base.now draft.now x a) }
+    ensures no { IsFalse result → IsTrue (shown_joined base.now draft.now x a) → x ≡ a }
 {
-    if x == a {
+    x != a && draft.support(base, x, a) > 0
+}
+
+// Whether there is a block, and it has no more children than x.
+fn is_no_larger(base: &Summary, draft: &Draft, found: Option<u32>, x: u32) -> bool
+    ensures { IsTrue result → found ≢ None }
+{
+    match found {
+        Some(y) => children_count(base, draft, y) <= children_count(base, draft, x),
+        None => false,
+    }
+}
+
+// What was found, or x in place of it where x is another parent of a and has fewer children.
+fn fewer_children(base: &Summary, draft: &Draft, a: u32, found: Option<u32>, x: u32) -> Option<u32>
+    ensures one { (result ≡ found) ⊎ ((result ≡ Some x) × ((x ≢ a) × IsTrue (shown_joined base.now draft.now x a))) }
+    ensures none { result ≡ None → (found ≡ None) × (IsTrue (shown_joined base.now draft.now x a) → x ≡ a) }
+{
+    if is_no_larger(base, draft, found, x) || !is_other_parent(base, draft, a, x) {
         return found;
     }
+    Some(x)
+}
+
+// How many children are so few that no parent with fewer is looked for.
+const FEW: usize = 8;
+
+// Whether there is a block with few children.
+fn has_few_children(base: &Summary, draft: &Draft, found: Option<u32>) -> bool
+    ensures { IsTrue result → found ≢ None }
+{
     match found {
-        Some(y) if base_children(base, y) <= base_children(base, x) => found,
-        _ => Some(x),
+        Some(x) => children_count(base, draft, x) <= FEW,
+        None => false,
     }
 }
 
-// A block of the list other than this one: of those the one with the fewest children in the base.
-fn other_than(base: &Summary, blocks: &[u32], a: u32) -> Option<u32>
-    ensures some { IfSome result (λ x. IsTrue (has blocks.now x)) }
-    ensures other { IfSome result (λ x. x ≢ a) }
-    ensures none { IfNone result ((x : ℕ) → IsTrue (has blocks.now x) → x ≡ a) }
+// Another parent of a among what was found and these blocks: one with few children, or else the one with the fewest.
+fn other_among(
+    base: &Summary,
+    draft: &Draft,
+    a: u32,
+    first: Option<u32>,
+    blocks: &[u32],
+) -> Option<u32>
+    requires first { IfSome first (λ x. (x ≢ a) × IsTrue (shown_joined base.now draft.now x a)) }
+    ensures some { IfSome result (λ x. (x ≢ a) × IsTrue (shown_joined base.now draft.now x a)) }
+    ensures none { result ≡ None → (first ≡ None) × ((x : ℕ) → IsTrue (has blocks.now x) → IsTrue (shown_joined base.now draft.now x a) → x ≡ a) }
 {
-    let mut found = None;
+    let mut found = first;
     for i in 0..blocks.len() {
-        found = fewer_children(base, a, found, blocks[i]);
+        if has_few_children(base, draft, found) {
+            return found;
+        }
+        found = fewer_children(base, draft, a, found, blocks[i]);
     }
     found
+}
+
+// A block other than a that has support to it: one with few children, or else the one with the fewest.
+fn other_parent(base: &Summary, draft: &Draft, a: u32) -> Option<u32>
+    ensures some { IfSome result (λ x. (x ≢ a) × IsTrue (shown_joined base.now draft.now x a)) }
+    ensures none { result ≡ None → (x : ℕ) → IsTrue (shown_joined base.now draft.now x a) → x ≡ a }
+{
+    let found = other_among(base, draft, a, None, base_parents(base, a));
+    other_among(base, draft, a, found, draft.drafted_parents(a))
 }
 
 // A partner of the first block among these.
@@ -123,27 +184,41 @@ fn find_among(
     draft: &Draft,
     a: u32,
     blocks: &[u32],
-    parents: &[u32],
     others: &mut Vec<u32>,
 ) -> Result<Option<u32>, Memory>
     requires over { IsOver base.now.blocks.block_of base.now.blocks.labels draft.now }
     requires graph { HasShownGraph base.now draft.now }
     requires members { (n : ℕ) × (at (shown_blocks base.now draft.now) n ≡ Some a) }
-    requires parents { Lists (λ x. shown_joined base.now draft.now x a) parents.now }
     ensures some { IfOk result (λ found. IfSome found (AreShownMates base.now draft.now a)) }
     ensures none { IfOk result (λ found. IfNone found ((b : ℕ) → IsTrue (has blocks.now b) → AreNoShownMates base.now draft.now a b)) }
 {
     let label = draft.label(base, a);
     for i in 0..blocks.len() {
-        if is_partner(base, draft, a, label, blocks[i], parents, others)? {
+        if is_partner(base, draft, a, label, blocks[i], others)? {
             return Ok(Some(blocks[i]));
         }
     }
     Ok(None)
 }
 
-// Lists the blocks among which a partner is of a block that has no other parent than itself: its children, the blocks noted for its
-// label, and the blocks that the draft touches.
+// Lists the children of a block that has support to itself, and nothing of another one.
+fn fill_own_children(
+    base: &Summary,
+    draft: &Draft,
+    a: u32,
+    list: &mut Vec<u32>,
+) -> Result<(), Memory>
+    ensures { OnOk result (IsTrue (shown_joined base.now draft.now a a) → (b : ℕ) → IsTrue (shown_joined base.now draft.now a b) → IsTrue (has list.new.items b)) }
+{
+    if draft.support(base, a, a) > 0 {
+        return draft.fill_children(base, a, list);
+    }
+    list.clear();
+    Ok(())
+}
+
+// Lists the blocks among which a partner is of a block that has no other parent than itself: its children where it has itself, the
+// blocks noted for its label, and the blocks that the draft touches.
 fn fill_candidates(
     base: &Summary,
     draft: &Draft,
@@ -152,12 +227,12 @@ fn fill_candidates(
     label: u32,
     list: &mut Vec<u32>,
 ) -> Result<(), Memory>
-    ensures children { OnOk result ((b : ℕ) → IsTrue (shown_joined base.now draft.now a b) → IsTrue (has list.new.items b)) }
+    ensures children { OnOk result (IsTrue (shown_joined base.now draft.now a a) → (b : ℕ) → IsTrue (shown_joined base.now draft.now a b) → IsTrue (has list.new.items b)) }
     ensures noted { OnOk result ((b : ℕ) → IsNoted roots.now label b → IsTrue (has list.new.items b)) }
     ensures labels { OnOk result ((b : ℕ) → has list.new.items b ≡ false → at (shown_labels base.now draft.now) b ≡ at base.now.blocks.labels b) }
     ensures supports { OnOk result ((x b : ℕ) → has list.new.items b ≡ false → shown_support base.now draft.now x b ≡ support_at base.now.supports x b) }
 {
-    draft.fill_children(base, a, list)?;
+    fill_own_children(base, draft, a, list)?;
     roots.add_to(label, list)?;
     draft.add_touched(list)?;
     Ok(())
@@ -169,7 +244,6 @@ fn find_lone(
     draft: &Draft,
     roots: &Roots,
     a: u32,
-    parents: &[u32],
     list: &mut Vec<u32>,
     others: &mut Vec<u32>,
 ) -> Result<Option<u32>, Memory>
@@ -177,41 +251,36 @@ fn find_lone(
     requires graph { HasShownGraph base.now draft.now }
     requires covers { CoversBase base.now roots.now }
     requires members { (n : ℕ) × (at (shown_blocks base.now draft.now) n ≡ Some a) }
-    requires parents { Lists (λ x. shown_joined base.now draft.now x a) parents.now }
-    requires lone { (x : ℕ) → IsTrue (has parents.now x) → x ≡ a }
+    requires lone { (x : ℕ) → IsTrue (shown_joined base.now draft.now x a) → x ≡ a }
     ensures some { IfOk result (λ found. IfSome found (AreShownMates base.now draft.now a)) }
     ensures none { IfOk result (λ found. IfNone found ((b : ℕ) → AreNoShownMates base.now draft.now a b)) }
 {
     fill_candidates(base, draft, roots, a, draft.label(base, a), list)?;
-    find_among(base, draft, a, list, parents, others)
+    find_among(base, draft, a, list, others)
 }
 
-// A partner of the block, which has members and these parents: another parent, or a child of that, where there is another parent.
-fn find_partner(
+// A partner of a block among another parent of it and the children of that one.
+fn find_near(
     base: &Summary,
     draft: &Draft,
-    roots: &Roots,
     a: u32,
-    parents: &[u32],
-    children: &mut Vec<u32>,
+    x: u32,
     others: &mut Vec<u32>,
 ) -> Result<Option<u32>, Memory>
     requires over { IsOver base.now.blocks.block_of base.now.blocks.labels draft.now }
     requires graph { HasShownGraph base.now draft.now }
-    requires covers { CoversBase base.now roots.now }
     requires members { (n : ℕ) × (at (shown_blocks base.now draft.now) n ≡ Some a) }
-    requires parents { Lists (λ x. shown_joined base.now draft.now x a) parents.now }
+    requires parent { (x ≢ a) × IsTrue (shown_joined base.now draft.now x a) }
     ensures some { IfOk result (λ found. IfSome found (AreShownMates base.now draft.now a)) }
     ensures none { IfOk result (λ found. IfNone found ((b : ℕ) → AreNoShownMates base.now draft.now a b)) }
 {
-    let Some(x) = other_than(base, parents, a) else {
-        return find_lone(base, draft, roots, a, parents, children, others);
-    };
-    if is_partner(base, draft, a, draft.label(base, a), x, parents, others)? {
+    if is_partner(base, draft, a, draft.label(base, a), x, others)? {
         return Ok(Some(x));
     }
-    draft.fill_children(base, x, children)?;
-    find_among(base, draft, a, children, parents, others)
+    if let Some(b) = find_among(base, draft, a, base_children(base, x), others)? {
+        return Ok(Some(b));
+    }
+    find_among(base, draft, a, draft.drafted_children(x), others)
 }
 
 /// A partner of the block, where it has members and there is one.
@@ -220,7 +289,7 @@ pub(crate) fn partner_of(
     draft: &Draft,
     roots: &Roots,
     a: u32,
-    rooms: &mut Rooms,
+    buffers: &mut Buffers,
 ) -> Result<Option<u32>, Memory>
     requires over { IsOver base.now.blocks.block_of base.now.blocks.labels draft.now }
     requires graph { HasShownGraph base.now draft.now }
@@ -231,14 +300,15 @@ pub(crate) fn partner_of(
     if !has_members(base, draft, a) {
         return Ok(None);
     }
-    draft.fill_parents(base, a, &mut rooms.parents)?;
-    find_partner(
-        base,
-        draft,
-        roots,
-        a,
-        &rooms.parents,
-        &mut rooms.children,
-        &mut rooms.others,
-    )
+    match other_parent(base, draft, a) {
+        Some(x) => find_near(base, draft, a, x, &mut buffers.others),
+        None => find_lone(
+            base,
+            draft,
+            roots,
+            a,
+            &mut buffers.children,
+            &mut buffers.others,
+        ),
+    }
 }

@@ -4,7 +4,7 @@ ghost use Rattle.std.specs.List.{list_all};
 ghost use Rattle.px_spec.specs.Members.{at, has};
 ghost use Rattle.bisim_spec.specs.Views.{support_at};
 ghost use Rattle.quotient_draft.specs.Basis.{IsOver};
-ghost use Rattle.quotient_draft.specs.Drafts.{shown_labels, shown_support};
+ghost use Rattle.quotient_draft.specs.Drafts.{settled_view, shown_support};
 ghost use Rattle.quotient_draft.specs.Ends.{listed};
 ghost use Rattle.one_merging.specs.Roots.{IsNoted, IsRoot, CoversBase, CoversShown};
 
@@ -65,7 +65,7 @@ impl Roots {
         Ok(())
     }
 
-    /// Notes those that a draft brings, so that those that it shows are noted. Linear in what is drafted and in the parents of the
+    /// Notes those that a draft brings, so that those that the base has once it is settled are noted. Linear in what is drafted and in the parents of the
     /// blocks that it touches.
     pub fn note_touched(
         &mut self,
@@ -105,11 +105,11 @@ impl Roots {
         Ok(())
     }
 
-    // Notes those of the blocks to which no other has support as shown.
+    // Notes those of the blocks that have members, and to which no other has support, as shown.
     fn note_roots(&mut self, base: &Summary, draft: &Draft, blocks: &[u32]) -> Result<(), Memory>
         requires over { IsOver base.now.blocks.block_of base.now.blocks.labels draft.now }
         ensures kept { (l c : ℕ) → IsNoted self.old l c → IsNoted self.new l c }
-        ensures noted { OnOk result ((b label : ℕ) → IsTrue (has blocks.now b) → at (shown_labels base.now draft.now) b ≡ Some label → IsRoot (shown_support base.now draft.now) b → IsNoted self.new label b) }
+        ensures noted { OnOk result ((b label : ℕ) → IsTrue (has blocks.now b) → at (settled_view base.now draft.now).labels b ≡ Some label → IsRoot (shown_support base.now draft.now) b → IsNoted self.new label b) }
     {
         for i in 0..blocks.len() {
             self.note_shown(base, draft, blocks[i])?;
@@ -117,19 +117,23 @@ impl Roots {
         Ok(())
     }
 
-    // Notes a block, where no other has support to it as shown.
+    // Notes a block, where it has members, and no other has support to it, as shown.
     fn note_shown(&mut self, base: &Summary, draft: &Draft, b: u32) -> Result<(), Memory>
         requires over { IsOver base.now.blocks.block_of base.now.blocks.labels draft.now }
         ensures kept { (l c : ℕ) → IsNoted self.old l c → IsNoted self.new l c }
-        ensures noted { OnOk result ((label : ℕ) → at (shown_labels base.now draft.now) b ≡ Some label → IsRoot (shown_support base.now draft.now) b → IsNoted self.new label b) }
+        ensures noted { OnOk result ((label : ℕ) → at (settled_view base.now draft.now).labels b ≡ Some label → IsRoot (shown_support base.now draft.now) b → IsNoted self.new label b) }
     {
         if !draft.is_block(base, b) {
+            return Ok(());
+        }
+        if draft.member_count(base, b) == 0 {
             return Ok(());
         }
         if draft.has_other_parent(base, b) {
             return Ok(());
         }
-        self.note(draft.label(base, b), b)
+        self.note(draft.label(base, b), b)?;
+        Ok(())
     }
 
     // Notes a block for a label, once.

@@ -28,6 +28,10 @@ pub returns-in_err-add_blocks-clause-cost : goal.returns-in_err-add_blocks-claus
 returns-in_err-add_blocks-clause-cost g c =
     search_light c.args.after.now.before c.args.after.now.change c.args.target c.args.steps.now c.reached_nodes.new.steps c.requires.target c.reached_nodes.ensures.cost
 
+pub returns-in_err-roots-clause-cost : goal.returns-in_err-roots-clause-cost
+returns-in_err-roots-clause-cost g c =
+    search_light c.args.after.now.before c.args.after.now.change c.args.target c.args.steps.now c.reached_nodes.new.steps c.requires.target c.reached_nodes.ensures.cost
+
 pub returns-in_err-merge-clause-cost : goal.returns-in_err-merge-clause-cost
 returns-in_err-merge-clause-cost g c =
     search_light c.args.after.now.before c.args.after.now.change c.args.target c.args.steps.now c.reached_nodes.new.steps c.requires.target c.reached_nodes.ensures.cost

@@ -11,6 +11,6 @@ returns-clause-none c =
     let d = c.args.draft.now in
     let found = c.in_ok-fill_candidates.ensures in
     none_lone c.find_among.result (shown_blocks q d) (at (shown_labels q d)) (at q.blocks.labels) (shown_support q d) (support_at q.supports) c.args.roots.now c.args.a c.label.result
-    c.args.parents.now c.deref.result.now c.requires.parents c.requires.lone c.label.ensures c.requires.covers
+    c.deref.result.now c.requires.lone c.label.ensures c.requires.covers
     (subst (AreCandidates (at (shown_labels q d)) (at q.blocks.labels) (shown_support q d) (support_at q.supports) c.args.roots.now c.args.a c.label.result) (sym c.deref.ensures.value)
     (record { children = found.children; noted = found.noted; labels_are = found.labels; supports_are = found.supports })) c.find_among.ensures.none

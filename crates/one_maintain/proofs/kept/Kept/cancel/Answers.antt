@@ -3,7 +3,7 @@ use Rattle.one_maintain.proofs.kept.Kept.cancel.Goals as goal
 
 pub invariant_of-self : goal.invariant_of-self
 invariant_of-self c = record {
-  kept = c.clear.ensures.empty;
+  kept = c.empty.ensures;
   roots = c.self.invariant.roots;
-  shown = covers_cleared c.self.inside.base c.clear.new.self c.self.inside.roots c.clear.ensures.empty c.self.invariant.roots;
+  shown = covers_cleared c.self.inside.base c.empty.new.draft c.self.inside.roots c.empty.ensures c.self.invariant.roots;
 }

@@ -15,7 +15,7 @@ pub invariant_of-self-in-Err : goal.invariant_of-self-in-Err
 invariant_of-self-in-Err g c =
     let unstaged : c.self.inside.staged ≡ false = ap (λ (k : KeptQuotient). k.staged) c.self.view_is ∙ c.requires.unstaged in
     record {
-      kept = subst (IsKeptDraft c.fill.new.base c.clear.new.self) (sym unstaged) c.clear.ensures.empty;
+      kept = subst (IsKeptDraft c.fill.new.base c.empty.new.draft) (sym unstaged) c.empty.ensures;
       roots = c.fill.ensures.covers;
-      shown = covers_cleared c.fill.new.base c.clear.new.self c.fill.new.roots c.clear.ensures.empty c.fill.ensures.covers;
+      shown = covers_cleared c.fill.new.base c.empty.new.draft c.fill.new.roots c.empty.ensures c.fill.ensures.covers;
     }
