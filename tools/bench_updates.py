@@ -1,11 +1,12 @@
 #!/usr/bin/env python3
 """Has bin/pathindex change generated graphs, and prints what an update takes while only the A(k)-indexes are kept, and while only the
-1-index is; and then what the run of a seed takes, with its 2,000 changes and 12 queries over all indexes. The gate doesn't run this.
+1-index is. Then it prints what an update takes while a node with many parents loses them one by one, and what the run of a seed takes,
+with its 2,000 changes and 12 queries over all indexes. The gate doesn't run this.
 
-    bench_updates.py [PROGRAM]
+    bench_updates.py [PROGRAM [PARENTS]]
 
-PROGRAM is run in place of bin/pathindex. Updates are a node, two links from it and an unlink, in turn. Their times are the best of some
-turns, less those of the same run without them.
+PROGRAM is run in place of bin/pathindex. PARENTS says how many parents that node has, 20,000 where it isn't given. The other updates are
+a node, two links from it and an unlink, in turn. Times are the best of some turns, less those of the same run without the updates.
 """
 import os
 import pathlib
@@ -20,6 +21,10 @@ ROOT = pathlib.Path(__file__).resolve().parent.parent
 MAKE = ROOT / "tools" / "make_triples.py"
 CASES = [(20_000, 9), (200_000, 7), (1_600_000, 3)]
 UPDATES = 2_000
+PARENTS = 20_000
+HUB_TURNS = 3
+# the parents of the hub have so many labels
+HUB_LABELS = 8
 # the indexes that are kept, by the flags that the program is given and the first line of the script
 KEPT = {
     "A(0) to A(2)": (["--k", "2", "--without-one", "--without-fb"], ""),
@@ -50,27 +55,54 @@ def write(folder, name, text):
     return path
 
 
-def measure(program, folder, count, turns):
+def measure(program, folder, graph, lines, turns, what):
+    """Prints what each of these lines takes, which change the graph."""
+    text = "".join(line + "\n" for line in lines)
+    for name, (flags, first) in KEPT.items():
+        scripts = {"without": write(folder, "without", first), "with": write(folder, "with", first + text)}
+        taken = best_of({key: [program, script, "--graph", graph, *flags] for key, script in scripts.items()}, turns)
+        each = (taken["with"][0] - taken["without"][0]) / len(lines)
+        print(f"{what}, {name:<12} {each * 1e6:>9.1f} microseconds an update", flush=True)
+
+
+def measure_made(program, folder, count, turns):
     graph = os.path.join(folder, f"{count}.nt")
     with open(graph, "wb") as out:
         subprocess.run([sys.executable, MAKE, str(count)], stdout=out, check=True)
-    lines = "".join(line + "\n" for line in changes(node_count(program, write(folder, "sizes", "sizes\n"), graph)))
-    for name, (flags, first) in KEPT.items():
-        scripts = {"without": write(folder, "without", first), "with": write(folder, "with", first + lines)}
-        taken = best_of({key: [program, script, "--graph", graph, *flags] for key, script in scripts.items()}, turns)
-        each = (taken["with"][0] - taken["without"][0]) / UPDATES
-        print(f"{count:,} triples, {name:<12} {each * 1e6:>9.1f} microseconds an update", flush=True)
+    nodes = node_count(program, write(folder, "sizes", "sizes\n"), graph)
+    measure(program, folder, graph, list(changes(nodes)), turns, f"{count:,} triples")
+
+
+def hub_graph(parents):
+    """The lines of a graph file whose one object has the nodes of all triples as its parents."""
+    for i in range(parents):
+        yield f"<http://e/s{i}> <http://e/p{i % HUB_LABELS}> <http://e/hub> .\n"
+
+
+def hub_changes(parents):
+    """Lines that take these parents from the hub, in another order. The first triple is n1 and the hub n2, and then each triple
+    has its subject's number and one more."""
+    triples = [1] + [2 * i + 2 for i in range(1, parents)]
+    random.Random(1).shuffle(triples)
+    return [f"unlink n{triple} n2" for triple in triples]
+
+
+def measure_hub(program, folder, parents):
+    graph = write(folder, "hub.nt", "".join(hub_graph(parents)))
+    measure(program, folder, graph, hub_changes(parents), HUB_TURNS, f"a hub of {parents:,} parents")
 
 
 def main():
-    if len(sys.argv) > 2:
+    if len(sys.argv) > 3 or len(sys.argv) == 3 and not sys.argv[2].isdigit():
         sys.exit(__doc__)
-    program = pathlib.Path(sys.argv[1]).resolve() if len(sys.argv) == 2 else ROOT / "bin" / "pathindex"
+    program = pathlib.Path(sys.argv[1]).resolve() if len(sys.argv) > 1 else ROOT / "bin" / "pathindex"
+    parents = int(sys.argv[2]) if len(sys.argv) == 3 else PARENTS
     if not os.access(program, os.X_OK):
         sys.exit(f"bench_updates.py: {program} is missing; make run builds bin/pathindex")
     with tempfile.TemporaryDirectory() as folder:
         for count, turns in CASES:
-            measure(program, folder, count, turns)
+            measure_made(program, folder, count, turns)
+        measure_hub(program, folder, parents)
     seconds, peak = best_of({"made": [program, "--make", SEED]}, 3)["made"]
     print(f"--make {SEED}: {seconds:.2f} seconds, peak {peak:.0f} MB")
 

@@ -2,8 +2,9 @@
 """Compares the program with slow, plain definitions: check_by_definition.py PROGRAM [RUNS [changes]].
 
 Each run makes a small random script of changes, queries, lists and sizes. With the word changes it is of changes alone, and
-after each the 1-index and the A(k)-indexes are listed; in some of these runs a node gains many neighbours one by one, and loses
-them. What the program writes must be what the definitions below give, which work on pairs of nodes and know neither splitting
+after each, from the first node on, the 1-index and the A(k)-indexes up to A(3) at least are listed; in some of these runs, and in
+no others, a node gains many neighbours one by one, and loses them. At the end it is printed how many changes there were. What the
+program writes must be what the definitions below give, which work on pairs of nodes and know neither splitting
 of blocks nor automata nor sets that spread along an axis. Where walks come back to their beginning several partitions of the
 1-index are lawful, so of that which the program lists the demands are tested: it is stable, no two blocks can be merged, and
 since it was last listed nodes that no change reaches are together as before. The first script whose output is wrong is printed
@@ -20,6 +21,9 @@ LINKS = 9
 LINES = 60
 HUB_RUNS = 4  # of so many runs of changes one has a hub
 SPOKES = 20, 40
+# the bounds of k, in runs of changes and in the others
+CHANGES_K = 3, 5
+QUERIES_K = 0, 4
 RUNS = 300
 
 
@@ -406,26 +410,27 @@ class Run:
 
     def __init__(self, seed, changes_alone):
         self.pick = random.Random(seed)
-        self.k = self.pick.randrange(5 if changes_alone else 4)
+        self.changes_alone = changes_alone
+        self.k = self.pick.randrange(*(CHANGES_K if changes_alone else QUERIES_K))
         self.kept = {"a", "one", "fb"} - {kind for kind in ("one", "fb") if self.pick.randrange(8) == 0}
         self.words = ["--k", str(self.k)] + [f"--without-{kind}" for kind in ("one", "fb") if kind not in self.kept]
         self.graph = Graph()
         self.may_have_rings = self.pick.randrange(2) == 0
         self.moves = Moves()
+        self.has_hub = changes_alone and self.pick.randrange(HUB_RUNS) == 0
+        self.changes = 0
         self.script = []
         self.tests = []
         for change in [self.node] * NODES + [self.link] * LINKS:
             change()
-        if changes_alone and self.pick.randrange(HUB_RUNS) == 0:
+        if self.has_hub:
             self.hub()
             return
         changes = [self.node, self.link, self.link, self.link, self.unlink, self.unlink, self.drop]
         asks = [self.path, self.path, self.branch, self.branch, self.extents, self.sizes]
         for _ in range(LINES):
             self.pick.choice(changes if changes_alone else changes + asks)()
-            if changes_alone:
-                self.list_all()
-            elif self.pick.randrange(LINES) == 0:
+            if not changes_alone and self.pick.randrange(LINES) == 0:
                 kind = self.pick.choice(["a", "one", "fb"])
                 self.say(f"forget {kind}", writes("ok" if kind in self.kept else "refused no-index"))
                 self.kept.discard(kind)
@@ -439,7 +444,14 @@ class Run:
 
     def moved(self, target, edge=None):
         """Notes a change that the graph has undergone."""
+        self.changes += 1
         self.moves.add(self.graph, target, edge)
+
+    def say_change(self, line, reply):
+        """A line that asks for a change, which may be refused or change nothing, and in a run of changes the lists behind it."""
+        self.say(line, writes(reply))
+        if self.changes_alone:
+            self.list_all()
 
     def list_one(self):
         """The test of a list of the 1-index at this place."""
@@ -458,7 +470,7 @@ class Run:
     def add(self, label):
         self.graph.labels.append(label)
         self.moved(len(self.graph.labels) - 1)
-        self.say(f"node {label}", writes(f"added n{len(self.graph.labels) - 1}"))
+        self.say_change(f"node {label}", f"added n{len(self.graph.labels) - 1}")
         return len(self.graph.labels) - 1
 
     def link(self):
@@ -472,7 +484,7 @@ class Run:
         if are_live and edge not in self.graph.edges:
             self.graph.edges.add(edge)
             self.moved(edge[1], edge)
-        self.say("link n%d n%d" % edge, writes("ok" if are_live else "refused no-node"))
+        self.say_change("link n%d n%d" % edge, "ok" if are_live else "refused no-node")
 
     def unlink(self):
         self.unlink_edge(self.pick.choice(sorted(self.graph.edges) + [(self.any_node(), self.any_node())]))
@@ -485,7 +497,7 @@ class Run:
         if edge in self.graph.edges:
             self.graph.edges.remove(edge)
             self.moved(edge[1], edge)
-        self.say("unlink n%d n%d" % edge, writes(reply))
+        self.say_change("unlink n%d n%d" % edge, reply)
 
     def drop(self):
         node = self.any_node()
@@ -497,7 +509,7 @@ class Run:
             reply = "ok"
             self.graph.labels[node] = None
             self.moved(node)
-        self.say(f"drop n{node}", writes(reply))
+        self.say_change(f"drop n{node}", reply)
 
     def spokes(self):
         """Further nodes, of which about half have a label of their own."""
@@ -521,7 +533,6 @@ class Run:
                 self.unlink_edge(edge)
             else:
                 self.link_edge(edge)
-            self.list_all()
 
     def index(self):
         """The word of an index, and its level where it is an A(k)-index; the index may not be kept."""
@@ -612,6 +623,7 @@ def main():
     if not 2 <= len(sys.argv) <= 4 or sys.argv[3:] not in ([], ["changes"]):
         sys.exit(__doc__)
     runs = int(sys.argv[2]) if len(sys.argv) > 2 else RUNS
+    changes, of_hubs = 0, 0
     for seed in range(runs):
         run = Run(seed, len(sys.argv) == 4)
         with tempfile.NamedTemporaryFile("w", suffix=".script") as script:
@@ -622,7 +634,9 @@ def main():
         if fault:
             print("\n".join(run.script), f"\n{' '.join(run.words)}, written, with status {done.returncode}:\n{done.stdout}")
             sys.exit(f"run {seed}: {fault}")
-    print(f"ok: {runs} runs")
+        changes += run.changes
+        of_hubs += run.changes if run.has_hub else 0
+    print(f"ok: {runs:,} runs, {changes:,} changes, {of_hubs:,} of them in runs with a hub")
 
 
 if __name__ == "__main__":

@@ -1,21 +1,28 @@
 #!/usr/bin/env python3
-"""Compares the program with slow, plain definitions on graphs that are cut from the texts of a seed: check_made.py PROGRAM.
+"""Compares the program with slow, plain definitions on graphs that are cut from the texts of a seed: check_made.py [PROGRAM].
 
 Of the graph file of each seed the lines are taken whose subject has a small or a large number, and of the script the first steps,
-with the three queries through each index. Before and after the steps all indexes are listed. What the program writes must be what the
-definitions in check_by_definition.py give of the graph as it is then, and all answers to a query must be the same nodes. The first output
-that is wrong ends the tool with the status 1.
+with the three queries through each index. Before and after the steps all indexes are listed, with their sizes. What the program writes,
+and its exit status, must be what the definitions in check_by_definition.py give of the graph as it is then, and all answers to a query
+must be the same nodes. The first output that is wrong ends the tool with the status 1.
+
+Before that the facts in examples/made-1.out are compared with those of the whole texts of the seed 1. They are found in Python alone,
+by keys of nodes in place of pairs: the classes of each index are refined until they stay, and walks are followed from node to node. With
+no PROGRAM that is all.
 """
+import pathlib
 import re
 import subprocess
 import sys
 import tempfile
 
 from check_by_definition import (
-    Graph, Moves, Output, answers, both_ways, branch_answers, classes, level, lists, lists_one, loosened, longest, relaxed, writes,
+    Graph, Moves, Output, answers, both_ways, branch_answers, classes, level, lists, lists_one, loosened, longest, pairs_of, relaxed,
+    sizes_one, writes,
 )
 from made_texts import Draws, graph_file, script
 
+MADE = pathlib.Path(__file__).resolve().parent.parent / "examples" / "made-1.out"
 SEEDS = [1, 2, 18446744073709551615]
 # subjects below the one number or from the other on are kept, of 4,000
 SMALL, LARGE = 7, 3994
@@ -83,6 +90,17 @@ def listed(graph):
         yield f"extents a{i}", lists(graph, classes(graph, level(graph, i)))
     yield "extents one", graph.list_one()
     yield "extents fb", lists(graph, classes(graph, both_ways(graph)))
+    yield "sizes", sized(graph.copy())
+
+
+def sized(graph):
+    """The test of the sizes, right behind a list of the 1-index."""
+    def line(name, blocks):
+        return writes(f"{name} blocks {len(blocks)} edges {pairs_of(graph, blocks)}")
+    tests = [writes(f"nodes {len(graph.live())} edges {len(graph.edges)}")]
+    tests += [line(f"a{i}", classes(graph, level(graph, i))) for i in LEVELS]
+    tests += [sizes_one(graph), line("fb", classes(graph, both_ways(graph)))]
+    return lambda output: next(filter(None, (test(output) for test in tests)), None)
 
 
 def answered(found, candidates=None, how=""):
@@ -129,13 +147,125 @@ def check(program, seed):
             sys.exit(f"seed {seed}, at {line!r}: {fault}")
     if output.at != len(output.lines):
         sys.exit(f"seed {seed}: more is written")
+    wanted = 1 if any(line.startswith("refused") for line in output.lines) else 0
+    if done.returncode != wanted:
+        sys.exit(f"seed {seed}: wanted the status {wanted}, got {done.returncode}")
     return len(graph.labels)
 
 
+class Whole:
+    """The graph of the whole texts of a seed. Partitions are lists of numbers of blocks, by node."""
+
+    def __init__(self, seed):
+        draws = Draws(seed)
+        graph = Loaded(graph_file(draws))
+        self.labels, self.edges = graph.labels, graph.edges
+        for line in script(draws, len(graph.labels)):
+            self.change(*line.split(" ", 1))
+        self.parents, self.children = [[] for _ in self.labels], [[] for _ in self.labels]
+        for u, v in self.edges:
+            self.parents[v].append(u)
+            self.children[u].append(v)
+
+    def change(self, command, words=""):
+        if command == "node":
+            self.labels.append(words)
+        elif command in ("link", "unlink"):
+            change = self.edges.add if command == "link" else self.edges.discard
+            change(tuple(int(word[1:]) for word in words.split()))
+
+    def refined(self, blocks, sides):
+        """One step of refinement by the blocks of these neighbours."""
+        numbers = {}
+        keys = ((block, *(frozenset(blocks[n] for n in side[node]) for side in sides)) for node, block in enumerate(blocks))
+        return [numbers.setdefault(key, len(numbers)) for key in keys]
+
+    def partition(self, sides, steps):
+        """Nodes of one label, refined so many times or until no block is split."""
+        numbers = {}
+        blocks = [numbers.setdefault(label, len(numbers)) for label in self.labels]
+        while steps > 0:
+            blocks, before = self.refined(blocks, sides), blocks
+            steps = steps - 1 if max(blocks) > max(before) else 0
+        return blocks
+
+    def index(self, blocks):
+        """The graph of the blocks."""
+        index = Whole.__new__(Whole)
+        index.labels = [label for _, label in sorted(set(zip(blocks, self.labels)))]
+        index.edges = {(blocks[u], blocks[v]) for u, v in self.edges}
+        index.children = [[] for _ in index.labels]
+        for u, v in index.edges:
+            index.children[u].append(v)
+        return index
+
+    def labelled(self, label):
+        return {n for n, other in enumerate(self.labels) if other == label}
+
+    def over(self, nodes):
+        return {child for n in nodes for child in self.children[n]}
+
+    def below(self, nodes):
+        found, waiting = set(), list(nodes)
+        while waiting:
+            new = set(self.children[waiting.pop()]) - found
+            found |= new
+            waiting += new
+        return found
+
+    def leading(self, label, nodes):
+        """The nodes of this label with a child among these."""
+        return {n for n in self.labelled(label) if not nodes.isdisjoint(self.children[n])}
+
+    def found(self, relaxed):
+        """The nodes that each of the three queries finds. Where it is relaxed nothing is left out by a `not`."""
+        middle = self.over(self.labelled(P0)) & self.labelled("iri")
+        branching = self.leading("iri", self.labelled(P0))
+        return [
+            self.over(middle) & self.labelled(P1),
+            self.below(self.labelled("g0")) & self.labelled("literal"),
+            branching if relaxed else branching - self.leading("iri", self.labelled(P1)),
+        ]
+
+
+def made(seed):
+    """The lines that the run of the seed writes."""
+    graph = Whole(seed)
+    up, both = [graph.parents], [graph.parents, graph.children]
+    blocks = {f"a{i}": graph.partition(up, i) for i in LEVELS}
+    blocks |= {"one": graph.partition(up, len(graph.labels)), "fb": graph.partition(both, len(graph.labels))}
+    yield f"nodes {len(graph.labels)} edges {len(graph.edges)}"
+    offered = {}
+    for name, of in blocks.items():
+        index = graph.index(of)
+        yield f"{name} blocks {len(index.labels)} edges {len(index.edges)}"
+        sizes = [0] * len(index.labels)
+        for block in of:
+            sizes[block] += 1
+        offered[name] = [sum(sizes[block] for block in found) for found in index.found(True)]
+    answers = [len(found) for found in graph.found(False)]
+    exact = {"a2": [True, False, False], "one": [True, True, False], "fb": [True, True, True]}
+    for i, count in enumerate(answers):
+        yield f"answers {count}"
+        for name, rows in exact.items():
+            yield f"answers {count} candidates {count if rows[i] else offered[name][i]} {'exact' if rows[i] else 'checked'}"
+
+
+def compare_made():
+    wanted, stored = list(made(SEEDS[0])), MADE.read_text().splitlines()
+    for line, other in zip(wanted, stored):
+        if line != other:
+            sys.exit(f"{MADE.name}: wanted {line!r}, stored {other!r}")
+    if len(wanted) != len(stored):
+        sys.exit(f"{MADE.name}: wanted {len(wanted)} lines, stored {len(stored)}")
+    print(f"ok: {len(stored)} lines of {MADE.name}")
+
+
 def main():
-    if len(sys.argv) != 2:
+    if len(sys.argv) > 2:
         sys.exit(__doc__)
-    for seed in SEEDS:
+    compare_made()
+    for seed in SEEDS if len(sys.argv) == 2 else []:
         print(f"ok: seed {seed}, {check(sys.argv[1], seed)} nodes")
 
 
