@@ -85,12 +85,9 @@ fn ask<L: Ledger>(
     Ok(engine.path(alloc, Via::One, expr, &mut steps)?.nodes)
 }
 
-/// Where a path leads in the graph of the triples, once Bo knows Ana too.
+/// Where a path, the second text, leads in the graph of the triples, the first, once Bo knows Ana too.
 #[derive(Drop)]
-struct Question<'a> {
-    triples: &'a str,
-    path: &'a str,
-}
+struct Question<'a>(&'a str, &'a str);
 
 impl EngineTask for Question<'_> {
     ghost use Rattle.std.specs.Prelude.{IfSome};
@@ -98,20 +95,17 @@ impl EngineTask for Question<'_> {
 
     type Answer = Option<Bits>;
 
-    ghost gives = { λ q answer. IfSome answer (λ nodes. AreAnswers q.triples.now q.path.now nodes.members) };
+    ghost gives = { λ q answer. IfSome answer (λ nodes. AreAnswers q.0.now q.1.now nodes.members) };
 
     fn carry_out(self, alloc: Global, engine: &mut Engine) -> Option<Bits> {
-        let graph = load_triples(alloc, self.triples)?;
+        let graph = load_triples(alloc, self.0)?;
         link(alloc, engine, graph)?;
-        nodes_of(alloc, engine, self.path)
+        nodes_of(alloc, engine, self.1)
     }
 }
 
 fn main(rt: HostRuntime) -> io::Result<ExitCode> {
-    let question = Question {
-        triples: TRIPLES,
-        path: PATH,
-    };
+    let question = Question(TRIPLES, PATH);
     let Ok(Some(nodes)) = with_full_engine(rt.alloc(), question) else {
         eprintln!(rt; "library_use: there is no answer")?;
         return Ok(ExitCode::FAILURE);
