@@ -135,10 +135,12 @@ fn a_list_without_memory_leaves_all(rt: HostRuntime) {
     assert_eq!(rt; with_tired_engine(rt.alloc(), Lists {}), Ok(true));
 }
 
-/// A run of this script.
+/// A run of this script, what it writes, and the status.
 #[derive(Drop)]
 struct Run {
     script: &'static str,
+    output: &'static str,
+    status: u8,
 }
 
 /// A shelf with the script as the file `s`.
@@ -158,31 +160,40 @@ fn words(alloc: Global) -> Option<Vec<String>> {
 }
 
 impl EngineTask for Run {
-    // the status, and the count of bytes
-    type Answer = Option<(u8, usize)>;
+    // whether it ends so; none where there is no memory for its files
+    type Answer = Option<bool>;
 
     ghost gives = { λ _ _. ⊤ };
 
-    fn carry_out(self, alloc: Global, engine: &mut Engine) -> Option<(u8, usize)> {
+    fn carry_out(self, alloc: Global, engine: &mut Engine) -> Option<bool> {
         let words = words(alloc)?;
         let mut shelf = shelf_of(alloc, self.script)?;
         let mut sink = MemSink::new(alloc, 64, Vec::new(alloc), 64).ok()?;
         let status = run(alloc, &words, engine, &mut shelf, &mut sink);
-        Some((status, sink.written().len()))
+        Some(status == self.status && sink.written() == self.output.as_bytes())
     }
 }
 
-/// Scripts, and the status and the count of bytes that a run of each writes.
-const RUNS: &[(&str, u8, usize)] = &[
-    ("node a\n", 7, 0),
-    ("extents fb\n", 7, 0),
-    ("extents a0\n", 0, 9),
+/// Scripts, what a run of each writes, and the status.
+const RUNS: &[(&str, &str, u8)] = &[
+    ("node a\n", "", 7),
+    ("extents fb\n", "", 7),
+    ("extents a0\n", "blocks 0\n", 0),
+    ("forget fb\nnode a\n", "ok\nadded n0\n", 0),
 ];
 
 #[test]
 fn a_run_ends_where_a_box_finds_no_memory(rt: HostRuntime) {
-    for (script, status, count) in RUNS {
-        let ended = with_tired_engine(rt.alloc(), Run { script });
-        assert_eq!(rt; ended, Ok(Some((*status, *count))), "{script}");
+    for (script, output, status) in RUNS {
+        let task = Run {
+            script,
+            output,
+            status: *status,
+        };
+        assert_eq!(rt;
+            with_tired_engine(rt.alloc(), task),
+            Ok(Some(true)),
+            "{script}"
+        );
     }
 }
