@@ -39,7 +39,7 @@ fn adds(engine: &mut Engine, alloc: Global, label: &str) -> bool
 }
 
 /// Adds two nodes with these labels.
-fn adds_both(engine: &mut Engine, alloc: Global, first: &str, second: &str) -> bool
+pub(crate) fn adds_both(engine: &mut Engine, alloc: Global, first: &str, second: &str) -> bool
     requires open { IsSome (opened_of engine.old.state) }
     requires sound { IsSound (engine_seen (map (λ b. meaning (b.vtable, b.value)) engine.old.boxes.items) engine.old.state) }
     ensures open { IsSome (opened_of engine.new.state) }

@@ -3,7 +3,7 @@ ghost use Rattle.std.specs.Prelude.{◌≡◌, ◌<◌, IsSome, map};
 ghost use Rattle.pathindex_core.specs.Engines.{engine_seen, opened_of, IsSound};
 
 use crate::calls::{lists, opens};
-use crate::full_tests::makes;
+use crate::full_tests::{adds_both, makes};
 use full_engine::{EngineTask, with_full_engine};
 use graph_update::Change;
 use index_api::Via;
@@ -92,6 +92,70 @@ fn rings_come_apart(rt: HostRuntime) -> Result<(), Fail> {
     let graph = graph_of::<Brand>(rt.alloc(), b"abab", edges, Blank::new(1))?;
     assert_eq!(rt; with_full_engine(rt.alloc(), Rings { graph }), Ok(true));
     Ok(())
+}
+
+/// Adds a ring of two nodes that are there.
+fn adds_ring(engine: &mut Engine, alloc: Global, first: NodeId, second: NodeId) -> bool
+    requires open { IsSome (opened_of engine.old.state) }
+    requires sound { IsSound (engine_seen (map (λ b. meaning (b.vtable, b.value)) engine.old.boxes.items) engine.old.state) }
+    ensures open { IsSome (opened_of engine.new.state) }
+    ensures sound { IsSound (engine_seen (map (λ b. meaning (b.vtable, b.value)) engine.new.boxes.items) engine.new.state) }
+{
+    makes(engine, alloc, Change::Link(first, second))
+        && makes(engine, alloc, Change::Link(second, first))
+}
+
+/// Adds the nodes of two rings.
+fn adds_nodes(engine: &mut Engine, alloc: Global) -> bool
+    requires open { IsSome (opened_of engine.old.state) }
+    requires sound { IsSound (engine_seen (map (λ b. meaning (b.vtable, b.value)) engine.old.boxes.items) engine.old.state) }
+    ensures open { IsSome (opened_of engine.new.state) }
+    ensures sound { IsSound (engine_seen (map (λ b. meaning (b.vtable, b.value)) engine.new.boxes.items) engine.new.state) }
+{
+    adds_both(engine, alloc, "a", "b") && adds_both(engine, alloc, "a", "b")
+}
+
+/// Adds two rings, edge by edge.
+fn adds_rings(engine: &mut Engine, alloc: Global) -> bool
+    requires open { IsSome (opened_of engine.old.state) }
+    requires sound { IsSound (engine_seen (map (λ b. meaning (b.vtable, b.value)) engine.old.boxes.items) engine.old.state) }
+    ensures open { IsSome (opened_of engine.new.state) }
+    ensures sound { IsSound (engine_seen (map (λ b. meaning (b.vtable, b.value)) engine.new.boxes.items) engine.new.state) }
+{
+    adds_nodes(engine, alloc) && adds_ring(engine, alloc, 0, 1) && adds_ring(engine, alloc, 2, 3)
+}
+
+/// Whether they are together or apart: both lists are stable, and of neither two blocks can be merged.
+fn are_lawful(engine: &mut Engine, alloc: Global) -> bool
+    requires open { IsSome (opened_of engine.old.state) }
+    requires sound { IsSound (engine_seen (map (λ b. meaning (b.vtable, b.value)) engine.old.boxes.items) engine.old.state) }
+    ensures open { IsSome (opened_of engine.new.state) }
+    ensures sound { IsSound (engine_seen (map (λ b. meaning (b.vtable, b.value)) engine.new.boxes.items) engine.new.state) }
+{
+    lists(engine, alloc, Via::One, Some(TOGETHER)) || lists(engine, alloc, Via::One, Some(APART))
+}
+
+/// Whether two rings that come edge by edge, as in `examples/rings.script`, are in a lawful list.
+#[derive(Drop)]
+struct NewRings {}
+
+impl EngineTask for NewRings {
+    ghost use Rattle.std.specs.Prelude.{⊤};
+
+    type Answer = bool;
+
+    ghost gives = { λ _ _. ⊤ };
+
+    fn carry_out(self, alloc: Global, engine: &mut Engine) -> bool {
+        opens(engine, Graph::new(alloc).ok(), Limits::program())
+            && adds_rings(engine, alloc)
+            && are_lawful(engine, alloc)
+    }
+}
+
+#[test]
+fn new_rings_are_listed(rt: HostRuntime) {
+    assert_eq!(rt; with_full_engine(rt.alloc(), NewRings {}), Ok(true));
 }
 
 /// The list of two `a` over two `b`.
