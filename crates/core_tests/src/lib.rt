@@ -8,6 +8,8 @@ mod full_tests;
 #[cfg(test)]
 mod limit_tests;
 #[cfg(test)]
+mod made_tests;
+#[cfg(test)]
 mod ring_tests;
 #[cfg(test)]
 mod tired;
