@@ -1,13 +1,13 @@
 -- A family of A(k)-indexes that is kept: the family in force, and a draft over it of what a change to come will make of it.
 use Rattle.std.specs.Prelude.{◌+◌, ℕ, List, [], ◌∷◌, Option, Some, None, map, option_map, refl}
-use Rattle.std.specs.Coded.{Coded, code_by, coded×, coded_ℕ, coded_list, coded_option}
+use Rattle.std.specs.Coded.{Coded, code_by, coded×, coded_list, coded_option}
 use Rattle.px_spec.specs.Graphs.{Graph}
 use Rattle.bisim_spec.specs.declared.kind.Kind.TheVariants.{A}
 use Rattle.bisim_spec.specs.Views.{View}
 use Rattle.quotient.specs.Quotients.{view_of}
-use Rattle.quotient_draft.specs.Drafts.{Drafted, settled_view}
+use Rattle.quotient_draft.specs.Drafts.{settled_view}
 use Rattle.keyed_quotient.specs.Levels.{KeyedQuotient, keyed_code}
-use Rattle.keyed_quotient.specs.Changes.{KeyedChanges}
+use Rattle.keyed_quotient.specs.Changes.{KeyedChanges, changes_code}
 use Rattle.ak_family.specs.Drafting.{changes_at, HaveRoom, ShowsFamily}
 use Rattle.ak_drafting.specs.Drafting.{ShownFit}
 use Rattle.index_api.specs.Meanings.{Meaning}
@@ -17,25 +17,7 @@ pub record KeptFamily : Type 0 where
   -- what a change will make of the family, where one is prepared
   pub staged : Option (List KeyedChanges)
 
--- a draft of a level is stored as its lists, and what is kept as its parts
-abbrev DraftParts : Type 0
-DraftParts = List (ℕ × ℕ) × (List (ℕ × Option ℕ) × (List ℕ × (List (ℕ × ℕ) × List ((ℕ × ℕ) × ℕ))))
-
-abbrev drafted_code : Coded Drafted
-drafted_code =
-    code_by DraftParts
-    (coded× (coded_list (coded× coded_ℕ coded_ℕ))
-    (coded× (coded_list (coded× coded_ℕ (coded_option coded_ℕ)))
-    (coded× (coded_list coded_ℕ) (coded× (coded_list (coded× coded_ℕ coded_ℕ)) (coded_list (coded× (coded× coded_ℕ coded_ℕ) coded_ℕ))))))
-    (λ d. (d.added, (d.moves, (d.left, (d.taken, d.supports)))))
-    (λ p. record { added = p.0; moves = p.1.0; left = p.1.1.0; taken = p.1.1.1.0; supports = p.1.1.1.1 })
-    (λ _. refl)
-
-abbrev changes_code : Coded KeyedChanges
-changes_code =
-    code_by (Drafted × List (ℕ × List ℕ)) (coded× drafted_code (coded_list (coded× coded_ℕ (coded_list coded_ℕ)))) (λ d. (d.drafted, d.keys))
-    (λ p. record { drafted = p.0; keys = p.1 }) (λ _. refl)
-
+-- what is kept is stored as its parts
 abbrev pub kept_code : Coded KeptFamily
 kept_code =
     code_by (List KeyedQuotient × Option (List KeyedChanges)) (coded× (coded_list keyed_code) (coded_option (coded_list changes_code))) (λ k. (k.base, k.staged))

@@ -1,11 +1,12 @@
 -- What is drafted over a quotient whose blocks have keys.
-use Rattle.std.specs.Prelude.{ℕ, ◌≡◌, ◌<◌, false, List, [], Option, None, Some, IsSome, IsTrue, cond, nat_eq, slice_get}
+use Rattle.std.specs.Prelude.{ℕ, ◌≡◌, ◌<◌, false, List, [], Option, None, Some, IsSome, IsTrue, cond, nat_eq, slice_get, refl}
+use Rattle.std.specs.Coded.{Coded, code_by, coded×, coded_ℕ, coded_list}
 use Rattle.std.specs.List.{IsDistinct}
 use Rattle.std.specs.Option.{option_or}
 use Rattle.std.specs.Map.{lookup, keys_of}
 use Rattle.px_spec.specs.Members.{at}
 use Rattle.quotient.specs.Quotients.{view_of}
-use Rattle.quotient_draft.specs.Drafts.{Drafted, no_changes, has_member, shown_blocks, shown_labels, shown_support, settled_view}
+use Rattle.quotient_draft.specs.Drafts.{Drafted, drafted_code, no_changes, has_member, shown_blocks, shown_labels, shown_support, settled_view}
 use Rattle.quotient_draft.specs.Basis.{IsOver}
 use Rattle.quotient_draft.specs.Rooms.{HasRoomFor}
 use Rattle.keyed_quotient.specs.Levels.{KeyedQuotient, key_at, AreKeyed}
@@ -14,6 +15,12 @@ pub record KeyedChanges : Type 0 where
   pub drafted : Drafted
   -- the number and the key of each further block, in the order in which they were made
   pub keys : List (ℕ × List ℕ)
+
+-- they are stored as their parts
+abbrev pub changes_code : Coded KeyedChanges
+changes_code =
+    code_by (Drafted × List (ℕ × List ℕ)) (coded× drafted_code (coded_list (coded× coded_ℕ (coded_list coded_ℕ)))) (λ d. (d.drafted, d.keys))
+    (λ p. record { drafted = p.0; keys = p.1 }) (λ _. refl)
 
 abbrev pub no_keyed_changes : KeyedChanges
 no_keyed_changes = record { drafted = no_changes; keys = [] }
