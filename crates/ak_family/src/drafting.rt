@@ -1,5 +1,5 @@
 // What is drafted over a family.
-ghost use Rattle.std.specs.Prelude.{◌≡◌, ◌≢◌, ◌+◌, ◌<◌, ◌≤◌, ◌^◌, ◌&&◌, ◌++◌, ◌∷◌, ◌↔◌, [], ℕ, List, Option, Some, None, IsSome, IsTrue, is_some, IfOk, OnOk, OnErr, IfSome, nat_eq, if◌then◌else◌, count_by, length};
+ghost use Rattle.std.specs.Prelude.{◌≡◌, ◌≢◌, ◌+◌, ◌<◌, ◌≤◌, ◌^◌, ◌&&◌, ◌↔◌, ℕ, List, Option, Some, None, IsSome, IsTrue, is_some, IfOk, OnOk, OnErr, IfSome, nat_eq, if◌then◌else◌, count_by, length};
 ghost use Rattle.px_spec.specs.Members.{at, Lists};
 ghost use Rattle.px_spec.specs.Graphs.{is_live, has_edge};
 ghost use Rattle.px_spec.specs.Shapes.{shape_of};
@@ -179,8 +179,8 @@ impl AkFamily {
         Ok(())
     }
 
-    /// Drafts the move of a node to a block of a level as shown, with the supports of its edges there, and puts its children behind
-    /// the nodes in `next`. Its parents and its children are read once. After `Memory` the draft is only good to be cleared.
+    /// Drafts the move of a node to a block of a level as shown, with the supports of its edges there. Its parents and its children are
+    /// read once, and its children stay in `near`. After `Memory` the draft is only good to be cleared.
     pub fn move_node<L: Ledger>(
         &self,
         d: &mut AkDraft,
@@ -189,7 +189,6 @@ impl AkFamily {
         n: NodeId,
         b: u32,
         near: &mut Near,
-        next: &mut Vec<NodeId>,
         steps: &mut Steps<L>,
     ) -> Result<(), Memory>
         requires over { AreOver self.now d.old }
@@ -202,13 +201,13 @@ impl AkFamily {
         ensures labels { labels_shown self.now d.new i ≡ labels_shown self.now d.old i }
         ensures keys { (b : ℕ) → key_shown self.now d.new i b ≡ key_shown self.now d.old i b }
         ensures supports { OnOk result (AreEdgeCounts (graph_after after.now) (blocks_shown self.now d.new i) (support_shown self.now d.new i)) }
-        ensures next { OnOk result ((children : List ℕ) × Lists (has_edge (graph_after after.now) n) children × (next.new.items ≡ next.old.items ++ children)) }
+        ensures children { OnOk result (Lists (has_edge (graph_after after.now) n) near.new) }
         ensures others { AreSameBut i d.old d.new }
         ensures over { OnOk result (AreOver self.now d.new) }
         ensures cost { steps.new ≤ steps.old + parents_cost after.now n + children_cost after.now n }
     {
         let level = level_of(&self.levels, i);
-        d.levels[i as usize].move_node(level, after, n, b, near, next, steps)?;
+        d.levels[i as usize].move_node(level, after, n, b, near, steps)?;
         Ok(())
     }
 }

@@ -10,7 +10,6 @@ pub(crate) struct Buffers {
     pub(crate) key: Vec<u32>,
     pub(crate) parents: Vec<NodeId>,
     pub(crate) near: Near,
-    pub(crate) next: Vec<NodeId>,
 }
 
 impl Model for Buffers {
@@ -28,7 +27,6 @@ impl Buffers {
             key: Vec::new(alloc),
             parents: Vec::new(alloc),
             near: Near::new(alloc),
-            next: Vec::new(alloc),
         }
     }
 }

@@ -57,7 +57,7 @@ fn block_of_key(
     }
 }
 
-// Moves a node to a block of a level, where it isn't there yet. Its children are put into the list in place of what it held.
+// Moves a node to a block of a level, where it isn't there yet.
 fn move_to<L: Ledger>(
     family: &AkFamily,
     draft: &mut AkDraft,
@@ -66,7 +66,6 @@ fn move_to<L: Ledger>(
     n: NodeId,
     b: u32,
     near: &mut Near,
-    next: &mut Vec<NodeId>,
     steps: &mut Steps<L>,
 ) -> Result<(), Memory>
     requires over { AreOver family.now draft.old }
@@ -81,8 +80,7 @@ fn move_to<L: Ledger>(
     if family.shown(draft, i, n) == Some(b) {
         return Ok(());
     }
-    next.clear();
-    family.move_node(draft, i, after, n, b, near, next, steps)?;
+    family.move_node(draft, i, after, n, b, near, steps)?;
     Ok(())
 }
 
@@ -116,18 +114,8 @@ fn place_in<L: Ledger>(
         &mut buffers.parents,
         steps,
     )?;
-    let b = block_of_key(family, draft, i + 1, after.label(n), &buffers.key)?;
-    move_to(
-        family,
-        draft,
-        i + 1,
-        after,
-        n,
-        b,
-        &mut buffers.near,
-        &mut buffers.next,
-        steps,
-    )?;
+    let b = block_of_key(draft, i + 1, after.label(n), &buffers.key)?;
+    move_to(family, draft, i + 1, after, n, b, &mut buffers.near, steps)?;
     Ok(())
 }
 

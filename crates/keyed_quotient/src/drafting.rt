@@ -205,8 +205,8 @@ impl KeyedDraft {
         Ok(())
     }
 
-    /// Drafts the move of a node to a block as shown, with the supports of its edges, and puts its children behind the nodes in `next`.
-    /// Its parents and its children are read once. After `Memory` the draft is only good to be cleared.
+    /// Drafts the move of a node to a block as shown, with the supports of its edges. Its parents and its children are read once, and its
+    /// children stay in `near`. After `Memory` the draft is only good to be cleared.
     pub fn move_node<L: Ledger>(
         &mut self,
         base: &KeyedSummary,
@@ -214,7 +214,6 @@ impl KeyedDraft {
         n: NodeId,
         b: u32,
         near: &mut Near,
-        next: &mut Vec<NodeId>,
         steps: &mut Steps<L>,
     ) -> Result<(), Memory>
         requires over { IsKeyedOver base.now self.old }
@@ -226,20 +225,11 @@ impl KeyedDraft {
         ensures added { self.new.drafted.added ≡ self.old.drafted.added }
         ensures keys { self.new.keys ≡ self.old.keys }
         ensures supports { OnOk result (AreEdgeCounts (graph_after after.now) (blocks_as_shown base.now self.new) (support_as_shown base.now self.new)) }
-        ensures next { OnOk result ((children : List ℕ) × Lists (has_edge (graph_after after.now) n) children × (next.new.items ≡ next.old.items ++ children)) }
+        ensures children { OnOk result (Lists (has_edge (graph_after after.now) n) near.new) }
         ensures over { OnOk result (IsKeyedOver base.now self.new) }
         ensures cost { steps.new ≤ steps.old + parents_cost after.now n + children_cost after.now n }
     {
-        move_node(
-            &base.summary,
-            &mut self.draft,
-            after,
-            n,
-            b,
-            near,
-            next,
-            steps,
-        )?;
+        move_node(&base.summary, &mut self.draft, after, n, b, near, steps)?;
         Ok(())
     }
 

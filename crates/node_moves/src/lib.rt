@@ -8,7 +8,7 @@ mod shifting;
 
 pub use moving::move_node;
 pub use near::Near;
-pub use reading::{read_children, read_parents};
+pub use reading::read_parents;
 
 #[cfg(test)]
 mod tests;

@@ -1,5 +1,5 @@
 // Moving a node to another block.
-ghost use Rattle.std.specs.Prelude.{◌≡◌, ◌+◌, ◌≤◌, ◌++◌, ℕ, List, Some, IsSome, IsTrue, OnOk, nat_eq, if◌then◌else◌};
+ghost use Rattle.std.specs.Prelude.{◌≡◌, ◌+◌, ◌≤◌, ℕ, Some, IsSome, IsTrue, OnOk, nat_eq, if◌then◌else◌};
 ghost use Rattle.px_spec.specs.Members.{at, Lists};
 ghost use Rattle.px_spec.specs.Graphs.{is_live, has_edge};
 ghost use Rattle.px_spec.specs.Shapes.{shape_of};
@@ -19,9 +19,8 @@ use quotient::Summary;
 use quotient_draft::Draft;
 use std::sync::ledger::Ledger;
 
-/// Drafts the move of a node to a block as shown, with the supports of its edges, and puts its children behind
-/// the nodes in `next`. Its parents and its children are read once. After `Memory` the draft is only good to be
-/// cleared.
+/// Drafts the move of a node to a block as shown, with the supports of its edges. Its parents and its children
+/// are read once, and its children stay in `near`. After `Memory` the draft is only good to be cleared.
 pub fn move_node<L: Ledger>(
     base: &Summary,
     draft: &mut Draft,
@@ -29,7 +28,6 @@ pub fn move_node<L: Ledger>(
     n: NodeId,
     b: u32,
     near: &mut Near,
-    next: &mut Vec<NodeId>,
     steps: &mut Steps<L>,
 ) -> Result<(), Memory>
     requires over { IsOver base.now.blocks.block_of base.now.blocks.labels draft.old }
@@ -40,7 +38,7 @@ pub fn move_node<L: Ledger>(
     ensures moved { OnOk result ((m : ℕ) → at (shown_blocks base.now draft.new) m ≡ (if nat_eq m n then Some b else at (shown_blocks base.now draft.old) m)) }
     ensures added { draft.new.added ≡ draft.old.added }
     ensures supports { OnOk result (AreEdgeCounts (graph_after after.now) (shown_blocks base.now draft.new) (shown_support base.now draft.new)) }
-    ensures next { OnOk result ((children : List ℕ) × Lists (has_edge (graph_after after.now) n) children × (next.new.items ≡ next.old.items ++ children)) }
+    ensures children { OnOk result (Lists (has_edge (graph_after after.now) n) near.new) }
     ensures over { OnOk result (IsOver base.now.blocks.block_of base.now.blocks.labels draft.new) }
     ensures cost { steps.new ≤ steps.old + parents_cost after.now n + children_cost after.now n }
 {
@@ -51,7 +49,6 @@ pub fn move_node<L: Ledger>(
     read_children(&mut near.children, after, n, steps)?;
     shift_parents(base, draft, &near.parents, n, own, b)?;
     shift_children(base, draft, &near.children, n, own, b)?;
-    next.extend_from_slice(&near.children)?;
     draft.put(base, n, Some(b))?;
     Ok(())
 }

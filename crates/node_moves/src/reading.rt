@@ -27,7 +27,7 @@ pub fn read_parents<L: Ledger>(
 }
 
 /// Lists the children of a node in the graph after a change, in place of what the list held.
-pub fn read_children<L: Ledger>(
+pub(crate) fn read_children<L: Ledger>(
     list: &mut Vec<NodeId>,
     after: &After<'_>,
     n: NodeId,

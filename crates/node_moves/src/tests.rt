@@ -55,10 +55,9 @@ fn check_move<L: Ledger>(
     assert!(rt; draft.is_block(base, 1));
     assert!(rt; after.is_live(0));
     let mut near = Near::new(alloc);
-    let mut next = Vec::new(alloc);
-    move_node(base, &mut draft, &after, 0, 1, &mut near, &mut next, steps)?;
+    move_node(base, &mut draft, &after, 0, 1, &mut near, steps)?;
     assert!(rt; draft.block_of(base, 0) == Some(1));
-    assert!(rt; next.is_empty());
+    assert!(rt; near.children().is_empty());
     Ok(())
 }
 

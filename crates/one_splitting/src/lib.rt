@@ -4,6 +4,7 @@
 mod company;
 mod goals;
 mod keys;
+mod moving;
 mod owners;
 mod rounds;
 mod targets;

@@ -17,10 +17,11 @@ ghost use Rattle.one_splitting.specs.Going.{goal_at, AreBlocks, GoalsAreBlocks, 
 use crate::company::with_company;
 use crate::goals::find_goals;
 use crate::keys::{number_nodes, sort_once};
+use crate::moving::move_and_list;
 use crate::owners::count_owners;
 use graph_update::After;
 use key_table::KeyTable;
-use node_moves::{Near, move_node};
+use node_moves::Near;
 use px_base::{Memory, NodeId, Steps};
 use quotient::Summary;
 use quotient_draft::Draft;
@@ -51,7 +52,7 @@ fn move_one<L: Ledger>(
     ensures cost { steps.new ≤ steps.old + move_cost after.now n }
 {
     match goal {
-        Some(b) => move_node(base, draft, after, n, b, near, next, steps),
+        Some(b) => move_and_list(base, draft, after, n, b, near, next, steps),
         None => Ok(()),
     }
 }

@@ -21,9 +21,10 @@ ghost use Rattle.one_splitting.specs.Parting.{IsParting, IsFirst};
 use crate::company::push_if;
 use crate::goals::draft_block;
 use crate::keys::{own_block, sort_once};
+use crate::moving::move_and_list;
 use crate::rounds::{is_done, round};
 use graph_update::After;
-use node_moves::{Near, move_node};
+use node_moves::Near;
 use px_base::{Memory, NodeId, Steps};
 use quotient::Summary;
 use quotient_draft::Draft;
@@ -99,7 +100,7 @@ fn part_one<L: Ledger>(
     }
     let b = draft_block(base, draft, after.label(target))?;
     made.push(b)?;
-    move_node(base, draft, after, target, b, near, next, steps)?;
+    move_and_list(base, draft, after, target, b, near, next, steps)?;
     Ok(())
 }
 
