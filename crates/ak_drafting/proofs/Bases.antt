@@ -81,7 +81,7 @@ base_up g f graph fits family i h = record {
 pub bases : (g : Graph) (f : List KeyedQuotient) → IsGraph g → FamilyFits g f → IsKeyedFamily f → AreBases g f
 bases g f graph fits family = record {
   levels = λ i h. base_level g i (view_of (level_at f i).quotient) graph (fits i h);
-  lowest = record { is = family.lowest };
+  lowest = family.lowest;
   up = base_up g f graph fits family;
   keyed = base_keyed g f fits family;
 }

@@ -148,7 +148,7 @@ level_unsupported g block labels support level = record {
 pub shows_family : (target : ℕ → Bool) (g g2 : Graph) (f : List KeyedQuotient) (d : List KeyedChanges) → HaveMoved target g g2 f d → ShowsFamily f d
 shows_family target g g2 f d w = record {
   over = w.moving.over;
-  lowest = w.moving.lowest.is;
+  lowest = w.moving.lowest;
   above = λ i h. level_keyed g2 (blocks_shown f d i) (blocks_shown f d (i + 1)) (labels_shown f d (i + 1)) (key_shown f d (i + 1)) (support_shown f d (i + 1)) w.graph
       (w.moving.levels i (omega (arith, h))).partition (w.moving.levels (i + 1) h) (λ n. keyed_at target g g2 f d w i n h);
   empty = λ i h. level_unsupported g2 (blocks_shown f d i) (labels_shown f d i) (support_shown f d i) (w.moving.levels i h);

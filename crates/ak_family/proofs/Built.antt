@@ -148,9 +148,11 @@ built_family g i levels block labels w =
     record {
       keyed = λ j h. w.keyed j (within j h);
       inhabited = λ j h b live. (let n = (w.fits j (within j h)).inhabited b live in member_there (blocks_at levels j) b n.0 n.1);
-      lowest = λ b l e.
-          let n = (w.fits 0 (omega arith)).inhabited b (ap is_some e) in
-          labels_alone g (blocks_at levels 0) (key_at (level_at levels 0).keys) w.label_keys n.0 b l n.1 (sym (w.lowest n.0 b n.1) ∙ e);
+      lowest = record {
+        is = λ b l e.
+            let n = (w.fits 0 (omega arith)).inhabited b (ap is_some e) in
+            labels_alone g (blocks_at levels 0) (key_at (level_at levels 0).keys) w.label_keys n.0 b l n.1 (sym (w.lowest n.0 b n.1) ∙ e);
+      };
       above = λ j h.
           supported_keys g (blocks_at levels j) (blocks_at levels (j + 1)) (key_at (level_at levels (j + 1)).keys) (level_at levels (j + 1)).quotient.supports
           (w.parent_keys j (omega (arith, h, count))) (w.fits (j + 1) (omega (arith, h, count))).supports;

@@ -8,7 +8,8 @@ use Rattle.keyed_quotient.specs.Levels.{KeyedQuotient, key_at, AreKeyed}
 use Rattle.keyed_quotient.specs.Changes.{KeyedChanges, blocks_as_shown, labels_as_shown, support_as_shown, shown_key, IsKeyedOver, IsSettled, AreInhabited, AreUnsupported}
 use Rattle.keyed_quotient.proofs.Numbered.{test_is}
 use Rattle.keyed_quotient.proofs.SettledKeys.{left_at}
-use Rattle.ak_family.specs.Families.{level_at, blocks_at, first_number, AreKeyedByLabels, AreKeyedBySupports, IsKeyedFamily}
+use Rattle.level_spec.specs.Keyed.{first_number, AreLabelled}
+use Rattle.ak_family.specs.Families.{level_at, blocks_at, AreKeyedBySupports, IsKeyedFamily}
 use Rattle.ak_family.specs.Drafting.{changes_at, blocks_shown, labels_shown, support_shown, key_shown, AreSeenAs, AreSettled, ShowsFamily}
 use Rattle.ak_family.proofs.Reserved.{seen_at, key_seen, over_all_seen}
 
@@ -74,11 +75,13 @@ level_inhabited q d new w b h =
     let some : has_member (blocks_as_shown q d) b ≡ true = any_left {X = ℕ} (has_member (blocks_as_shown q d) b) (at (labels_as_shown q d) b) (sym (ap is_some (left_label q d new b w)) ∙ h) in
     ap (λ (bs : List (Option ℕ)). has_member bs b) (left_blocks q d new w) ∙ some
 
-level_lowest : (q : KeyedQuotient) (d : KeyedChanges) (new : KeyedQuotient) → IsSettled q d new → AreKeyedByLabels (labels_as_shown q d) (shown_key q d)
-    → AreKeyedByLabels new.quotient.blocks.labels (key_at new.keys)
-level_lowest q d new w by b l e =
-    let k = some_left {X = ℕ} (has_member (blocks_as_shown q d) b) (at (labels_as_shown q d) b) l (sym (left_label q d new b w) ∙ e) in
-    key_left q d new b w k.0 ∙ by b l k.1
+level_lowest : (q : KeyedQuotient) (d : KeyedChanges) (new : KeyedQuotient) → IsSettled q d new → AreLabelled (labels_as_shown q d) (shown_key q d)
+    → AreLabelled new.quotient.blocks.labels (key_at new.keys)
+level_lowest q d new w by = record {
+  is = λ b l e.
+      let k = some_left {X = ℕ} (has_member (blocks_as_shown q d) b) (at (labels_as_shown q d) b) l (sym (left_label q d new b w) ∙ e) in
+      key_left q d new b w k.0 ∙ by.is b l k.1;
+}
 
 -- a block with support has a member
 source_member : (block : List (Option ℕ)) (support : ℕ → ℕ → ℕ) (a b : ℕ) → AreUnsupported block support → 0 < support a b → has_member block a ≡ true
@@ -128,7 +131,7 @@ family_seen f f2 s w =
             apart = λ b c x e g. k.apart b c x (sym (keys i b) ∙ e) (sym (keys i c) ∙ g);
           });
       inhabited = λ i h b live. ap (λ (bs : List (Option ℕ)). has_member bs b) (blocks i) ∙ w.inhabited i (within i h) b (sym (ap is_some (labels i b)) ∙ live);
-      lowest = λ b l e. keys 0 b ∙ w.lowest b l (sym (labels 0 b) ∙ e);
+      lowest = record { is = λ b l e. keys 0 b ∙ w.lowest.is b l (sym (labels 0 b) ∙ e) };
       above = λ i h.
           supports_as (blocks_at f i) (blocks_at f2 i) (blocks_at f (i + 1)) (blocks_at f2 (i + 1)) (key_at (level_at f (i + 1)).keys) (key_at (level_at f2 (i + 1)).keys)
           (support_at (level_at f (i + 1)).quotient.supports) (support_at (level_at f2 (i + 1)).quotient.supports) (blocks i) (blocks (i + 1)) (λ n b e. keys (i + 1) b) (λ a b g. keys (i + 1) a)
@@ -145,7 +148,7 @@ shows_seen f f2 d s w =
     let labels : (b : ℕ) → at (labels_shown f2 d 0) b ≡ at (labels_shown f d 0) b = λ b. ap (λ (v : View). at (with_added v.labels (changes_at d 0).drafted.added) b) (s.views 0) in
     record {
       over = over_all_seen f f2 d s w.over;
-      lowest = λ b l e. keys 0 b ∙ w.lowest b l (sym (labels b) ∙ e);
+      lowest = record { is = λ b l e. keys 0 b ∙ w.lowest.is b l (sym (labels b) ∙ e) };
       above = λ i h.
           supports_as (blocks_shown f d i) (blocks_shown f2 d i) (blocks_shown f d (i + 1)) (blocks_shown f2 d (i + 1)) (key_shown f d (i + 1)) (key_shown f2 d (i + 1)) (support_shown f d (i + 1))
           (support_shown f2 d (i + 1)) (blocks i) (blocks (i + 1)) (λ n b e. keys (i + 1) b) (λ a b g. keys (i + 1) a) (supports (i + 1)) (w.above i (omega (arith, h, count)));

@@ -36,7 +36,7 @@ label_keys g f graph family some partition fits = record {
         b.0,
         l ∷ [],
         b.1,
-        family.lowest b.0 l (m.2 ∙ ap Some same),
+        family.lowest.is b.0 l (m.2 ∙ ap Some same),
         record {
           number = l;
           around = [];

@@ -10,7 +10,8 @@ use Rattle.bisim_spec.proofs.Supported.{support_joined, joined_support}
 use Rattle.bisim_spec.proofs.Bisimilar.{some_of, is_some_at, bis_sym, bis_node}
 use Rattle.bisim_levels.specs.Keys.{IsKey}
 use Rattle.keyed_quotient.specs.Levels.{KeyedQuotient, key_at}
-use Rattle.ak_family.specs.Families.{first_number, IsKeyedBySupports, AreKeyedBySupports, AreParentKeys, IsKeyedFamily, level_at, blocks_at}
+use Rattle.level_spec.specs.Keyed.{first_number}
+use Rattle.ak_family.specs.Families.{IsKeyedBySupports, AreKeyedBySupports, AreParentKeys, IsKeyedFamily, level_at, blocks_at}
 use Rattle.ak_family.proofs.Supported.{same_some}
 
 no_some : (o : Option ℕ) → is_some o ≡ false → o ≡ None

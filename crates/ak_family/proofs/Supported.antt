@@ -11,7 +11,8 @@ use Rattle.quotient_draft.proofs.Puts.{same_number}
 use Rattle.bisim_levels.specs.Sides.{no_neighbours}
 use Rattle.bisim_levels.specs.Keys.{IsKey}
 use Rattle.bisim_levels.specs.Refining.{AreNumbered}
-use Rattle.ak_family.specs.Families.{first_number, AreKeyedBySupports}
+use Rattle.level_spec.specs.Keyed.{first_number}
+use Rattle.ak_family.specs.Families.{AreKeyedBySupports}
 use Rattle.ak_family.proofs.Labelled.{member_key}
 
 pub same_some : {X : Type 0} (x y : X) → Some x ≡ Some y → x ≡ y

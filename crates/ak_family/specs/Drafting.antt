@@ -3,7 +3,8 @@ use Rattle.std.specs.Prelude.{ℕ, ◌≡◌, ◌≢◌, ◌+◌, ◌<◌, List,
 use Rattle.quotient.specs.Quotients.{view_of}
 use Rattle.keyed_quotient.specs.Levels.{KeyedQuotient}
 use Rattle.keyed_quotient.specs.Changes.{KeyedChanges, no_keyed_changes, blocks_as_shown, labels_as_shown, support_as_shown, shown_key, IsKeyedOver, HasKeyRoom, IsSettled, AreUnsupported}
-use Rattle.ak_family.specs.Families.{level_at, AreKeyedByLabels, AreKeyedBySupports}
+use Rattle.level_spec.specs.Keyed.{AreLabelled}
+use Rattle.ak_family.specs.Families.{level_at, AreKeyedBySupports}
 
 -- what is drafted at a level, and nothing past the last one
 abbrev pub changes_at : List KeyedChanges → ℕ → KeyedChanges
@@ -46,7 +47,7 @@ HaveRoom f d = (i : ℕ) → i < length f → HasKeyRoom (level_at f i) (changes
 -- without members has support.
 pub record ShowsFamily (f : List KeyedQuotient) (d : List KeyedChanges) : Type 0 where
   pub over : AreOver f d
-  pub lowest : AreKeyedByLabels (labels_shown f d 0) (key_shown f d 0)
+  pub lowest : AreLabelled (labels_shown f d 0) (key_shown f d 0)
   pub above : (i : ℕ) → i + 1 < length f → AreKeyedBySupports (blocks_shown f d i) (blocks_shown f d (i + 1)) (key_shown f d (i + 1)) (support_shown f d (i + 1))
   pub empty : (i : ℕ) → i < length f → AreUnsupported (blocks_shown f d i) (support_shown f d i)
 

@@ -1,8 +1,7 @@
 -- The family of A(0)- to A(k)-indexes of a graph (R. Kaushik, P. Shenoy, P. Bohannon and E. Gudes, "Exploiting Local
 -- Similarity for Indexing Paths in Graph-Structured Data", ICDE 2002). The blocks of the A(i)-index are the classes of nodes
 -- that are bisimilar to level i.
-use Rattle.std.specs.Prelude.{ℕ, ◌≡◌, ◌+◌, ◌<◌, ◌≤◌, List, [], ◌∷◌, length, Option, Some, IsTrue, is_some, map, slice_get, slice_index_or}
-use Rattle.std.specs.Prelude.{option_and_then}
+use Rattle.std.specs.Prelude.{ℕ, ◌≡◌, ◌+◌, ◌<◌, ◌≤◌, List, [], ◌∷◌, length, Option, Some, IsTrue, is_some, map, slice_index_or}
 use Rattle.std.specs.List.Sorted.{IsStrictlyIncreasing}
 use Rattle.px_spec.specs.Graphs.{Graph, has_edge}
 use Rattle.px_spec.specs.Members.{at, has}
@@ -13,6 +12,7 @@ use Rattle.bisim_spec.specs.Views.{support_at}
 use Rattle.quotient.specs.Quotients.{Quotient}
 use Rattle.keyed_quotient.specs.Levels.{KeyedQuotient, no_level, key_at, AreKeyed}
 use Rattle.keyed_quotient.specs.Changes.{AreInhabited}
+use Rattle.level_spec.specs.Keyed.{first_number, AreLabelled}
 
 -- a level of the family, and one without blocks past its end
 abbrev pub level_at : List KeyedQuotient → ℕ → KeyedQuotient
@@ -35,16 +35,8 @@ abbrev pub AreParentKeys : Graph → List KeyedQuotient → ℕ → Type 0
 AreParentKeys g levels i =
     AreNumbered (at (blocks_at levels i)) (blocks_at levels i) (has_edge g) (blocks_at levels (i + 1)) (key_at (level_at levels (i + 1)).keys)
 
--- The same without a graph, which can be said of a draft too. At the lowest level the key of each block is its label.
-abbrev pub AreKeyedByLabels : List (Option ℕ) → (ℕ → Option (List ℕ)) → Type 0
-AreKeyedByLabels labels key = (b l : ℕ) → at labels b ≡ Some l → key b ≡ Some (l ∷ [])
-
--- the first number of a key: above the lowest level it is the block of the members one level below
-abbrev pub first_number : Option (List ℕ) → Option ℕ
-first_number key = option_and_then (λ numbers. slice_get numbers 0) key
-
--- The key of a block begins with this number. The others are the first numbers of the keys of the blocks that have support to
--- it, rising, each once.
+-- The same without a graph, which can be said of a draft too. The key of a block begins with this number. The others are the first
+-- numbers of the keys of the blocks that have support to it, rising, each once.
 pub record IsKeyedBySupports (own : Option ℕ) (key : ℕ → Option (List ℕ)) (support : ℕ → ℕ → ℕ) (b : ℕ) : Type 0 where
   pub number : ℕ
   pub around : List ℕ
@@ -65,7 +57,7 @@ pub record AreKeyedBySupports (below block : List (Option ℕ)) (key : ℕ → O
 pub record IsKeyedFamily (levels : List KeyedQuotient) : Type 0 where
   pub keyed : (i : ℕ) → i < length levels → AreKeyed (level_at levels i).quotient.blocks.labels (key_at (level_at levels i).keys)
   pub inhabited : (i : ℕ) → i < length levels → AreInhabited (level_at levels i).quotient.blocks.labels (blocks_at levels i)
-  pub lowest : AreKeyedByLabels (level_at levels 0).quotient.blocks.labels (key_at (level_at levels 0).keys)
+  pub lowest : AreLabelled (level_at levels 0).quotient.blocks.labels (key_at (level_at levels 0).keys)
   pub above : (i : ℕ) → i + 1 < length levels
       → AreKeyedBySupports (blocks_at levels i) (blocks_at levels (i + 1)) (key_at (level_at levels (i + 1)).keys) (support_at (level_at levels (i + 1)).quotient.supports)
 

@@ -1,8 +1,12 @@
 use Rattle.std.proofs.Common.{arith}
 use Rattle.ak_drafting.specs.Stages.{IsLinked}
-use Rattle.ak_drafting.proofs.Below.{done_all}
+use Rattle.ak_drafting.proofs.Below.{done_next, done_all}
 use Rattle.ak_drafting.proofs.LinkedLevels.{support_few, link_given, link_moving}
 use Rattle.ak_drafting.proofs.edges.draft_link.Goals as goal
+
+pub links-preserved : goal.links-preserved
+links-preserved c =
+    done_next (IsLinked c.args.u c.args.v) c.args.family.now c.links.draft c.link_level.new.draft c.links.i c.links.invariant c.link_level.ensures.others c.link_level.ensures.over c.in_ok-link_level.ensures.linked
 
 pub link_level-requires-clause-few : goal.link_level-requires-clause-few
 link_level-requires-clause-few c =

@@ -1,8 +1,12 @@
 use Rattle.std.proofs.Common.{arith}
 use Rattle.ak_drafting.specs.Stages.{IsUnlinked}
-use Rattle.ak_drafting.proofs.Below.{done_all}
+use Rattle.ak_drafting.proofs.Below.{done_next, done_all}
 use Rattle.ak_drafting.proofs.LinkedLevels.{support_some, unlink_given, unlink_moving}
 use Rattle.ak_drafting.proofs.edges.draft_unlink.Goals as goal
+
+pub unlinks-preserved : goal.unlinks-preserved
+unlinks-preserved c =
+    done_next (IsUnlinked c.args.u c.args.v) c.args.family.now c.unlinks.draft c.unlink_level.new.draft c.unlinks.i c.unlinks.invariant c.unlink_level.ensures.others c.unlink_level.ensures.over c.in_ok-unlink_level.ensures.unlinked
 
 pub unlink_level-requires-clause-some : goal.unlink_level-requires-clause-some
 unlink_level-requires-clause-some c =

@@ -1,8 +1,12 @@
 use Rattle.std.proofs.Common.{arith}
 use Rattle.ak_drafting.specs.Stages.{IsGone}
-use Rattle.ak_drafting.proofs.Below.{done_all}
+use Rattle.ak_drafting.proofs.Below.{done_next, done_all}
 use Rattle.ak_drafting.proofs.GoneLevels.{drop_moved}
 use Rattle.ak_drafting.proofs.nodes.draft_drop.Goals as goal
+
+pub leaves-preserved : goal.leaves-preserved
+leaves-preserved c =
+    done_next (IsGone c.args.u) c.args.family.now c.leaves.draft c.leave_level.new.draft c.leaves.i c.leaves.invariant c.leave_level.ensures.others c.leave_level.ensures.over c.in_ok-leave_level.ensures.gone
 
 pub returns : goal.returns
 returns c =
