@@ -98,7 +98,7 @@ joined_level g t n label own q d is base w = record {
     is = λ m x e. elim (eqb_tells m n) [
       | inl s ↦ (
           let same : w.block ≡ x = same_some w.block x (sym here ∙ ap (at (blocks_as_shown q d)) (sym s.1) ∙ e) in
-          (label, ap (at (labels_as_shown q d)) (sym same) ∙ w.has_block.label_is, ap (label_number (with_node g t)) s.1 ∙ is.number))
+          (label, ap (at (labels_as_shown q d)) (sym same) ∙ w.label_is, ap (label_number (with_node g t)) s.1 ∙ is.number))
       | inr o ↦ (
           let r = base.named.is m x (sym (there m o.1) ∙ e) in
           (r.0, w.has_block.labels_stay x r.0 r.1, old_number g t n label is m r.0 o.1 r.2))
@@ -124,7 +124,7 @@ joined_lowest n label q d w base = record {
   is = λ b l e. elim (eqb_tells b w.block) [
     | inl s ↦ (
         let number : label ≡ w.number = same_some label w.number w.own_is in
-        let same : label ≡ l = same_some label l (sym w.has_block.label_is ∙ ap (at (labels_as_shown q d)) (sym s.1) ∙ e) in
+        let same : label ≡ l = same_some label l (sym w.label_is ∙ ap (at (labels_as_shown q d)) (sym s.1) ∙ e) in
         ap (shown_key q d) s.1 ∙ w.has_block.key_is ∙ ap (λ x. Some (x ∷ [])) (sym number ∙ same))
     | inr o ↦ w.has_block.other_keys b o.1 ∙ base.is b l (sym (w.has_block.other_labels b o.1) ∙ e)
   ];
@@ -138,7 +138,7 @@ joined_up n label own p q c d v w base = record {
     | inl s ↦ (
         let own_is : w.number ≡ number = same_some w.number number (sym (ap first_number (ap (shown_key q d) s.1 ∙ w.has_block.key_is)) ∙ first) in
         let block : v.block ≡ w.number = same_some v.block w.number (sym (joined_there n label own p c v) ∙ w.own_is) in
-        (label, ap (at (labels_as_shown p c)) (sym (block ∙ own_is)) ∙ v.has_block.label_is, ap (at (labels_as_shown q d)) s.1 ∙ w.has_block.label_is))
+        (label, ap (at (labels_as_shown p c)) (sym (block ∙ own_is)) ∙ v.label_is, ap (at (labels_as_shown q d)) s.1 ∙ w.label_is))
     | inr o ↦ (
         let r = base.is b number (sym (ap first_number (w.has_block.other_keys b o.1)) ∙ first) in
         (r.0, v.has_block.labels_stay number r.0 r.1, w.has_block.labels_stay b r.0 r.2))
@@ -161,7 +161,7 @@ joined_moving g t n label f d is base some over w = record {
   lowest = joined_lowest n label (level_at f 0) (changes_at d 0) (w.each 0 some) base.lowest;
   up = λ i h.
       joined_up n label (own_number f d label n i) (level_at f i) (level_at f (i + 1)) (changes_at d i) (changes_at d (i + 1)) (w.each i (omega (arith, h))) (above n label f d w i h) (base.up i h);
-  stay = λ i h. (w.each i h).has_block.stay;
+  stay = λ i h. (w.each i h).has_block.keys_stay;
   far = λ i h. far_put n (Some (w.each i h).block) (blocks_at f i) (blocks_shown f d i) (shape_of (with_node g t)) i
       (joined_put n label (own_number f d label n i) (level_at f i) (changes_at d i) (w.each i h));
 }
@@ -281,4 +281,4 @@ joined_labels g n label f d (suc i) number base family h w b e =
     let up = subst (λ j. LabelsGoUp (level_at f i).quotient.blocks.labels (level_at f j).quotient.blocks.labels (key_at (level_at f j).keys)) (next_is i) (base.up i (omega (arith, h))) in
     let r = up.is b number (ap first_number e) in
     let block : v.block ≡ number = same_some v.block number (sym (joined_there n label (own_number f d label n i) (level_at f i) (changes_at d i) v) ∙ w.own_is) in
-    r.2 ∙ sym (v.has_block.labels_stay number r.0 r.1) ∙ ap (at (labels_shown f d i)) (sym block) ∙ v.has_block.label_is
+    r.2 ∙ sym (v.has_block.labels_stay number r.0 r.1) ∙ ap (at (labels_shown f d i)) (sym block) ∙ v.label_is

@@ -3,7 +3,7 @@ pub mod Showing
 pub mod Unchanged
 pub mod LinkedLevels
 pub mod JoinedLevels
-pub mod KeyedBlocks
+pub mod LoneBlocks
 pub mod GoneLevels
 pub mod Below
 pub mod Aimed

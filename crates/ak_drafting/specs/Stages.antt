@@ -11,9 +11,8 @@ use Rattle.graph_update.specs.Pending.{Pending, graph_after}
 use Rattle.quotient.specs.Joined.{one_if}
 use Rattle.keyed_quotient.specs.Levels.{KeyedQuotient, key_at}
 use Rattle.keyed_quotient.specs.Changes.{KeyedChanges, blocks_as_shown, labels_as_shown, support_as_shown, shown_key}
-use Rattle.level_spec.specs.Keyed.{KeysStay}
 use Rattle.ak_family.specs.Families.{IsKeyedFamily}
-use Rattle.ak_family.specs.Drafting.{blocks_shown}
+use Rattle.ak_family.specs.Drafting.{blocks_shown, HasBlock}
 use Rattle.ak_moving.specs.Moving.{IsMoving, AreKeyedNear}
 use Rattle.ak_drafting.specs.Drafting.{FamilyFits}
 
@@ -63,22 +62,14 @@ pub record IsGone (u : ℕ) (q : KeyedQuotient) (d : KeyedChanges) : Type 0 wher
   pub blocks : (m : ℕ) → at (blocks_as_shown q d) m ≡ (if nat_eq m u then None else at q.quotient.blocks.block_of m)
   pub supports : (x y : ℕ) → support_as_shown q d x y ≡ support_at q.quotient.supports x y
 
--- The block has this label, and the number alone as its key. The others are as they were, and it is so too if it was a block.
-pub record HasBlock (label number block : ℕ) (labels labels2 : List (Option ℕ)) (key key2 : ℕ → Option (List ℕ)) : Type 0 where
-  pub label_is : at labels2 block ≡ Some label
-  pub key_is : key2 block ≡ Some (number ∷ [])
-  pub other_labels : (b : ℕ) → b ≢ block → at labels2 b ≡ at labels b
-  pub other_keys : (b : ℕ) → b ≢ block → key2 b ≡ key b
-  pub labels_stay : (b l : ℕ) → at labels b ≡ Some l → at labels2 b ≡ Some l
-  pub stay : KeysStay key key2
-
 -- The node has come into a block with this label, whose key is its own number alone.
 pub record IsJoined (n label : ℕ) (own : Option ℕ) (q : KeyedQuotient) (d : KeyedChanges) : Type 0 where
   pub number : ℕ
   pub block : ℕ
   pub own_is : own ≡ Some number
   pub blocks : (m : ℕ) → at (blocks_as_shown q d) m ≡ (if nat_eq m n then Some block else at q.quotient.blocks.block_of m)
-  pub has_block : HasBlock label number block q.quotient.blocks.labels (labels_as_shown q d) (key_at q.keys) (shown_key q d)
+  pub has_block : HasBlock label (number ∷ []) block q.quotient.blocks.labels (labels_as_shown q d) (key_at q.keys) (shown_key q d)
+  pub label_is : at (labels_as_shown q d) block ≡ Some label
   pub supports : (x y : ℕ) → support_as_shown q d x y ≡ support_at q.quotient.supports x y
 
 -- the number with which the key of a node begins: its label at the lowest level, and above it its block one level below

@@ -6,39 +6,15 @@ ghost use Rattle.bisim_spec.specs.Views.{support_at};
 ghost use Rattle.keyed_quotient.specs.Levels.{key_at};
 ghost use Rattle.keyed_quotient.specs.Changes.{no_keyed_changes};
 ghost use Rattle.ak_family.specs.Families.{level_at};
-ghost use Rattle.ak_family.specs.Drafting.{changes_at, blocks_shown, labels_shown, support_shown, key_shown, AreOver, AreSameBut, AreEmpty};
-ghost use Rattle.ak_drafting.specs.Stages.{IsBefore, AreMoved, IsGone, HasBlock, IsJoined, IsNodeChange};
+ghost use Rattle.ak_family.specs.Drafting.{changes_at, blocks_shown, labels_shown, support_shown, key_shown, AreOver, AreSameBut, AreEmpty, HasBlock};
+ghost use Rattle.ak_drafting.specs.Stages.{IsBefore, AreMoved, IsGone, IsJoined, IsNodeChange};
 
 use ak_family::{AkDraft, AkFamily};
 use graph_update::After;
 use px_base::{Memory, NodeId};
 
-// A further block of a level, which has the number alone as its key.
-fn further_block(
-    family: &AkFamily,
-    draft: &mut AkDraft,
-    i: u32,
-    label: u32,
-    key: &[u32],
-) -> Result<u32, Memory>
-    requires over { AreOver family.now draft.old }
-    requires level { i < length family.now }
-    requires fresh { (b : ℕ) → key_shown family.now draft.old i b ≡ Some key.now → ⊥ }
-    ensures block { IfOk result (λ b. (number : ℕ) → key.now ≡ number ∷ [] → HasBlock label number b (labels_shown family.now draft.old i) (labels_shown family.now draft.new i) (key_shown family.now draft.old i) (key_shown family.now draft.new i)) }
-    ensures blocks { blocks_shown family.now draft.new i ≡ blocks_shown family.now draft.old i }
-    ensures supports { (x y : ℕ) → support_shown family.now draft.new i x y ≡ support_shown family.now draft.old i x y }
-    ensures others { AreSameBut i draft.old draft.new }
-    ensures over { AreOver family.now draft.new }
-{
-    if family.blocks_shown(draft, i) >= 1 << 31 {
-        return Err(Memory);
-    }
-    let b = family.new_block(draft, i, label, key)?;
-    Ok(b)
-}
-
 // The block of a level that has the number alone as its key. It is a further one where no block has the key.
-fn keyed_block(
+fn lone_block(
     family: &AkFamily,
     draft: &mut AkDraft,
     i: u32,
@@ -48,17 +24,16 @@ fn keyed_block(
     requires over { AreOver family.now draft.old }
     requires level { i < length family.now }
     requires labelled { (b : ℕ) → key_shown family.now draft.old i b ≡ Some (number ∷ []) → at (labels_shown family.now draft.old i) b ≡ Some label }
-    ensures block { IfOk result (λ b. HasBlock label number b (labels_shown family.now draft.old i) (labels_shown family.now draft.new i) (key_shown family.now draft.old i) (key_shown family.now draft.new i)) }
+    ensures block { IfOk result (λ b. HasBlock label (number ∷ []) b (labels_shown family.now draft.old i) (labels_shown family.now draft.new i) (key_shown family.now draft.old i) (key_shown family.now draft.new i)) }
+    ensures label { IfOk result (λ b. at (labels_shown family.now draft.new i) b ≡ Some label) }
     ensures blocks { blocks_shown family.now draft.new i ≡ blocks_shown family.now draft.old i }
     ensures supports { (x y : ℕ) → support_shown family.now draft.new i x y ≡ support_shown family.now draft.old i x y }
     ensures others { AreSameBut i draft.old draft.new }
     ensures over { AreOver family.now draft.new }
 {
     let key = [number];
-    match family.find_shown(draft, i, &key) {
-        Some(b) => Ok(b),
-        None => further_block(family, draft, i, label, &key),
-    }
+    let b = family.keyed_block(draft, i, label, &key)?;
+    Ok(b)
 }
 
 // A node without parents comes, at a level. It tells the node's block there.
@@ -80,7 +55,7 @@ fn join_level(
     ensures others { AreSameBut i draft.old draft.new }
     ensures over { AreOver family.now draft.new }
 {
-    let b = keyed_block(family, draft, i, label, number)?;
+    let b = lone_block(family, draft, i, label, number)?;
     family.put(draft, i, n, Some(b))?;
     Ok(b)
 }

@@ -8,4 +8,5 @@ pub mod Reserved
 pub mod SettledBelow
 pub mod FamilyKept
 pub mod Built
+pub mod KeyedBlocks
 mod Examples

@@ -1,9 +1,10 @@
 -- What is drafted over a family, level by level.
-use Rattle.std.specs.Prelude.{ℕ, ◌≡◌, ◌≢◌, ◌+◌, ◌<◌, List, length, Option, slice_index_or}
+use Rattle.std.specs.Prelude.{ℕ, ◌≡◌, ◌≢◌, ◌⊎◌, ◌+◌, ◌<◌, List, length, Option, Some, IsSome, slice_index_or}
+use Rattle.px_spec.specs.Members.{at}
 use Rattle.quotient.specs.Quotients.{view_of}
 use Rattle.keyed_quotient.specs.Levels.{KeyedQuotient}
 use Rattle.keyed_quotient.specs.Changes.{KeyedChanges, no_keyed_changes, blocks_as_shown, labels_as_shown, support_as_shown, shown_key, IsKeyedOver, HasKeyRoom, IsSettled, AreUnsupported}
-use Rattle.level_spec.specs.Keyed.{AreLabelled}
+use Rattle.level_spec.specs.Keyed.{KeysStay, AreLabelled}
 use Rattle.ak_family.specs.Families.{level_at, AreKeyedBySupports}
 
 -- what is drafted at a level, and nothing past the last one
@@ -38,6 +39,16 @@ AreSameBut i old new = (j : ℕ) → j ≢ i → changes_at new j ≡ changes_at
 -- nothing is drafted at any level
 abbrev pub AreEmpty : List KeyedChanges → Type 0
 AreEmpty d = (i : ℕ) → changes_at d i ≡ no_keyed_changes
+
+-- Block b has the key. Where it hadn't, it was made with this label. The others are as they were, and it is so too if it was a block.
+pub record HasBlock (label : ℕ) (key : List ℕ) (b : ℕ) (labels labels2 : List (Option ℕ)) (keys keys2 : ℕ → Option (List ℕ)) : Type 0 where
+  pub live : IsSome (at labels2 b)
+  pub key_is : keys2 b ≡ Some key
+  pub found : (keys b ≡ Some key) ⊎ (at labels2 b ≡ Some label)
+  pub other_labels : (c : ℕ) → c ≢ b → at labels2 c ≡ at labels c
+  pub other_keys : (c : ℕ) → c ≢ b → keys2 c ≡ keys c
+  pub labels_stay : (c l : ℕ) → at labels c ≡ Some l → at labels2 c ≡ Some l
+  pub keys_stay : KeysStay keys keys2
 
 -- each level has room for what the draft shows
 abbrev pub HaveRoom : List KeyedQuotient → List KeyedChanges → Type 0

@@ -12,7 +12,7 @@ ghost use Rattle.node_moves.specs.Costs.{parents_cost, children_cost};
 ghost use Rattle.keyed_quotient.specs.Levels.{KeyedQuotient};
 ghost use Rattle.keyed_quotient.specs.Changes.{KeyedChanges};
 ghost use Rattle.ak_family.specs.Families.{level_at, IsKeyedFamily};
-ghost use Rattle.ak_family.specs.Drafting.{changes_at, blocks_shown, labels_shown, support_shown, key_shown, AreOver, AreSameBut, AreEmpty};
+ghost use Rattle.ak_family.specs.Drafting.{changes_at, blocks_shown, labels_shown, support_shown, key_shown, AreOver, AreSameBut, AreEmpty, HasBlock};
 
 use crate::family::AkFamily;
 use graph_update::After;
@@ -118,6 +118,49 @@ impl AkFamily {
         let level = level_of(&self.levels, i);
         let b = d.levels[i as usize].new_block(level, label, key)?;
         Ok(b)
+    }
+
+    // Drafts a block of a level, with a key that no block has there as shown. Past 2^31 blocks there is no number for one.
+    fn further_block(&self, d: &mut AkDraft, i: u32, label: u32, key: &[u32]) -> Result<u32, Memory>
+        requires over { AreOver self.now d.old }
+        requires level { i < length self.now }
+        requires fresh { (b : ℕ) → key_shown self.now d.old i b ≡ Some key.now → ⊥ }
+        ensures block { IfOk result (λ b. HasBlock label key.now b (labels_shown self.now d.old i) (labels_shown self.now d.new i) (key_shown self.now d.old i) (key_shown self.now d.new i)) }
+        ensures blocks { blocks_shown self.now d.new i ≡ blocks_shown self.now d.old i }
+        ensures supports { (x y : ℕ) → support_shown self.now d.new i x y ≡ support_shown self.now d.old i x y }
+        ensures others { AreSameBut i d.old d.new }
+        ensures over { AreOver self.now d.new }
+        ensures err { OnErr result (d.new ≡ d.old) }
+    {
+        if self.blocks_shown(d, i) >= 1 << 31 {
+            return Err(Memory);
+        }
+        let b = self.new_block(d, i, label, key)?;
+        Ok(b)
+    }
+
+    /// The block of a level that has the key as shown. Where none has it, one is drafted, with this label and without members. Past 2^31
+    /// blocks there is no number for one, which counts as want of memory.
+    pub fn keyed_block(
+        &self,
+        d: &mut AkDraft,
+        i: u32,
+        label: u32,
+        key: &[u32],
+    ) -> Result<u32, Memory>
+        requires over { AreOver self.now d.old }
+        requires level { i < length self.now }
+        ensures block { IfOk result (λ b. HasBlock label key.now b (labels_shown self.now d.old i) (labels_shown self.now d.new i) (key_shown self.now d.old i) (key_shown self.now d.new i)) }
+        ensures blocks { blocks_shown self.now d.new i ≡ blocks_shown self.now d.old i }
+        ensures supports { (x y : ℕ) → support_shown self.now d.new i x y ≡ support_shown self.now d.old i x y }
+        ensures others { AreSameBut i d.old d.new }
+        ensures over { AreOver self.now d.new }
+        ensures err { OnErr result (d.new ≡ d.old) }
+    {
+        match self.find_shown(d, i, key) {
+            Some(b) => Ok(b),
+            None => self.further_block(d, i, label, key),
+        }
     }
 
     /// Drafts the move of a node, which is below 2^31, to a block of a level as shown, or out of its block there.

@@ -1,6 +1,6 @@
 -- One node is placed, and then the next.
 use Rattle.std.proofs.Common.{◌≡◌, ◌≢◌, ℕ, ◌+◌, List, [], ◌∷◌, ◌++◌, Option, Some, None, is_some, refl, sym, ◌∙◌, ap, subst, arith, inl, inr, true, false, Bool, cond, true≢false}
-use Rattle.std.specs.Prelude.{nat_eq, ◌||◌}
+use Rattle.std.specs.Prelude.{nat_eq, ◌||◌, ◌⊎◌}
 use Rattle.std.proofs.lemmas.Bool.{or_cases, or_left, cases_Bool}
 use Rattle.std.proofs.lemmas.Bool.Decides.{eqb_tells, Decides-eqb}
 use Rattle.std.proofs.lemmas.List.Folds.{list_any-append}
@@ -15,9 +15,9 @@ use Rattle.upkeep_spec.specs.Supported.{AreEdgeCounts}
 use Rattle.keyed_quotient.specs.Levels.{KeyedQuotient}
 use Rattle.keyed_quotient.specs.Changes.{KeyedChanges, blocks_as_shown, labels_as_shown, support_as_shown}
 use Rattle.ak_family.specs.Families.{level_at}
-use Rattle.ak_family.specs.Drafting.{changes_at, blocks_shown, labels_shown, key_shown}
+use Rattle.ak_family.specs.Drafting.{changes_at, blocks_shown, labels_shown, key_shown, AreSameBut, HasBlock}
 use Rattle.level_spec.specs.Keyed.{IsLevelOf, first_number}
-use Rattle.ak_moving.specs.Placed.{AreTwoLevels, HasBlock, HasMoved, ArePlaced}
+use Rattle.ak_moving.specs.Placed.{AreTwoLevels, HasMoved, ArePlaced}
 
 pub only_one : (n m : ℕ) → has (n ∷ []) m ≡ true → m ≡ n
 only_one n m h = elim (or_cases (nat_eq m n) false h) [ inl e ↦ (Decides-eqb m n).0 e | inr e ↦ absurd (true≢false (sym e)) ]
@@ -66,13 +66,14 @@ counts_same g p p2 support support2 counts same is = record { each = λ x y. is 
 
 module _ (g : Graph) (f : List KeyedQuotient) (d d1 d2 : List KeyedChanges) (i n own b label : ℕ) (key : List ℕ) (t : AreTwoLevels g f d i)
     (own_is : at (blocks_shown f d i) n ≡ Some own) (label_is : label_number g n ≡ Some label)
-    (k : IsKey (at (blocks_shown f d i)) (blocks_shown f d i) (has_edge g) n key) (block : HasBlock f d d1 (i + 1) label key b) (moved : HasMoved g f d1 d2 (i + 1) n b) where
+    (k : IsKey (at (blocks_shown f d i)) (blocks_shown f d i) (has_edge g) n key) (others : AreSameBut (i + 1) d d1) (stays : blocks_shown f d1 (i + 1) ≡ blocks_shown f d (i + 1))
+    (block : HasBlock label key b (labels_shown f d (i + 1)) (labels_shown f d1 (i + 1)) (key_shown f d (i + 1)) (key_shown f d1 (i + 1))) (moved : HasMoved g f d1 d2 (i + 1) n b) where
   -- the level below stays
   same_below : changes_at d2 i ≡ changes_at d i
-  same_below = moved.others i (lower_apart i) ∙ block.others i (lower_apart i)
+  same_below = moved.others i (lower_apart i) ∙ others i (lower_apart i)
 
   moved_blocks : (m : ℕ) → at (blocks_shown f d2 (i + 1)) m ≡ cond (nat_eq m n) (Some b) (at (blocks_shown f d (i + 1)) m)
-  moved_blocks m = moved.blocks m ∙ ap (λ (p : List (Option ℕ)). cond (nat_eq m n) (Some b) (at p m)) block.blocks
+  moved_blocks m = moved.blocks m ∙ ap (λ (p : List (Option ℕ)). cond (nat_eq m n) (Some b) (at p m)) stays
 
   -- the block below has the node's label
   below_label : at (labels_shown f d i) own ≡ Some label
@@ -80,13 +81,26 @@ module _ (g : Graph) (f : List KeyedQuotient) (d d1 d2 : List KeyedChanges) (i n
       let l = t.lower.named.is n own own_is in
       l.1 ∙ ap Some (one_of (label_number g n) l.0 label l.2 label_is)
 
+  -- a key that a block has is the one that it had, or that of the block that was made
+  fresh : (c : ℕ) (numbers : List ℕ) → key_shown f d1 (i + 1) c ≡ Some numbers
+      → (key_shown f d (i + 1) c ≡ Some numbers) ⊎ ((numbers ≡ key) × (at (labels_shown f d1 (i + 1)) c ≡ Some label))
+  fresh c numbers e = elim (eqb_tells c b) [
+    | inr o ↦ inl (sym (block.other_keys c o.1) ∙ e)
+    | inl s ↦ (
+        let same : numbers ≡ key = some_list numbers key (sym e ∙ ap (key_shown f d1 (i + 1)) s.1 ∙ block.key_is) in
+        elim block.found [
+          | inl had ↦ inl (ap (key_shown f d (i + 1)) s.1 ∙ had ∙ ap Some (sym same))
+          | inr named ↦ inr (same, ap (at (labels_shown f d1 (i + 1))) s.1 ∙ named)
+        ])
+  ]
+
   -- where the key of a block begins with a block below, both have one label
   goes_up : (c : ℕ) (numbers : List ℕ) (number : ℕ) → key_shown f d1 (i + 1) c ≡ Some numbers → first_number (Some numbers) ≡ Some number
       → (l : ℕ) × (at (labels_shown f d i) number ≡ Some l) × (at (labels_shown f d2 (i + 1)) c ≡ Some l)
-  goes_up c numbers number is first = elim (block.fresh c numbers is) [
+  goes_up c numbers number is first = elim (fresh c numbers is) [
     | inl old ↦ (
         let l = t.up.is c number (ap first_number old ∙ first) in
-        (l.0, l.1, ap (λ (ls : List (Option ℕ)). at ls c) moved.labels ∙ block.labels.kept c l.0 l.2))
+        (l.0, l.1, ap (λ (ls : List (Option ℕ)). at ls c) moved.labels ∙ block.labels_stay c l.0 l.2))
     | inr (same, named) ↦ (
         let begin : number ≡ own = some_same number own (sym first ∙ ap (λ xs. first_number (Some xs)) same ∙ begins (at (blocks_shown f d i)) (blocks_shown f d i) (has_edge g) n own key k own_is) in
         (label, ap (at (labels_shown f d i)) begin ∙ below_label, ap (λ (ls : List (Option ℕ)). at ls c) moved.labels ∙ named))
@@ -99,7 +113,7 @@ module _ (g : Graph) (f : List KeyedQuotient) (d d1 d2 : List KeyedChanges) (i n
       l.2 ∙ ap Some (one_of (at (labels_shown f d i) own) l.0 label l.1 below_label)
 
   kept_labels : (c l : ℕ) → at (labels_shown f d (i + 1)) c ≡ Some l → at (labels_shown f d2 (i + 1)) c ≡ Some l
-  kept_labels c l e = ap (λ (ls : List (Option ℕ)). at ls c) moved.labels ∙ block.labels.kept c l e
+  kept_labels c l e = ap (λ (ls : List (Option ℕ)). at ls c) moved.labels ∙ block.labels_stay c l e
 
   two_kept : AreTwoLevels g f d2 i
   two_kept = record {
@@ -132,9 +146,9 @@ module _ (g : Graph) (f : List KeyedQuotient) (d d1 d2 : List KeyedChanges) (i n
   pub placed_one : ArePlaced g f d d2 i (n ∷ [])
   placed_one = record {
     levels = two_kept;
-    others = λ j ne. moved.others j ne ∙ block.others j ne;
+    others = λ j ne. moved.others j ne ∙ others j ne;
     labels = record { kept = kept_labels };
-    keys = record { kept = λ c numbers e. moved.keys c ∙ block.keys.kept c numbers e };
+    keys = record { kept = λ c numbers e. moved.keys c ∙ block.keys_stay.kept c numbers e };
     blocks = λ m off. moved_blocks m ∙ ap (λ x. cond x (Some b) (at (blocks_shown f d (i + 1)) m)) (not_one n m off);
     keyed = λ m on. record {
       keyed = λ c e.

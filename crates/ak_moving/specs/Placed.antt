@@ -1,5 +1,5 @@
 -- Nodes that are placed in the blocks of their keys at one level of a draft.
-use Rattle.std.specs.Prelude.{◌≡◌, ◌⊎◌, ◌+◌, ◌<◌, ℕ, List, Option, Some, IsSome, IsTrue, IsFalse, if◌then◌else◌, nat_eq, length}
+use Rattle.std.specs.Prelude.{◌≡◌, ◌+◌, ◌<◌, ℕ, List, Option, Some, IsTrue, IsFalse, if◌then◌else◌, nat_eq, length}
 use Rattle.px_spec.specs.Graphs.{Graph}
 use Rattle.px_spec.specs.Shapes.{shape_of}
 use Rattle.px_spec.specs.Members.{at, has}
@@ -20,19 +20,6 @@ pub record AreTwoLevels (g : Graph) (f : List KeyedQuotient) (d : List KeyedChan
   pub lower : IsLevelOf g (blocks_shown f d i) (labels_shown f d i) (support_shown f d i)
   pub upper : IsLevelOf g (blocks_shown f d (i + 1)) (labels_shown f d (i + 1)) (support_shown f d (i + 1))
   pub up : LabelsGoUp (labels_shown f d i) (labels_shown f d (i + 1)) (key_shown f d (i + 1))
-
--- Block b of level i has the key. A block that was made for it has the label, and nothing else has changed.
-pub record HasBlock (f : List KeyedQuotient) (d d2 : List KeyedChanges) (i label : ℕ) (key : List ℕ) (b : ℕ) : Type 0 where
-  pub over : AreOver f d2
-  pub others : AreSameBut i d d2
-  pub live : IsSome (at (labels_shown f d2 i) b)
-  pub key_is : key_shown f d2 i b ≡ Some key
-  pub labels : LabelsKept (labels_shown f d i) (labels_shown f d2 i)
-  pub keys : KeysStay (key_shown f d i) (key_shown f d2 i)
-  pub fresh : (c : ℕ) (numbers : List ℕ) → key_shown f d2 i c ≡ Some numbers
-      → (key_shown f d i c ≡ Some numbers) ⊎ ((numbers ≡ key) × (at (labels_shown f d2 i) c ≡ Some label))
-  pub blocks : blocks_shown f d2 i ≡ blocks_shown f d i
-  pub supports : (x y : ℕ) → support_shown f d2 i x y ≡ support_shown f d i x y
 
 -- the node is in block b of level i now, and nothing else has changed but supports
 pub record HasMoved (g : Graph) (f : List KeyedQuotient) (d d2 : List KeyedChanges) (i n b : ℕ) : Type 0 where

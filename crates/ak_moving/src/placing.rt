@@ -1,5 +1,5 @@
 // Placing a node in the block of its key.
-ghost use Rattle.std.specs.Prelude.{◌≡◌, ◌+◌, ◌<◌, ◌≤◌, ◌∷◌, [], ℕ, Some, IsSome, IsTrue, IfOk, OnOk, length};
+ghost use Rattle.std.specs.Prelude.{◌≡◌, ◌+◌, ◌<◌, ◌≤◌, ◌∷◌, [], Some, IsSome, IsTrue, OnOk, length};
 ghost use Rattle.px_spec.specs.Graphs.{is_live};
 ghost use Rattle.px_spec.specs.Members.{at};
 ghost use Rattle.px_spec.specs.Shapes.{shape_of};
@@ -7,8 +7,8 @@ ghost use Rattle.bisim_spec.specs.Partitions.{IsPartition};
 ghost use Rattle.upkeep_spec.specs.Supported.{AreEdgeCounts};
 ghost use Rattle.graph_update.specs.Pending.{graph_after};
 ghost use Rattle.node_moves.specs.Costs.{parents_cost, children_cost};
-ghost use Rattle.ak_family.specs.Drafting.{blocks_shown, labels_shown, support_shown, key_shown, AreOver};
-ghost use Rattle.ak_moving.specs.Placed.{AreTwoLevels, HasBlock, HasMoved, ArePlaced};
+ghost use Rattle.ak_family.specs.Drafting.{blocks_shown, labels_shown, support_shown, AreOver};
+ghost use Rattle.ak_moving.specs.Placed.{AreTwoLevels, HasMoved, ArePlaced};
 ghost use Rattle.ak_moving.specs.Costs.{place_cost};
 
 use crate::buffers::Buffers;
@@ -18,44 +18,6 @@ use graph_update::After;
 use node_moves::Near;
 use px_base::{Memory, NodeId, Steps};
 use std::sync::ledger::Ledger;
-
-// Drafts a block of a level with a key that no block has there. Past 2^31 blocks there is no number for one.
-fn make_block(
-    family: &AkFamily,
-    draft: &mut AkDraft,
-    i: u32,
-    label: u32,
-    key: &[u32],
-) -> Result<u32, Memory>
-    requires over { AreOver family.now draft.old }
-    requires level { i < length family.now }
-    requires fresh { (b : ℕ) → key_shown family.now draft.old i b ≡ Some key.now → ⊥ }
-    ensures { IfOk result (HasBlock family.now draft.old draft.new i label key.now) }
-{
-    if family.blocks_shown(draft, i) >= 1 << 31 {
-        return Err(Memory);
-    }
-    let b = family.new_block(draft, i, label, key)?;
-    Ok(b)
-}
-
-// The block of a level that has a key, which is drafted with this label where no block has it.
-fn block_of_key(
-    family: &AkFamily,
-    draft: &mut AkDraft,
-    i: u32,
-    label: u32,
-    key: &[u32],
-) -> Result<u32, Memory>
-    requires over { AreOver family.now draft.old }
-    requires level { i < length family.now }
-    ensures { IfOk result (HasBlock family.now draft.old draft.new i label key.now) }
-{
-    match family.find_shown(draft, i, key) {
-        Some(b) => Ok(b),
-        None => make_block(family, draft, i, label, key),
-    }
-}
 
 // Moves a node to a block of a level, where it isn't there yet.
 fn move_to<L: Ledger>(
@@ -114,7 +76,7 @@ fn place_in<L: Ledger>(
         &mut buffers.parents,
         steps,
     )?;
-    let b = block_of_key(draft, i + 1, after.label(n), &buffers.key)?;
+    let b = family.keyed_block(draft, i + 1, after.label(n), &buffers.key)?;
     move_to(family, draft, i + 1, after, n, b, &mut buffers.near, steps)?;
     Ok(())
 }
