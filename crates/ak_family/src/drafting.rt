@@ -78,7 +78,7 @@ impl AkFamily {
     }
 
     /// How many blocks a level has as shown. O(1).
-    pub fn blocks_shown(&self, d: &AkDraft, i: u32) -> u32
+    pub fn block_count_shown(&self, d: &AkDraft, i: u32) -> u32
         requires over { AreOver self.now d.now }
         requires level { i < length self.now }
         ensures count { result ≡ count_by is_some (labels_shown self.now d.now i) }
@@ -87,7 +87,7 @@ impl AkFamily {
     }
 
     /// The block of a level that has the key as shown, and none exactly where no block has it. It takes no memory.
-    pub fn find_shown(&self, d: &AkDraft, i: u32, key: &[u32]) -> Option<u32>
+    pub fn find(&self, d: &AkDraft, i: u32, key: &[u32]) -> Option<u32>
         requires over { AreOver self.now d.now }
         requires level { i < length self.now }
         ensures leads { (b : ℕ) → (result ≡ Some b) ↔ (key_shown self.now d.now i b ≡ Some key.now) }
@@ -132,7 +132,7 @@ impl AkFamily {
         ensures over { AreOver self.now d.new }
         ensures err { OnErr result (d.new ≡ d.old) }
     {
-        if self.blocks_shown(d, i) >= 1 << 31 {
+        if self.block_count_shown(d, i) >= 1 << 31 {
             return Err(Memory);
         }
         let b = self.new_block(d, i, label, key)?;
@@ -157,7 +157,7 @@ impl AkFamily {
         ensures over { AreOver self.now d.new }
         ensures err { OnErr result (d.new ≡ d.old) }
     {
-        match self.find_shown(d, i, key) {
+        match self.find(d, i, key) {
             Some(b) => Ok(b),
             None => self.further_block(d, i, label, key),
         }

@@ -1,13 +1,12 @@
 // The family.
-ghost use Rattle.std.specs.Prelude.{◌≡◌, ◌+◌, ◌<◌, ◌≤◌, ◌↔◌, ℕ, Some, IfOk, IfSome, IsSome, IsTrue, length, slice_get};
+ghost use Rattle.std.specs.Prelude.{◌≡◌, ◌+◌, ◌<◌, ◌≤◌, ◌↔◌, ℕ, Some, IfOk, IsSome, IsTrue, length, slice_get};
 ghost use Rattle.px_spec.specs.Shapes.{shape_of};
 ghost use Rattle.bisim_spec.specs.Bisimilarity.{Bis};
 ghost use Rattle.px_spec.specs.Members.{at};
 ghost use Rattle.bisim_spec.specs.Partitions.{Agrees, Together};
 ghost use Rattle.bisim_spec.specs.Views.{ViewFits};
-ghost use Rattle.block_partition.specs.Partitions.{IsBlock};
 ghost use Rattle.quotient.specs.Quotients.{view_of};
-ghost use Rattle.keyed_quotient.specs.Levels.{HasKey, AreKeyed, key_at};
+ghost use Rattle.keyed_quotient.specs.Levels.{AreKeyed, key_at};
 ghost use Rattle.ak_family.specs.Families.{level_at, blocks_at, quotients_of, AreLabelKeys, AreParentKeys, IsKeyedFamily};
 
 use crate::keyed::keyed_summary;
@@ -98,24 +97,5 @@ impl AkFamily {
     {
         let level = self.level(i);
         level.block_of(u) == level.block_of(v)
-    }
-
-    /// The block of a level that has the key, and `None` exactly where no block has it. It is found by
-    /// hash.
-    pub fn find(&self, i: u32, key: &[u32]) -> Option<u32>
-        requires level { i < length self.now }
-        ensures leads { (b : ℕ) → (result ≡ Some b) ↔ HasKey (level_at self.now i) b key.now }
-        ensures block { IfSome result (IsBlock (level_at self.now i).quotient.blocks) }
-    {
-        self.levels[i as usize].find(key)
-    }
-
-    /// The key of a block of a level.
-    pub fn key(&self, i: u32, b: u32) -> &[u32]
-        requires level { i < length self.now }
-        requires block { IsBlock (level_at self.now i).quotient.blocks b }
-        ensures { HasKey (level_at self.now i) b result.now }
-    {
-        self.levels[i as usize].key(b)
     }
 }

@@ -1,7 +1,8 @@
 // Levels of small graphs.
-ghost use Rattle.std.specs.Prelude.{◌≡◌, ◌<◌, ◌≤◌, ◌↔◌, IfOk, IsTrue, IsSome};
+ghost use Rattle.std.specs.Prelude.{◌≡◌, ◌<◌, ◌≤◌, ◌↔◌, IfOk, IsTrue, IsSome, length};
 ghost use Rattle.px_spec.specs.Shapes.{IsNode, shape_of};
 ghost use Rattle.bisim_spec.specs.Bisimilarity.{Bis};
+ghost use Rattle.ak_family.specs.Drafting.{AreOver};
 
 use super::*;
 use label_graph::GraphView;
@@ -78,22 +79,35 @@ fn link_parts_chains(rt: HostRuntime) -> Result<(), Fail> {
     check_chains::<Brand>(&rt, rt.alloc(), Blank::new(1))
 }
 
-// Whether the greatest level is 1, and there the block has this key.
-fn has_key(family: &AkFamily, b: u32, key: &[u32]) -> bool {
-    if family.k() != 1 {
-        return false;
-    }
-    match family.find(1, key) {
-        Some(found) => found == b && family.key(1, found) == key,
-        None => false,
-    }
+// Whether the draft shows this block, or none, for the key at level 1.
+fn leads(family: &AkFamily, draft: &AkDraft, key: &[u32], b: Option<u32>) -> bool
+    requires over { AreOver family.now draft.now }
+    requires levels { length family.now ≡ 2 }
+{
+    family.find(draft, 1, key) == b
 }
 
-fn check_keys(rt: &impl Abort, family: &AkFamily) {
-    assert!(rt; has_key(family, 1, &[1, 0]));
+// A block for a key that none has is made, and is gone with the draft.
+fn check_made(rt: &impl Abort, family: &AkFamily, draft: &mut AkDraft) -> Result<(), Memory>
+    requires over { AreOver family.now draft.old }
+    requires levels { length family.now ≡ 2 }
+{
+    let b = family.keyed_block(draft, 1, 1, &[1, 1])?;
+    assert!(rt; leads(family, draft, &[1, 1], Some(b)));
+    let _ = family.k();
+    draft.clear();
+    assert!(rt; leads(family, draft, &[1, 1], None));
+    Ok(())
+}
+
+// Over an empty draft the keys are those of the family.
+fn check_keys(rt: &impl Abort, alloc: Global, family: &AkFamily) -> Result<(), Memory> {
     assert_eq!(rt; family.k(), 1);
-    assert_eq!(rt; family.find(0, &[1]), Some(1));
-    assert_eq!(rt; family.find(1, &[1, 1]), None);
+    let mut draft = AkDraft::new(alloc, 1)?;
+    assert_eq!(rt; family.find(&draft, 0, &[1]), Some(1));
+    assert!(rt; leads(family, &draft, &[1, 0], Some(1)));
+    assert!(rt; leads(family, &draft, &[1, 1], None));
+    check_made(rt, family, &mut draft)
 }
 
 fn check_level(rt: &impl Abort, family: &AkFamily) {
@@ -115,7 +129,7 @@ fn check_family<L: Ledger>(rt: &impl Abort, alloc: Global, blank: Blank) -> Resu
     let graph = drawn(alloc, b"aabb", &[(0, 2), (1, 2), (0, 3)], &mut steps)?;
     let family = AkFamily::build(alloc, &graph.view(&mut steps), 1)?;
     assert!(rt; has_blocks(&family, &[0, 0, 1, 1]));
-    check_keys(rt, &family);
+    check_keys(rt, alloc, &family)?;
     check_level(rt, &family);
     Ok(())
 }

@@ -30,8 +30,8 @@ use std::sync::ledger::Ledger;
 /// and supports. Reads show the base as it will be once the draft is settled. Each call is given the base; its blocks,
 /// labels and keys must stay while something is drafted.
 ///
-/// Each call takes constant time but for hashing, except `new_block`, which looks for the next free number, and `move_node`, `reserve` and
-/// `settle`, which say what they take.
+/// Each call takes constant time, expected, except `clear`, `move_node`, `reserve` and `settle`, which say what they take; `find` and
+/// `new_block` read the key, and `new_block` looks for the next free number.
 #[derive(Drop)]
 pub struct KeyedDraft {
     pub(crate) draft: Draft,

@@ -58,19 +58,11 @@ impl KeyedSummary {
     }
 
     /// The block that has the key, and `None` exactly where no block has it. It is found by hash.
-    pub fn find(&self, key: &[u32]) -> Option<u32>
+    pub(crate) fn find(&self, key: &[u32]) -> Option<u32>
         ensures leads { (b : ℕ) → (result ≡ Some b) ↔ HasKey self.now b key.now }
         ensures block { IfSome result (IsBlock self.now.quotient.blocks) }
     {
         find_in(&self.summary, &self.numbers, key)
-    }
-
-    /// The key of a block.
-    pub fn key(&self, b: u32) -> &[u32]
-        requires block { IsBlock self.now.quotient.blocks b }
-        ensures { HasKey self.now b result.now }
-    {
-        key_in(&self.numbers, b)
     }
 }
 
