@@ -20,7 +20,7 @@ from bench_indexes import best_of
 ROOT = pathlib.Path(__file__).resolve().parent.parent
 MAKE = ROOT / "tools" / "make_triples.py"
 CASES = [(20_000, 9), (200_000, 7), (1_600_000, 3)]
-UPDATES = 2_000
+UPDATES = 20_000
 PARENTS = 20_000
 HUB_TURNS = 3
 # the parents of the hub have so many labels
