@@ -19,8 +19,8 @@ from bench_indexes import best_of
 
 ROOT = pathlib.Path(__file__).resolve().parent.parent
 MAKE = ROOT / "tools" / "make_triples.py"
-CASES = [(20_000, 9), (200_000, 7), (1_600_000, 3)]
-UPDATES = 20_000
+# triples, updates and turns; so many updates that their time stands out beside that of the load
+CASES = [(20_000, 2_000, 9), (200_000, 2_000, 7), (1_600_000, 20_000, 3)]
 PARENTS = 20_000
 HUB_TURNS = 3
 # the parents of the hub have so many labels
@@ -33,10 +33,10 @@ KEPT = {
 SEED = "1"
 
 
-def changes(nodes):
-    """Lines that make UPDATES changes of a graph with so many nodes."""
+def changes(nodes, updates):
+    """Lines that make so many changes of a graph with so many nodes."""
     pick = random.Random(1)
-    for new in range(nodes, nodes + UPDATES // 4):
+    for new in range(nodes, nodes + updates // 4):
         first, second = pick.sample(range(nodes), 2)
         yield from (f"node g{pick.randrange(4)}", f"link n{new} n{first}", f"link n{new} n{second}", f"unlink n{new} n{first}")
 
@@ -65,12 +65,12 @@ def measure(program, folder, graph, lines, turns, what):
         print(f"{what}, {name:<12} {each * 1e6:>9.1f} microseconds an update", flush=True)
 
 
-def measure_made(program, folder, count, turns):
+def measure_made(program, folder, count, updates, turns):
     graph = os.path.join(folder, f"{count}.nt")
     with open(graph, "wb") as out:
         subprocess.run([sys.executable, MAKE, str(count)], stdout=out, check=True)
     nodes = node_count(program, write(folder, "sizes", "sizes\n"), graph)
-    measure(program, folder, graph, list(changes(nodes)), turns, f"{count:,} triples")
+    measure(program, folder, graph, list(changes(nodes, updates)), turns, f"{count:,} triples")
 
 
 def hub_graph(parents):
@@ -100,8 +100,8 @@ def main():
     if not os.access(program, os.X_OK):
         sys.exit(f"bench_updates.py: {program} is missing; make run builds bin/pathindex")
     with tempfile.TemporaryDirectory() as folder:
-        for count, turns in CASES:
-            measure_made(program, folder, count, turns)
+        for count, updates, turns in CASES:
+            measure_made(program, folder, count, updates, turns)
         measure_hub(program, folder, parents)
     seconds, peak = best_of({"made": [program, "--make", SEED]}, 3)["made"]
     print(f"--make {SEED}: {seconds:.2f} seconds, peak {peak:.0f} MB")
