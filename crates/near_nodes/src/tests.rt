@@ -2,39 +2,14 @@
 ghost use Rattle.std.specs.Prelude.{◌≡◌, ◌<◌};
 
 use super::*;
-use graph_update::{After, Change, Verdict, commit, judge, stage};
-use label_graph::Graph;
-use px_base::{Limits, Memory, NodeId, Steps, Text};
+use graph_update::{After, Change, Verdict, judge};
+use px_base::{Limits, Memory, NodeId, Steps};
 use std::alloc::Global;
 use std::marker::Brand;
 use std::process::Abort;
 use std::sync::ledger::{Blank, Ledger};
 use std::test::Fail;
-
-// Makes a change that alters the graph.
-fn make(alloc: Global, graph: &mut Graph, change: &Change) -> Result<(), Fail> {
-    let Ok(Verdict::New) = judge(graph, change, &Limits::program()) else {
-        return Err("not new".into());
-    };
-    let staged = stage(alloc, graph, change)?;
-    commit(graph, staged);
-    Ok(())
-}
-
-// A chain of three nodes, and a node before them.
-fn chain(alloc: Global) -> Result<Graph, Fail> {
-    let mut graph = Graph::new(alloc)?;
-    for _ in 0..4 {
-        make(
-            alloc,
-            &mut graph,
-            &Change::Node(Text::from_bytes(alloc, b"a")?),
-        )?;
-    }
-    make(alloc, &mut graph, &Change::Link(1, 2))?;
-    make(alloc, &mut graph, &Change::Link(2, 3))?;
-    Ok(graph)
-}
+use test_graphs::drawn;
 
 // Whether these nodes are near the target, by at most two edges and by at most one.
 fn are_near<L: Ledger>(
@@ -52,22 +27,19 @@ fn are_near<L: Ledger>(
     Ok(near.within(2) == two && near.within(1) == one)
 }
 
-fn check_link<L: Ledger>(
-    rt: &impl Abort,
-    alloc: Global,
-    graph: &Graph,
-    blank: Blank,
-) -> Result<(), Fail>
+// A chain of three nodes, and a node that is linked to its first one.
+fn check_link<L: Ledger>(rt: &impl Abort, alloc: Global, blank: Blank) -> Result<(), Fail>
     requires name { blank.name ≡ L.name }
     requires parts { blank.parts ≡ L.parts }
     requires some { 0 < blank.parts }
 {
     let mut steps = Steps::<L>::new(blank);
+    let graph = drawn(alloc, b"aaaa", &[(1, 2), (2, 3)], &mut steps)?;
     let change = Change::Link(0, 1);
-    let Ok(Verdict::New) = judge(graph, &change, &Limits::program()) else {
+    let Ok(Verdict::New) = judge(&graph, &change, &Limits::program()) else {
         return Err("not new".into());
     };
-    let after = After::new(graph, &change);
+    let after = After::new(&graph, &change);
     let found = are_near(alloc, &after, 1, &[1, 2, 3], &[1, 2], &mut steps)?;
     assert!(rt; found);
     Ok(())
@@ -75,6 +47,5 @@ fn check_link<L: Ledger>(
 
 #[test]
 fn two_edges_on(rt: HostRuntime) -> Result<(), Fail> {
-    let graph = chain(rt.alloc())?;
-    check_link::<Brand>(&rt, rt.alloc(), &graph, Blank::new(1))
+    check_link::<Brand>(&rt, rt.alloc(), Blank::new(1))
 }
