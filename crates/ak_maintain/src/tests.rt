@@ -5,41 +5,17 @@ ghost use Rattle.index_api.specs.Meanings.{IsReady, IsPrepared};
 ghost use Rattle.ak_maintain.specs.Keeping.{meaning_of};
 
 use super::*;
-use graph_update::{Change, Verdict, commit, judge, stage};
+use graph_update::{Change, Verdict, judge};
 use index_api::PathIndex;
 use label_graph::Graph;
-use px_base::{Limits, NodeId, Steps, Text};
+use px_base::{Limits, NodeId, Steps};
 use quotient::Summary;
 use std::alloc::Global;
 use std::marker::Brand;
 use std::process::Abort;
 use std::sync::ledger::{Blank, Ledger};
 use std::test::Fail;
-
-// Makes a change that alters the graph.
-fn make(alloc: Global, graph: &mut Graph, change: &Change) -> Result<(), Fail> {
-    let Ok(Verdict::New) = judge(graph, change, &Limits::program()) else {
-        return Err("not new".into());
-    };
-    let staged = stage(alloc, graph, change)?;
-    commit(graph, staged);
-    Ok(())
-}
-
-fn graph_of(alloc: Global, labels: &[u8], edges: &[(NodeId, NodeId)]) -> Result<Graph, Fail> {
-    let mut graph = Graph::new(alloc)?;
-    for label in labels {
-        make(
-            alloc,
-            &mut graph,
-            &Change::Node(Text::from_bytes(alloc, &[*label])?),
-        )?;
-    }
-    for (u, v) in edges {
-        make(alloc, &mut graph, &Change::Link(*u, *v))?;
-    }
-    Ok(graph)
-}
+use test_graphs::drawn;
 
 // Whether the level has so many blocks.
 fn has_blocks(index: &AkIndex, level: u32, blocks: u32) -> bool {
@@ -183,20 +159,36 @@ fn check_index(rt: &impl Abort, alloc: Global, graph: &Graph) -> Result<(), Fail
     check_kept(rt, &mut index, graph)
 }
 
+// Two chains of an a, a b and a c, and an x, which becomes a parent of the second a.
+const CHAINS: &[(NodeId, NodeId)] = &[(0, 1), (1, 2), (3, 4), (4, 5)];
+
+const LINKED: &[(NodeId, NodeId)] = &[(0, 1), (1, 2), (3, 4), (4, 5), (6, 3)];
+
+// The graph with these edges, a letter a node.
+fn graph_of<L: Ledger>(
+    alloc: Global,
+    edges: &[(NodeId, NodeId)],
+    blank: Blank,
+) -> Result<Graph, Fail>
+    requires name { blank.name ≡ L.name }
+    requires parts { blank.parts ≡ L.parts }
+    requires some { 0 < blank.parts }
+{
+    let mut steps = Steps::<L>::new(blank);
+    drawn(alloc, b"abcabcx", edges, &mut steps)
+}
+
 // A build of the graph after the change comes to the same.
-fn check_fresh(rt: &impl Abort, alloc: Global, graph: &mut Graph) -> Result<(), Fail> {
-    make(alloc, graph, &Change::Link(6, 3))?;
+fn check_fresh(rt: &impl Abort, alloc: Global, graph: &Graph) -> Result<(), Fail> {
     let index = built::<Brand>(alloc, graph, Blank::new(1))?;
     check_after(rt, &index);
     Ok(())
 }
 
-// Two chains of an a, a b and a c, and an x, which becomes a parent of the second a.
-const CHAINS: &[(NodeId, NodeId)] = &[(0, 1), (1, 2), (3, 4), (4, 5)];
-
 #[test]
 fn a_link_moves_nodes(rt: HostRuntime) -> Result<(), Fail> {
-    let mut graph = graph_of(rt.alloc(), b"abcabcx", CHAINS)?;
+    let graph = graph_of::<Brand>(rt.alloc(), CHAINS, Blank::new(1))?;
     check_index(&rt, rt.alloc(), &graph)?;
-    check_fresh(&rt, rt.alloc(), &mut graph)
+    let linked = graph_of::<Brand>(rt.alloc(), LINKED, Blank::new(1))?;
+    check_fresh(&rt, rt.alloc(), &linked)
 }
