@@ -1,5 +1,5 @@
 -- What is drafted at each level for an edge or a node that comes or goes.
-use Rattle.std.specs.Prelude.{◌≡◌, ◌≢◌, ℕ, zero, suc, ◌+◌, ◌<◌, ◌≤◌, ◌^◌, ◌&&◌, List, [], ◌∷◌, length, Option, Some, None, nat_eq, if◌then◌else◌}
+use Rattle.std.specs.Prelude.{◌≡◌, ℕ, zero, suc, ◌+◌, ◌<◌, ◌≤◌, ◌^◌, ◌&&◌, List, [], ◌∷◌, length, Option, Some, None, nat_eq, if◌then◌else◌}
 use Rattle.std.specs.FinSet as set
 use Rattle.px_spec.specs.Graphs.{IsGraph}
 use Rattle.px_spec.specs.Changes.{Change, node}
