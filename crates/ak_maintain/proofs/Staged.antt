@@ -10,7 +10,7 @@ use Rattle.keyed_quotient.specs.Changes.{KeyedChanges}
 use Rattle.ak_family.specs.Drafting.{AreSeenAs, AreSettled}
 use Rattle.ak_drafting.specs.Drafting.{FamilyFits}
 use Rattle.index_api.specs.Meanings.{IsReady, IsBuilt, IsPrepared, IsCommitted, IsRefreshed, unstaged}
-use Rattle.ak_maintain.specs.Keeping.{KeptFamily, IsStagedFor, views_of, settled_views, kept_views, meaning_of}
+use Rattle.ak_maintain.specs.KeptFamilies.{KeptFamily, IsStagedFor, views_of, settled_views, kept_views, meaning_of}
 use Rattle.ak_maintain.proofs.Views.{view_total, settled_total, family_fits, fits_family, shown_fits, same_views, views_settled}
 
 -- an index that is ready has a family, with nothing staged

@@ -15,7 +15,7 @@ use Rattle.keyed_quotient.specs.Changes.{KeyedChanges}
 use Rattle.ak_family.specs.Families.{level_at, blocks_at}
 use Rattle.ak_family.specs.Drafting.{changes_at, AreSeenAs, AreSettled}
 use Rattle.ak_drafting.specs.Drafting.{FamilyFits, ShownFit}
-use Rattle.ak_maintain.specs.Keeping.{views_of, settled_from, settled_views}
+use Rattle.ak_maintain.specs.KeptFamilies.{views_of, settled_from, settled_views}
 
 -- the view of a level
 pub view_level : (levels : List KeyedQuotient) (i : ℕ) → i < length levels → view_at (views_of levels) i ≡ Some (view_of (level_at levels i).quotient)

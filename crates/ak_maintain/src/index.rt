@@ -4,7 +4,7 @@ ghost use Rattle.graph_update.specs.NewChanges.{IsNew};
 ghost use Rattle.graph_update.specs.Judging.{change_of};
 ghost use Rattle.index_api.specs.Meanings.{IsReady, IsPrepared};
 ghost use Rattle.ak_drafting.specs.Drafting.{most_steps};
-ghost use Rattle.ak_maintain.specs.Keeping.{meaning_of};
+ghost use Rattle.ak_maintain.specs.KeptFamilies.{meaning_of};
 
 use crate::kept::Kept;
 use ak_family::AkFamily;
@@ -77,7 +77,7 @@ fn prepare_uncounted<L: Ledger>(
 }
 
 impl PathIndex for AkIndex {
-    ghost use Rattle.ak_maintain.specs.Keeping.{meaning_of as the_meaning_of};
+    ghost use Rattle.ak_maintain.specs.KeptFamilies.{meaning_of as the_meaning_of};
 
     ghost meaning = { λ index. the_meaning_of index.kept };
 

@@ -5,7 +5,7 @@ ghost use Rattle.graph_update.specs.NewChanges.{IsNew};
 ghost use Rattle.graph_update.specs.Judging.{change_of};
 ghost use Rattle.ak_family.specs.Drafting.{AreSeenAs, AreSettled, ShowsFamily};
 ghost use Rattle.ak_drafting.specs.Drafting.{FamilyFits, ShownFit, most_steps};
-ghost use Rattle.ak_maintain.specs.Keeping.{CanSettle, IsStagedFor};
+ghost use Rattle.ak_maintain.specs.KeptFamilies.{CanSettle, IsStagedFor};
 
 use ak_drafting::draft_change;
 use ak_family::{AkDraft, AkFamily};
@@ -25,7 +25,7 @@ pub(crate) struct Kept {
 }
 
 impl Model for Kept {
-    ghost use Rattle.ak_maintain.specs.Keeping.{KeptFamily, IsKeptDraft, kept_code};
+    ghost use Rattle.ak_maintain.specs.KeptFamilies.{KeptFamily, IsKeptDraft, kept_code};
 
     ghost Value = { KeptFamily };
 

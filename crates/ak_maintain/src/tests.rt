@@ -2,7 +2,7 @@
 ghost use Rattle.std.specs.Prelude.{◌≡◌, ◌<◌, IfOk, OnOk};
 ghost use Rattle.graph_update.specs.Judging.{change_of};
 ghost use Rattle.index_api.specs.Meanings.{IsReady, IsPrepared};
-ghost use Rattle.ak_maintain.specs.Keeping.{meaning_of};
+ghost use Rattle.ak_maintain.specs.KeptFamilies.{meaning_of};
 
 use super::*;
 use graph_update::{Change, Verdict, judge};

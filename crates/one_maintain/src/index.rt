@@ -7,7 +7,7 @@ ghost use Rattle.graph_update.specs.NewChanges.{IsNew};
 ghost use Rattle.graph_update.specs.Judging.{change_of};
 ghost use Rattle.index_api.specs.Meanings.{IsReady, IsPrepared};
 ghost use Rattle.one_drafting.specs.Drafting.{IsSupported, most_steps};
-ghost use Rattle.one_maintain.specs.Keeping.{meaning_of};
+ghost use Rattle.one_maintain.specs.KeptQuotients.{meaning_of};
 
 use crate::kept::Kept;
 use graph_update::Change;
@@ -83,7 +83,7 @@ fn prepare_uncounted<L: Ledger>(
 }
 
 impl PathIndex for OneKept {
-    ghost use Rattle.one_maintain.specs.Keeping.{meaning_of as the_meaning_of};
+    ghost use Rattle.one_maintain.specs.KeptQuotients.{meaning_of as the_meaning_of};
 
     ghost meaning = { λ index. the_meaning_of index.kept };
 

@@ -9,7 +9,7 @@ ghost use Rattle.quotient.specs.Quotients.{view_of};
 ghost use Rattle.quotient_draft.specs.Drafts.{no_changes, settled_view};
 ghost use Rattle.one_merging.specs.Roots.{CoversBase, CoversShown};
 ghost use Rattle.one_drafting.specs.Drafting.{IsSupported, most_steps};
-ghost use Rattle.one_maintain.specs.Keeping.{CanSettle};
+ghost use Rattle.one_maintain.specs.KeptQuotients.{CanSettle};
 
 use graph_update::Change;
 use label_graph::Graph;
@@ -34,7 +34,7 @@ pub(crate) struct Kept {
 
 impl Model for Kept {
     ghost use Rattle.one_merging.specs.Roots.{CoversBase, CoversShown};
-    ghost use Rattle.one_maintain.specs.Keeping.{KeptQuotient, IsKeptDraft, kept_code};
+    ghost use Rattle.one_maintain.specs.KeptQuotients.{KeptQuotient, IsKeptDraft, kept_code};
 
     ghost Value = { KeptQuotient };
 

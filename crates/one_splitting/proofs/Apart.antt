@@ -5,7 +5,7 @@ use Rattle.std.specs.List.{IsDistinct}
 use Rattle.std.proofs.lemmas.Bool.Decides.{Decides-eqb}
 use Rattle.px_spec.specs.Members.{at, has}
 use Rattle.bisim_spec.specs.Partitions.{Together}
-use Rattle.one_splitting.specs.Going.{AreBlocks}
+use Rattle.one_splitting.specs.NodeGoals.{AreBlocks}
 
 none_listed : (n : ℕ) → IsTrue (has [] n) → ⊥
 none_listed n h = true≢false (sym h)

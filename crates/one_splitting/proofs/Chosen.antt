@@ -5,7 +5,7 @@ use Rattle.std.proofs.lemmas.Bool.{cases_lt, both_ways, or_cases, or_left, or_ri
 use Rattle.std.proofs.lemmas.Bool.Decides.{Decides-eqb}
 use Rattle.std.proofs.lemmas.List.{get_or_push, get_or_append_left, get_or_past, length-append}
 use Rattle.px_spec.specs.Members.{has}
-use Rattle.one_splitting.specs.Going.{BeginsAt, goal_at, IsCountedWhole, AreGoing, StaysIf, GoesIf, GoalsAreBlocks}
+use Rattle.one_splitting.specs.NodeGoals.{BeginsAt, goal_at, IsCountedWhole, AreGoing, StaysIf, GoesIf, GoalsAreBlocks}
 
 -- the blocks in which groups stay, so far
 pub record AreNoted (keys : List (List ℕ)) (goals : List (Option ℕ)) (stays : List ℕ) : Type 0 where

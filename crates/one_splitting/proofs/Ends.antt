@@ -17,7 +17,7 @@ use Rattle.graph_update.specs.Pending.{Pending}
 use Rattle.node_moves.specs.Costs.{parents_cost}
 use Rattle.one_splitting.specs.Costs.{move_cost, round_cost}
 use Rattle.one_splitting.specs.Numbered.{HaveNumbers}
-use Rattle.one_splitting.specs.Going.{BeginsAt, ListsChildrenOf, AreAdded}
+use Rattle.one_splitting.specs.NodeGoals.{BeginsAt, ListsChildrenOf, AreAdded}
 
 apart_all : (x : ℕ) (xs : List ℕ) → AllByRecursion (λ y. nat_cmp x y ≡ Less) xs → AllByRecursion (λ y. nat_eq x y ≡ false) xs
 apart_all x [] h = tt

@@ -7,7 +7,7 @@ use Rattle.std.proofs.lemmas.Bool.Decides.{eqb_tells, Decides-eqb}
 use Rattle.px_spec.specs.Members.{at, has}
 use Rattle.px_spec.specs.Shapes.{Shape}
 use Rattle.bisim_spec.proofs.Bisimilar.{some_of, is_some_at}
-use Rattle.one_splitting.specs.Going.{goal_at, HaveGone, ListsChildrenOf}
+use Rattle.one_splitting.specs.NodeGoals.{goal_at, HaveGone, ListsChildrenOf}
 use Rattle.one_splitting.proofs.Places.{place_of, place_is}
 
 -- what one move makes of the partition

@@ -14,7 +14,7 @@ use Rattle.upkeep_spec.specs.Rounds.{AreGoals}
 use Rattle.one_splitting.specs.Counted.{AreCounted}
 use Rattle.one_splitting.proofs.Wholes.{whole_counted, part_counted}
 use Rattle.one_splitting.specs.Numbered.{HasNumber, HaveNumbers}
-use Rattle.one_splitting.specs.Going.{BeginsAt, goal_at, AreGoing, HaveGone}
+use Rattle.one_splitting.specs.NodeGoals.{BeginsAt, goal_at, AreGoing, HaveGone}
 use Rattle.one_splitting.proofs.Places.{place_of, place_found, has_place, place_is}
 
 -- the group of a node that is looked at

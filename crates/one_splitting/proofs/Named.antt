@@ -6,7 +6,7 @@ use Rattle.px_spec.specs.Members.{at, has}
 use Rattle.px_spec.specs.Shapes.{Shape}
 use Rattle.bisim_spec.proofs.Bisimilar.{some_of, none_or_some, is_some_at}
 use Rattle.one_splitting.specs.Numbered.{HaveNumbers}
-use Rattle.one_splitting.specs.Going.{BeginsAt, goal_at, HaveGone, GoalsHaveLabels, LabelsStay}
+use Rattle.one_splitting.specs.NodeGoals.{BeginsAt, goal_at, HaveGone, GoalsHaveLabels, LabelsStay}
 use Rattle.upkeep_spec.specs.Named.{AreNamed}
 use Rattle.one_splitting.proofs.Places.{place_of, place_found, has_place, place_is}
 use Rattle.one_splitting.proofs.Chosen.{goal_cases, one_own}

@@ -18,12 +18,12 @@ use Rattle.upkeep_spec.proofs.Splitting.{same_but_moved, same_but_on, within_on}
 use Rattle.upkeep_spec.proofs.Sums.{first_has, rest_apart}
 use Rattle.graph_update.proofs.NeighbourLists.{and_one}
 use Rattle.upkeep_spec.specs.Named.{AreNamed, AreNamedOff}
-use Rattle.one_splitting.specs.Going.{LabelsStay, AreBlocks}
+use Rattle.one_splitting.specs.NodeGoals.{LabelsStay, AreBlocks}
 use Rattle.one_splitting.proofs.Named.{some_kept}
 use Rattle.upkeep_spec.specs.Splits.{IsClosed, IsSplitInside}
 use Rattle.one_splitting.proofs.Apart.{IsApart}
 use Rattle.one_splitting.proofs.Chosen.{has_push}
-use Rattle.one_splitting.specs.Parting.{either, IsParting, IsFirst}
+use Rattle.one_splitting.specs.SplitStates.{either, IsParting, IsFirst}
 
 both_off : (x y : Bool) → x ≡ false → y ≡ false → (x || y) ≡ false
 both_off x y a b = rw (a, b) refl

@@ -18,7 +18,7 @@ use Rattle.bisim_spec.proofs.Bisimilar.{is_some_at}
 use Rattle.bisim_spec.proofs.Together.{together_some, together_sym}
 use Rattle.upkeep_spec.specs.Named.{AreNamed, AreNamedOff}
 use Rattle.upkeep_spec.specs.Supported.{AreEdgeCounts}
-use Rattle.one_splitting.specs.Going.{MembersHaveLabels, LabelsStay}
+use Rattle.one_splitting.specs.NodeGoals.{MembersHaveLabels, LabelsStay}
 use Rattle.one_splitting.proofs.Named.{some_kept}
 
 -- one more element is kept or not

@@ -11,7 +11,7 @@ use Rattle.upkeep_spec.proofs.Splitting.{round_stable, same_but_moved, same_but_
 use Rattle.upkeep_spec.proofs.Goals.{is_moved, goals_within, goals_round, goals_partition, goals_left}
 use Rattle.one_splitting.specs.Counted.{AreCounted}
 use Rattle.one_splitting.specs.Numbered.{HaveNumbers}
-use Rattle.one_splitting.specs.Going.{BeginsAt, goal_at, AreGoing, HaveGone, ListsChildrenOf, AreAdded}
+use Rattle.one_splitting.specs.NodeGoals.{BeginsAt, goal_at, AreGoing, HaveGone, ListsChildrenOf, AreAdded}
 use Rattle.upkeep_spec.specs.Splits.{IsClosed, IsSplitInside}
 use Rattle.one_splitting.proofs.Places.{place_of, place_found, has_place}
 use Rattle.one_splitting.proofs.Groups.{group_of, goal_of, goal_looked, goal_there, groups_go, node_of}

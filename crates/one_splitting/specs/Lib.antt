@@ -1,5 +1,5 @@
 pub mod Costs
 pub mod Counted
-pub mod Going
+pub mod NodeGoals
 pub mod Numbered
-pub mod Parting
+pub mod SplitStates

@@ -5,7 +5,7 @@ ghost use Rattle.px_spec.specs.Members.{has, at};
 ghost use Rattle.quotient_draft.specs.Drafts.{shown_blocks, shown_labels};
 ghost use Rattle.quotient_draft.specs.Basis.{IsOver};
 ghost use Rattle.one_splitting.specs.Counted.{has_company};
-ghost use Rattle.one_splitting.specs.Going.{MembersHaveLabels};
+ghost use Rattle.one_splitting.specs.NodeGoals.{MembersHaveLabels};
 
 use crate::keys::own_block;
 use px_base::{Memory, NodeId};

@@ -3,7 +3,7 @@ ghost use Rattle.std.specs.Prelude.{◌≡◌, ◌≢◌, ◌⊎◌, ◌++◌, �
 ghost use Rattle.px_spec.specs.Members.{has, at, is_this};
 ghost use Rattle.quotient_draft.specs.Drafts.{shown_blocks, shown_labels, shown_support};
 ghost use Rattle.quotient_draft.specs.Basis.{IsOver};
-ghost use Rattle.one_splitting.specs.Going.{AreGoing, BeginsAt, IsCountedWhole, StaysIf, GoesIf, AreBlocks, GoalsAreBlocks, AreAdded, MembersHaveLabels, GoalsHaveLabels, LabelsStay};
+ghost use Rattle.one_splitting.specs.NodeGoals.{AreGoing, BeginsAt, IsCountedWhole, StaysIf, GoesIf, AreBlocks, GoalsAreBlocks, AreAdded, MembersHaveLabels, GoalsHaveLabels, LabelsStay};
 
 use crate::owners::is_whole;
 use indexmap::{IndexMap, IndexSet};

@@ -4,7 +4,7 @@ ghost use Rattle.px_spec.specs.Members.{has, at, is_this};
 ghost use Rattle.quotient_draft.specs.Drafts.{shown_blocks, shown_labels};
 ghost use Rattle.quotient_draft.specs.Basis.{IsOver};
 ghost use Rattle.one_splitting.specs.Counted.{count_at, is_in};
-ghost use Rattle.one_splitting.specs.Going.{IsCountedWhole};
+ghost use Rattle.one_splitting.specs.NodeGoals.{IsCountedWhole};
 
 use crate::keys::own_block;
 use indexmap::IndexMap;

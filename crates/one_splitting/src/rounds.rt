@@ -12,7 +12,7 @@ ghost use Rattle.graph_update.specs.Pending.{graph_after};
 ghost use Rattle.quotient_draft.specs.Drafts.{shown_blocks, shown_labels, shown_support};
 ghost use Rattle.quotient_draft.specs.Basis.{IsOver};
 ghost use Rattle.one_splitting.specs.Costs.{move_cost, round_cost};
-ghost use Rattle.one_splitting.specs.Going.{goal_at, AreBlocks, GoalsAreBlocks, MembersHaveLabels, HaveGone, ListsChildrenOf};
+ghost use Rattle.one_splitting.specs.NodeGoals.{goal_at, AreBlocks, GoalsAreBlocks, MembersHaveLabels, HaveGone, ListsChildrenOf};
 
 use crate::company::with_company;
 use crate::goals::find_goals;

@@ -15,8 +15,8 @@ ghost use Rattle.graph_update.specs.Pending.{graph_after};
 ghost use Rattle.quotient_draft.specs.Drafts.{shown_blocks, shown_labels, shown_support};
 ghost use Rattle.quotient_draft.specs.Basis.{IsOver};
 ghost use Rattle.one_splitting.specs.Costs.{move_cost};
-ghost use Rattle.one_splitting.specs.Going.{AreBlocks, MembersHaveLabels};
-ghost use Rattle.one_splitting.specs.Parting.{IsParting, IsFirst};
+ghost use Rattle.one_splitting.specs.NodeGoals.{AreBlocks, MembersHaveLabels};
+ghost use Rattle.one_splitting.specs.SplitStates.{IsParting, IsFirst};
 
 use crate::company::push_if;
 use crate::goals::draft_block;

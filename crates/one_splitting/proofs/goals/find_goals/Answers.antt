@@ -1,7 +1,7 @@
 use Rattle.std.proofs.Common.{◌≡◌, ◌<◌, ◌++◌, ◌∷◌, [], ℕ, Option, length, IsSome, arith, sym, ap, subst, ◌∙◌, length-append}
 use Rattle.px_spec.specs.Members.{at}
 use Rattle.quotient_draft.specs.Drafts.{shown_blocks, shown_labels}
-use Rattle.one_splitting.specs.Going.{BeginsAt, StaysIf, GoesIf, AreGoing, GoalsAreBlocks, AreAdded, GoalsHaveLabels}
+use Rattle.one_splitting.specs.NodeGoals.{BeginsAt, StaysIf, GoesIf, AreGoing, GoalsAreBlocks, AreAdded, GoalsHaveLabels}
 use Rattle.one_splitting.proofs.Chosen.{AreNoted}
 use Rattle.one_splitting.proofs.Choosing.{IsChosen, choose_step, begins_long, begins_own}
 use Rattle.one_splitting.proofs.Named.{some_kept, labels_more}

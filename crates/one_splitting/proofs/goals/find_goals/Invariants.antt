@@ -2,7 +2,7 @@ use Rattle.std.proofs.Common.{◌≡◌, ℕ, length}
 use Rattle.px_spec.specs.Members.{at}
 use Rattle.quotient_draft.specs.Basis.{IsOver}
 use Rattle.quotient_draft.specs.Drafts.{shown_blocks, shown_labels, shown_support}
-use Rattle.one_splitting.specs.Going.{AreGoing, AreBlocks, GoalsAreBlocks, AreAdded, GoalsHaveLabels, LabelsStay}
+use Rattle.one_splitting.specs.NodeGoals.{AreGoing, AreBlocks, GoalsAreBlocks, AreAdded, GoalsHaveLabels, LabelsStay}
 use Rattle.one_splitting.proofs.Chosen.{AreNoted}
 use Rattle.one_splitting.proofs.goals.find_goals.Given as goal
 

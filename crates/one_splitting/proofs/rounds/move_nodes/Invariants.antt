@@ -7,7 +7,7 @@ use Rattle.graph_update.specs.Pending.{graph_after}
 use Rattle.quotient_draft.specs.Basis.{IsOver}
 use Rattle.quotient_draft.specs.Drafts.{shown_blocks, shown_support}
 use Rattle.one_splitting.specs.Costs.{move_cost}
-use Rattle.one_splitting.specs.Going.{HaveGone, ListsChildrenOf}
+use Rattle.one_splitting.specs.NodeGoals.{HaveGone, ListsChildrenOf}
 use Rattle.one_splitting.proofs.rounds.move_nodes.Given as goal
 
 abbrev pub invariant-loop-i : goal.invariant-loop-i

@@ -6,7 +6,7 @@ use Rattle.upkeep_spec.specs.Named.{AreNamed}
 use Rattle.graph_update.specs.Pending.{graph_after}
 use Rattle.quotient_draft.specs.Drafts.{shown_blocks, shown_labels, with_added}
 use Rattle.one_splitting.specs.Counted.{AreCounted}
-use Rattle.one_splitting.specs.Going.{HaveGone, ListsChildrenOf}
+use Rattle.one_splitting.specs.NodeGoals.{HaveGone, ListsChildrenOf}
 use Rattle.one_splitting.proofs.Ends.{set_distinct, next_set, more_or_none, owns, round_parts}
 use Rattle.one_splitting.proofs.Named.{named_step}
 use Rattle.one_splitting.proofs.Steps.{split_step}

@@ -11,8 +11,8 @@ use Rattle.graph_update.specs.Pending.{graph_after}
 use Rattle.quotient_draft.specs.Basis.{IsOver}
 use Rattle.quotient_draft.specs.Drafts.{shown_blocks, shown_labels, shown_support}
 use Rattle.one_splitting.specs.Costs.{move_cost}
-use Rattle.one_splitting.specs.Going.{AreBlocks, MembersHaveLabels}
-use Rattle.one_splitting.specs.Parting.{IsParting}
+use Rattle.one_splitting.specs.NodeGoals.{AreBlocks, MembersHaveLabels}
+use Rattle.one_splitting.specs.SplitStates.{IsParting}
 use Rattle.one_splitting.proofs.targets.part_all.Given as goal
 
 abbrev pub invariant-loop-t : goal.invariant-loop-t

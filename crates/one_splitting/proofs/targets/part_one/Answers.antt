@@ -6,7 +6,7 @@ use Rattle.label_graph.specs.Views.{label_number}
 use Rattle.graph_update.specs.Pending.{graph_after}
 use Rattle.quotient_draft.specs.Drafts.{shown_blocks, shown_labels, with_added}
 use Rattle.upkeep_spec.specs.Named.{AreNamedOff}
-use Rattle.one_splitting.specs.Going.{AreBlocks}
+use Rattle.one_splitting.specs.NodeGoals.{AreBlocks}
 use Rattle.one_splitting.proofs.Apart.{alone_from}
 use Rattle.one_splitting.proofs.Parted.{part_stays, part_moves, apart_from, children_more, blocks_more, named_alone, named_moved}
 use Rattle.one_splitting.proofs.Present.{labels_kept, told_some}

@@ -12,7 +12,7 @@ use Rattle.graph_update.specs.Pending.{graph_after}
 use Rattle.quotient_draft.specs.Basis.{IsOver}
 use Rattle.quotient_draft.specs.Drafts.{shown_blocks, shown_labels, shown_support}
 use Rattle.one_splitting.specs.Costs.{HasCost}
-use Rattle.one_splitting.specs.Going.{AreBlocks}
+use Rattle.one_splitting.specs.NodeGoals.{AreBlocks}
 use Rattle.one_splitting.proofs.targets.split.Given as goal
 
 abbrev pub invariant-rounds : goal.invariant-rounds

@@ -1,6 +1,6 @@
 use Rattle.std.proofs.Common.{length, sym, ◌∙◌, ap, subst}
 use Rattle.ak_drafting.specs.Drafting.{FamilyFits}
-use Rattle.ak_maintain.specs.Keeping.{KeptFamily}
+use Rattle.ak_maintain.specs.KeptFamilies.{KeptFamily}
 use Rattle.ak_maintain.proofs.kept.Kept.prepare.Goals as goal
 
 pub drafted_with_room-requires-clause-fits : goal.drafted_with_room-requires-clause-fits

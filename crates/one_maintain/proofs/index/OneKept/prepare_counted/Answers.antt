@@ -1,6 +1,6 @@
 use Rattle.std.proofs.Common.{Option, subst}
 use Rattle.index_api.specs.Meanings.{IsReady}
-use Rattle.one_maintain.specs.Keeping.{KeptQuotient, meaning_of}
+use Rattle.one_maintain.specs.KeptQuotients.{KeptQuotient, meaning_of}
 use Rattle.one_maintain.proofs.Staged.{ready_kept, same_view}
 use Rattle.one_maintain.proofs.index.OneKept.prepare_counted.Goals as goal
 
