@@ -419,6 +419,8 @@ class Run:
         self.moves = Moves()
         self.has_hub = changes_alone and self.pick.randrange(HUB_RUNS) == 0
         self.changes = 0
+        # those after which the 1-index is listed, on acyclic graphs and on others
+        self.ones = [0, 0]
         self.script = []
         self.tests = []
         for change in [self.node] * NODES + [self.link] * LINKS:
@@ -445,6 +447,8 @@ class Run:
     def moved(self, target, edge=None):
         """Notes a change that the graph has undergone."""
         self.changes += 1
+        if self.changes_alone and "one" in self.kept:
+            self.ones[has_ring(self.graph)] += 1
         self.moves.add(self.graph, target, edge)
 
     def say_change(self, line, reply):
@@ -623,7 +627,7 @@ def main():
     if not 2 <= len(sys.argv) <= 4 or sys.argv[3:] not in ([], ["changes"]):
         sys.exit(__doc__)
     runs = int(sys.argv[2]) if len(sys.argv) > 2 else RUNS
-    changes, of_hubs = 0, 0
+    changes, of_hubs, ones = 0, 0, [0, 0]
     for seed in range(runs):
         run = Run(seed, len(sys.argv) == 4)
         with tempfile.NamedTemporaryFile("w", suffix=".script") as script:
@@ -636,7 +640,10 @@ def main():
             sys.exit(f"run {seed}: {fault}")
         changes += run.changes
         of_hubs += run.changes if run.has_hub else 0
+        ones = [one + more for one, more in zip(ones, run.ones)]
     print(f"ok: {runs:,} runs, {changes:,} changes, {of_hubs:,} of them in runs with a hub")
+    if len(sys.argv) == 4:
+        print(f"the 1-index was listed after {sum(ones):,} of them, {ones[0]:,} on acyclic graphs and {ones[1]:,} on graphs with cycles")
 
 
 if __name__ == "__main__":

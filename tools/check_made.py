@@ -8,7 +8,8 @@ must be the same nodes. The first output that is wrong ends the tool with the st
 
 Before that the facts in examples/made-1.out are compared with those of the whole texts of the seed 1. They are found in Python alone,
 by keys of nodes in place of pairs: the classes of each index are refined until they stay, and walks are followed from node to node. With
-no PROGRAM that is all.
+no PROGRAM that is all. Else the program is asked over its whole graph file too, after the first 40 changes, and the nodes of each answer are
+compared.
 """
 import pathlib
 import re
@@ -24,6 +25,9 @@ from made_texts import Draws, graph_file, script
 
 MADE = pathlib.Path(__file__).resolve().parent.parent / "examples" / "made-1.out"
 SEEDS = [1, 2, 18446744073709551615]
+# of a script the first changes, the last lines, which write sizes and ask each query through each of these, and the lines of the sizes
+FIRST, ASKED, SIZES = 40, 13, 6
+INDEXES = ["data", "a2", "one", "fb"]
 # subjects below the one number or from the other on are kept, of 4,000
 SMALL, LARGE = 7, 3994
 # lines of the script that are kept, four for each of its steps
@@ -135,12 +139,8 @@ def check(program, seed):
     for line in list(script(draws, len(graph.labels)))[:LINES]:
         rows.append((line, graph.change(line)))
     rows += list(listed(graph)) + list(asked(graph))
-    with tempfile.NamedTemporaryFile("w") as graph_text, tempfile.NamedTemporaryFile("w") as script_text:
-        graph_text.write("".join(line + "\n" for line in triples))
-        script_text.write("".join(line + "\n" for line, _ in rows))
-        graph_text.flush(), script_text.flush()
-        done = subprocess.run([program, script_text.name, "--graph", graph_text.name], capture_output=True, text=True)
-    output = Output(done.stdout)
+    written, status = run(program, triples, [line for line, _ in rows])
+    output = Output(written)
     for line, test in rows:
         fault = test(output)
         if fault:
@@ -148,19 +148,22 @@ def check(program, seed):
     if output.at != len(output.lines):
         sys.exit(f"seed {seed}: more is written")
     wanted = 1 if any(line.startswith("refused") for line in output.lines) else 0
-    if done.returncode != wanted:
-        sys.exit(f"seed {seed}: wanted the status {wanted}, got {done.returncode}")
+    if status != wanted:
+        sys.exit(f"seed {seed}: wanted the status {wanted}, got {status}")
     return len(graph.labels)
 
 
 class Whole:
-    """The graph of the whole texts of a seed. Partitions are lists of numbers of blocks, by node."""
+    """The graph of the whole texts of a seed, or of the graph file and the first lines of the script. Partitions are lists of numbers of
+    blocks, by node."""
 
-    def __init__(self, seed):
+    def __init__(self, seed, first=None):
         draws = Draws(seed)
-        graph = Loaded(graph_file(draws))
+        self.triples = list(graph_file(draws))
+        graph = Loaded(self.triples)
         self.labels, self.edges = graph.labels, graph.edges
-        for line in script(draws, len(graph.labels)):
+        self.lines = list(script(draws, len(graph.labels)))
+        for line in self.lines[:first]:
             self.change(*line.split(" ", 1))
         self.parents, self.children = [[] for _ in self.labels], [[] for _ in self.labels]
         for u, v in self.edges:
@@ -251,6 +254,31 @@ def made(seed):
             yield f"answers {count} candidates {count if rows[i] else offered[name][i]} {'exact' if rows[i] else 'checked'}"
 
 
+def run(program, triples, lines):
+    """What the program writes for a graph file of these lines and a script of those, and its exit status."""
+    with tempfile.NamedTemporaryFile("w") as graph_text, tempfile.NamedTemporaryFile("w") as script_text:
+        graph_text.write("".join(line + "\n" for line in triples))
+        script_text.write("".join(line + "\n" for line in lines))
+        graph_text.flush(), script_text.flush()
+        done = subprocess.run([program, script_text.name, "--graph", graph_text.name], capture_output=True, text=True)
+    return done.stdout, done.returncode
+
+
+def compare_ends(program, seed):
+    """Has the program ask over the whole graph file and the first changes, and compares the nodes of each answer."""
+    graph = Whole(seed, FIRST)
+    written, _ = run(program, graph.triples, graph.lines[:FIRST] + graph.lines[-ASKED:])
+    lines = iter(written.splitlines()[FIRST + SIZES:])
+    for found in graph.found(False):
+        nodes = " ".join(f"n{n}" for n in sorted(found))
+        for word in INDEXES:
+            if not next(lines).startswith(f"answers {len(found)}") or next(lines) != nodes:
+                sys.exit(f"seed {seed}: an answer through {word} isn't {nodes!r}")
+    if next(lines, None) is not None:
+        sys.exit(f"seed {seed}: more is written")
+    print(f"ok: seed {seed}, the nodes of {ASKED - 1} answers over the whole graph file")
+
+
 def compare_made():
     wanted, stored = list(made(SEEDS[0])), MADE.read_text().splitlines()
     for line, other in zip(wanted, stored):
@@ -265,7 +293,10 @@ def main():
     if len(sys.argv) > 2:
         sys.exit(__doc__)
     compare_made()
-    for seed in SEEDS if len(sys.argv) == 2 else []:
+    if len(sys.argv) == 1:
+        return
+    compare_ends(sys.argv[1], SEEDS[0])
+    for seed in SEEDS:
         print(f"ok: seed {seed}, {check(sys.argv[1], seed)} nodes")
 
 

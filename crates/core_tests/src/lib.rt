@@ -4,6 +4,8 @@
 #[cfg(test)]
 mod calls;
 #[cfg(test)]
+mod failing_tests;
+#[cfg(test)]
 mod full_tests;
 #[cfg(test)]
 mod limit_tests;

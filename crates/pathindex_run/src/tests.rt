@@ -105,13 +105,6 @@ fn script(text: &str) -> Given<'_> {
     }
 }
 
-/// Two chains, and a node above the second one: their lists before it is linked, then, and after.
-const CHAINS: &str =
-    "node a\nnode b\nnode c\nlink n0 n1\nlink n1 n2\nnode a\nnode b\nnode c\nlink n3 n4\nlink n4 n5\nnode x\nextents a2\nlink n6 n3\nextents a2\nunlink n6 n3\nextents a2\n";
-
-const CHAIN_LISTS: &str =
-    "added n0\nadded n1\nadded n2\nok\nok\nadded n3\nadded n4\nadded n5\nok\nok\nadded n6\nblocks 4\na n0 n3\nb n1 n4\nc n2 n5\nx n6\nok\nblocks 6\na n0\nb n1\nc n2 n5\na n3\nb n4\nx n6\nok\nblocks 4\na n0 n3\nb n1 n4\nc n2 n5\nx n6\n";
-
 /// Scripts, what they write, and the status.
 const SCRIPTS: &[(&str, &str, u8)] = &[
     ("", "", 0),
@@ -161,7 +154,12 @@ const SCRIPTS: &[(&str, &str, u8)] = &[
     ),
     ("unlink n0\n", "bad 1\n", 4),
     ("# x\rnode a\r\r\nnod\r", "added n0\nbad 4\n", 4),
-    (CHAINS, CHAIN_LISTS, 0),
+    // two chains, and a node above the second one: their lists before it is linked, then, and after
+    (
+        "node a\nnode b\nnode c\nlink n0 n1\nlink n1 n2\nnode a\nnode b\nnode c\nlink n3 n4\nlink n4 n5\nnode x\nextents a2\nlink n6 n3\nextents a2\nunlink n6 n3\nextents a2\n",
+        "added n0\nadded n1\nadded n2\nok\nok\nadded n3\nadded n4\nadded n5\nok\nok\nadded n6\nblocks 4\na n0 n3\nb n1 n4\nc n2 n5\nx n6\nok\nblocks 6\na n0\nb n1\nc n2 n5\na n3\nb n4\nx n6\nok\nblocks 4\na n0 n3\nb n1 n4\nc n2 n5\nx n6\n",
+        0,
+    ),
     // Sets of parents count, and not their number.
     (
         "node a\nnode a\nnode b\nnode b\nlink n0 n2\nlink n1 n2\nlink n0 n3\nextents a1\n",
@@ -270,39 +268,6 @@ fn failing_calls_lose_no_line(rt: HostRuntime) {
         ..script("node a\nnode b\nlink n0 n1\npath data a/b\n")
     };
     assert!(rt; ends(rt.alloc(), write_fails, "", 6));
-}
-
-/// The status of the run of the chains, where shelf and sink move a byte at a time and this call on the shelf fails.
-fn run_bytewise(alloc: Global, failing: u32, sink: &mut MemSink) -> Result<u8, Memory> {
-    let words = named(alloc, &["s"])?;
-    let mut files = Vec::new(alloc);
-    put_file(alloc, &mut files, b"s", Some(CHAINS))?;
-    let mut shelf = MemShelf::new(files, 1, number(alloc, failing)?);
-    run_over(alloc, &words, &mut shelf, sink)
-}
-
-/// How many bytes the run writes in which these calls fail, where it ends with that status and they are the first of the lists.
-fn written(alloc: Global, failing: (u32, u32), status: u8) -> Result<Option<usize>, Memory> {
-    let mut sink = MemSink::new(alloc, 1, number(alloc, failing.1)?, 1000)?;
-    let ended = run_bytewise(alloc, failing.0, &mut sink)?;
-    let front = sink.written();
-    if ended == status && CHAIN_LISTS.as_bytes().starts_with(front) {
-        return Ok(Some(front.len()));
-    }
-    Ok(None)
-}
-
-// One call opens the file, and one for each of its 150 bytes and one more read it. As many write the 199 bytes.
-#[test]
-fn each_failing_call_leaves_a_front(rt: HostRuntime) -> Result<(), Fail> {
-    for call in 1..=152 {
-        assert!(rt; written(rt.alloc(), (call, 0), 5)?.is_some(), "{call}");
-    }
-    for done in 0..199 {
-        assert_eq!(rt; written(rt.alloc(), (0, done + 1), 6)?, Some(done as usize));
-    }
-    assert_eq!(rt; written(rt.alloc(), (153, 200), 0)?, Some(199));
-    Ok(())
 }
 
 /// A graph file whose two spellings of one IRI are one node, and three that are broken.
