@@ -1,7 +1,7 @@
 #!/usr/bin/env python3
 """Has bin/pathindex change generated graphs, and prints what an update takes while only the A(k)-indexes are kept, and while only the
-1-index is. Then it prints what an update takes while a node with many parents loses them one by one, and what the run of a seed takes,
-with its 2,000 changes and 12 queries over all indexes. The gate doesn't run this.
+1-index is. Then it prints what an update takes while a node with many parents loses some of them one by one, and what the run of a seed
+takes, with its 2,000 changes and 12 queries over all indexes. The gate doesn't run this.
 
     bench_updates.py [PROGRAM [PARENTS]]
 
@@ -22,6 +22,8 @@ MAKE = ROOT / "tools" / "make_triples.py"
 # triples, updates and turns; so many updates that their time stands out beside that of the load
 CASES = [(20_000, 2_000, 9), (200_000, 2_000, 7), (1_600_000, 20_000, 3)]
 PARENTS = 20_000
+# of its parents the hub loses at most so many
+HUB_UPDATES = 5_000
 HUB_TURNS = 3
 # the parents of the hub have so many labels
 HUB_LABELS = 8
@@ -87,9 +89,9 @@ def hub_changes(parents):
     return [f"unlink n{triple} n2" for triple in triples]
 
 
-def measure_hub(program, folder, parents):
+def measure_hub(program, folder, parents, turns):
     graph = write(folder, "hub.nt", "".join(hub_graph(parents)))
-    measure(program, folder, graph, hub_changes(parents), HUB_TURNS, f"a hub of {parents:,} parents")
+    measure(program, folder, graph, hub_changes(parents)[:HUB_UPDATES], turns, f"a hub of {parents:,} parents")
 
 
 def main():
@@ -102,7 +104,7 @@ def main():
     with tempfile.TemporaryDirectory() as folder:
         for count, updates, turns in CASES:
             measure_made(program, folder, count, updates, turns)
-        measure_hub(program, folder, parents)
+        measure_hub(program, folder, parents, HUB_TURNS)
     seconds, peak = best_of({"made": [program, "--make", SEED]}, 3)["made"]
     print(f"--make {SEED}: {seconds:.2f} seconds, peak {peak:.0f} MB")
 
