@@ -109,27 +109,23 @@ fn check_link<L: Ledger>(
     Ok(())
 }
 
-fn check_chains<L: Ledger>(
-    rt: &impl Abort,
-    alloc: Global,
-    graph: &Graph,
-    blank: Blank,
-) -> Result<(), Fail>
+fn check_chains<L: Ledger>(rt: &impl Abort, alloc: Global, blank: Blank) -> Result<(), Fail>
     requires name { blank.name ≡ L.name }
     requires parts { blank.parts ≡ L.parts }
     requires some { 0 < blank.parts }
 {
     let mut steps = Steps::<L>::new(blank);
+    let graph = drawn(
+        alloc,
+        b"abcabcxabc",
+        &[(0, 1), (1, 2), (3, 4), (4, 5), (6, 7), (7, 8), (8, 9)],
+        &mut steps,
+    )?;
     let base = OneIndex::build(alloc, &graph.view(&mut steps))?;
-    check_link(rt, alloc, graph, &base, &mut steps)
+    check_link(rt, alloc, &graph, &base, &mut steps)
 }
 
 #[test]
 fn chains_come_apart(rt: HostRuntime) -> Result<(), Fail> {
-    let graph = graph_of(
-        rt.alloc(),
-        b"abcabcxabc",
-        &[(0, 1), (1, 2), (3, 4), (4, 5), (6, 7), (7, 8), (8, 9)],
-    )?;
-    check_chains::<Brand>(&rt, rt.alloc(), &graph, Blank::new(1))
+    check_chains::<Brand>(&rt, rt.alloc(), Blank::new(1))
 }

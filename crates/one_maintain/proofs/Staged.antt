@@ -17,7 +17,6 @@ use Rattle.quotient_draft.specs.Basis.{IsOver}
 use Rattle.quotient_draft.specs.Rooms.{HasRoomFor}
 use Rattle.quotient_draft.proofs.Gone.{member_there}
 use Rattle.one_merging.specs.Roots.{RootLists, CoversRoots, CoversBase, CoversShown}
-use Rattle.one_merging.proofs.Rooted.{labels_kept}
 use Rattle.index_api.specs.Meanings.{IsReady, IsBuilt, IsPrepared, IsCommitted, unstaged}
 use Rattle.one_maintain.specs.KeptQuotients.{KeptQuotient, CanSettle, meaning_of, staged_views}
 use Rattle.one_drafting.specs.Drafting.{IsSupported}
@@ -136,6 +135,15 @@ built None k q g n base is fits whole = record { kind = refl; ready = ready_new 
 built (Some k0) k q g n base is fits whole = record { kind = refl; ready = ready_new k q g base is fits; count = refl; whole = whole_new k q g base whole }
 
 -- ---- the blocks to which no other has support
+
+labels_kept : (block : List (Option ℕ)) (n : ℕ) (labels : List (Option ℕ)) (b l : ℕ) → at (inhabited_from block n labels) b ≡ Some l → at labels b ≡ Some l
+labels_kept block n [] b l h = absurd (cc)
+labels_kept block n (x ∷ xs) zero l h = by (has_member block n) h
+  where
+    by : (t : Bool) → cond t x None ≡ Some l → x ≡ Some l
+    by true e = e
+    by false e = absurd (cc)
+labels_kept block n (x ∷ xs) (suc b) l h = labels_kept block (n + 1) xs b l h
 
 -- those that the base has once a draft is settled
 pub covers_settled : (q q2 : Quotient) (d : Drafted) (roots : RootLists) → view_of q2 ≡ settled_view q d → CoversShown q d roots → CoversBase q2 roots
