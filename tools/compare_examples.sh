@@ -2,8 +2,7 @@
 # Runs each script of examples/ on the program, with the words of NAME.words behind its name where there is such a
 # file, one a line. Compares what it writes with NAME.out, and its exit status with NAME.status, which is 0 where
 # there is no such file. Then runs the texts that are made from the seed 1, which write made-1.out: tools/check_made.py
-# finds the same lines without the program. That run is stopped after a minute, of which it needs a small part, so that a
-# program which builds its indexes anew after each of the 2,000 changes fails.
+# finds the same lines without the program. That run is stopped after a minute, of which it needs a small part.
 set -eu
 cd "$(dirname "$0")/.."
 program=${1:?usage: tools/compare_examples.sh PROGRAM}
