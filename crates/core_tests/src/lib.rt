@@ -12,6 +12,8 @@ mod limit_tests;
 #[cfg(test)]
 mod made_tests;
 #[cfg(test)]
+mod one_tests;
+#[cfg(test)]
 mod ring_tests;
 #[cfg(test)]
 mod tired;
