@@ -12,7 +12,7 @@ NEEDS_RT = command -v rt >/dev/null || { echo "make $@: the command rt of the Ra
 
 help:
 	@echo 'make run               prove and build the program, and run examples/foaf.script'
-	@echo 'make test              the gate: each proof, each edit that must be refused, each test and program'
+	@echo 'make test              the gate: each proof, each edit that must be refused, each test, program and example'
 	@echo 'make try SCRIPT=FILE   run a script without proving anything, for a first look; GRAPH=FILE names a graph file'
 	@echo 'make bench             measure bin/pathindex on generated scripts and graph files, and triples_count beside serdi'
 
@@ -34,6 +34,7 @@ run:
 test:
 	@$(NEEDS_RT)
 	rt ci
+	tools/compare_examples.sh $(PROGRAM)/out/pathindex_main
 
 try:
 	@$(NEEDS_RT)

@@ -415,7 +415,7 @@ class Run:
         self.kept = {"a", "one", "fb"} - {kind for kind in ("one", "fb") if self.pick.randrange(8) == 0}
         self.words = ["--k", str(self.k)] + [f"--without-{kind}" for kind in ("one", "fb") if kind not in self.kept]
         self.graph = Graph()
-        self.may_have_rings = self.pick.randrange(2) == 0
+        self.may_have_rings = self.pick.randrange(8) < 5  # so that about half of the changes meet a ring
         self.moves = Moves()
         self.has_hub = changes_alone and self.pick.randrange(HUB_RUNS) == 0
         self.changes = 0
@@ -431,6 +431,8 @@ class Run:
         changes = [self.node, self.link, self.link, self.link, self.unlink, self.unlink, self.drop]
         asks = [self.path, self.path, self.branch, self.branch, self.extents, self.sizes]
         for _ in range(LINES):
+            if changes_alone and self.may_have_rings and not has_ring(self.graph):
+                self.close_ring()
             self.pick.choice(changes if changes_alone else changes + asks)()
             if not changes_alone and self.pick.randrange(LINES) == 0:
                 kind = self.pick.choice(["a", "one", "fb"])
@@ -489,6 +491,11 @@ class Run:
             self.graph.edges.add(edge)
             self.moved(edge[1], edge)
         self.say_change("link n%d n%d" % edge, "ok" if are_live else "refused no-node")
+
+    def close_ring(self):
+        """Leads back along an edge, where there is one."""
+        for u, v in self.pick.sample(sorted(self.graph.edges), min(1, len(self.graph.edges))):
+            self.link_edge((v, u))
 
     def unlink(self):
         self.unlink_edge(self.pick.choice(sorted(self.graph.edges) + [(self.any_node(), self.any_node())]))

@@ -115,6 +115,7 @@ const NESTED: &[[&str; 5]] = &[
     ["a[/", "a[/", "a", "]", "]"],
     ["a[", "(", "/b", ")", "]"],
     ["a[", "not(", "/b", ")", "]"],
+    ["a[/a and ", "not(", "/a", ")", "]"],
 ];
 
 /// The text of the row, with so many brackets within the first one.

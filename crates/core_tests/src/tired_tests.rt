@@ -24,41 +24,69 @@ fn one_node(alloc: Global) -> Result<Graph, Memory> {
     Ok(graph)
 }
 
-/// Whether each index that has views has that node alone.
-fn lists_one(engine: &mut Engine, alloc: Global) -> bool
-    requires open { IsSome (opened_of engine.old.state) }
-    requires sound { IsSound (engine_seen (map (λ b. meaning (b.vtable, b.value)) engine.old.boxes.items) engine.old.state) }
-    ensures open { IsSome (opened_of engine.new.state) }
-    ensures sound { IsSound (engine_seen (map (λ b. meaning (b.vtable, b.value)) engine.new.boxes.items) engine.new.state) }
-{
-    lists(engine, alloc, Via::A(0), Some("blocks 1\na n0\n"))
-        && lists(engine, alloc, Via::A(1), Some("blocks 1\na n0\n"))
-        && lists(engine, alloc, Via::One, Some("blocks 1\na n0\n"))
+/// A graph, how many nodes it has, and what each index that has views lists of it.
+#[derive(Drop)]
+struct Start {
+    graph: Option<Graph>,
+    nodes: u32,
+    list: &'static str,
 }
 
-/// Whether there is that node alone, in the graph and in the indexes that have views.
-fn has_one(engine: &mut Engine, alloc: Global) -> bool
-    requires open { IsSome (opened_of engine.old.state) }
-    requires sound { IsSound (engine_seen (map (λ b. meaning (b.vtable, b.value)) engine.old.boxes.items) engine.old.state) }
-    ensures open { IsSome (opened_of engine.new.state) }
-    ensures sound { IsSound (engine_seen (map (λ b. meaning (b.vtable, b.value)) engine.new.boxes.items) engine.new.state) }
-{
-    engine.graph().created() == 1 && lists_one(engine, alloc)
+/// No node.
+fn start_empty(alloc: Global) -> Start {
+    Start {
+        graph: Graph::new(alloc).ok(),
+        nodes: 0,
+        list: "blocks 0\n",
+    }
 }
 
-/// Whether nodes are added once the tired box is forgotten.
-fn goes_on_without(engine: &mut Engine, alloc: Global) -> bool
+/// One node.
+fn start_with_one(alloc: Global) -> Start {
+    Start {
+        graph: one_node(alloc).ok(),
+        nodes: 1,
+        list: "blocks 1\na n0\n",
+    }
+}
+
+/// Whether each index that has views has this list.
+fn all_list(engine: &mut Engine, alloc: Global, list: &str) -> bool
     requires open { IsSome (opened_of engine.old.state) }
     requires sound { IsSound (engine_seen (map (λ b. meaning (b.vtable, b.value)) engine.old.boxes.items) engine.old.state) }
     ensures open { IsSome (opened_of engine.new.state) }
     ensures sound { IsSound (engine_seen (map (λ b. meaning (b.vtable, b.value)) engine.new.boxes.items) engine.new.state) }
 {
-    engine.forget(Kind::Fb).is_ok() && adds_node(engine, alloc, 1)
+    lists(engine, alloc, Via::A(0), Some(list))
+        && lists(engine, alloc, Via::A(1), Some(list))
+        && lists(engine, alloc, Via::One, Some(list))
+}
+
+/// Whether the graph has so many nodes, and each index that has views this list.
+fn is_as_begun(engine: &mut Engine, alloc: Global, nodes: u32, list: &str) -> bool
+    requires open { IsSome (opened_of engine.old.state) }
+    requires sound { IsSound (engine_seen (map (λ b. meaning (b.vtable, b.value)) engine.old.boxes.items) engine.old.state) }
+    ensures open { IsSome (opened_of engine.new.state) }
+    ensures sound { IsSound (engine_seen (map (λ b. meaning (b.vtable, b.value)) engine.new.boxes.items) engine.new.state) }
+{
+    engine.graph().created() == nodes && all_list(engine, alloc, list)
+}
+
+/// Whether a node is added with this number once the tired box is forgotten.
+fn goes_on_without(engine: &mut Engine, alloc: Global, number: u32) -> bool
+    requires open { IsSome (opened_of engine.old.state) }
+    requires sound { IsSound (engine_seen (map (λ b. meaning (b.vtable, b.value)) engine.old.boxes.items) engine.old.state) }
+    ensures open { IsSome (opened_of engine.new.state) }
+    ensures sound { IsSound (engine_seen (map (λ b. meaning (b.vtable, b.value)) engine.new.boxes.items) engine.new.state) }
+{
+    engine.forget(Kind::Fb).is_ok() && adds_node(engine, alloc, number)
 }
 
 /// Whether a change for which one box finds no memory leaves all.
 #[derive(Drop)]
-struct Changes {}
+struct Changes {
+    start: Start,
+}
 
 impl EngineTask for Changes {
     type Answer = bool;
@@ -66,16 +94,24 @@ impl EngineTask for Changes {
     ghost gives = { λ _ _. ⊤ };
 
     fn carry_out(self, alloc: Global, engine: &mut Engine) -> bool {
-        opens(engine, one_node(alloc).ok(), FEW)
+        let Start { graph, nodes, list } = self.start;
+        opens(engine, graph, FEW)
             && fails_to_add(engine, alloc, UpdateError::Memory)
-            && has_one(engine, alloc)
-            && goes_on_without(engine, alloc)
+            && is_as_begun(engine, alloc, nodes, list)
+            && goes_on_without(engine, alloc, nodes)
     }
 }
 
 #[test]
-fn a_change_without_memory_leaves_all(rt: HostRuntime) {
-    assert_eq!(rt; with_tired_engine(rt.alloc(), Changes {}), Ok(true));
+fn a_change_without_memory_leaves_no_node(rt: HostRuntime) {
+    let start = start_empty(rt.alloc());
+    assert_eq!(rt; with_tired_engine(rt.alloc(), Changes { start }), Ok(true));
+}
+
+#[test]
+fn a_change_without_memory_leaves_a_node(rt: HostRuntime) {
+    let start = start_with_one(rt.alloc());
+    assert_eq!(rt; with_tired_engine(rt.alloc(), Changes { start }), Ok(true));
 }
 
 /// The answer of the graph itself.
@@ -115,7 +151,9 @@ fn finds_none(engine: &mut Engine, alloc: Global, path: &str) -> bool
 
 /// Whether a list for which there is no memory leaves all.
 #[derive(Drop)]
-struct Lists {}
+struct Lists {
+    start: Start,
+}
 
 impl EngineTask for Lists {
     type Answer = bool;
@@ -123,16 +161,24 @@ impl EngineTask for Lists {
     ghost gives = { λ _ _. ⊤ };
 
     fn carry_out(self, alloc: Global, engine: &mut Engine) -> bool {
-        opens(engine, one_node(alloc).ok(), FEW)
+        let Start { graph, nodes, list } = self.start;
+        opens(engine, graph, FEW)
             && lists(engine, alloc, Via::Fb, None)
-            && has_one(engine, alloc)
+            && is_as_begun(engine, alloc, nodes, list)
             && finds_none(engine, alloc, "b")
     }
 }
 
 #[test]
-fn a_list_without_memory_leaves_all(rt: HostRuntime) {
-    assert_eq!(rt; with_tired_engine(rt.alloc(), Lists {}), Ok(true));
+fn a_list_without_memory_leaves_no_node(rt: HostRuntime) {
+    let start = start_empty(rt.alloc());
+    assert_eq!(rt; with_tired_engine(rt.alloc(), Lists { start }), Ok(true));
+}
+
+#[test]
+fn a_list_without_memory_leaves_a_node(rt: HostRuntime) {
+    let start = start_with_one(rt.alloc());
+    assert_eq!(rt; with_tired_engine(rt.alloc(), Lists { start }), Ok(true));
 }
 
 /// A run of this script, what it writes, and the status.

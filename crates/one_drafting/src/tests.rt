@@ -1,4 +1,4 @@
-// Two chains that are alike, until an edge leads to the second from where one leads to a third.
+// Two chains that are alike, until an edge leads to the second from a single node, with a third chain behind that node and without.
 ghost use Rattle.std.specs.Prelude.{◌≡◌, ◌<◌};
 ghost use Rattle.px_spec.specs.Changes.{link};
 ghost use Rattle.bisim_spec.specs.Fits.{FitsOne};
@@ -38,18 +38,21 @@ fn first_beside(base: &Summary, draft: &Draft, n: NodeId) -> NodeId
 }
 
 // Whether just these are together as shown: for each node the least one that is together with it.
-fn is_shown(base: &Summary, draft: &Draft, firsts: &[NodeId; 10]) -> bool
+fn is_shown(base: &Summary, draft: &Draft, firsts: &[NodeId]) -> bool
     requires over { IsOver base.now.blocks.block_of base.now.blocks.labels draft.now }
 {
-    for n in 0..10 {
-        if first_beside(base, draft, n) != firsts[n as usize] {
+    for n in 0..firsts.len() {
+        if first_beside(base, draft, n as u32) != firsts[n] {
             return false;
         }
     }
     true
 }
 
-// Splits and merges for an edge that comes, and tells whether the second chain left the first one, and then came to the third.
+// For each node the least one that is together with it: before the split, behind it, and behind the merge.
+type Firsts<'a> = [&'a [NodeId]; 3];
+
+// Splits and merges for an edge that comes, and tells whether the blocks shown are these.
 fn are_parted<L: Ledger>(
     alloc: Global,
     base: &Summary,
@@ -57,6 +60,7 @@ fn are_parted<L: Ledger>(
     after: &After<'_>,
     u: NodeId,
     v: NodeId,
+    firsts: &Firsts<'_>,
     steps: &mut Steps<L>,
 ) -> Result<bool, Memory>
     requires before { IsBefore after.now base.now }
@@ -64,20 +68,21 @@ fn are_parted<L: Ledger>(
     requires links { after.now.change ≡ link u v }
 {
     draft_link(base, draft, after, u, v)?;
-    let before = is_shown(base, draft, &[0, 1, 2, 0, 1, 2, 6, 7, 8, 9]);
+    let before = is_shown(base, draft, firsts[0]);
     split(alloc, base, draft, after, v, steps)?;
-    let parted = is_shown(base, draft, &[0, 1, 2, 3, 4, 5, 6, 7, 8, 9]);
+    let parted = is_shown(base, draft, firsts[1]);
     merge(alloc, base, draft, after, v, steps)?;
-    let merged = is_shown(base, draft, &[0, 1, 2, 3, 4, 5, 6, 3, 4, 5]);
+    let merged = is_shown(base, draft, firsts[2]);
     Ok(before && parted && merged)
 }
 
-// Whether the edge that the change brings leads the second chain from the first one to the third.
+// Whether the edge that the change brings does that.
 fn is_parting<L: Ledger>(
     alloc: Global,
     graph: &Graph,
     base: &Summary,
     change: &Change,
+    firsts: &Firsts<'_>,
     steps: &mut Steps<L>,
 ) -> Result<bool, Memory>
     requires fits { FitsOne graph.now.graph (view_of base.now) }
@@ -88,7 +93,7 @@ fn is_parting<L: Ledger>(
     let _edges = graph.edge_count();
     let after = After::new(graph, change);
     let mut draft = Draft::new(alloc)?;
-    are_parted(alloc, base, &mut draft, &after, 6, 3, steps)
+    are_parted(alloc, base, &mut draft, &after, 6, 3, firsts, steps)
 }
 
 fn check_link<L: Ledger>(
@@ -96,6 +101,7 @@ fn check_link<L: Ledger>(
     alloc: Global,
     graph: &Graph,
     base: &Summary,
+    firsts: &Firsts<'_>,
     steps: &mut Steps<L>,
 ) -> Result<(), Fail>
     requires fits { FitsOne graph.now.graph (view_of base.now) }
@@ -104,28 +110,56 @@ fn check_link<L: Ledger>(
     let Ok(Verdict::New) = judge(graph, &change, &Limits::program()) else {
         return Err("not new".into());
     };
-    let parted = is_parting(alloc, graph, base, &change, steps)?;
+    let parted = is_parting(alloc, graph, base, &change, firsts, steps)?;
     assert!(rt; parted);
     Ok(())
 }
 
-fn check_chains<L: Ledger>(rt: &impl Abort, alloc: Global, blank: Blank) -> Result<(), Fail>
+fn check_chains<L: Ledger>(
+    rt: &impl Abort,
+    alloc: Global,
+    labels: &[u8],
+    edges: &[(NodeId, NodeId)],
+    firsts: &Firsts<'_>,
+    blank: Blank,
+) -> Result<(), Fail>
     requires name { blank.name ≡ L.name }
     requires parts { blank.parts ≡ L.parts }
     requires some { 0 < blank.parts }
 {
     let mut steps = Steps::<L>::new(blank);
-    let graph = drawn(
-        alloc,
-        b"abcabcxabc",
-        &[(0, 1), (1, 2), (3, 4), (4, 5), (6, 7), (7, 8), (8, 9)],
-        &mut steps,
-    )?;
+    let graph = drawn(alloc, labels, edges, &mut steps)?;
     let base = OneIndex::build(alloc, &graph.view(&mut steps))?;
-    check_link(rt, alloc, &graph, &base, &mut steps)
+    check_link(rt, alloc, &graph, &base, firsts, &mut steps)
 }
 
+// Each node is alone then.
 #[test]
 fn chains_come_apart(rt: HostRuntime) -> Result<(), Fail> {
-    check_chains::<Brand>(&rt, rt.alloc(), Blank::new(1))
+    let edges = &[(0, 1), (1, 2), (3, 4), (4, 5)];
+    let firsts: Firsts<'_> = [
+        &[0, 1, 2, 0, 1, 2, 6],
+        &[0, 1, 2, 3, 4, 5, 6],
+        &[0, 1, 2, 3, 4, 5, 6],
+    ];
+    check_chains::<Brand>(&rt, rt.alloc(), b"abcabcx", edges, &firsts, Blank::new(1))
+}
+
+// The second chain comes to the third.
+#[test]
+fn chains_come_together(rt: HostRuntime) -> Result<(), Fail> {
+    let edges = &[(0, 1), (1, 2), (3, 4), (4, 5), (6, 7), (7, 8), (8, 9)];
+    let firsts: Firsts<'_> = [
+        &[0, 1, 2, 0, 1, 2, 6, 7, 8, 9],
+        &[0, 1, 2, 3, 4, 5, 6, 7, 8, 9],
+        &[0, 1, 2, 3, 4, 5, 6, 3, 4, 5],
+    ];
+    check_chains::<Brand>(
+        &rt,
+        rt.alloc(),
+        b"abcabcxabc",
+        edges,
+        &firsts,
+        Blank::new(1),
+    )
 }

@@ -14,4 +14,5 @@ mod text_shelf;
 pub use entry::run;
 pub use graph_load::{LoadError, load};
 pub use host::{HostShelf, HostSink};
+pub use made_texts::{made_graph, made_script};
 pub use status::{Status, break_reason};
