@@ -112,7 +112,7 @@ impl Task for Twins {
 }
 
 /// The graph: sets of parents count, not their numbers.
-fn twins<L: Ledger>(alloc: Global, blank: Blank) -> Result<Graph, Fail>
+fn graph_of_twins<L: Ledger>(alloc: Global, blank: Blank) -> Result<Graph, Fail>
     requires name { blank.name ≡ L.name }
     requires parts { blank.parts ≡ L.parts }
     requires some { 0 < blank.parts }
@@ -123,7 +123,7 @@ fn twins<L: Ledger>(alloc: Global, blank: Blank) -> Result<Graph, Fail>
 
 #[test]
 fn a_supported_link_leaves_the_blocks(rt: HostRuntime) -> Result<(), Fail> {
-    let graph = twins::<Brand>(rt.alloc(), Blank::new(1))?;
+    let graph = graph_of_twins::<Brand>(rt.alloc(), Blank::new(1))?;
     assert!(rt; lend(OneKept::new(rt.alloc())?, Twins { graph }));
     Ok(())
 }
