@@ -15,3 +15,4 @@ mod Noted
 mod Supported
 mod Forgotten
 mod Touched
+mod Nearest

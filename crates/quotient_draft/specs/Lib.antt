@@ -6,3 +6,4 @@ pub mod Kept
 pub mod PutLogs
 pub mod Retired
 pub mod Ends
+pub mod Nexts

@@ -9,6 +9,7 @@ mod ends;
 mod members;
 mod moves;
 mod near;
+mod next;
 mod put_log;
 mod retiring;
 mod settling;

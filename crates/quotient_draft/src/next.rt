@@ -1,0 +1,131 @@
+// The next block that has support to a block as shown, and the next one to which it has support.
+ghost use Rattle.std.specs.Prelude.{◌≡◌, ◌&&◌, ◌||◌, ℕ, Bool, None, nat_eq, nat_le, nat_lt};
+ghost use Rattle.px_spec.specs.Members.{has};
+ghost use Rattle.bisim_spec.specs.Views.{support_at};
+ghost use Rattle.quotient_draft.specs.Drafts.{shown_support, with_supports};
+ghost use Rattle.quotient_draft.specs.Nexts.{IsNext, is_below};
+
+use crate::changed::Changed;
+use crate::draft::Draft;
+use crate::near::{base_children, base_parents};
+use quotient::Summary;
+
+impl Draft {
+    /// The least block from `from` on that has support to `b` as shown; none where there is none. It takes no memory. O(p)
+    /// expected, of p parents of `b` in the base and drafted pairs that end there.
+    pub fn next_parent(&self, base: &Summary, b: u32, from: u32) -> Option<u32>
+        ensures next { IsNext (λ a. nat_lt 0 (shown_support base.now self.now a b)) from result }
+    {
+        let first = next_parent_in(base_parents(base, b), base, &self.changed, b, from, None);
+        next_parent_in(self.changed.parents(b), base, &self.changed, b, from, first)
+    }
+
+    /// The least block from `from` on to which `a` has support as shown; none where there is none. It takes no memory. O(c)
+    /// expected, of c children of `a` in the base and drafted pairs that begin there.
+    pub fn next_child(&self, base: &Summary, a: u32, from: u32) -> Option<u32>
+        ensures next { IsNext (λ b. nat_lt 0 (shown_support base.now self.now a b)) from result }
+    {
+        let first = next_child_in(base_children(base, a), base, &self.changed, a, from, None);
+        next_child_in(
+            self.changed.children(a),
+            base,
+            &self.changed,
+            a,
+            from,
+            first,
+        )
+    }
+}
+
+// The least that has support to `b` as shown, of the blocks from `from` on and of those of which `next` is the least.
+fn next_parent_in(
+    blocks: &[u32],
+    base: &Summary,
+    changed: &Changed,
+    b: u32,
+    from: u32,
+    next: Option<u32>,
+) -> Option<u32>
+    ensures { (seen : ℕ → Bool) → IsNext (λ a. seen a && nat_lt 0 (support_at (with_supports base.now.supports changed.now) a b)) from next → IsNext (λ a. (seen a || has blocks.now a) && nat_lt 0 (support_at (with_supports base.now.supports changed.now) a b)) from result }
+{
+    let mut found = next;
+    for i in 0..blocks.len() {
+        found = nearer_parent(base, changed, blocks[i], b, from, found);
+    }
+    found
+}
+
+// The least to which `a` has support as shown, of the blocks from `from` on and of those of which `next` is the least.
+fn next_child_in(
+    blocks: &[u32],
+    base: &Summary,
+    changed: &Changed,
+    a: u32,
+    from: u32,
+    next: Option<u32>,
+) -> Option<u32>
+    ensures { (seen : ℕ → Bool) → IsNext (λ b. seen b && nat_lt 0 (support_at (with_supports base.now.supports changed.now) a b)) from next → IsNext (λ b. (seen b || has blocks.now b) && nat_lt 0 (support_at (with_supports base.now.supports changed.now) a b)) from result }
+{
+    let mut found = next;
+    for i in 0..blocks.len() {
+        found = nearer_child(base, changed, a, blocks[i], from, found);
+    }
+    found
+}
+
+// What was found, or `a` where that is nearer and has support to `b` as shown.
+fn nearer_parent(
+    base: &Summary,
+    changed: &Changed,
+    a: u32,
+    b: u32,
+    from: u32,
+    found: Option<u32>,
+) -> Option<u32>
+    ensures { (seen : ℕ → Bool) → IsNext (λ x. seen x && nat_lt 0 (support_at (with_supports base.now.supports changed.now) x b)) from found → IsNext (λ x. (seen x || nat_eq x a) && nat_lt 0 (support_at (with_supports base.now.supports changed.now) x b)) from result }
+{
+    if !is_nearer(found, from, a) {
+        return found;
+    }
+    if changed.get(base, a, b) == 0 {
+        return found;
+    }
+    Some(a)
+}
+
+// What was found, or `b` where that is nearer and `a` has support to it as shown.
+fn nearer_child(
+    base: &Summary,
+    changed: &Changed,
+    a: u32,
+    b: u32,
+    from: u32,
+    found: Option<u32>,
+) -> Option<u32>
+    ensures { (seen : ℕ → Bool) → IsNext (λ x. seen x && nat_lt 0 (support_at (with_supports base.now.supports changed.now) a x)) from found → IsNext (λ x. (seen x || nat_eq x b) && nat_lt 0 (support_at (with_supports base.now.supports changed.now) a x)) from result }
+{
+    if !is_nearer(found, from, b) {
+        return found;
+    }
+    if changed.get(base, a, b) == 0 {
+        return found;
+    }
+    Some(b)
+}
+
+// Whether a block is at least `from`, and less than what was found, if anything was.
+fn is_nearer(found: Option<u32>, from: u32, a: u32) -> bool
+    ensures { result ≡ (nat_le from a && is_below found a) }
+{
+    from <= a && comes_before(found, a)
+}
+
+// Whether a block is less than what was found, if anything was.
+fn comes_before(found: Option<u32>, a: u32) -> bool
+    ensures { result ≡ is_below found a }
+{
+    match found {
+        Some(next) => a < next,
+        None => true,
+    }
+}
