@@ -1,6 +1,6 @@
 // Merging two blocks.
-ghost use Rattle.std.specs.Prelude.{◌≡◌, ℕ, Option, OnOk};
-ghost use Rattle.px_spec.specs.Members.{at};
+ghost use Rattle.std.specs.Prelude.{◌≡◌, ℕ, Option, Some, IsSome, IsTrue, OnOk, if◌then◌else◌};
+ghost use Rattle.px_spec.specs.Members.{at, has};
 ghost use Rattle.px_spec.specs.Graphs.{Graph};
 ghost use Rattle.px_spec.specs.Shapes.{Shape};
 ghost use Rattle.bisim_spec.specs.Stability.{Mergeable};
@@ -14,7 +14,7 @@ ghost use Rattle.block_joining.specs.Mates.{shown_joined, AreMates};
 ghost use Rattle.block_joining.specs.Merged.{HasGraph};
 
 use crate::supports::join_supports;
-use px_base::Memory;
+use px_base::{Memory, NodeId};
 use quotient::Summary;
 use quotient_draft::Draft;
 
@@ -41,6 +41,22 @@ pub fn join(
 {
     join_supports(base, draft, a, b, list)?;
     draft.fill_members(base, b, list)?;
-    draft.put_all(base, list, a)?;
+    move_all(base, draft, list, a)?;
+    Ok(())
+}
+
+// Drafts the move of nodes, each of which has a block as shown, to a block as shown.
+fn move_all(base: &Summary, draft: &mut Draft, nodes: &[NodeId], b: u32) -> Result<(), Memory>
+    requires over { IsOver base.now.blocks.block_of base.now.blocks.labels draft.old }
+    requires nodes { (n : ℕ) → IsTrue (has nodes.now n) → IsSome (at (shown_blocks base.now draft.old) n) }
+    requires block { IsSome (at (shown_labels base.now draft.old) b) }
+    ensures blocks { OnOk result ((m : ℕ) → at (shown_blocks base.now draft.new) m ≡ (if has nodes.now m then Some b else at (shown_blocks base.now draft.old) m)) }
+    ensures added { draft.new.added ≡ draft.old.added }
+    ensures supports { draft.new.supports ≡ draft.old.supports }
+    ensures over { OnOk result (IsOver base.now.blocks.block_of base.now.blocks.labels draft.new) }
+{
+    for i in 0..nodes.len() {
+        draft.move_to(base, nodes[i], b)?;
+    }
     Ok(())
 }

@@ -1,7 +1,7 @@
-// Drafting for many nodes or pairs at once.
-ghost use Rattle.std.specs.Prelude.{◌≡◌, ◌<◌, ◌≤◌, ◌^◌, ℕ, Some, IsSome, IsTrue, OnOk, OnErr, length, nat_eq, if◌then◌else◌};
+// Drafting a support, or the move of a node that has a block.
+ghost use Rattle.std.specs.Prelude.{◌≡◌, ◌<◌, ℕ, Some, IsSome, OnOk, OnErr, nat_eq, if◌then◌else◌};
 ghost use Rattle.px_spec.specs.Members.{at, has};
-ghost use Rattle.quotient_draft.specs.Drafts.{shown_labels, shown_blocks, shown_support, is_pair};
+ghost use Rattle.quotient_draft.specs.Drafts.{shown_labels, shown_blocks, shown_support, is_pair, with_left};
 ghost use Rattle.quotient_draft.specs.Basis.{IsOver};
 
 use crate::draft::Draft;
@@ -25,31 +25,17 @@ impl Draft {
         Ok(())
     }
 
-    /// Drafts the move of nodes, each of which has a block as shown, to a block as shown.
-    pub fn put_all(&mut self, base: &Summary, nodes: &[NodeId], b: u32) -> Result<(), Memory>
-        requires over { IsOver base.now.blocks.block_of base.now.blocks.labels self.old }
-        requires nodes { (n : ℕ) → IsTrue (has nodes.now n) → IsSome (at (shown_blocks base.now self.old) n) }
-        requires block { IsSome (at (shown_labels base.now self.old) b) }
-        ensures blocks { OnOk result ((m : ℕ) → at (shown_blocks base.now self.new) m ≡ (if has nodes.now m then Some b else at (shown_blocks base.now self.old) m)) }
-        ensures added { OnOk result (self.new.added ≡ self.old.added) }
-        ensures supports { OnOk result (self.new.supports ≡ self.old.supports) }
-        ensures over { OnOk result (IsOver base.now.blocks.block_of base.now.blocks.labels self.new) }
-    {
-        for i in 0..nodes.len() {
-            self.put_again(base, nodes[i], b)?;
-        }
-        Ok(())
-    }
-
-    // Drafts the move of a node that has a block as shown.
-    fn put_again(&mut self, base: &Summary, n: NodeId, b: u32) -> Result<(), Memory>
+    /// Drafts the move of a node that has a block as shown to a block as shown.
+    pub fn move_to(&mut self, base: &Summary, n: NodeId, b: u32) -> Result<(), Memory>
         requires over { IsOver base.now.blocks.block_of base.now.blocks.labels self.old }
         requires node { IsSome (at (shown_blocks base.now self.old) n) }
         requires block { IsSome (at (shown_labels base.now self.old) b) }
         ensures blocks { OnOk result ((m : ℕ) → at (shown_blocks base.now self.new) m ≡ (if nat_eq m n then Some b else at (shown_blocks base.now self.old) m)) }
-        ensures added { OnOk result (self.new.added ≡ self.old.added) }
-        ensures supports { OnOk result (self.new.supports ≡ self.old.supports) }
+        ensures added { self.new.added ≡ self.old.added }
+        ensures left { OnOk result (self.new.left ≡ with_left self.old.left (at (shown_blocks base.now self.old) n)) }
+        ensures supports { self.new.supports ≡ self.old.supports }
         ensures over { OnOk result (IsOver base.now.blocks.block_of base.now.blocks.labels self.new) }
+        ensures err { OnErr result (self.new ≡ self.old) }
     {
         let _ = base.numbers();
         self.moves.know_lookups();

@@ -12,31 +12,31 @@ use Rattle.block_joining.proofs.joining.join.Goals as goal
 pub returns-clause-merged : goal.returns-clause-merged
 returns-clause-merged c =
     let block = c.args.base.now.blocks.block_of in
-    subst (λ ms. IsMerged c.args.a c.args.b (with_moves block ms) (shown_blocks c.args.base.now c.put_all.new.self)) c.in_ok-join_supports.ensures.moves
-    (merged_by c.args.a c.args.b (shown_blocks c.args.base.now c.join_supports.new.draft) (shown_blocks c.args.base.now c.put_all.new.self) c.deref.result.now
+    subst (λ ms. IsMerged c.args.a c.args.b (with_moves block ms) (shown_blocks c.args.base.now c.move_all.new.draft)) c.in_ok-join_supports.ensures.moves
+    (merged_by c.args.a c.args.b (shown_blocks c.args.base.now c.join_supports.new.draft) (shown_blocks c.args.base.now c.move_all.new.draft) c.deref.result.now
     (subst (Lists (λ n. is_this c.args.b (at (shown_blocks c.args.base.now c.join_supports.new.draft) n))) (sym c.deref.ensures.value) c.in_ok-fill_members.ensures.members)
-    c.in_ok-put_all.ensures.blocks)
+    c.in_ok-move_all.ensures.blocks)
 
 pub returns-clause-graph : goal.returns-clause-graph
 returns-clause-graph c =
-    let is : (x y : ℕ) → shown_support c.args.base.now c.put_all.new.self x y ≡ merged_support c.args.a c.args.b (shown_support c.args.base.now c.args.draft.now) x y =
-    λ x y. ap (λ ts. support_at (with_supports c.args.base.now.supports ts) x y) c.in_ok-put_all.ensures.supports ∙ c.in_ok-join_supports.ensures.supports x y in
-    subst (λ es. HasGraph (shown_blocks c.args.base.now c.put_all.new.self) (at (with_added c.args.base.now.blocks.labels es)) (shown_support c.args.base.now c.put_all.new.self))
-    (sym (c.in_ok-put_all.ensures.added ∙ c.in_ok-join_supports.ensures.added))
-    (graph_merged (shown_blocks c.args.base.now c.args.draft.now) (shown_blocks c.args.base.now c.put_all.new.self) (at (shown_labels c.args.base.now c.args.draft.now))
-    (shown_support c.args.base.now c.args.draft.now) (shown_support c.args.base.now c.put_all.new.self) c.args.a c.args.b c.requires.mates.apart
+    let is : (x y : ℕ) → shown_support c.args.base.now c.move_all.new.draft x y ≡ merged_support c.args.a c.args.b (shown_support c.args.base.now c.args.draft.now) x y =
+    λ x y. ap (λ ts. support_at (with_supports c.args.base.now.supports ts) x y) c.move_all.ensures.supports ∙ c.in_ok-join_supports.ensures.supports x y in
+    subst (λ es. HasGraph (shown_blocks c.args.base.now c.move_all.new.draft) (at (with_added c.args.base.now.blocks.labels es)) (shown_support c.args.base.now c.move_all.new.draft))
+    (sym (c.move_all.ensures.added ∙ c.in_ok-join_supports.ensures.added))
+    (graph_merged (shown_blocks c.args.base.now c.args.draft.now) (shown_blocks c.args.base.now c.move_all.new.draft) (at (shown_labels c.args.base.now c.args.draft.now))
+    (shown_support c.args.base.now c.args.draft.now) (shown_support c.args.base.now c.move_all.new.draft) c.args.a c.args.b c.requires.mates.apart
     (c.requires.graph.live c.requires.mates.first.0 c.args.a c.requires.mates.first.1) (returns-clause-merged c) is c.requires.graph)
 
 pub returns-clause-supports : goal.returns-clause-supports
 returns-clause-supports c = λ g supports.
-    supports_merged g (shown_blocks c.args.base.now c.args.draft.now) (shown_blocks c.args.base.now c.put_all.new.self) (shown_support c.args.base.now c.args.draft.now)
-    (shown_support c.args.base.now c.put_all.new.self) c.args.a c.args.b c.requires.mates.apart (returns-clause-merged c)
-    (λ x y. ap (λ ts. support_at (with_supports c.args.base.now.supports ts) x y) c.in_ok-put_all.ensures.supports ∙ c.in_ok-join_supports.ensures.supports x y) supports
+    supports_merged g (shown_blocks c.args.base.now c.args.draft.now) (shown_blocks c.args.base.now c.move_all.new.draft) (shown_support c.args.base.now c.args.draft.now)
+    (shown_support c.args.base.now c.move_all.new.draft) c.args.a c.args.b c.requires.mates.apart (returns-clause-merged c)
+    (λ x y. ap (λ ts. support_at (with_supports c.args.base.now.supports ts) x y) c.move_all.ensures.supports ∙ c.in_ok-join_supports.ensures.supports x y) supports
 
 pub returns-clause-viewed : goal.returns-clause-viewed
 returns-clause-viewed c = λ s viewed.
-    subst (λ es. IsViewed s (shown_blocks c.args.base.now c.put_all.new.self) (at (with_added c.args.base.now.blocks.labels es)) (shown_joined c.args.base.now c.put_all.new.self))
-    (sym (c.in_ok-put_all.ensures.added ∙ c.in_ok-join_supports.ensures.added))
-    (viewed_merged s (shown_blocks c.args.base.now c.args.draft.now) (shown_blocks c.args.base.now c.put_all.new.self) (at (shown_labels c.args.base.now c.args.draft.now))
-    (shown_support c.args.base.now c.args.draft.now) (shown_support c.args.base.now c.put_all.new.self) c.args.a c.args.b c.requires.mates (returns-clause-merged c)
-    (λ x y. ap (λ ts. support_at (with_supports c.args.base.now.supports ts) x y) c.in_ok-put_all.ensures.supports ∙ c.in_ok-join_supports.ensures.supports x y) viewed)
+    subst (λ es. IsViewed s (shown_blocks c.args.base.now c.move_all.new.draft) (at (with_added c.args.base.now.blocks.labels es)) (shown_joined c.args.base.now c.move_all.new.draft))
+    (sym (c.move_all.ensures.added ∙ c.in_ok-join_supports.ensures.added))
+    (viewed_merged s (shown_blocks c.args.base.now c.args.draft.now) (shown_blocks c.args.base.now c.move_all.new.draft) (at (shown_labels c.args.base.now c.args.draft.now))
+    (shown_support c.args.base.now c.args.draft.now) (shown_support c.args.base.now c.move_all.new.draft) c.args.a c.args.b c.requires.mates (returns-clause-merged c)
+    (λ x y. ap (λ ts. support_at (with_supports c.args.base.now.supports ts) x y) c.move_all.ensures.supports ∙ c.in_ok-join_supports.ensures.supports x y) viewed)

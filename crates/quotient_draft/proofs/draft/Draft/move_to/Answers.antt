@@ -4,7 +4,7 @@ use Rattle.std.specs.Map.{lookup}
 use Rattle.px_spec.specs.Members.{at}
 use Rattle.quotient_draft.specs.Drafts.{Drafted, with_moves}
 use Rattle.quotient_draft.proofs.Spans.{node_small}
-use Rattle.quotient_draft.proofs.draft.Draft.put_again.Goals as goal
+use Rattle.quotient_draft.proofs.draft.Draft.move_to.Goals as goal
 
 pub put-requires-clause-small : goal.put-requires-clause-small
 put-requires-clause-small c =
