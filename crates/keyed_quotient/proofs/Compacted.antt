@@ -130,7 +130,7 @@ carried_keys labels old new n w = keys_alike (numbered_key new) (numbered_key ol
     let l = w.led b m.1 (some_below labels b h) (key_there labels old m.0 b m.1 h m.2) in
     subst (λ i. numbered_key new i ≡ numbered_key old i) (sym e) (led_key new l.0 b m.1 l.1 ∙ sym (led_key old m.0 b m.1 m.2)))
 
-pub carried_few : (labels : List (Option ℕ)) (old new : Numbering) → AreCarried labels old new (length labels) → AreFew (length new.table) (count_by is_some labels)
+pub carried_few : (labels : List (Option ℕ)) (old new : Numbering) → AreCarried labels old new (length labels) → AreFew (length new.table) (count_by is_some labels) (length labels)
 carried_few labels old new w =
     let same : length new.table ≡ count_by is_some labels = w.count ∙ ap (count_by is_some) (take-length labels) in
     inr (omega (arith, same))

@@ -1,5 +1,5 @@
 -- Keys that are carried over to new numbers.
-use Rattle.std.specs.Prelude.{ℕ, ◌≡◌, ◌*◌, ◌<◌, ◌≤◌, ◌⊎◌, List, length, take, Option, Some, is_some, count_by, slice_get}
+use Rattle.std.specs.Prelude.{ℕ, ◌≡◌, ◌+◌, ◌*◌, ◌/◌, ◌<◌, ◌≤◌, ◌⊎◌, List, length, take, Option, Some, is_some, count_by, slice_get}
 use Rattle.key_table.specs.Interning.{AreDistinct}
 use Rattle.keyed_quotient.specs.Levels.{key_at}
 use Rattle.keyed_quotient.specs.Numberings.{Numbering, block_keys, Leads}
@@ -13,6 +13,6 @@ pub record AreCarried (labels : List (Option ℕ)) (old new : Numbering) (b : �
   pub only : (k : ℕ) (key : List ℕ) → slice_get new.table k ≡ Some key → (c : ℕ) × (c < b) × (key_at (block_keys labels old) c ≡ Some key)
   pub count : length new.table ≡ count_by is_some (take b labels)
 
--- at most 64 keys, or at most one and a half times as many as blocks
-abbrev pub AreFew : ℕ → ℕ → Type 0
-AreFew keys blocks = (keys ≤ 64) ⊎ (keys * 2 ≤ blocks * 3)
+-- at most one and a half times as many keys as blocks, or at most 64 more than half as many as numbers below the span
+abbrev pub AreFew : ℕ → ℕ → ℕ → Type 0
+AreFew keys blocks span = (keys ≤ 64 + span / 2) ⊎ (keys * 2 ≤ blocks * 3)

@@ -12,10 +12,11 @@ use px_base::Memory;
 use quotient::Summary;
 use std::alloc::Global;
 
-/// Makes the numbers anew, with the keys of the blocks alone, where there are more than 64 keys and more than one and a half times
-/// as many as blocks, or where a key has no block and all have become one and a half times as long together, and 64 numbers
-/// more, since this was last done. On `Memory` they stay as they were. O(1) where nothing is to be done; else linear in the numbers of
-/// blocks and in their keys, for which the keys that came since then pay.
+/// Makes the numbers anew, with the keys of the blocks alone, where keys are many or long. They are many where there are more than one and
+/// a half times as many as blocks, and more than 64 and half the span of the blocks' numbers together. They are long where a key has no
+/// block, and all together have grown, since this was last done, by more than half and 64 numbers, and by more than half the span. On
+/// `Memory` they stay as they were. O(1) where nothing is to be done; else linear in the span and in the keys of the blocks, for which the
+/// keys that came since then pay.
 pub(crate) fn compact(
     alloc: Global,
     summary: &Summary,
@@ -24,10 +25,13 @@ pub(crate) fn compact(
     requires { IsNumbering summary.now.blocks.labels numbers.old }
     ensures numbering { IsNumbering summary.now.blocks.labels numbers.new }
     ensures keys { block_keys summary.now.blocks.labels numbers.new ≡ block_keys summary.now.blocks.labels numbers.old }
-    ensures few { OnOk result (AreFew (length numbers.new.table) (block_count summary.now.blocks)) }
+    ensures few { OnOk result (AreFew (length numbers.new.table) (block_count summary.now.blocks) (length summary.now.blocks.labels)) }
     ensures err { OnErr result (numbers.new ≡ numbers.old) }
 {
-    if are_few(numbers.len(), summary.blocks()) && are_short(numbers, summary.blocks()) {
+    let span = summary.size();
+    if are_few(numbers.len(), summary.blocks(), span)
+        && are_short(numbers, summary.blocks(), span)
+    {
         return Ok(());
     }
     let new = anew(alloc, summary, numbers)?;
@@ -36,15 +40,15 @@ pub(crate) fn compact(
 }
 
 // Whether there are so few keys that they stay.
-fn are_few(keys: u32, blocks: u32) -> bool
-    ensures { IsTrue result → AreFew keys blocks }
+fn are_few(keys: u32, blocks: u32, span: u32) -> bool
+    ensures { IsTrue result → AreFew keys blocks span }
 {
-    keys <= 64 || keys as u64 * 2 <= blocks as u64 * 3
+    keys as u64 <= 64 + span as u64 / 2 || keys as u64 * 2 <= blocks as u64 * 3
 }
 
 // Whether each key has a block, or they are so short that they stay.
-fn are_short(numbers: &KeyNumbers, blocks: u32) -> bool {
-    numbers.len() <= blocks || numbers.are_short()
+fn are_short(numbers: &KeyNumbers, blocks: u32, span: u32) -> bool {
+    numbers.len() <= blocks || numbers.are_short(span)
 }
 
 // Numbers for the keys of the blocks, in the order of the blocks.

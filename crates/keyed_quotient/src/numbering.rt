@@ -162,9 +162,10 @@ impl KeyNumbers {
         self.words_anew = self.words;
     }
 
-    /// Whether the keys are little longer together than when the numbers were made anew. O(1).
-    pub(crate) fn are_short(&self) -> bool {
-        self.words <= self.words_anew.saturating_add(self.words_anew / 2 + 64)
+    /// Whether the keys are little longer together than when the numbers were made anew, where blocks have numbers below `span`. O(1).
+    pub(crate) fn are_short(&self, span: u32) -> bool {
+        let more = (self.words_anew / 2 + 64).max(span as u64 / 2);
+        self.words <= self.words_anew.saturating_add(more)
     }
 
     /// Makes room for blocks with numbers below this one.
