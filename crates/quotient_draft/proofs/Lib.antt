@@ -16,3 +16,4 @@ mod Supported
 mod Forgotten
 mod Touched
 mod Nearest
+mod Remaining

@@ -5,6 +5,7 @@ mod added;
 mod changed;
 mod counts;
 mod draft;
+mod each_member;
 mod ends;
 mod members;
 mod moves;
@@ -18,4 +19,5 @@ mod touching;
 mod writing;
 
 pub use draft::Draft;
+pub use each_member::DraftMembers;
 pub use near::{base_children, base_parents};

@@ -1,5 +1,5 @@
 // Moves that are drafted.
-ghost use Rattle.std.specs.Prelude.{◌≡◌, ◌+◌, ◌-◌, ◌<◌, ◌≤◌, ◌^◌, ◌||◌, [], ℕ, List, Option, Some, None, IsSome, IfSome, unwrap_or, true, OnOk, OnErr, nat_eq, length, vec_len, vec_capacity, count_by, if◌then◌else◌};
+ghost use Rattle.std.specs.Prelude.{◌≡◌, ◌+◌, ◌-◌, ◌<◌, ◌≤◌, ◌^◌, ◌||◌, [], ℕ, List, Option, Some, None, IsSome, IfSome, unwrap_or, not, true, OnOk, OnErr, nat_eq, length, vec_len, vec_capacity, count_by, if◌then◌else◌};
 ghost use Rattle.std.specs.List.{IsDistinct};
 ghost use Rattle.std.specs.Map.{lookup, keys_of};
 ghost use Rattle.indexmap.specs.IndexMap.{spare};
@@ -8,6 +8,7 @@ ghost use Rattle.quotient.specs.Joined.{one_if};
 ghost use Rattle.quotient_draft.specs.Drafts.{with_moves, with_left};
 ghost use Rattle.quotient_draft.specs.Kept.{counted, AreTaken};
 ghost use Rattle.quotient_draft.specs.PutLogs.{has_put, is_kept, is_moved_to};
+ghost use Rattle.quotient_draft.specs.Remaining.{is_unmoved};
 
 use crate::counts::{count_of, count_one};
 use crate::put_log::PutLog;
@@ -224,14 +225,29 @@ impl Moves {
         Ok(())
     }
 
-    // Whether a node is moved, and into this block.
-    fn goes_to(&self, n: NodeId, b: u32) -> bool
+    /// Whether a node is moved, and into this block.
+    pub(crate) fn goes_to(&self, n: NodeId, b: u32) -> bool
         ensures { result ≡ is_moved_to self.now.moves b n }
     {
         match self.moves.get(&n) {
             Some(c) => *c == Some(b),
             None => false,
         }
+    }
+
+    /// Whether a node is moved.
+    pub(crate) fn is_moved(&self, n: NodeId) -> bool
+        ensures { result ≡ not (is_unmoved self.now.moves n) }
+    {
+        self.moves.contains_key(&n)
+    }
+
+    /// The nodes that are moved, each once.
+    pub(crate) fn nodes(&self) -> &[NodeId]
+        ensures nodes { result.now ≡ keys_of self.now.moves }
+        ensures once { IsDistinct nat_eq result.now }
+    {
+        self.moves.keys().as_slice()
     }
 
     /// The blocks from which nodes were taken.
