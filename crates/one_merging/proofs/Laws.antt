@@ -86,6 +86,18 @@ no_mates_by_stranger p labels support base_support a b xs own drafted parents ow
     no_mates_strange p labels (λ y z. nat_lt 0 (support y z)) a b x (ap (nat_lt 0) (same_b x) ∙ sym (parents.members x) ∙ r.1) (ne_by x a differ.0) (ne_by x b differ.1)
     (ap (nat_lt 0) (same_a x (off_by (has drafted x) none.1)) ∙ sym (owns.members x) ∙ off_by (has own x) none.0)
 
+-- one of the parents of b, which are those of the base, has no support to a
+pub no_mates_by_unjoined : (p : List (Option ℕ)) (labels : ℕ → Option ℕ) (support base_support : ℕ → ℕ → ℕ) (a b : ℕ) (xs : List ℕ) → Lists (λ x. nat_lt 0 (base_support x b)) xs
+    → ((x : ℕ) → support x b ≡ base_support x b) → list_any (λ x. (not (nat_eq x a) && not (nat_eq x b)) && nat_eq (support x a) 0) xs ≡ true
+    → AreNoMates p labels (λ x y. nat_lt 0 (support x y)) a b
+no_mates_by_unjoined p labels support base_support a b xs parents same any =
+    let r = any_get (λ x. (not (nat_eq x a) && not (nat_eq x b)) && nat_eq (support x a) 0) xs any in
+    let x = r.0 in
+    let halves = and_parts (not (nat_eq x a) && not (nat_eq x b)) (nat_eq (support x a) 0) r.2 in
+    let differ = and_parts (not (nat_eq x a)) (not (nat_eq x b)) halves.0 in
+    no_mates_strange p labels (λ y z. nat_lt 0 (support y z)) a b x (ap (nat_lt 0) (same x) ∙ sym (parents.members x) ∙ r.1) (ne_by x a differ.0) (ne_by x b differ.1)
+    (ap (nat_lt 0) ((Decides-eqb (support x a) 0).0 halves.1))
+
 -- no partner, where a parent block is none and no child of it is
 pub no_mates_by : (p : List (Option ℕ)) (labels : ℕ → Option ℕ) (joined : ℕ → ℕ → Bool) (a x : ℕ) → x ≢ a → IsTrue (joined x a) → AreNoMates p labels joined a x
     → ((b : ℕ) → IsTrue (joined x b) → AreNoMates p labels joined a b) → (b : ℕ) → AreNoMates p labels joined a b

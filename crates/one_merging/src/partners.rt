@@ -56,21 +56,36 @@ fn any_stranger(blocks: &[u32], a: u32, b: u32, own: &[u32], drafted: &[u32]) ->
     blocks.iter().any(|x| (*x != a && *x != b) && (!own.contains(x) && !drafted.contains(x)))
 }
 
-// Whether a parent of b is none of a, where b has the parents that it has in the base. Nothing but lists is looked at, so it is
-// the cheapest test of the parents.
+// Whether one of the blocks is other than these two and has no support to a as shown.
+fn any_unjoined(blocks: &[u32], base: &Summary, draft: &Draft, a: u32, b: u32) -> bool
+    ensures { result ≡ list_any (λ x. (not (nat_eq x a) && not (nat_eq x b)) && nat_eq (shown_support base.now draft.now x a) 0) blocks.now }
+{
+    blocks.iter().any(|x| (*x != a && *x != b) && draft.support(base, *x, a) == 0)
+}
+
+// How many parents are so few that they are looked through rather than asked for by hash.
+const FEW_PARENTS: usize = 16;
+
+// Whether one of the lists is so long that supports are asked for by hash.
+fn is_long(own: &[u32], drafted: &[u32]) -> bool {
+    own.len().max(drafted.len()) > FEW_PARENTS
+}
+
+// Whether a parent of b is none of a, where b has the parents that it has in the base. Where a has few parents, nothing but lists
+// is looked at, so it is the cheapest test of the parents.
 fn has_stranger(base: &Summary, draft: &Draft, a: u32, b: u32) -> bool
     ensures { IsTrue result → AreNoShownMates base.now draft.now a b }
 {
     if !draft.drafted_parents(b).is_empty() {
         return false;
     }
-    any_stranger(
-        base_parents(base, b),
-        a,
-        b,
-        base_parents(base, a),
-        draft.drafted_parents(a),
-    )
+    let parents = base_parents(base, b);
+    let own = base_parents(base, a);
+    let drafted = draft.drafted_parents(a);
+    if is_long(own, drafted) {
+        return any_unjoined(parents, base, draft, a, b);
+    }
+    any_stranger(parents, a, b, own, drafted)
 }
 
 // Whether two blocks, of which the first has members and this label, differ and can be merged. Most blocks have another label or

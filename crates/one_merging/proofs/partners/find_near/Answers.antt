@@ -1,7 +1,6 @@
 use Rattle.px_spec.specs.Members.{at}
 use Rattle.bisim_spec.specs.Views.{support_at}
 use Rattle.quotient_draft.specs.Drafts.{shown_labels, shown_blocks, shown_support}
-use Rattle.one_merging.specs.Merging.{AreNoShownMates}
 use Rattle.one_merging.proofs.Laws.{none_near, if_none}
 use Rattle.one_merging.proofs.partners.find_near.Goals as goal
 
