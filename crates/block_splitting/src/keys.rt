@@ -54,8 +54,8 @@ fn drop_repeats(numbers: &mut Vec<u32>)
     numbers.dedup();
 }
 
-// Sorts the numbers, and keeps each once.
-fn sort_once(numbers: &mut Vec<u32>)
+/// Sorts the numbers, and keeps each once.
+pub fn sort_once(numbers: &mut Vec<u32>)
     ensures { IsSetOf numbers.old.items numbers.new.items }
 {
     numbers.sort_unstable();

@@ -1,5 +1,5 @@
 -- A partition with labels and members, as the blocks of an index graph.
-use Rattle.std.proofs.Common.{◌≡◌, ℕ, List, Option, Some, None, IsSome, refl, sym, ap, ◌∙◌, slice_get}
+use Rattle.std.proofs.Common.{◌≡◌, ℕ, List, Option, Some, None, refl, ap, ◌∙◌, slice_get}
 use Rattle.std.specs.Prelude.{option_and_then}
 use Rattle.px_spec.specs.Graphs.{Graph, IsGraph, label_of}
 use Rattle.px_spec.specs.Members.{at}

@@ -4,3 +4,4 @@ pub mod BothLaws
 pub mod Alone
 pub mod Starts
 pub mod Fitting
+pub mod OrderLaws

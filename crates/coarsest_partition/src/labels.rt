@@ -25,8 +25,8 @@ fn first_or_zero(key: &[u32]) -> u32
     key[0]
 }
 
-// The first number of each key.
-fn first_numbers(alloc: Global, keys: &KeyTable) -> Result<Vec<u32>, Memory>
+/// The first number of each key.
+pub(crate) fn first_numbers(alloc: Global, keys: &KeyTable) -> Result<Vec<u32>, Memory>
     ensures count { IfOk result (λ first. length first.items ≡ length keys.now) }
     ensures first { IfOk result (λ first. (b n : ℕ) (key : List ℕ) → slice_get keys.now b ≡ Some key → HasFirst key n → slice_get first.items b ≡ Some n) }
 {

@@ -4,6 +4,8 @@
 
 mod both;
 mod labels;
+mod numbering;
+mod ordered;
 mod rounds;
 #[cfg(test)]
 mod tests;

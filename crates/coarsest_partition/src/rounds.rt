@@ -12,6 +12,7 @@ ghost use Rattle.coarsest_partition.specs.Fitting.{FitsWithSupports};
 ghost use Rattle.coarsest_partition.specs.Refined.{parents_alone, IsRefined, IsStep};
 
 use crate::labels::by_labels;
+use crate::ordered::by_order;
 use crate::waking::wake_moved;
 use bisim_levels::Side;
 use block_partition::Blocks;
@@ -104,17 +105,42 @@ fn settle_by_parents(
     Ok(blocks)
 }
 
-/// The coarsest partition that is stable under parents: its blocks are the classes of full bisimilarity.
-///
-/// At first nodes of one label are together. A round looks at the nodes of which a parent went to another
-/// block in the round before, unless they are alone in theirs. In each block the largest group of them
-/// keeps the block's number, where no other member is left. There are at most as many rounds as blocks.
-pub fn full_bisimulation(alloc: Global, view: &GraphView<'_>) -> Result<Blocks, Memory>
+// The partition into classes of full bisimilarity, by rounds from the one by labels on.
+fn by_rounds(alloc: Global, view: &GraphView<'_>) -> Result<Blocks, Memory>
     ensures agrees { IfOk result (λ p. Agrees (shape_of view.now) p.block_of (Bisim (shape_of view.now))) }
-    ensures fits { IfOk result (FitsWithSupports view.now) }
+    ensures labelled { IfOk result (AreLabelled view.now) }
+    ensures inhabited { IfOk result AreInhabited }
 {
     let labels = by_labels(alloc, view)?;
     let waiting = all_waiting(alloc, view, &labels)?;
     let blocks = settle_by_parents(alloc, view, labels, waiting)?;
+    Ok(blocks)
+}
+
+// The same, by one pass over the nodes where the graph has no cycle.
+fn classes(alloc: Global, view: &GraphView<'_>) -> Result<Blocks, Memory>
+    ensures agrees { IfOk result (λ p. Agrees (shape_of view.now) p.block_of (Bisim (shape_of view.now))) }
+    ensures labelled { IfOk result (AreLabelled view.now) }
+    ensures inhabited { IfOk result AreInhabited }
+{
+    match by_order(alloc, view)? {
+        Some(blocks) => Ok(blocks),
+        None => by_rounds(alloc, view),
+    }
+}
+
+/// The coarsest partition that is stable under parents: its blocks are the classes of full bisimilarity.
+///
+/// Where the graph has no cycle, nodes are numbered in an order in which parents come first, each by its label
+/// and the blocks of its parents. Else there are rounds: at first nodes of one label are together. A round looks
+/// at the nodes of which a parent went to another block in the round before, unless they are alone in theirs. In
+/// each block the largest group of them keeps the block's number, where no other member is left.
+pub fn full_bisimulation(alloc: Global, view: &GraphView<'_>) -> Result<Blocks, Memory>
+    ensures agrees { IfOk result (λ p. Agrees (shape_of view.now) p.block_of (Bisim (shape_of view.now))) }
+    ensures fits { IfOk result (FitsWithSupports view.now) }
+{
+    // Called for its contract: what is seen is a graph.
+    let _created = view.created();
+    let blocks = classes(alloc, view)?;
     Ok(blocks)
 }

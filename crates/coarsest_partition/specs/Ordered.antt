@@ -1,0 +1,37 @@
+-- Nodes that are numbered by their keys after all their parents.
+use Rattle.std.specs.Prelude.{ℕ, ◌≡◌, ◌<◌, List, Option, Some, None, true, IsSome, is_some, length, slice_get}
+use Rattle.std.specs.List.{list_all}
+use Rattle.px_spec.specs.Graphs.{Graph}
+use Rattle.px_spec.specs.Members.{at}
+use Rattle.px_spec.specs.Shapes.{shape_of}
+use Rattle.label_graph.specs.Views.{label_number}
+use Rattle.key_table.specs.Interning.{AreDistinct}
+use Rattle.bisim_spec.specs.Bisimilarity.{Bisim}
+use Rattle.bisim_spec.specs.Partitions.{Together}
+use Rattle.bisim_levels.specs.declared.sides.Side.TheVariants.{Parents}
+use Rattle.bisim_levels.specs.Sides.{is_near}
+use Rattle.bisim_levels.specs.Keys.{IsKey}
+use Rattle.block_splitting.specs.Splits.{IsNeighbour}
+
+-- The nodes that have a number: with a node its parents have one; the number is that of the node's key, its label and the numbers
+-- of its parents, and each key is that of a node; and bisimilar nodes that have one have the same.
+pub record IsOrdered (g : Graph) (keys : List (List ℕ)) (block : List (Option ℕ)) : Type 0 where
+  pub distinct : AreDistinct keys
+  pub node : (n : ℕ) → IsSome (at block n) → IsSome (label_number g n)
+  pub closed : (p n : ℕ) → IsSome (at block n) → IsNeighbour Parents g p n → IsSome (at block p)
+  pub keyed : (n b : ℕ) → at block n ≡ Some b → (key : List ℕ) × (slice_get keys b ≡ Some key) × IsKey (label_number g) block (is_near Parents g) n key
+  pub inhabited : (b : ℕ) → b < length keys → (n : ℕ) × (at block n ≡ Some b)
+  pub coarse : (u v : ℕ) → IsSome (at block u) → IsSome (at block v) → Bisim (shape_of g) u v → Together block u v
+
+-- the node has no number, and all these have
+pub record IsReady (block : List (Option ℕ)) (n : ℕ) (parents : List ℕ) : Type 0 where
+  pub none : at block n ≡ None
+  pub numbered : list_all (λ p. is_some (at block p)) parents ≡ true
+
+-- if it is a node, it has a number
+abbrev pub IsNumbered : Graph → List (Option ℕ) → ℕ → Type 0
+IsNumbered g block n = IsSome (label_number g n) → IsSome (at block n)
+
+-- each node has a number
+pub record AreAllNumbered (g : Graph) (block : List (Option ℕ)) : Type 0 where
+  pub each : (n : ℕ) → IsNumbered g block n
