@@ -1,15 +1,15 @@
 -- A table of supports as its entries, which a hash finds.
-use Rattle.std.proofs.Common.{◌≡◌, ◌≢◌, ℕ, zero, suc, ◌+◌, ◌<◌, ◌⊎◌, List, [], ◌∷◌, Option, Some, None, refl, sym, ◌∙◌, ap, arith, inl, inr, true, false, Bool, cond, ◌&&◌, unwrap_or, length, slice_get, map as map_list}
-use Rattle.std.specs.Prelude.{nat_eq, nat_lt, is_some, option_map, position, IfSome}
+use Rattle.std.proofs.Common.{◌≡◌, ◌≢◌, ℕ, zero, suc, ◌+◌, ◌⊎◌, List, [], ◌∷◌, Option, Some, None, refl, sym, ◌∙◌, ap, arith, inl, inr, true, false, Bool, cond, ◌&&◌, unwrap_or, length, slice_get, map as map_list}
+use Rattle.std.specs.Prelude.{nat_eq, nat_lt, is_some, option_map}
 use Rattle.std.proofs.lemmas.Option.{slice_get-map}
 use Rattle.std.specs.List.{IsDistinct, AllByRecursion, position_or_len}
-use Rattle.std.proofs.lemmas.Bool.{cases_lt}
 use Rattle.std.proofs.lemmas.Map.Keys.{IsDistinct-head, IsDistinct-tail}
 use Rattle.std.specs.Ordering.{nat_cmp, eq_by_cmp, is_eq}
 use Rattle.std.specs.Map.{lookup, keys_of}
 use Rattle.std.specs.FinMap as map
 use Rattle.std.specs.Cmp.{tied_then, unsigned_tied, eq_by_cmp_equiv, IsEquivalence}
 use Rattle.std.proofs.lemmas.Bool.Decides.{eqb_tells, nat_tests}
+use Rattle.indexmap.specs.IndexMap.{insert_entry}
 use Rattle.px_spec.specs.Graphs.{edge_cmp}
 use Rattle.px_spec.proofs.EdgeOrder.{edge_cmp_total}
 use Rattle.bisim_spec.specs.Views.{SupportTable, support_at}
@@ -85,44 +85,32 @@ value_at es i q x e = slice_get-map (λ (p : (ℕ × ℕ) × ℕ). p.1) es i ∙
 pub value_is : (es : List ((ℕ × ℕ) × ℕ)) (i : ℕ) (q : ℕ × ℕ) (x n : ℕ) → slice_get es i ≡ Some (q, x) → Some n ≡ slice_get (map_list (λ (e : (ℕ × ℕ) × ℕ). e.1) es) i → x ≡ n
 value_is es i q x n at value = let same_value : Some n ≡ Some x = value ∙ value_at es i q x at in cc
 
-skipped : (q : ℕ × ℕ) (e : (ℕ × ℕ) × ℕ) (es : List ((ℕ × ℕ) × ℕ)) (n : ℕ) → same q e.0 ≡ false → lookup (same q) es ≡ Some n → lookup (same q) (e ∷ es) ≡ Some n
-skipped q e es n f at = rw f at
-
-at_len : (es : List ((ℕ × ℕ) × ℕ)) (q : ℕ × ℕ) → position_or_len (same q) (keys_of es) < length (keys_of es)
-    → (n : ℕ) × (slice_get es (position_or_len (same q) (keys_of es)) ≡ Some (q, n)) × (lookup (same q) es ≡ Some n)
-at_len [] q h = absurd (omega (arith, h))
-at_len (e ∷ es) q h = elim (test_is (same q e.0)) [
+-- a pair that is put in stands at the index that it had, or behind the others
+put_at : (es : List ((ℕ × ℕ) × ℕ)) (q : ℕ × ℕ) (v : ℕ) → slice_get (insert_entry same es q v) (position_or_len (same q) (keys_of es)) ≡ Some (q, v)
+put_at [] q v = refl
+put_at (e ∷ es) q v = elim (test_is (same q e.0)) [
   | inl s ↦ (
       let here : position_or_len (same q) (keys_of (e ∷ es)) ≡ 0 = rw s refl in
-      let own : e ≡ (q, e.1) = λ j. (sym (same_is q e.0 s) j, e.1) in
-      (e.1, ap (slice_get (e ∷ es)) here ∙ ap (λ (x : (ℕ × ℕ) × ℕ). Some x) own, rw s refl))
+      let now : insert_entry same (e ∷ es) q v ≡ (e.0, v) ∷ es = rw s refl in
+      let own : (e.0, v) ≡ (q, v) = λ j. (sym (same_is q e.0 s) j, v) in
+      ap (slice_get (insert_entry same (e ∷ es) q v)) here ∙ ap (λ (xs : List ((ℕ × ℕ) × ℕ)). slice_get xs 0) now ∙ ap (λ (x : (ℕ × ℕ) × ℕ). Some x) own)
   | inr f ↦ (
       let there : position_or_len (same q) (keys_of (e ∷ es)) ≡ suc (position_or_len (same q) (keys_of es)) = rw f (omega arith) in
-      let at = at_len es q (omega (arith, h, there)) in
-      (at.0, ap (slice_get (e ∷ es)) there ∙ at.1, skipped q e es at.0 f at.2))
+      let now : insert_entry same (e ∷ es) q v ≡ e ∷ insert_entry same es q v = rw f refl in
+      ap (slice_get (insert_entry same (e ∷ es) q v)) there ∙ ap (λ (xs : List ((ℕ × ℕ) × ℕ)). slice_get xs (suc (position_or_len (same q) (keys_of es)))) now ∙ put_at es q v)
 ]
 
-at_position : (es : List ((ℕ × ℕ) × ℕ)) (q : ℕ × ℕ) (i : ℕ) → Some i ≡ position (same q) (keys_of es)
-    → (n : ℕ) × (slice_get es i ≡ Some (q, n)) × (lookup (same q) es ≡ Some n)
-at_position es q i p = elim (cases_lt (position_or_len (same q) (keys_of es)) (length (keys_of es))) [
-  | inl l ↦ (
-      let test : nat_lt (position_or_len (same q) (keys_of es)) (length (keys_of es)) ≡ true = grind (arith, nat_tests, l) in
-      let found_is : position (same q) (keys_of es) ≡ Some (position_or_len (same q) (keys_of es)) = rw test refl in
-      let is : i ≡ position_or_len (same q) (keys_of es) = ap (λ o. unwrap_or o 0) (p ∙ found_is) in
-      let at = at_len es q l in
-      (at.0, ap (slice_get es) is ∙ at.1, at.2))
-  | inr past ↦ absurd (
-      let test : nat_lt (position_or_len (same q) (keys_of es)) (length (keys_of es)) ≡ false = grind (arith, nat_tests, past) in
-      let none_is : position (same q) (keys_of es) ≡ None = rw test refl in
-      let none : Some i ≡ None = p ∙ none_is in
-      cc)
-]
+pub stands_put : (old new : List ((ℕ × ℕ) × ℕ)) (q : ℕ × ℕ) (v i : ℕ) → new ≡ insert_entry same old q v → i ≡ position_or_len (same q) (keys_of old) → slice_get new i ≡ Some (q, v)
+stands_put old new q v i put at = ap (λ (xs : List ((ℕ × ℕ) × ℕ)). slice_get xs i) put ∙ ap (slice_get (insert_entry same old q v)) at ∙ put_at old q v
 
--- a pair that is found stands at its index
-pub found_at : (es : List ((ℕ × ℕ) × ℕ)) (q : ℕ × ℕ) (o : Option ℕ) → o ≡ position (same q) (keys_of es)
-    → IfSome o (λ i. (n : ℕ) × (slice_get es i ≡ Some (q, n)) × (lookup (same q) es ≡ Some n))
-found_at es q None e = tt
-found_at es q (Some i) e = at_position es q i e
+-- of two writes of one pair the last counts
+pub twice : (t : SupportTable) (k : ℕ × ℕ) (v w : ℕ) → map.insert (map.insert t k v) k w ≡ map.insert t k w
+twice t k v w = map.same_map edge_cmp_total edge_cmp-IsAntisymmetric _ _ (λ q.
+    got (map.insert t k v) k w q ∙ ap (λ o. cond (same q k) (Some w) o) (got t k v q) ∙ last (same q k) (map.get t q) ∙ sym (got t k w q))
+  where
+    last : (b : Bool) (o : Option ℕ) → cond b (Some w) (cond b (Some v) o) ≡ cond b (Some w) o
+    last true o = refl
+    last false o = refl
 
 -- the support of each pair, once an edge from a to b is counted
 pub support_with : (t : SupportTable) (a b x y : ℕ) → support_at (with_one_more t a b) x y ≡ support_at t x y + one_if (same (x, y) (a, b))

@@ -6,7 +6,7 @@ ghost use Rattle.bisim_spec.specs.Views.{support_at};
 ghost use Rattle.quotient.specs.Joined.{AreNear, AreLive, AreBelow, AreFew, one_if, pairs_with};
 
 use crate::joins::Joins;
-use crate::supports::empty_hand;
+use crate::supports::{Held, empty_hand};
 use block_partition::Blocks;
 use px_base::{Memory, NodeId};
 use std::alloc::Global;
@@ -51,7 +51,7 @@ fn gather_edge(
 }
 
 // Counts the pairs of blocks.
-fn count_pairs(joins: &mut Joins, hand: &mut Vec<usize>, pairs: &[(u32, u32)]) -> Result<(), Memory>
+fn count_pairs(joins: &mut Joins, hand: &mut Vec<Held>, pairs: &[(u32, u32)]) -> Result<(), Memory>
     requires few { (x y : ℕ) → support_at joins.old.supports.pairs x y + pairs_with pairs.now x y ≤ 2 ^ 30 }
     requires below { AreBelow (length joins.old.children.lists) pairs.now }
     requires near { AreNear joins.old.supports.pairs joins.old.children.lists joins.old.parents.lists }
@@ -71,7 +71,7 @@ fn count_pairs(joins: &mut Joins, hand: &mut Vec<usize>, pairs: &[(u32, u32)]) -
 #[inline(always)]
 fn count_batch(
     joins: &mut Joins,
-    hand: &mut Vec<usize>,
+    hand: &mut Vec<Held>,
     pairs: &mut Vec<(u32, u32)>,
 ) -> Result<(), Memory>
     requires few { (x y : ℕ) → support_at joins.old.supports.pairs x y + pairs_with pairs.old.items x y ≤ 2 ^ 30 }

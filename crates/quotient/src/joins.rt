@@ -7,7 +7,7 @@ ghost use Rattle.quotient.specs.Kept.{IsWritten};
 
 use crate::neighbours::Neighbours;
 use crate::places::Place;
-use crate::supports::Supports;
+use crate::supports::{Held, Supports};
 use px_base::Memory;
 use std::alloc::Global;
 
@@ -20,7 +20,7 @@ pub(crate) struct Joins {
 }
 
 impl Joins {
-    /// No edges, between that many blocks.
+    /// No edges, between that many blocks. There is room for as many pairs: most blocks have a parent.
     pub(crate) fn new(alloc: Global, blocks: usize) -> Result<Joins, Memory>
         ensures supports { IfOk result (λ j. j.supports.pairs ≡ table.empty) }
         ensures near { IfOk result (λ j. AreNear j.supports.pairs j.children.lists j.parents.lists) }
@@ -28,7 +28,7 @@ impl Joins {
         ensures parents { IfOk result (λ j. length j.parents.lists ≡ blocks) }
     {
         Ok(Joins {
-            supports: Supports::new(alloc),
+            supports: Supports::with_room(alloc, blocks)?,
             children: Neighbours::new(alloc, blocks)?,
             parents: Neighbours::new(alloc, blocks)?,
         })
@@ -36,7 +36,7 @@ impl Joins {
 
     /// Counts an edge from one block to another, with pairs at hand.
     #[inline(always)]
-    pub(crate) fn count(&mut self, hand: &mut Vec<usize>, a: u32, b: u32) -> Result<(), Memory>
+    pub(crate) fn count(&mut self, hand: &mut Vec<Held>, a: u32, b: u32) -> Result<(), Memory>
         requires from { a < length self.old.children.lists }
         requires onto { b < length self.old.parents.lists }
         requires few { support_at self.old.supports.pairs a b < 2 ^ 32 - 1 }

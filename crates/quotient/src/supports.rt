@@ -45,6 +45,15 @@ impl Supports {
         }
     }
 
+    /// No supports, and room for that many pairs.
+    pub(crate) fn with_room(alloc: Global, pairs: usize) -> Result<Supports, Memory>
+        ensures { IfOk result (λ s. s.pairs ≡ map.empty) }
+    {
+        let mut supports = Supports::new(alloc);
+        supports.reserve(pairs)?;
+        Ok(supports)
+    }
+
     /// The support of a pair, found by hash.
     pub(crate) fn get(&self, a: u32, b: u32) -> u32
         ensures { result ≡ support_at self.now.pairs a b }
@@ -143,13 +152,13 @@ impl Supports {
     /// Counts one more edge, and answers whether it is the first of its pair. Where the pair stands is
     /// taken from those at hand, if it is one of them.
     #[inline(always)]
-    pub(crate) fn raise(&mut self, hand: &mut Vec<usize>, a: u32, b: u32) -> Result<bool, Memory>
+    pub(crate) fn raise(&mut self, hand: &mut Vec<Held>, a: u32, b: u32) -> Result<bool, Memory>
         requires few { support_at self.old.pairs a b < 2 ^ 32 - 1 }
         ensures raised { OnOk result (self.new.pairs ≡ with_one_more self.old.pairs a b) }
         ensures first { IfOk result (λ first. first ≡ nat_eq (support_at self.old.pairs a b) 0) }
     {
         let place = place_of(a, b);
-        if !self.raise_at(read_hand(hand, place), a, b) {
+        if !self.raise_at(read_hand(hand, place, a, b), a, b) {
             return self.raise_found(hand, place, a, b);
         }
         Ok(false)
@@ -177,7 +186,7 @@ impl Supports {
     // another one.
     fn raise_found(
         &mut self,
-        hand: &mut Vec<usize>,
+        hand: &mut Vec<Held>,
         place: usize,
         a: u32,
         b: u32,
@@ -186,17 +195,16 @@ impl Supports {
         ensures raised { OnOk result (self.new.pairs ≡ with_one_more self.old.pairs a b) }
         ensures first { IfOk result (λ first. first ≡ nat_eq (support_at self.old.pairs a b) 0) }
     {
-        if let Some(i) = index_of(&self.table, a, b) {
-            write_hand(hand, place, i);
-            let Some(n) = self.table.get_index_mut(i) else {
-                unreachable!()
-            };
-            *n += 1;
-            return Ok(false);
-        }
-        let (i, _) = self.table.insert_full((a, b), 1)?;
-        write_hand(hand, place, i);
-        Ok(true)
+        let (i, before) = self.table.insert_full((a, b), 1)?;
+        write_hand(hand, place, a, b, i);
+        let Some(n) = before else {
+            return Ok(true);
+        };
+        let Some(count) = self.table.get_index_mut(i) else {
+            unreachable!()
+        };
+        *count = n + 1;
+        Ok(false)
     }
 }
 
@@ -206,10 +214,22 @@ const HAND: usize = 1 << BITS;
 // How many bits the number of a place has.
 const BITS: u32 = 12;
 
-/// No pairs at hand: for each place the index of a pair in the table, which is looked at before it is
-/// taken.
-pub(crate) fn empty_hand(alloc: Global) -> Result<Vec<usize>, Memory> {
-    let hand = vec![in alloc; 0; HAND]?;
+/// A pair of blocks at hand, and its index in the table, which is looked at before it is taken.
+#[derive(Clone, Copy)]
+pub(crate) struct Held {
+    a: u32,
+    b: u32,
+    i: u32,
+}
+
+/// No pairs at hand.
+pub(crate) fn empty_hand(alloc: Global) -> Result<Vec<Held>, Memory> {
+    let none = Held {
+        a: 0,
+        b: 0,
+        i: u32::MAX,
+    };
+    let hand = vec![in alloc; none; HAND]?;
     Ok(hand)
 }
 
@@ -219,15 +239,20 @@ fn place_of(a: u32, b: u32) -> usize {
     ((a.wrapping_mul(0x9E37_79B9) ^ b.wrapping_mul(0x85EB_CA6B)) >> (32 - BITS)) as usize
 }
 
+// The index that is at hand for a pair, and one past all where none is.
 #[inline(always)]
-fn read_hand(hand: &[usize], place: usize) -> usize {
-    if place < hand.len() { hand[place] } else { 0 }
+fn read_hand(hand: &[Held], place: usize, a: u32, b: u32) -> usize {
+    match hand.get(place) {
+        Some(held) if held.a == a && held.b == b => held.i as usize,
+        _ => usize::MAX,
+    }
 }
 
 #[inline(always)]
-fn write_hand(hand: &mut Vec<usize>, place: usize, i: usize) {
+fn write_hand(hand: &mut Vec<Held>, place: usize, a: u32, b: u32, i: usize) {
     if place < hand.len() {
-        hand[place] = i;
+        let i = u32::try_from(i).unwrap_or(u32::MAX);
+        hand[place] = Held { a, b, i };
     }
 }
 
@@ -240,13 +265,4 @@ fn is_at(table: &IndexMap<(u32, u32), u32>, i: usize, a: u32, b: u32) -> bool
         Some((pair, _)) => pair.0 == a && pair.1 == b,
         None => false,
     }
-}
-
-// The index of the pair, if it is in the table.
-#[inline(always)]
-fn index_of(table: &IndexMap<(u32, u32), u32>, a: u32, b: u32) -> Option<usize>
-    ensures found { IfSome result (λ i. (n : ℕ) × (slice_get table.now.entries i ≡ Some ((a, b), n)) × (get (λ x y. nat_eq x.0 y.0 && nat_eq x.1 y.1) table.now (a, b) ≡ Some n)) }
-    ensures absent { IfNone result (get (λ x y. nat_eq x.0 y.0 && nat_eq x.1 y.1) table.now (a, b) ≡ None) }
-{
-    table.get_index_of(&(a, b))
 }
