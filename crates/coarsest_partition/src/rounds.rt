@@ -132,9 +132,11 @@ fn classes(alloc: Global, view: &GraphView<'_>) -> Result<Blocks, Memory>
 /// The coarsest partition that is stable under parents: its blocks are the classes of full bisimilarity.
 ///
 /// Where the graph has no cycle, nodes are numbered in an order in which parents come first, each by its label
-/// and the blocks of its parents. Else there are rounds: at first nodes of one label are together. A round looks
-/// at the nodes of which a parent went to another block in the round before, unless they are alone in theirs. In
-/// each block the largest group of them keeps the block's number, where no other member is left.
+/// and the blocks of its parents: n numbers of nodes, m edges and at most d parents of a node take O(n + m log d)
+/// where hashes differ. Else there are rounds: at first nodes of one label are together. A round looks at the
+/// nodes of which a parent went to another block in the round before, unless they are alone in theirs. In each
+/// block the largest group of them keeps the block's number, where no other member is left. There are at most as
+/// many rounds as blocks, and r rounds take O(r (n + m log d)).
 pub fn full_bisimulation(alloc: Global, view: &GraphView<'_>) -> Result<Blocks, Memory>
     ensures agrees { IfOk result (λ p. Agrees (shape_of view.now) p.block_of (Bisim (shape_of view.now))) }
     ensures fits { IfOk result (FitsWithSupports view.now) }
