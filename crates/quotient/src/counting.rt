@@ -93,7 +93,8 @@ fn count_batch(
 }
 
 /// Counts the edges of a list between the blocks of their ends. The blocks of many edges are read
-/// before their pairs are counted, since reads that don't wait for one another take less time.
+/// before their pairs are counted, since reads that don't wait for one another take less time. There is
+/// room for two pairs a block from the start: in a graph of triples there are seldom fewer.
 pub(crate) fn count_edges(
     alloc: Global,
     blocks: &Blocks,
@@ -106,7 +107,8 @@ pub(crate) fn count_edges(
     ensures children { IfOk result (λ j. length j.children.lists ≡ length blocks.now.labels) }
     ensures parents { IfOk result (λ j. length j.parents.lists ≡ length blocks.now.labels) }
 {
-    let mut joins = Joins::new(alloc, blocks.span() as usize)?;
+    let span = blocks.span() as usize;
+    let mut joins = Joins::new(alloc, span, edges.len().min(2 * span))?;
     let mut hand = empty_hand(alloc)?;
     let mut pairs = Vec::with_capacity(alloc, BATCH)?;
     for (from, onto) in edges {

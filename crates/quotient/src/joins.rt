@@ -20,15 +20,15 @@ pub(crate) struct Joins {
 }
 
 impl Joins {
-    /// No edges, between that many blocks. There is room for as many pairs: most blocks have a parent.
-    pub(crate) fn new(alloc: Global, blocks: usize) -> Result<Joins, Memory>
+    /// No edges, between that many blocks, and room for that many pairs.
+    pub(crate) fn new(alloc: Global, blocks: usize, pairs: usize) -> Result<Joins, Memory>
         ensures supports { IfOk result (λ j. j.supports.pairs ≡ table.empty) }
         ensures near { IfOk result (λ j. AreNear j.supports.pairs j.children.lists j.parents.lists) }
         ensures children { IfOk result (λ j. length j.children.lists ≡ blocks) }
         ensures parents { IfOk result (λ j. length j.parents.lists ≡ blocks) }
     {
         Ok(Joins {
-            supports: Supports::with_room(alloc, blocks)?,
+            supports: Supports::with_room(alloc, pairs)?,
             children: Neighbours::new(alloc, blocks)?,
             parents: Neighbours::new(alloc, blocks)?,
         })

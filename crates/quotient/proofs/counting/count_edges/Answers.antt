@@ -15,8 +15,8 @@ loop-from-init c = record {
       omega (arith, none, waits);
   below = none_below (length c.in_ok-joins.joins.children.lists) c.in_ok-pairs.pairs.items c.in_ok-pairs.ensures.items;
   near = c.in_ok-joins.ensures.near;
-  children = c.in_ok-joins.ensures.children ∙ c.span.ensures.span;
-  parents = c.in_ok-joins.ensures.parents ∙ c.span.ensures.span;
+  children = c.in_ok-joins.ensures.children ∙ c.span-span.ensures.span;
+  parents = c.in_ok-joins.ensures.parents ∙ c.span-span.ensures.span;
 }
 
 pub count_batch-requires-clause-few : goal.count_batch-requires-clause-few
@@ -57,7 +57,7 @@ returns-clause-supports c = λ a b.
 pub returns-clause-live : goal.returns-clause-live
 returns-clause-live c = λ a b h.
     let m = support_members c.args.edges.now c.args.blocks.now.block_of a b (subst (λ n. 0 < n) (returns-clause-supports c a b) h) in
-    (c.span.ensures.live m.0 a m.2, c.span.ensures.live m.1 b m.3)
+    (c.span-span.ensures.live m.0 a m.2, c.span-span.ensures.live m.1 b m.3)
 
 pub gather_edge-requires : goal.gather_edge-requires
 gather_edge-requires c = record { below = subst (λ n. AreBelow n c.loop-from.pairs.items) c.loop-from.invariant.children c.loop-from.invariant.below }
