@@ -65,9 +65,9 @@ fn wake_around(
     wake_shared(waiting, blocks, opposite_neighbours(view, side, q))
 }
 
-/// Lets the nodes wait that have one of these as a neighbour on a side, unless they are alone in their
-/// block, which no round can split.
-pub(crate) fn wake_moved(
+// Lets the nodes wait that have one of these as a neighbour on a side, unless they are alone in their
+// block, which no round can split.
+fn wake_each(
     waiting: &mut NodeSet,
     blocks: &Blocks,
     view: &GraphView<'_>,
@@ -83,5 +83,25 @@ pub(crate) fn wake_moved(
     for q in moved {
         wake_around(waiting, blocks, view, side, *q)?;
     }
+    Ok(())
+}
+
+/// Lets the nodes wait that have one of these as a neighbour on a side, unless they are alone in their
+/// block, which no round can split. Where they are many, they are in rising order then.
+pub(crate) fn wake_moved(
+    waiting: &mut NodeSet,
+    blocks: &Blocks,
+    view: &GraphView<'_>,
+    side: Side,
+    moved: &[NodeId],
+) -> Result<(), Memory>
+    requires graph { IsGraph view.now }
+    requires nodes { AreNodes view.now moved.now }
+    requires size { waiting.old.size ≡ length view.now.given }
+    ensures size { waiting.new.size ≡ waiting.old.size }
+    ensures nodes { OnOk result ((m : ℕ) → has waiting.new.nodes m ≡ (has waiting.old.nodes m || (list_any (λ q. is_near side view.now q m) moved.now && not (is_alone blocks.now m)))) }
+{
+    wake_each(waiting, blocks, view, side, moved)?;
+    waiting.order()?;
     Ok(())
 }

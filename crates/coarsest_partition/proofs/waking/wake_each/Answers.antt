@@ -6,7 +6,7 @@ use Rattle.px_spec.specs.Members.{has}
 use Rattle.bisim_levels.specs.Sides.{is_near}
 use Rattle.coarsest_partition.specs.Alone.{is_alone}
 use Rattle.coarsest_partition.proofs.Alone.{wakes_step}
-use Rattle.coarsest_partition.proofs.waking.wake_moved.Goals as goal
+use Rattle.coarsest_partition.proofs.waking.wake_each.Goals as goal
 
 pub loop-q-preserved : goal.loop-q-preserved
 loop-q-preserved c = record {

@@ -4,7 +4,7 @@ use Rattle.std.specs.List.{list_any}
 use Rattle.px_spec.specs.Members.{has}
 use Rattle.bisim_levels.specs.Sides.{is_near}
 use Rattle.coarsest_partition.specs.Alone.{is_alone}
-use Rattle.coarsest_partition.proofs.waking.wake_moved.Given as goal
+use Rattle.coarsest_partition.proofs.waking.wake_each.Given as goal
 
 abbrev pub invariant-loop-q : goal.invariant-loop-q
 invariant-loop-q l = record {
