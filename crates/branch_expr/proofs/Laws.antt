@@ -24,6 +24,28 @@ module _ (L : ℕ → Option ℕ) where
     λ p. (k v).1 ((h v).1 (p.0, p.1.0), p.1.1),
   )
 
+  set_either : (a n r : List ℕ) (H K : ℕ → Type 0) → IsSetOf L a H → IsSetOf L n K → ((v : ℕ) → IsTrue (has r v) ↔ (IsTrue (has a v) ⊎ IsTrue (has n v))) → IsSetOf L r (λ v. H v ⊎ K v)
+  set_either a n r H K h k e v = (
+    λ m. elim ((e v).0 m) [ inl x ↦ (let p = (h v).0 x in (p.0, inl p.1)) | inr y ↦ (let p = (k v).0 y in (p.0, inr p.1)) ],
+    λ p. elim p.1 [ inl x ↦ (e v).1 (inl ((h v).1 (p.0, x))) | inr y ↦ (e v).1 (inr ((k v).1 (p.0, y))) ],
+  )
+
+  -- the nodes at which it doesn't hold
+  pub set_denied : (a n r : List ℕ) (H : ℕ → Type 0) → ((v : ℕ) → IsTrue (has a v) ↔ IsSome (L v)) → IsSetOf L n H
+      → ((v : ℕ) → IsTrue (has r v) ↔ (IsTrue (has a v) × (IsTrue (has n v) → ⊥))) → IsSetOf L r (λ v. H v → ⊥)
+  set_denied a n r H all h e v = (
+    λ m. let p = (e v).0 m in let some = (all v).0 p.0 in (some, λ x. p.1 ((h v).1 (some, x))),
+    λ p. (e v).1 ((all v).1 p.0, λ m. p.1 ((h v).0 m).1),
+  )
+
+  -- the members at which it doesn't hold
+  pub keeps_denied : (a n r : List ℕ) (H : ℕ → Type 0) → ((v : ℕ) → IsTrue (has a v) → IsSome (L v)) → IsSetOf L n H
+      → ((v : ℕ) → IsTrue (has r v) ↔ (IsTrue (has a v) × (IsTrue (has n v) → ⊥))) → Keeps a r (λ v. H v → ⊥)
+  keeps_denied a n r H nodes h e v = (
+    λ m. let p = (e v).0 m in (p.0, λ x. p.1 ((h v).1 (nodes v p.0, x))),
+    λ p. (e v).1 (p.0, λ m. p.1 ((h v).0 m).1),
+  )
+
 keeps_as : (a r : List ℕ) (H K : ℕ → Type 0) → ((v : ℕ) → H v → K v) → ((v : ℕ) → K v → H v) → Keeps a r H → Keeps a r K
 keeps_as a r H K to from h v = (λ m. let p = (h v).0 m in (p.0, to v p.1), λ p. (h v).1 (p.0, from v p.1))
 
@@ -31,19 +53,6 @@ keeps_both : (a b r : List ℕ) (H K : ℕ → Type 0) → Keeps a b H → Keeps
 keeps_both a b r H K h k v = (
   λ m. let p = (k v).0 m in let q = (h v).0 p.0 in (q.0, (q.1, p.1)),
   λ p. (k v).1 ((h v).1 (p.0, p.1.0), p.1.1),
-)
-
--- what stays of a copy
-pub keeps_copied : (a c r : List ℕ) (H : ℕ → Type 0) → ((n : ℕ) → IsTrue (has c n) ↔ IsTrue (has a n)) → Keeps c r H → Keeps a r H
-keeps_copied a c r H same h v = (
-  λ m. let p = (h v).0 m in ((same v).0 p.0, p.1),
-  λ p. (h v).1 ((same v).1 p.0, p.1),
-)
-
-keeps_either : (a b n r : List ℕ) (H K : ℕ → Type 0) → Keeps a b H → Keeps a n K → ((v : ℕ) → IsTrue (has r v) ↔ (IsTrue (has b v) ⊎ IsTrue (has n v))) → Keeps a r (λ v. H v ⊎ K v)
-keeps_either a b n r H K h k e v = (
-  λ m. elim ((e v).0 m) [ inl x ↦ (let p = (h v).0 x in (p.0, inl p.1)) | inr y ↦ (let p = (k v).0 y in (p.0, inr p.1)) ],
-  λ p. elim p.1 [ inl x ↦ (e v).1 (inl ((h v).1 (p.0, x))) | inr y ↦ (e v).1 (inr ((k v).1 (p.0, y))) ],
 )
 
 pub along_back : (edge : ℕ → ℕ → Bool) (a : tree.Axis) (u v : ℕ) → Along edge (turned a) u v → Along edge a v u
@@ -161,22 +170,45 @@ module _ (L : ℕ → Option ℕ) (s : Shape) (ends : (u v : ℕ) → IsTrue (s.
       (λ v x. and_in s c (take j ds) d v x) (λ v x. and_out s c (take j ds) d v x)
       (keeps_both a b r (HoldsAnd s (and_from c (take j ds))) (HoldsCond s (cond_of d)) h k))
 
-  pub keeps_or : (c : tree.And) (ds : List And) (j : ℕ) (d : And) → j < length ds → d ≡ get_or ds j d → (a b n r : List ℕ) → Keeps a b (HoldsOr s (or_from c (take j ds)))
-      → Keeps a n (HoldsAnd s (and_of d)) → ((v : ℕ) → IsTrue (has r v) ↔ (IsTrue (has b v) ⊎ IsTrue (has n v))) → Keeps a r (HoldsOr s (or_from c (take (j + 1) ds)))
-  keeps_or c ds j d within e a b n r h k i =
-      subst (λ y. Keeps a r (HoldsOr s (or_from c y))) (taken ds j d within e)
-      (keeps_as a r (λ v. HoldsOr s (or_from c (take j ds)) v ⊎ HoldsAnd s (and_of d) v) (HoldsOr s (or_from c (take j ds ++ d ∷ [])))
-      (λ v x. or_in s c (take j ds) d v x) (λ v x. or_out s c (take j ds) d v x)
-      (keeps_either a b n r (HoldsOr s (or_from c (take j ds))) (HoldsAnd s (and_of d)) h k i))
+  pub set_and : (c : tree.Cond) (ds : List Cond) (j : ℕ) (d : Cond) → j < length ds → d ≡ get_or ds j d → (a r : List ℕ) → IsSetOf L a (HoldsAnd s (and_from c (take j ds)))
+      → Keeps a r (HoldsCond s (cond_of d)) → IsSetOf L r (HoldsAnd s (and_from c (take (j + 1) ds)))
+  set_and c ds j d within e a r h k =
+      subst (λ y. IsSetOf L r (HoldsAnd s (and_from c y))) (taken ds j d within e)
+      (set_as L r (λ v. HoldsAnd s (and_from c (take j ds)) v × HoldsCond s (cond_of d) v) (HoldsAnd s (and_from c (take j ds ++ d ∷ [])))
+      (λ v x. and_in s c (take j ds) d v x) (λ v x. and_out s c (take j ds) d v x)
+      (set_kept L a r (HoldsAnd s (and_from c (take j ds))) (HoldsCond s (cond_of d)) h k))
 
-  pub set_preds : (t : tree.Test) (ps : List tree.Or) (j : ℕ) (o : tree.Or) → j < length ps → o ≡ get_or ps j o → (a r : List ℕ) → IsSetOf L a (Meets s (tree.step t (preds_of (take j ps))))
-      → Keeps a r (HoldsOr s o) → IsSetOf L r (Meets s (tree.step t (preds_of (take (j + 1) ps))))
-  set_preds t ps j o within e a r h k =
-      subst (λ y. IsSetOf L r (Meets s (tree.step t (preds_of y)))) (taken ps j o within e)
-      (set_as L r (λ v. Meets s (tree.step t (preds_of (take j ps))) v × HoldsOr s o v) (Meets s (tree.step t (preds_of (take j ps ++ o ∷ []))))
-      (λ v x. (x.0.0, preds_in s (take j ps) o v (x.0.1, x.1)))
-      (λ v x. let p = preds_out s (take j ps) o v x.1 in ((x.0, p.0), p.1))
-      (set_kept L a r (Meets s (tree.step t (preds_of (take j ps)))) (HoldsOr s o) h k))
+  pub set_or : (c : tree.And) (ds : List And) (j : ℕ) (d : And) → j < length ds → d ≡ get_or ds j d → (a n r : List ℕ) → IsSetOf L a (HoldsOr s (or_from c (take j ds)))
+      → IsSetOf L n (HoldsAnd s (and_of d)) → ((v : ℕ) → IsTrue (has r v) ↔ (IsTrue (has a v) ⊎ IsTrue (has n v))) → IsSetOf L r (HoldsOr s (or_from c (take (j + 1) ds)))
+  set_or c ds j d within e a n r h k i =
+      subst (λ y. IsSetOf L r (HoldsOr s (or_from c y))) (taken ds j d within e)
+      (set_as L r (λ v. HoldsOr s (or_from c (take j ds)) v ⊎ HoldsAnd s (and_of d) v) (HoldsOr s (or_from c (take j ds ++ d ∷ [])))
+      (λ v x. or_in s c (take j ds) d v x) (λ v x. or_out s c (take j ds) d v x)
+      (set_either L a n r (HoldsOr s (or_from c (take j ds))) (HoldsAnd s (and_of d)) h k i))
+
+  pub set_preds : (ps : List tree.Or) (j : ℕ) (o : tree.Or) → j < length ps → o ≡ get_or ps j o → (a r : List ℕ) → IsSetOf L a (HoldAll s (preds_of (take j ps)))
+      → Keeps a r (HoldsOr s o) → IsSetOf L r (HoldAll s (preds_of (take (j + 1) ps)))
+  set_preds ps j o within e a r h k =
+      subst (λ y. IsSetOf L r (HoldAll s (preds_of y))) (taken ps j o within e)
+      (set_as L r (λ v. HoldAll s (preds_of (take j ps)) v × HoldsOr s o v) (HoldAll s (preds_of (take j ps ++ o ∷ [])))
+      (λ v x. preds_in s (take j ps) o v x)
+      (λ v x. preds_out s (take j ps) o v x)
+      (set_kept L a r (HoldAll s (preds_of (take j ps))) (HoldsOr s o) h k))
+
+  pub set_first : (ps : List tree.Or) (o : tree.Or) → 0 < length ps → o ≡ get_or ps 0 o → (r : List ℕ) → IsSetOf L r (HoldsOr s o) → IsSetOf L r (HoldAll s (preds_of (take 1 ps)))
+  set_first ps o some e r h =
+      subst (λ y. IsSetOf L r (HoldAll s (preds_of y))) (taken ps 0 o some e)
+      (set_as L r (HoldsOr s o) (HoldAll s (preds_of (o ∷ []))) (λ v x. (x, tt)) (λ v x. x.0) h)
+
+  pub set_step : (t : tree.Test) (ps : List tree.Or) (a r : List ℕ) → IsSetOf L a (HoldAll s (preds_of ps)) → Keeps a r (Passes s t) → IsSetOf L r (Meets s (tree.step t (preds_of ps)))
+  set_step t ps a r h k =
+      set_as L r (λ v. HoldAll s (preds_of ps) v × Passes s t v) (Meets s (tree.step t (preds_of ps))) (λ v x. (x.1, x.0)) (λ v x. (x.1, x.0))
+      (set_kept L a r (HoldAll s (preds_of ps)) (Passes s t) h k)
+
+  pub set_met : (t : tree.Test) (ps : List tree.Or) (r : List ℕ) → [] ≡ ps → IsSetOf L r (Passes s t) → IsSetOf L r (Meets s (tree.step t (preds_of ps)))
+  set_met t ps r none h =
+      subst (λ y. IsSetOf L r (Meets s (tree.step t (preds_of y)))) none
+      (set_as L r (Passes s t) (Meets s (tree.step t tree.none)) (λ v x. (x, tt)) (λ v x. x.0) h)
 
   -- to where an axis leads from the nodes whose label passes
   abbrev pub IsLed : tree.Axis → tree.Test → List ℕ → Type 0

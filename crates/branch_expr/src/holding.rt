@@ -10,7 +10,7 @@ ghost use Rattle.branch_expr.specs.Sets.{IsSetOf, Keeps};
 
 use crate::tree::{And, Cond, Hop, Or, Rel, Step, Test};
 use branch_sets::{
-    Axis, Mirror, along, copy, intersect, passing, passing_children, subtract, unite,
+    Axis, Mirror, along, intersect, keep_labelled, passing, passing_children, subtract, unite,
 };
 use label_graph::{Digraph, Labels};
 use px_base::{Bits, Memory, Text};
@@ -37,6 +37,51 @@ fn test_set<G: Digraph>(alloc: Global, g: &G, labels: &Labels, test: &Test) -> R
     match test {
         Test::Any => passing(alloc, g, None),
         Test::Label(text) => label_set(alloc, g, labels, text),
+    }
+}
+
+/// Keeps the members with the label.
+fn keep_label<G: Digraph>(
+    alloc: Global,
+    g: &G,
+    labels: &Labels,
+    text: &Text,
+    set: &mut Bits,
+) -> Result<(), Memory>
+    requires labelled { (n l : ℕ) → G.label_at g.now n ≡ Some l → l < length labels.now.texts }
+    requires nodes { (v : ℕ) → IsTrue (has set.old.members v) → IsSome (G.label_at g.now v) }
+    ensures size { OnOk result (set.new.size ≡ set.old.size) }
+    ensures keeps { OnOk result (Keeps set.old.members set.new.members (Passes (shape_by labels.now.texts (G.span g.now) (G.label_at g.now) (G.edge g.now)) (tree.label text.now))) }
+{
+    match labels.find(text) {
+        Some(label) => {
+            keep_labelled(g, label, set);
+            Ok(())
+        }
+        None => {
+            let none = Bits::new(alloc, 0)?;
+            intersect(set, &none);
+            Ok(())
+        }
+    }
+}
+
+/// Keeps the members whose label passes.
+fn keep_test<G: Digraph>(
+    alloc: Global,
+    g: &G,
+    labels: &Labels,
+    test: &Test,
+    set: &mut Bits,
+) -> Result<(), Memory>
+    requires labelled { (n l : ℕ) → G.label_at g.now n ≡ Some l → l < length labels.now.texts }
+    requires nodes { (v : ℕ) → IsTrue (has set.old.members v) → IsSome (G.label_at g.now v) }
+    ensures size { OnOk result (set.new.size ≡ set.old.size) }
+    ensures keeps { OnOk result (Keeps set.old.members set.new.members (Passes (shape_by labels.now.texts (G.span g.now) (G.label_at g.now) (G.edge g.now)) (test_of test.now))) }
+{
+    match test {
+        Test::Any => Ok(()),
+        Test::Label(text) => keep_label(alloc, g, labels, text, set),
     }
 }
 
@@ -109,7 +154,7 @@ fn axis_leading<G: Digraph>(
     }
 }
 
-/// The nodes that meet the step.
+/// The nodes that meet the step. Its label is looked at last, where the fewest nodes are left.
 #[cycle(holds)]
 pub(crate) fn step_set<G: Digraph>(
     alloc: Global,
@@ -121,10 +166,14 @@ pub(crate) fn step_set<G: Digraph>(
     ensures size { IfOk result (λ b. b.size ≡ G.span g.now) }
     ensures set { IfOk result (λ b. IsSetOf (G.label_at g.now) b.members (Meets (shape_by labels.now.texts (G.span g.now) (G.label_at g.now) (G.edge g.now)) (step_of step.now))) }
 {
-    let mut set = test_set(alloc, g, labels, &step.test)?;
-    for j in 0..step.preds.len() {
+    if step.preds.is_empty() {
+        return test_set(alloc, g, labels, &step.test);
+    }
+    let mut set = or_set(alloc, g, labels, &step.preds[0])?;
+    for j in 1..step.preds.len() {
         keep_or(alloc, g, labels, &step.preds[j], &mut set)?;
     }
+    keep_test(alloc, g, labels, &step.test, &mut set)?;
     Ok(set)
 }
 
@@ -194,8 +243,7 @@ fn keep_cond<G: Digraph>(
 {
     match cond {
         Cond::Not(or) => {
-            let mut denied = copy(alloc, set)?;
-            keep_or(alloc, g, labels, or, &mut denied)?;
+            let denied = or_set(alloc, g, labels, or)?;
             subtract(set, &denied);
             Ok(())
         }
@@ -247,13 +295,56 @@ fn keep_or<G: Digraph>(
     if or.more.is_empty() {
         return keep_and(alloc, g, labels, &or.first, set);
     }
-    let mut found = copy(alloc, set)?;
-    keep_and(alloc, g, labels, &or.first, &mut found)?;
-    for j in 0..or.more.len() {
-        let mut next = copy(alloc, set)?;
-        keep_and(alloc, g, labels, &or.more[j], &mut next)?;
-        unite(&mut found, &next);
-    }
+    let found = or_set(alloc, g, labels, or)?;
     intersect(set, &found);
     Ok(())
+}
+
+/// The nodes at which the condition holds.
+#[cycle(holds)]
+fn cond_set<G: Digraph>(alloc: Global, g: &G, labels: &Labels, cond: &Cond) -> Result<Bits, Memory>
+    requires labelled { (n l : ℕ) → G.label_at g.now n ≡ Some l → l < length labels.now.texts }
+    ensures size { IfOk result (λ b. b.size ≡ G.span g.now) }
+    ensures set { IfOk result (λ b. IsSetOf (G.label_at g.now) b.members (HoldsCond (shape_by labels.now.texts (G.span g.now) (G.label_at g.now) (G.edge g.now)) (cond_of cond.now))) }
+{
+    match cond {
+        Cond::Not(or) => {
+            let mut set = passing(alloc, g, None)?;
+            let denied = or_set(alloc, g, labels, or)?;
+            subtract(&mut set, &denied);
+            Ok(set)
+        }
+        Cond::Group(or) => or_set(alloc, g, labels, or),
+        Cond::Rel(rel) => rel_set(alloc, g, labels, rel),
+        Cond::True => passing(alloc, g, None),
+    }
+}
+
+/// The nodes at which each condition holds.
+#[cycle(holds)]
+fn and_set<G: Digraph>(alloc: Global, g: &G, labels: &Labels, and: &And) -> Result<Bits, Memory>
+    requires labelled { (n l : ℕ) → G.label_at g.now n ≡ Some l → l < length labels.now.texts }
+    ensures size { IfOk result (λ b. b.size ≡ G.span g.now) }
+    ensures set { IfOk result (λ b. IsSetOf (G.label_at g.now) b.members (HoldsAnd (shape_by labels.now.texts (G.span g.now) (G.label_at g.now) (G.edge g.now)) (and_of and.now))) }
+{
+    let mut set = cond_set(alloc, g, labels, &and.first)?;
+    for j in 0..and.more.len() {
+        keep_cond(alloc, g, labels, &and.more[j], &mut set)?;
+    }
+    Ok(set)
+}
+
+/// The nodes at which one of the alternatives holds.
+#[cycle(holds)]
+fn or_set<G: Digraph>(alloc: Global, g: &G, labels: &Labels, or: &Or) -> Result<Bits, Memory>
+    requires labelled { (n l : ℕ) → G.label_at g.now n ≡ Some l → l < length labels.now.texts }
+    ensures size { IfOk result (λ b. b.size ≡ G.span g.now) }
+    ensures set { IfOk result (λ b. IsSetOf (G.label_at g.now) b.members (HoldsOr (shape_by labels.now.texts (G.span g.now) (G.label_at g.now) (G.edge g.now)) or.now)) }
+{
+    let mut set = and_set(alloc, g, labels, &or.first)?;
+    for j in 0..or.more.len() {
+        let next = and_set(alloc, g, labels, &or.more[j])?;
+        unite(&mut set, &next);
+    }
+    Ok(set)
 }

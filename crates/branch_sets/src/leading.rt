@@ -31,10 +31,12 @@ fn members(alloc: Global, set: &Bits) -> Result<Vec<u32>, Memory>
     ensures { IfOk result (λ l. (n : ℕ) → IsTrue (has l.items n) ↔ IsTrue (has set.now.members n)) }
 {
     let mut list = Vec::new(alloc);
-    for n in 0..set.size() {
-        if set.contains(n) {
-            list.push(n)?;
-        }
+    // The members are below the size, which this call says.
+    let _size = set.size();
+    let mut from = 0;
+    while let Some(n) = set.next_from(from) {
+        list.push(n)?;
+        from = n + 1;
     }
     Ok(list)
 }
@@ -59,10 +61,12 @@ fn near<G: Digraph>(alloc: Global, g: &G, set: &Bits) -> Result<Bits, Memory>
     ensures image { IfOk result (λ b. (c : ℕ) → IsTrue (has b.members c) ↔ ((v : ℕ) × IsTrue (has set.now.members v) × IsTrue (G.edge g.now v c))) }
 {
     let mut image = Bits::new(alloc, g.size())?;
-    for n in 0..set.size() {
-        if set.contains(n) {
-            insert_children(g, n, &mut image);
-        }
+    // The members are below the size, which this call says.
+    let _size = set.size();
+    let mut from = 0;
+    while let Some(n) = set.next_from(from) {
+        insert_children(g, n, &mut image);
+        from = n + 1;
     }
     Ok(image)
 }

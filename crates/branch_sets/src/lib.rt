@@ -9,4 +9,4 @@ mod sets;
 pub use axis::Axis;
 pub use leading::{along, passing_children};
 pub use mirror::Mirror;
-pub use sets::{copy, intersect, passing, subtract, unite};
+pub use sets::{intersect, keep_labelled, passing, subtract, unite};

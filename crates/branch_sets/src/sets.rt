@@ -1,5 +1,5 @@
 // Sets of nodes from other sets, and from labels.
-ghost use Rattle.std.specs.Prelude.{◌≡◌, ◌↔◌, ◌⊎◌, ℕ, IsTrue, IsSome, IfOk};
+ghost use Rattle.std.specs.Prelude.{◌≡◌, ◌<◌, ◌↔◌, ◌⊎◌, ℕ, Some, IsTrue, IsSome, IfOk};
 ghost use Rattle.px_spec.specs.Members.{has};
 ghost use Rattle.path_search.specs.Spreading.{Passes};
 
@@ -7,15 +7,29 @@ use label_graph::Digraph;
 use px_base::{Bits, Memory, NodeId};
 use std::alloc::Global;
 
+/// Takes the number out of the set where it isn't to stay.
+#[inline(always)]
+fn remove_unless(set: &mut Bits, n: NodeId, stays: bool)
+    requires { n < set.old.size }
+    ensures size { set.new.size ≡ set.old.size }
+    ensures members { (m : ℕ) → IsTrue (has set.new.members m) ↔ (IsTrue (has set.old.members m) × (m ≡ n → IsTrue stays)) }
+{
+    if !stays {
+        set.remove(n);
+    }
+}
+
 /// Takes the numbers out of a set that aren't in another one. Linear in the size of the first; it takes no memory.
 pub fn intersect(set: &mut Bits, other: &Bits)
     ensures size { set.new.size ≡ set.old.size }
     ensures members { (n : ℕ) → IsTrue (has set.new.members n) ↔ (IsTrue (has set.old.members n) × IsTrue (has other.now.members n)) }
 {
-    for n in 0..set.size() {
-        if !other.contains(n) {
-            set.remove(n);
-        }
+    // The members are below the size, which this call says.
+    let _size = set.size();
+    let mut from = 0;
+    while let Some(n) = set.next_from(from) {
+        remove_unless(set, n, other.contains(n));
+        from = n + 1;
     }
 }
 
@@ -25,10 +39,12 @@ pub fn unite(set: &mut Bits, other: &Bits)
     ensures size { set.new.size ≡ set.old.size }
     ensures members { (n : ℕ) → IsTrue (has set.new.members n) ↔ (IsTrue (has set.old.members n) ⊎ IsTrue (has other.now.members n)) }
 {
-    for n in 0..other.size() {
-        if other.contains(n) {
-            set.insert(n);
-        }
+    // The members are below the size, which this call says.
+    let _size = other.size();
+    let mut from = 0;
+    while let Some(n) = other.next_from(from) {
+        set.insert(n);
+        from = n + 1;
     }
 }
 
@@ -37,21 +53,13 @@ pub fn subtract(set: &mut Bits, gone: &Bits)
     ensures size { set.new.size ≡ set.old.size }
     ensures members { (n : ℕ) → IsTrue (has set.new.members n) ↔ (IsTrue (has set.old.members n) × (IsTrue (has gone.now.members n) → ⊥)) }
 {
-    for n in 0..set.size() {
-        if gone.contains(n) {
-            set.remove(n);
-        }
+    // The members are below the size, which this call says.
+    let _size = set.size();
+    let mut from = 0;
+    while let Some(n) = set.next_from(from) {
+        remove_unless(set, n, !gone.contains(n));
+        from = n + 1;
     }
-}
-
-/// The same set once more. Linear in its size.
-pub fn copy(alloc: Global, set: &Bits) -> Result<Bits, Memory>
-    ensures size { IfOk result (λ s. s.size ≡ set.now.size) }
-    ensures members { IfOk result (λ s. (n : ℕ) → IsTrue (has s.members n) ↔ IsTrue (has set.now.members n)) }
-{
-    let mut copied = Bits::new(alloc, set.size())?;
-    unite(&mut copied, set);
-    Ok(copied)
 }
 
 /// Whether the node's label passes: any one, or the one with the number.
@@ -87,4 +95,19 @@ pub fn passing<G: Digraph>(alloc: Global, g: &G, test: Option<u32>) -> Result<Bi
         }
     }
     Ok(set)
+}
+
+/// Takes the numbers out of a set that aren't those of nodes whose label has the number. Linear in the size of the set, and
+/// each member is read once; it takes no memory.
+pub fn keep_labelled<G: Digraph>(g: &G, label: u32, set: &mut Bits)
+    ensures size { set.new.size ≡ set.old.size }
+    ensures members { (n : ℕ) → IsTrue (has set.new.members n) ↔ (IsTrue (has set.old.members n) × (G.label_at g.now n ≡ Some label)) }
+{
+    // The members are below the size, which this call says.
+    let _size = set.size();
+    let mut from = 0;
+    while let Some(n) = set.next_from(from) {
+        remove_unless(set, n, is_passing(g, Some(label), n));
+        from = n + 1;
+    }
 }

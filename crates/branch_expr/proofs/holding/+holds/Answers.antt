@@ -4,12 +4,12 @@ use Rattle.std.proofs.lemmas.Result.{IfOk-weaker}
 use Rattle.std.proofs.lemmas.Bool.Decides.{Decides-eqb}
 use Rattle.px_spec.specs.Members.{has}
 use Rattle.px_spec.specs.Shapes.{shape_by}
-use Rattle.branch_spec.specs.Answers.{Along, Meets, HoldsOr, HoldsAnd, Goes}
+use Rattle.branch_spec.specs.Answers.{Along, Meets, HoldsOr, Goes}
 use Rattle.branch_sets.specs.Axes.{axis_of}
 use Rattle.branch_expr.specs.Views.{test_of, step_of, chain_of, cond_of, and_of}
 use Rattle.branch_expr.specs.Sets.{IsSetOf, Keeps}
 use Rattle.branch_sets.specs.Axes.{turned}
-use Rattle.branch_expr.proofs.Laws.{no_items, IsLed, set_plain, keeps_and, keeps_or, keeps_copied, set_preds, set_go, set_hop, set_last, drop_back, drop_none}
+use Rattle.branch_expr.proofs.Laws.{no_items, IsLed, set_plain, keeps_and, set_and, set_or, set_preds, set_go, set_hop, set_last, drop_back, drop_none}
 use Rattle.branch_expr.proofs.holding.+holds.Goals as goal
 
 pub rel_set-loop-j-preserved : goal.rel_set-loop-j-preserved
@@ -63,18 +63,26 @@ keep_and-loop-j-preserved g t c =
           c.args.set.now.members c.loop-j.set.members c.keep_cond-in-loop-j.new.set.members c.loop-j.invariant.keeps c.in_ok-keep_cond-2.ensures.keeps;
     }
 
-pub keep_or-loop-j-preserved : goal.keep_or-loop-j-preserved
-keep_or-loop-j-preserved g t c =
+pub or_set-loop-j-preserved : goal.or_set-loop-j-preserved
+or_set-loop-j-preserved g t c =
     let span = g.G.Digraph.span c.args.g.now in
     let label_at = g.G.Digraph.label_at c.args.g.now in
     let s = shape_by c.args.labels.now.texts span label_at (g.G.Digraph.edge c.args.g.now) in
-    let old = c.args.set.now.members in
-    let next = c.keep_and-in-loop-j.new.set.members in
     record {
       size = c.unite.ensures.size ∙ c.loop-j.invariant.size;
-      keeps = keeps_or label_at s (g.met.G.Digraph.ends c.args.g.now) (and_of c.or.inside.first) c.or.inside.more.items c.loop-j.j c.index.result.now (omega arith) c.index.ensures
-          old c.loop-j.found.members next c.unite.new.set.members c.loop-j.invariant.keeps
-          (keeps_copied old c.in_ok-next.next.members next (HoldsAnd s (and_of c.index.result.now)) c.in_ok-next.ensures.members c.in_ok-keep_and-2.ensures.keeps) c.unite.ensures.members;
+      holds = set_or label_at s (g.met.G.Digraph.ends c.args.g.now) (and_of c.or.inside.first) c.or.inside.more.items c.loop-j.j c.index.result.now (omega arith) c.index.ensures
+          c.loop-j.set.members c.in_ok-next.next.members c.unite.new.set.members c.loop-j.invariant.holds c.in_ok-next.ensures.set c.unite.ensures.members;
+    }
+
+pub and_set-loop-j-preserved : goal.and_set-loop-j-preserved
+and_set-loop-j-preserved g t c =
+    let span = g.G.Digraph.span c.args.g.now in
+    let label_at = g.G.Digraph.label_at c.args.g.now in
+    let s = shape_by c.args.labels.now.texts span label_at (g.G.Digraph.edge c.args.g.now) in
+    record {
+      size = c.in_ok-keep_cond.ensures.size ∙ c.loop-j.invariant.size;
+      holds = set_and label_at s (g.met.G.Digraph.ends c.args.g.now) (cond_of c.args.and.now.first) c.args.and.now.more.items c.loop-j.j c.index.result.now (omega arith) c.index.ensures
+          c.loop-j.set.members c.keep_cond.new.set.members c.loop-j.invariant.holds c.in_ok-keep_cond.ensures.keeps;
     }
 
 pub step_set-loop-j-preserved : goal.step_set-loop-j-preserved
@@ -84,7 +92,7 @@ step_set-loop-j-preserved g t c =
     let s = shape_by c.args.labels.now.texts span label_at (g.G.Digraph.edge c.args.g.now) in
     record {
       size = c.in_ok-keep_or.ensures.size ∙ c.loop-j.invariant.size;
-      holds = set_preds label_at s (g.met.G.Digraph.ends c.args.g.now) (test_of c.args.step.now.test) c.args.step.now.preds.items c.loop-j.j c.index.result.now (omega arith) c.index.ensures
+      holds = set_preds label_at s (g.met.G.Digraph.ends c.args.g.now) c.args.step.now.preds.items c.loop-j.j c.index-in-loop-j.result.now (omega arith) c.index-in-loop-j.ensures
           c.loop-j.set.members c.keep_or.new.set.members c.loop-j.invariant.holds c.in_ok-keep_or.ensures.keeps;
     }
 
@@ -93,7 +101,7 @@ keep_cond-returns-in-Group-clause-keeps g t c =
     let span = g.G.Digraph.span c.args.g.now in
     let label_at = g.G.Digraph.label_at c.args.g.now in
     let s = shape_by c.args.labels.now.texts span label_at (g.G.Digraph.edge c.args.g.now) in
-    rw c.in-Group.is (subst (λ o. OnOk c.keep_or-in-Group.result (Keeps c.args.set.now.members c.keep_or-in-Group.new.set.members (HoldsOr s o))) c.deref-in-Group.ensures c.keep_or-in-Group.ensures.keeps)
+    rw c.in-Group.is (subst (λ o. OnOk c.keep_or.result (Keeps c.args.set.now.members c.keep_or.new.set.members (HoldsOr s o))) c.deref-in-Group.ensures c.keep_or.ensures.keeps)
 
 pub last_set-returns-then-is_empty-clause-set : goal.last_set-returns-then-is_empty-clause-set
 last_set-returns-then-is_empty-clause-set g t c =

@@ -1,9 +1,13 @@
-use Rattle.std.proofs.Common.{◌≡◌, ◌↔◌, ℕ, ◌<◌, IsTrue}
-use Rattle.px_spec.specs.Members.{has}
+use Rattle.std.proofs.Common.{◌≡◌, ◌-◌, ◌≤◌}
+use Rattle.branch_sets.proofs.Steps.{LedFrom}
 use Rattle.branch_sets.proofs.leading.near.Given as goal
 
 abbrev pub invariant-loop-n : goal.invariant-loop-n
 invariant-loop-n g l = record {
+  within : l.from ≤ l.set.size;
   size : l.image.size ≡ g.G.Digraph.span l.g;
-  so_far : (c : ℕ) → IsTrue (has l.image.members c) ↔ ((v : ℕ) × (v < l.n) × IsTrue (has l.set.members v) × IsTrue (g.G.Digraph.edge l.g v c));
+  so_far : LedFrom (g.G.Digraph.edge l.g) l.set.members l.image.members l.from;
 }
+
+abbrev pub decreases-loop-n : goal.decreases-loop-n
+decreases-loop-n g l = l.set.size - l.from

@@ -1,9 +1,14 @@
-use Rattle.std.proofs.Common.{◌≡◌, ◌≤◌, ◌↔◌, ◌⊎◌, ℕ, IsTrue}
+use Rattle.std.proofs.Common.{◌≡◌, ◌-◌, ◌≤◌, IsTrue}
 use Rattle.px_spec.specs.Members.{has}
+use Rattle.branch_sets.proofs.Steps.{Filtered}
 use Rattle.branch_sets.proofs.sets.subtract.Given as goal
 
 abbrev pub invariant-loop-n : goal.invariant-loop-n
 invariant-loop-n l = record {
+  within : l.from ≤ l.set.size;
   size : l.set.size ≡ l.initial.set.size;
-  so_far : (m : ℕ) → IsTrue (has l.set.members m) ↔ (IsTrue (has l.initial.set.members m) × ((l.n ≤ m) ⊎ (IsTrue (has l.gone.members m) → ⊥)));
+  so_far : Filtered (λ m. IsTrue (has l.gone.members m) → ⊥) l.initial.set.members l.set.members l.from;
 }
+
+abbrev pub decreases-loop-n : goal.decreases-loop-n
+decreases-loop-n l = l.set.size - l.from

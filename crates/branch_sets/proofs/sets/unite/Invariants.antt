@@ -1,9 +1,13 @@
-use Rattle.std.proofs.Common.{◌≡◌, ◌↔◌, ◌⊎◌, ℕ, ◌<◌, IsTrue}
-use Rattle.px_spec.specs.Members.{has}
+use Rattle.std.proofs.Common.{◌≡◌, ◌-◌, ◌≤◌}
+use Rattle.branch_sets.proofs.Steps.{United}
 use Rattle.branch_sets.proofs.sets.unite.Given as goal
 
 abbrev pub invariant-loop-n : goal.invariant-loop-n
 invariant-loop-n l = record {
+  within : l.from ≤ l.other.size;
   size : l.set.size ≡ l.initial.set.size;
-  so_far : (m : ℕ) → IsTrue (has l.set.members m) ↔ (IsTrue (has l.initial.set.members m) ⊎ ((m < l.n) × IsTrue (has l.other.members m)));
+  so_far : United l.initial.set.members l.set.members l.other.members l.from;
 }
+
+abbrev pub decreases-loop-n : goal.decreases-loop-n
+decreases-loop-n l = l.other.size - l.from
