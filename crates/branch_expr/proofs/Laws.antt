@@ -30,22 +30,6 @@ module _ (L : ℕ → Option ℕ) where
     λ p. elim p.1 [ inl x ↦ (e v).1 (inl ((h v).1 (p.0, x))) | inr y ↦ (e v).1 (inr ((k v).1 (p.0, y))) ],
   )
 
-  -- the nodes at which it doesn't hold
-  pub set_denied : (a n r : List ℕ) (H : ℕ → Type 0) → ((v : ℕ) → IsTrue (has a v) ↔ IsSome (L v)) → IsSetOf L n H
-      → ((v : ℕ) → IsTrue (has r v) ↔ (IsTrue (has a v) × (IsTrue (has n v) → ⊥))) → IsSetOf L r (λ v. H v → ⊥)
-  set_denied a n r H all h e v = (
-    λ m. let p = (e v).0 m in let some = (all v).0 p.0 in (some, λ x. p.1 ((h v).1 (some, x))),
-    λ p. (e v).1 ((all v).1 p.0, λ m. p.1 ((h v).0 m).1),
-  )
-
-  -- the members at which it doesn't hold
-  pub keeps_denied : (a n r : List ℕ) (H : ℕ → Type 0) → ((v : ℕ) → IsTrue (has a v) → IsSome (L v)) → IsSetOf L n H
-      → ((v : ℕ) → IsTrue (has r v) ↔ (IsTrue (has a v) × (IsTrue (has n v) → ⊥))) → Keeps a r (λ v. H v → ⊥)
-  keeps_denied a n r H nodes h e v = (
-    λ m. let p = (e v).0 m in (p.0, λ x. p.1 ((h v).1 (nodes v p.0, x))),
-    λ p. (e v).1 (p.0, λ m. p.1 ((h v).0 m).1),
-  )
-
 keeps_as : (a r : List ℕ) (H K : ℕ → Type 0) → ((v : ℕ) → H v → K v) → ((v : ℕ) → K v → H v) → Keeps a r H → Keeps a r K
 keeps_as a r H K to from h v = (λ m. let p = (h v).0 m in (p.0, to v p.1), λ p. (h v).1 (p.0, from v p.1))
 
@@ -194,21 +178,6 @@ module _ (L : ℕ → Option ℕ) (s : Shape) (ends : (u v : ℕ) → IsTrue (s.
       (λ v x. preds_in s (take j ps) o v x)
       (λ v x. preds_out s (take j ps) o v x)
       (set_kept L a r (HoldAll s (preds_of (take j ps))) (HoldsOr s o) h k))
-
-  pub set_first : (ps : List tree.Or) (o : tree.Or) → 0 < length ps → o ≡ get_or ps 0 o → (r : List ℕ) → IsSetOf L r (HoldsOr s o) → IsSetOf L r (HoldAll s (preds_of (take 1 ps)))
-  set_first ps o some e r h =
-      subst (λ y. IsSetOf L r (HoldAll s (preds_of y))) (taken ps 0 o some e)
-      (set_as L r (HoldsOr s o) (HoldAll s (preds_of (o ∷ []))) (λ v x. (x, tt)) (λ v x. x.0) h)
-
-  pub set_step : (t : tree.Test) (ps : List tree.Or) (a r : List ℕ) → IsSetOf L a (HoldAll s (preds_of ps)) → Keeps a r (Passes s t) → IsSetOf L r (Meets s (tree.step t (preds_of ps)))
-  set_step t ps a r h k =
-      set_as L r (λ v. HoldAll s (preds_of ps) v × Passes s t v) (Meets s (tree.step t (preds_of ps))) (λ v x. (x.1, x.0)) (λ v x. (x.1, x.0))
-      (set_kept L a r (HoldAll s (preds_of ps)) (Passes s t) h k)
-
-  pub set_met : (t : tree.Test) (ps : List tree.Or) (r : List ℕ) → [] ≡ ps → IsSetOf L r (Passes s t) → IsSetOf L r (Meets s (tree.step t (preds_of ps)))
-  set_met t ps r none h =
-      subst (λ y. IsSetOf L r (Meets s (tree.step t (preds_of y)))) none
-      (set_as L r (Passes s t) (Meets s (tree.step t tree.none)) (λ v x. (x, tt)) (λ v x. x.0) h)
 
   -- to where an axis leads from the nodes whose label passes
   abbrev pub IsLed : tree.Axis → tree.Test → List ℕ → Type 0
