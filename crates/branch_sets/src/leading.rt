@@ -9,7 +9,7 @@ ghost use Rattle.branch_sets.specs.Automata.{far_states};
 
 use crate::axis::Axis;
 use crate::mirror::Mirror;
-use crate::sets::is_passing;
+use crate::sets::{RUN, end_of_run, note_passing};
 use label_graph::Digraph;
 use path_search::{Program, State, search};
 use px_base::{Bits, Memory};
@@ -71,6 +71,18 @@ fn near<G: Digraph>(alloc: Global, g: &G, set: &Bits) -> Result<Bits, Memory>
     Ok(image)
 }
 
+/// Puts the children of the listed nodes into a set.
+fn insert_led<G: Digraph>(g: &G, nodes: &[u32], set: &mut Bits)
+    requires nodes { (n : ℕ) → IsTrue (has nodes.now n) → IsSome (G.label_at g.now n) }
+    requires size { set.old.size ≡ G.span g.now }
+    ensures size { set.new.size ≡ set.old.size }
+    ensures members { (c : ℕ) → IsTrue (has set.new.members c) ↔ (IsTrue (has set.old.members c) ⊎ ((v : ℕ) × IsTrue (has nodes.now v) × IsTrue (G.edge g.now v c))) }
+{
+    for i in 0..nodes.len() {
+        insert_children(g, nodes[i], set);
+    }
+}
+
 /// The children of the nodes whose label passes: any one, or the one with the number. Linear in the graph's size, and the edges
 /// that lead from those nodes. Each node is read once.
 pub fn passing_children<G: Digraph>(alloc: Global, g: &G, test: Option<u32>) -> Result<Bits, Memory>
@@ -78,10 +90,13 @@ pub fn passing_children<G: Digraph>(alloc: Global, g: &G, test: Option<u32>) -> 
     ensures image { IfOk result (λ b. (c : ℕ) → IsTrue (has b.members c) ↔ ((v : ℕ) × Passes (G.label_at g.now) test v × IsTrue (G.edge g.now v c))) }
 {
     let mut image = Bits::new(alloc, g.size())?;
-    for n in 0..g.size() {
-        if is_passing(g, test, n) {
-            insert_children(g, n, &mut image);
-        }
+    let mut noted = vec![in alloc; 0; RUN as usize]?;
+    let mut from = 0;
+    while from < g.size() {
+        let to = end_of_run(from, g.size());
+        let count = note_passing(g, test, from, to, &mut noted);
+        insert_led(g, &noted[..count], &mut image);
+        from = to;
     }
     Ok(image)
 }

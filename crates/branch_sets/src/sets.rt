@@ -1,5 +1,5 @@
 // Sets of nodes from other sets, and from labels.
-ghost use Rattle.std.specs.Prelude.{◌≡◌, ◌<◌, ◌↔◌, ◌⊎◌, ℕ, Some, IsTrue, IsSome, IfOk};
+ghost use Rattle.std.specs.Prelude.{◌≡◌, ◌+◌, ◌<◌, ◌≤◌, ◌↔◌, ◌⊎◌, ℕ, Some, length, take, IsTrue, IsSome, IfOk};
 ghost use Rattle.px_spec.specs.Members.{has};
 ghost use Rattle.path_search.specs.Spreading.{Passes};
 
@@ -83,18 +83,80 @@ pub(crate) fn is_passing<G: Digraph>(g: &G, test: Option<u32>, n: NodeId) -> boo
     g.is_node(n) && passes(g, test, n)
 }
 
+/// How many nodes are looked at before those that pass are used. So few numbers stay in the nearest memory.
+pub(crate) const RUN: u32 = 1024;
+
+/// Puts a number behind the first `count` of a list, and tells how many they are then: one more where it is wanted.
+#[inline(always)]
+fn note_if(noted: &mut Vec<u32>, count: usize, n: NodeId, wanted: bool) -> usize
+    requires { count < length noted.old.items }
+    ensures length { length noted.new.items ≡ length noted.old.items }
+    ensures within { result ≤ count + 1 }
+    ensures noted { (m : ℕ) → IsTrue (has (take result noted.new.items) m) ↔ (IsTrue (has (take count noted.old.items) m) ⊎ ((m ≡ n) × IsTrue wanted)) }
+{
+    noted[count] = n;
+    if wanted { count + 1 } else { count }
+}
+
+/// Notes the nodes whose label passes, from `from` on and below `to`, and tells how many they are. It has no branch that
+/// depends on a label.
+#[inline(always)]
+pub(crate) fn note_passing<G: Digraph>(
+    g: &G,
+    test: Option<u32>,
+    from: NodeId,
+    to: NodeId,
+    noted: &mut Vec<u32>,
+) -> usize
+    requires order { from ≤ to }
+    requires room { to ≤ from + length noted.old.items }
+    ensures length { length noted.new.items ≡ length noted.old.items }
+    ensures within { result ≤ length noted.new.items }
+    ensures noted { (m : ℕ) → IsTrue (has (take result noted.new.items) m) ↔ ((from ≤ m) × (m < to) × Passes (G.label_at g.now) test m) }
+{
+    let mut count = 0;
+    for n in from..to {
+        count = note_if(noted, count, n, is_passing(g, test, n));
+    }
+    count
+}
+
+/// Puts the listed numbers into a set.
+fn insert_all(set: &mut Bits, list: &[u32])
+    requires { (n : ℕ) → IsTrue (has list.now n) → n < set.old.size }
+    ensures size { set.new.size ≡ set.old.size }
+    ensures members { (n : ℕ) → IsTrue (has set.new.members n) ↔ (IsTrue (has set.old.members n) ⊎ IsTrue (has list.now n)) }
+{
+    for i in 0..list.len() {
+        set.insert(list[i]);
+    }
+}
+
 /// The nodes whose label has the number, or all nodes where none is given. Linear in the graph's size.
 pub fn passing<G: Digraph>(alloc: Global, g: &G, test: Option<u32>) -> Result<Bits, Memory>
     ensures size { IfOk result (λ s. s.size ≡ G.span g.now) }
     ensures members { IfOk result (λ s. (n : ℕ) → IsTrue (has s.members n) ↔ Passes (G.label_at g.now) test n) }
 {
     let mut set = Bits::new(alloc, g.size())?;
-    for n in 0..g.size() {
-        if is_passing(g, test, n) {
-            set.insert(n);
-        }
+    let mut noted = vec![in alloc; 0; RUN as usize]?;
+    let mut from = 0;
+    while from < g.size() {
+        let to = end_of_run(from, g.size());
+        let count = note_passing(g, test, from, to, &mut noted);
+        insert_all(&mut set, &noted[..count]);
+        from = to;
     }
     Ok(set)
+}
+
+/// Where the run ends that begins at `from`.
+pub(crate) fn end_of_run(from: u32, size: u32) -> u32
+    requires { from < size }
+    ensures more { from < result }
+    ensures within { result ≤ size }
+    ensures few { result ≤ from + 1024 }
+{
+    if size - from < RUN { size } else { from + RUN }
 }
 
 /// Takes the numbers out of a set that aren't those of nodes whose label has the number. Linear in the size of the set, and
