@@ -170,6 +170,15 @@ module _ (L : ℕ → Option ℕ) (s : Shape) (ends : (u v : ℕ) → IsTrue (s.
       (λ v x. or_in s c (take j ds) d v x) (λ v x. or_out s c (take j ds) d v x)
       (set_either L a n r (HoldsOr s (or_from c (take j ds))) (HoldsAnd s (and_of d)) h k i))
 
+  pub keeps_none : (c : tree.And) (ds : List And) (j : ℕ) (d : And) → j < length ds → d ≡ get_or ds j d → (a b r : List ℕ) → Keeps a b (λ v. HoldsOr s (or_from c (take j ds)) v → ⊥)
+      → Keeps b r (λ v. HoldsAnd s (and_of d) v → ⊥) → Keeps a r (λ v. HoldsOr s (or_from c (take (j + 1) ds)) v → ⊥)
+  keeps_none c ds j d within e a b r h k =
+      subst (λ y. Keeps a r (λ v. HoldsOr s (or_from c y) v → ⊥)) (taken ds j d within e)
+      (keeps_as a r (λ v. (HoldsOr s (or_from c (take j ds)) v → ⊥) × (HoldsAnd s (and_of d) v → ⊥)) (λ v. HoldsOr s (or_from c (take j ds ++ d ∷ [])) v → ⊥)
+      (λ v x o. elim (or_out s c (take j ds) d v o) [ inl old ↦ x.0 old | inr new ↦ x.1 new ])
+      (λ v x. (λ old. x (or_in s c (take j ds) d v (inl old)), λ new. x (or_in s c (take j ds) d v (inr new))))
+      (keeps_both a b r (λ v. HoldsOr s (or_from c (take j ds)) v → ⊥) (λ v. HoldsAnd s (and_of d) v → ⊥) h k))
+
   pub set_preds : (ps : List tree.Or) (j : ℕ) (o : tree.Or) → j < length ps → o ≡ get_or ps j o → (a r : List ℕ) → IsSetOf L a (HoldAll s (preds_of (take j ps)))
       → Keeps a r (HoldsOr s o) → IsSetOf L r (HoldAll s (preds_of (take (j + 1) ps)))
   set_preds ps j o within e a r h k =
@@ -199,6 +208,16 @@ module _ (L : ℕ → Option ℕ) (s : Shape) (ends : (u v : ℕ) → IsTrue (s.
             let l = along_back s.edge a p.0 v p.2 in
             ((along_ends L s.edge ends a v p.0 l).0, (p.0, l, (p.1, tt), tt)),
         λ p. (image v).1 (p.1.0, p.1.2.0, back_along s.edge a p.1.0 v p.1.1),
+      ))
+
+  pub spared_plain : (a : tree.Axis) (t : tree.Test) (ps : List tree.Or) (old new : List ℕ) → [] ≡ ps
+      → ((c : ℕ) → IsTrue (has new c) ↔ (IsTrue (has old c) × (((v : ℕ) × Passes s t v × Along s.edge (turned a) v c) → ⊥)))
+      → Keeps old new (λ v. Goes s (tree.go a (tree.step t (preds_of ps)) tree.end) v → ⊥)
+  spared_plain a t ps old new none spared =
+      subst (λ y. Keeps old new (λ v. Goes s (tree.go a (tree.step t (preds_of y)) tree.end) v → ⊥)) none
+      (λ v. (
+        λ m. let p = (spared v).0 m in (p.0, λ x. p.1 (x.0, x.2.0, back_along s.edge a x.0 v x.1)),
+        λ p. (spared v).1 (p.0, λ x. p.1 (x.0, along_back s.edge a x.0 v x.2, (x.1, tt), tt)),
       ))
 
   pub set_go : (a : tree.Axis) (st : tree.Step) (ch : tree.Chain) (behind r : List ℕ) → IsSetOf L behind (Goes s ch)

@@ -3,6 +3,7 @@
 
 mod answers;
 mod holding;
+mod meeting;
 mod relaxing;
 mod tree;
 

@@ -1,5 +1,5 @@
 // Where a set of nodes leads along an axis.
-ghost use Rattle.std.specs.Prelude.{◌≡◌, ◌↔◌, ◌⊎◌, ℕ, ◌∷◌, [], true, length, IsTrue, IsSome, IfOk};
+ghost use Rattle.std.specs.Prelude.{◌≡◌, ◌↔◌, ◌⊎◌, ℕ, ◌∷◌, [], true, length, IsTrue, IsSome, IfOk, OnOk};
 ghost use Rattle.px_spec.specs.Members.{has};
 ghost use Rattle.path_search.specs.Spreading.{Passes};
 ghost use Rattle.path_search.specs.declared.state.State.TheVariants.{End, Any, Fork};
@@ -9,7 +9,7 @@ ghost use Rattle.branch_sets.specs.Automata.{far_states};
 
 use crate::axis::Axis;
 use crate::mirror::Mirror;
-use crate::sets::{RUN, end_of_run, note_passing};
+use crate::runs::{RUN, end_of_run, note_passing};
 use label_graph::Digraph;
 use path_search::{Program, State, search};
 use px_base::{Bits, Memory};
@@ -99,6 +99,54 @@ pub fn passing_children<G: Digraph>(alloc: Global, g: &G, test: Option<u32>) -> 
         from = to;
     }
     Ok(image)
+}
+
+/// Takes the children of a node out of a set.
+fn remove_children<G: Digraph>(g: &G, n: u32, set: &mut Bits)
+    requires node { IsSome (G.label_at g.now n) }
+    requires size { set.old.size ≡ G.span g.now }
+    ensures size { set.new.size ≡ set.old.size }
+    ensures members { (c : ℕ) → IsTrue (has set.new.members c) ↔ (IsTrue (has set.old.members c) × (IsTrue (G.edge g.now n c) → ⊥)) }
+{
+    let children = g.children(n);
+    for i in 0..children.len() {
+        set.remove(children[i]);
+    }
+}
+
+/// Takes the children of the listed nodes out of a set.
+fn remove_led<G: Digraph>(g: &G, nodes: &[u32], set: &mut Bits)
+    requires nodes { (n : ℕ) → IsTrue (has nodes.now n) → IsSome (G.label_at g.now n) }
+    requires size { set.old.size ≡ G.span g.now }
+    ensures size { set.new.size ≡ set.old.size }
+    ensures members { (c : ℕ) → IsTrue (has set.new.members c) ↔ (IsTrue (has set.old.members c) × (((v : ℕ) × IsTrue (has nodes.now v) × IsTrue (G.edge g.now v c)) → ⊥)) }
+{
+    for i in 0..nodes.len() {
+        remove_children(g, nodes[i], set);
+    }
+}
+
+/// Takes the children of the nodes whose label passes out of a set of numbers below the graph's size. `Memory` comes at want of
+/// memory alone. Linear in the graph's size, and the edges that lead from those nodes; it takes a few KiB.
+pub fn remove_passing_children<G: Digraph>(
+    alloc: Global,
+    g: &G,
+    test: Option<u32>,
+    set: &mut Bits,
+) -> Result<(), Memory>
+    requires { set.old.size ≡ G.span g.now }
+    ensures size { set.new.size ≡ set.old.size }
+    ensures members { OnOk result ((c : ℕ) → IsTrue (has set.new.members c) ↔ (IsTrue (has set.old.members c) × (((v : ℕ) × Passes (G.label_at g.now) test v × IsTrue (G.edge g.now v c)) → ⊥))) }
+{
+    let mut noted = vec![in alloc; 0; RUN as usize]?;
+    let mut from = 0;
+    while from < g.size() {
+        let to = end_of_run(from, g.size());
+        let count = note_passing(g, test, from, to, &mut noted);
+        remove_led(g, &noted[..count], set);
+        from = to;
+    }
+    Ok(())
 }
 
 /// What is reached from a member by one edge or more.

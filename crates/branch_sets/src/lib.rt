@@ -4,9 +4,10 @@
 mod axis;
 mod leading;
 mod mirror;
+mod runs;
 mod sets;
 
 pub use axis::Axis;
-pub use leading::{along, passing_children};
+pub use leading::{along, passing_children, remove_passing_children};
 pub use mirror::Mirror;
 pub use sets::{intersect, keep_labelled, passing, subtract, unite};

@@ -3,6 +3,7 @@ ghost use Rattle.std.specs.Prelude.{◌≡◌, ◌+◌, ◌<◌, ◌≤◌, ◌�
 ghost use Rattle.px_spec.specs.Members.{has};
 ghost use Rattle.path_search.specs.Spreading.{Passes};
 
+use crate::runs::{RUN, end_of_run, is_passing, note_passing};
 use label_graph::Digraph;
 use px_base::{Bits, Memory, NodeId};
 use std::alloc::Global;
@@ -62,65 +63,6 @@ pub fn subtract(set: &mut Bits, gone: &Bits)
     }
 }
 
-/// Whether the node's label passes: any one, or the one with the number.
-#[inline(always)]
-fn passes<G: Digraph>(g: &G, test: Option<u32>, n: NodeId) -> bool
-    requires { IsSome (G.label_at g.now n) }
-    ensures { IsTrue result ↔ Passes (G.label_at g.now) test n }
-{
-    match test {
-        None => true,
-        Some(label) => g.label(n) == label,
-    }
-}
-
-/// Whether the number is that of a node whose label passes.
-#[inline(always)]
-pub(crate) fn is_passing<G: Digraph>(g: &G, test: Option<u32>, n: NodeId) -> bool
-    ensures passes { IsTrue result ↔ Passes (G.label_at g.now) test n }
-    ensures node { IsTrue result → IsSome (G.label_at g.now n) }
-{
-    g.is_node(n) && passes(g, test, n)
-}
-
-/// How many nodes are looked at before those that pass are used. So few numbers stay in the nearest memory.
-pub(crate) const RUN: u32 = 1024;
-
-/// Puts a number behind the first `count` of a list, and tells how many they are then: one more where it is wanted.
-#[inline(always)]
-fn note_if(noted: &mut Vec<u32>, count: usize, n: NodeId, wanted: bool) -> usize
-    requires { count < length noted.old.items }
-    ensures length { length noted.new.items ≡ length noted.old.items }
-    ensures within { result ≤ count + 1 }
-    ensures noted { (m : ℕ) → IsTrue (has (take result noted.new.items) m) ↔ (IsTrue (has (take count noted.old.items) m) ⊎ ((m ≡ n) × IsTrue wanted)) }
-{
-    noted[count] = n;
-    if wanted { count + 1 } else { count }
-}
-
-/// Notes the nodes whose label passes, from `from` on and below `to`, and tells how many they are. It has no branch that
-/// depends on a label.
-#[inline(always)]
-pub(crate) fn note_passing<G: Digraph>(
-    g: &G,
-    test: Option<u32>,
-    from: NodeId,
-    to: NodeId,
-    noted: &mut Vec<u32>,
-) -> usize
-    requires order { from ≤ to }
-    requires room { to ≤ from + length noted.old.items }
-    ensures length { length noted.new.items ≡ length noted.old.items }
-    ensures within { result ≤ length noted.new.items }
-    ensures noted { (m : ℕ) → IsTrue (has (take result noted.new.items) m) ↔ ((from ≤ m) × (m < to) × Passes (G.label_at g.now) test m) }
-{
-    let mut count = 0;
-    for n in from..to {
-        count = note_if(noted, count, n, is_passing(g, test, n));
-    }
-    count
-}
-
 /// Puts the listed numbers into a set.
 fn insert_all(set: &mut Bits, list: &[u32])
     requires { (n : ℕ) → IsTrue (has list.now n) → n < set.old.size }
@@ -147,16 +89,6 @@ pub fn passing<G: Digraph>(alloc: Global, g: &G, test: Option<u32>) -> Result<Bi
         from = to;
     }
     Ok(set)
-}
-
-/// Where the run ends that begins at `from`.
-pub(crate) fn end_of_run(from: u32, size: u32) -> u32
-    requires { from < size }
-    ensures more { from < result }
-    ensures within { result ≤ size }
-    ensures few { result ≤ from + 1024 }
-{
-    if size - from < RUN { size } else { from + RUN }
 }
 
 /// Takes the numbers out of a set that aren't those of nodes whose label has the number. Linear in the size of the set, and

@@ -1,15 +1,15 @@
-use Rattle.std.proofs.Common.{◌≡◌, ◌↔◌, ◌∙◌, ℕ, sym, subst, arith, drop, vec_len, IsTrue}
+use Rattle.std.proofs.Common.{◌≡◌, ◌↔◌, ◌∙◌, ◌∷◌, ℕ, sym, subst, arith, drop, vec_len, IsTrue}
 use Rattle.std.specs.Prelude.{IfOk, OnOk}
 use Rattle.std.proofs.lemmas.Result.{IfOk-weaker}
 use Rattle.std.proofs.lemmas.Bool.Decides.{Decides-eqb}
 use Rattle.px_spec.specs.Members.{has}
 use Rattle.px_spec.specs.Shapes.{shape_by}
-use Rattle.branch_spec.specs.Answers.{Along, Meets, HoldsOr, Goes}
+use Rattle.branch_spec.specs.Answers.{Along, Passes, Meets, HoldsOr, Goes}
 use Rattle.branch_sets.specs.Axes.{axis_of}
 use Rattle.branch_expr.specs.Views.{test_of, step_of, chain_of, cond_of, and_of}
 use Rattle.branch_expr.specs.Sets.{IsSetOf, Keeps}
 use Rattle.branch_sets.specs.Axes.{turned}
-use Rattle.branch_expr.proofs.Laws.{no_items, IsLed, set_plain, keeps_and, set_and, set_or, set_preds, set_go, set_hop, set_last, drop_back, drop_none}
+use Rattle.branch_expr.proofs.Laws.{no_items, IsLed, set_plain, keeps_and, keeps_none, spared_plain, set_and, set_or, set_preds, set_go, set_hop, set_last, drop_back, drop_none}
 use Rattle.branch_expr.proofs.holding.+holds.Goals as goal
 
 pub rel_set-loop-j-preserved : goal.rel_set-loop-j-preserved
@@ -128,3 +128,50 @@ last_set-returns-clause-set g t c =
     let image = subst (λ a. IfOk c.along.result (λ b. (x : ℕ) → IsTrue (has b.members x) ↔ ((v : ℕ) × IsTrue (has step v) × Along edge a v x))) c.turned-2.ensures c.along.ensures.image in
     IfOk-weaker c.along.result (λ b. (x : ℕ) → IsTrue (has b.members x) ↔ ((v : ℕ) × IsTrue (has step v) × Along edge (turned (axis_of h.axis)) v x)) _
     (λ b k. set_last label_at edge (g.met.G.Digraph.ends c.args.g.now) (axis_of h.axis) (Meets s (step_of h.step)) step b.members c.in_ok-met.ensures.set k) image
+
+pub deny_or-loop-j-preserved : goal.deny_or-loop-j-preserved
+deny_or-loop-j-preserved g t c =
+    let span = g.G.Digraph.span c.args.g.now in
+    let label_at = g.G.Digraph.label_at c.args.g.now in
+    let s = shape_by c.args.labels.now.texts span label_at (g.G.Digraph.edge c.args.g.now) in
+    record {
+      size = c.in_ok-deny_and-2.ensures.size ∙ c.loop-j.invariant.size;
+      keeps = keeps_none label_at s (g.met.G.Digraph.ends c.args.g.now) (and_of c.or.inside.first) c.or.inside.more.items c.loop-j.j c.index.result.now (omega arith) c.index.ensures
+          c.args.set.now.members c.loop-j.set.members c.deny_and-in-loop-j.new.set.members c.loop-j.invariant.keeps c.in_ok-deny_and-2.ensures.keeps;
+    }
+
+pub deny_last-returns-then-is_empty-clause-keeps : goal.deny_last-returns-then-is_empty-clause-keeps
+deny_last-returns-then-is_empty-clause-keeps g t c =
+    let span = g.G.Digraph.span c.args.g.now in
+    let label_at = g.G.Digraph.label_at c.args.g.now in
+    let s = shape_by c.args.labels.now.texts span label_at (g.G.Digraph.edge c.args.g.now) in
+    let h = c.args.hop.now in
+    let test = test_of h.step.test in
+    let preds = h.step.preds.items in
+    let old = c.args.set.now.members in
+    let new = c.deny_axis.new.set.members in
+    let empty : vec_len h.step.preds ≡ 0 = (Decides-eqb (vec_len h.step.preds) 0).0 (sym c.if-is_empty.ensures) in
+    let none = no_items preds (omega (arith, empty)) in
+    let image = subst (λ a. OnOk c.deny_axis.result ((x : ℕ) → IsTrue (has new x) ↔ (IsTrue (has old x) × (((v : ℕ) × Passes s test v × Along s.edge a v x) → ⊥)))) c.turned.ensures c.deny_axis.ensures.spared in
+    IfOk-weaker c.deny_axis.result (λ u. (x : ℕ) → IsTrue (has new x) ↔ (IsTrue (has old x) × (((v : ℕ) × Passes s test v × Along s.edge (turned (axis_of h.axis)) v x) → ⊥))) _
+    (λ u k. spared_plain label_at s (g.met.G.Digraph.ends c.args.g.now) (axis_of h.axis) test preds old new none k) image
+
+pub deny_cond-returns-in-Rel-clause-keeps : goal.deny_cond-returns-in-Rel-clause-keeps
+deny_cond-returns-in-Rel-clause-keeps g t c = rw c.in-Rel.is c.deny_rel.ensures.keeps
+
+pub deny_rel-returns-then-is_empty-clause-keeps : goal.deny_rel-returns-then-is_empty-clause-keeps
+deny_rel-returns-then-is_empty-clause-keeps g t c =
+    let span = g.G.Digraph.span c.args.g.now in
+    let label_at = g.G.Digraph.label_at c.args.g.now in
+    let s = shape_by c.args.labels.now.texts span label_at (g.G.Digraph.edge c.args.g.now) in
+    let rest = c.args.rel.now.rest in
+    let empty : vec_len rest ≡ 0 = (Decides-eqb (vec_len rest) 0).0 (sym c.if-is_empty.ensures) in
+    subst (λ y. OnOk c.deny_last.result (Keeps c.args.set.now.members c.deny_last.new.set.members (λ v. Goes s (chain_of (c.args.rel.now.first ∷ y)) v → ⊥)))
+    (no_items rest.items (omega (arith, empty))) c.deny_last.ensures.keeps
+
+pub keep_cond-returns-in-Not-clause-keeps : goal.keep_cond-returns-in-Not-clause-keeps
+keep_cond-returns-in-Not-clause-keeps g t c =
+    let span = g.G.Digraph.span c.args.g.now in
+    let label_at = g.G.Digraph.label_at c.args.g.now in
+    let s = shape_by c.args.labels.now.texts span label_at (g.G.Digraph.edge c.args.g.now) in
+    rw c.in-Not.is (subst (λ o. OnOk c.deny_or.result (Keeps c.args.set.now.members c.deny_or.new.set.members (λ v. HoldsOr s o v → ⊥))) c.deref.ensures c.deny_or.ensures.keeps)

@@ -34,3 +34,9 @@ invariant-step_set-loop-j g l = record {
   size : l.set.size ≡ g.G.Digraph.span l.g;
   holds : IsSetOf (g.G.Digraph.label_at l.g) l.set.members (HoldAll (shape_by l.labels.texts (g.G.Digraph.span l.g) (g.G.Digraph.label_at l.g) (g.G.Digraph.edge l.g)) (preds_of (take l.j l.step.preds.items)));
 }
+
+abbrev pub invariant-deny_or-loop-j : goal.invariant-deny_or-loop-j
+invariant-deny_or-loop-j g l = record {
+  size : l.set.size ≡ l.initial.set.size;
+  keeps : Keeps l.fn.set.members l.set.members (λ v. HoldsOr (shape_by l.labels.texts (g.G.Digraph.span l.g) (g.G.Digraph.label_at l.g) (g.G.Digraph.edge l.g)) (or_from (and_of l.or-inside.first) (take l.j l.or-inside.more.items)) v → ⊥);
+}

@@ -1,5 +1,5 @@
 use Rattle.std.proofs.Common.{◌∙◌}
-use Rattle.branch_sets.proofs.Runs.{led_more}
+use Rattle.branch_sets.proofs.Taken.{led_more}
 use Rattle.branch_sets.proofs.leading.insert_led.Goals as goal
 
 pub loop-i-preserved : goal.loop-i-preserved

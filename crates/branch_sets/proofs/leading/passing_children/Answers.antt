@@ -1,6 +1,6 @@
 use Rattle.std.proofs.Common.{◌∙◌, ℕ, ◌<◌, sym, subst, arith, take}
 use Rattle.path_search.specs.Spreading.{Passes}
-use Rattle.branch_sets.proofs.Runs.{OfRun, led_run, passing_node}
+use Rattle.branch_sets.proofs.Taken.{OfRun, led_run, passing_node}
 use Rattle.branch_sets.proofs.leading.passing_children.Goals as goal
 
 pub insert_led-requires-clause-nodes : goal.insert_led-requires-clause-nodes

@@ -1,6 +1,6 @@
 use Rattle.std.proofs.Common.{◌∙◌, sym, subst, arith, take}
 use Rattle.path_search.specs.Spreading.{Passes}
-use Rattle.branch_sets.proofs.Runs.{OfRun, put_run, passing_node}
+use Rattle.branch_sets.proofs.Taken.{OfRun, put_run, passing_node}
 use Rattle.branch_sets.proofs.sets.passing.Goals as goal
 
 pub loop-from-preserved : goal.loop-from-preserved

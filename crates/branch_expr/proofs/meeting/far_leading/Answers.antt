@@ -6,7 +6,7 @@ use Rattle.branch_spec.specs.Answers.{Along}
 use Rattle.branch_sets.specs.Axes.{axis_of}
 use Rattle.branch_expr.specs.Views.{test_of}
 use Rattle.branch_expr.proofs.Laws.{set_led}
-use Rattle.branch_expr.proofs.holding.far_leading.Goals as goal
+use Rattle.branch_expr.proofs.meeting.far_leading.Goals as goal
 
 pub returns-clause-image : goal.returns-clause-image
 returns-clause-image g c =

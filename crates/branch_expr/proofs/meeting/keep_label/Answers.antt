@@ -3,7 +3,7 @@ use Rattle.std.specs.Prelude.{slice_get, option_and_then, IsSome}
 use Rattle.px_spec.specs.Members.{has}
 use Rattle.path_expr.proofs.LabelNumbers.{text_is}
 use Rattle.branch_expr.proofs.Labelled.{number_of}
-use Rattle.branch_expr.proofs.holding.keep_label.Goals as goal
+use Rattle.branch_expr.proofs.meeting.keep_label.Goals as goal
 
 pub returns-in-Some-clause-keeps : goal.returns-in-Some-clause-keeps
 returns-in-Some-clause-keeps g c v =

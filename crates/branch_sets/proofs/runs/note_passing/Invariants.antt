@@ -1,7 +1,7 @@
 use Rattle.std.proofs.Common.{◌≡◌, ◌↔◌, ◌+◌, ◌<◌, ◌≤◌, ℕ, length, take, IsTrue}
 use Rattle.px_spec.specs.Members.{has}
 use Rattle.path_search.specs.Spreading.{Passes}
-use Rattle.branch_sets.proofs.sets.note_passing.Given as goal
+use Rattle.branch_sets.proofs.runs.note_passing.Given as goal
 
 abbrev pub invariant-loop-n : goal.invariant-loop-n
 invariant-loop-n g l = record {

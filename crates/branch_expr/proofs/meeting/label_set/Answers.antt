@@ -4,7 +4,7 @@ use Rattle.std.proofs.lemmas.Result.{IfOk-weaker}
 use Rattle.px_spec.specs.Members.{has}
 use Rattle.path_expr.proofs.LabelNumbers.{text_is}
 use Rattle.branch_expr.proofs.Labelled.{number_of}
-use Rattle.branch_expr.proofs.holding.label_set.Goals as goal
+use Rattle.branch_expr.proofs.meeting.label_set.Goals as goal
 
 pub returns-in-Some-clause-set : goal.returns-in-Some-clause-set
 returns-in-Some-clause-set g c =

@@ -42,6 +42,21 @@ module _ (P : ℕ → Type 0) where
     ],
   )
 
+  pub spared_run : (edge : ℕ → ℕ → Bool) (old now new run : List ℕ) (from to : ℕ) → from < to → OfRun run from to
+      → ((c : ℕ) → IsTrue (has now c) ↔ (IsTrue (has old c) × (((v : ℕ) × (v < from) × P v × IsTrue (edge v c)) → ⊥)))
+      → ((c : ℕ) → IsTrue (has new c) ↔ (IsTrue (has now c) × (((v : ℕ) × IsTrue (has run v) × IsTrue (edge v c)) → ⊥)))
+      → (c : ℕ) → IsTrue (has new c) ↔ (IsTrue (has old c) × (((v : ℕ) × (v < to) × P v × IsTrue (edge v c)) → ⊥))
+  spared_run edge old now new run from to more tells before left c = (
+    λ h.
+        let p = (left c).0 h in
+        let q = (before c).0 p.0 in
+        (q.0, λ led. elim (cases_lt led.0 from) [ inl low ↦ q.1 (led.0, low, led.2, led.3) | inr past ↦ p.1 (led.0, (tells led.0).1 (past, led.1, led.2), led.3) ]),
+    λ p. (left c).1 (
+      (before c).1 (p.0, λ led. let low = led.1 in p.1 (led.0, omega (arith, low, more), led.2, led.3)),
+      λ led. let here = (tells led.0).0 led.1 in p.1 (led.0, here.1, here.2, led.2),
+    ),
+  )
+
 -- one more of a list
 
 either : (a b : Bool) → IsTrue (a || b) → IsTrue a ⊎ IsTrue b
@@ -92,4 +107,24 @@ led_more edge old now new nodes i within before put c = (
       | inr last ↦ (put c).1 (inr (subst (λ v. IsTrue (edge v c)) last p.2))
     ]
   ],
+)
+
+pub spared_more : (edge : ℕ → ℕ → Bool) (old now new nodes : List ℕ) (i : ℕ) → i < length nodes
+    → ((c : ℕ) → IsTrue (has now c) ↔ (IsTrue (has old c) × (((v : ℕ) × IsTrue (has (take i nodes) v) × IsTrue (edge v c)) → ⊥)))
+    → ((c : ℕ) → IsTrue (has new c) ↔ (IsTrue (has now c) × (IsTrue (edge (get_or nodes i 0) c) → ⊥)))
+    → (c : ℕ) → IsTrue (has new c) ↔ (IsTrue (has old c) × (((v : ℕ) × IsTrue (has (take (i + 1) nodes) v) × IsTrue (edge v c)) → ⊥))
+spared_more edge old now new nodes i within before left c = (
+  λ h.
+      let p = (left c).0 h in
+      let q = (before c).0 p.0 in (
+        q.0,
+        λ led. elim ((listed_more nodes i led.0 within).0 led.1) [
+          | inl was ↦ q.1 (led.0, was, led.2)
+          | inr last ↦ p.1 (subst (λ v. IsTrue (edge v c)) last led.2)
+        ],
+      ),
+  λ p. (left c).1 (
+    (before c).1 (p.0, λ led. p.1 (led.0, (listed_more nodes i led.0 within).1 (inl led.1), led.2)),
+    λ led. p.1 (get_or nodes i 0, (listed_more nodes i (get_or nodes i 0) within).1 (inr refl), led),
+  ),
 )

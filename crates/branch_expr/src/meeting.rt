@@ -1,0 +1,238 @@
+// The nodes whose label passes, and where an axis leads from them.
+ghost use Rattle.std.specs.Prelude.{◌≡◌, ◌<◌, ◌↔◌, ℕ, Some, length, IsTrue, IsSome, IfOk, OnOk};
+ghost use Rattle.px_spec.specs.Members.{has};
+ghost use Rattle.px_spec.specs.Shapes.{shape_by};
+ghost use Rattle.branch_spec.specs.Trees as tree;
+ghost use Rattle.branch_spec.specs.Answers.{Along, Passes};
+ghost use Rattle.branch_sets.specs.Axes.{axis_of};
+ghost use Rattle.branch_expr.specs.Views.{test_of};
+ghost use Rattle.branch_expr.specs.Sets.{IsSetOf, Keeps};
+
+use crate::tree::Test;
+use branch_sets::{
+    Axis, Mirror, along, intersect, keep_labelled, passing, passing_children,
+    remove_passing_children, subtract,
+};
+use label_graph::{Digraph, Labels};
+use px_base::{Bits, Memory, Text};
+use std::alloc::Global;
+
+/// The nodes with the label.
+fn label_set<G: Digraph>(alloc: Global, g: &G, labels: &Labels, text: &Text) -> Result<Bits, Memory>
+    requires labelled { (n l : ℕ) → G.label_at g.now n ≡ Some l → l < length labels.now.texts }
+    ensures size { IfOk result (λ b. b.size ≡ G.span g.now) }
+    ensures set { IfOk result (λ b. IsSetOf (G.label_at g.now) b.members (Passes (shape_by labels.now.texts (G.span g.now) (G.label_at g.now) (G.edge g.now)) (tree.label text.now))) }
+{
+    match labels.find(text) {
+        Some(label) => passing(alloc, g, Some(label)),
+        None => Bits::new(alloc, g.size()),
+    }
+}
+
+/// The nodes whose label passes.
+pub(crate) fn test_set<G: Digraph>(
+    alloc: Global,
+    g: &G,
+    labels: &Labels,
+    test: &Test,
+) -> Result<Bits, Memory>
+    requires labelled { (n l : ℕ) → G.label_at g.now n ≡ Some l → l < length labels.now.texts }
+    ensures size { IfOk result (λ b. b.size ≡ G.span g.now) }
+    ensures set { IfOk result (λ b. IsSetOf (G.label_at g.now) b.members (Passes (shape_by labels.now.texts (G.span g.now) (G.label_at g.now) (G.edge g.now)) (test_of test.now))) }
+{
+    match test {
+        Test::Any => passing(alloc, g, None),
+        Test::Label(text) => label_set(alloc, g, labels, text),
+    }
+}
+
+/// Keeps the members with the label.
+fn keep_label<G: Digraph>(
+    alloc: Global,
+    g: &G,
+    labels: &Labels,
+    text: &Text,
+    set: &mut Bits,
+) -> Result<(), Memory>
+    requires labelled { (n l : ℕ) → G.label_at g.now n ≡ Some l → l < length labels.now.texts }
+    requires nodes { (v : ℕ) → IsTrue (has set.old.members v) → IsSome (G.label_at g.now v) }
+    ensures size { OnOk result (set.new.size ≡ set.old.size) }
+    ensures keeps { OnOk result (Keeps set.old.members set.new.members (Passes (shape_by labels.now.texts (G.span g.now) (G.label_at g.now) (G.edge g.now)) (tree.label text.now))) }
+{
+    match labels.find(text) {
+        Some(label) => {
+            keep_labelled(g, label, set);
+            Ok(())
+        }
+        None => {
+            let none = Bits::new(alloc, 0)?;
+            intersect(set, &none);
+            Ok(())
+        }
+    }
+}
+
+/// Keeps the members whose label passes.
+pub(crate) fn keep_test<G: Digraph>(
+    alloc: Global,
+    g: &G,
+    labels: &Labels,
+    test: &Test,
+    set: &mut Bits,
+) -> Result<(), Memory>
+    requires labelled { (n l : ℕ) → G.label_at g.now n ≡ Some l → l < length labels.now.texts }
+    requires nodes { (v : ℕ) → IsTrue (has set.old.members v) → IsSome (G.label_at g.now v) }
+    ensures size { OnOk result (set.new.size ≡ set.old.size) }
+    ensures keeps { OnOk result (Keeps set.old.members set.new.members (Passes (shape_by labels.now.texts (G.span g.now) (G.label_at g.now) (G.edge g.now)) (test_of test.now))) }
+{
+    match test {
+        Test::Any => Ok(()),
+        Test::Label(text) => keep_label(alloc, g, labels, text, set),
+    }
+}
+
+/// The nodes to which an edge leads from a node with the label.
+fn label_leading<G: Digraph>(
+    alloc: Global,
+    g: &G,
+    labels: &Labels,
+    text: &Text,
+) -> Result<Bits, Memory>
+    requires labelled { (n l : ℕ) → G.label_at g.now n ≡ Some l → l < length labels.now.texts }
+    ensures size { IfOk result (λ b. b.size ≡ G.span g.now) }
+    ensures image { IfOk result (λ b. (c : ℕ) → IsTrue (has b.members c) ↔ ((v : ℕ) × Passes (shape_by labels.now.texts (G.span g.now) (G.label_at g.now) (G.edge g.now)) (tree.label text.now) v × IsTrue (G.edge g.now v c))) }
+{
+    match labels.find(text) {
+        Some(label) => passing_children(alloc, g, Some(label)),
+        None => Bits::new(alloc, g.size()),
+    }
+}
+
+/// The nodes to which an edge leads from a node whose label passes.
+fn test_leading<G: Digraph>(
+    alloc: Global,
+    g: &G,
+    labels: &Labels,
+    test: &Test,
+) -> Result<Bits, Memory>
+    requires labelled { (n l : ℕ) → G.label_at g.now n ≡ Some l → l < length labels.now.texts }
+    ensures size { IfOk result (λ b. b.size ≡ G.span g.now) }
+    ensures image { IfOk result (λ b. (c : ℕ) → IsTrue (has b.members c) ↔ ((v : ℕ) × Passes (shape_by labels.now.texts (G.span g.now) (G.label_at g.now) (G.edge g.now)) (test_of test.now) v × IsTrue (G.edge g.now v c))) }
+{
+    match test {
+        Test::Any => passing_children(alloc, g, None),
+        Test::Label(text) => label_leading(alloc, g, labels, text),
+    }
+}
+
+/// The nodes to which the axis leads from a node whose label passes.
+fn far_leading<G: Digraph>(
+    alloc: Global,
+    g: &G,
+    labels: &Labels,
+    axis: Axis,
+    test: &Test,
+) -> Result<Bits, Memory>
+    requires labelled { (n l : ℕ) → G.label_at g.now n ≡ Some l → l < length labels.now.texts }
+    ensures size { IfOk result (λ b. b.size ≡ G.span g.now) }
+    ensures image { IfOk result (λ b. (c : ℕ) → IsTrue (has b.members c) ↔ ((v : ℕ) × Passes (shape_by labels.now.texts (G.span g.now) (G.label_at g.now) (G.edge g.now)) (test_of test.now) v × Along (G.edge g.now) (axis_of axis) v c)) }
+{
+    let met = test_set(alloc, g, labels, test)?;
+    along(alloc, g, axis, &met)
+}
+
+/// The same. Where the axis leads along one edge, each node is read once.
+pub(crate) fn axis_leading<G: Digraph>(
+    alloc: Global,
+    g: &G,
+    labels: &Labels,
+    axis: Axis,
+    test: &Test,
+) -> Result<Bits, Memory>
+    requires labelled { (n l : ℕ) → G.label_at g.now n ≡ Some l → l < length labels.now.texts }
+    ensures size { IfOk result (λ b. b.size ≡ G.span g.now) }
+    ensures image { IfOk result (λ b. (c : ℕ) → IsTrue (has b.members c) ↔ ((v : ℕ) × Passes (shape_by labels.now.texts (G.span g.now) (G.label_at g.now) (G.edge g.now)) (test_of test.now) v × Along (G.edge g.now) (axis_of axis) v c)) }
+{
+    match axis {
+        Axis::Child => test_leading(alloc, g, labels, test),
+        Axis::Parent => test_leading(alloc, &Mirror { graph: g }, labels, test),
+        _ => far_leading(alloc, g, labels, axis, test),
+    }
+}
+
+/// Takes out the members to which an edge leads from a node with the label.
+fn deny_label<G: Digraph>(
+    alloc: Global,
+    g: &G,
+    labels: &Labels,
+    text: &Text,
+    set: &mut Bits,
+) -> Result<(), Memory>
+    requires labelled { (n l : ℕ) → G.label_at g.now n ≡ Some l → l < length labels.now.texts }
+    requires size { set.old.size ≡ G.span g.now }
+    ensures size { OnOk result (set.new.size ≡ set.old.size) }
+    ensures spared { OnOk result ((c : ℕ) → IsTrue (has set.new.members c) ↔ (IsTrue (has set.old.members c) × (((v : ℕ) × Passes (shape_by labels.now.texts (G.span g.now) (G.label_at g.now) (G.edge g.now)) (tree.label text.now) v × IsTrue (G.edge g.now v c)) → ⊥))) }
+{
+    match labels.find(text) {
+        Some(label) => remove_passing_children(alloc, g, Some(label), set),
+        None => Ok(()),
+    }
+}
+
+/// Takes out the members to which an edge leads from a node whose label passes.
+fn deny_test<G: Digraph>(
+    alloc: Global,
+    g: &G,
+    labels: &Labels,
+    test: &Test,
+    set: &mut Bits,
+) -> Result<(), Memory>
+    requires labelled { (n l : ℕ) → G.label_at g.now n ≡ Some l → l < length labels.now.texts }
+    requires size { set.old.size ≡ G.span g.now }
+    ensures size { OnOk result (set.new.size ≡ set.old.size) }
+    ensures spared { OnOk result ((c : ℕ) → IsTrue (has set.new.members c) ↔ (IsTrue (has set.old.members c) × (((v : ℕ) × Passes (shape_by labels.now.texts (G.span g.now) (G.label_at g.now) (G.edge g.now)) (test_of test.now) v × IsTrue (G.edge g.now v c)) → ⊥))) }
+{
+    match test {
+        Test::Any => remove_passing_children(alloc, g, None, set),
+        Test::Label(text) => deny_label(alloc, g, labels, text, set),
+    }
+}
+
+/// Takes out the members to which the axis leads from a node whose label passes.
+fn deny_far<G: Digraph>(
+    alloc: Global,
+    g: &G,
+    labels: &Labels,
+    axis: Axis,
+    test: &Test,
+    set: &mut Bits,
+) -> Result<(), Memory>
+    requires labelled { (n l : ℕ) → G.label_at g.now n ≡ Some l → l < length labels.now.texts }
+    ensures size { OnOk result (set.new.size ≡ set.old.size) }
+    ensures spared { OnOk result ((c : ℕ) → IsTrue (has set.new.members c) ↔ (IsTrue (has set.old.members c) × (((v : ℕ) × Passes (shape_by labels.now.texts (G.span g.now) (G.label_at g.now) (G.edge g.now)) (test_of test.now) v × Along (G.edge g.now) (axis_of axis) v c) → ⊥))) }
+{
+    let led = far_leading(alloc, g, labels, axis, test)?;
+    subtract(set, &led);
+    Ok(())
+}
+
+/// The same. Where the axis leads along one edge, no set is made.
+pub(crate) fn deny_axis<G: Digraph>(
+    alloc: Global,
+    g: &G,
+    labels: &Labels,
+    axis: Axis,
+    test: &Test,
+    set: &mut Bits,
+) -> Result<(), Memory>
+    requires labelled { (n l : ℕ) → G.label_at g.now n ≡ Some l → l < length labels.now.texts }
+    requires size { set.old.size ≡ G.span g.now }
+    ensures size { OnOk result (set.new.size ≡ set.old.size) }
+    ensures spared { OnOk result ((c : ℕ) → IsTrue (has set.new.members c) ↔ (IsTrue (has set.old.members c) × (((v : ℕ) × Passes (shape_by labels.now.texts (G.span g.now) (G.label_at g.now) (G.edge g.now)) (test_of test.now) v × Along (G.edge g.now) (axis_of axis) v c) → ⊥))) }
+{
+    match axis {
+        Axis::Child => deny_test(alloc, g, labels, test, set),
+        Axis::Parent => deny_test(alloc, &Mirror { graph: g }, labels, test, set),
+        _ => deny_far(alloc, g, labels, axis, test, set),
+    }
+}
