@@ -6,15 +6,14 @@ ghost use Rattle.index_eval.specs.Exactness.{IsExact, IsWithin};
 
 use branch_query::Query;
 use index_api::Via;
-use path_expr::longest;
 use path_query::PathExpr;
 
 /// Whether no matching word has more labels than one more than the level.
 fn is_short(expr: &PathExpr, level: u32) -> bool
     ensures { IsTrue result ↔ IsWithin (longest expr.now) (level + 1) }
 {
-    match longest(expr.tree()) {
-        Some(len) => len <= u64::from(level) + 1,
+    match expr.longest() {
+        Some(len) => u64::from(len) <= u64::from(level) + 1,
         None => false,
     }
 }

@@ -4,6 +4,7 @@ pub mod LabelLaws
 pub mod Readings
 pub mod Lexing
 pub mod OneText
+pub mod Shortness
 pub mod Canon
 pub mod Again
 pub mod Examples

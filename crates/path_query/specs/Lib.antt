@@ -1,6 +1,7 @@
 pub mod Labels
 pub mod Depths
 pub mod Parsed
+pub mod Lengths
 pub mod Seen
 pub mod Fronts
 pub mod Written

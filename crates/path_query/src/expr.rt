@@ -3,7 +3,7 @@ ghost use Rattle.std.specs.Prelude.{◌≡◌, ◌↔◌, ◌-◌, ◌^◌, ℕ,
 ghost use Rattle.path_spec.specs.Trees as tree;
 ghost use Rattle.path_spec.specs.Longest.{longest};
 ghost use Rattle.path_spec.specs.Spelling.{canonical};
-ghost use Rattle.path_expr.specs.Capped.{capped, greatest_length};
+ghost use Rattle.path_query.specs.Lengths.{IsBounded};
 ghost use Rattle.path_query.specs.Parsed.{Spells, is_past};
 
 use crate::grammar::ReadError;
@@ -37,6 +37,7 @@ impl Model for PathExpr {
     ghost use Rattle.path_spec.specs.Spelling.{canonical};
     ghost use Rattle.path_expr.specs.Coding.{coded_tree};
     ghost use Rattle.path_query.specs.Parsed.{Spells};
+    ghost use Rattle.path_query.specs.Lengths.{IsNarrow};
 
     ghost Value = { Tree };
 
@@ -44,7 +45,7 @@ impl Model for PathExpr {
 
     ghost view = { λ e. e.tree };
 
-    ghost invariant = { λ e. Spells (canonical e.tree) e.tree };
+    ghost invariant = { λ e. Spells (canonical e.tree) e.tree × IsNarrow e.tree };
 }
 
 impl PathExpr {
@@ -80,10 +81,10 @@ impl PathExpr {
         Ok(Text::from_string(out))
     }
 
-    /// The number of labels of the longest matching word, None exactly where there is no longest, and 2^32 - 1 where it has
-    /// more. It takes no memory. Linear in the expression.
+    /// The number of labels of the longest matching word, and None exactly where there is no longest. It is at most 2^30, since
+    /// each of these labels takes a byte of a text within the limits. It takes no memory. Linear in the expression.
     pub fn longest(&self) -> Option<u32>
-        ensures { result ≡ capped (2 ^ 32 - 1) (longest self.now) }
+        ensures { result ≡ longest self.now }
     {
         narrow(longest(&self.tree))
     }
@@ -96,12 +97,13 @@ impl PathExpr {
     }
 }
 
-/// The length, or 2^32 - 1 where it is more.
+/// The length in 32 bits.
 fn narrow(len: Option<u64>) -> Option<u32>
-    ensures { (x : Option ℕ) → len ≡ capped greatest_length x → result ≡ capped (2 ^ 32 - 1) x }
+    requires { IsBounded len (2 ^ 30) }
+    ensures { result ≡ len }
 {
     match len {
-        Some(n) => Some(n.min(u64::from(u32::MAX)) as u32),
+        Some(n) => Some(n as u32),
         None => None,
     }
 }

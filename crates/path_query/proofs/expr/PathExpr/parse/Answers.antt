@@ -1,12 +1,14 @@
+use Rattle.std.proofs.Common.{sym}
 use Rattle.path_query.proofs.Again.{again}
 use Rattle.path_query.proofs.OneText.{spells_one}
+use Rattle.path_query.proofs.Shortness.{narrow}
 use Rattle.path_query.proofs.expr.PathExpr.parse.Goals as goal
 
 pub returns-then-is_past-clause-once : goal.returns-then-is_past-clause-once
 returns-then-is_past-clause-once c a b h k = spells_one c.args.text.now a b h k
 
 pub invariant_of-result : goal.invariant_of-result
-invariant_of-result c = again c.args.text.now c.in-Ok.tree c.in-Ok.ensures.ok
+invariant_of-result c = (again c.args.text.now c.in-Ok.tree c.in-Ok.ensures.ok, narrow c.args.limits.now c.args.text.now c.in-Ok.tree (sym c.if-is_past.ensures) c.in-Ok.ensures.ok)
 
 pub returns-in-Err-Memory-clause-once : goal.returns-in-Err-Memory-clause-once
 returns-in-Err-Memory-clause-once c a b h k = spells_one c.args.text.now a b h k

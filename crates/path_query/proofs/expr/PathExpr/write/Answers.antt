@@ -12,4 +12,4 @@ returns-clause-canonical c =
 
 pub returns-clause-again : goal.returns-clause-again
 returns-clause-again c =
-    subst (λ t. Spells t c.args.self.now) (sym (returns-clause-canonical c)) (subst (λ e. Spells (canonical e) e) c.self.view_is c.self.invariant)
+    subst (λ t. Spells t c.args.self.now) (sym (returns-clause-canonical c)) (subst (λ e. Spells (canonical e) e) c.self.view_is c.self.invariant.0)

@@ -1,0 +1,14 @@
+use Rattle.std.proofs.Common.{◌≡◌, ◌∙◌, ◌^◌, sym, ap, subst}
+use Rattle.path_spec.specs.Longest.{longest}
+use Rattle.path_expr.specs.Capped.{capped, greatest_length}
+use Rattle.path_query.specs.Lengths.{IsBounded}
+use Rattle.path_query.proofs.Shortness.{uncapped}
+use Rattle.path_query.proofs.expr.PathExpr.longest.Goals as goal
+
+pub narrow-requires : goal.narrow-requires
+narrow-requires c =
+    let e = c.longest.ensures ∙ uncapped (longest c.self.inside.tree) c.self.invariant.1 in
+    subst (λ o. IsBounded o (2 ^ 30)) (sym e) c.self.invariant.1
+
+pub returns : goal.returns
+returns c = c.narrow.ensures ∙ c.longest.ensures ∙ uncapped (longest c.self.inside.tree) c.self.invariant.1 ∙ ap longest c.self.view_is
