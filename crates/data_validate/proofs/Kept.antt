@@ -13,24 +13,24 @@ nothing_and : (a b : Bool) → b ≡ false → (a && b) ≡ false
 nothing_and true b h = h
 nothing_and false b h = refl
 
--- the members of both sets that are below a number
-abbrev pub is_kept : List ℕ → List ℕ → ℕ → ℕ → Bool
-is_kept set other from m = nat_lt m from && (has set m && has other m)
+-- the members of the set that pass and are below a number
+abbrev pub is_kept : List ℕ → (ℕ → Bool) → ℕ → ℕ → Bool
+is_kept set other from m = nat_lt m from && (has set m && other m)
 
-pub kept_none : (set other : List ℕ) (m : ℕ) → is_kept set other 0 m ≡ false
-kept_none set other m = ap (λ t. t && (has set m && has other m)) (not_below m 0 (omega arith))
+pub kept_none : (set : List ℕ) (other : ℕ → Bool) (m : ℕ) → is_kept set other 0 m ≡ false
+kept_none set other m = ap (λ t. t && (has set m && other m)) (not_below m 0 (omega arith))
 
-pub kept_step : (set other : List ℕ) (from n : ℕ) → IsNext set from n → (m : ℕ) → ((nat_eq m n && has other n) || is_kept set other from m) ≡ is_kept set other (n + 1) m
+pub kept_step : (set : List ℕ) (other : ℕ → Bool) (from n : ℕ) → IsNext set from n → (m : ℕ) → ((nat_eq m n && other n) || is_kept set other from m) ≡ is_kept set other (n + 1) m
 kept_step set other from n next m = elim (eqb_tells m n) [
   | inl same ↦
       (let e : m ≡ n = same.1 in
       let le = next.from in
-      let old : is_kept set other from m ≡ false = ap (λ t. t && (has set m && has other m)) (not_below m from (omega (arith, e, le))) in
+      let old : is_kept set other from m ≡ false = ap (λ t. t && (has set m && other m)) (not_below m from (omega (arith, e, le))) in
       let member : has set m ≡ true = ap (has set) e ∙ next.member in
-      let new : is_kept set other (n + 1) m ≡ has other n =
-      ap (λ t. t && (has set m && has other m)) (lt-ltb m (n + 1) (omega (arith, e))) ∙ ap (λ t. t && has other m) member ∙ ap (has other) e in
-      ap (λ t. (t && has other n) || is_kept set other from m) same.0 ∙ ap (λ t. has other n || t) old ∙ or_none (has other n) ∙ sym new)
-  | inr apart ↦ (let ne : m ≢ n = apart.1 in ap (λ t. (t && has other n) || is_kept set other from m) apart.0 ∙ sided ne)
+      let new : is_kept set other (n + 1) m ≡ other n =
+      ap (λ t. t && (has set m && other m)) (lt-ltb m (n + 1) (omega (arith, e))) ∙ ap (λ t. t && other m) member ∙ ap other e in
+      ap (λ t. (t && other n) || is_kept set other from m) same.0 ∙ ap (λ t. other n || t) old ∙ or_none (other n) ∙ sym new)
+  | inr apart ↦ (let ne : m ≢ n = apart.1 in ap (λ t. (t && other n) || is_kept set other from m) apart.0 ∙ sided ne)
 ]
   where
     or_none : (b : Bool) → (b || false) ≡ b
@@ -39,19 +39,19 @@ kept_step set other from n next m = elim (eqb_tells m n) [
 
     sided : m ≢ n → is_kept set other from m ≡ is_kept set other (n + 1) m
     sided ne = elim (cases_lt m from) [
-      | inl l ↦ (let le = next.from in ap (λ t. t && (has set m && has other m)) (lt-ltb m from l ∙ sym (lt-ltb m (n + 1) (omega (arith, le)))))
+      | inl l ↦ (let le = next.from in ap (λ t. t && (has set m && other m)) (lt-ltb m from l ∙ sym (lt-ltb m (n + 1) (omega (arith, le)))))
       | inr past ↦ elim (cases_lt m (n + 1)) [
         | inl l ↦
-            (let none : (has set m && has other m) ≡ false = ap (λ t. t && has other m) (next.first m past (omega (arith, ne, l))) in
-            nothing_and (nat_lt m from) (has set m && has other m) none ∙ sym (nothing_and (nat_lt m (n + 1)) (has set m && has other m) none))
-        | inr above ↦ ap (λ t. t && (has set m && has other m)) (not_below m from past ∙ sym (not_below m (n + 1) above))
+            (let none : (has set m && other m) ≡ false = ap (λ t. t && other m) (next.first m past (omega (arith, ne, l))) in
+            nothing_and (nat_lt m from) (has set m && other m) none ∙ sym (nothing_and (nat_lt m (n + 1)) (has set m && other m) none))
+        | inr above ↦ ap (λ t. t && (has set m && other m)) (not_below m from past ∙ sym (not_below m (n + 1) above))
       ]
     ]
 
-pub kept_end : (set other : List ℕ) (from : ℕ) → ((m : ℕ) → from ≤ m → has set m ≡ false) → (m : ℕ) → is_kept set other from m ≡ (has set m && has other m)
+pub kept_end : (set : List ℕ) (other : ℕ → Bool) (from : ℕ) → ((m : ℕ) → from ≤ m → has set m ≡ false) → (m : ℕ) → is_kept set other from m ≡ (has set m && other m)
 kept_end set other from none m = elim (cases_lt m from) [
-  | inl l ↦ ap (λ t. t && (has set m && has other m)) (lt-ltb m from l)
+  | inl l ↦ ap (λ t. t && (has set m && other m)) (lt-ltb m from l)
   | inr past ↦
-      (let nothing : (has set m && has other m) ≡ false = ap (λ t. t && has other m) (none m past) in
-      nothing_and (nat_lt m from) (has set m && has other m) nothing ∙ sym nothing)
+      (let nothing : (has set m && other m) ≡ false = ap (λ t. t && other m) (none m past) in
+      nothing_and (nat_lt m from) (has set m && other m) nothing ∙ sym nothing)
 ]

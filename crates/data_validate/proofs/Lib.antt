@@ -1,1 +1,4 @@
 pub mod Kept
+pub mod Noting
+pub mod Rounds
+pub mod Walks

@@ -1,13 +1,18 @@
 // The answers among some candidates.
-ghost use Rattle.std.specs.Prelude.{◌≡◌, ◌<◌, ◌&&◌, ◌||◌, ℕ, IsTrue, IfOk, nat_eq};
+ghost use Rattle.std.specs.Prelude.{◌≡◌, ◌<◌, ◌+◌, ◌&&◌, ◌||◌, ℕ, length, Some, IsTrue, IfOk, nat_eq};
 ghost use Rattle.std.specs.List.Sorted.{IsStrictlyIncreasing};
 ghost use Rattle.px_spec.specs.Members.{has};
-ghost use Rattle.px_spec.specs.Shapes.{shape_of};
+ghost use Rattle.px_spec.specs.Shapes.{shape_of, shape_by};
+ghost use Rattle.path_spec.specs.Answers.{IsAnswer};
+ghost use Rattle.path_spec.specs.Longest.{longest};
 ghost use Rattle.branch_query.specs.Queries.{query_of, IsQueryAnswer, AreQueryAnswers};
 ghost use Rattle.data_validate.specs.Checks.{AreAnswersAmong};
+ghost use Rattle.data_validate.specs.Leading.{IsFew};
 
+use crate::leading::ancestors;
 use branch_query::Query;
-use label_graph::Graph;
+use label_graph::{Digraph, Graph, Labels};
+use path_query::{PathExpr, eval, eval_within};
 use px_base::{Bits, Memory, Steps};
 use std::alloc::Global;
 use std::sync::ledger::Ledger;
@@ -40,9 +45,58 @@ fn common(alloc: Global, set: &Bits, other: &Bits) -> Result<Bits, Memory>
     Ok(both)
 }
 
+/// How many edges a walk has at most whose word matches, and none where there is no bound.
+fn most_edges(expr: &PathExpr) -> Option<u32>
+    ensures { (k : ℕ) → IsFew (longest expr.now) (k + 1) → IsFew result k }
+{
+    match expr.longest() {
+        Some(len) => Some(len.saturating_sub(1)),
+        None => None,
+    }
+}
+
+/// Answers of the path expression, with all those in the set among them. A walk that ends in the set lies in what leads to it. So where
+/// that is small, the expression is asked over it alone, and else over the whole graph.
+fn path_answers<G: Digraph>(
+    alloc: Global,
+    g: &G,
+    labels: &Labels,
+    expr: &PathExpr,
+    set: &Bits,
+) -> Result<Bits, Memory>
+    requires labelled { (n l : ℕ) → G.label_at g.now n ≡ Some l → l < length labels.now.texts }
+    ensures sound { IfOk result (λ b. (v : ℕ) → IsTrue (has b.members v) → IsAnswer (shape_by labels.now.texts (G.span g.now) (G.label_at g.now) (G.edge g.now)) expr.now v) }
+    ensures complete { IfOk result (λ b. (v : ℕ) → IsTrue (has set.now.members v) → IsAnswer (shape_by labels.now.texts (G.span g.now) (G.label_at g.now) (G.edge g.now)) expr.now v → IsTrue (has b.members v)) }
+{
+    match ancestors(alloc, g, set, most_edges(expr))? {
+        Some(near) => eval_within(alloc, g, labels, expr, &near),
+        None => eval(alloc, g, labels, expr),
+    }
+}
+
+/// Answers of the query, with all those in the set among them.
+fn answers_for<G: Digraph>(
+    alloc: Global,
+    g: &G,
+    labels: &Labels,
+    q: &Query<'_>,
+    set: &Bits,
+) -> Result<Bits, Memory>
+    requires labelled { (n l : ℕ) → G.label_at g.now n ≡ Some l → l < length labels.now.texts }
+    ensures sound { IfOk result (λ b. (v : ℕ) → IsTrue (has b.members v) → IsQueryAnswer (shape_by labels.now.texts (G.span g.now) (G.label_at g.now) (G.edge g.now)) (query_of q.now) v) }
+    ensures complete { IfOk result (λ b. (v : ℕ) → IsTrue (has set.now.members v) → IsQueryAnswer (shape_by labels.now.texts (G.span g.now) (G.label_at g.now) (G.edge g.now)) (query_of q.now) v → IsTrue (has b.members v)) }
+{
+    match *q {
+        Query::Path(expr) => path_answers(alloc, g, labels, expr, set),
+        Query::Branch(_) => q.answers(alloc, g, labels),
+    }
+}
+
 /// The members of the set that answer the query in the graph: a set of numbers below the size of the one that is handed
-/// in. It takes a view of the graph, the time of asking the graph, and a look at each member; of an empty set it asks nothing.
-/// `Memory` comes at want of memory alone.
+/// in. It takes a view of the graph; of an empty set it asks nothing. `Memory` comes at want of memory alone. A path expression with m
+/// labels, signs and separators takes O(m (n + e) + s), where n nodes lead to members by no more edges than a matching walk has, e edges
+/// are at these, and s is the greater of both sizes. Where they are many, and for a branching query, it takes the time of asking the graph,
+/// and O(s). Besides what asking takes, the memory is two bytes for each number below a size, and 8 for each of the n nodes.
 pub fn check<L: Ledger>(
     alloc: Global,
     graph: &Graph,
@@ -58,6 +112,6 @@ pub fn check<L: Ledger>(
         return Bits::new(alloc, set.size());
     }
     let view = graph.view(steps);
-    let answers = q.answers(alloc, &view, graph.labels())?;
+    let answers = answers_for(alloc, &view, graph.labels(), q, set)?;
     common(alloc, set, &answers)
 }

@@ -2,5 +2,6 @@
 #![tactic(auto)]
 
 mod checks;
+mod leading;
 
 pub use checks::check;

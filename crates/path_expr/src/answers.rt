@@ -1,12 +1,14 @@
 // The answers of a path expression over a graph.
 ghost use Rattle.std.specs.Prelude.{◌≡◌, ◌<◌, ℕ, length, Some, IfOk};
+ghost use Rattle.px_spec.specs.Members.{has};
 ghost use Rattle.px_spec.specs.Shapes.{shape_by};
 ghost use Rattle.path_spec.specs.Answers.{AreAnswers};
+ghost use Rattle.path_spec.specs.Parts.{part_of};
 
 use crate::compile::compile_expr;
 use crate::tree::Expr;
 use label_graph::{Digraph, Labels};
-use path_search::{Program, search};
+use path_search::{Program, search, search_within};
 use px_base::{Bits, Memory};
 use std::alloc::Global;
 
@@ -24,4 +26,26 @@ pub fn eval<G: Digraph>(alloc: Global, g: &G, labels: &Labels, expr: &Expr) -> R
     let start = compile_expr(labels, &mut program, expr, 0)?;
     let places = [g.size()];
     search(alloc, g, &program, start, &places)
+}
+
+/// The answers over the part of the graph that has the members of a set alone, and the edges between these: a set of numbers below
+/// the graph's size. `Memory` comes at want of memory alone. For an expression with m labels, signs and separators the time
+/// is at most in proportion to m times the members and the edges from them, and the numbers below the set's size.
+pub fn eval_within<G: Digraph>(
+    alloc: Global,
+    g: &G,
+    labels: &Labels,
+    expr: &Expr,
+    set: &Bits,
+) -> Result<Bits, Memory>
+    requires labelled { (n l : ℕ) → G.label_at g.now n ≡ Some l → l < length labels.now.texts }
+    ensures size { IfOk result (λ b. b.size ≡ G.span g.now) }
+    ensures answers { IfOk result (λ b. AreAnswers (part_of (has set.now.members) (shape_by labels.now.texts (G.span g.now) (G.label_at g.now) (G.edge g.now))) expr.now b.members) }
+{
+    // The labels are distinct, which this call says.
+    let _known = labels.len();
+    let mut program = Program::new(alloc)?;
+    let start = compile_expr(labels, &mut program, expr, 0)?;
+    let places = [g.size()];
+    search_within(alloc, g, set, &program, start, &places)
 }

@@ -7,6 +7,6 @@ mod compile;
 mod lengths;
 mod tree;
 
-pub use answers::eval;
+pub use answers::{eval, eval_within};
 pub use lengths::longest;
 pub use tree::{Atom, Expr, Item, Sep, Seq, Sign, Step};

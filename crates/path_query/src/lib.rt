@@ -13,7 +13,7 @@ mod token;
 mod words;
 mod writing;
 
-pub use answers::eval;
+pub use answers::{eval, eval_within};
 pub use expr::{ExprError, PathExpr};
 pub use labels::{name_len, read_label};
 pub use parsing::is_past;

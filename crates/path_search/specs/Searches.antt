@@ -1,10 +1,17 @@
 -- The steps of the search of the product of an automaton and a graph. A place is a node, or the number of nodes,
 -- which stands for the place in front of all nodes.
-use Rattle.std.specs.Prelude.{ℕ, ◌≡◌, ◌<◌, ◌⊎◌, Bool, if◌then◌else◌, nat_eq, List, Option, None, Some, is_some, IsTrue}
+use Rattle.std.specs.Prelude.{ℕ, ◌≡◌, ◌<◌, ◌⊎◌, ◌&&◌, Bool, if◌then◌else◌, nat_eq, List, Option, None, Some, is_some, IsTrue}
 use Rattle.std.specs.List.Sorted.{IsStrictlyIncreasing}
 use Rattle.px_spec.specs.Members.{has}
 use Rattle.path_search.specs.declared.state.State.{State}
 use Rattle.path_search.specs.declared.state.State.TheVariants.{End, Stuck, Any, Label, Fork}
+
+-- the labels of the nodes that a test keeps, and the edges between these
+abbrev pub label_in : (ℕ → Bool) → (ℕ → Option ℕ) → ℕ → Option ℕ
+label_in keeps label_at n = if keeps n then label_at n else None
+
+abbrev pub edge_in : (ℕ → Bool) → (ℕ → ℕ → Bool) → ℕ → ℕ → Bool
+edge_in keeps edge u v = keeps u && (keeps v && edge u v)
 
 -- whether the node comes next: any one in front of all nodes, else a child
 abbrev pub leads : ℕ → (ℕ → Option ℕ) → (ℕ → ℕ → Bool) → ℕ → ℕ → Bool

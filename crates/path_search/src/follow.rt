@@ -1,18 +1,20 @@
 // What comes next to places, marked in a row.
 ghost use Rattle.std.specs.Prelude.{◌≡◌, ◌↔◌, ◌≤◌, ◌+◌, ℕ, true, length, IsSome, IsTrue, OnOk};
 ghost use Rattle.px_spec.specs.Members.{has};
+ghost use Rattle.path_search.specs.Searches.{label_in, edge_in};
 ghost use Rattle.path_search.specs.Rows.{IsSet};
 ghost use Rattle.path_search.specs.Spreading.{Gathers, Passes, Next, NextOf, IsPlace};
 
 use crate::frontier::mark_if;
 use crate::row::Row;
+use crate::scope::Scope;
 use label_graph::Digraph;
 use px_base::{Memory, NodeId};
 use std::alloc::Global;
 
 /// Whether the node's label passes: any one, or the one with the number.
 #[inline(always)]
-fn passes<G: Digraph>(g: &G, test: Option<u32>, n: NodeId) -> bool
+fn has_label<G: Digraph>(g: &G, test: Option<u32>, n: NodeId) -> bool
     requires { IsSome (G.label_at g.now n) }
     ensures { IsTrue result ↔ Passes (G.label_at g.now) test n }
 {
@@ -22,37 +24,51 @@ fn passes<G: Digraph>(g: &G, test: Option<u32>, n: NodeId) -> bool
     }
 }
 
-/// Whether the number is that of a node whose label passes.
+/// Whether the node is within and its label passes.
 #[inline(always)]
-fn is_passing<G: Digraph>(g: &G, test: Option<u32>, n: NodeId) -> bool
-    ensures { IsTrue result ↔ Passes (G.label_at g.now) test n }
+fn passes<G: Digraph, S: Scope>(g: &G, scope: &S, test: Option<u32>, n: NodeId) -> bool
+    requires { IsSome (G.label_at g.now n) }
+    ensures { IsTrue result ↔ Passes (label_in (S.keeps scope.now) (G.label_at g.now)) test n }
 {
-    g.is_node(n) && passes(g, test, n)
+    scope.contains(n) && has_label(g, test, n)
 }
 
-/// Marks each node whose label passes.
-fn mark_nodes<G: Digraph>(
+/// Whether the number is that of a node that is within and whose label passes.
+#[inline(always)]
+fn is_passing<G: Digraph, S: Scope>(g: &G, scope: &S, test: Option<u32>, n: NodeId) -> bool
+    ensures { IsTrue result ↔ Passes (label_in (S.keeps scope.now) (G.label_at g.now)) test n }
+{
+    g.is_node(n) && passes(g, scope, test, n)
+}
+
+/// Marks each node that is within and whose label passes.
+fn mark_nodes<G: Digraph, S: Scope>(
     alloc: Global,
     g: &G,
+    scope: &S,
     test: Option<u32>,
     row: &mut Row,
     found: &mut Vec<u32>,
 ) -> Result<(), Memory>
     requires { G.span g.now + 1 ≤ length row.old }
-    ensures gathers { OnOk result (Gathers (λ c. Passes (G.label_at g.now) test c) row.old row.new found.old.items found.new.items) }
-    ensures marked { OnOk result ((c : ℕ) → Passes (G.label_at g.now) test c → IsSet row.new c) }
+    ensures gathers { OnOk result (Gathers (λ c. Passes (label_in (S.keeps scope.now) (G.label_at g.now)) test c) row.old row.new found.old.items found.new.items) }
+    ensures marked { OnOk result ((c : ℕ) → Passes (label_in (S.keeps scope.now) (G.label_at g.now)) test c → IsSet row.new c) }
 {
-    for place in 0..g.size() {
-        mark_if(alloc, row, found, place, is_passing(g, test, place))?;
+    let size = g.size();
+    let mut place = scope.first_from(0, size);
+    'nodes: while place < size {
+        mark_if(alloc, row, found, place, is_passing(g, scope, test, place))?;
+        place = scope.first_from(place + 1, size);
     }
     Ok(())
 }
 
-/// Marks each of the nodes whose label passes.
+/// Marks each of the nodes that is within and whose label passes.
 #[inline(always)]
-fn mark_among<G: Digraph>(
+fn mark_among<G: Digraph, S: Scope>(
     alloc: Global,
     g: &G,
+    scope: &S,
     test: Option<u32>,
     row: &mut Row,
     found: &mut Vec<u32>,
@@ -60,55 +76,57 @@ fn mark_among<G: Digraph>(
 ) -> Result<(), Memory>
     requires nodes { (c : ℕ) → has nodes.now c ≡ true → IsSome (G.label_at g.now c) }
     requires room { G.span g.now + 1 ≤ length row.old }
-    ensures gathers { OnOk result (Gathers (λ c. IsTrue (has nodes.now c) × Passes (G.label_at g.now) test c) row.old row.new found.old.items found.new.items) }
-    ensures marked { OnOk result ((c : ℕ) → IsTrue (has nodes.now c) → Passes (G.label_at g.now) test c → IsSet row.new c) }
+    ensures gathers { OnOk result (Gathers (λ c. IsTrue (has nodes.now c) × Passes (label_in (S.keeps scope.now) (G.label_at g.now)) test c) row.old row.new found.old.items found.new.items) }
+    ensures marked { OnOk result ((c : ℕ) → IsTrue (has nodes.now c) → Passes (label_in (S.keeps scope.now) (G.label_at g.now)) test c → IsSet row.new c) }
 {
     for node in nodes {
         let place = *node;
-        mark_if(alloc, row, found, place, passes(g, test, place))?;
+        mark_if(alloc, row, found, place, passes(g, scope, test, place))?;
     }
     Ok(())
 }
 
-/// Marks each node that comes next to the place and whose label passes.
+/// Marks each node within that comes next to the place and whose label passes.
 #[inline(always)]
-fn mark_next<G: Digraph>(
+fn mark_next<G: Digraph, S: Scope>(
     alloc: Global,
     g: &G,
+    scope: &S,
     test: Option<u32>,
     row: &mut Row,
     found: &mut Vec<u32>,
     place: u32,
 ) -> Result<(), Memory>
-    requires place { IsPlace (G.span g.now) (G.label_at g.now) place }
+    requires place { IsPlace (G.span g.now) (label_in (S.keeps scope.now) (G.label_at g.now)) place }
     requires room { G.span g.now + 1 ≤ length row.old }
-    ensures gathers { OnOk result (Gathers (λ c. Next (G.span g.now) (G.label_at g.now) (G.edge g.now) test place c) row.old row.new found.old.items found.new.items) }
-    ensures marked { OnOk result ((c : ℕ) → Next (G.span g.now) (G.label_at g.now) (G.edge g.now) test place c → IsSet row.new c) }
+    ensures gathers { OnOk result (Gathers (λ c. Next (G.span g.now) (label_in (S.keeps scope.now) (G.label_at g.now)) (edge_in (S.keeps scope.now) (G.edge g.now)) test place c) row.old row.new found.old.items found.new.items) }
+    ensures marked { OnOk result ((c : ℕ) → Next (G.span g.now) (label_in (S.keeps scope.now) (G.label_at g.now)) (edge_in (S.keeps scope.now) (G.edge g.now)) test place c → IsSet row.new c) }
 {
     if place == g.size() {
-        mark_nodes(alloc, g, test, row, found)
+        mark_nodes(alloc, g, scope, test, row, found)
     } else {
-        mark_among(alloc, g, test, row, found, g.children(place))
+        mark_among(alloc, g, scope, test, row, found, g.children(place))
     }
 }
 
-/// Marks each node that comes next to one of the places and whose label passes.
-pub(crate) fn follow<G: Digraph>(
+/// Marks each node within that comes next to one of the places and whose label passes.
+pub(crate) fn follow<G: Digraph, S: Scope>(
     alloc: Global,
     g: &G,
+    scope: &S,
     test: Option<u32>,
     row: &mut Row,
     found: &mut Vec<u32>,
     places: &[u32],
 ) -> Result<(), Memory>
-    requires places { (v : ℕ) → IsTrue (has places.now v) → IsPlace (G.span g.now) (G.label_at g.now) v }
+    requires places { (v : ℕ) → IsTrue (has places.now v) → IsPlace (G.span g.now) (label_in (S.keeps scope.now) (G.label_at g.now)) v }
     requires room { G.span g.now + 1 ≤ length row.old }
-    ensures gathers { OnOk result (Gathers (NextOf (G.span g.now) (G.label_at g.now) (G.edge g.now) test places.now) row.old row.new found.old.items found.new.items) }
-    ensures marked { OnOk result ((v c : ℕ) → IsTrue (has places.now v) → Next (G.span g.now) (G.label_at g.now) (G.edge g.now) test v c → IsSet row.new c) }
+    ensures gathers { OnOk result (Gathers (NextOf (G.span g.now) (label_in (S.keeps scope.now) (G.label_at g.now)) (edge_in (S.keeps scope.now) (G.edge g.now)) test places.now) row.old row.new found.old.items found.new.items) }
+    ensures marked { OnOk result ((v c : ℕ) → IsTrue (has places.now v) → Next (G.span g.now) (label_in (S.keeps scope.now) (G.label_at g.now)) (edge_in (S.keeps scope.now) (G.edge g.now)) test v c → IsSet row.new c) }
 {
     for p in places {
         let place = *p;
-        mark_next(alloc, g, test, row, found, place)?;
+        mark_next(alloc, g, scope, test, row, found, place)?;
     }
     Ok(())
 }

@@ -6,10 +6,11 @@ mod follow;
 mod frontier;
 mod program;
 mod row;
+mod scope;
 mod searching;
 mod state;
 mod waiting;
 
 pub use program::Program;
-pub use searching::search;
+pub use searching::{search, search_within};
 pub use state::State;

@@ -2,7 +2,7 @@
 ghost use Rattle.std.specs.Prelude.{◌≡◌, ◌↔◌, ◌≤◌, ◌<◌, ◌+◌, ◌⊎◌, ℕ, length, slice_get, Some, IsSome, IsTrue, IfOk, OnOk};
 ghost use Rattle.std.specs.List.Sorted.{IsStrictlyIncreasing};
 ghost use Rattle.px_spec.specs.Members.{has};
-ghost use Rattle.path_search.specs.Searches.{Succeeds, AreEnds};
+ghost use Rattle.path_search.specs.Searches.{label_in, edge_in, Succeeds, AreEnds};
 ghost use Rattle.path_search.specs.declared.state.State.TheVariants.{End};
 ghost use Rattle.path_search.specs.Rows.{row, IsMarked, HasRoom};
 ghost use Rattle.path_search.specs.Spreading.{Spreads, NextOf, SucceedsOne, IsPlace};
@@ -10,15 +10,17 @@ ghost use Rattle.path_search.specs.Spreading.{Spreads, NextOf, SucceedsOne, IsPl
 use crate::follow::follow;
 use crate::frontier::Frontier;
 use crate::program::Program;
+use crate::scope::{Everywhere, Inside, Scope};
 use crate::state::State;
 use label_graph::Digraph;
 use px_base::{Bits, Memory};
 use std::alloc::Global;
 
-/// Marks the state at each node that comes next to one of the places and whose label passes. The buffer holds what was
-/// found.
-fn advance<G: Digraph>(
+/// Marks the state at each node within that comes next to one of the places and whose label passes. The buffer holds
+/// what was found.
+fn advance<G: Digraph, S: Scope>(
     g: &G,
+    scope: &S,
     frontier: &mut Frontier,
     found: &mut Vec<u32>,
     test: Option<u32>,
@@ -26,16 +28,17 @@ fn advance<G: Digraph>(
     places: &[u32],
 ) -> Result<(), Memory>
     requires there { state < length frontier.old.rows.items }
-    requires places { (v : ℕ) → IsTrue (has places.now v) → IsPlace (G.span g.now) (G.label_at g.now) v }
+    requires places { (v : ℕ) → IsTrue (has places.now v) → IsPlace (G.span g.now) (label_in (S.keeps scope.now) (G.label_at g.now)) v }
     requires room { G.span g.now + 1 ≤ length (row frontier.old.rows.items state) }
-    ensures spreads { OnOk result (Spreads (λ s c. (s ≡ state) × NextOf (G.span g.now) (G.label_at g.now) (G.edge g.now) test places.now c) frontier.old frontier.new) }
-    ensures marked { OnOk result ((c : ℕ) → NextOf (G.span g.now) (G.label_at g.now) (G.edge g.now) test places.now c → IsMarked frontier.new.rows.items state c) }
+    ensures spreads { OnOk result (Spreads (λ s c. (s ≡ state) × NextOf (G.span g.now) (label_in (S.keeps scope.now) (G.label_at g.now)) (edge_in (S.keeps scope.now) (G.edge g.now)) test places.now c) frontier.old frontier.new) }
+    ensures marked { OnOk result ((c : ℕ) → NextOf (G.span g.now) (label_in (S.keeps scope.now) (G.label_at g.now)) (edge_in (S.keeps scope.now) (G.edge g.now)) test places.now c → IsMarked frontier.new.rows.items state c) }
 {
     found.clear();
     let alloc = frontier.alloc;
     follow(
         alloc,
         g,
+        scope,
         test,
         &mut frontier.rows[state as usize],
         found,
@@ -65,8 +68,9 @@ fn fork(
 }
 
 /// Marks all that succeeds the state at one of the places.
-fn visit<G: Digraph>(
+fn visit<G: Digraph, S: Scope>(
     g: &G,
+    scope: &S,
     program: &Program,
     frontier: &mut Frontier,
     found: &mut Vec<u32>,
@@ -74,16 +78,16 @@ fn visit<G: Digraph>(
     places: &[u32],
 ) -> Result<(), Memory>
     requires state { state < length program.now }
-    requires places { (v : ℕ) → IsTrue (has places.now v) → IsPlace (G.span g.now) (G.label_at g.now) v }
+    requires places { (v : ℕ) → IsTrue (has places.now v) → IsPlace (G.span g.now) (label_in (S.keeps scope.now) (G.label_at g.now)) v }
     requires room { HasRoom (length program.now) (G.span g.now + 1) frontier.old.rows.items }
-    ensures spreads { OnOk result (Spreads (SucceedsOne (G.span g.now) (G.label_at g.now) (G.edge g.now) (slice_get program.now state) places.now) frontier.old frontier.new) }
-    ensures marked { OnOk result ((s c : ℕ) → SucceedsOne (G.span g.now) (G.label_at g.now) (G.edge g.now) (slice_get program.now state) places.now s c → IsMarked frontier.new.rows.items s c) }
-    ensures inside { (s c : ℕ) → SucceedsOne (G.span g.now) (G.label_at g.now) (G.edge g.now) (slice_get program.now state) places.now s c → (s < length program.now) × IsPlace (G.span g.now) (G.label_at g.now) c }
+    ensures spreads { OnOk result (Spreads (SucceedsOne (G.span g.now) (label_in (S.keeps scope.now) (G.label_at g.now)) (edge_in (S.keeps scope.now) (G.edge g.now)) (slice_get program.now state) places.now) frontier.old frontier.new) }
+    ensures marked { OnOk result ((s c : ℕ) → SucceedsOne (G.span g.now) (label_in (S.keeps scope.now) (G.label_at g.now)) (edge_in (S.keeps scope.now) (G.edge g.now)) (slice_get program.now state) places.now s c → IsMarked frontier.new.rows.items s c) }
+    ensures inside { (s c : ℕ) → SucceedsOne (G.span g.now) (label_in (S.keeps scope.now) (G.label_at g.now)) (edge_in (S.keeps scope.now) (G.edge g.now)) (slice_get program.now state) places.now s c → (s < length program.now) × IsPlace (G.span g.now) (label_in (S.keeps scope.now) (G.label_at g.now)) c }
 {
     match program.state(state) {
         State::End | State::Stuck => Ok(()),
-        State::Any(next) => advance(g, frontier, found, None, next, places),
-        State::Label(label, next) => advance(g, frontier, found, Some(label), next, places),
+        State::Any(next) => advance(g, scope, frontier, found, None, next, places),
+        State::Label(label, next) => advance(g, scope, frontier, found, Some(label), next, places),
         State::Fork(first, second) => fork(frontier, found, first, second, places),
     }
 }
@@ -140,6 +144,42 @@ fn note_ends(program: &Program, answers: &mut Bits, state: u32, places: &[u32])
     }
 }
 
+/// The nodes within at which a word can end that is read from the state `start` on behind one of the places, where each
+/// node on the way is within.
+fn search_in<G: Digraph, S: Scope>(
+    alloc: Global,
+    g: &G,
+    scope: &S,
+    program: &Program,
+    start: u32,
+    places: &[u32],
+) -> Result<Bits, Memory>
+    requires start { start < length program.now }
+    requires places { (v : ℕ) → IsTrue (has places.now v) → IsPlace (G.span g.now) (label_in (S.keeps scope.now) (G.label_at g.now)) v }
+    ensures size { IfOk result (λ b. b.size ≡ G.span g.now) }
+    ensures ends { IfOk result (λ b. AreEnds (λ k. slice_get program.now k) (G.span g.now) (label_in (S.keeps scope.now) (G.label_at g.now)) (edge_in (S.keeps scope.now) (G.edge g.now)) (λ v. IsTrue (has places.now v)) start b.members) }
+{
+    let size = g.size();
+    let mut frontier = Frontier::new(alloc, program.len(), size as usize + 1)?;
+    let mut answers = Bits::new(alloc, size)?;
+    let mut found = Vec::new(alloc);
+    let mut current = Vec::new(alloc);
+    frontier.mark_all(&mut found, start, places)?;
+    'runs: while let Some(state) = frontier.waiting.take(&mut current)? {
+        note_ends(program, &mut answers, state, &current);
+        visit(
+            g,
+            scope,
+            program,
+            &mut frontier,
+            &mut found,
+            state,
+            &current,
+        )?;
+    }
+    Ok(answers)
+}
+
 /// The nodes at which a word can end that is read from the state `start` on behind one of the places, where
 /// the graph's size is the place in front of all nodes: a set of numbers below that size. `Memory` comes at
 /// want of memory alone. For m states, n nodes and e edges it takes O(m (n + e)): a bit for each node and each state
@@ -156,15 +196,23 @@ pub fn search<G: Digraph>(
     ensures size { IfOk result (λ b. b.size ≡ G.span g.now) }
     ensures ends { IfOk result (λ b. AreEnds (λ k. slice_get program.now k) (G.span g.now) (G.label_at g.now) (G.edge g.now) (λ v. IsTrue (has places.now v)) start b.members) }
 {
-    let size = g.size();
-    let mut frontier = Frontier::new(alloc, program.len(), size as usize + 1)?;
-    let mut answers = Bits::new(alloc, size)?;
-    let mut found = Vec::new(alloc);
-    let mut current = Vec::new(alloc);
-    frontier.mark_all(&mut found, start, places)?;
-    'runs: while let Some(state) = frontier.waiting.take(&mut current)? {
-        note_ends(program, &mut answers, state, &current);
-        visit(g, program, &mut frontier, &mut found, state, &current)?;
-    }
-    Ok(answers)
+    search_in(alloc, g, &Everywhere, program, start, places)
+}
+
+/// The same where only members of the set are entered: the graph has no other nodes then, and the edges between these. It looks at
+/// members alone and their edges, besides a pass over the set for each state that is entered in front of all nodes.
+pub fn search_within<G: Digraph>(
+    alloc: Global,
+    g: &G,
+    set: &Bits,
+    program: &Program,
+    start: u32,
+    places: &[u32],
+) -> Result<Bits, Memory>
+    requires start { start < length program.now }
+    requires places { (v : ℕ) → IsTrue (has places.now v) → IsPlace (G.span g.now) (label_in (has set.now.members) (G.label_at g.now)) v }
+    ensures size { IfOk result (λ b. b.size ≡ G.span g.now) }
+    ensures ends { IfOk result (λ b. AreEnds (λ k. slice_get program.now k) (G.span g.now) (label_in (has set.now.members) (G.label_at g.now)) (edge_in (has set.now.members) (G.edge g.now)) (λ v. IsTrue (has places.now v)) start b.members) }
+{
+    search_in(alloc, g, &Inside { set }, program, start, places)
 }

@@ -13,7 +13,7 @@ loop-n-init c =
       within = omega arith;
       size = ap (λ (s : BitSet). s.size) is ∙ c.size.ensures.size;
       rising = λ k h. absurd (omega (arith, h, none));
-      members = λ m. ap (λ (s : BitSet). has s.members m) is ∙ sym (kept_none c.args.set.now.members c.args.other.now.members m);
+      members = λ m. ap (λ (s : BitSet). has s.members m) is ∙ sym (kept_none c.args.set.now.members (has c.args.other.now.members) m);
     }
 
 pub loop-n-preserved : goal.loop-n-preserved
@@ -28,8 +28,8 @@ loop-n-preserved c =
       rising = c.insert_if.ensures.rising;
       members = λ m.
           c.insert_if.ensures.members m ∙ ap (λ t. (nat_eq m n && t) || has c.loop-n.both.members m) c.contains.ensures
-          ∙ ap (λ t. (nat_eq m n && has other n) || t) (c.loop-n.invariant.members m) ∙ kept_step set other c.loop-n.from n c.in-Some.ensures.next m;
+          ∙ ap (λ t. (nat_eq m n && has other n) || t) (c.loop-n.invariant.members m) ∙ kept_step set (has other) c.loop-n.from n c.in-Some.ensures.next m;
     }
 
 pub returns-clause-members : goal.returns-clause-members
-returns-clause-members c m = c.loop-n.invariant.members m ∙ kept_end c.args.set.now.members c.args.other.now.members c.loop-n.from c.in_default.ensures.next m
+returns-clause-members c m = c.loop-n.invariant.members m ∙ kept_end c.args.set.now.members (has c.args.other.now.members) c.loop-n.from c.in_default.ensures.next m

@@ -9,7 +9,7 @@ invariant-loop-n l = record {
   within : l.from ≤ l.set.size;
   size : l.both.size ≡ l.set.size;
   rising : IsStrictlyIncreasing l.both.members;
-  members : (m : ℕ) → has l.both.members m ≡ is_kept l.set.members l.other.members l.from m;
+  members : (m : ℕ) → has l.both.members m ≡ is_kept l.set.members (has l.other.members) l.from m;
 }
 
 abbrev pub decreases-loop-n : goal.decreases-loop-n

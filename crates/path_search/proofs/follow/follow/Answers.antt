@@ -1,4 +1,5 @@
 use Rattle.std.proofs.Common.{get_or, inl, inr, subst}
+use Rattle.path_search.specs.Searches.{label_in, edge_in}
 use Rattle.path_search.specs.Spreading.{Next}
 use Rattle.path_search.proofs.Gathering.{gathers_as, gathers_then, has_there, take_cases}
 use Rattle.path_search.proofs.follow.follow.Goals as goal
@@ -11,8 +12,8 @@ loop-p-preserved g c =
     let l = c.loop-p in
     let places = c.args.places.now in
     let span = g.G.Digraph.span c.args.g.now in
-    let label_at = g.G.Digraph.label_at c.args.g.now in
-    let edge = g.G.Digraph.edge c.args.g.now in
+    let label_at = label_in (g.S.Scope.keeps c.args.scope.now) (g.G.Digraph.label_at c.args.g.now) in
+    let edge = edge_in (g.S.Scope.keeps c.args.scope.now) (g.G.Digraph.edge c.args.g.now) in
     let x = get_or places l.p-index 0 in
     let onto = c.in_ok-mark_next.ensures.gathers in
     record {

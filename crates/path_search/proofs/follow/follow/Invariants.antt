@@ -1,4 +1,5 @@
 use Rattle.std.proofs.Common.{ℕ, take, IsTrue}
+use Rattle.path_search.specs.Searches.{label_in, edge_in}
 use Rattle.px_spec.specs.Members.{has}
 use Rattle.path_search.specs.Rows.{IsSet}
 use Rattle.path_search.specs.Spreading.{Gathers, Next, NextOf}
@@ -6,6 +7,6 @@ use Rattle.path_search.proofs.follow.follow.Given as goal
 
 abbrev pub invariant-loop-p : goal.invariant-loop-p
 invariant-loop-p g l = record {
-  gathers : Gathers (NextOf (g.G.Digraph.span l.g) (g.G.Digraph.label_at l.g) (g.G.Digraph.edge l.g) l.test l.places) l.initial.row l.row l.initial.found.items l.found.items;
-  marked : (v c : ℕ) → IsTrue (has (take l.p-index l.places) v) → Next (g.G.Digraph.span l.g) (g.G.Digraph.label_at l.g) (g.G.Digraph.edge l.g) l.test v c → IsSet l.row c;
+  gathers : Gathers (NextOf (g.G.Digraph.span l.g) (label_in (g.S.Scope.keeps l.scope) (g.G.Digraph.label_at l.g)) (edge_in (g.S.Scope.keeps l.scope) (g.G.Digraph.edge l.g)) l.test l.places) l.initial.row l.row l.initial.found.items l.found.items;
+  marked : (v c : ℕ) → IsTrue (has (take l.p-index l.places) v) → Next (g.G.Digraph.span l.g) (label_in (g.S.Scope.keeps l.scope) (g.G.Digraph.label_at l.g)) (edge_in (g.S.Scope.keeps l.scope) (g.G.Digraph.edge l.g)) l.test v c → IsSet l.row c;
 }

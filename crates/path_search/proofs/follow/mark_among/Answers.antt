@@ -1,4 +1,5 @@
 use Rattle.std.proofs.Common.{IsTrue, inl, inr, sym, subst}
+use Rattle.path_search.specs.Searches.{label_in}
 use Rattle.px_spec.specs.Members.{has}
 use Rattle.path_search.specs.Rows.{IsSet}
 use Rattle.path_search.specs.Spreading.{Passes}
@@ -8,7 +9,7 @@ use Rattle.path_search.proofs.follow.mark_among.Goals as goal
 pub loop-node-preserved : goal.loop-node-preserved
 loop-node-preserved g c =
     let l = c.loop-node in
-    let label_at = g.G.Digraph.label_at c.args.g.now in
+    let label_at = label_in (g.S.Scope.keeps c.args.scope.now) (g.G.Digraph.label_at c.args.g.now) in
     let nodes = c.args.nodes.now in
     let onto = c.in_ok-mark_if.ensures.gathers in
     record {

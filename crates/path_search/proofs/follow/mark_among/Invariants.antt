@@ -1,4 +1,5 @@
 use Rattle.std.proofs.Common.{ℕ, take, IsTrue}
+use Rattle.path_search.specs.Searches.{label_in}
 use Rattle.px_spec.specs.Members.{has}
 use Rattle.path_search.specs.Rows.{IsSet}
 use Rattle.path_search.specs.Spreading.{Gathers, Passes}
@@ -6,6 +7,6 @@ use Rattle.path_search.proofs.follow.mark_among.Given as goal
 
 abbrev pub invariant-loop-node : goal.invariant-loop-node
 invariant-loop-node g l = record {
-  gathers : Gathers (λ c. IsTrue (has l.nodes c) × Passes (g.G.Digraph.label_at l.g) l.test c) l.initial.row l.row l.initial.found.items l.found.items;
-  marked : (c : ℕ) → IsTrue (has (take l.node-index l.nodes) c) → Passes (g.G.Digraph.label_at l.g) l.test c → IsSet l.row c;
+  gathers : Gathers (λ c. IsTrue (has l.nodes c) × Passes (label_in (g.S.Scope.keeps l.scope) (g.G.Digraph.label_at l.g)) l.test c) l.initial.row l.row l.initial.found.items l.found.items;
+  marked : (c : ℕ) → IsTrue (has (take l.node-index l.nodes) c) → Passes (label_in (g.S.Scope.keeps l.scope) (g.G.Digraph.label_at l.g)) l.test c → IsSet l.row c;
 }

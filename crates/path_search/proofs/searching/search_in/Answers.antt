@@ -1,6 +1,7 @@
 use Rattle.std.proofs.Common.{◌≡◌, ◌∙◌, ℕ, ◌+◌, ◌<◌, [], sym, ap, subst, inl, inr, rules, arith, length, List, Option, Some, IsTrue}
 use Rattle.std.specs.Prelude.{slice_get}
 use Rattle.std.proofs.lemmas.List.{length-append}
+use Rattle.path_search.specs.Searches.{label_in, edge_in}
 use Rattle.px_spec.specs.Members.{has}
 use Rattle.path_search.specs.Rows.{HasRoom}
 use Rattle.path_search.specs.Waits.{all_at, IsTaken}
@@ -8,7 +9,7 @@ use Rattle.path_search.specs.Spreading.{SpreadsOver, SucceedsOne}
 use Rattle.path_search.proofs.Spread.{members_le, room_on, falls, length_at, row_there}
 use Rattle.path_search.proofs.Kept.{searching_begins, searching_next, searching_ends, state_waits, place_waits, none_rises, IsSearching}
 use Rattle.std.specs.Prelude.{MatchOption}
-use Rattle.path_search.proofs.searching.search.Goals as goal
+use Rattle.path_search.proofs.searching.search_in.Goals as goal
 
 taken_of : (ks k : List (ℕ × ℕ)) (places : List ℕ) (o : Option ℕ) (s : ℕ) → o ≡ Some s → MatchOption o (ks ≡ []) (λ x. IsTaken ks k x places) → IsTaken ks k s places
 taken_of ks k places o s is h = subst (λ o. MatchOption o (ks ≡ []) (λ x. IsTaken ks k x places)) is h
@@ -21,8 +22,8 @@ mark_all-requires-clause-there g c =
 pub runs-init : goal.runs-init
 runs-init g c =
     let size = c.size-size.ensures in
-    let label_at = g.G.Digraph.label_at c.args.g.now in
-    let edge = g.G.Digraph.edge c.args.g.now in
+    let label_at = label_in (g.S.Scope.keeps c.args.scope.now) (g.G.Digraph.label_at c.args.g.now) in
+    let edge = edge_in (g.S.Scope.keeps c.args.scope.now) (g.G.Digraph.edge c.args.g.now) in
     let span = g.G.Digraph.span c.args.g.now in
     let at = λ (k : ℕ). slice_get c.args.program.now k in
     let states = length c.args.program.now in
@@ -46,21 +47,21 @@ pub note_ends-requires-clause-state : goal.note_ends-requires-clause-state
 note_ends-requires-clause-state g c =
     let kept = c.runs.invariant.searching in
     let t = taken_of c.runs.frontier.waiting c.take.new.self c.take.new.places.items c.in_ok-state.field-0 c.in-Some.state c.in-Some.is c.in_ok-state.ensures in
-    state_waits _ (g.G.Digraph.span c.args.g.now) (g.G.Digraph.label_at c.args.g.now) (g.G.Digraph.edge c.args.g.now) (λ v. IsTrue (has c.args.places.now v)) c.args.start (length c.args.program.now)
+    state_waits _ (g.G.Digraph.span c.args.g.now) (label_in (g.S.Scope.keeps c.args.scope.now) (g.G.Digraph.label_at c.args.g.now)) (edge_in (g.S.Scope.keeps c.args.scope.now) (g.G.Digraph.edge c.args.g.now)) (λ v. IsTrue (has c.args.places.now v)) c.args.start (length c.args.program.now)
     c.runs.frontier.rows.items c.runs.frontier.waiting c.take.new.self c.in-Some.state c.take.new.places.items c.runs.answers.members kept t.last t.some
 
 pub visit-requires-clause-state : goal.visit-requires-clause-state
 visit-requires-clause-state g c =
     let kept = c.runs.invariant.searching in
     let t = taken_of c.runs.frontier.waiting c.take.new.self c.take.new.places.items c.in_ok-state.field-0 c.in-Some.state c.in-Some.is c.in_ok-state.ensures in
-    state_waits _ (g.G.Digraph.span c.args.g.now) (g.G.Digraph.label_at c.args.g.now) (g.G.Digraph.edge c.args.g.now) (λ v. IsTrue (has c.args.places.now v)) c.args.start (length c.args.program.now)
+    state_waits _ (g.G.Digraph.span c.args.g.now) (label_in (g.S.Scope.keeps c.args.scope.now) (g.G.Digraph.label_at c.args.g.now)) (edge_in (g.S.Scope.keeps c.args.scope.now) (g.G.Digraph.edge c.args.g.now)) (λ v. IsTrue (has c.args.places.now v)) c.args.start (length c.args.program.now)
     c.runs.frontier.rows.items c.runs.frontier.waiting c.take.new.self c.in-Some.state c.take.new.places.items c.runs.answers.members kept t.last t.some
 
 pub visit-requires-clause-places : goal.visit-requires-clause-places
 visit-requires-clause-places g c v h =
     let kept = c.runs.invariant.searching in
     let t = taken_of c.runs.frontier.waiting c.take.new.self c.take.new.places.items c.in_ok-state.field-0 c.in-Some.state c.in-Some.is c.in_ok-state.ensures in
-    (place_waits _ (g.G.Digraph.span c.args.g.now) (g.G.Digraph.label_at c.args.g.now) (g.G.Digraph.edge c.args.g.now) (λ v. IsTrue (has c.args.places.now v)) c.args.start (length c.args.program.now)
+    (place_waits _ (g.G.Digraph.span c.args.g.now) (label_in (g.S.Scope.keeps c.args.scope.now) (g.G.Digraph.label_at c.args.g.now)) (edge_in (g.S.Scope.keeps c.args.scope.now) (g.G.Digraph.edge c.args.g.now)) (λ v. IsTrue (has c.args.places.now v)) c.args.start (length c.args.program.now)
     c.runs.frontier.rows.items c.runs.frontier.waiting c.take.new.self c.in-Some.state c.take.new.places.items c.runs.answers.members kept t.last v
     (subst (λ x. IsTrue (has x v)) c.deref-in-Some.ensures.value h)).2
 
@@ -77,8 +78,8 @@ runs-preserved g c =
     let v = c.in_ok-visit.ensures in
     let n = c.note_ends.ensures in
     let span = g.G.Digraph.span c.args.g.now in
-    let label_at = g.G.Digraph.label_at c.args.g.now in
-    let edge = g.G.Digraph.edge c.args.g.now in
+    let label_at = label_in (g.S.Scope.keeps c.args.scope.now) (g.G.Digraph.label_at c.args.g.now) in
+    let edge = edge_in (g.S.Scope.keeps c.args.scope.now) (g.G.Digraph.edge c.args.g.now) in
     let First : ℕ → Type 0 = λ v. IsTrue (has c.args.places.now v) in
     let at = λ (k : ℕ). slice_get c.args.program.now k in
     let states = length c.args.program.now in
@@ -106,8 +107,8 @@ runs-preserved g c =
 pub returns-clause-ends : goal.returns-clause-ends
 returns-clause-ends g c =
     let span = g.G.Digraph.span c.args.g.now in
-    let label_at = g.G.Digraph.label_at c.args.g.now in
-    let edge = g.G.Digraph.edge c.args.g.now in
+    let label_at = label_in (g.S.Scope.keeps c.args.scope.now) (g.G.Digraph.label_at c.args.g.now) in
+    let edge = edge_in (g.S.Scope.keeps c.args.scope.now) (g.G.Digraph.edge c.args.g.now) in
     let First : ℕ → Type 0 = λ v. IsTrue (has c.args.places.now v) in
     let at = λ (k : ℕ). slice_get c.args.program.now k in
     let states = length c.args.program.now in

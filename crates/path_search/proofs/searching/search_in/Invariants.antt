@@ -1,15 +1,16 @@
 use Rattle.std.proofs.Common.{◌≡◌, ◌+◌, ◌-◌, ◌*◌, length, IsTrue}
 use Rattle.std.specs.Prelude.{slice_get}
+use Rattle.path_search.specs.Searches.{label_in, edge_in}
 use Rattle.px_spec.specs.Members.{has}
 use Rattle.path_search.specs.Rows.{members, pairs, HasRoom}
 use Rattle.path_search.proofs.Kept.{IsSearching}
-use Rattle.path_search.proofs.searching.search.Given as goal
+use Rattle.path_search.proofs.searching.search_in.Given as goal
 
 abbrev pub invariant-runs : goal.invariant-runs
 invariant-runs g l = record {
   room : HasRoom (length l.program) (g.G.Digraph.span l.g + 1) l.frontier.rows.items;
   size : l.answers.size ≡ g.G.Digraph.span l.g;
-  searching : IsSearching (λ k. slice_get l.program k) (g.G.Digraph.span l.g) (g.G.Digraph.label_at l.g) (g.G.Digraph.edge l.g) (λ v. IsTrue (has l.fn.places v)) l.start (length l.program) l.frontier.rows.items l.frontier.waiting l.answers.members;
+  searching : IsSearching (λ k. slice_get l.program k) (g.G.Digraph.span l.g) (label_in (g.S.Scope.keeps l.scope) (g.G.Digraph.label_at l.g)) (edge_in (g.S.Scope.keeps l.scope) (g.G.Digraph.edge l.g)) (λ v. IsTrue (has l.fn.places v)) l.start (length l.program) l.frontier.rows.items l.frontier.waiting l.answers.members;
 }
 
 abbrev pub decreases-runs : goal.decreases-runs

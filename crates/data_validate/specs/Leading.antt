@@ -1,0 +1,30 @@
+-- What leads to the members of a set by few edges.
+use Rattle.std.specs.Prelude.{◌≡◌, ℕ, zero, suc, ◌≤◌, ◌⊎◌, ◌&&◌, ◌||◌, not, Bool, List, Option, None, Some, IsTrue, IsSome}
+use Rattle.px_spec.specs.Members.{has}
+
+-- so many edges lead from u to v
+abbrev pub Leading : (ℕ → ℕ → Bool) → ℕ → ℕ → ℕ → Type 0
+Leading edge zero u v = u ≡ v
+Leading edge (suc k) u v = (w : ℕ) × IsTrue (edge u w) × Leading edge k w v
+
+-- not more edges than the bound, where there is one
+abbrev pub IsFew : Option ℕ → ℕ → Type 0
+IsFew None k = Unit {0}
+IsFew (Some most) k = k ≤ most
+
+-- the members have each node from which few edges lead to a node of the set
+pub record IsLeading (label_at : ℕ → Option ℕ) (edge : ℕ → ℕ → Bool) (most : Option ℕ) (set members : List ℕ) : Type 0 where
+  pub has_all : (k u v : ℕ) → IsFew most k → IsTrue (has set v) → IsSome (label_at v) → Leading edge k u v → IsTrue (has members u)
+
+-- the numbers that pass are met, and those that weren't met before are found
+pub record IsNoted (passes : ℕ → Bool) (met found met2 found2 : List ℕ) : Type 0 where
+  pub meets : (c : ℕ) → has met2 c ≡ (has met c || passes c)
+  pub finds : (c : ℕ) → has found2 c ≡ (has found c || (passes c && not (has met c)))
+
+-- the parents of the nodes are met, and those that weren't met before are found
+pub record IsSpread (edge : ℕ → ℕ → Bool) (nodes met found met2 found2 : List ℕ) : Type 0 where
+  pub stays : (u : ℕ) → IsTrue (has met u) → IsTrue (has met2 u)
+  pub parents : (u v : ℕ) → IsTrue (has nodes v) → IsTrue (edge u v) → IsTrue (has met2 u)
+  pub fresh : (u : ℕ) → IsTrue (has met2 u) → IsTrue (has met u) ⊎ IsTrue (has found2 u)
+  pub kept : (u : ℕ) → IsTrue (has found u) → IsTrue (has found2 u)
+  pub source : (u : ℕ) → IsTrue (has found2 u) → IsTrue (has found u) ⊎ ((v : ℕ) × IsTrue (edge u v))
