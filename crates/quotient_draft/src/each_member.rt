@@ -1,5 +1,5 @@
 // The members of a block of a draft, one after another.
-ghost use Rattle.std.specs.Prelude.{◌≡◌, [], unwrap_or};
+ghost use Rattle.std.specs.Prelude.{[], unwrap_or};
 ghost use Rattle.std.specs.List.{filter};
 ghost use Rattle.px_spec.specs.Members.{Lists, at, is_this};
 ghost use Rattle.std.specs.Iterator.{YieldsFirst, item_count};

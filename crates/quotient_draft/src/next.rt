@@ -1,5 +1,5 @@
 // The next block that has support to a block as shown, and the next one to which it has support.
-ghost use Rattle.std.specs.Prelude.{◌≡◌, ◌&&◌, ◌||◌, ℕ, Bool, None, nat_eq, nat_le, nat_lt};
+ghost use Rattle.std.specs.Prelude.{◌≡◌, ◌&&◌, ◌||◌, ℕ, Bool, nat_eq, nat_le, nat_lt};
 ghost use Rattle.px_spec.specs.Members.{has};
 ghost use Rattle.bisim_spec.specs.Views.{support_at};
 ghost use Rattle.quotient_draft.specs.Drafts.{shown_support, with_supports};
