@@ -83,8 +83,9 @@ fn insert_led<G: Digraph>(g: &G, nodes: &[u32], set: &mut Bits)
     }
 }
 
-/// The children of the nodes whose label passes: any one, or the one with the number. Linear in the graph's size, and the edges
-/// that lead from those nodes. Each node is read once.
+/// The children of the nodes whose label passes: any one, or the one with the number. They are a set of numbers below the
+/// graph's size. `Memory` comes at want of memory alone. O(n + e) for n node numbers and the e edges that lead from those nodes;
+/// each node is read once. It takes a byte for each number, and 4 KiB.
 pub fn passing_children<G: Digraph>(alloc: Global, g: &G, test: Option<u32>) -> Result<Bits, Memory>
     ensures size { IfOk result (λ b. b.size ≡ G.span g.now) }
     ensures image { IfOk result (λ b. (c : ℕ) → IsTrue (has b.members c) ↔ ((v : ℕ) × Passes (G.label_at g.now) test v × IsTrue (G.edge g.now v c))) }
@@ -126,8 +127,9 @@ fn remove_led<G: Digraph>(g: &G, nodes: &[u32], set: &mut Bits)
     }
 }
 
-/// Takes the children of the nodes whose label passes out of a set of numbers below the graph's size. `Memory` comes at want of
-/// memory alone. Linear in the graph's size, and the edges that lead from those nodes; it takes a few KiB.
+/// Takes the children of the nodes whose label passes out of a set of numbers below the graph's size: any label, or the one with
+/// the number. `Memory` comes at want of memory alone. O(n + e) for n node numbers and the e edges that lead from those nodes;
+/// each node is read once. It takes 4 KiB.
 pub fn remove_passing_children<G: Digraph>(
     alloc: Global,
     g: &G,

@@ -74,7 +74,8 @@ fn insert_all(set: &mut Bits, list: &[u32])
     }
 }
 
-/// The nodes whose label has the number, or all nodes where none is given. Linear in the graph's size.
+/// The nodes whose label has the number, or all nodes where none is given. They are a set of numbers below the graph's size.
+/// `Memory` comes at want of memory alone. O(n) for n node numbers; it takes a byte for each, and 4 KiB.
 pub fn passing<G: Digraph>(alloc: Global, g: &G, test: Option<u32>) -> Result<Bits, Memory>
     ensures size { IfOk result (λ s. s.size ≡ G.span g.now) }
     ensures members { IfOk result (λ s. (n : ℕ) → IsTrue (has s.members n) ↔ Passes (G.label_at g.now) test n) }
@@ -91,8 +92,8 @@ pub fn passing<G: Digraph>(alloc: Global, g: &G, test: Option<u32>) -> Result<Bi
     Ok(set)
 }
 
-/// Takes the numbers out of a set that aren't those of nodes whose label has the number. Linear in the size of the set, and
-/// each member is read once; it takes no memory.
+/// Takes the numbers out of a set that aren't those of nodes whose label has the number. O(n) for a set of numbers below n, and
+/// each member's label is read once; it takes no memory.
 pub fn keep_labelled<G: Digraph>(g: &G, label: u32, set: &mut Bits)
     ensures size { set.new.size ≡ set.old.size }
     ensures members { (n : ℕ) → IsTrue (has set.new.members n) ↔ (IsTrue (has set.old.members n) × (G.label_at g.now n ≡ Some label)) }
