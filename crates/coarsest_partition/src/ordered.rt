@@ -24,11 +24,13 @@ struct Numbers {
     keys: KeyTable,
 }
 
-// How many parents of each node are still to come, and the nodes of which none is. It steers the order
-// alone: whether a node's parents have numbers is looked at before it gets one.
+// How many parents of each node are still to come, the place below which nodes were taken as they came, and
+// the nodes below it of which no parent is still to come. It steers the order alone: whether a node's parents
+// have numbers is looked at before it gets one.
 #[derive(Drop)]
 struct Order {
     left: Vec<u32>,
+    place: usize,
     ready: Vec<NodeId>,
 }
 
@@ -37,24 +39,44 @@ fn count_parents(order: &mut Order, view: &GraphView<'_>, n: NodeId) -> Result<(
     let count = if view.is_node(n) {
         u32::try_from(view.parents(n).len()).unwrap_or(u32::MAX)
     } else {
-        1
+        u32::MAX
     };
     order.left.push(count)?;
-    if count == 0 {
-        order.ready.push(n)?;
-    }
     Ok(())
 }
 
 fn first_order(alloc: Global, view: &GraphView<'_>) -> Result<Order, Memory> {
     let mut order = Order {
         left: Vec::with_capacity(alloc, view.size() as usize)?,
+        place: 0,
         ready: Vec::new(alloc),
     };
     for n in 0..view.size() {
         count_parents(&mut order, view, n)?;
     }
     Ok(order)
+}
+
+// The first place from one on of which no parent is still to come, and the length where there is none.
+fn first_due(left: &[u32], from: usize) -> usize {
+    let mut n = from;
+    'places: while n < left.len() && left[n] > 0 {
+        n += 1;
+    }
+    n
+}
+
+// The next node of which no parent is still to come: one that was passed, and else the first from the place on.
+fn next_ready(order: &mut Order) -> Option<NodeId> {
+    if let Some(n) = order.ready.pop() {
+        return Some(n);
+    }
+    let due = first_due(&order.left, order.place);
+    if due >= order.left.len() {
+        return None;
+    }
+    order.place = due + 1;
+    u32::try_from(due).ok()
 }
 
 // One parent of the node has come.
@@ -65,7 +87,7 @@ fn come(order: &mut Order, n: NodeId) -> Result<(), Memory> {
     }
     let left = order.left[n as usize].wrapping_sub(1);
     order.left[n as usize] = left;
-    if left == 0 {
+    if left == 0 && (n as usize) < order.place {
         order.ready.push(n)?;
     }
     Ok(())
@@ -120,8 +142,8 @@ fn no_numbers(alloc: Global, view: &GraphView<'_>) -> Result<Numbers, Memory>
     Ok(Numbers { block, keys })
 }
 
-// Numbers the nodes to which no cycle leads. The node that became ready last comes next, since what was
-// read for its parent is at hand.
+// Numbers the nodes to which no cycle leads. They are taken as they stand in the graph, so that its nodes are read
+// one after another, but for those that become ready once they were passed, which come next.
 fn number_ordered(alloc: Global, view: &GraphView<'_>) -> Result<Numbers, Memory>
     ensures ordered { IfOk result (λ n. IsOrdered view.now n.keys n.block.items) }
 {
@@ -129,7 +151,7 @@ fn number_ordered(alloc: Global, view: &GraphView<'_>) -> Result<Numbers, Memory
     let mut order = first_order(alloc, view)?;
     let mut key = Vec::new(alloc);
     'nodes: for _ in 0..view.size() {
-        let Some(n) = order.ready.pop() else {
+        let Some(n) = next_ready(&mut order) else {
             return Ok(numbers);
         };
         visit(&mut numbers, &mut order, &mut key, view, n)?;
