@@ -1,5 +1,5 @@
 -- The answers over the members of a set.
-use Rattle.std.proofs.Common.{◌≡◌, ℕ, List, [], ◌∷◌, refl, sym, ap, ◌∙◌, Option, Some, None, Bool, true, false, cond, true≢false, IsTrue}
+use Rattle.std.proofs.Common.{◌≡◌, ℕ, List, [], ◌∷◌, refl, sym, ap, ◌∙◌, Option, Some, None, Bool, true, false, cond, true≢false}
 use Rattle.std.specs.Prelude.{◌&&◌, slice_get, option_and_then, IsSome, is_some}
 use Rattle.px_spec.specs.Shapes.{Shape, shape_by}
 use Rattle.px_spec.specs.Walks.{Leads}

@@ -1,4 +1,4 @@
-use Rattle.std.proofs.Common.{◌≡◌, ◌<◌, ◌-◌, ℕ}
+use Rattle.std.proofs.Common.{◌<◌, ◌-◌, ℕ}
 use Rattle.path_search.specs.Searches.{label_in}
 use Rattle.path_search.specs.Rows.{IsSet}
 use Rattle.path_search.specs.Spreading.{Gathers, Passes}

@@ -1,6 +1,5 @@
-use Rattle.std.proofs.Common.{◌≡◌, ◌∙◌, ◌^◌, sym, ap, subst}
+use Rattle.std.proofs.Common.{◌∙◌, ◌^◌, sym, ap, subst}
 use Rattle.path_spec.specs.Longest.{longest}
-use Rattle.path_expr.specs.Capped.{capped, greatest_length}
 use Rattle.path_query.specs.Lengths.{IsBounded}
 use Rattle.path_query.proofs.Shortness.{uncapped}
 use Rattle.path_query.proofs.expr.PathExpr.longest.Goals as goal
