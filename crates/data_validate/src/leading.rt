@@ -113,9 +113,19 @@ fn goes_on(most: Option<u32>, edges: u32, nodes: &[NodeId]) -> bool
     is_further(most, edges)
 }
 
+/// How many rounds a search is reckoned to take: one for each edge, and at most four.
+fn reckoned_rounds(most: Option<u32>) -> u32
+    ensures { 0 < result }
+{
+    match most {
+        Some(edges) => edges.max(1).min(4),
+        None => 4,
+    }
+}
+
 /// The members of the set that are nodes, and the nodes from which at most so many edges lead to one of these, or any number of
 /// edges where no bound is given: a set of numbers below the graph's size. `None` where that seems to take more looks at nodes and edges
-/// than the graph's size over 32, so that little is lost then. `Memory` comes at want of memory alone. O(n + e + s), where n nodes are
+/// than the graph's size over 64, so that little is lost then. `Memory` comes at want of memory alone. O(n + e + s), where n nodes are
 /// found, e edges lead to them, and s is the greater of both sizes.
 pub(crate) fn ancestors<G: Digraph>(
     alloc: Global,
@@ -126,8 +136,8 @@ pub(crate) fn ancestors<G: Digraph>(
     ensures size { IfOk result (λ o. IfSome o (λ b. b.size ≡ G.span g.now)) }
     ensures leading { IfOk result (λ o. IfSome o (λ b. IsLeading (G.label_at g.now) (G.edge g.now) most set.now.members b.members)) }
 {
-    let mut left = g.size() / 32;
-    if set.count() > left / 2 {
+    let mut left = g.size() / 64;
+    if set.count() > left / 2 / reckoned_rounds(most) {
         return Ok(None);
     }
     let mut met = Bits::new(alloc, g.size())?;

@@ -5,7 +5,7 @@ use Rattle.data_validate.proofs.leading.ancestors.Given as goal
 abbrev pub invariant-rounds : goal.invariant-rounds
 invariant-rounds g l = record {
   size : l.met.size ≡ g.G.Digraph.span l.g;
-  looks : l.left + l.edges ≤ g.G.Digraph.span l.g / 32;
+  looks : l.left + l.edges ≤ g.G.Digraph.span l.g / 64;
   met : IsMet (g.G.Digraph.label_at l.g) (g.G.Digraph.edge l.g) l.set.members l.edges l.current.items l.met.members;
 }
 
