@@ -49,6 +49,38 @@ fn is_shown(base: &Summary, draft: &Draft, firsts: &[NodeId]) -> bool
     true
 }
 
+// Whether these are the only parent and the only child of a block as shown.
+fn are_beside(base: &Summary, draft: &Draft, parent: u32, b: u32, child: u32) -> bool {
+    draft.next_parent(base, b, 0) == Some(parent)
+        && draft
+            .next_parent(base, b, parent.saturating_add(1))
+            .is_none()
+        && draft.next_child(base, b, 0) == Some(child)
+        && draft.next_child(base, b, child.saturating_add(1)).is_none()
+}
+
+// Whether a block has just this member as shown.
+fn is_alone(base: &Summary, draft: &Draft, b: u32, n: NodeId) -> bool
+    requires over { IsOver base.now.blocks.block_of base.now.blocks.labels draft.now }
+{
+    let mut members = draft.members(base, b);
+    members.next() == Some(n) && members.next().is_none()
+}
+
+// Whether the first chain is one of blocks as shown, and its second node alone in its own.
+fn is_chain(base: &Summary, draft: &Draft) -> bool
+    requires over { IsOver base.now.blocks.block_of base.now.blocks.labels draft.now }
+{
+    let (Some(a), Some(b), Some(c)) = (
+        draft.block_of(base, 0),
+        draft.block_of(base, 1),
+        draft.block_of(base, 2),
+    ) else {
+        return false;
+    };
+    are_beside(base, draft, a, b, c) && is_alone(base, draft, b, 1)
+}
+
 // For each node the least one that is together with it: before the split, behind it, and behind the merge.
 type Firsts<'a> = [&'a [NodeId]; 3];
 
@@ -73,7 +105,7 @@ fn are_parted<L: Ledger>(
     let parted = is_shown(base, draft, firsts[1]);
     merge(alloc, base, draft, after, v, steps)?;
     let merged = is_shown(base, draft, firsts[2]);
-    Ok(before && parted && merged)
+    Ok(before && parted && merged && is_chain(base, draft))
 }
 
 // Whether the edge that the change brings does that.
