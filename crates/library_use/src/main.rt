@@ -8,7 +8,7 @@ ghost use Rattle.px_spec.specs.Shapes.{shape_of};
 ghost use Rattle.graph_load.specs.Loads.{Loads, loaded};
 ghost use Rattle.path_spec.specs.Trees.{Expr};
 ghost use Rattle.path_query.specs.Parsed.{Spells};
-ghost use Rattle.branch_query.specs.Queries.{path as path_of, AreQueryAnswers};
+ghost use Rattle.branch_query.specs.Queries.{path, AreQueryAnswers};
 ghost use Rattle.pathindex_core.specs.Engines.{engine_seen, graph_in, opened_of, IsSound};
 
 use full_engine::{EngineTask, with_full_engine};
@@ -17,7 +17,7 @@ use graph_update::Change;
 use index_api::Via;
 use label_graph::Graph;
 use path_query::PathExpr;
-use pathindex_core::Engine;
+use pathindex_core::{AskError, Engine};
 use px_base::{Bits, Limits, MemShelf, Steps, Text};
 use std::alloc::Global;
 use std::io;
@@ -57,17 +57,31 @@ fn link(alloc: Global, engine: &mut Engine, graph: Graph) -> Option<()>
 }
 
 /// The nodes to which the path leads. They are asked of the 1-index, and are those of the graph. None where there is no answer.
-fn ask<L: Ledger>(alloc: Global, engine: &mut Engine, path: &str, blank: Blank) -> Option<Bits>
+fn nodes_of(alloc: Global, engine: &mut Engine, text: &str) -> Option<Bits>
+    requires open { IsSome (opened_of engine.old.state) }
+    requires sound { IsSound (engine_seen (map (λ b. meaning (b.vtable, b.value)) engine.old.boxes.items) engine.old.state) }
+    ensures { IfSome result (λ nodes. (e : Expr) × Spells text.now e × AreQueryAnswers (shape_of (graph_in (opened_of engine.old.state))) (path e) nodes.members) }
+{
+    let expr = PathExpr::parse(alloc, text.as_bytes(), &Limits::program()).ok()?;
+    ask::<Brand>(alloc, engine, &expr, Blank::new(1)).ok()
+}
+
+/// What the engine answers, with a count of its steps.
+fn ask<L: Ledger>(
+    alloc: Global,
+    engine: &mut Engine,
+    expr: &PathExpr,
+    blank: Blank,
+) -> Result<Bits, AskError>
     requires open { IsSome (opened_of engine.old.state) }
     requires sound { IsSound (engine_seen (map (λ b. meaning (b.vtable, b.value)) engine.old.boxes.items) engine.old.state) }
     requires name { blank.name ≡ L.name }
     requires parts { blank.parts ≡ L.parts }
     requires some { 0 < blank.parts }
-    ensures { IfSome result (λ nodes. (e : Expr) × Spells path.now e × AreQueryAnswers (shape_of (graph_in (opened_of engine.old.state))) (path_of e) nodes.members) }
+    ensures { IfOk result (λ nodes. AreQueryAnswers (shape_of (graph_in (opened_of engine.old.state))) (path expr.now) nodes.members) }
 {
-    let expr = PathExpr::parse(alloc, path.as_bytes(), &Limits::program()).ok()?;
     let mut steps = Steps::<L>::new(blank);
-    Some(engine.path(alloc, Via::One, &expr, &mut steps).ok()?.nodes)
+    Ok(engine.path(alloc, Via::One, expr, &mut steps)?.nodes)
 }
 
 /// Where a path, the second text, leads in the graph of the triples, the first, once Bo knows Ana too.
@@ -85,7 +99,7 @@ impl EngineTask for Question<'_> {
     fn carry_out(self, alloc: Global, engine: &mut Engine) -> Option<Bits> {
         let graph = load_triples(alloc, self.0)?;
         link(alloc, engine, graph)?;
-        ask::<Brand>(alloc, engine, self.1, Blank::new(1))
+        nodes_of(alloc, engine, self.1)
     }
 }
 

@@ -41,8 +41,11 @@ fn first_beside(base: &Summary, draft: &Draft, n: NodeId) -> NodeId
 fn is_shown(base: &Summary, draft: &Draft, firsts: &[NodeId]) -> bool
     requires over { IsOver base.now.blocks.block_of base.now.blocks.labels draft.now }
 {
-    for n in 0..firsts.len() {
-        if first_beside(base, draft, n as u32) != firsts[n] {
+    for i in 0..firsts.len() {
+        let Ok(n) = u32::try_from(i) else {
+            return false;
+        };
+        if first_beside(base, draft, n) != firsts[i] {
             return false;
         }
     }

@@ -1,4 +1,4 @@
 use Rattle.core_tests.proofs.one_tests.is_built.Given as goal
 
 abbrev pub ghosts-builds : goal.ghosts-builds
-ghosts-builds g a = record { name = a.blank.name; parts = a.blank.parts }
+ghosts-builds a = record { name = a.blank.name; parts = a.blank.parts }
