@@ -5,14 +5,13 @@ branching query takes of the graph and through the forward and backward index. T
 
     bench_indexes.py [PROGRAM]
 
-PROGRAM is run in place of bin/pathindex. Times are the best of some turns, and differences of whole processes.
+PROGRAM is run in place of bin/pathindex. Times are processor times, the best of some turns, and differences of whole processes.
 """
 import os
 import pathlib
 import subprocess
 import sys
 import tempfile
-import time
 
 ROOT = pathlib.Path(__file__).resolve().parent.parent
 MAKE = ROOT / "tools" / "make_triples.py"
@@ -41,15 +40,13 @@ INDEXES = {
 
 
 def run(command):
-    """The seconds that the command takes, and its peak megabytes of memory."""
-    start = time.monotonic()
+    """The processor seconds that the command takes, and its peak megabytes of memory."""
     child = subprocess.Popen(command, stdout=subprocess.DEVNULL)
     _, status, usage = os.wait4(child.pid, 0)
-    seconds = time.monotonic() - start
     child.returncode = os.waitstatus_to_exitcode(status)
     if child.returncode != 0:
         sys.exit(f"bench_indexes.py: {command} ended with the status {child.returncode}")
-    return seconds, usage.ru_maxrss * 1024 / 1e6
+    return usage.ru_utime + usage.ru_stime, usage.ru_maxrss * 1024 / 1e6
 
 
 def best_of(commands, turns):

@@ -1,12 +1,13 @@
 #!/usr/bin/env python3
 """Has bin/pathindex change generated graphs, and prints what an update takes while only the A(k)-indexes are kept, and while only the
-1-index is. Then it prints what an update takes while a node with many parents loses some of them one by one, and what the run of a seed
+1-index is, and what one build of that index takes beside it. Then it prints what an update takes while a node with many parents loses some of them one by one, and what the run of a seed
 takes, with its 2,000 changes and 12 queries over all indexes. The gate doesn't run this.
 
     bench_updates.py [PROGRAM [PARENTS]]
 
 PROGRAM is run in place of bin/pathindex. PARENTS says how many parents that node has, 20,000 where it isn't given. The other updates are
-a node, two links from it and an unlink, in turn. Times are the best of some turns, less those of the same run without the updates.
+a node, two links from it and an unlink, in turn. Times are processor times, the best of some turns. That of the updates is less that
+of the same run without them, and that of a build less that of a run without the index; of the A(k)-indexes it is A(1) and A(2).
 """
 import os
 import pathlib
@@ -19,14 +20,16 @@ from bench_indexes import best_of
 
 ROOT = pathlib.Path(__file__).resolve().parent.parent
 MAKE = ROOT / "tools" / "make_triples.py"
-# triples, updates and turns; so many updates that their time stands out beside that of the load
-CASES = [(20_000, 2_000, 9), (200_000, 2_000, 7), (1_600_000, 20_000, 3)]
+# triples, updates and turns; of the largest graph also so many updates that their time stands out beside that of the load
+CASES = [(20_000, 2_000, 9), (200_000, 2_000, 7), (1_600_000, 2_000, 3), (1_600_000, 20_000, 3)]
 PARENTS = 20_000
 # of its parents the hub loses at most so many
 HUB_UPDATES = 5_000
 HUB_TURNS = 3
 # the parents of the hub have so many labels
 HUB_LABELS = 8
+# the program keeps A(0) in each run, where the script doesn't forget it
+LEAST = ["--k", "0", "--without-one", "--without-fb"]
 # the indexes that are kept, by the flags that the program is given and the first line of the script
 KEPT = {
     "A(0) to A(2)": (["--k", "2", "--without-one", "--without-fb"], ""),
@@ -45,7 +48,7 @@ def changes(nodes, updates):
 
 def node_count(program, script, graph):
     done = subprocess.run(
-        [program, script, "--graph", graph, "--k", "0", "--without-one", "--without-fb"], capture_output=True, text=True, check=True,
+        [program, script, "--graph", graph, *LEAST], capture_output=True, text=True, check=True,
     )
     return int(done.stdout.split()[1])
 
@@ -61,10 +64,15 @@ def measure(program, folder, graph, lines, turns, what):
     """Prints what each of these lines takes, which change the graph."""
     text = "".join(line + "\n" for line in lines)
     for name, (flags, first) in KEPT.items():
-        scripts = {"without": write(folder, "without", first), "with": write(folder, "with", first + text)}
-        taken = best_of({key: [program, script, "--graph", graph, *flags] for key, script in scripts.items()}, turns)
+        without, changed = write(folder, "without", first), write(folder, "with", first + text)
+        taken = best_of({
+            "load": [program, without, "--graph", graph, *LEAST],
+            "without": [program, without, "--graph", graph, *flags],
+            "with": [program, changed, "--graph", graph, *flags],
+        }, turns)
         each = (taken["with"][0] - taken["without"][0]) / len(lines)
-        print(f"{what}, {name:<12} {each * 1e6:>9.1f} microseconds an update", flush=True)
+        build = taken["without"][0] - taken["load"][0]
+        print(f"{what}, {name:<12} {each * 1e6:>9.1f} microseconds an update of {len(lines):,}; a build {build * 1e3:,.0f} ms", flush=True)
 
 
 def measure_made(program, folder, count, updates, turns):

@@ -26,7 +26,7 @@ pub enum Status {
 }
 
 /// Why a run broke off, in words for a person; `None` exactly where it didn't: what it wrote then tells
-/// how it ended.
+/// how it ended. O(1), no memory.
 pub fn break_reason(status: u8) -> Option<&'static str>
     ensures broken { IfSome result (λ reason. (5 ≤ status) × (status ≤ 7)) }
     ensures ended { IfNone result ((status < 5) ⊎ (7 < status)) }

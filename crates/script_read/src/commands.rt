@@ -101,7 +101,7 @@ fn parse_branch(alloc: Global, text: &[u8], limits: &Limits) -> Result<Branch, S
 /// The command that the line spells, which is one; None exactly for a blank or comment line. `Limit` comes exactly
 /// where the line asks with an expression that passes a limit, whether or not that is in the language; else `Bad`
 /// exactly where the line is neither a command nor blank nor a comment. `Memory` comes where memory runs out. The
-/// line is without its end. Linear in the line.
+/// line is without its end. O(m) for m bytes of the line, and at most O(m) bytes of memory.
 #[tactic(auto, using(crate::proofs::CommandLaws::reading_laws))]
 pub fn read(alloc: Global, line: &[u8], limits: &Limits) -> Result<Option<Command>, ScriptError>
     ensures reads { Reads limits.now line.now result }

@@ -1,9 +1,8 @@
 // Whole runs in memory, and the real files and output once each.
-use super::*;
-use crate::text_shelf::TextShelf;
 use ak_maintain::AkIndex;
 use index_api::PathIndex;
 use pathindex_core::Engine;
+use pathindex_run::{HostShelf, HostSink, run};
 use px_base::{MemShelf, MemSink, Memory, Shelf, Sink, Text};
 use std::alloc::Global;
 use std::fs;
@@ -366,13 +365,4 @@ fn read_first<H: Shelf>(shelf: &mut H, name: &str, buf: &mut [u8; 16]) -> Option
 fn standard_output_is_written(rt: HostRuntime) {
     let mut sink = HostSink::new(&rt);
     assert_eq!(rt; sink.write(b"x"), Ok(1));
-}
-
-#[test]
-fn texts_are_files_without_a_name(rt: HostRuntime) {
-    let mut shelf = TextShelf::new(b"script");
-    assert_eq!(rt; shelf.open("s"), Ok(false));
-    let mut buf = [0u8; 16];
-    assert_eq!(rt; read_first(&mut shelf, "", &mut buf), Some(6));
-    assert_eq!(rt; &buf[..6], b"script".as_slice());
 }
