@@ -13,7 +13,7 @@ use Rattle.bisim_spec.specs.Partitions.{IsPartition}
 use Rattle.bisim_spec.specs.Views.{ViewFits}
 use Rattle.bisim_spec.proofs.Bisimilar.{some_of, is_some_at}
 use Rattle.quotient.specs.Quotients.{AreSupports, Quotient, view_of}
-use Rattle.key_table.specs.Interning.{AreDistinct}
+use Rattle.key_table.specs.NumberedKeys.{AreDistinct}
 use Rattle.label_graph.specs.Views.{label_number}
 use Rattle.keyed_quotient.specs.Levels.{AreKeyed}
 use Rattle.ak_family.specs.Layers.{BlocksHaveLabels}

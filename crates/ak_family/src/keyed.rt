@@ -6,7 +6,7 @@ ghost use Rattle.label_graph.specs.Views.{label_number};
 ghost use Rattle.bisim_spec.specs.Partitions.{IsPartition};
 ghost use Rattle.bisim_spec.specs.Views.{ViewFits};
 ghost use Rattle.bisim_levels.specs.Refining.{AreBlocksBelow};
-ghost use Rattle.key_table.specs.Interning.{AreDistinct};
+ghost use Rattle.key_table.specs.NumberedKeys.{AreDistinct};
 ghost use Rattle.quotient.specs.Quotients.{view_of};
 ghost use Rattle.quotient.specs.Joined.{AreListed};
 ghost use Rattle.keyed_quotient.specs.Levels.{AreKeyed, key_at};

@@ -3,7 +3,7 @@ use Rattle.std.proofs.Common.{◌≡◌, ℕ, zero, suc, ◌+◌, ◌<◌, List,
 use Rattle.std.proofs.lemmas.Bool.{cases_lt}
 use Rattle.std.proofs.lemmas.Option.{slice_get_within, slice_get-get_or}
 use Rattle.std.proofs.lemmas.List.{get_or_push, get_or_append_left, get_or_past, length-append}
-use Rattle.key_table.specs.Interning.{AreDistinct, Interns}
+use Rattle.key_table.specs.NumberedKeys.{AreDistinct, Interns}
 use Rattle.px_spec.specs.Members.{at}
 use Rattle.bisim_spec.proofs.Bisimilar.{some_of, none_or_some, is_some_at}
 use Rattle.bisim_spec.proofs.Together.{block_below}

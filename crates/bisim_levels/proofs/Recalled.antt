@@ -3,7 +3,7 @@ use Rattle.std.proofs.Common.{◌≡◌, None, ℕ, zero, suc, arith, filter_map
 use Rattle.std.specs.List.{cons_option}
 use Rattle.std.proofs.Math.ListN.{replicate}
 use Rattle.px_spec.specs.Members.{has}
-use Rattle.key_table.specs.Interning.{Interns}
+use Rattle.key_table.specs.NumberedKeys.{Interns}
 use Rattle.bisim_levels.specs.declared.recent.Recent.{Recent}
 use Rattle.bisim_levels.specs.Recent.{AreRecent}
 use Rattle.bisim_levels.specs.Keys.{IsWritten}

@@ -1,6 +1,6 @@
 // Keys that came lately, found without a walk along a chain.
 ghost use Rattle.std.specs.Prelude.{◌≡◌, ℕ, List, Some, IfOk, IfSome, slice_get};
-ghost use Rattle.key_table.specs.Interning.{AreDistinct, Interns};
+ghost use Rattle.key_table.specs.NumberedKeys.{AreDistinct, Interns};
 ghost use Rattle.bisim_levels.specs.Recent.{AreRecent};
 
 use key_table::KeyTable;

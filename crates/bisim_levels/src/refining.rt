@@ -3,7 +3,7 @@ ghost use Rattle.std.specs.Prelude.{◌≡◌, ℕ, List, IsSome, IfOk, length, 
 ghost use Rattle.px_spec.specs.Graphs.{IsGraph};
 ghost use Rattle.px_spec.specs.Shapes.{shape_of};
 ghost use Rattle.label_graph.specs.Views.{label_number};
-ghost use Rattle.key_table.specs.Interning.{AreDistinct, Interns};
+ghost use Rattle.key_table.specs.NumberedKeys.{AreDistinct, Interns};
 ghost use Rattle.px_spec.specs.Members.{at};
 ghost use Rattle.bisim_spec.specs.Partitions.{IsPartition};
 ghost use Rattle.bisim_levels.specs.Sides.{is_near};

@@ -4,7 +4,7 @@ ghost use Rattle.std.specs.List.Retain.{IsFiltered, DiffersFromLast};
 ghost use Rattle.px_spec.specs.Graphs.{IsGraph};
 ghost use Rattle.px_spec.specs.Members.{Lists, at};
 ghost use Rattle.label_graph.specs.Views.{label_number};
-ghost use Rattle.key_table.specs.Interning.{AreDistinct, Interns};
+ghost use Rattle.key_table.specs.NumberedKeys.{AreDistinct, Interns};
 ghost use Rattle.bisim_levels.specs.Keys.{IsSetOf, IsWritten, IsKey};
 ghost use Rattle.bisim_levels.specs.Sides.{is_near};
 

@@ -10,7 +10,7 @@ use Rattle.px_spec.specs.Graphs.{Graph, IsGraph, label_of}
 use Rattle.px_spec.specs.Members.{Lists, at}
 use Rattle.px_spec.specs.Shapes.{IsNode, shape_of}
 use Rattle.label_graph.specs.Views.{label_number}
-use Rattle.key_table.specs.Interning.{AreDistinct, Interns}
+use Rattle.key_table.specs.NumberedKeys.{AreDistinct, Interns}
 use Rattle.bisim_spec.specs.Bisimilarity.{SameLabel, Bisim, Matched, node_count}
 use Rattle.bisim_spec.specs.Partitions.{Together, Agrees}
 use Rattle.bisim_spec.proofs.Bisimilar.{some_of, is_some_at, bis_sym, label_node, label_sym}

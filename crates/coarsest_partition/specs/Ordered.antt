@@ -5,7 +5,7 @@ use Rattle.px_spec.specs.Graphs.{Graph}
 use Rattle.px_spec.specs.Members.{at}
 use Rattle.px_spec.specs.Shapes.{shape_of}
 use Rattle.label_graph.specs.Views.{label_number}
-use Rattle.key_table.specs.Interning.{AreDistinct}
+use Rattle.key_table.specs.NumberedKeys.{AreDistinct}
 use Rattle.bisim_spec.specs.Bisimilarity.{Bisim}
 use Rattle.bisim_spec.specs.Partitions.{Together}
 use Rattle.bisim_levels.specs.declared.sides.Side.TheVariants.{Parents}

@@ -4,7 +4,7 @@ ghost use Rattle.std.specs.List.{list_all};
 ghost use Rattle.px_spec.specs.Graphs.{IsGraph};
 ghost use Rattle.px_spec.specs.Members.{at};
 ghost use Rattle.label_graph.specs.Views.{label_number};
-ghost use Rattle.key_table.specs.Interning.{AreDistinct, Interns};
+ghost use Rattle.key_table.specs.NumberedKeys.{AreDistinct, Interns};
 ghost use Rattle.bisim_levels.specs.Keys.{IsWritten};
 ghost use Rattle.coarsest_partition.specs.Ordered.{IsOrdered, IsReady};
 

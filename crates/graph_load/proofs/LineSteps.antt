@@ -6,7 +6,7 @@ use Rattle.std.proofs.Math.ListN.{drop_of_length-le}
 use Rattle.std.proofs.lemmas.List.{drop_more}
 use Rattle.px_base.specs.declared.lines.TheConstants.{LINE_BYTES, GRAPH_BYTES}
 use Rattle.px_base.specs.Files.{File, Finds}
-use Rattle.px_base.specs.Reading.{Reading, ReadsLine, IsFirst, IsOver, IsPast, stream, IsReadable as MayTake}
+use Rattle.px_base.specs.ReaderStates.{Reading, ReadsLine, IsFirst, IsOver, IsPast, stream, IsReadable as MayTake}
 use Rattle.px_spec.specs.Lines.{Line, cut}
 use Rattle.px_spec.specs.declared.limits.Limits.{Limits}
 use Rattle.triples_read.specs.Lines.{Spells, Empty}

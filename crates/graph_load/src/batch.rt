@@ -1,7 +1,7 @@
 // Triples are read in batches, looked up ahead together, and loaded.
 ghost use Rattle.std.specs.Prelude.{◌≡◌, ◌≢◌, ◌++◌, ◌∷◌, [], IfOk, IfErr, OnOk, IsErrOf, Err};
 ghost use Rattle.px_base.specs.Causes.{Rose};
-ghost use Rattle.px_base.specs.Reading.{stream};
+ghost use Rattle.px_base.specs.ReaderStates.{stream};
 ghost use Rattle.graph_load.specs.Hashed.{triple_of, hashed};
 ghost use Rattle.graph_load.specs.Loaders.{IsSoundLoader, IsTaken};
 ghost use Rattle.graph_load.specs.LoadSteps.{Says, CanRead, OnLines, Puts, Reads, IsNearer, AreLoaded, Stops, OneStops};

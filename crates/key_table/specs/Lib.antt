@@ -1,3 +1,3 @@
 pub mod Hashes
 pub mod Spans
-pub mod Interning
+pub mod NumberedKeys

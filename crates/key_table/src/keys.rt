@@ -2,7 +2,7 @@
 ghost use Rattle.std.specs.Prelude.{◌≡◌, ◌<◌, ◌^◌, ◌++◌, ◌∷◌, [], length, slice_get, Some, IfSome, IfNone, IfOk, OnOk, OnErr};
 ghost use Rattle.key_table.specs.Hashes.{hash_of};
 ghost use Rattle.key_table.specs.Spans.{keys_of, IsKeyTable};
-ghost use Rattle.key_table.specs.Interning.{IsAbsent, AreDistinct, Interns};
+ghost use Rattle.key_table.specs.NumberedKeys.{IsAbsent, AreDistinct, Interns};
 
 use crate::hashing::hash_key;
 use crate::spans::{Span, read_span, search};

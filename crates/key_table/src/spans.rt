@@ -2,7 +2,7 @@
 ghost use Rattle.std.specs.Prelude.{◌≡◌, ◌≢◌, ◌<◌, ◌≤◌, length, slice_get, Some, IfSome, IfNone, IsTrue, IsFalse};
 ghost use Rattle.key_table.specs.Hashes.{hash_of};
 ghost use Rattle.key_table.specs.Spans.{span_at, key_in, keys_of, IsKeyTable};
-ghost use Rattle.key_table.specs.Interning.{IsAbsent};
+ghost use Rattle.key_table.specs.NumberedKeys.{IsAbsent};
 
 use hash_index::HashIndex;
 

@@ -6,7 +6,7 @@ use Rattle.std.proofs.lemmas.Option.{slice_get_within}
 use Rattle.std.proofs.Math.Seq.{take-length}
 use Rattle.px_spec.specs.Members.{at}
 use Rattle.bisim_spec.proofs.Bisimilar.{some_of}
-use Rattle.key_table.specs.Interning.{AreDistinct, Interns}
+use Rattle.key_table.specs.NumberedKeys.{AreDistinct, Interns}
 use Rattle.keyed_quotient.specs.Levels.{key_at}
 use Rattle.keyed_quotient.specs.Numberings.{Numbering, numbered_key, block_keys, Leads, IsNumbering, Grows, Gives}
 use Rattle.keyed_quotient.specs.Compacting.{AreCarried, AreFew}

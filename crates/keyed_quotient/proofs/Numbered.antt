@@ -3,7 +3,7 @@ use Rattle.std.proofs.Common.{◌≡◌, ◌↔◌, ℕ, zero, suc, ◌+◌, ◌
 use Rattle.std.specs.Prelude.{option_and_then}
 use Rattle.px_spec.specs.Members.{at}
 use Rattle.bisim_spec.proofs.Bisimilar.{some_of}
-use Rattle.key_table.specs.Interning.{IsAbsent, AreDistinct}
+use Rattle.key_table.specs.NumberedKeys.{IsAbsent, AreDistinct}
 use Rattle.keyed_quotient.specs.Levels.{key_at, AreKeyed}
 use Rattle.keyed_quotient.specs.Numberings.{Numbering, numbered_key, keys_from, block_keys, Leads, IsNumbering}
 

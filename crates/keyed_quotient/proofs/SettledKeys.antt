@@ -8,7 +8,7 @@ use Rattle.std.proofs.lemmas.Map.Entries.{lookup_from_place, place_from_lookup}
 use Rattle.std.proofs.lemmas.Map.Keys.{IsDistinct-head, IsDistinct-tail}
 use Rattle.std.proofs.lemmas.Option.{slice_get_within}
 use Rattle.px_spec.specs.Members.{at}
-use Rattle.key_table.specs.Interning.{AreDistinct}
+use Rattle.key_table.specs.NumberedKeys.{AreDistinct}
 use Rattle.bisim_spec.proofs.Bisimilar.{some_of}
 use Rattle.quotient_draft.proofs.Written.{absent_key}
 use Rattle.quotient_draft.specs.Drafts.{has_member, inhabited_from}

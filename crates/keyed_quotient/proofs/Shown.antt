@@ -11,7 +11,7 @@ use Rattle.std.proofs.lemmas.Bool.Decides.{eqb_tells}
 use Rattle.px_spec.specs.Members.{at, has}
 use Rattle.block_partition.specs.Partitions.{put}
 use Rattle.bisim_spec.proofs.Bisimilar.{some_of}
-use Rattle.key_table.specs.Interning.{IsAbsent}
+use Rattle.key_table.specs.NumberedKeys.{IsAbsent}
 use Rattle.quotient_draft.specs.Drafts.{Drafted, with_added}
 use Rattle.quotient_draft.specs.Basis.{IsOver}
 use Rattle.quotient_draft.proofs.Puts.{at_put}

@@ -1,7 +1,7 @@
 -- How keys lead to blocks, and back.
 use Rattle.std.specs.Prelude.{ℕ, ◌≡◌, ◌≢◌, ◌+◌, ◌<◌, ◌≤◌, List, [], ◌∷◌, length, Option, None, Some, IsSome, is_some, option_and_then, cond, slice_get, slice_set}
 use Rattle.px_spec.specs.Members.{at}
-use Rattle.key_table.specs.Interning.{AreDistinct}
+use Rattle.key_table.specs.NumberedKeys.{AreDistinct}
 
 pub record Numbering : Type 0 where
   -- the keys, by their numbers

@@ -2,7 +2,7 @@
 ghost use Rattle.std.specs.Prelude.{◌≡◌, ◌+◌, ◌<◌, ◌≤◌, ◌^◌, ◌&&◌, ◌++◌, ◌∷◌, ◌↔◌, [], ℕ, List, Option, Some, None, IsSome, IsTrue, is_some, IfOk, OnOk, OnErr, IfSome, IfNone, nat_eq, if◌then◌else◌, count_by, length, slice_get};
 ghost use Rattle.std.specs.List.{IsDistinct};
 ghost use Rattle.std.specs.Map.{lookup, keys_of};
-ghost use Rattle.key_table.specs.Interning.{IsAbsent};
+ghost use Rattle.key_table.specs.NumberedKeys.{IsAbsent};
 ghost use Rattle.px_spec.specs.Members.{at, Lists};
 ghost use Rattle.px_spec.specs.Graphs.{is_live, has_edge};
 ghost use Rattle.px_spec.specs.Shapes.{shape_of};

@@ -1,6 +1,6 @@
 // Keys by number, with the block of each.
 ghost use Rattle.std.specs.Prelude.{◌≡◌, ◌+◌, ◌<◌, ◌≤◌, ◌++◌, ℕ, List, Some, IfOk, IfSome, IfNone, OnOk, length, slice_get, slice_set};
-ghost use Rattle.key_table.specs.Interning.{AreDistinct, IsAbsent, Interns};
+ghost use Rattle.key_table.specs.NumberedKeys.{AreDistinct, IsAbsent, Interns};
 ghost use Rattle.keyed_quotient.specs.Changes.{IsKnown};
 ghost use Rattle.keyed_quotient.specs.Numberings.{Leads, Grows, Gives};
 

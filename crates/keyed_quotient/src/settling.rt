@@ -1,7 +1,7 @@
 // Settling a draft in its base.
 ghost use Rattle.std.specs.Prelude.{◌≡◌, ◌<◌, ◌≤◌, ℕ, List, Some, OnOk, length, slice_get};
 ghost use Rattle.std.specs.List.{zip};
-ghost use Rattle.key_table.specs.Interning.{AreDistinct};
+ghost use Rattle.key_table.specs.NumberedKeys.{AreDistinct};
 ghost use Rattle.keyed_quotient.specs.Numberings.{Grows, AreApart, GivenBelow};
 ghost use Rattle.quotient.specs.Quotients.{view_of};
 ghost use Rattle.keyed_quotient.specs.Changes.{no_keyed_changes, blocks_as_shown, support_as_shown, IsKeyedOver, IsKnown, HasKeyRoom, IsSettled, AreInhabited, AreUnsupported};

@@ -3,7 +3,7 @@ use Rattle.std.proofs.Common.{◌≡◌, ℕ, ◌+◌, List, [], ◌∷◌, ◌+
 use Rattle.std.specs.Prelude.{slice_get, slice_index}
 use Rattle.std.proofs.lemmas.Bool.{cases_lt}
 use Rattle.std.proofs.lemmas.List.{get_or_push, get_or_append_left, length-append}
-use Rattle.key_table.specs.Interning.{Interns}
+use Rattle.key_table.specs.NumberedKeys.{Interns}
 use Rattle.px_spec.specs.Members.{at}
 use Rattle.bisim_levels.specs.Keys.{IsKey}
 use Rattle.bisim_levels.proofs.Numbering.{get_append, get_last}

@@ -5,7 +5,7 @@ use Rattle.std.specs.Io.KnownBytes.{Consumes, Keeps, prepend_known, IsAtEnd}
 use Rattle.std.proofs.KnownBytes.{Consumes-kept, Consumes-trans}
 use Rattle.px_base.specs.declared.line_end.LineEnd.TheVariants.{Feed, Return, ReturnFeed}
 use Rattle.px_base.specs.LineEnds.{IsWhole, IsStopped, TakesEnd, EndPasses}
-use Rattle.px_base.proofs.Gatherings.{consumes-part}
+use Rattle.px_base.proofs.GatheredParts.{consumes-part}
 use Rattle.px_base.proofs.Windows.{first-split}
 
 -- CR is ahead, and then what the window holds after it was filled

@@ -1,7 +1,7 @@
-pub mod Appending
 pub mod Ends
-pub mod Gatherings
+pub mod GatheredParts
 pub mod Places
 pub mod Shelves
-pub mod Taking
+pub mod TakenLines
 pub mod Windows
+pub mod WrittenFronts

@@ -5,7 +5,7 @@ use Rattle.std.proofs.lemmas.List.{drop-take, drop-drop, take-append-drop}
 use Rattle.std.proofs.lemmas.Bool.Decides.{nat_tests}
 use Rattle.px_spec.specs.Lines.{IsUncut}
 use Rattle.px_base.specs.LineEnds.{has_end, IsStopped}
-use Rattle.px_base.specs.Gathering.{TakesPart}
+use Rattle.px_base.specs.GatheredLines.{TakesPart}
 
 pub skip_range : (xs : List ℕ) (a b k : ℕ) → a + k ≤ b → take (b - (a + k)) (drop (a + k) xs) ≡ drop k (take (b - a) (drop a xs))
 skip_range xs a b k h =

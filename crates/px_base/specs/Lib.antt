@@ -1,7 +1,7 @@
 pub mod BitSets
 pub mod Causes
 pub mod Files
-pub mod Gathering
+pub mod GatheredLines
 pub mod InMemory
 pub mod LineEnds
-pub mod Reading
+pub mod ReaderStates

@@ -4,8 +4,8 @@ ghost use Rattle.std.specs.Io.KnownBytes.{prepend_known};
 ghost use Rattle.px_base.specs.Causes.{Rose};
 ghost use Rattle.px_base.specs.declared.lines.LineFault.TheVariants.{Fault, Memory as NoMemory};
 ghost use Rattle.px_base.specs.LineEnds.{has_end, IsAtStop};
-ghost use Rattle.px_base.specs.Gathering.{TakesPart, Overfills, Gathers, IsTooLong, GathersLine, IsLong};
-ghost use Rattle.px_base.specs.Reading.{Reading, stream, ReadsLine, Finishes, IsPast};
+ghost use Rattle.px_base.specs.GatheredLines.{TakesPart, Overfills, Gathers, IsTooLong, GathersLine, IsLong};
+ghost use Rattle.px_base.specs.ReaderStates.{Reading, stream, ReadsLine, Finishes, IsPast};
 
 use crate::line_end::{LineEnd, take_end};
 use crate::window::{self, Window, plain_len};
@@ -169,7 +169,7 @@ pub struct LineReader {
 
 impl Model for LineReader {
     ghost use Rattle.std.specs.Prelude.{◌≡◌, ◌≤◌, ◌+◌, ◌^◌, false};
-    ghost use Rattle.px_base.specs.Reading.{Reading};
+    ghost use Rattle.px_base.specs.ReaderStates.{Reading};
 
     ghost Value = { Reading };
 

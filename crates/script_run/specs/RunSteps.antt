@@ -2,7 +2,7 @@
 use Rattle.std.specs.Prelude.{◌≡◌, ℕ, ◌+◌, ◌++◌, Bool, true, false, List, ◌∷◌, IsTrue, ⊤, Option, None, Some}
 use Rattle.std.specs.Io.KnownBytes.{Appends}
 use Rattle.px_base.specs.declared.lines.TheConstants.{LINE_BYTES, SCRIPT_BYTES}
-use Rattle.px_base.specs.Reading.{Reading, IsFirst, IsOver}
+use Rattle.px_base.specs.ReaderStates.{Reading, IsFirst, IsOver}
 use Rattle.px_spec.specs.Lines.{Line, cut}
 use Rattle.script_run.specs.Rules.{Rules}
 use Rattle.script_run.specs.Texts.{bad_line}

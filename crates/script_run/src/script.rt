@@ -3,7 +3,7 @@ ghost use Rattle.std.specs.Prelude.{map, ◌≡◌, ◌≢◌, ◌<◌, ◌≤�
 ghost use Rattle.std.specs.Io.KnownBytes.{Appends};
 ghost use Rattle.px_base.specs.Causes.{Rose, HasCause};
 ghost use Rattle.px_base.specs.Files.{AppendsFront};
-ghost use Rattle.px_base.specs.Reading.{stream};
+ghost use Rattle.px_base.specs.ReaderStates.{stream};
 ghost use Rattle.pathindex_core.specs.Engines.{engine_seen};
 ghost use Rattle.script_run.specs.Rules.{rules_for};
 ghost use Rattle.script_run.specs.RunSteps.{progress, Goes, OnTaken, CanRead, Writes};

@@ -1,6 +1,6 @@
 use Rattle.std.proofs.Common.{[]}
 use Rattle.label_graph.specs.Views.{label_number}
-use Rattle.key_table.specs.Interning.{AreDistinct}
+use Rattle.key_table.specs.NumberedKeys.{AreDistinct}
 use Rattle.bisim_levels.specs.Sides.{no_neighbours}
 use Rattle.bisim_levels.specs.Recent.{own_number, AreRecent}
 use Rattle.bisim_levels.proofs.Numbering.{NumberedBelow}

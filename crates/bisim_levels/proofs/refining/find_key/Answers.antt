@@ -1,6 +1,6 @@
 use Rattle.std.proofs.Common.{◌∷◌, [], ℕ, List, refl}
 use Rattle.std.proofs.lemmas.Result.{IfOk-weaker}
-use Rattle.key_table.specs.Interning.{Interns}
+use Rattle.key_table.specs.NumberedKeys.{Interns}
 use Rattle.px_spec.specs.Members.{at}
 use Rattle.bisim_levels.specs.Keys.{IsWritten}
 use Rattle.bisim_levels.specs.Recent.{two_numbers}

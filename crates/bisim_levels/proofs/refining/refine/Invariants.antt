@@ -1,4 +1,4 @@
-use Rattle.key_table.specs.Interning.{AreDistinct}
+use Rattle.key_table.specs.NumberedKeys.{AreDistinct}
 use Rattle.px_spec.specs.Members.{at}
 use Rattle.bisim_levels.specs.Sides.{is_near}
 use Rattle.bisim_levels.specs.Recent.{two_numbers, AreRecent}

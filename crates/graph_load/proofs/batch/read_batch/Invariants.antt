@@ -1,6 +1,6 @@
 use Rattle.std.proofs.Common.{◌≡◌, ◌≤◌, ◌-◌}
 use Rattle.px_base.specs.declared.lines.TheConstants.{GRAPH_BYTES}
-use Rattle.px_base.specs.Reading.{stream}
+use Rattle.px_base.specs.ReaderStates.{stream}
 use Rattle.graph_load.specs.declared.batch.Next.TheVariants.{Lines}
 use Rattle.graph_load.specs.LoadSteps.{CanRead, Reads}
 use Rattle.graph_load.proofs.batch.read_batch.Given as goal

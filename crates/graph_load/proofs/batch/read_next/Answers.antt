@@ -1,4 +1,4 @@
-use Rattle.px_base.specs.Reading.{stream}
+use Rattle.px_base.specs.ReaderStates.{stream}
 use Rattle.graph_load.proofs.LineSteps.{reads_result}
 use Rattle.graph_load.proofs.batch.read_next.Goals as goal
 

@@ -1,5 +1,5 @@
 use Rattle.std.proofs.Common.{[], Ok, Err, ap, sym, refl, ◌∙◌, rules}
-use Rattle.px_base.specs.Reading.{Reading, stream}
+use Rattle.px_base.specs.ReaderStates.{Reading, stream}
 use Rattle.graph_load.specs.declared.batch.Next.TheVariants.{Lines, End, Syntax, Limit}
 use Rattle.graph_load.specs.Loads as outcome
 use Rattle.graph_load.specs.Loaders.{load_state}

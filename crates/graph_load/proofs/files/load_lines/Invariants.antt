@@ -1,6 +1,6 @@
 use Rattle.std.proofs.Common.{◌≡◌, ◌-◌, List, []}
 use Rattle.px_base.specs.declared.lines.TheConstants.{GRAPH_BYTES}
-use Rattle.px_base.specs.Reading.{stream}
+use Rattle.px_base.specs.ReaderStates.{stream}
 use Rattle.triples_read.specs.declared.term.Triple.{Triple}
 use Rattle.graph_load.specs.Loads.{Outcome, at_start}
 use Rattle.graph_load.specs.Loaders.{load_state, Holds, IsSoundLoader}

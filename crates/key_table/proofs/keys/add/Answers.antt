@@ -1,7 +1,7 @@
 use Rattle.std.proofs.Common.{◌≡◌, ◌+◌, ◌<◌, ◌^◌, ◌++◌, rules, length, arith}
 use Rattle.std.proofs.lemmas.List.{length-append}
 use Rattle.key_table.specs.declared.spans.Span.{Span}
-use Rattle.key_table.proofs.Spelled.{new_key, table_kept, table_pushed, keys_pushed, keys_left}
+use Rattle.key_table.proofs.DistinctKeys.{new_key, table_kept, table_pushed, keys_pushed, keys_left}
 use Rattle.key_table.proofs.keys.add.Goals as goal
 
 pub returns-clause-table : goal.returns-clause-table

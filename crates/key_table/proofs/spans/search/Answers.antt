@@ -1,4 +1,4 @@
-use Rattle.key_table.proofs.Spelled.{search_end}
+use Rattle.key_table.proofs.DistinctKeys.{search_end}
 use Rattle.key_table.proofs.spans.search.Goals as goal
 
 pub returns-clause-absent : goal.returns-clause-absent

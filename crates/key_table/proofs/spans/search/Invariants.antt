@@ -1,5 +1,5 @@
 use Rattle.hash_index.specs.Items.{count_to}
-use Rattle.key_table.proofs.Spelled.{IsKeySearch}
+use Rattle.key_table.proofs.DistinctKeys.{IsKeySearch}
 use Rattle.key_table.proofs.spans.search.Given as goal
 
 abbrev pub invariant-walk : goal.invariant-walk

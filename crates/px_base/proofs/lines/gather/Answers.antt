@@ -1,6 +1,6 @@
 use Rattle.std.proofs.Common.{◌∙◌, sym, rules, ◌≡◌, []}
 use Rattle.std.proofs.lemmas.Result.{err_from_is_err_and}
-use Rattle.px_base.proofs.Gatherings.{gathers-nothing, gathers-part, gathers-after, too-long, too-long-on, on-ok}
+use Rattle.px_base.proofs.GatheredParts.{gathers-nothing, gathers-part, gathers-after, too-long, too-long-on, on-ok}
 use Rattle.px_base.proofs.Windows.{end-part, ends-nowhere}
 use Rattle.px_base.proofs.lines.gather.Goals as goal
 

@@ -1,6 +1,6 @@
 use Rattle.std.proofs.Common.{◌∙◌, rules}
 use Rattle.std.proofs.lemmas.Result.{err_from_is_err_and}
-use Rattle.px_base.proofs.Gatherings.{gathers-part, gathers-kept, keeps-filled, too-long}
+use Rattle.px_base.proofs.GatheredParts.{gathers-part, gathers-kept, keeps-filled, too-long}
 use Rattle.px_base.proofs.lines.gather_more.Goals as goal
 
 pub returns-in_err-take_ahead-clause-limit : goal.returns-in_err-take_ahead-clause-limit

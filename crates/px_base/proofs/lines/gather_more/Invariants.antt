@@ -1,6 +1,6 @@
 use Rattle.std.proofs.Common.{◌-◌, length}
 use Rattle.std.specs.Io.KnownBytes.{prepend_known}
-use Rattle.px_base.proofs.Gatherings.{SoFar}
+use Rattle.px_base.proofs.GatheredParts.{SoFar}
 use Rattle.px_base.proofs.lines.gather_more.Given as goal
 
 abbrev pub invariant-loop-window : goal.invariant-loop-window

@@ -1,6 +1,6 @@
 use Rattle.std.proofs.Common.{◌≡◌, length, arith}
 use Rattle.std.proofs.lemmas.Result.{err_from_is_err_and}
-use Rattle.px_base.proofs.Taking.{took-line, long-text, long-end}
+use Rattle.px_base.proofs.TakenLines.{took-line, long-text, long-end}
 use Rattle.px_base.proofs.lines.take_line.Goals as goal
 
 pub returns-in_err-gather-clause-limit : goal.returns-in_err-gather-clause-limit

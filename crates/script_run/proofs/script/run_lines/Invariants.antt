@@ -1,6 +1,6 @@
 use Rattle.std.proofs.Common.{◌≡◌, ◌-◌, ◌≤◌, map}
 use Rattle.px_base.specs.declared.lines.TheConstants.{SCRIPT_BYTES}
-use Rattle.px_base.specs.Reading.{stream}
+use Rattle.px_base.specs.ReaderStates.{stream}
 use Rattle.pathindex_core.specs.Engines.{engine_seen}
 use Rattle.script_run.specs.EngineStates.{IsOpen, state_in}
 use Rattle.script_run.specs.Rules.{rules_for}

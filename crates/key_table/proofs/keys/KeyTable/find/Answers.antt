@@ -1,6 +1,6 @@
 use Rattle.std.proofs.Common.{subst}
-use Rattle.key_table.specs.Interning.{AreDistinct}
-use Rattle.key_table.proofs.Spelled.{distinct_keys}
+use Rattle.key_table.specs.NumberedKeys.{AreDistinct}
+use Rattle.key_table.proofs.DistinctKeys.{distinct_keys}
 use Rattle.key_table.proofs.keys.KeyTable.find.Goals as goal
 
 pub returns-clause-distinct : goal.returns-clause-distinct

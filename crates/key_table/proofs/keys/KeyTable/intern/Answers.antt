@@ -1,6 +1,6 @@
 use Rattle.std.proofs.Common.{subst}
-use Rattle.key_table.specs.Interning.{AreDistinct}
-use Rattle.key_table.proofs.Spelled.{distinct_keys}
+use Rattle.key_table.specs.NumberedKeys.{AreDistinct}
+use Rattle.key_table.proofs.DistinctKeys.{distinct_keys}
 use Rattle.key_table.proofs.keys.KeyTable.intern.Goals as goal
 
 pub returns-in-Some-clause-distinct : goal.returns-in-Some-clause-distinct

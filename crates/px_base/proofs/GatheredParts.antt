@@ -3,7 +3,7 @@ use Rattle.std.proofs.Common.{◌≡◌, ℕ, ◌≤◌, List, [], ◌++◌, len
 use Rattle.std.specs.Io.KnownBytes.{Consumes, Keeps, prepend_known}
 use Rattle.std.proofs.KnownBytes.{Consumes-nil, Consumes-kept, Consumes-trans}
 use Rattle.px_base.proofs.Windows.{plain-append}
-use Rattle.px_base.specs.Gathering.{TakesPart, Overfills, Gathers, IsTooLong}
+use Rattle.px_base.specs.GatheredLines.{TakesPart, Overfills, Gathers, IsTooLong}
 
 -- how far the line has come, where nothing is ahead and no call failed
 pub record SoFar {Files : Type 0} (room : ℕ) (line new window : List ℕ) (before after : Option (List ℕ)) (files_then files_now : Files) (faults_then faults_now : ℕ) (is_open : Bool) : Type 0 where

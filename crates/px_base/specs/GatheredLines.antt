@@ -4,7 +4,7 @@ use Rattle.std.specs.Io.KnownBytes.{Consumes}
 use Rattle.px_spec.specs.Lines.{Line, cut, IsUncut}
 use Rattle.px_base.specs.declared.line_end.LineEnd.{LineEnd}
 use Rattle.px_base.specs.LineEnds.{end_bytes, IsStopped}
-use Rattle.px_base.specs.Reading.{IsFirst, IsOver}
+use Rattle.px_base.specs.ReaderStates.{IsFirst, IsOver}
 
 -- What is ahead, up to the first LF or CR, or else all of it, went behind the line.
 pub record TakesPart (room : ℕ) (ahead line rest new : List ℕ) : Type 0 where

@@ -8,8 +8,8 @@ use Rattle.px_spec.proofs.LineLemmas.{cut-feed, cut-return-feed, cut-return, cut
 use Rattle.px_base.specs.declared.line_end.LineEnd.{LineEnd}
 use Rattle.px_base.specs.declared.line_end.LineEnd.TheVariants.{Feed, Return, ReturnFeed, Over}
 use Rattle.px_base.specs.LineEnds.{end_bytes, IsWhole, TakesEnd, EndPasses}
-use Rattle.px_base.specs.Gathering.{Gathers, IsTooLong, GathersLine, IsLong}
-use Rattle.px_base.specs.Reading.{Reading, IsFirst, IsPast, IsOver}
+use Rattle.px_base.specs.GatheredLines.{Gathers, IsTooLong, GathersLine, IsLong}
+use Rattle.px_base.specs.ReaderStates.{Reading, IsFirst, IsPast, IsOver}
 
 -- a text up to its first end is its first line
 cut-first : (text : List ℕ) (end : LineEnd) (rest : List ℕ) → IsUncut text → IsWhole end (Some rest) → 0 < length text + length (end_bytes end)

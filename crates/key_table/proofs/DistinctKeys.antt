@@ -8,7 +8,7 @@ use Rattle.hash_index.specs.Items.{Items, with_item, hash_at, count_to, IsNewest
 use Rattle.key_table.specs.declared.spans.Span.{Span}
 use Rattle.key_table.specs.Hashes.{hash_of}
 use Rattle.key_table.specs.Spans.{span_at, key_in, keys_of, IsKeyTable}
-use Rattle.key_table.specs.Interning.{IsAbsent, AreDistinct}
+use Rattle.key_table.specs.NumberedKeys.{IsAbsent, AreDistinct}
 
 -- the key of a number
 pub key_got : (arena : List ℕ) (spans : List Span) (i : ℕ) → i < length spans → slice_get (keys_of arena spans) i ≡ Some (key_in arena (span_at spans i))
