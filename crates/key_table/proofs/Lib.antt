@@ -1,1 +1,2 @@
 pub mod DistinctKeys
+pub mod RisingSets

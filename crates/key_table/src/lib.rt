@@ -4,8 +4,10 @@
 
 mod hashing;
 mod keys;
+mod sorted;
 mod spans;
 #[cfg(test)]
 mod tests;
 
 pub use keys::KeyTable;
+pub use sorted::sort_once;

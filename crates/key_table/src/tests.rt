@@ -47,3 +47,11 @@ fn many_keys_stay(rt: HostRuntime) -> Result<(), Fail> {
     assert_eq!(rt; table.find(&[99, 50]), None);
     Ok(())
 }
+
+#[test]
+fn numbers_stand_once(rt: HostRuntime) -> Result<(), Fail> {
+    let mut numbers = vec![in rt.alloc(); 3, 1, 3, 2, 1]?;
+    sort_once(&mut numbers);
+    assert_eq!(rt; &numbers[..], &[1, 2, 3][..]);
+    Ok(())
+}

@@ -1,0 +1,21 @@
+// Rising numbers, each once.
+ghost use Rattle.std.specs.Prelude.{◌≡◌, [], ℕ, nat_eq};
+ghost use Rattle.std.specs.List.Retain.{IsFiltered, DiffersFromLast};
+ghost use Rattle.std.specs.List.Sorted.{IsStrictlyIncreasing};
+ghost use Rattle.px_spec.specs.Members.{has};
+
+// Of numbers that follow one another and are equal only the first stays.
+fn drop_repeats(numbers: &mut Vec<u32>)
+    ensures { IsFiltered (DiffersFromLast nat_eq) [] numbers.old.items numbers.new.items }
+{
+    numbers.dedup();
+}
+
+/// Sorts the numbers, and keeps each once, as they stand in a key that is a set. O(m log m) for m numbers, no memory.
+pub fn sort_once(numbers: &mut Vec<u32>)
+    ensures rising { IsStrictlyIncreasing numbers.new.items }
+    ensures same { (n : ℕ) → has numbers.new.items n ≡ has numbers.old.items n }
+{
+    numbers.sort_unstable();
+    drop_repeats(numbers);
+}
