@@ -72,28 +72,28 @@ room-cases (suc zero) = inl (omega arith)
 room-cases (suc (suc n)) = inr (omega arith)
 
 -- a list in the segment itself, and one among the cells
-pub short-items : (cells : List ℕ) (s : Segment) → s.room < 2 → items_in cells s ≡ take s.len (s.at ∷ [])
+pub short-items : (cells : List ℕ) (s : Segment) → s.room < 2 → items_in cells s ≡ take s.len (s.first ∷ [])
 short-items cells s h =
     let e : nat_lt s.room 2 ≡ true = grind (arith, nat_tests) in
-    ap (λ b. if b then take s.len (s.at ∷ []) else take s.len (drop s.at cells)) e
+    ap (λ b. if b then take s.len (s.first ∷ []) else take s.len (drop s.first cells)) e
 
-pub long-items : (cells : List ℕ) (s : Segment) → 2 ≤ s.room → items_in cells s ≡ take s.len (drop s.at cells)
+pub long-items : (cells : List ℕ) (s : Segment) → 2 ≤ s.room → items_in cells s ≡ take s.len (drop s.first cells)
 long-items cells s h =
     let e : nat_lt s.room 2 ≡ false = grind (arith, nat_tests) in
-    ap (λ b. if b then take s.len (s.at ∷ []) else take s.len (drop s.at cells)) e
+    ap (λ b. if b then take s.len (s.first ∷ []) else take s.len (drop s.first cells)) e
 
 -- the length of a list
 pub items-length : (cells : List ℕ) (s : Segment) → LiesWithin (length cells) s → length (items_in cells s) ≡ s.len
 items-length cells s w = elim (room-cases s.room) [
-  | inl h ↦ omega (arith, ap length (short-items cells s h), length-take s.len (s.at ∷ []), w.fits)
-  | inr h ↦ omega (arith, ap length (long-items cells s h), length-take s.len (drop s.at cells), length-drop s.at cells, w.fits, w.ends h)
+  | inl h ↦ omega (arith, ap length (short-items cells s h), length-take s.len (s.first ∷ []), w.fits)
+  | inr h ↦ omega (arith, ap length (long-items cells s h), length-take s.len (drop s.first cells), length-drop s.first cells, w.fits, w.ends h)
 ]
 
 -- lists before cells that are put behind
 pub items-more : (cells new : List ℕ) (s : Segment) → Begins cells new → LiesWithin (length cells) s → items_in new s ≡ items_in cells s
 items-more cells new s (more, is) w = elim (room-cases s.room) [
   | inl h ↦ short-items new s h ∙ sym (short-items cells s h)
-  | inr h ↦ long-items new s h ∙ ap (λ l. take s.len (drop s.at l)) is ∙ part-more s.at s.len cells more (omega (arith, w.fits, w.ends h)) ∙ sym (long-items cells s h)
+  | inr h ↦ long-items new s h ∙ ap (λ l. take s.len (drop s.first l)) is ∙ part-more s.first s.len cells more (omega (arith, w.fits, w.ends h)) ∙ sym (long-items cells s h)
 ]
 
 pub longer : (cells new : List ℕ) → Begins cells new → length cells ≤ length new
@@ -129,18 +129,18 @@ writes-short cells s t h fits = record {
 }
 
 -- a list apart from the room in which a cell is written
-set-apart : (cells : List ℕ) (s u : Segment) (k v : ℕ) → LiesWithin (length cells) u → IsApart s u → 2 ≤ s.room → s.at ≤ k → k < s.at + s.room → items_in (set cells k v) u ≡ items_in cells u
+set-apart : (cells : List ℕ) (s u : Segment) (k v : ℕ) → LiesWithin (length cells) u → IsApart s u → 2 ≤ s.room → s.first ≤ k → k < s.first + s.room → items_in (set cells k v) u ≡ items_in cells u
 set-apart cells s u k v w a long low high = elim (room-cases u.room) [
   | inl h ↦ short-items (set cells k v) u h ∙ sym (short-items cells u h)
   | inr h ↦ long-items (set cells k v) u h ∙ elim (a long h) [
-    | inl e ↦ ap (take u.len) (drop-set-before u.at k cells v (omega (arith, e, high)))
-    | inr e ↦ part-set-after u.at u.len k cells v (omega (arith, w.fits, e, low))
+    | inl e ↦ ap (take u.len) (drop-set-before u.first k cells v (omega (arith, e, high)))
+    | inr e ↦ part-set-after u.first u.len k cells v (omega (arith, w.fits, e, low))
   ] ∙ sym (long-items cells u h)
 ]
 
 -- a cell of the room of a list is written, which then has another length
-pub writes-set : (cells : List ℕ) (s t : Segment) (k v : ℕ) → LiesWithin (length cells) s → 2 ≤ s.room → s.at ≤ k → k < s.at + s.room
-    → t.at ≡ s.at → t.room ≡ s.room → t.len ≤ s.room → Writes cells (set cells k v) s t
+pub writes-set : (cells : List ℕ) (s t : Segment) (k v : ℕ) → LiesWithin (length cells) s → 2 ≤ s.room → s.first ≤ k → k < s.first + s.room
+    → t.first ≡ s.first → t.room ≡ s.room → t.len ≤ s.room → Writes cells (set cells k v) s t
 writes-set cells s t k v w long low high at room len = record {
   within = record { fits = omega (arith, len, room); ends = λ l. omega (arith, w.ends long, at, room, length-set cells k v) };
   longer = omega (arith, length-set cells k v);
@@ -152,18 +152,18 @@ writes-set cells s t k v w long low high at room len = record {
 }
 
 -- a number is put behind the others of a list
-pub short-pushed : (cells : List ℕ) (s t : Segment) (v : ℕ) → s.room < 2 → s.len ≡ 0 → t.room ≡ s.room → t.at ≡ v → t.len ≡ 1 → items_in cells t ≡ items_in cells s ++ v ∷ []
+pub short-pushed : (cells : List ℕ) (s t : Segment) (v : ℕ) → s.room < 2 → s.len ≡ 0 → t.room ≡ s.room → t.first ≡ v → t.len ≡ 1 → items_in cells t ≡ items_in cells s ++ v ∷ []
 short-pushed cells s t v h none room at len =
-    short-items cells t (omega (arith, h, room)) ∙ ap (λ n. take n (t.at ∷ [])) len ∙ ap (λ n. n ∷ []) at
-    ∙ ap (λ l. l ++ v ∷ []) (sym (short-items cells s h ∙ ap (λ n. take n (s.at ∷ [])) none))
+    short-items cells t (omega (arith, h, room)) ∙ ap (λ n. take n (t.first ∷ [])) len ∙ ap (λ n. n ∷ []) at
+    ∙ ap (λ l. l ++ v ∷ []) (sym (short-items cells s h ∙ ap (λ n. take n (s.first ∷ [])) none))
 
-pub items-pushed : (cells : List ℕ) (s t : Segment) (v : ℕ) → LiesWithin (length cells) s → 2 ≤ s.room → s.len < s.room → t.at ≡ s.at → t.room ≡ s.room → t.len ≡ s.len + 1
-    → items_in (set cells (s.at + s.len) v) t ≡ items_in cells s ++ v ∷ []
+pub items-pushed : (cells : List ℕ) (s t : Segment) (v : ℕ) → LiesWithin (length cells) s → 2 ≤ s.room → s.len < s.room → t.first ≡ s.first → t.room ≡ s.room → t.len ≡ s.len + 1
+    → items_in (set cells (s.first + s.len) v) t ≡ items_in cells s ++ v ∷ []
 items-pushed cells s t v w long h at room len =
-    long-items (set cells (s.at + s.len) v) t (omega (arith, long, room))
-    ∙ ap (λ a. take t.len (drop a (set cells (s.at + s.len) v))) at
-    ∙ ap (take t.len) (drop-set s.at s.len (s.at + s.len) cells v refl)
-    ∙ take-next s.len t.len (drop s.at cells) v len (omega (arith, w.ends long, length-drop s.at cells))
+    long-items (set cells (s.first + s.len) v) t (omega (arith, long, room))
+    ∙ ap (λ a. take t.len (drop a (set cells (s.first + s.len) v))) at
+    ∙ ap (take t.len) (drop-set s.first s.len (s.first + s.len) cells v refl)
+    ∙ take-next s.len t.len (drop s.first cells) v len (omega (arith, w.ends long, length-drop s.first cells))
     ∙ ap (λ l. l ++ v ∷ []) (sym (long-items cells s long))
 
 get-nothing : (n k d : ℕ) → get_or (take n []) k d ≡ d
@@ -188,18 +188,18 @@ take-less (suc m) (suc n) [] h = refl
 take-less (suc m) (suc n) (x ∷ xs) h = ap (λ l. x ∷ l) (take-less m n xs (omega arith))
 
 -- the last number comes to another's place
-items-taken : (cells : List ℕ) (s t : Segment) (k d x : ℕ) → LiesWithin (length cells) s → 2 ≤ s.room → k < s.len → t.at ≡ s.at → t.room ≡ s.room → t.len ≡ s.len - 1
-    → x ≡ get_or cells (s.at + (s.len - 1)) d → items_in (set cells (s.at + k) x) t ≡ swap_remove (items_in cells s) k d
+items-taken : (cells : List ℕ) (s t : Segment) (k d x : ℕ) → LiesWithin (length cells) s → 2 ≤ s.room → k < s.len → t.first ≡ s.first → t.room ≡ s.room → t.len ≡ s.len - 1
+    → x ≡ get_or cells (s.first + (s.len - 1)) d → items_in (set cells (s.first + k) x) t ≡ swap_remove (items_in cells s) k d
 items-taken cells s t k d x w long h at room len is =
     let n = items-length cells s w in
     let e = long-items cells s long in
-    let ys = drop s.at cells in
+    let ys = drop s.first cells in
     let last : get_or (items_in cells s) (length (items_in cells s) - 1) d ≡ x =
     ap (λ m. get_or (items_in cells s) (m - 1) d) n ∙ ap (λ l. get_or l (s.len - 1) d) e
-    ∙ get-part s.at s.len (s.len - 1) (s.at + (s.len - 1)) cells d (omega arith) refl ∙ sym is in
-    long-items (set cells (s.at + k) x) t (omega (arith, long, room))
-    ∙ ap (λ a. take t.len (drop a (set cells (s.at + k) x))) at
-    ∙ ap (take t.len) (drop-set s.at k (s.at + k) cells x refl)
+    ∙ get-part s.first s.len (s.len - 1) (s.first + (s.len - 1)) cells d (omega arith) refl ∙ sym is in
+    long-items (set cells (s.first + k) x) t (omega (arith, long, room))
+    ∙ ap (λ a. take t.len (drop a (set cells (s.first + k) x))) at
+    ∙ ap (take t.len) (drop-set s.first k (s.first + k) cells x refl)
     ∙ sym (take-less t.len s.len (set ys k x) (omega (arith, len)))
     ∙ ap (take t.len) (take-set s.len k ys x h)
     ∙ ap (λ l. take t.len (set l k x)) (sym e)
@@ -211,13 +211,13 @@ module _ (cells : List ℕ) (s : Segment) (k n : ℕ) (w : LiesWithin (length ce
   pub place-within : k < s.len
   place-within = omega (arith, (position-Some (nat_eq n) (items_in cells s) k 0 at).0, items-length cells s w)
 
-  pub items-without : (t : Segment) (x : ℕ) → 2 ≤ s.room → IsDistinct nat_eq (items_in cells s) → t.at ≡ s.at → t.room ≡ s.room → t.len ≡ s.len - 1
-      → x ≡ get_or cells (s.at + (s.len - 1)) x → IsWithout (items_in cells s) (items_in (set cells (s.at + k) x) t) n
+  pub items-without : (t : Segment) (x : ℕ) → 2 ≤ s.room → IsDistinct nat_eq (items_in cells s) → t.first ≡ s.first → t.room ≡ s.room → t.len ≡ s.len - 1
+      → x ≡ get_or cells (s.first + (s.len - 1)) x → IsWithout (items_in cells s) (items_in (set cells (s.first + k) x) t) n
   items-without t x long once from room len is =
       let there = place-within in
       let d = get_or (items_in cells s) k 0 in
       taken (items_in cells s) _ n k d once at (get_or_default (items_in cells s) k 0 d (omega (arith, there, items-length cells s w)))
-      (items-taken cells s t k d x w long there from room len (is ∙ get_or_default cells (s.at + (s.len - 1)) x d (omega (arith, w.ends long, w.fits, there))))
+      (items-taken cells s t k d x w long there from room len (is ∙ get_or_default cells (s.first + (s.len - 1)) x d (omega (arith, w.ends long, w.fits, there))))
 
   -- the number of a list in a segment
   pub short-without : (t : Segment) → s.room < 2 → IsDistinct nat_eq (items_in cells s) → t.room ≡ s.room → t.len ≡ s.len - 1 → IsWithout (items_in cells s) (items_in cells t) n
@@ -226,6 +226,6 @@ module _ (cells : List ℕ) (s : Segment) (k n : ℕ) (w : LiesWithin (length ce
       let d = get_or (items_in cells s) k 0 in
       let one : s.len ≡ 1 = omega (arith, there, w.fits, h) in
       let nothing : t.len ≡ 0 = omega (arith, len, one) in
-      let none : items_in cells t ≡ [] = short-items cells t (omega (arith, h, room)) ∙ ap (λ m. take m (t.at ∷ [])) nothing in
+      let none : items_in cells t ≡ [] = short-items cells t (omega (arith, h, room)) ∙ ap (λ m. take m (t.first ∷ [])) nothing in
       taken (items_in cells s) _ n k d once at (get_or_default (items_in cells s) k 0 d (omega (arith, there, items-length cells s w)))
       (none ∙ ap (λ m. take (m - 1) (set (items_in cells s) k (get_or (items_in cells s) (length (items_in cells s) - 1) d))) (sym (items-length cells s w ∙ one)))

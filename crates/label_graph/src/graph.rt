@@ -44,7 +44,7 @@ impl Model for Graph {
 
 // Reading.
 impl Graph {
-    /// The labels that were ever seen, those of gone nodes too.
+    /// The labels that were ever seen, those of gone nodes too. O(1), no memory.
     pub fn labels(&self) -> &Labels
         ensures seen { result.now.texts ≡ self.now.graph.seen }
         ensures graph { IsGraph self.now.graph }
@@ -52,7 +52,7 @@ impl Graph {
         &self.labels
     }
 
-    /// Whether the number is that of a live node.
+    /// Whether the number is that of a live node. O(1), no memory.
     pub fn is_live(&self, n: NodeId) -> bool
         ensures live { result ≡ is_live self.now.graph n }
         ensures number { result ≡ is_some (label_number self.now.graph n) }
@@ -61,7 +61,7 @@ impl Graph {
         self.nodes.label(n).is_some()
     }
 
-    /// The number of a live node's label in `labels`.
+    /// The number of a live node's label in `labels`. O(1), no memory.
     pub fn label(&self, n: NodeId) -> u32
         requires live { IsTrue (is_live self.now.graph n) }
         ensures text { slice_get self.now.graph.seen result ≡ label_of self.now.graph n }
@@ -70,7 +70,7 @@ impl Graph {
         self.nodes.label(n).unwrap()
     }
 
-    /// How many node numbers were given, those of gone nodes too: at most 2^30.
+    /// How many node numbers were given, those of gone nodes too: at most 2^30. O(1), no memory.
     pub fn created(&self) -> u32
         ensures count { result ≡ length self.now.graph.given }
         ensures few { result ≤ 2 ^ 30 }
@@ -79,7 +79,7 @@ impl Graph {
         self.nodes.len() as u32
     }
 
-    /// How many nodes are live: at most 2^30.
+    /// How many nodes are live: at most 2^30. O(1), no memory.
     pub fn node_count(&self) -> u32
         ensures count { result ≡ live_count self.now.graph }
         ensures few { result ≤ 2 ^ 30 }
@@ -87,7 +87,7 @@ impl Graph {
         self.node_count
     }
 
-    /// How many edges there are: at most 2^30.
+    /// How many edges there are: at most 2^30. O(1), no memory.
     pub fn edge_count(&self) -> u32
         ensures count { result ≡ edge_count self.now.graph }
         ensures few { result ≤ 2 ^ 30 }
@@ -96,8 +96,8 @@ impl Graph {
         self.edge_count
     }
 
-    /// Whether an edge leads from `u` to `v`; numbers that aren't given have none. It is one step, and
-    /// its time is that of the shorter of two lists, `u`'s children and `v`'s parents.
+    /// Whether an edge leads from `u` to `v`; numbers that aren't given have none. It is one step. O(min(c, p))
+    /// for c children of `u` and p parents of `v`, no memory.
     pub fn has_edge<L: Ledger>(&self, u: NodeId, v: NodeId, steps: &mut Steps<L>) -> bool
         ensures edge { result ≡ has_edge self.now.graph u v }
         ensures cost { steps.new ≡ steps.old + 1 }
@@ -107,7 +107,7 @@ impl Graph {
     }
 
     /// The nodes from which an edge leads to this one, each once, in no stated order; none where the number
-    /// isn't that of a live node. It is one step, and one for each of them.
+    /// isn't that of a live node. It is one step, and one for each of them. O(1), no memory.
     pub fn parents<L: Ledger>(&self, n: NodeId, steps: &mut Steps<L>) -> &[NodeId]
         ensures parents { Lists (λ u. has_edge self.now.graph u n) result.now }
         ensures cost { steps.new ≡ steps.old + 1 + length result.now }
@@ -119,7 +119,7 @@ impl Graph {
     }
 
     /// The nodes to which an edge leads from this one, each once, in no stated order; none where the number
-    /// isn't that of a live node. It is one step, and one for each of them.
+    /// isn't that of a live node. It is one step, and one for each of them. O(1), no memory.
     pub fn children<L: Ledger>(&self, n: NodeId, steps: &mut Steps<L>) -> &[NodeId]
         ensures children { Lists (has_edge self.now.graph n) result.now }
         ensures cost { steps.new ≡ steps.old + 1 + length result.now }
@@ -130,8 +130,8 @@ impl Graph {
         children
     }
 
-    /// Whether no edge begins or ends at a node; numbers that aren't given have none. It is one step, and
-    /// takes constant time.
+    /// Whether no edge begins or ends at a node; numbers that aren't given have none. It is one step. O(1), no
+    /// memory.
     pub fn is_isolated<L: Ledger>(&self, n: NodeId, steps: &mut Steps<L>) -> bool
         ensures isolated { IsTrue result ↔ (is_used self.now.graph n ≡ false) }
         ensures cost { steps.new ≡ steps.old + 1 }
@@ -140,7 +140,7 @@ impl Graph {
         self.child_list(n).is_empty() && self.parent_list(n).is_empty()
     }
 
-    /// Some child of a node, and `None` exactly where it has none. It is one step, and takes constant time.
+    /// Some child of a node, and `None` exactly where it has none. It is one step. O(1), no memory.
     pub fn any_child<L: Ledger>(&self, n: NodeId, steps: &mut Steps<L>) -> Option<NodeId>
         ensures child { IfSome result (λ v. has_edge self.now.graph n v ≡ true) }
         ensures none { IfNone result ((v : ℕ) → has_edge self.now.graph n v ≡ false) }
@@ -150,7 +150,7 @@ impl Graph {
         self.child_list(n).last().copied()
     }
 
-    /// Some parent of a node, and `None` exactly where it has none. It is one step, and takes constant time.
+    /// Some parent of a node, and `None` exactly where it has none. It is one step. O(1), no memory.
     pub fn any_parent<L: Ledger>(&self, n: NodeId, steps: &mut Steps<L>) -> Option<NodeId>
         ensures parent { IfSome result (λ u. has_edge self.now.graph u n ≡ true) }
         ensures none { IfNone result ((u : ℕ) → has_edge self.now.graph u n ≡ false) }
@@ -160,9 +160,9 @@ impl Graph {
         self.parent_list(n).last().copied()
     }
 
-    /// The graph as queries and indexes read it. Reads of the view aren't counted, so it costs a step,
-    /// one for each live node and one for each edge. The label numbers of the view are those of
-    /// `labels`, and it shows the graph's shape.
+    /// The graph as queries and indexes read it. Reads of the view aren't counted, so it costs a step, one for
+    /// each live node and one for each edge. The label numbers of the view are those of `labels`, and it shows
+    /// the graph's shape. O(1), no memory.
     pub fn view<L: Ledger>(&self, steps: &mut Steps<L>) -> GraphView<'_>
         ensures view { result ≡ self.now.graph }
         ensures cost { steps.new ≡ steps.old + 1 + live_count self.now.graph + edge_count self.now.graph }
@@ -195,7 +195,7 @@ impl Graph {
 
 // Room for one addition, and the additions.
 impl Graph {
-    /// A graph with no nodes. It takes no memory until something is added.
+    /// A graph with no nodes. It takes no memory until something is added. O(1).
     pub fn new(alloc: Global) -> Result<Graph, Memory>
         ensures { IfOk result (λ g. g ≡ record { graph = empty_graph; room = no_room }) }
     {
@@ -208,8 +208,9 @@ impl Graph {
         })
     }
 
-    /// Makes room for a node with that label, in place of the room that there was. Where memory runs out
-    /// that room stays.
+    /// Makes room for a node with that label, in place of the room that there was. Where memory runs out that
+    /// room stays. Expected O(b) for a label of b bytes, spread over all nodes. A node takes 32 bytes, and a
+    /// label that is new its text and its entry in the table.
     pub fn reserve_node(&mut self, alloc: Global, label: &Text) -> Result<(), Memory>
         ensures graph { self.new.graph ≡ self.old.graph }
         ensures ok { OnOk result (self.new.room ≡ label_room label.now) }
@@ -221,8 +222,9 @@ impl Graph {
         Ok(())
     }
 
-    /// Makes room for an edge between live nodes, in place of the room that there was. Where
-    /// memory runs out that room stays.
+    /// Makes room for an edge between live nodes, in place of the room that there was. Where memory runs out
+    /// that room stays. O(1), spread over all edges. An edge takes none to 32 bytes: a node's first child and
+    /// its first parent lie in the node, and each other takes 4 to 16.
     pub fn reserve_edge(&mut self, u: NodeId, v: NodeId) -> Result<(), Memory>
         requires from { IsTrue (is_live self.old.graph u) }
         requires onto { IsTrue (is_live self.old.graph v) }
@@ -236,7 +238,7 @@ impl Graph {
         Ok(())
     }
 
-    /// Adds the node for which there is room, and gives its number, the next one.
+    /// Adds the node for which there is room, and gives its number, the next one. O(1), no memory.
     pub fn add_node(&mut self) -> NodeId
         requires room { (t : List ℕ) × (self.old.room ≡ label_room t) }
         requires few { length self.old.graph.given < 2 ^ 30 }
@@ -254,7 +256,7 @@ impl Graph {
         added
     }
 
-    /// Adds the edge for which there is room, and which isn't there yet.
+    /// Adds the edge for which there is room, and which isn't there yet. O(1), no memory.
     pub fn add_edge(&mut self, u: NodeId, v: NodeId)
         requires room { self.old.room ≡ pair_room u v }
         requires absent { has_edge self.old.graph u v ≡ false }
@@ -269,8 +271,8 @@ impl Graph {
 
 // The removals.
 impl Graph {
-    /// Takes away an edge that is there, and any room. It takes no memory, and its time is that of
-    /// one scan of `u`'s children and one of `v`'s parents, whose order may change.
+    /// Takes away an edge that is there, and any room. The order of `u`'s children and of `v`'s parents may
+    /// change. O(c + p) for c children of `u` and p parents of `v`, no memory.
     pub fn remove_edge(&mut self, u: NodeId, v: NodeId)
         requires present { has_edge self.old.graph u v ≡ true }
         ensures { self.new ≡ record { graph = without_edge self.old.graph u v; room = no_room } }
@@ -281,8 +283,8 @@ impl Graph {
         self.room = Reserved::Nothing;
     }
 
-    /// Takes away a live node at which no edge begins or ends, and any room. Its number is never
-    /// given again, and its label stays among those seen. It takes no memory, and constant time.
+    /// Takes away a live node at which no edge begins or ends, and any room. Its number is never given again,
+    /// and its label stays among those seen. O(1), no memory.
     pub fn remove_node(&mut self, u: NodeId)
         requires live { IsTrue (is_live self.old.graph u) }
         requires unused { is_used self.old.graph u ≡ false }

@@ -49,7 +49,7 @@ impl Labels {
         }
     }
 
-    /// How many labels were seen.
+    /// How many labels were seen. O(1), no memory.
     pub fn len(&self) -> u32
         ensures count { result ≡ length self.now.texts }
         ensures distinct { IsDistinct bytes_eq self.now.texts }
@@ -57,7 +57,7 @@ impl Labels {
         self.shown as u32
     }
 
-    /// The text of a label, by its number.
+    /// The text of a label, by its number. O(1), no memory.
     pub fn text(&self, l: u32) -> &Text
         requires { l < length self.now.texts }
         ensures { slice_get self.now.texts l ≡ Some result.now }
@@ -65,7 +65,8 @@ impl Labels {
         &self.table.as_slice()[l as usize]
     }
 
-    /// The number of the label, and `None` exactly where the text is no label. It is found by hash.
+    /// The number of the label, and `None` exactly where the text is no label. Expected O(b) for a text of b
+    /// bytes, no memory.
     pub fn find(&self, t: &Text) -> Option<u32>
         ensures place { result ≡ position (bytes_eq t.now) self.now.texts }
         ensures distinct { IsDistinct bytes_eq self.now.texts }

@@ -14,11 +14,12 @@ const PIECE: usize = 256;
 /// How many cells there are at most.
 const MOST_CELLS: usize = 0xFFFF_FFFF;
 
-/// A list: how many numbers it has, for how many it has room, and at which of the cells it begins. Where there is room
-/// for one number alone it takes no cell, and `at` is that number. So a list takes 12 bytes; by an enum it would take 16.
+/// A list: how many numbers it has, for how many it has room, and where it begins. `first` is the place of its first cell.
+/// Where there is room for one number alone the list takes no cell, and `first` is that number. So a list takes 12 bytes; by
+/// an enum it would take 16.
 #[derive(Clone, Copy)]
 pub(crate) struct Segment {
-    pub(crate) at: u32,
+    pub(crate) first: u32,
     pub(crate) len: u32,
     pub(crate) room: u32,
 }
@@ -33,7 +34,7 @@ fn is_short(segment: &Segment) -> bool
 
 /// A list without numbers, and with room for one.
 pub(crate) const EMPTY: Segment = Segment {
-    at: 0,
+    first: 0,
     len: 0,
     room: 1,
 };
@@ -46,9 +47,9 @@ pub(crate) fn items<'a>(cells: &'a [u32], segment: &'a Segment) -> &'a [u32]
 {
     let len = segment.len as usize;
     if is_short(segment) {
-        return &from_ref(&segment.at)[..len];
+        return &from_ref(&segment.first)[..len];
     }
-    let from = segment.at as usize;
+    let from = segment.first as usize;
     &cells[from..from + len]
 }
 
@@ -84,10 +85,10 @@ fn put_behind(cells: &mut Vec<u32>, segment: Segment) -> Result<(), Memory>
 {
     let len = segment.len as usize;
     if is_short(&segment) {
-        cells.extend_from_slice(&from_ref(&segment.at)[..len])?;
+        cells.extend_from_slice(&from_ref(&segment.first)[..len])?;
         return Ok(());
     }
-    let start = segment.at as usize;
+    let start = segment.first as usize;
     cells.extend_from_within(start..start + len)?;
     Ok(())
 }
@@ -107,7 +108,7 @@ fn moved(cells: &mut Vec<u32>, segment: Segment) -> Result<Segment, Memory>
     put_behind(cells, segment)?;
     cells.resize(at + room, 0)?;
     Ok(Segment {
-        at: at as u32,
+        first: at as u32,
         len: segment.len,
         room: room as u32,
     })
@@ -122,9 +123,9 @@ pub(crate) fn push(cells: &mut Vec<u32>, segment: &mut Segment, n: u32)
     ensures items { items_in cells.new.items segment.new ≡ items_in cells.old.items segment.old ++ n ∷ [] }
 {
     if is_short(segment) {
-        segment.at = n;
+        segment.first = n;
     } else {
-        cells[segment.at as usize + segment.len as usize] = n;
+        cells[segment.first as usize + segment.len as usize] = n;
     }
     segment.len += 1;
 }
@@ -136,28 +137,28 @@ pub(crate) fn take_out(cells: &mut Vec<u32>, segment: &mut Segment, n: u32)
     ensures writes { Writes cells.old.items cells.new.items segment.old segment.new }
     ensures without { IsWithout (items_in cells.old.items segment.old) (items_in cells.new.items segment.new) n }
 {
-    let Some(place) = place_of(items(cells, segment), n) else {
+    let Some(place) = position_of(items(cells, segment), n) else {
         return;
     };
     segment.len -= 1;
     if is_short(segment) {
         return;
     }
-    let from = segment.at as usize;
+    let from = segment.first as usize;
     cells[from + place] = cells[from + segment.len as usize];
 }
 
 // The first place at which the number stands.
-fn place_of(list: &[u32], n: u32) -> Option<usize>
+fn position_of(list: &[u32], n: u32) -> Option<usize>
     ensures { result ≡ position (nat_eq n) list.now }
 {
     let front = front_without(list, n);
-    let at = place_near(&list[front..], n)?;
+    let at = position_near(&list[front..], n)?;
     Some(front + at)
 }
 
 // The same, number by number.
-fn place_near(list: &[u32], n: u32) -> Option<usize>
+fn position_near(list: &[u32], n: u32) -> Option<usize>
     ensures { result ≡ position (nat_eq n) list.now }
 {
     list.iter().position(|m| n == *m)
