@@ -11,12 +11,13 @@ use px_base::{Limits, NodeId, Refusal, Steps, Text};
 use std::marker::Brand;
 use std::sync::ledger::{Blank, Ledger};
 
-/// Whether a change is accepted, and if so, whether the graph changes: not where an edge is linked
-/// that is there already, which is accepted at the limits too. A refusal is the first of these that
-/// holds: `NoNode` exactly where a node that the change names isn't live; then `InUse` exactly where
-/// a node to be dropped has an edge, `NoEdge` exactly where an edge to be unlinked isn't present, and
-/// `Limit` exactly where the change needs one more of what is at its limit. It takes no memory, and
-/// the time of finding a label or an edge.
+/// Whether a change is accepted, and if so, whether the graph changes: not where an edge is linked that is
+/// there already, which is accepted at the limits too. A refusal is the first of these that holds: `NoNode`
+/// exactly where a node that the change names isn't live; then `InUse` exactly where a node to be dropped has
+/// an edge, `NoEdge` exactly where an edge to be unlinked isn't present, and `Limit` exactly where the change
+/// needs one more of what is at its limit. Expected O(b) for a node whose label has b bytes, O(min(c, p)) for
+/// an edge that leads from a node with c children to one with p parents, and O(1) for a node to be dropped; no
+/// memory.
 pub fn judge(graph: &Graph, change: &Change, limits: &Limits) -> Result<Verdict, Refusal>
     ensures judges { Judges (change_of change.now) graph.now.graph limits.now result }
     ensures new { result ≡ Ok Verdict.New → IsNew (change_of change.now) graph.now.graph }

@@ -42,7 +42,7 @@ impl<'a> Model for After<'a> {
 }
 
 impl<'a> After<'a> {
-    /// The graph after a change that `judge` accepts as new within some limits.
+    /// The graph after a change that `judge` accepts as new within some limits. O(1), no memory.
     pub fn new(graph: &'a Graph, change: &'a Change) -> After<'a>
         requires new { IsNew (change_of change.now) graph.now.graph }
         ensures pending { result ≡ record { before = graph.now.graph; change = change_of change.now } }
@@ -57,7 +57,7 @@ impl<'a> After<'a> {
         }
     }
 
-    /// Whether the number is that of a live node.
+    /// Whether the number is that of a live node. O(1), no memory.
     pub fn is_live(&self, n: NodeId) -> bool
         ensures { result ≡ is_live (graph_after self.now) n }
     {
@@ -68,8 +68,9 @@ impl<'a> After<'a> {
         }
     }
 
-    /// The number of a live node's label. A label that is not seen yet has the next number, the count
-    /// of the labels.
+    /// The number of a live node's label. A label that is not seen yet has the next number, the count of the
+    /// labels. O(1), but expected O(b) for the node that the change adds, where its label has b bytes; no
+    /// memory.
     pub fn label(&self, n: NodeId) -> u32
         requires live { IsTrue (is_live (graph_after self.now) n) }
         ensures text { slice_get (graph_after self.now).seen result ≡ label_of (graph_after self.now) n }
@@ -109,7 +110,8 @@ impl<'a> After<'a> {
 
     /// The nodes from which an edge leads to this one, each once, in no stated order; none where the number
     /// isn't that of a live node. It is one step, one for each of them, and one for the edge to the node that
-    /// the change takes away.
+    /// the change takes away. O(1), but O(p) where the change takes away an edge to a node that has p parents;
+    /// no memory.
     pub fn parents<L: Ledger>(&self, n: NodeId, steps: &mut Steps<L>) -> Neighbours<'_>
         ensures parents { Lists (λ u. has_edge (graph_after self.now) u n) result }
         ensures cost { steps.new ≡ steps.old + 1 + length result + lost_onto (lost_edge self.now.change) n }
@@ -128,7 +130,8 @@ impl<'a> After<'a> {
 
     /// The nodes to which an edge leads from this one, each once, in no stated order; none where the number
     /// isn't that of a live node. It is one step, one for each of them, and one for the edge from the node that
-    /// the change takes away.
+    /// the change takes away. O(1), but O(c) where the change takes away an edge from a node that has c
+    /// children; no memory.
     pub fn children<L: Ledger>(&self, n: NodeId, steps: &mut Steps<L>) -> Neighbours<'_>
         ensures children { Lists (has_edge (graph_after self.now) n) result }
         ensures cost { steps.new ≡ steps.old + 1 + length result + lost_from (lost_edge self.now.change) n }

@@ -37,9 +37,10 @@ impl Model for Staged {
     ghost view = { λ s. s.plan };
 }
 
-/// Takes all the memory that a change needs, which `judge` accepts as new within some limits. The
-/// graph stays as it is seen, and on want of memory its room does too. The time is that of adding
-/// an entry to a table, once it has grown.
+/// Takes all the memory that a change needs, which `judge` accepts as new within some limits. The graph stays
+/// as it is seen, and on want of memory its room does too. For a node expected O(b) where its label has b
+/// bytes, and for an edge O(1), each spread over all that are added, with the memory that `Graph` takes for
+/// them; else O(1), no memory.
 pub fn stage(alloc: Global, graph: &mut Graph, change: &Change) -> Result<Staged, Memory>
     requires new { IsNew (change_of change.now) graph.old.graph }
     ensures graph { graph.new.graph ≡ graph.old.graph }
@@ -61,8 +62,9 @@ pub fn stage(alloc: Global, graph: &mut Graph, change: &Change) -> Result<Staged
     Ok(Staged { plan })
 }
 
-/// Makes a change that is staged in the graph, which is as `stage` left it, and leaves the graph with
-/// no room. It can't fail and takes no memory.
+/// Makes a change that is staged in the graph, which is as `stage` left it, and leaves the graph with no room.
+/// It can't fail. O(1), but O(c + p) for an edge that is taken away from a node with c children to one with p
+/// parents; no memory.
 pub fn commit(graph: &mut Graph, staged: Staged) -> Applied
     requires staged { (c : change.Change) × IsStaged c graph.old staged × IsNew c graph.old.graph }
     ensures made { (c : change.Change) → IsStaged c graph.old staged → graph.new ≡ record { graph = after c graph.old.graph; room = no_room } }

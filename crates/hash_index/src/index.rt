@@ -35,7 +35,7 @@ impl<T: Copy> Model for HashIndex<T> {
 }
 
 impl<T: Copy> HashIndex<T> {
-    /// An index without items.
+    /// An index without items. O(1), and 64 bytes of memory.
     pub fn new(alloc: Global) -> Result<HashIndex<T>, Memory>
         ensures { IfOk result (λ x. x ≡ no_items) }
     {

@@ -30,7 +30,7 @@ impl Model for Bits {
 }
 
 impl Bits {
-    /// The empty set below `size`, which is any number.
+    /// The empty set below `size`, which is any number. O(size), and a byte for each number below the size.
     pub fn new(alloc: Global, size: u32) -> Result<Bits, Memory>
         ensures { IfOk result (λ b. b ≡ record { size = size; members = [] }) }
     {
@@ -65,8 +65,8 @@ impl Bits {
         self.count
     }
 
-    /// The least member that is at least `n`, if there is one. It looks at each number from `n` up
-    /// to that member.
+    /// The least member that is at least `n`, if there is one. O(d) for the d numbers from `n` up to that
+    /// member, or up to the size where there is none; no memory.
     pub fn next_from(&self, n: u32) -> Option<u32>
         ensures next { MatchOption result ((m : ℕ) → n ≤ m → has self.now.members m ≡ false) (λ m. IsNext self.now.members n m) }
         ensures head { result ≡ slice_get (filter (λ m. nat_le n m) self.now.members) 0 }

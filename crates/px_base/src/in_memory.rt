@@ -46,8 +46,9 @@ impl Model for MemShelf {
 impl MemShelf {
     /// These files by name, none of them open. Of several of one name the first counts.
     ///
-    /// One read moves at most `piece` bytes, which is 1 or more. The calls of `open` and `read` are
-    /// numbered together from 1 on, and exactly those fail whose numbers are listed in `failing`.
+    /// One read moves at most `piece` bytes, which is 1 or more. The calls of `open` and `read` are numbered
+    /// together from 1 on, and exactly those fail whose numbers are listed in `failing`. O(1), no memory beside
+    /// what it is given.
     pub fn new(files: Vec<(Text, Vec<u8>)>, piece: u32, failing: Vec<u32>) -> MemShelf
         requires { 1 ≤ piece }
         ensures { result ≡ record { files = map file_of files.items; left = None; piece = piece; failing = failing.items; calls = 0; faults = 0 } }
@@ -174,9 +175,9 @@ impl Model for MemSink {
 impl MemSink {
     /// A sink to which nothing was written, with room for so many bytes in all.
     ///
-    /// One call writes at most `piece` bytes, which is 1 or more. Calls are numbered from 1 on, and
-    /// exactly those fail whose numbers are listed in `failing`, or that find no room left. All the
-    /// memory is taken here: a write takes none.
+    /// One call writes at most `piece` bytes, which is 1 or more. Calls are numbered from 1 on, and exactly
+    /// those fail whose numbers are listed in `failing`, or that find no room left. O(1), and `room` bytes of
+    /// memory. All the memory is taken here: a write takes none.
     pub fn new(alloc: Global, piece: u32, failing: Vec<u32>, room: u32) -> Result<MemSink, Memory>
         requires { 1 ≤ piece }
         ensures { IfOk result (λ s. s ≡ record { written = []; room = room; piece = piece; failing = failing.items; calls = 0; faults = 0 }) }
@@ -193,7 +194,7 @@ impl MemSink {
         })
     }
 
-    /// All that was written.
+    /// All that was written. O(1), no memory.
     pub fn written(&self) -> &[u8]
         ensures { result.now ≡ self.now.written }
     {

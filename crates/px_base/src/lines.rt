@@ -187,8 +187,9 @@ impl Model for LineReader {
 }
 
 impl LineReader {
-    /// A reader that has taken nothing. A line has at most `line_limit` bytes without its end, and
-    /// the lines with their ends at most `text_limit`; both are at most 2^30.
+    /// A reader that has taken nothing. A line has at most `line_limit` bytes without its end, and the lines
+    /// with their ends at most `text_limit`; both are at most 2^30. O(1), and 64 KiB of memory, in which it
+    /// reads ahead.
     pub fn new(alloc: Global, line_limit: u32, text_limit: u32) -> Result<LineReader, Memory>
         requires line { line_limit ≤ 2 ^ 30 }
         requires text { text_limit ≤ 2 ^ 30 }
@@ -205,23 +206,24 @@ impl LineReader {
         })
     }
 
-    /// The line that was taken last, without its end.
+    /// The line that was taken last, without its end. O(1), no memory.
     pub fn line(&self) -> &[u8]
         ensures { result.now ≡ self.now.line }
     {
         &self.line
     }
 
-    /// The number of the line that was taken last, from 1 on; 0 before the first. Where a line
-    /// passed a limit, it is that line's.
+    /// The number of the line that was taken last, from 1 on; 0 before the first. Where a line passed a limit,
+    /// it is that line's. O(1), no memory.
     pub fn number(&self) -> u32
         ensures { result ≡ self.now.number }
     {
         self.number
     }
 
-    /// Whether the next line has been read whole with its end, so that `next` reads nothing. A CR
-    /// that was read last is no whole end, since LF may follow.
+    /// Whether the next line has been read whole with its end, so that `next` reads nothing. A CR that was read
+    /// last is no whole end, since LF may follow. O(b) for the b bytes ahead up to the first LF or CR, at most
+    /// 65,536; no memory.
     pub fn has_line_ahead(&self) -> bool
         ensures { result ≡ has_end self.now.ahead }
     {
@@ -231,7 +233,8 @@ impl LineReader {
     /// Takes the next line. `Ok(false)`: the text is over. `Limit` only where the line passes a
     /// limit, and `Fault` only where a read failed. After an error the reader is of no more use.
     ///
-    /// It is linear in the bytes read.
+    /// O(b) for the b bytes of the line and its end, beside the shelf's reads. It takes memory only where the
+    /// line is longer than each before it.
     pub fn next<H: Shelf>(&mut self, shelf: &mut H) -> Result<bool, LineFault>
         requires ready { self.old.failed ≡ false }
         requires open { IsTrue (H.is_open shelf.old) }

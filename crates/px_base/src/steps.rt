@@ -23,7 +23,7 @@ impl<L: Ledger> Model for Steps<L> {
 }
 
 impl<L: Ledger> Steps<L> {
-    /// A count that starts at 0.
+    /// A count that starts at 0. O(1), no memory.
     pub fn new(blank: Blank) -> Steps<L>
         requires name { blank.name ≡ L.name }
         requires parts { blank.parts ≡ L.parts }
@@ -34,14 +34,14 @@ impl<L: Ledger> Steps<L> {
         Steps { book, share }
     }
 
-    /// Takes one step.
+    /// Takes one step. O(1), no memory.
     pub fn tick(&mut self)
         ensures { self.new ≡ self.old + 1 }
     {
         self.book.add(&mut self.share, 1);
     }
 
-    /// Takes so many steps.
+    /// Takes so many steps. O(1), no memory.
     pub fn tick_by(&mut self, count: usize)
         ensures { self.new ≡ self.old + count }
     {

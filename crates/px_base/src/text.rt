@@ -33,7 +33,8 @@ impl Model for Text {
 }
 
 impl Text {
-    /// The text of these bytes. `NotUtf8` exactly where they aren't UTF-8.
+    /// The text of these bytes. `NotUtf8` exactly where they aren't UTF-8. O(b) for b bytes, and b bytes of
+    /// memory.
     pub fn from_bytes(alloc: Global, bytes: &[u8]) -> Result<Text, TextError>
         ensures ok { IfOk result (λ t. t ≡ bytes.now) }
         ensures utf8 { OnOk result (IsUtf8 bytes.now) }
@@ -48,21 +49,21 @@ impl Text {
         }
     }
 
-    /// The text of a string, without a copy.
+    /// The text of a string, without a copy. O(1), no memory.
     pub fn from_string(content: String) -> Text
         ensures { result ≡ string_bytes content }
     {
         Text { content }
     }
 
-    /// The string, without a copy.
+    /// The string, without a copy. O(1), no memory.
     pub fn into_string(self) -> String
         ensures { string_bytes result ≡ self }
     {
         self.content
     }
 
-    /// Its bytes.
+    /// Its bytes. O(1), no memory.
     pub fn as_bytes(&self) -> &[u8]
         ensures bytes { result.now ≡ self.now }
         ensures utf8 { IsUtf8 self.now }
@@ -70,14 +71,14 @@ impl Text {
         self.content.as_bytes()
     }
 
-    /// The text as a `str`.
+    /// The text as a `str`. O(1), no memory.
     pub fn as_str(&self) -> &str
         ensures { result.now ≡ self.now }
     {
         self.content.as_str()
     }
 
-    /// A text of its own with the same bytes.
+    /// A text of its own with the same bytes. O(b) for b bytes, and b bytes of memory.
     pub fn copy(&self, alloc: Global) -> Result<Text, Memory>
         ensures { IfOk result (λ t. t ≡ self.now) }
     {

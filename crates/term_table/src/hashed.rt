@@ -26,7 +26,7 @@ impl Model for HashedTerm {
 }
 
 impl HashedTerm {
-    /// The term with its hash. It takes the time of hashing its texts.
+    /// The term with its hash. O(b) for texts of b bytes, no memory.
     pub fn new(term: Term) -> HashedTerm
         ensures { result ≡ term }
     {
@@ -34,7 +34,7 @@ impl HashedTerm {
         HashedTerm { term, hash }
     }
 
-    /// The term.
+    /// The term. O(1), no memory.
     #[inline(always)]
     pub fn term(&self) -> &Term
         ensures { result.now ≡ self.now }
@@ -42,7 +42,7 @@ impl HashedTerm {
         &self.term
     }
 
-    /// The term, without its hash.
+    /// The term, without its hash. O(1), no memory.
     pub fn into_term(self) -> Term
         ensures { result ≡ self }
     {

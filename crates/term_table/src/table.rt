@@ -33,7 +33,7 @@ pub struct Hint {
 }
 
 impl Hint {
-    /// The hint of a term, which leads nowhere yet.
+    /// The hint of a term, which leads nowhere yet. O(1), no memory.
     pub fn of(term: &HashedTerm) -> Hint {
         Hint {
             hash: term.hash(),
@@ -41,7 +41,7 @@ impl Hint {
         }
     }
 
-    /// The place to which it leads.
+    /// The place to which it leads. O(1), no memory.
     pub fn place(&self) -> Option<u32> {
         self.place
     }
@@ -70,7 +70,7 @@ impl Model for TermTable {
 }
 
 impl TermTable {
-    /// No terms.
+    /// No terms. O(1), and 64 bytes of memory.
     pub fn new(alloc: Global) -> Result<TermTable, Memory>
         ensures { IfOk result (λ t. t ≡ []) }
     {
@@ -88,8 +88,8 @@ impl TermTable {
         self.index.len()
     }
 
-    /// Where the term stands, with its number, and `None` exactly where it isn't there. It takes the time of hashing it and of
-    /// comparing it with the terms that have its hash.
+    /// Where the term stands, with its number, and `None` exactly where it isn't there. Expected O(b) for texts
+    /// of b bytes, no memory.
     pub fn find(&self, term: &Term) -> Option<Found>
         ensures { IsFoundAs self.now term.now result }
     {
@@ -98,14 +98,16 @@ impl TermTable {
         search(&self.arena, &self.index, &parts, hash)
     }
 
-    /// The same, of a term whose hash is at hand.
+    /// The same, of a term whose hash is at hand: only the terms with that hash are compared with it. Expected
+    /// O(b) for texts of b bytes, no memory.
     pub fn find_hashed(&self, term: &HashedTerm) -> Option<Found>
         ensures { IsFoundAs self.now term.now result }
     {
         search(&self.arena, &self.index, &term.parts(), term.hash())
     }
 
-    /// The same. The place to which the hint leads is tried first.
+    /// The same. The place to which the hint leads is tried first. Expected O(b) for texts of b bytes, no
+    /// memory.
     pub fn find_near(&self, term: &HashedTerm, hint: Option<Hint>) -> Option<Found>
         ensures { IsFoundAs self.now term.now result }
     {
@@ -122,8 +124,9 @@ impl TermTable {
         at_place(&self.arena, &self.index, place, &term.parts())
     }
 
-    /// Puts a term that isn't there behind the others, and gives its place. `Memory` comes where memory runs out or the table is full,
-    /// and leaves the terms. It takes the time of copying its texts, and O(1), spread over all that are put in.
+    /// Puts a term that isn't there behind the others, and gives its place. `Memory` comes where memory runs
+    /// out or the table is full, and leaves the terms. O(b) for texts of b bytes, spread over all that are put
+    /// in; it takes the memory that is said of the table.
     pub fn insert(&mut self, term: &HashedTerm, number: NodeId) -> Result<u32, Memory>
         requires absent { number_of self.old term.now ≡ None }
         ensures added { OnOk result (self.new ≡ self.old ++ (term.now, number) ∷ []) }
@@ -136,7 +139,7 @@ impl TermTable {
 
 // Hints.
 impl TermTable {
-    /// The hint that leads to the first term of its chain.
+    /// The hint that leads to the first term of its chain. O(1), no memory.
     pub fn enter_chain(&self, hint: Hint) -> Hint {
         Hint {
             place: self.index.front(hint.hash),
@@ -144,7 +147,7 @@ impl TermTable {
         }
     }
 
-    /// The hint that leads past terms with another hash.
+    /// The hint that leads past terms with another hash. Expected O(1), no memory.
     pub fn pass_others(&self, hint: Hint) -> Hint {
         match hint.place {
             Some(place) if place < self.index.len() => Hint {
@@ -155,13 +158,13 @@ impl TermTable {
         }
     }
 
-    /// The number of the term to which the hint leads.
+    /// The number of the term to which the hint leads. O(1), no memory.
     pub fn number(&self, hint: Hint) -> Option<NodeId> {
         let e = self.entry(hint)?;
         Some(e.number)
     }
 
-    /// The first byte of the texts of the term to which the hint leads.
+    /// The first byte of the texts of the term to which the hint leads. O(1), no memory.
     pub fn first_byte(&self, hint: Hint) -> Option<u8> {
         let e = self.entry(hint)?;
         self.arena.get(e.span.from as usize).copied()

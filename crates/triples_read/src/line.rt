@@ -131,9 +131,10 @@ fn read_triple(spare: &mut SpareTexts, text: &str) -> Result<Option<Triple>, Mem
     }))
 }
 
-/// The triple that a line spells (RDF 1.1 N-Triples, section 7), with its escapes read; None where the
-/// line is blank or a comment. The line is given without its end, so it holds neither LF nor CR. The whole
-/// of it must be UTF-8, its comment too. `Syntax` exactly where it is none of these.
+/// The triple that a line spells (RDF 1.1 N-Triples, section 7), with its escapes read; None where the line is
+/// blank or a comment. The line is given without its end, so it holds neither LF nor CR. The whole of it must
+/// be UTF-8, its comment too. `Syntax` exactly where it is none of these. O(b) for a line of b bytes; the texts
+/// of the triple are all the memory that it takes.
 pub fn read_line(alloc: Global, line: &[u8]) -> Result<Option<Triple>, LineError>
     // A triple comes only where the line spells it.
     ensures triple { IfOk result (λ r. IfSome r (λ t. Spells line.now t)) }
@@ -150,7 +151,8 @@ pub fn read_line(alloc: Global, line: &[u8]) -> Result<Option<Triple>, LineError
     read_line_with(&mut spare, line)
 }
 
-/// What `read_line` reads, in texts that take the memory of the spare ones where there are any.
+/// What `read_line` reads, in texts that take the memory of the spare ones where there are any. O(b) for a line
+/// of b bytes. It takes memory only for texts that are longer than the spare ones, or more than they are.
 pub fn read_line_with(spare: &mut SpareTexts, line: &[u8]) -> Result<Option<Triple>, LineError>
     // A triple comes only where the line spells it.
     ensures triple { IfOk result (λ r. IfSome r (λ t. Spells line.now t)) }

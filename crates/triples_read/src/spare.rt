@@ -32,7 +32,7 @@ impl Model for SpareTexts {
 }
 
 impl SpareTexts {
-    /// No texts. It takes no memory.
+    /// No texts. It takes no memory. O(1).
     pub fn new(alloc: Global) -> SpareTexts {
         SpareTexts {
             alloc,
@@ -59,7 +59,8 @@ impl SpareTexts {
         Ok(Text::from_string(text))
     }
 
-    /// Takes the texts of a triple, for the next ones. Where they find no room they are dropped.
+    /// Takes the texts of a triple, for the next ones. Where they find no room they are dropped. O(1). It takes
+    /// memory only for the list of the texts.
     pub fn give_back(&mut self, triple: Triple) {
         let Triple {
             subject,

@@ -74,9 +74,9 @@ fn has_predicate_and_object(t: &Triple) -> bool
     is_iri(t.predicate.as_str()) && is_object(&t.object)
 }
 
-/// Whether some line spells the triple: its subject is no literal, its blank nodes have labels of the
-/// grammar, and a tag is a language tag in lower case, whose literal has the datatype `rdf:langString`.
-/// It takes no memory.
+/// Whether some line spells the triple: its subject is no literal, its blank nodes have labels of the grammar,
+/// and a tag is a language tag in lower case, whose literal has the datatype `rdf:langString`. O(b) for labels
+/// and a tag of b bytes, no memory.
 pub fn is_triple(t: &Triple) -> bool
     ensures sound { result ≡ true → IsSpelled t.now }
     ensures complete { IsSpelled t.now → result ≡ true }

@@ -164,8 +164,9 @@ fn push_triple(out: &mut String, t: &Triple) -> Result<(), AllocError>
     out.push_str(" .")
 }
 
-/// The canonical spelling of a term: an IRI in brackets, a blank node behind `_:`, a literal with its
-/// tag, or with its datatype where that isn't `xsd:string`. Only the characters that must be escaped are.
+/// The canonical spelling of a term: an IRI in brackets, a blank node behind `_:`, a literal with its tag, or
+/// with its datatype where that isn't `xsd:string`. Only the characters that must be escaped are. O(b) for a
+/// spelling of b bytes, which is all the memory that it takes.
 pub fn write_term(alloc: Global, t: &Term) -> Result<Text, Memory>
     ensures { IfOk result (λ text. text ≡ encode_utf8_all (term_text t.now)) }
 {
@@ -174,8 +175,8 @@ pub fn write_term(alloc: Global, t: &Term) -> Result<Text, Memory>
     Ok(Text::from_string(out))
 }
 
-/// The canonical spelling of a triple, as a line without its end: its three parts, each followed by one
-/// space, and a dot.
+/// The canonical spelling of a triple, as a line without its end: its three parts, each followed by one space,
+/// and a dot. O(b) for a spelling of b bytes, which is all the memory that it takes.
 pub fn write_triple(alloc: Global, t: &Triple) -> Result<Text, Memory>
     ensures text { IfOk result (λ text. text ≡ encode_utf8_all (triple_text t.now)) }
     // Where some line spells the triple, this one does.
