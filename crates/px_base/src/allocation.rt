@@ -1,4 +1,4 @@
-// Want of memory.
+// The error that memory ran out.
 use std::alloc::{AllocError, AllocFailed};
 
 /// An allocation failed.
