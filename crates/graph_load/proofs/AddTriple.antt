@@ -16,7 +16,7 @@ use Rattle.graph_load.specs.TripleGraphs.{same_triple, need, changed, then_do, j
 use Rattle.term_table.specs.Terms.{same_term}
 use Rattle.graph_load.specs.Places.{is_key_of, same_key}
 use Rattle.term_table.specs.Terms.{place_in}
-use Rattle.graph_load.specs.Loaders.{load_state, is_known, Holds, with_new, PointsInto, IsSoundLoader, Grows, Steps, IsStopped, IsTaken, IsUntaken}
+use Rattle.graph_load.specs.Loaders.{load_state, is_known, Holds, with_new, PointsInto, IsSoundLoader, Grows, LoaderStep, IsStopped, IsTaken, IsUntaken}
 use Rattle.graph_load.proofs.PlaceLaws.{position_append}
 use Rattle.graph_load.proofs.EdgeSteps.{grows_trans}
 use Rattle.graph_load.proofs.KnownTriples.{known_stays, known_key, key_of_same}
@@ -50,7 +50,7 @@ module _ (limits : Limits) (t : Triple) (old : Loader) (unknown : is_known old t
       let s = stop triples in
       (s.0, fresh triples holds ∙ ap (λ r. then_do r (λ a. then_do (placed limits t (length a.graph.given) a) (λ b. Ok (record b { triples = b.triples ++ t ∷ [] })))) s.1)
 
-  module _ (a : Loader) (needs : Steps (need limits t.subject) old a) where
+  module _ (a : Loader) (needs : LoaderStep (need limits t.subject) old a) where
     first : (triples : List Triple) → Holds old triples
         → with_triple limits t (load_state old triples) ≡ then_do (placed limits t (length a.graph.graph.given) (load_state a triples)) (λ b. Ok (record b { triples = b.triples ++ t ∷ [] }))
     first triples holds = fresh triples holds ∙ ap (λ r. then_do r (λ a. then_do (placed limits t (length a.graph.given) a) (λ b. Ok (record b { triples = b.triples ++ t ∷ [] })))) (needs.does triples)
@@ -60,7 +60,7 @@ module _ (limits : Limits) (t : Triple) (old : Loader) (unknown : is_known old t
         let s = stop triples in
         (s.0, first triples holds ∙ ap (λ r. then_do (then_do r (joined limits t.subject (length a.graph.graph.given) t.object)) (λ b. Ok (record b { triples = b.triples ++ t ∷ [] }))) s.1)
 
-    module _ (n : ℕ) (number : n ≡ length a.graph.graph.given) (b : Loader) (adds : Steps (changed limits (node (predicate_label t.predicate))) a b) where
+    module _ (n : ℕ) (number : n ≡ length a.graph.graph.given) (b : Loader) (adds : LoaderStep (changed limits (node (predicate_label t.predicate))) a b) where
       second : (triples : List Triple) → Holds old triples
           → with_triple limits t (load_state old triples) ≡ then_do (joined limits t.subject n t.object (load_state b triples)) (λ b. Ok (record b { triples = b.triples ++ t ∷ [] }))
       second triples holds =
@@ -72,7 +72,7 @@ module _ (limits : Limits) (t : Triple) (old : Loader) (unknown : is_known old t
           let s = stop triples in
           (s.0, second triples holds ∙ ap (λ r. then_do r (λ b. Ok (record b { triples = b.triples ++ t ∷ [] }))) s.1)
 
-      module _ (c : Loader) (joins : Steps (joined limits t.subject n t.object) b c) (sound : IsSoundLoader old) where
+      module _ (c : Loader) (joins : LoaderStep (joined limits t.subject n t.object) b c) (sound : IsSoundLoader old) where
         grown : Grows old c
         grown = grows_trans old b c (grows_trans old a b needs.grows adds.grows) joins.grows
 

@@ -8,7 +8,7 @@ use Rattle.triples_read.specs.declared.term.Triple.{Triple}
 use Rattle.graph_load.specs.declared.loader.Loader.{Loader}
 use Rattle.graph_load.specs.TripleGraphs.{need, changed, then_do, from_term, onto_term, joined}
 use Rattle.term_table.specs.Terms.{number_of, same_term}
-use Rattle.graph_load.specs.Loaders.{load_state, Grows, Steps, IsStopped}
+use Rattle.graph_load.specs.Loaders.{load_state, Grows, LoaderStep, IsStopped}
 use Rattle.term_table.specs.Entries.{Begins}
 use Rattle.graph_load.proofs.PlaceLaws.{lookup_append}
 
@@ -26,7 +26,7 @@ pub number_stays : (old new : Loader) → Grows old new → (x : Term) (n : ℕ)
 number_stays old new grows x n h = ap (λ ts. number_of ts x) grows.terms.1 ∙ lookup_append (same_term x) old.terms grows.terms.0 n h
 
 module _ (limits : Limits) (x : Term) (n : ℕ) (y : Term) (old a : Loader) (from onto : ℕ)
-    (is_from : number_of old.terms x ≡ Some from) (needs : Steps (need limits y) old a) (is_onto : number_of a.terms y ≡ Some onto) where
+    (is_from : number_of old.terms x ≡ Some from) (needs : LoaderStep (need limits y) old a) (is_onto : number_of a.terms y ≡ Some onto) where
   first : (triples : List Triple) → joined limits x n y (load_state old triples) ≡ then_do (changed limits (link from n) (load_state a triples)) (onto_term limits n y)
   first triples =
       ap (λ r. then_do r (λ l. then_do (from_term limits x n l) (onto_term limits n y))) (needs.does triples)
@@ -37,7 +37,7 @@ module _ (limits : Limits) (x : Term) (n : ℕ) (y : Term) (old a : Loader) (fro
       let s = stop triples in
       (s.0, first triples ∙ ap (λ r. then_do r (onto_term limits n y)) s.1)
 
-  module _ (b : Loader) (links : Steps (changed limits (link from n)) a b) where
+  module _ (b : Loader) (links : LoaderStep (changed limits (link from n)) a b) where
     second : (triples : List Triple) → joined limits x n y (load_state old triples) ≡ changed limits (link n onto) (load_state b triples)
     second triples =
         first triples ∙ ap (λ r. then_do r (onto_term limits n y)) (links.does triples)
@@ -46,7 +46,7 @@ module _ (limits : Limits) (x : Term) (n : ℕ) (y : Term) (old a : Loader) (fro
     pub joined_stopped_second : IsStopped (changed limits (link n onto)) b → IsStopped (joined limits x n y) old
     joined_stopped_second stop triples = let s = stop triples in (s.0, second triples ∙ s.1)
 
-    pub joined_steps : (c : Loader) → Steps (changed limits (link n onto)) b c → Steps (joined limits x n y) old c
+    pub joined_steps : (c : Loader) → LoaderStep (changed limits (link n onto)) b c → LoaderStep (joined limits x n y) old c
     joined_steps c last = record {
       does = λ triples. second triples ∙ last.does triples;
       sound = last.sound;

@@ -22,7 +22,7 @@ use Rattle.px_spec.specs.declared.refusal.Refusal.{Refusal}
 use Rattle.graph_load.specs.TripleGraphs.{LoadState, nothing_loaded, with_triple}
 use Rattle.graph_load.specs.Loads.{Outcome, loaded, syntax, limit, Place, at_start, past, IsWithinFile, LoadsLine, empty, takes, refuses, neither, LoadsFrom}
 use Rattle.graph_load.specs.Loaders.{load_state, Holds, with_new, IsSoundLoader, IsTaken}
-use Rattle.graph_load.specs.LoadSteps.{LoadsTold, LoadsAhead, Says, place, OnLines, at_line, then_load, with_one, with_all, LoadsBehind, LoadsThen, Puts, Reads, IsNearer, AreLoaded, Stops, OneStops}
+use Rattle.graph_load.specs.LoadSteps.{LoadsTold, LoadsAhead, TellsOutcome, place, OnLines, at_line, then_load, with_one, with_all, LoadsBehind, LoadsThen, AddsLine, ReadsLines, IsNearer, AreLoaded, Stops, OneStops}
 
 -- what becomes of the first line decides
 follows : (limits : Limits) (p : Place) (l : Line) (before after : Option (List ℕ)) (q : Place) (o : Outcome) → IsFirst l before after → IsWithinFile p l
@@ -130,7 +130,7 @@ module _ (r q : Reading) (before after : Option (List ℕ)) (reads : ReadsLine r
         (λ rest. neither (λ t s. nothing t (subst (λ x. Spells x t) (sym text_is) s)) (λ e. none (subst Empty (sym text_is) e))))
 
   -- a line was read
-  pub reads_on : (next : Next) (waited waits : List Waiting) → Puts q.line q.number waited waits next → Reads r waited before next q waits after
+  pub reads_on : (next : Next) (waited waits : List Waiting) → AddsLine q.line q.number waited waits next → ReadsLines r waited before next q waits after
   reads_on Lines waited waits (inl (is_empty, same)) = λ limits l o h.
       each limits r before Lines q after (past_empty limits is_empty) (with_all limits waited l) o (subst (λ ws. LoadsThen limits Lines q after (with_all limits ws l) o) same h)
   reads_on Lines waited waits (inr (t, spells, is)) = λ limits l o h.
@@ -143,7 +143,7 @@ module _ (r q : Reading) (before after : Option (List ℕ)) (reads : ReadsLine r
       (subst (λ ws. LoadsThen limits (Syntax n) q after (with_all limits ws l) o) same h)
   reads_on (Limit n) waited waits puts = absurd puts
 
-  pub reads_result : (result : Result Next LoadError) (waited waits : List Waiting) → IfOk result (Puts q.line q.number waited waits) → IfOk result (λ next. Reads r waited before next q waits after)
+  pub reads_result : (result : Result Next LoadError) (waited waits : List Waiting) → IfOk result (AddsLine q.line q.number waited waits) → IfOk result (λ next. ReadsLines r waited before next q waits after)
   reads_result (Ok next) waited waits puts = reads_on next waited waits puts
   reads_result (Err e) waited waits puts = tt
 
@@ -160,7 +160,7 @@ further (Limit n) r q p before h = tt
 
 -- a line passes a limit
 pub reads_past : (r q : Reading) (before after : Option (List ℕ)) → IsPast r before → r.line_limit ≡ LINE_BYTES → r.text_limit ≡ GRAPH_BYTES
-    → (n : ℕ) → n ≡ r.number + 1 → (waited : List Waiting) → Reads r waited before (Limit n) q waited after
+    → (n : ℕ) → n ≡ r.number + 1 → (waited : List Waiting) → ReadsLines r waited before (Limit n) q waited after
 reads_past r q before after is_past line text n number waited limits l o h =
     each limits r before (Limit n) q after (λ m o is. subst (LoadsAhead limits before (place r m)) (sym is) (past_there limits m before is_past)) (with_all limits waited l) o h
   where
@@ -173,7 +173,7 @@ reads_past r q before after is_past line text n number waited limits l o h =
         ))
 
 -- the text is over
-pub reads_over : (r q : Reading) (before after : Option (List ℕ)) → IsOver before → (waited : List Waiting) → Reads r waited before End q waited after
+pub reads_over : (r q : Reading) (before after : Option (List ℕ)) → IsOver before → (waited : List Waiting) → ReadsLines r waited before End q waited after
 reads_over r q before after over waited limits l o h =
     each limits r before End q after (λ m o is. subst (LoadsAhead limits before (place r m)) (sym is) (over_there limits m before over)) (with_all limits waited l) o h
   where
@@ -224,7 +224,7 @@ module _ (limits : Limits) (ws : List Waiting) (n : ℕ) (old r : Loader) (left 
 
 -- what comes of a batch comes of what lay ahead
 pub batch_leads : (limits : Limits) (r q : Reading) (before after : Option (List ℕ)) (waited waits : List Waiting) (next : Next) (l : LoadState) (x : Result LoadState ℕ) (Q : Outcome → Type 0)
-    → waited ≡ [] → Reads r waited before next q waits after → with_all limits waits l ≡ x → ((o : Outcome) → LoadsAhead limits before (place r l) o → Q o)
+    → waited ≡ [] → ReadsLines r waited before next q waits after → with_all limits waits l ≡ x → ((o : Outcome) → LoadsAhead limits before (place r l) o → Q o)
     → (o : Outcome) → LoadsThen limits next q after x o → Q o
 batch_leads limits r q before after waited waits next l x Q none reads does leads o h =
     leads o (subst (λ ws. LoadsThen limits Lines r before (with_all limits ws l) o) none (reads limits l o (subst (λ y. LoadsThen limits next q after y o) (sym does) h)))
@@ -239,16 +239,16 @@ start_leads limits r l left ahead number taken nothing o h =
     ahead_start limits left at_start o (subst (λ (x : List ℕ). LoadsAhead limits (prepend_known x left) at_start o) ahead
     (subst (λ p. LoadsAhead limits (stream r left) p o) (place_same (place r (load_state l [])) at_start nothing number taken) h))
 
-pub says_map : (P Q : Outcome → Type 0) → ((o : Outcome) → P o → Q o) → (e : LoadError) → Says P e → Says Q e
-says_map P Q f (error.Syntax l) h = f (syntax l) h
-says_map P Q f (error.Limit l) h = f (limit l) h
-says_map P Q f error.Missing h = tt
-says_map P Q f error.Fault h = tt
-says_map P Q f error.Memory h = tt
+pub tells_map : (P Q : Outcome → Type 0) → ((o : Outcome) → P o → Q o) → (e : LoadError) → TellsOutcome P e → TellsOutcome Q e
+tells_map P Q f (error.Syntax l) h = f (syntax l) h
+tells_map P Q f (error.Limit l) h = f (limit l) h
+tells_map P Q f error.Missing h = tt
+tells_map P Q f error.Fault h = tt
+tells_map P Q f error.Memory h = tt
 
 -- an error that tells an outcome is one of those that a call may answer
-pub says_none : (Q : Outcome → Type 0) → (e : LoadError) → Says (λ _. ⊥) e → Says Q e
-says_none Q = says_map (λ _. ⊥) Q (λ o h. absurd h)
+pub tells_none : (Q : Outcome → Type 0) → (e : LoadError) → TellsOutcome (λ _. ⊥) e → TellsOutcome Q e
+tells_none Q = tells_map (λ _. ⊥) Q (λ o h. absurd h)
 
 -- what the open file loads to, its name loads to
 pub told_there : (limits : Limits) (files : Option (List File)) (name : List ℕ) (left : Option (List ℕ)) → Finds files name true left

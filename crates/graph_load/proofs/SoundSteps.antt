@@ -14,7 +14,7 @@ use Rattle.graph_load.specs.TripleGraphs.{need, changed, with_graph, term_label,
 use Rattle.term_table.specs.Terms.{number_of, same_term}
 use Rattle.graph_load.specs.Places.{with_predicate}
 use Rattle.term_table.specs.Terms.{place_in}
-use Rattle.graph_load.specs.Loaders.{load_state, PointsInto, IsSoundLoader, Steps}
+use Rattle.graph_load.specs.Loaders.{load_state, PointsInto, IsSoundLoader, LoaderStep}
 use Rattle.term_table.specs.Entries.{Begins}
 use Rattle.graph_load.proofs.PlaceLaws.{position_push, lookup_push, keys_push, is_some-lookup}
 use Rattle.term_table.proofs.SameTerms.{term_same}
@@ -31,7 +31,7 @@ more_within m n p q mp nq (k ∷ ks) h = (
 -- a term becomes a node
 pub term_steps : (limits : Limits) (x : Term) (old : Loader) (h : Held) (n : ℕ) (terms : List (Term × ℕ)) → IsSoundLoader old → number_of old.terms x ≡ None
     → apply (node (term_label x)) old.graph.graph limits ≡ Ok h.graph → h.room ≡ no_room → n ≡ length old.graph.graph.given → terms ≡ old.terms ++ (x, n) ∷ []
-    → Steps (need limits x) old (record old { graph = h; terms = terms })
+    → LoaderStep (need limits x) old (record old { graph = h; terms = terms })
 term_steps limits x old h n terms sound none made room number added =
     let exact : terms ≡ old.terms ++ (x, length old.graph.graph.given) ∷ [] = added ∙ ap (λ m. old.terms ++ (x, m) ∷ []) number in
     let given = node_made (term_label x) old.graph.graph limits h.graph made in
@@ -70,7 +70,7 @@ interned false xs x = let longer = length_push xs x in record { begins = (x ∷ 
 -- the node of a triple is added
 pub node_steps : (limits : Limits) (iri : List ℕ) (old : Loader) (h : Held) (predicates : List (List ℕ)) → IsSoundLoader old
     → apply (node (predicate_label iri)) old.graph.graph limits ≡ Ok h.graph → h.room ≡ no_room → predicates ≡ with_predicate old.predicates iri
-    → Steps (changed limits (node (predicate_label iri))) old (record old { graph = h; predicates = predicates })
+    → LoaderStep (changed limits (node (predicate_label iri))) old (record old { graph = h; predicates = predicates })
 node_steps limits iri old h predicates sound made room added =
     let is : Interned old.predicates predicates = subst (Interned old.predicates) (sym added) (interned (list_any (bytes_eq iri) old.predicates) old.predicates iri) in
     let given = node_made (predicate_label iri) old.graph.graph limits h.graph made in
@@ -91,7 +91,7 @@ node_steps limits iri old h predicates sound made room added =
 
 -- an edge is added
 pub link_steps : (limits : Limits) (u v : ℕ) (old : Loader) (h : Held) → IsSoundLoader old → apply (link u v) old.graph.graph limits ≡ Ok h.graph → h.room ≡ no_room
-    → Steps (changed limits (link u v)) old (record old { graph = h })
+    → LoaderStep (changed limits (link u v)) old (record old { graph = h })
 link_steps limits u v old h sound made room =
     let same = link_made u v old.graph.graph limits h.graph made in
     let few = sound.terms in

@@ -30,12 +30,12 @@ LacksFile None name = ⊤
 LacksFile (Some files) name = content_of files name ≡ None
 
 -- the outcome that an error tells; want of memory and a call that failed tell none
-abbrev pub Says : (Outcome → Type 0) → LoadError → Type 0
-Says P (error.Syntax l) = P (syntax l)
-Says P (error.Limit l) = P (limit l)
-Says P error.Missing = ⊤
-Says P error.Fault = ⊤
-Says P error.Memory = ⊤
+abbrev pub TellsOutcome : (Outcome → Type 0) → LoadError → Type 0
+TellsOutcome P (error.Syntax l) = P (syntax l)
+TellsOutcome P (error.Limit l) = P (limit l)
+TellsOutcome P error.Missing = ⊤
+TellsOutcome P error.Fault = ⊤
+TellsOutcome P error.Memory = ⊤
 
 -- what lies ahead loads to this, where it is told
 abbrev pub LoadsAhead : Limits → Option (List ℕ) → Place → Outcome → Type 0
@@ -92,16 +92,16 @@ LoadsThen limits next r text (Ok l) o = LoadsBehind limits next r text l o
 LoadsThen limits next r text (Err n) o = o ≡ limit n
 
 -- a line, of that number, is put behind those that wait where it spells a triple
-abbrev pub Puts : List ℕ → ℕ → List Waiting → List Waiting → Next → Type 0
-Puts text n old new Lines = (Empty text × (new ≡ old)) ⊎ ((t : Triple) × Spells text t × (new ≡ old ++ record { triple = hashed t; line = n } ∷ []))
-Puts text n old new End = ⊥
-Puts text n old new (Syntax m) = (m ≡ n) × (new ≡ old) × (¬ Empty text) × ((t : Triple) → Spells text t → ⊥)
-Puts text n old new (Limit m) = ⊥
+abbrev pub AddsLine : List ℕ → ℕ → List Waiting → List Waiting → Next → Type 0
+AddsLine text n old new Lines = (Empty text × (new ≡ old)) ⊎ ((t : Triple) × Spells text t × (new ≡ old ++ record { triple = hashed t; line = n } ∷ []))
+AddsLine text n old new End = ⊥
+AddsLine text n old new (Syntax m) = (m ≡ n) × (new ≡ old) × (¬ Empty text) × ((t : Triple) → Spells text t → ⊥)
+AddsLine text n old new (Limit m) = ⊥
 
 -- Lines were read: whatever outcome follows from the triples that wait afterwards and the text that is left then, follows
 -- from those that waited before and the text that was left before.
-abbrev pub Reads : Reading → List Waiting → Option (List ℕ) → Next → Reading → List Waiting → Option (List ℕ) → Type 0
-Reads r waited before next q waits after =
+abbrev pub ReadsLines : Reading → List Waiting → Option (List ℕ) → Next → Reading → List Waiting → Option (List ℕ) → Type 0
+ReadsLines r waited before next q waits after =
     (limits : Limits) (l : LoadState) (o : Outcome) → LoadsThen limits next q after (with_all limits waits l) o → LoadsThen limits Lines r before (with_all limits waited l) o
 
 -- more of the text is taken

@@ -54,7 +54,7 @@ pub record Grows (old new : Loader) : Type 0 where
   pub known : new.known ≡ old.known
 
 -- a step leads from the one loader to the other
-pub record Steps (step : LoadState → Result LoadState Refusal) (old new : Loader) : Type 0 where
+pub record LoaderStep (step : LoadState → Result LoadState Refusal) (old new : Loader) : Type 0 where
   pub does : (triples : List Triple) → step (load_state old triples) ≡ Ok (load_state new triples)
   pub sound : IsSoundLoader new
   pub grows : Grows old new

@@ -4,11 +4,11 @@ ghost use Rattle.px_base.specs.Causes.{Rose};
 ghost use Rattle.px_base.specs.ReaderStates.{stream};
 ghost use Rattle.graph_load.specs.Hashed.{triple_of, hashed};
 ghost use Rattle.graph_load.specs.Loaders.{IsSoundLoader, IsTaken};
-ghost use Rattle.graph_load.specs.LoadSteps.{Says, CanRead, OnLines, Puts, Reads, IsNearer, AreLoaded, Stops, OneStops};
+ghost use Rattle.graph_load.specs.LoadSteps.{TellsOutcome, CanRead, OnLines, AddsLine, ReadsLines, IsNearer, AreLoaded, Stops, OneStops};
 
-use crate::additions::Stop;
 use crate::files::LoadError;
 use crate::hashed::HashedTriple;
+use crate::limited_changes::Stop;
 use crate::loader::Loader;
 use crate::loader::ahead::{Hints, Lookahead};
 use px_base::{Limits, LineFault, LineReader, Memory, Shelf};
@@ -52,7 +52,7 @@ fn take(
     text: &[u8],
     line: u32,
 ) -> Result<Next, LoadError>
-    ensures puts { IfOk result (Puts text.now line waiting.old.items waiting.new.items) }
+    ensures puts { IfOk result (AddsLine text.now line waiting.old.items waiting.new.items) }
     ensures memory { IfErr result (λ e. e ≡ LoadError.Memory) }
 {
     match read_line_with(spare, text) {
@@ -74,10 +74,10 @@ fn read_next<H: Shelf>(
     shelf: &mut H,
 ) -> Result<Next, LoadError>
     requires can { CanRead reader.old (H.is_open shelf.old) }
-    ensures reads { IfOk result (λ next. Reads reader.old waiting.old.items (stream reader.old (H.left shelf.old)) next reader.new waiting.new.items (stream reader.new (H.left shelf.new))) }
+    ensures reads { IfOk result (λ next. ReadsLines reader.old waiting.old.items (stream reader.old (H.left shelf.old)) next reader.new waiting.new.items (stream reader.new (H.left shelf.new))) }
     ensures can { IfOk result (λ next. OnLines next (CanRead reader.new (H.is_open shelf.new))) }
     ensures nearer { IfOk result (λ next. OnLines next (IsNearer reader.old reader.new)) }
-    ensures none { IfErr result (Says (λ _. ⊥)) }
+    ensures none { IfErr result (TellsOutcome (λ _. ⊥)) }
     ensures found { result ≢ Err LoadError.Missing }
     ensures files { H.files shelf.new ≡ H.files shelf.old }
     ensures fault { IsErrOf result LoadError.Fault → Rose (H.faults shelf.old) (H.faults shelf.new) }
@@ -100,10 +100,10 @@ pub(crate) fn read_batch<H: Shelf>(
     shelf: &mut H,
 ) -> Result<Next, LoadError>
     requires can { CanRead reader.old (H.is_open shelf.old) }
-    ensures reads { IfOk result (λ next. Reads reader.old waiting.old.items (stream reader.old (H.left shelf.old)) next reader.new waiting.new.items (stream reader.new (H.left shelf.new))) }
+    ensures reads { IfOk result (λ next. ReadsLines reader.old waiting.old.items (stream reader.old (H.left shelf.old)) next reader.new waiting.new.items (stream reader.new (H.left shelf.new))) }
     ensures can { IfOk result (λ next. OnLines next (CanRead reader.new (H.is_open shelf.new))) }
     ensures nearer { IfOk result (λ next. OnLines next (IsNearer reader.old reader.new)) }
-    ensures none { IfErr result (Says (λ _. ⊥)) }
+    ensures none { IfErr result (TellsOutcome (λ _. ⊥)) }
     ensures found { result ≢ Err LoadError.Missing }
     ensures files { H.files shelf.new ≡ H.files shelf.old }
     ensures fault { IsErrOf result LoadError.Fault → Rose (H.faults shelf.old) (H.faults shelf.new) }
@@ -127,7 +127,7 @@ fn load_next(
 ) -> Result<(), LoadError>
     requires { IsSoundLoader loader.old }
     ensures taken { OnOk result (IsTaken limits.now (triple_of waiting.now.triple) loader.old loader.new) }
-    ensures stopped { IfErr result (Says (Stops limits.now waiting.now loader.old)) }
+    ensures stopped { IfErr result (TellsOutcome (Stops limits.now waiting.now loader.old)) }
     ensures found { result ≢ Err LoadError.Missing }
     ensures no_fault { result ≢ Err LoadError.Fault }
 {
@@ -148,7 +148,7 @@ pub(crate) fn load_batch(
 ) -> Result<(), LoadError>
     requires { IsSoundLoader loader.old }
     ensures loaded { OnOk result (AreLoaded limits.now waiting.now loader.old loader.new) }
-    ensures stopped { IfErr result (Says (OneStops limits.now waiting.now loader.old)) }
+    ensures stopped { IfErr result (TellsOutcome (OneStops limits.now waiting.now loader.old)) }
     ensures found { result ≢ Err LoadError.Missing }
     ensures no_fault { result ≢ Err LoadError.Fault }
 {

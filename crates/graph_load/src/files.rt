@@ -3,7 +3,7 @@ ghost use Rattle.std.specs.Prelude.{◌≡◌, ◌≢◌, ℕ, List, IfOk, IfErr
 ghost use Rattle.px_base.specs.Causes.{Rose};
 ghost use Rattle.label_graph.specs.Held.{no_room};
 ghost use Rattle.graph_load.specs.Loads.{Outcome, Loads, loaded, at_start};
-ghost use Rattle.graph_load.specs.LoadSteps.{LoadsTold, LacksFile, Says, LoadsAhead};
+ghost use Rattle.graph_load.specs.LoadSteps.{LoadsTold, LacksFile, TellsOutcome, LoadsAhead};
 ghost use Rattle.graph_load.specs.declared.files.LoadError.TheVariants.{Memory as NoMemory};
 
 use crate::batch::{Next, give_back, load_batch, read_batch};
@@ -49,7 +49,7 @@ fn load_lines<H: Shelf>(alloc: Global, limits: &Limits, shelf: &mut H) -> Result
     requires { IsTrue (H.is_open shelf.old) }
     ensures loaded { IfOk result (λ g. LoadsAhead limits.now (H.left shelf.old) at_start (loaded g.graph)) }
     ensures room { IfOk result (λ g. g.room ≡ no_room) }
-    ensures refused { IfErr result (Says (LoadsAhead limits.now (H.left shelf.old) at_start)) }
+    ensures refused { IfErr result (TellsOutcome (LoadsAhead limits.now (H.left shelf.old) at_start)) }
     ensures found { result ≢ Err LoadError.Missing }
     ensures files { H.files shelf.new ≡ H.files shelf.old }
     ensures fault { IsErrOf result LoadError.Fault → Rose (H.faults shelf.old) (H.faults shelf.new) }
@@ -84,8 +84,9 @@ fn load_lines<H: Shelf>(alloc: Global, limits: &Limits, shelf: &mut H) -> Result
 /// a triple its subject, the triple, its object.
 ///
 /// The first line that is refused ends the load: `Limit` and `Syntax` have its number. `Missing` comes where
-/// there is no file of that name, and `Fault` where a call on the shelf failed. The time is expected to be linear in
-/// the bytes of the file: terms and triples are found by hash.
+/// there is no file of that name, and `Fault` where a call on the shelf failed. Expected O(b) for a file of b
+/// bytes. Beside the graph it takes, while it loads, the bytes of the distinct terms and predicates with 36 to
+/// 40 more for each term, an entry of a hash table for each distinct triple, and the longest line.
 #[tactic(auto, using(crate::proofs::OneOutcome::one_outcome))]
 pub fn load<H: Shelf>(
     alloc: Global,
@@ -98,7 +99,7 @@ pub fn load<H: Shelf>(
     // It has no room for an addition.
     ensures room { IfOk result (λ g. g.room ≡ no_room) }
     // The number of a line comes only where the text of the file is refused there, for that reason.
-    ensures refused { IfErr result (Says (LoadsTold limits.now (H.files shelf.old) name.now)) }
+    ensures refused { IfErr result (TellsOutcome (LoadsTold limits.now (H.files shelf.old) name.now)) }
     // A text loads to one outcome at most.
     ensures once { (text : List ℕ) (a b : Outcome) → Loads limits.now text a → Loads limits.now text b → a ≡ b }
     ensures missing { IsErrOf result LoadError.Missing → LacksFile (H.files shelf.old) name.now }

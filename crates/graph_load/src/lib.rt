@@ -1,16 +1,13 @@
 //! Graph files: the graph of the triples of an N-Triples text.
 #![tactic(auto)]
 
-mod additions;
 mod batch;
 mod files;
 mod hashed;
-mod kinds;
 mod known;
+mod limited_changes;
 mod loader;
 mod predicates;
+mod term_changes;
 
 pub use files::{LoadError, load};
-
-#[cfg(test)]
-mod tests;

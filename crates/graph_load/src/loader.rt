@@ -6,16 +6,16 @@ ghost use Rattle.term_table.specs.Terms.{number_of, place_in};
 ghost use Rattle.term_table.specs.Finding.{IsFound, IsFoundAs};
 ghost use Rattle.triples_read.specs.declared.term.Term.{Term as TermSeen};
 ghost use Rattle.graph_load.specs.Hashed.{triple_of};
-ghost use Rattle.graph_load.specs.Loaders.{ArePlaces, is_known, load_state, with_new, Holds, IsSoundLoader, Steps, IsStopped, IsTaken, IsUntaken};
+ghost use Rattle.graph_load.specs.Loaders.{ArePlaces, is_known, load_state, with_new, Holds, IsSoundLoader, LoaderStep, IsStopped, IsTaken, IsUntaken};
 
 pub(crate) mod ahead;
 
-use crate::additions::{Stop, add_node, make};
 use crate::hashed::HashedTriple;
-use crate::kinds::Kinds;
 use crate::known::{Key, Known};
+use crate::limited_changes::{Stop, add_node, make};
 use crate::loader::ahead::Hints;
 use crate::predicates::Predicates;
+use crate::term_changes::TermChanges;
 use graph_update::Change;
 use label_graph::Graph;
 use px_base::{Limits, Memory, NodeId, Text};
@@ -29,7 +29,7 @@ pub(crate) struct Loader {
     terms: TermTable,
     predicates: Predicates,
     known: Known,
-    kinds: Kinds,
+    term_changes: TermChanges,
 }
 
 /// Where the parts of a triple stand: its subject and its object among the terms, its predicate among the
@@ -53,7 +53,7 @@ impl Loader {
             terms: TermTable::new(alloc)?,
             predicates: Predicates::new(alloc),
             known: Known::new(alloc),
-            kinds: Kinds::new(alloc)?,
+            term_changes: TermChanges::new(alloc)?,
         })
     }
 
@@ -105,12 +105,17 @@ impl Loader {
     fn add_term(&mut self, alloc: Global, limits: &Limits, term: &HashedTerm) -> Result<Found, Stop>
         requires sound { IsSoundLoader self.old }
         requires absent { number_of self.old.terms term.now ≡ None }
-        ensures steps { OnOk result (Steps (need limits.now term.now) self.old self.new) }
+        ensures steps { OnOk result (LoaderStep (need limits.now term.now) self.old self.new) }
         ensures place { IfOk result (λ f. place_in self.new.terms term.now ≡ Some f.place) }
         ensures number { IfOk result (λ f. number_of self.new.terms term.now ≡ Some f.number) }
         ensures limit { IsErrOf result Stop.Limit → IsStopped (need limits.now term.now) self.old }
     {
-        let number = add_node(alloc, &mut self.graph, self.kinds.node(term.term()), limits)?;
+        let number = add_node(
+            alloc,
+            &mut self.graph,
+            self.term_changes.node(term.term()),
+            limits,
+        )?;
         let place = self.terms.insert(term, number)?;
         Ok(Found { place, number })
     }
@@ -125,7 +130,7 @@ impl Loader {
     ) -> Result<Found, Stop>
         requires sound { IsSoundLoader self.old }
         requires found { IsFoundAs self.old.terms term.now found }
-        ensures steps { OnOk result (Steps (need limits.now term.now) self.old self.new) }
+        ensures steps { OnOk result (LoaderStep (need limits.now term.now) self.old self.new) }
         ensures place { IfOk result (λ f. place_in self.new.terms term.now ≡ Some f.place) }
         ensures number { IfOk result (λ f. number_of self.new.terms term.now ≡ Some f.number) }
         ensures limit { IsErrOf result Stop.Limit → IsStopped (need limits.now term.now) self.old }
@@ -158,7 +163,7 @@ impl Loader {
     ) -> Result<(u32, NodeId), Stop>
         requires sound { IsSoundLoader self.old }
         requires found { IfSome found (λ p. position (bytes_eq predicate.now) self.old.predicates ≡ Some p) }
-        ensures steps { OnOk result (Steps (changed limits.now (node (predicate_label predicate.now))) self.old self.new) }
+        ensures steps { OnOk result (LoaderStep (changed limits.now (node (predicate_label predicate.now))) self.old self.new) }
         ensures place { IfOk result (λ f. position (bytes_eq predicate.now) self.new.predicates ≡ Some f.0) }
         ensures number { IfOk result (λ f. f.1 ≡ length self.old.graph.graph.given) }
         ensures limit { IsErrOf result Stop.Limit → IsStopped (changed limits.now (node (predicate_label predicate.now))) self.old }
@@ -174,7 +179,7 @@ impl Loader {
     // Adds an edge.
     fn link(&mut self, alloc: Global, limits: &Limits, from: NodeId, to: NodeId) -> Result<(), Stop>
         requires sound { IsSoundLoader self.old }
-        ensures steps { OnOk result (Steps (changed limits.now (link from to)) self.old self.new) }
+        ensures steps { OnOk result (LoaderStep (changed limits.now (link from to)) self.old self.new) }
         ensures terms { OnOk result (self.new.terms ≡ self.old.terms) }
         ensures limit { IsErrOf result Stop.Limit → IsStopped (changed limits.now (link from to)) self.old }
     {
@@ -194,7 +199,7 @@ impl Loader {
     ) -> Result<u32, Stop>
         requires sound { IsSoundLoader self.old }
         requires found { IfSome found (IsFound self.old.terms object.now) }
-        ensures steps { (x : TermSeen) → number_of self.old.terms x ≡ Some from → OnOk result (Steps (joined limits.now x node object.now) self.old self.new) }
+        ensures steps { (x : TermSeen) → number_of self.old.terms x ≡ Some from → OnOk result (LoaderStep (joined limits.now x node object.now) self.old self.new) }
         ensures place { IfOk result (λ p. place_in self.new.terms object.now ≡ Some p) }
         ensures limit { IsErrOf result Stop.Limit → (x : TermSeen) → number_of self.old.terms x ≡ Some from → IsStopped (joined limits.now x node object.now) self.old }
     {

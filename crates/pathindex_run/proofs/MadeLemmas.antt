@@ -9,7 +9,7 @@ use Rattle.bisim_spec.specs.declared.kind.Kind.{Kind}
 use Rattle.graph_load.specs.declared.files.LoadError.{LoadError}
 use Rattle.graph_load.specs.declared.files.LoadError.TheVariants as error
 use Rattle.graph_load.specs.Loads.{Outcome, loaded, syntax, limit, Loads}
-use Rattle.graph_load.specs.LoadSteps.{LoadsTold, LacksFile, Says}
+use Rattle.graph_load.specs.LoadSteps.{LoadsTold, LacksFile, TellsOutcome}
 use Rattle.index_api.specs.Kept.{kinds_of}
 use Rattle.index_api.specs.Meanings.{IsBuilt}
 use Rattle.pathindex_core.specs.Engines.{Opened, EngineSeen, EachBecomes, IsSound, graph_in}
@@ -35,7 +35,7 @@ told_text limits bytes text o e f h =
     subst (λ t. Loads program_limits t o) (sym same ∙ f) (subst (λ l. Loads l h.0 o) e h.2)
 
 pub says_text : (limits : Limits) (bytes text : List ℕ) (x : LoadError) → limits ≡ program_limits → bytes ≡ text
-    → Says (LoadsTold limits (Some (text_file bytes ∷ [])) []) x → Says (Loads program_limits text) x
+    → TellsOutcome (LoadsTold limits (Some (text_file bytes ∷ [])) []) x → TellsOutcome (Loads program_limits text) x
 says_text limits bytes text (error.Syntax l) e f h = told_text limits bytes text (syntax l) e f h
 says_text limits bytes text (error.Limit l) e f h = told_text limits bytes text (limit l) e f h
 says_text limits bytes text error.Missing e f h = tt

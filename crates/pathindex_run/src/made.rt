@@ -2,7 +2,7 @@
 ghost use Rattle.std.specs.Prelude.{◌≡◌, ◌≢◌, Err, map, None, Some, IfOk, IfErr};
 ghost use Rattle.px_spec.specs.ProgramLimits.{program_limits};
 ghost use Rattle.graph_load.specs.Loads.{Loads, loaded};
-ghost use Rattle.graph_load.specs.LoadSteps.{Says};
+ghost use Rattle.graph_load.specs.LoadSteps.{TellsOutcome};
 ghost use Rattle.made_texts.specs.MadeTexts.{made_graph_text};
 ghost use Rattle.index_api.specs.Kept.{kinds_of};
 ghost use Rattle.pathindex_core.specs.Engines.{engine_seen, opened_of, IsSound};
@@ -26,7 +26,7 @@ use std::alloc::Global;
 /// Loads a graph file that has this text.
 fn load_text(alloc: Global, text: &[u8]) -> Result<Graph, LoadError>
     ensures loaded { IfOk result (λ g. Loads program_limits text.now (loaded g.graph)) }
-    ensures refused { IfErr result (Says (Loads program_limits text.now)) }
+    ensures refused { IfErr result (TellsOutcome (Loads program_limits text.now)) }
     ensures found { result ≢ Err LoadError.Missing }
     ensures read { result ≢ Err LoadError.Fault }
 {
@@ -42,7 +42,7 @@ fn load_text(alloc: Global, text: &[u8]) -> Result<Graph, LoadError>
 /// Loads the graph file that is made from the seed.
 fn load_made(alloc: Global, seed: u64) -> Result<Graph, LoadError>
     ensures loaded { IfOk result (λ g. Loads program_limits (made_graph_text seed) (loaded g.graph)) }
-    ensures refused { IfErr result (Says (Loads program_limits (made_graph_text seed))) }
+    ensures refused { IfErr result (TellsOutcome (Loads program_limits (made_graph_text seed))) }
     ensures found { result ≢ Err LoadError.Missing }
     ensures read { result ≢ Err LoadError.Fault }
 {

@@ -11,7 +11,8 @@ use px_base::{Memory, NodeId, Steps};
 use std::alloc::Global;
 use std::marker::Brand;
 use std::sync::ledger::{Blank, Ledger};
-use term_table::Hint;
+use term_table::{HashedTerm, Hint};
+use triples_read::Term;
 
 /// Where the terms of a triple may stand, and where its predicate does.
 #[derive(Clone, Copy)]
@@ -21,21 +22,14 @@ pub(crate) struct Hints {
     pub(crate) object: Hint,
 }
 
-/// What was found out about a triple. Nothing needs `read`, which depends on all that was read ahead: it is stored, so that
-/// the compiler keeps those reads.
-#[derive(Clone, Copy)]
-struct Ahead {
-    hints: Hints,
-    read: u32,
-}
-
 /// What was found out about the triples of a batch, in their order.
 #[derive(Drop)]
 pub(crate) struct Lookahead {
-    triples: Vec<Ahead>,
+    triples: Vec<Hints>,
 }
 
-// The stages. Each goes over all triples, and reads at addresses that the stages before it have read.
+// The stages. Each goes over all triples, and reads at addresses that the stages before it have read. What it reads decides
+// which hints are left, so that the compiler keeps those reads.
 impl Lookahead {
     /// Nothing was looked up.
     pub(crate) fn new(alloc: Global) -> Lookahead {
@@ -49,49 +43,50 @@ impl Lookahead {
         self.hash(loader, waiting)?;
         self.enter_chains(loader);
         self.pass_others(loader);
-        self.read_terms(loader);
-        self.read_places(loader);
+        self.compare_terms(loader, waiting);
+        self.compare_ends(loader, waiting);
         Ok(())
     }
 
     /// The hints for a triple, by its place in the batch.
     pub(crate) fn hints(&self, place: usize) -> Option<Hints> {
-        let ahead = self.triples.get(place)?;
-        Some(ahead.hints)
+        let hints = self.triples.get(place)?;
+        Some(*hints)
     }
 
     fn hash(&mut self, loader: &Loader, waiting: &[Waiting]) -> Result<(), Memory> {
         self.triples.clear();
         for w in waiting {
-            self.triples.push(Ahead {
-                hints: loader.hints(&w.triple),
-                read: 0,
-            })?;
+            self.triples.push(loader.hints(&w.triple))?;
         }
         Ok(())
     }
 
     fn enter_chains(&mut self, loader: &Loader) {
-        for ahead in self.triples.iter_mut() {
-            ahead.hints = loader.enter_chains(ahead.hints);
+        for hints in self.triples.iter_mut() {
+            *hints = loader.enter_chains(*hints);
         }
     }
 
     fn pass_others(&mut self, loader: &Loader) {
-        for ahead in self.triples.iter_mut() {
-            ahead.hints = loader.pass_others(ahead.hints);
+        for hints in self.triples.iter_mut() {
+            *hints = loader.pass_others(*hints);
         }
     }
 
-    fn read_terms(&mut self, loader: &Loader) {
-        for ahead in self.triples.iter_mut() {
-            ahead.read = loader.read_terms(ahead.hints);
+    fn compare_terms(&mut self, loader: &Loader, waiting: &[Waiting]) {
+        for n in 0..waiting.len() {
+            if let Some(hints) = self.triples.get_mut(n) {
+                *hints = loader.compare_terms(&waiting[n].triple, *hints);
+            }
         }
     }
 
-    fn read_places(&mut self, loader: &Loader) {
-        for ahead in self.triples.iter_mut() {
-            ahead.read = ahead.read.wrapping_add(loader.read_places(ahead.hints));
+    fn compare_ends(&mut self, loader: &Loader, waiting: &[Waiting]) {
+        for n in 0..waiting.len() {
+            if let Some(hints) = self.triples.get_mut(n) {
+                *hints = loader.compare_ends(&waiting[n].triple, *hints);
+            }
         }
     }
 }
@@ -123,25 +118,31 @@ impl Loader {
         }
     }
 
-    // Reads the first bytes of both terms, and whether their nodes are there.
-    fn read_terms(&self, hints: Hints) -> u32 {
-        self.read_term(hints.subject)
-            .wrapping_add(self.read_term(hints.object))
+    // Drops the hints that lead to terms with another first byte, or to no node.
+    fn compare_terms(&self, triple: &HashedTriple, hints: Hints) -> Hints {
+        Hints {
+            subject: self.compare_term(&triple.subject, hints.subject),
+            object: self.compare_term(&triple.object, hints.object),
+            ..hints
+        }
     }
 
-    fn read_term(&self, hint: Hint) -> u32 {
-        let byte = self.terms.first_byte(hint).unwrap_or(0);
-        let node = self.live_node(hint).unwrap_or(0);
-        node.wrapping_add(u32::from(byte))
+    fn compare_term(&self, term: &HashedTerm, hint: Hint) -> Hint {
+        if self.terms.first_byte(hint) == first_byte(term.term()) && self.has_node(hint) {
+            hint
+        } else {
+            Hint::of(term)
+        }
     }
 
-    // Reads the places at which the triple is put: in the set of those that are known, and at the ends of two lists of
-    // neighbours.
-    fn read_places(&self, hints: Hints) -> u32 {
-        let known = self.is_near(hints).unwrap_or(false);
-        let child = self.child(hints.subject).unwrap_or(0);
-        let parent = self.parent(hints.object).unwrap_or(0);
-        u32::from(known).wrapping_add(child).wrapping_add(parent)
+    // Looks where the triple is put: in the set of those that are known, and, where it isn't there, at the ends of two lists of
+    // neighbours. Where those neighbours are no nodes the hints are dropped.
+    fn compare_ends(&self, triple: &HashedTriple, hints: Hints) -> Hints {
+        if self.is_near(hints) == Some(true) || self.has_ends(hints) {
+            hints
+        } else {
+            self.hints(triple)
+        }
     }
 
     fn is_near(&self, hints: Hints) -> Option<bool> {
@@ -154,12 +155,22 @@ impl Loader {
         )
     }
 
-    fn live_node(&self, hint: Hint) -> Option<NodeId> {
-        let node = self.terms.number(hint)?;
-        if self.graph.is_live(node) {
-            Some(node)
-        } else {
-            None
+    fn has_node(&self, hint: Hint) -> bool {
+        match self.terms.number(hint) {
+            Some(node) => self.graph.is_live(node),
+            None => false,
+        }
+    }
+
+    // Whether the last child of the subject and the last parent of the object, where there are any, have numbers that are given.
+    fn has_ends(&self, hints: Hints) -> bool {
+        self.is_given(self.child(hints.subject)) && self.is_given(self.parent(hints.object))
+    }
+
+    fn is_given(&self, node: Option<NodeId>) -> bool {
+        match node {
+            Some(node) => node < self.graph.created(),
+            None => true,
         }
     }
 
@@ -169,6 +180,15 @@ impl Loader {
 
     fn parent(&self, hint: Hint) -> Option<NodeId> {
         some_parent(&self.graph, self.terms.number(hint)?)
+    }
+}
+
+// The first byte of a term's own text.
+fn first_byte(term: &Term) -> Option<u8> {
+    match term {
+        Term::Iri(text) | Term::Blank(text) | Term::Literal { text, .. } => {
+            text.as_bytes().first().copied()
+        }
     }
 }
 

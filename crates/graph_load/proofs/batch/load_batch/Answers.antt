@@ -1,6 +1,6 @@
 use Rattle.std.proofs.Common.{rules}
 use Rattle.std.proofs.lemmas.Result.{err_from_is_err_and}
-use Rattle.graph_load.proofs.LineSteps.{left_none, left_next, left_stops, says_map}
+use Rattle.graph_load.proofs.LineSteps.{left_none, left_next, left_stops, tells_map}
 use Rattle.graph_load.proofs.batch.load_batch.Goals as goal
 
 pub loop-n-preserved : goal.loop-n-preserved
@@ -12,7 +12,7 @@ pub returns-in_err-load_next-clause-stopped : goal.returns-in_err-load_next-clau
 returns-in_err-load_next-clause-stopped c =
     let p = err_from_is_err_and c.from_residual-in_err-load_next.result c.from_residual-in_err-load_next.ensures.1 in
     rw (p.1, p.2) (
-    says_map _ _ (left_stops c.args.limits.now c.args.waiting.now c.loop-n.n c.args.loader.now c.loop-n.loader c.loop-n.invariant c.index-waiting-n.result c.loop-n-test.true c.index-waiting-n.is)
+    tells_map _ _ (left_stops c.args.limits.now c.args.waiting.now c.loop-n.n c.args.loader.now c.loop-n.loader c.loop-n.invariant c.index-waiting-n.result c.loop-n-test.true c.index-waiting-n.is)
     c.in_err-load_next.field-0.0 c.in_err-load_next.ensures.stopped)
 
 pub returns-clause-loaded : goal.returns-clause-loaded

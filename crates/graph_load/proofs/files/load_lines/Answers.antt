@@ -4,7 +4,7 @@ use Rattle.graph_load.specs.declared.batch.Next.TheVariants.{Lines, End, Syntax,
 use Rattle.graph_load.specs.Loads as outcome
 use Rattle.graph_load.specs.Loaders.{load_state}
 use Rattle.graph_load.specs.LoadSteps.{with_all, AreLoaded, OneStops}
-use Rattle.graph_load.proofs.LineSteps.{start_leads, says_map, batch_leads}
+use Rattle.graph_load.proofs.LineSteps.{start_leads, tells_map, batch_leads}
 use Rattle.graph_load.proofs.files.load_lines.Goals as goal
 
 pub batches-init : goal.batches-init
@@ -75,7 +75,7 @@ returns-in-Limit-clause-refused g c =
 pub returns-in-Err-load_batch-clause-refused : goal.returns-in-Err-load_batch-clause-refused
 returns-in-Err-load_batch-clause-refused g c =
     let inv = c.batches.invariant in
-    says_map (OneStops c.args.limits.now c.deref.result.now c.batches.loader) _ (λ o stops.
+    tells_map (OneStops c.args.limits.now c.deref.result.now c.batches.loader) _ (λ o stops.
     let s = stops inv.triples inv.holds in
     batch_leads c.args.limits.now c.batches.reader c.read_batch.new.reader (stream c.batches.reader (g.H.Shelf.left c.batches.shelf)) (stream c.read_batch.new.reader (g.H.Shelf.left c.read_batch.new.shelf))
     c.batches.waiting.items c.read_batch.new.waiting.items c.in-Ok.next (load_state c.batches.loader inv.triples) (Err s.0) _

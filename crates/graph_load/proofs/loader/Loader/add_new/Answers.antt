@@ -2,7 +2,7 @@ use Rattle.std.proofs.Common.{◌≡◌, rules, Some}
 use Rattle.std.specs.Prelude.{IsErrOf}
 use Rattle.px_spec.specs.Changes.{node}
 use Rattle.triples_read.specs.declared.term.Term.{Term}
-use Rattle.graph_load.specs.declared.additions.Stop.TheVariants.{Limit}
+use Rattle.graph_load.specs.declared.limited_changes.Stop.TheVariants.{Limit}
 use Rattle.graph_load.specs.TripleGraphs.{need, changed, joined, predicate_label}
 use Rattle.term_table.specs.Terms.{number_of}
 use Rattle.graph_load.specs.Loaders.{IsStopped}

@@ -1,7 +1,7 @@
 use Rattle.std.proofs.Common.{rules}
 use Rattle.std.specs.Prelude.{IsErrOf}
 use Rattle.px_spec.specs.Changes.{link}
-use Rattle.graph_load.specs.declared.additions.Stop.TheVariants.{Limit}
+use Rattle.graph_load.specs.declared.limited_changes.Stop.TheVariants.{Limit}
 use Rattle.graph_load.specs.TripleGraphs.{need, changed}
 use Rattle.graph_load.specs.Loaders.{IsStopped}
 use Rattle.graph_load.proofs.EdgeSteps.{joined_stopped, joined_stopped_first, joined_stopped_second, joined_steps}

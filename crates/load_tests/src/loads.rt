@@ -1,5 +1,5 @@
 // Whole loads of files in memory.
-use super::*;
+use graph_load::{LoadError, load};
 use label_graph::Graph;
 use px_base::{Limits, MemShelf, Memory, Text};
 use std::alloc::Global;
@@ -53,7 +53,7 @@ _:b0 <http://xmlns.com/foaf/0.1/name> \"ana\" .
 <http://example.org/bo> <http://xmlns.com/foaf/0.1/knows> <http://example.org/ana> .
 ";
 
-/// More triples than are loaded at once, one of them twice.
+/// More triples than the 16 that are looked up together, one of them twice.
 const MANY: &[u8] = b"<a> <p> \"01\" .
 <a> <p> \"02\" .
 <a> <p> \"03\" .

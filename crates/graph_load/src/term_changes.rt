@@ -10,13 +10,13 @@ use triples_read::Term;
 
 /// The changes that add the node of a term, one for each kind of term.
 #[derive(Drop)]
-pub(crate) struct Kinds {
+pub(crate) struct TermChanges {
     iri: Change,
     blank: Change,
     literal: Change,
 }
 
-impl Model for Kinds {
+impl Model for TermChanges {
     ghost use Rattle.std.specs.Prelude.{⊤, ◌≡◌, codes};
     ghost use Rattle.graph_update.specs.declared.changes.Change.TheVariants.{Node as node_of_change};
 
@@ -33,10 +33,10 @@ fn labelled(alloc: Global, label: &str) -> Result<Change, Memory>
     Ok(Change::Node(Text::from_string(String::from_str(alloc, label)?)))
 }
 
-impl Kinds {
+impl TermChanges {
     /// The three labels are made once.
-    pub(crate) fn new(alloc: Global) -> Result<Kinds, Memory> {
-        Ok(Kinds {
+    pub(crate) fn new(alloc: Global) -> Result<TermChanges, Memory> {
+        Ok(TermChanges {
             iri: labelled(alloc, "iri")?,
             blank: labelled(alloc, "blank")?,
             literal: labelled(alloc, "literal")?,

@@ -4,7 +4,7 @@ ghost use Rattle.px_spec.specs.Changes.{apply};
 ghost use Rattle.label_graph.specs.Held.{no_room};
 ghost use Rattle.graph_update.specs.Judging.{change_of};
 ghost use Rattle.graph_load.specs.Refused.{IsRefused};
-ghost use Rattle.graph_load.specs.declared.additions.Stop.TheVariants.{Memory as NoMemory};
+ghost use Rattle.graph_load.specs.declared.limited_changes.Stop.TheVariants.{Memory as NoMemory};
 
 use graph_update::{Change, Verdict, commit, judge, stage};
 use label_graph::Graph;

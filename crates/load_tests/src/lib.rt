@@ -1,0 +1,5 @@
+//! Tests of whole loads of files in memory.
+#![tactic(auto)]
+
+#[cfg(test)]
+mod loads;
