@@ -24,6 +24,7 @@ fn push_lines(out: &mut String, generator: &mut Generator, count: u32) -> Result
 
 /// The graph file of the seed: 20,000 lines of N-Triples over 4,000 IRIs, 8 predicates and 500 values. An
 /// object that is an IRI has a greater number than its subject. The same seed gives the same text everywhere.
+/// O(1), since the number of lines is fixed; the text is all the memory that it takes.
 pub fn made_graph(alloc: Global, seed: u64) -> Result<Text, Memory>
     ensures { IfOk result (λ t. t ≡ made_graph_text seed) }
 {

@@ -76,9 +76,10 @@ branch fb iri[/<http://e/p0> and not(/<http://e/p1>)]
     Ok(())
 }
 
-/// The script of the seed, for a graph in which the next node gets the number `nodes`: 2,000 changes, `sizes`, and 12
-/// queries. Where `nodes` isn't 0, each edge begins at a node that the script adds and leads to one of the first
-/// `nodes`. The same numbers give the same text everywhere.
+/// The script of the seed, for a graph in which the next node gets the number `nodes`: 2,000 changes, `sizes`,
+/// and 12 queries. Where `nodes` isn't 0, each edge begins at a node that the script adds and leads to one of
+/// the first `nodes`. The same numbers give the same text everywhere. O(1), since the number of lines is fixed;
+/// the text is all the memory that it takes.
 pub fn made_script(alloc: Global, seed: u64, nodes: u32) -> Result<Text, Memory>
     ensures { IfOk result (λ t. t ≡ made_script_text seed nodes) }
 {
