@@ -12,7 +12,7 @@ use Rattle.index_api.specs.declared.kinds.Via.TheVariants.{Data, A, One, Fb}
 use Rattle.index_api.specs.Spelling.{via_word, kind_word}
 use Rattle.script_read.specs.Parts.{first_word, expression_text}
 use Rattle.script_read.specs.Commands.{Command, change, path, branch, extents, sizes, forget, IsIndex, IsVia, IsQuiet, IsSpelled, SpellsPair, AsksWith, Asks, NoCommand, SpellsOnce, LabelsOnce, PathsOnce, BranchesOnce}
-use Rattle.script_read.specs.Saying.{SaysNode, SaysQuery}
+use Rattle.script_read.specs.ScannedLines.{SaysNode, SaysQuery}
 use Rattle.script_read.proofs.WordLemmas.{head_word, is_split}
 use Rattle.script_read.proofs.CommandLemmas.{second_same, no_query, apart, begins, silent}
 

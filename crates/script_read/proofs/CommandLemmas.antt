@@ -12,7 +12,7 @@ use Rattle.path_query.specs.Labels.{SpellsLabel}
 use Rattle.path_query.specs.Parsed.{Spells, is_past}
 use Rattle.branch_spec.specs.Trees.{Branch}
 use Rattle.branch_text.specs.Parsed.{Spells as SpellsQuery}
-use Rattle.script_read.specs.Saying.{SaysNode, SaysQuery, OpensOther}
+use Rattle.script_read.specs.ScannedLines.{SaysNode, SaysQuery, OpensOther}
 use Rattle.script_read.specs.Reading.{Reads}
 use Rattle.script_read.specs.declared.commands.ScriptError.{ScriptError}
 use Rattle.script_read.specs.declared.commands.ScriptError.TheVariants.{Bad, Limit, Memory}

@@ -8,7 +8,7 @@ ghost use Rattle.branch_text.specs.Parsed.{Spells as SpellsQuery};
 ghost use Rattle.script_read.specs.Commands.{Command as Spelled, IsQuiet, IsSpelled, LabelsOnce, PathsOnce, BranchesOnce, SpellsOnce};
 ghost use Rattle.script_read.specs.Reading.{Reads};
 
-use crate::scan::{Said, scan};
+use crate::scan::{ScannedLine, scan};
 use branch_text::Branch;
 use index_api::{Kind, Via};
 use path_query::{ExprError, PathExpr, read_label};
@@ -109,18 +109,21 @@ pub fn read(alloc: Global, line: &[u8], limits: &Limits) -> Result<Option<Comman
     ensures quiet { IsQuiet line.now → (c : Spelled) → IsSpelled line.now c → ⊥ }
 {
     match scan(line) {
-        Said::Quiet => Ok(None),
-        Said::Node(word) => Ok(Some(Command::Node(parse_label(alloc, word)?))),
-        Said::Link(from, to) => Ok(Some(Command::Link(from, to))),
-        Said::Unlink(from, to) => Ok(Some(Command::Unlink(from, to))),
-        Said::Drop(node) => Ok(Some(Command::Drop(node))),
-        Said::Path(via, text) => Ok(Some(Command::Path(via, parse_path(alloc, text, limits)?))),
-        Said::Branch(via, text) => {
+        ScannedLine::Quiet => Ok(None),
+        ScannedLine::Node(word) => Ok(Some(Command::Node(parse_label(alloc, word)?))),
+        ScannedLine::Link(from, to) => Ok(Some(Command::Link(from, to))),
+        ScannedLine::Unlink(from, to) => Ok(Some(Command::Unlink(from, to))),
+        ScannedLine::Drop(node) => Ok(Some(Command::Drop(node))),
+        ScannedLine::Path(via, text) => Ok(Some(Command::Path(
+            via,
+            parse_path(alloc, text, limits)?,
+        ))),
+        ScannedLine::Branch(via, text) => {
             Ok(Some(Command::Branch(via, parse_branch(alloc, text, limits)?)))
         }
-        Said::Extents(via) => Ok(Some(Command::Extents(via))),
-        Said::Sizes => Ok(Some(Command::Sizes)),
-        Said::Forget(kind) => Ok(Some(Command::Forget(kind))),
-        Said::Bad => Err(ScriptError::Bad),
+        ScannedLine::Extents(via) => Ok(Some(Command::Extents(via))),
+        ScannedLine::Sizes => Ok(Some(Command::Sizes)),
+        ScannedLine::Forget(kind) => Ok(Some(Command::Forget(kind))),
+        ScannedLine::Bad => Err(ScriptError::Bad),
     }
 }

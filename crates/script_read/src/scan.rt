@@ -5,7 +5,7 @@ ghost use Rattle.index_api.specs.declared.kinds.Via.{Via as AnyVia};
 ghost use Rattle.index_api.specs.Spelling.{via_word};
 ghost use Rattle.script_read.specs.Commands.{IsVia};
 ghost use Rattle.script_read.specs.Parts.{first_word, behind_word, without_blanks, OpensNothing};
-ghost use Rattle.script_read.specs.Saying.{OpensOther, Says};
+ghost use Rattle.script_read.specs.ScannedLines.{OpensOther, IsScanned};
 
 use crate::indexes::{one_index, one_kind, via_of};
 use crate::nodes::{one_node, two_nodes};
@@ -15,7 +15,7 @@ use px_base::NodeId;
 
 /// What a line says. Its parts are borrowed from the line.
 #[derive(Clone, Copy)]
-pub(crate) enum Said<'a> {
+pub(crate) enum ScannedLine<'a> {
     Quiet,
     /// The text of a label.
     Node(&'a [u8]),
@@ -53,67 +53,67 @@ fn opens_nothing(word: &[u8]) -> bool
 }
 
 /// What a line with these parts says, which is no change.
-fn scan_query<'a>(word: &'a [u8], rest: &'a [u8]) -> Said<'a>
+fn scan_query<'a>(word: &'a [u8], rest: &'a [u8]) -> ScannedLine<'a>
     requires { OpensOther word.now }
-    ensures { (line : List ℕ) → word.now ≡ first_word line → rest.now ≡ behind_word line → Says line result }
+    ensures { (line : List ℕ) → word.now ≡ first_word line → rest.now ≡ behind_word line → IsScanned line result }
 {
     if is_word(word, "path") {
         match query_parts(rest) {
-            Some((via, text)) => Said::Path(via, text),
-            None => Said::Bad,
+            Some((via, text)) => ScannedLine::Path(via, text),
+            None => ScannedLine::Bad,
         }
     } else if is_word(word, "branch") {
         match query_parts(rest) {
-            Some((via, text)) => Said::Branch(via, text),
-            None => Said::Bad,
+            Some((via, text)) => ScannedLine::Branch(via, text),
+            None => ScannedLine::Bad,
         }
     } else if is_word(word, "extents") {
         match one_index(rest) {
-            Some(via) => Said::Extents(via),
-            None => Said::Bad,
+            Some(via) => ScannedLine::Extents(via),
+            None => ScannedLine::Bad,
         }
     } else if is_word(word, "sizes") {
         if is_over(rest) {
-            Said::Sizes
+            ScannedLine::Sizes
         } else {
-            Said::Bad
+            ScannedLine::Bad
         }
     } else if is_word(word, "forget") {
         match one_kind(rest) {
-            Some(kind) => Said::Forget(kind),
-            None => Said::Bad,
+            Some(kind) => ScannedLine::Forget(kind),
+            None => ScannedLine::Bad,
         }
     } else {
-        Said::Bad
+        ScannedLine::Bad
     }
 }
 
 /// What the line says. Takes no memory.
-pub(crate) fn scan(line: &[u8]) -> Said<'_>
-    ensures { Says line.now result }
+pub(crate) fn scan(line: &[u8]) -> ScannedLine<'_>
+    ensures { IsScanned line.now result }
 {
     let (word, rest) = split_word(line);
     if opens_nothing(word) {
-        Said::Quiet
+        ScannedLine::Quiet
     } else if is_word(word, "node") {
         match one_word(rest) {
-            Some(label) => Said::Node(label),
-            None => Said::Bad,
+            Some(label) => ScannedLine::Node(label),
+            None => ScannedLine::Bad,
         }
     } else if is_word(word, "link") {
         match two_nodes(rest) {
-            Some((from, to)) => Said::Link(from, to),
-            None => Said::Bad,
+            Some((from, to)) => ScannedLine::Link(from, to),
+            None => ScannedLine::Bad,
         }
     } else if is_word(word, "unlink") {
         match two_nodes(rest) {
-            Some((from, to)) => Said::Unlink(from, to),
-            None => Said::Bad,
+            Some((from, to)) => ScannedLine::Unlink(from, to),
+            None => ScannedLine::Bad,
         }
     } else if is_word(word, "drop") {
         match one_node(rest) {
-            Some(node) => Said::Drop(node),
-            None => Said::Bad,
+            Some(node) => ScannedLine::Drop(node),
+            None => ScannedLine::Bad,
         }
     } else {
         scan_query(word, rest)

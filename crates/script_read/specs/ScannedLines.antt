@@ -5,8 +5,8 @@ use Rattle.px_spec.specs.Changes.{link, unlink, drop}
 use Rattle.index_api.specs.declared.kinds.Via.{Via}
 use Rattle.script_read.specs.Commands.{change, extents, sizes, forget, AsksWith, Asks, IsQuiet, IsSpelled, NoCommand}
 use Rattle.script_read.specs.Parts.{expression_text, OpensNothing}
-use Rattle.script_read.specs.declared.scan.Said.{Said}
-use Rattle.script_read.specs.declared.scan.Said.TheVariants.{Quiet, Node, Link, Unlink, Drop, Path, Branch, Extents, Sizes, Forget, Bad}
+use Rattle.script_read.specs.declared.scan.ScannedLine.{ScannedLine}
+use Rattle.script_read.specs.declared.scan.ScannedLine.TheVariants.{Quiet, Node, Link, Unlink, Drop, Path, Branch, Extents, Sizes, Forget, Bad}
 
 -- the line adds a node with the label that this word spells
 abbrev pub SaysNode : List ℕ → List ℕ → Type 0
@@ -25,15 +25,15 @@ pub record OpensOther (word : List ℕ) : Type 0 where
   pub no_drop : word ≢ codes "drop"
 
 -- the line says this
-abbrev pub Says : List ℕ → Said → Type 0
-Says line Quiet = IsQuiet line
-Says line (Node word) = SaysNode line word.now
-Says line (Link u v) = IsSpelled line (change (link u v))
-Says line (Unlink u v) = IsSpelled line (change (unlink u v))
-Says line (Drop u) = IsSpelled line (change (drop u))
-Says line (Path via text) = SaysQuery (codes "path") line via text.now
-Says line (Branch via text) = SaysQuery (codes "branch") line via text.now
-Says line (Extents via) = IsSpelled line (extents via)
-Says line Sizes = IsSpelled line sizes
-Says line (Forget kind) = IsSpelled line (forget kind)
-Says line Bad = NoCommand line × (¬ Asks line)
+abbrev pub IsScanned : List ℕ → ScannedLine → Type 0
+IsScanned line Quiet = IsQuiet line
+IsScanned line (Node word) = SaysNode line word.now
+IsScanned line (Link u v) = IsSpelled line (change (link u v))
+IsScanned line (Unlink u v) = IsSpelled line (change (unlink u v))
+IsScanned line (Drop u) = IsSpelled line (change (drop u))
+IsScanned line (Path via text) = SaysQuery (codes "path") line via text.now
+IsScanned line (Branch via text) = SaysQuery (codes "branch") line via text.now
+IsScanned line (Extents via) = IsSpelled line (extents via)
+IsScanned line Sizes = IsSpelled line sizes
+IsScanned line (Forget kind) = IsSpelled line (forget kind)
+IsScanned line Bad = NoCommand line × (¬ Asks line)
