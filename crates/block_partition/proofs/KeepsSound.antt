@@ -219,9 +219,9 @@ nowhere xs n v e h = let none : at xs n ≡ None = ap (λ ys. at ys n) e in cc
 
 -- tables that are empty
 pub sound_none : (bl nx pv fs : Table) (lb : List (Option ℕ)) (lc : ℕ) (sz : List ℕ) (sc : ℕ) (fr : Gaps)
-    → bl.places ≡ [] → nx.places ≡ [] → pv.places ≡ [] → fs.places ≡ [] → lb ≡ [] → sz ≡ [] → fr.low ≡ 0
+    → bl.places ≡ [] → nx.places ≡ [] → pv.places ≡ [] → fs.places ≡ [] → lb ≡ [] → sz ≡ [] → fr.low ≡ 0 → fr.full ≡ []
     → IsSoundPartition bl nx pv fs lb lc sz sc fr 0 0 0
-sound_none bl nx pv fs lb lc sz sc fr eb en ep ef el es er =
+sound_none bl nx pv fs lb lc sz sc fr eb en ep ef el es er eg =
     let b0 : length bl.places ≡ 0 = ap length eb in
     let n0 : length nx.places ≡ 0 = ap length en in
     let p0 : length pv.places ≡ 0 = ap length ep in
@@ -260,7 +260,7 @@ sound_none bl nx pv fs lb lc sz sc fr eb en ep ef el es er =
             length_first = omega (arith, f0, l0);
             length_sizes = omega (arith, s0, l0);
             few = omega (arith, l0);
-            gaps = no_gaps lb fr el er;
+            gaps = no_gaps lb fr el er eg;
             all_fit = omega (arith, l0);
           };
       nodes_fit = record { few = omega (arith, b0); block_fits = omega (arith, b0); next_fits = omega (arith, b0); prev_fits = omega (arith, b0) };

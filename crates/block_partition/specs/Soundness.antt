@@ -1,8 +1,8 @@
 -- What holds of the tables of each partition.
-use Rattle.std.specs.Prelude.{◌≡◌, ℕ, ◌+◌, ◌/◌, ◌<◌, ◌≤◌, ◌^◌, false, List, length, Option, None, Some, IsSome, is_some, slice_index}
+use Rattle.std.specs.Prelude.{◌≡◌, ℕ, ◌+◌, ◌*◌, ◌<◌, ◌≤◌, ◌^◌, List, length, Option, None, Some, IsSome, is_some, slice_index}
 use Rattle.std.specs.List.{count_by}
 use Rattle.px_spec.specs.Members.{at, is_this}
-use Rattle.block_partition.specs.Tables.{Table, Gaps, flag_at, gap_room}
+use Rattle.block_partition.specs.Tables.{Table, Gaps, full_at, gap_room, group}
 
 -- The members of a block form a doubly linked list: the block of a node, the next member and the one before it, and the
 -- first member of a block. Ranks fall along each list, so none runs in a ring
@@ -32,10 +32,22 @@ pub record AreBlockCounts (block labels : List (Option ℕ)) (sizes : List ℕ) 
   pub sizes_are : (b : ℕ) → slice_index sizes b ≡ count_by (is_this b) block
   pub count_is : count ≡ count_by is_some labels
 
--- all free numbers stand in runs with flags, and none of them is too low
+-- that many runs from this one on stand in a group that begins with it
+pub record IsInGroup (run count : ℕ) : Type 0 where
+  pub level : ℕ
+  pub few : level < 7
+  pub first : group level run ≡ run
+  pub within : count ≤ 16 ^ level
+
+-- no free number stands in a run that an entry passes, and no entry leaves its group
+pub record AreFullRuns (labels : List (Option ℕ)) (full : List ℕ) : Type 0 where
+  pub passed : (k c : ℕ) → 64 * k ≤ c → c < 64 * (k + full_at full k) → c < length labels → IsSome (at labels c)
+  pub grouped : (k : ℕ) → IsInGroup k (full_at full k)
+
+-- no entry passes a free number, and none is too low
 pub record AreGaps (labels : List (Option ℕ)) (g : Gaps) : Type 0 where
   pub above : (c : ℕ) → c < g.low → IsSome (at labels c)
-  pub flagged : (c : ℕ) → c < length labels → flag_at g (c / 64) ≡ false → IsSome (at labels c)
+  pub runs : AreFullRuns labels g.full
 
 -- the tables by block are of one length, and free numbers are found
 pub record AreTables (first labels : List (Option ℕ)) (sizes : List ℕ) (freed : Gaps) : Type 0 where

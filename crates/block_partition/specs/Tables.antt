@@ -1,5 +1,5 @@
 -- The tables in which a partition is kept.
-use Rattle.std.specs.Prelude.{◌≡◌, ℕ, ◌+◌, ◌-◌, ◌*◌, ◌<◌, ◌≤◌, Bool, false, slice_index_or, List, ◌++◌, length, Option, None, Some, nat_eq, if◌then◌else◌, slice_set}
+use Rattle.std.specs.Prelude.{◌≡◌, ℕ, ◌+◌, ◌-◌, ◌*◌, ◌/◌, ◌^◌, ◌<◌, ◌≤◌, slice_index_or, List, ◌++◌, length, Option, None, Some, nat_eq, if◌then◌else◌, slice_set}
 use Rattle.std.proofs.Math.ListN.{replicate}
 use Rattle.block_partition.specs.Partitions.{Partition}
 
@@ -8,18 +8,22 @@ pub record Table : Type 0 where
   pub places : List (Option ℕ)
   pub capacity : ℕ
 
--- for each run of 64 numbers whether one of them may be free, and a number below which none is
+-- for each run of 64 numbers how many runs from it on have no free number, and a number below which none is
 pub record Gaps : Type 0 where
-  pub flags : List Bool
+  pub full : List ℕ
   pub low : ℕ
 
--- the flag of a run, and none past the end
-abbrev pub flag_at : Gaps → ℕ → Bool
-flag_at g k = slice_index_or g.flags k false
+-- the entry of a run, and zero past the end
+abbrev pub full_at : List ℕ → ℕ → ℕ
+full_at full k = slice_index_or full k 0
 
--- so many numbers have flags
+-- so many numbers have entries
 abbrev pub gap_room : Gaps → ℕ
-gap_room g = 64 * length g.flags
+gap_room g = 64 * length g.full
+
+-- the first run of a run's group of 16 ^ level runs
+abbrev pub group : ℕ → ℕ → ℕ
+group level run = 16 ^ level * (run / 16 ^ level)
 
 -- the greatest value of 32 bits stands for none
 abbrev pub slot_value : ℕ → Option ℕ

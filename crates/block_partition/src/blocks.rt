@@ -15,7 +15,8 @@ use std::marker::Model;
 /// A partition of nodes into blocks: a list with a block or none for each node number, and a label for
 /// each block. Numbers of nodes and of blocks are below 2^31.
 ///
-/// It takes 12 bytes for each node number, and little more than 16 for each block number.
+/// It takes 12 bytes for each node number, and little more than 16 for each block number. A call that takes
+/// 'no memory' asks the allocator for none.
 #[derive(Drop)]
 pub struct Blocks {
     block: Slots,
@@ -44,7 +45,7 @@ impl Model for Blocks {
 
 // Reading.
 impl Blocks {
-    /// The length of the list of blocks: at most 2^31. Numbers past its end have no block.
+    /// The length of the list of blocks: at most 2^31. Numbers past its end have no block. O(1), no memory.
     pub fn numbers(&self) -> u32
         ensures count { result ≡ length self.now.block_of }
         ensures few { result ≤ 2 ^ 31 }
@@ -52,7 +53,7 @@ impl Blocks {
         self.block.len() as u32
     }
 
-    /// The block of a node, and none where it has none.
+    /// The block of a node, and none where it has none. O(1), no memory.
     pub fn block_of(&self, n: NodeId) -> Option<u32>
         ensures block { result ≡ at self.now.block_of n }
         ensures live { IfSome result (IsBlock self.now) }
@@ -60,14 +61,14 @@ impl Blocks {
         self.block.get(n)
     }
 
-    /// Whether the number is that of a block.
+    /// Whether the number is that of a block. O(1), no memory.
     pub fn is_block(&self, b: u32) -> bool
         ensures { result ≡ is_some (at self.now.labels b) }
     {
         label_at(&self.labels, b).is_some()
     }
 
-    /// How many blocks there are: at most 2^31. O(1).
+    /// How many blocks there are: at most 2^31. O(1), no memory.
     pub fn count(&self) -> u32
         ensures count { result ≡ block_count self.now }
         ensures few { result ≤ 2 ^ 31 }
@@ -75,7 +76,7 @@ impl Blocks {
         self.count
     }
 
-    /// The numbers of blocks are below it: at most 2^31.
+    /// The numbers of blocks are below it: at most 2^31. O(1), no memory.
     pub fn span(&self) -> u32
         ensures span { result ≡ length self.now.labels }
         ensures few { result ≤ 2 ^ 31 }
@@ -84,8 +85,9 @@ impl Blocks {
         self.labels.len() as u32
     }
 
-    /// The least number from this one on that is no block: O(`span` / 64), and O(1) where each number below
-    /// `span` is a block.
+    /// The least number from this one on that is no block: at most `span`, where the given one is. O(1), no
+    /// memory: where some number below `span` is no block, it looks at the numbers of two runs of 64, and at some
+    /// hundred entries at most.
     pub fn next_free(&self, from: u32) -> u32
         ensures free { at self.now.labels result ≡ None }
         ensures from { from ≤ result }
@@ -97,7 +99,7 @@ impl Blocks {
         self.freed.next_from(&self.labels, from)
     }
 
-    /// The label of a block.
+    /// The label of a block. O(1), no memory.
     pub fn label(&self, b: u32) -> u32
         requires block { IsBlock self.now b }
         ensures { at self.now.labels b ≡ Some result }
@@ -105,7 +107,7 @@ impl Blocks {
         label_at(&self.labels, b).unwrap()
     }
 
-    /// How many members a block has. O(1).
+    /// How many members a block has. O(1), no memory.
     pub fn member_count(&self, b: u32) -> u32
         requires block { IsBlock self.now b }
         ensures { result ≡ member_count self.now b }
@@ -113,7 +115,7 @@ impl Blocks {
         self.sizes[b as usize]
     }
 
-    /// The members of a block, each once, in no stated order.
+    /// The members of a block, each once, in no stated order. O(1) for the call and for each member, no memory.
     pub fn members(&self, b: u32) -> Members<'_>
         requires block { IsBlock self.now b }
         ensures { Lists (is_member self.now b) result }
@@ -124,7 +126,7 @@ impl Blocks {
 
 // Room.
 impl Blocks {
-    /// No blocks. It takes no memory until room is made.
+    /// No blocks. O(1), no memory until room is made.
     pub fn new(alloc: Global) -> Result<Blocks, Memory>
         ensures { IfOk result (λ b. b ≡ no_blocks) }
     {
@@ -143,7 +145,8 @@ impl Blocks {
     }
 
     /// Makes room for that many further numbers past the end of the list, and for that many further
-    /// blocks, in place of the room that there was. On want of memory that room stays.
+    /// blocks, in place of the room that there was. On want of memory that room stays. O(`blocks`), and
+    /// O(`numbers` + `span`) more where a table moves; it takes 12 bytes a node and little more than 16 a block.
     pub fn reserve(&mut self, nodes: u32, blocks: u32) -> Result<(), Memory>
         requires nodes { length self.old.block_of + nodes ≤ 2 ^ 31 }
         requires blocks { block_count self.old + blocks ≤ 2 ^ 31 }
@@ -172,7 +175,7 @@ impl Blocks {
 // Writing.
 impl Blocks {
     /// Makes a block without members, by the room of one, and gives its number, the least that isn't a
-    /// block. It takes no memory, and the time of `next_free` and of a look at up to 64 numbers.
+    /// block. O(1), no memory: the time of `next_free` twice at most.
     pub fn new_block(&mut self, label: u32) -> u32
         requires room { 0 < self.old.room.blocks }
         ensures least { IsLeastFree self.old.labels result }
@@ -217,7 +220,7 @@ impl Blocks {
     }
 
     /// Puts a node that has no block into one. Where the node stands past the end of the list, the list
-    /// grows to end with it, by the room for numbers. It takes no memory.
+    /// grows to end with it, by the room for numbers. O(g) for g numbers that the list grows by, no memory.
     pub fn place(&mut self, n: NodeId, b: u32)
         requires block { IsBlock self.old b }
         requires free { at self.old.block_of n ≡ None }
@@ -230,7 +233,7 @@ impl Blocks {
     }
 
     /// Puts the node with the next number past the end of the list into a block, or into none, by the
-    /// room of one number. It takes no memory, and constant time.
+    /// room of one number. O(1), no memory.
     pub fn append(&mut self, block: Option<u32>)
         requires block { IfSome block (IsBlock self.old) }
         requires room { 0 < self.old.room.nodes }
@@ -243,7 +246,7 @@ impl Blocks {
         }
     }
 
-    /// Moves a node to a block, from that which it has. It takes no memory, and constant time.
+    /// Moves a node to a block, from that which it has. O(1), no memory.
     pub fn move_node(&mut self, n: NodeId, b: u32)
         requires has { IsSome (at self.old.block_of n) }
         requires block { IsBlock self.old b }
@@ -253,7 +256,7 @@ impl Blocks {
         self.link(n, b);
     }
 
-    /// Takes a node out of its block. It takes no memory, and constant time.
+    /// Takes a node out of its block. O(1), no memory.
     pub fn take_out(&mut self, n: NodeId)
         requires has { IsSome (at self.old.block_of n) }
         ensures { self.new ≡ with_move self.old n None }
@@ -272,7 +275,7 @@ impl Blocks {
         self.sizes[own as usize] -= 1;
     }
 
-    /// Takes a block without members away; its number is free again. It takes no memory, and constant time.
+    /// Takes a block without members away; its number is free again. O(1), no memory.
     pub fn retire_block(&mut self, b: u32)
         requires block { IsBlock self.old b }
         requires empty { (n : ℕ) → at self.old.block_of n ≢ Some b }
