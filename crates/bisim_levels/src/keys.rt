@@ -1,9 +1,9 @@
 // Writing the key of a node.
-ghost use Rattle.std.specs.Prelude.{◌≡◌, ◌++◌, ◌∷◌, [], ℕ, filter_map, nat_eq, option_to_list, OnOk, IfSome, Some};
-ghost use Rattle.std.specs.List.Retain.{IsFiltered, DiffersFromLast};
+ghost use Rattle.std.specs.Prelude.{◌≡◌, ◌++◌, ◌∷◌, [], ℕ, filter_map, option_to_list, OnOk, IfSome, Some};
 ghost use Rattle.px_spec.specs.Members.{at};
-ghost use Rattle.bisim_levels.specs.Keys.{IsSetOf, IsWritten};
+ghost use Rattle.bisim_levels.specs.Keys.{IsWritten};
 
+use key_table::sort_once;
 use px_base::{Memory, NodeId};
 
 /// The block of a node, and `None` past the end of the list.
@@ -54,21 +54,6 @@ fn push_blocks(
         push_block(numbers, block_of(block, *n))?;
     }
     Ok(())
-}
-
-// Of numbers that follow one another and are equal only the first stays.
-fn drop_repeats(numbers: &mut Vec<u32>)
-    ensures { IsFiltered (DiffersFromLast nat_eq) [] numbers.old.items numbers.new.items }
-{
-    numbers.dedup();
-}
-
-// Sorts the numbers, and keeps each once.
-fn sort_once(numbers: &mut Vec<u32>)
-    ensures { IsSetOf numbers.old.items numbers.new.items }
-{
-    numbers.sort_unstable();
-    drop_repeats(numbers);
 }
 
 /// Writes the key of a node with these neighbours, whose own block has this number.

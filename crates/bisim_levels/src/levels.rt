@@ -41,7 +41,8 @@ fn number_label(
     }
 }
 
-/// Level 0: nodes of one label together. The key of a block is the number of its label.
+/// Level 0: nodes of one label together. The key of a block is the number of its label. Expected O(n) for n
+/// node numbers; it takes 8 bytes a number, the table of keys, and 64 KiB while it runs.
 pub fn label_level(alloc: Global, view: &GraphView<'_>) -> Result<Level, Memory>
     ensures agrees { IfOk result (λ l. Agrees (shape_of view.now) l.block.items (SameLabel (shape_of view.now))) }
     ensures numbered { IfOk result (λ l. AreNumbered (label_number view.now) [] no_neighbours l.block.items (slice_get l.keys)) }
@@ -59,7 +60,8 @@ pub fn label_level(alloc: Global, view: &GraphView<'_>) -> Result<Level, Memory>
 }
 
 /// The level above a level of bisimilarity. The key of a block is its members' own block, and then the
-/// blocks of their parents, rising, each once, all of the level below.
+/// blocks of their parents, rising, each once, all of the level below. Expected O(n + m log m) for n node
+/// numbers and m edges, as `refine`, which says what memory it takes.
 pub fn next_level(
     alloc: Global,
     view: &GraphView<'_>,
@@ -77,7 +79,8 @@ pub fn next_level(
 
 /// The level above a level of bisimilarity over parents and children. The key of a block is its members'
 /// block once nodes are parted by their parents, and then the blocks of their children, rising, each once,
-/// of the level below.
+/// of the level below. Expected O(n + m log m) for n node numbers and m edges; it takes the memory of
+/// `refine` twice.
 pub fn next_level_both(
     alloc: Global,
     view: &GraphView<'_>,

@@ -8,12 +8,12 @@ use px_base::Memory;
 use std::alloc::Global;
 
 /// How many keys are at hand at most.
-const PLACES: usize = 1 << BITS;
+const SLOTS: usize = 1 << BITS;
 
-// How many bits the number of a place has.
+// How many bits the number of a slot has.
 const BITS: u32 = 12;
 
-/// The numbers that a key is spelled by, and its number in the table of keys, where it has one.
+/// The numbers that a key is spelled by, and its number in the table of keys, where it has one. 16 bytes.
 #[derive(Clone, Copy)]
 pub(crate) struct Recent {
     pub(crate) around: u32,
@@ -30,13 +30,13 @@ pub(crate) fn none_recent(alloc: Global) -> Result<Vec<Recent>, Memory>
         own: 0,
         number: None,
     };
-    let recent = vec![in alloc; none; PLACES]?;
+    let recent = vec![in alloc; none; SLOTS]?;
     Ok(recent)
 }
 
-// Where a key stands, if it is at hand: some bits of both numbers.
+// The slot in which a key stands, if it is at hand: some bits of both numbers.
 #[inline(always)]
-fn place_of(around: u32, own: u32) -> usize {
+fn slot_of(around: u32, own: u32) -> usize {
     ((around.wrapping_mul(0x9E37_79B9) ^ own.wrapping_mul(0x85EB_CA6B)) >> (32 - BITS)) as usize
 }
 
@@ -45,7 +45,7 @@ fn place_of(around: u32, own: u32) -> usize {
 fn recall(recent: &[Recent], around: u32, own: u32) -> Option<u32>
     ensures { (spell : ℕ → ℕ → List ℕ) (keys : List (List ℕ)) → AreRecent spell keys recent.now → IfSome result (λ k. slice_get keys k ≡ Some (spell around own)) }
 {
-    let r = recent.get(place_of(around, own))?;
+    let r = recent.get(slot_of(around, own))?;
     if r.around == around && r.own == own {
         r.number
     } else {
@@ -58,9 +58,9 @@ fn recall(recent: &[Recent], around: u32, own: u32) -> Option<u32>
 fn note(recent: &mut Vec<Recent>, around: u32, own: u32, number: u32)
     ensures { (spell : ℕ → ℕ → List ℕ) (keys : List (List ℕ)) → AreRecent spell keys recent.old.items → slice_get keys number ≡ Some (spell around own) → AreRecent spell keys recent.new.items }
 {
-    let place = place_of(around, own);
-    if place < recent.len() {
-        recent[place] = Recent {
+    let slot = slot_of(around, own);
+    if slot < recent.len() {
+        recent[slot] = Recent {
             around,
             own,
             number: Some(number),

@@ -97,8 +97,8 @@ fn number_of(
 
 /// The partition `own`, refined by the blocks in `base` of the neighbours on one side: nodes stay
 /// together where those are the same. Its blocks are numbered in the order of their first members.
-///
-/// It takes the time to sort each node's list of neighbours.
+/// Expected O(n + m log m) for n node numbers and m edges, since each node's list of neighbours is sorted; it
+/// takes 8 bytes a number, the table of keys, and 64 KiB while it runs.
 pub fn refine(
     alloc: Global,
     view: &GraphView<'_>,
