@@ -18,8 +18,7 @@ use std::marker::Model;
 /// supports. Reads show the base as it will be once the draft is settled. Each call is given the base; its
 /// labels must stay while something is drafted, and what is shown follows the base's blocks and supports.
 ///
-/// Each call takes constant time but for hashing, except `new_block`, which looks for the next free number, and
-/// `clear` and the calls that read or write lists, which say what they take.
+/// It takes memory for each block, move and pair that is drafted.
 #[derive(Drop)]
 pub struct Draft {
     pub(crate) added: Added,
@@ -37,7 +36,7 @@ impl Model for Draft {
 
 // Reading.
 impl Draft {
-    /// Nothing is drafted. It takes no memory until something is.
+    /// Nothing is drafted. O(1), no memory until something is.
     pub fn new(alloc: Global) -> Result<Draft, Memory>
         ensures empty { IfOk result (λ d. d ≡ no_changes) }
         ensures over { (block labels : List (Option ℕ)) → IfOk result (IsOver block labels) }
@@ -49,7 +48,7 @@ impl Draft {
         })
     }
 
-    /// The block of a node as shown, and none where it has none.
+    /// The block of a node as shown, and none where it has none. Expected O(1), no memory.
     pub fn block_of(&self, base: &Summary, n: NodeId) -> Option<u32>
         requires over { IsOver base.now.blocks.block_of base.now.blocks.labels self.now }
         ensures block { result ≡ at (shown_blocks base.now self.now) n }
@@ -58,7 +57,7 @@ impl Draft {
         self.moves.block_of(base, n)
     }
 
-    /// Whether the number is that of a block as shown.
+    /// Whether the number is that of a block as shown. Expected O(1), no memory.
     pub fn is_block(&self, base: &Summary, b: u32) -> bool
         requires over { IsOver base.now.blocks.block_of base.now.blocks.labels self.now }
         ensures { result ≡ is_some (at (shown_labels base.now self.now) b) }
@@ -66,7 +65,7 @@ impl Draft {
         self.added.label(base, b).is_some()
     }
 
-    /// The label of a block as shown.
+    /// The label of a block as shown. Expected O(1), no memory.
     pub fn label(&self, base: &Summary, b: u32) -> u32
         requires over { IsOver base.now.blocks.block_of base.now.blocks.labels self.now }
         requires block { IsSome (at (shown_labels base.now self.now) b) }
@@ -75,7 +74,7 @@ impl Draft {
         self.added.label(base, b).unwrap()
     }
 
-    /// How many edges lead from a member of `a` to a member of `b` as shown.
+    /// How many edges lead from a member of `a` to a member of `b` as shown. Expected O(1), no memory.
     pub fn support(&self, base: &Summary, a: u32, b: u32) -> u32
         ensures { result ≡ shown_support base.now self.now a b }
     {
@@ -85,7 +84,8 @@ impl Draft {
 
 // Drafting.
 impl Draft {
-    /// Drafts a block without members, and gives its number, the least that is no block as shown.
+    /// Drafts a block without members, and gives its number, the least that is no block as shown. On `Memory` the
+    /// draft stays. Expected O(1), spread over all that are drafted; it takes the memory of one block.
     pub fn new_block(&mut self, base: &Summary, label: u32) -> Result<u32, Memory>
         requires over { IsOver base.now.blocks.block_of base.now.blocks.labels self.old }
         requires few { count_by is_some (shown_labels base.now self.old) < 2 ^ 31 }
@@ -99,15 +99,16 @@ impl Draft {
         Ok(b)
     }
 
-    /// Takes the last block that was drafted out again. It takes no memory. The draft is as it was before that block
-    /// where nothing else was drafted since.
+    /// Takes the last block that was drafted out again. The draft is as it was before that block where nothing else
+    /// was drafted since. Expected O(1), no memory.
     pub fn forget_block(&mut self)
         ensures { (es : List (ℕ × ℕ)) (e : ℕ × ℕ) → self.old.added ≡ es ++ e ∷ [] → self.new ≡ record self.old { added = es } }
     {
         self.added.forget();
     }
 
-    /// Drafts the move of a node, which is below 2^31, to a block as shown, or out of its block.
+    /// Drafts the move of a node, which is below 2^31, to a block as shown, or out of its block. On `Memory` the draft
+    /// stays. Expected O(1), spread over all that are drafted; it takes the memory of one move.
     pub fn put(&mut self, base: &Summary, n: NodeId, b: Option<u32>) -> Result<(), Memory>
         requires over { IsOver base.now.blocks.block_of base.now.blocks.labels self.old }
         requires small { n < 2 ^ 31 }
@@ -123,7 +124,8 @@ impl Draft {
         Ok(())
     }
 
-    /// Drafts that one more edge leads from `a` to `b`, both blocks as shown.
+    /// Drafts that one more edge leads from `a` to `b`, both blocks as shown. On `Memory` the draft stays. Expected
+    /// O(1), spread over all that are drafted; it takes the memory of one pair.
     pub fn raise(&mut self, base: &Summary, a: u32, b: u32) -> Result<(), Memory>
         requires over { IsOver base.now.blocks.block_of base.now.blocks.labels self.old }
         requires from { IsSome (at (shown_labels base.now self.old) a) }
@@ -141,7 +143,8 @@ impl Draft {
         Ok(())
     }
 
-    /// Drafts that one edge fewer leads from `a` to `b`, both blocks as shown, which have support.
+    /// Drafts that one edge fewer leads from `a` to `b`, both blocks as shown, which have support. On `Memory` the
+    /// draft stays. Expected O(1), spread over all that are drafted; it takes the memory of one pair.
     pub fn lower(&mut self, base: &Summary, a: u32, b: u32) -> Result<(), Memory>
         requires over { IsOver base.now.blocks.block_of base.now.blocks.labels self.old }
         requires from { IsSome (at (shown_labels base.now self.old) a) }
@@ -159,7 +162,7 @@ impl Draft {
         Ok(())
     }
 
-    /// Drops all that is drafted. It takes no memory, and time linear in the largest size that the draft has had.
+    /// Drops all that is drafted. O(t) for t entries at the largest size that the draft has had, no memory.
     pub fn clear(&mut self)
         ensures empty { self.new ≡ no_changes }
         ensures over { (block labels : List (Option ℕ)) → IsOver block labels self.new }

@@ -9,7 +9,7 @@ use px_base::{Memory, NodeId};
 use quotient::Summary;
 
 impl Draft {
-    /// How many blocks there are as shown: at most 2^31. O(1).
+    /// How many blocks there are as shown: at most 2^31. O(1), no memory.
     pub fn blocks(&self, base: &Summary) -> u32
         requires over { IsOver base.now.blocks.block_of base.now.blocks.labels self.now }
         ensures count { result ≡ count_by is_some (shown_labels base.now self.now) }
@@ -17,7 +17,7 @@ impl Draft {
         base.blocks() + self.further(base)
     }
 
-    /// How many members a block has as shown. It takes constant time but for hashing.
+    /// How many members a block has as shown. Expected O(1), no memory.
     pub fn member_count(&self, base: &Summary, b: u32) -> u32
         requires over { IsOver base.now.blocks.block_of base.now.blocks.labels self.now }
         requires block { IsSome (at (shown_labels base.now self.now) b) }
@@ -26,8 +26,9 @@ impl Draft {
         self.moves.member_count(base, b)
     }
 
-    /// Lists the members of a block as shown, each once and rising, in place of what the list held; none where
-    /// the number is no block. It takes the members in the base and the puts into the block, and their sort.
+    /// Lists the members of a block as shown, each once, in place of what the list held; none where the number is
+    /// no block. Expected O(m log m) for m members in the base and puts into the block; it takes 4 bytes for each
+    /// where the list has no room.
     pub fn fill_members(&self, base: &Summary, b: u32, list: &mut Vec<NodeId>) -> Result<(), Memory>
         requires over { IsOver base.now.blocks.block_of base.now.blocks.labels self.now }
         ensures members { OnOk result (Lists (λ n. is_this b (at (shown_blocks base.now self.now) n)) list.new.items) }

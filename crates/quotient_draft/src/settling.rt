@@ -14,8 +14,9 @@ use px_base::Memory;
 use quotient::Summary;
 
 impl Draft {
-    /// Makes the room in the base that settling this draft needs. It leaves the base as it is seen. Linear in what is
-    /// drafted.
+    /// Makes the room in the base that settling this draft needs. It leaves the base as it is seen. O(d) for d
+    /// entries that are drafted, and linear in a table of the base where that moves; it takes what the drafted blocks,
+    /// moves and pairs take there.
     pub fn reserve(&self, base: &mut Summary) -> Result<(), Memory>
         requires over { IsOver base.old.blocks.block_of base.old.blocks.labels self.now }
         ensures same { view_of base.new ≡ view_of base.old }
@@ -40,7 +41,7 @@ impl Draft {
 
     /// Makes the base what the draft shows, without blocks that have no members, and drops what was drafted.
     /// It can't fail and takes no memory. Each block of the base has a member, and a block that has none as shown
-    /// has no support as shown. Linear in what is drafted, but for hashing.
+    /// has no support as shown. Expected O(d) for d entries that are drafted, and what `clear` takes.
     pub fn settle(&mut self, base: &mut Summary)
         requires over { IsOver base.old.blocks.block_of base.old.blocks.labels self.old }
         requires room { HasRoomFor base.old self.old }
