@@ -27,7 +27,7 @@ pub struct AkIndex {
 }
 
 impl AkIndex {
-    /// An index without views. It takes no memory until it is built.
+    /// An index without views. O(1), no memory until it is built.
     pub fn new(alloc: Global) -> Result<AkIndex, Memory>
         ensures { IfOk result (λ index. meaning_of index.kept ≡ meaning_of None) }
     {
@@ -36,7 +36,9 @@ impl AkIndex {
 
     /// Stages what a change will make of the index, as `prepare` does, and counts steps: at most `8 * k * w`, where levels up to `k`
     /// are kept, and `w` is one for each node within `k` edges of the change's target in the graph after it, one for each
-    /// of its parents and one for each of its children. At want of memory it leaves the index as it was.
+    /// of its parents and one for each of its children. Expected O((k + 1) (1 + w log w)), where no table moves and no keys are
+    /// dropped, as `AkFamily::reserve` says; it takes the memory of the near nodes, of what is drafted, and of the room for it. At want of
+    /// memory it leaves the index as it was.
     pub fn prepare_counted<L: Ledger>(
         &mut self,
         graph: &Graph,

@@ -30,8 +30,7 @@ use std::sync::ledger::Ledger;
 /// and supports. Reads show the base as it will be once the draft is settled. Each call is given the base; its blocks,
 /// labels and keys must stay while something is drafted.
 ///
-/// Each call takes constant time, expected, except `clear`, `move_node`, `reserve` and `settle`, which say what they take; `find` and
-/// `new_block` read the key, and `new_block` looks for the next free number.
+/// It takes memory for each block, with its key, and for each move and pair that is drafted.
 #[derive(Drop)]
 pub struct KeyedDraft {
     pub(crate) draft: Draft,
@@ -54,7 +53,7 @@ impl Model for KeyedDraft {
 
 // Reading.
 impl KeyedDraft {
-    /// Nothing is drafted.
+    /// Nothing is drafted. O(1), and the memory of an empty table of keys.
     pub fn new(alloc: Global) -> Result<KeyedDraft, Memory>
         ensures empty { IfOk result (λ d. d ≡ no_keyed_changes) }
     {
@@ -67,7 +66,7 @@ impl KeyedDraft {
         })
     }
 
-    /// The block of a node as shown, and none where it has none.
+    /// The block of a node as shown, and none where it has none. Expected O(1), no memory.
     pub fn block_of(&self, base: &KeyedSummary, n: NodeId) -> Option<u32>
         requires over { IsKeyedOver base.now self.now }
         ensures block { result ≡ at (blocks_as_shown base.now self.now) n }
@@ -76,7 +75,7 @@ impl KeyedDraft {
         self.draft.block_of(&base.summary, n)
     }
 
-    /// How many blocks there are as shown. O(1).
+    /// How many blocks there are as shown. O(1), no memory.
     pub fn blocks(&self, base: &KeyedSummary) -> u32
         requires over { IsKeyedOver base.now self.now }
         ensures count { result ≡ count_by is_some (labels_as_shown base.now self.now) }
@@ -84,7 +83,8 @@ impl KeyedDraft {
         self.draft.blocks(&base.summary)
     }
 
-    /// The block that has the key as shown, and none exactly where no block has it.
+    /// The block that has the key as shown, and none exactly where no block has it. Expected O(l) for a key of l numbers, no
+    /// memory.
     pub fn find(&self, base: &KeyedSummary, key: &[u32]) -> Option<u32>
         requires over { IsKeyedOver base.now self.now }
         ensures leads { (b : ℕ) → (result ≡ Some b) ↔ (shown_key base.now self.now b ≡ Some key.now) }
@@ -134,6 +134,7 @@ fn note(blocks: &mut Vec<u32>, keys: &mut KeyTable, b: u32, key: &[u32]) -> Resu
 // Drafting.
 impl KeyedDraft {
     /// Drafts a block without members, with a key that no block has as shown, and gives its number, the least that is no block as shown.
+    /// Expected O(l) for a key of l numbers, spread over all that are drafted; it takes the memory of a block and of the key.
     pub fn new_block(&mut self, base: &KeyedSummary, label: u32, key: &[u32]) -> Result<u32, Memory>
         requires over { IsKeyedOver base.now self.old }
         requires few { count_by is_some (labels_as_shown base.now self.old) < 2 ^ 31 }
@@ -155,7 +156,8 @@ impl KeyedDraft {
         }
     }
 
-    /// Drafts the move of a node, which is below 2^31, to a block as shown, or out of its block.
+    /// Drafts the move of a node, which is below 2^31, to a block as shown, or out of its block. Expected O(1), spread over all that are
+    /// drafted; it takes the memory of one move.
     pub fn put(&mut self, base: &KeyedSummary, n: NodeId, b: Option<u32>) -> Result<(), Memory>
         requires over { IsKeyedOver base.now self.old }
         requires small { n < 2 ^ 31 }
@@ -171,7 +173,8 @@ impl KeyedDraft {
         Ok(())
     }
 
-    /// Drafts that one more edge leads from `a` to `b`, both blocks as shown.
+    /// Drafts that one more edge leads from `a` to `b`, both blocks as shown. Expected O(1), spread over all that are drafted; it takes the
+    /// memory of one pair.
     pub fn raise(&mut self, base: &KeyedSummary, a: u32, b: u32) -> Result<(), Memory>
         requires over { IsKeyedOver base.now self.old }
         requires from { IsSome (at (labels_as_shown base.now self.old) a) }
@@ -188,7 +191,8 @@ impl KeyedDraft {
         Ok(())
     }
 
-    /// Drafts that one edge fewer leads from `a` to `b`, both blocks as shown, which have support.
+    /// Drafts that one edge fewer leads from `a` to `b`, both blocks as shown, which have support. Expected O(1), spread over all that are
+    /// drafted; it takes the memory of one pair.
     pub fn lower(&mut self, base: &KeyedSummary, a: u32, b: u32) -> Result<(), Memory>
         requires over { IsKeyedOver base.now self.old }
         requires from { IsSome (at (labels_as_shown base.now self.old) a) }
@@ -206,7 +210,8 @@ impl KeyedDraft {
     }
 
     /// Drafts the move of a node to a block as shown, with the supports of its edges. Its parents and its children are read once, and its
-    /// children stay in `near`. After `Memory` the draft is only good to be cleared.
+    /// children stay in `near`. After `Memory` the draft is only good to be cleared. Expected O(p + c) for p parents and c children; it
+    /// takes the memory of one move and of two pairs for each.
     pub fn move_node<L: Ledger>(
         &mut self,
         base: &KeyedSummary,
@@ -233,7 +238,7 @@ impl KeyedDraft {
         Ok(())
     }
 
-    /// Drops all that is drafted. It takes no memory, and time linear in the largest size that the draft has had.
+    /// Drops all that is drafted. O(t) for t entries at the largest size that the draft has had, no memory.
     pub fn clear(&mut self)
         ensures empty { self.new ≡ no_keyed_changes }
     {

@@ -35,7 +35,8 @@ impl Model for KeyedSummary {
 }
 
 impl KeyedSummary {
-    /// A quotient whose blocks have these keys: a block has the key with its number. On want of memory both are dropped.
+    /// A quotient whose blocks have these keys: a block has the key with its number. On want of memory both are dropped. O(l) for
+    /// keys of l numbers together; it takes 8 bytes a key.
     pub fn new(alloc: Global, summary: Summary, keys: KeyTable) -> Result<KeyedSummary, Memory>
         requires { AreKeyed summary.blocks.labels (slice_get keys) }
         ensures quotient { IfOk result (λ s. s.quotient ≡ summary) }
@@ -49,7 +50,7 @@ impl KeyedSummary {
         })
     }
 
-    /// The quotient.
+    /// The quotient. O(1), no memory.
     pub fn summary(&self) -> &Summary
         ensures quotient { result.now ≡ self.now.quotient }
         ensures keyed { AreKeyed self.now.quotient.blocks.labels (key_at self.now.keys) }

@@ -14,9 +14,11 @@ use key_table::KeyTable;
 use px_base::Memory;
 
 impl KeyedDraft {
-    /// Makes the room in the base that settling this draft needs. It leaves the base as it is seen. Linear in what is
-    /// drafted; and where the base keeps more than 64 keys, and more than one and a half times as many as it has blocks, or where
-    /// keys that no block has may be long, also in the numbers of its blocks and in their keys, since it then drops those keys.
+    /// Makes the room in the base that settling this draft needs. It leaves the base as it is seen. Expected O(d + l) for d entries that are
+    /// drafted, with keys of l numbers together, and linear in a table of the base where that moves; it takes what the drafted entries take
+    /// there. Where many keys have no block, or may be long, it first makes the table of keys anew without them, in expected O(s + m) for a
+    /// span s of block numbers and keys of the blocks of m numbers together. The keys that came before pay for that: it comes again only
+    /// after new ones.
     pub fn reserve(&self, base: &mut KeyedSummary) -> Result<(), Memory>
         requires over { IsKeyedOver base.old self.now }
         ensures view { view_of base.new.quotient ≡ view_of base.old.quotient }
@@ -32,7 +34,8 @@ impl KeyedDraft {
 
     /// Makes the base what the draft shows, without blocks that have no members, and drops what was drafted.
     /// It can't fail and takes no memory. Each block of the base has a member, and a block that has none as shown
-    /// has no support as shown. Linear in what is drafted, but for hashing.
+    /// has no support as shown. Expected O(d + l) for d entries that are drafted, with keys of l numbers together, and what
+    /// `clear` takes.
     pub fn settle(&mut self, base: &mut KeyedSummary)
         requires over { IsKeyedOver base.old self.old }
         requires room { HasKeyRoom base.old self.old }

@@ -37,7 +37,7 @@ impl Model for NearNodes {
 }
 
 impl NearNodes {
-    /// The nodes to which at most `i` edges lead from the targets, each once, the targets first. O(1).
+    /// The nodes to which at most `i` edges lead from the targets, each once, the targets first. O(1), no memory.
     pub fn within(&self, i: u32) -> &[NodeId]
         requires level { i < length self.now.ends }
         ensures { result.now ≡ within self.now i }
@@ -48,7 +48,8 @@ impl NearNodes {
 
 /// Searches the graph after a change for the nodes to which at most `k` edges lead from its targets. The children of each of them
 /// that is nearer than `k` are read once. It takes at most `w + 1` steps, where `w` is one for each node that is found, one for each of its
-/// parents and one for each of its children, and no step where `k` is 0.
+/// parents and one for each of its children, and no step where `k` is 0. Expected O(t + w + k) for t targets; it takes the memory of the
+/// nodes that are found, whatever the size of the graph.
 pub fn near_nodes<L: Ledger>(
     alloc: Global,
     after: &After<'_>,
