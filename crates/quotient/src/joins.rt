@@ -5,7 +5,7 @@ ghost use Rattle.bisim_spec.specs.Views.{support_at};
 ghost use Rattle.quotient.specs.Joined.{AreNear, list_at, one_if};
 ghost use Rattle.quotient.specs.Kept.{IsWritten};
 
-use crate::neighbours::Neighbours;
+use crate::block_neighbours::BlockNeighbours;
 use crate::places::Place;
 use crate::supports::{Held, Supports};
 use px_base::Memory;
@@ -15,8 +15,8 @@ use std::alloc::Global;
 #[derive(Drop)]
 pub(crate) struct Joins {
     pub(crate) supports: Supports,
-    pub(crate) children: Neighbours,
-    pub(crate) parents: Neighbours,
+    pub(crate) children: BlockNeighbours,
+    pub(crate) parents: BlockNeighbours,
 }
 
 impl Joins {
@@ -29,8 +29,8 @@ impl Joins {
     {
         Ok(Joins {
             supports: Supports::with_room(alloc, pairs)?,
-            children: Neighbours::new(alloc, blocks)?,
-            parents: Neighbours::new(alloc, blocks)?,
+            children: BlockNeighbours::new(alloc, blocks)?,
+            parents: BlockNeighbours::new(alloc, blocks)?,
         })
     }
 

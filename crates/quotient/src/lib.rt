@@ -1,11 +1,11 @@
 //! The quotient of a graph by a partition of its nodes, as an index graph with supports.
 #![tactic(auto)]
 
+mod block_neighbours;
 mod counting;
 mod edges;
 mod editing;
 mod joins;
-mod neighbours;
 mod places;
 mod summary;
 mod supports;

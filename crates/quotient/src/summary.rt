@@ -42,9 +42,9 @@ impl Model for Summary {
 }
 
 impl Summary {
-    /// The quotient of a graph by a partition of its nodes. It lists the graph's edges, which takes 8 bytes
-    /// for each of them while it runs, and finds pairs that aren't at hand by hash. On want of memory the
-    /// blocks are dropped.
+    /// The quotient of a graph by a partition of its nodes. On want of memory the blocks are dropped. Expected
+    /// O(n + m) for n node numbers and m edges. While it runs it takes 8 bytes an edge, beside the memory of
+    /// `of_edges`.
     pub fn of(alloc: Global, blocks: Blocks, view: &GraphView<'_>) -> Result<Summary, Memory>
         ensures blocks { IfOk result (λ s. s.blocks ≡ blocks) }
         ensures supports { IfOk result (λ s. AreSupports view.now.edges blocks.block_of s.supports) }
@@ -55,7 +55,8 @@ impl Summary {
 
     /// The quotient by a partition, from a list of edges: the support of a pair of blocks is the number of
     /// edges of the list from a member of the first to a member of the second. On want of memory the blocks
-    /// are dropped.
+    /// are dropped. Expected O(`span` + m) for m edges; it takes memory for each pair with support, for the list of
+    /// neighbours of each block number, and 80 KiB while it runs.
     pub fn of_edges(alloc: Global, blocks: Blocks, edges: &EdgeList) -> Result<Summary, Memory>
         ensures blocks { IfOk result (λ s. s.blocks ≡ blocks) }
         ensures supports { IfOk result (λ s. (a b : ℕ) → support_at s.supports a b ≡ support edges.now blocks.block_of a b) }
@@ -64,7 +65,7 @@ impl Summary {
         Ok(Summary { blocks, joins })
     }
 
-    /// The block of a node, and none where it has none.
+    /// The block of a node, and none where it has none. O(1), no memory.
     pub fn block_of(&self, n: NodeId) -> Option<u32>
         ensures block { result ≡ at self.now.blocks.block_of n }
         ensures live { IfSome result (λ b. IsSome (at self.now.blocks.labels b)) }
@@ -72,7 +73,7 @@ impl Summary {
         self.blocks.block_of(n)
     }
 
-    /// Whether the number is that of a block. A number that is none has no members.
+    /// Whether the number is that of a block. A number that is none has no members. O(1), no memory.
     pub fn is_block(&self, b: u32) -> bool
         ensures block { result ≡ is_some (at self.now.blocks.labels b) }
         ensures live { (n : ℕ) → at self.now.blocks.block_of n ≡ Some b → result ≡ true }
@@ -80,8 +81,7 @@ impl Summary {
         b < self.blocks.span() && self.blocks.is_block(b)
     }
 
-    /// The least number from this one on that is no block: O(`size` / 64), and O(1) where each number below
-    /// `size` is a block.
+    /// The least number from this one on that is no block. O(1), no memory.
     pub fn next_free(&self, from: u32) -> u32
         ensures free { at self.now.blocks.labels result ≡ None }
         ensures from { from ≤ result }
@@ -90,7 +90,7 @@ impl Summary {
         self.blocks.next_free(from)
     }
 
-    /// The members of a block, each once, in no stated order.
+    /// The members of a block, each once, in no stated order. O(1) for the call and for each member, no memory.
     pub fn extent(&self, b: u32) -> Members<'_>
         requires block { IsSome (at self.now.blocks.labels b) }
         ensures { Lists (is_member self.now.blocks b) result }
@@ -98,7 +98,7 @@ impl Summary {
         self.blocks.members(b)
     }
 
-    /// How many members a block has. O(1).
+    /// How many members a block has. O(1), no memory.
     pub fn member_count(&self, b: u32) -> u32
         requires block { IsSome (at self.now.blocks.labels b) }
         ensures { result ≡ member_count self.now.blocks b }
@@ -107,14 +107,14 @@ impl Summary {
     }
 
     /// How many edges lead from a member of `a` to a member of `b`; none where one of them is no block.
-    /// It is found by hash.
+    /// Expected O(1), no memory.
     pub fn support(&self, a: u32, b: u32) -> u32
         ensures { result ≡ support_at self.now.supports a b }
     {
         self.joins.supports.get(a, b)
     }
 
-    /// How many blocks there are: at most 2^31. O(1).
+    /// How many blocks there are: at most 2^31. O(1), no memory.
     pub fn blocks(&self) -> u32
         ensures count { result ≡ block_count self.now.blocks }
         ensures few { result ≤ 2 ^ 31 }
@@ -123,14 +123,14 @@ impl Summary {
         self.blocks.count()
     }
 
-    /// How many pairs of blocks have support. O(1).
+    /// How many pairs of blocks have support. O(1), no memory.
     pub fn pairs(&self) -> u64
         ensures { result ≡ pair_count self.now.supports }
     {
         self.joins.supports.pairs() as u64
     }
 
-    /// The length of the list of blocks: at most 2^31. Numbers past its end have no block.
+    /// The length of the list of blocks: at most 2^31. Numbers past its end have no block. O(1), no memory.
     pub fn numbers(&self) -> u32
         ensures count { result ≡ length self.now.blocks.block_of }
         ensures few { result ≤ 2 ^ 31 }

@@ -157,9 +157,9 @@ impl Supports {
         ensures raised { OnOk result (self.new.pairs ≡ with_one_more self.old.pairs a b) }
         ensures first { IfOk result (λ first. first ≡ nat_eq (support_at self.old.pairs a b) 0) }
     {
-        let place = place_of(a, b);
-        if !self.raise_at(read_hand(hand, place, a, b), a, b) {
-            return self.raise_found(hand, place, a, b);
+        let slot = slot_of(a, b);
+        if !self.raise_at(read_hand(hand, slot, a, b), a, b) {
+            return self.raise_found(hand, slot, a, b);
         }
         Ok(false)
     }
@@ -187,7 +187,7 @@ impl Supports {
     fn raise_found(
         &mut self,
         hand: &mut Vec<Held>,
-        place: usize,
+        slot: usize,
         a: u32,
         b: u32,
     ) -> Result<bool, Memory>
@@ -196,7 +196,7 @@ impl Supports {
         ensures first { IfOk result (λ first. first ≡ nat_eq (support_at self.old.pairs a b) 0) }
     {
         let (i, before) = self.table.insert_full((a, b), 1)?;
-        write_hand(hand, place, a, b, i);
+        write_hand(hand, slot, a, b, i);
         let Some(n) = before else {
             return Ok(true);
         };
@@ -211,7 +211,7 @@ impl Supports {
 /// How many pairs are at hand at most.
 const HAND: usize = 1 << BITS;
 
-// How many bits the number of a place has.
+// How many bits the number of a slot has.
 const BITS: u32 = 12;
 
 /// A pair of blocks at hand, and its index in the table, which is looked at before it is taken.
@@ -233,26 +233,26 @@ pub(crate) fn empty_hand(alloc: Global) -> Result<Vec<Held>, Memory> {
     Ok(hand)
 }
 
-// Where a pair is at hand, if it is: some bits of both numbers.
+// The slot in which a pair is at hand, if it is: some bits of both numbers.
 #[inline(always)]
-fn place_of(a: u32, b: u32) -> usize {
+fn slot_of(a: u32, b: u32) -> usize {
     ((a.wrapping_mul(0x9E37_79B9) ^ b.wrapping_mul(0x85EB_CA6B)) >> (32 - BITS)) as usize
 }
 
 // The index that is at hand for a pair, and one past all where none is.
 #[inline(always)]
-fn read_hand(hand: &[Held], place: usize, a: u32, b: u32) -> usize {
-    match hand.get(place) {
+fn read_hand(hand: &[Held], slot: usize, a: u32, b: u32) -> usize {
+    match hand.get(slot) {
         Some(held) if held.a == a && held.b == b => held.i as usize,
         _ => usize::MAX,
     }
 }
 
 #[inline(always)]
-fn write_hand(hand: &mut Vec<Held>, place: usize, a: u32, b: u32, i: usize) {
-    if place < hand.len() {
+fn write_hand(hand: &mut Vec<Held>, slot: usize, a: u32, b: u32, i: usize) {
+    if slot < hand.len() {
         let i = u32::try_from(i).unwrap_or(u32::MAX);
-        hand[place] = Held { a, b, i };
+        hand[slot] = Held { a, b, i };
     }
 }
 

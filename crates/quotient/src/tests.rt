@@ -110,6 +110,19 @@ fn check_listed(rt: &impl Abort, alloc: Global, view: &GraphView<'_>) -> Result<
     Ok(())
 }
 
+fn check_summary(rt: &impl Abort, summary: &Summary) {
+    check_supports(rt, summary);
+    check_blocks(rt, summary);
+    check_graph(rt, summary);
+}
+
+fn check_tree(rt: &impl Abort, alloc: Global, view: &GraphView<'_>) -> Result<(), Fail> {
+    assert_eq!(rt; view.edge_count(), 7);
+    let summary = Summary::of(alloc, by_label(rt, alloc)?, view)?;
+    check_summary(rt, &summary);
+    check_listed(rt, alloc, view)
+}
+
 fn read_tree<L: Ledger>(rt: &impl Abort, alloc: Global, blank: Blank) -> Result<(), Fail>
     requires name { blank.name ≡ L.name }
     requires parts { blank.parts ≡ L.parts }
@@ -117,14 +130,7 @@ fn read_tree<L: Ledger>(rt: &impl Abort, alloc: Global, blank: Blank) -> Result<
 {
     let mut steps = Steps::<L>::new(blank);
     let graph = drawn(alloc, LABELS, EDGES, &mut steps)?;
-    let view = graph.view(&mut steps);
-    assert_eq!(rt; view.edge_count(), 7);
-    let blocks = by_label(rt, alloc)?;
-    let summary = Summary::of(alloc, blocks, &view)?;
-    check_supports(rt, &summary);
-    check_blocks(rt, &summary);
-    check_graph(rt, &summary);
-    check_listed(rt, alloc, &view)
+    check_tree(rt, alloc, &graph.view(&mut steps))
 }
 
 #[test]
@@ -148,8 +154,10 @@ const SPOKES: &[(NodeId, NodeId)] = &[
     (5, 0),
 ];
 
-// Supports that are written one after another, and which children and parents the hub has then.
-const WRITES: &[(u32, u32, u32, &[u32], &[u32])] = &[
+// A support that is written, and which children and parents the hub has then.
+type Write = (u32, u32, u32, &'static [u32], &'static [u32]);
+
+const WRITES: &[Write] = &[
     (0, 2, 0, &[1, 3, 4, 5], &[1, 2, 3, 4, 5]),
     (0, 5, 0, &[1, 3, 4], &[1, 2, 3, 4, 5]),
     (4, 0, 0, &[1, 3, 4], &[1, 2, 3, 5]),
@@ -220,13 +228,24 @@ fn check_hub(rt: &impl Abort, summary: &Summary, children: &[u32], parents: &[u3
     assert_eq!(rt; summary.pairs(), (children.len() + parents.len()) as u64);
 }
 
+fn check_write(rt: &impl Abort, summary: &mut Summary, row: &Write) -> Result<(), Fail> {
+    let (a, b, n) = (row.0, row.1, row.2);
+    write(rt, summary, a, b, n)?;
+    assert_eq!(rt; summary.support(a, b), n);
+    check_hub(rt, summary, row.3, row.4);
+    Ok(())
+}
+
 fn check_writes(rt: &impl Abort, summary: &mut Summary) -> Result<(), Fail> {
-    for (a, b, n, children, parents) in WRITES {
-        write(rt, summary, *a, *b, *n)?;
-        assert_eq!(rt; summary.support(*a, *b), *n);
-        check_hub(rt, summary, children, parents);
+    for row in WRITES {
+        check_write(rt, summary, row)?;
     }
     Ok(())
+}
+
+fn write_all(rt: &impl Abort, alloc: Global, view: &GraphView<'_>) -> Result<(), Fail> {
+    let mut summary = Summary::of(alloc, alone(rt, alloc)?, view)?;
+    check_writes(rt, &mut summary)
 }
 
 fn take_spokes<L: Ledger>(rt: &impl Abort, alloc: Global, blank: Blank) -> Result<(), Fail>
@@ -236,10 +255,7 @@ fn take_spokes<L: Ledger>(rt: &impl Abort, alloc: Global, blank: Blank) -> Resul
 {
     let mut steps = Steps::<L>::new(blank);
     let graph = drawn(alloc, HUB, SPOKES, &mut steps)?;
-    let view = graph.view(&mut steps);
-    let blocks = alone(rt, alloc)?;
-    let mut summary = Summary::of(alloc, blocks, &view)?;
-    check_writes(rt, &mut summary)
+    write_all(rt, alloc, &graph.view(&mut steps))
 }
 
 #[test]

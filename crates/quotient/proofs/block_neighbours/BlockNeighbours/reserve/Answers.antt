@@ -2,7 +2,7 @@ use Rattle.std.proofs.Common.{◌-◌, ◌∙◌, ◌<◌, ℕ, List, length, ar
 use Rattle.std.proofs.lemmas.List.{length-map}
 use Rattle.quotient.specs.Kept.{KeptLists, GivesMore}
 use Rattle.quotient.proofs.Rooms.{gives_more, written_here, lists_kept}
-use Rattle.quotient.proofs.neighbours.Neighbours.reserve.Goals as goal
+use Rattle.quotient.proofs.block_neighbours.BlockNeighbours.reserve.Goals as goal
 
 pub returns-clause-lists : goal.returns-clause-lists
 returns-clause-lists c =

@@ -2,7 +2,7 @@ use Rattle.std.proofs.Common.{◌≡◌, ℕ, ◌≤◌, ◌-◌, length}
 use Rattle.std.specs.Prelude.{max}
 use Rattle.quotient.specs.Joined.{list_at}
 use Rattle.quotient.specs.Kept.{GivesMore}
-use Rattle.quotient.proofs.neighbours.Neighbours.grow.Given as goal
+use Rattle.quotient.proofs.block_neighbours.BlockNeighbours.grow.Given as goal
 
 abbrev pub invariant-loop-self : goal.invariant-loop-self
 invariant-loop-self l = record {

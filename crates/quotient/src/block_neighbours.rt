@@ -13,11 +13,11 @@ use std::marker::Model;
 
 /// A list of neighbours for each block number.
 #[derive(Drop)]
-pub(crate) struct Neighbours {
+pub(crate) struct BlockNeighbours {
     lists: Vec<SmallVec<u32, 4>>,
 }
 
-impl Model for Neighbours {
+impl Model for BlockNeighbours {
     ghost use Rattle.std.specs.Prelude.{◌-◌, map};
     ghost use Rattle.smallvec.specs.SmallVec.{small_vec_len};
     ghost use Rattle.quotient.specs.Kept.{KeptLists};
@@ -27,16 +27,16 @@ impl Model for Neighbours {
     ghost view = { λ n. record { lists = map (λ list. list.items) n.lists.items; room = map (λ list. list.capacity - small_vec_len list) n.lists.items } };
 }
 
-impl Neighbours {
+impl BlockNeighbours {
     /// That many empty lists.
-    pub(crate) fn new(alloc: Global, len: usize) -> Result<Neighbours, Memory>
+    pub(crate) fn new(alloc: Global, len: usize) -> Result<BlockNeighbours, Memory>
         ensures { IfOk result (λ n. n.lists ≡ replicate len []) }
     {
         let mut lists = Vec::with_capacity(alloc, len)?;
         for _ in 0..len {
             lists.push_reserved(SmallVec::new(alloc));
         }
-        Ok(Neighbours { lists })
+        Ok(BlockNeighbours { lists })
     }
 
     /// The list with this number.

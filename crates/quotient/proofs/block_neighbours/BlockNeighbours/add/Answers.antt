@@ -3,7 +3,7 @@ use Rattle.std.proofs.lemmas.List.{length-map, length-append}
 use Rattle.quotient.specs.Kept.{KeptLists, UsesOne}
 use Rattle.quotient.proofs.Pairs.{pushed_at}
 use Rattle.quotient.proofs.Rooms.{uses_one}
-use Rattle.quotient.proofs.neighbours.Neighbours.add.Goals as goal
+use Rattle.quotient.proofs.block_neighbours.BlockNeighbours.add.Goals as goal
 
 pub returns-clause-lists : goal.returns-clause-lists
 returns-clause-lists c =

@@ -2,7 +2,7 @@ use Rattle.std.proofs.Common.{◌≡◌, ◌≤◌, vec_len}
 use Rattle.std.specs.Prelude.{vec_capacity, map}
 use Rattle.std.proofs.Math.ListN.{replicate}
 use Rattle.quotient.proofs.Pairs.{none_list}
-use Rattle.quotient.proofs.neighbours.Neighbours.new.Given as goal
+use Rattle.quotient.proofs.block_neighbours.BlockNeighbours.new.Given as goal
 
 abbrev pub invariant-loop : goal.invariant-loop
 invariant-loop l =

@@ -5,7 +5,7 @@ use Rattle.quotient.specs.Kept.{KeptLists, UsesOne}
 use Rattle.std.specs.List.Sorted.{IsPermutation}
 use Rattle.quotient.proofs.Pairs.{item_at}
 use Rattle.quotient.proofs.Rooms.{uses_one, list_here, list_set, list_taken}
-use Rattle.quotient.proofs.neighbours.Neighbours.remove.Goals as goal
+use Rattle.quotient.proofs.block_neighbours.BlockNeighbours.remove.Goals as goal
 
 pub returns-clause-lists : goal.returns-clause-lists
 returns-clause-lists c =
