@@ -20,7 +20,7 @@ use Rattle.ak_family.proofs.Supported.{supported_keys, labels_alone}
 use Rattle.quotient_draft.proofs.Gone.{member_there}
 use Rattle.block_filling.specs.Filling.{SameBlocks}
 use Rattle.block_filling.proofs.Filled.{agrees_moved}
-use Rattle.ak_family.specs.Layers.{BlocksHaveLabels}
+use Rattle.ak_family.specs.BlockLabels.{BlocksHaveLabels}
 
 -- level i is the last one, and has the blocks of the list
 pub record IsBuilt (g : Graph) (i : ℕ) (levels : List KeyedQuotient) (block : List (Option ℕ)) (labels : List ℕ) : Type 0 where

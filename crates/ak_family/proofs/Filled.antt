@@ -16,7 +16,7 @@ use Rattle.quotient.specs.Quotients.{AreSupports, Quotient, view_of}
 use Rattle.key_table.specs.NumberedKeys.{AreDistinct}
 use Rattle.label_graph.specs.Views.{label_number}
 use Rattle.keyed_quotient.specs.Levels.{AreKeyed}
-use Rattle.ak_family.specs.Layers.{BlocksHaveLabels}
+use Rattle.ak_family.specs.BlockLabels.{BlocksHaveLabels}
 
 is_some_get : {X : Type 0} (xs : List X) (b : ℕ) → is_some (slice_get xs b) ≡ nat_lt b (length xs)
 is_some_get xs b = elim (slice_get_cases xs b).1 [

@@ -1,3 +1,3 @@
 pub mod Families
-pub mod Layers
+pub mod BlockLabels
 pub mod Drafting

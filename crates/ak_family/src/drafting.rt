@@ -40,7 +40,7 @@ impl Model for AkDraft {
 }
 
 impl AkDraft {
-    /// Nothing is drafted, at levels up to `k`.
+    /// Nothing is drafted, at levels up to `k`. O(k), and the memory of an empty draft for each level.
     pub fn new(alloc: Global, k: u32) -> Result<AkDraft, Memory>
         ensures count { IfOk result (λ d. length d ≡ k + 1) }
         ensures empty { IfOk result AreEmpty }
@@ -53,7 +53,7 @@ impl AkDraft {
         Ok(AkDraft { levels })
     }
 
-    /// Drops all that is drafted. It takes no memory, and time linear in the largest size that the draft has had.
+    /// Drops all that is drafted. O(t) for t entries at the largest size that the draft has had, no memory.
     pub fn clear(&mut self)
         ensures count { length self.new ≡ length self.old }
         ensures empty { AreEmpty self.new }
@@ -67,7 +67,7 @@ impl AkDraft {
 
 // Reading.
 impl AkFamily {
-    /// The block of a node at a level as shown, and none where it has none. It takes no memory.
+    /// The block of a node at a level as shown, and none where it has none. Expected O(1), no memory.
     pub fn shown(&self, d: &AkDraft, i: u32, n: NodeId) -> Option<u32>
         requires over { AreOver self.now d.now }
         requires level { i < length self.now }
@@ -77,7 +77,7 @@ impl AkFamily {
         draft_of(&d.levels, i as usize).block_of(level_of(&self.levels, i), n)
     }
 
-    /// How many blocks a level has as shown. O(1).
+    /// How many blocks a level has as shown. O(1), no memory.
     pub fn block_count_shown(&self, d: &AkDraft, i: u32) -> u32
         requires over { AreOver self.now d.now }
         requires level { i < length self.now }
@@ -86,7 +86,8 @@ impl AkFamily {
         draft_of(&d.levels, i as usize).blocks(level_of(&self.levels, i))
     }
 
-    /// The block of a level that has the key as shown, and none exactly where no block has it. It takes no memory.
+    /// The block of a level that has the key as shown, and none exactly where no block has it. Expected O(l) for a key of l numbers, no
+    /// memory.
     pub fn find(&self, d: &AkDraft, i: u32, key: &[u32]) -> Option<u32>
         requires over { AreOver self.now d.now }
         requires level { i < length self.now }
@@ -100,7 +101,7 @@ impl AkFamily {
 // Drafting.
 impl AkFamily {
     /// Drafts a block of a level, without members, with a key that no block has there as shown. Its number is the least that is no block
-    /// there as shown.
+    /// there as shown. Expected O(l) for a key of l numbers, spread over all that are drafted; it takes the memory of a block and of the key.
     pub fn new_block(&self, d: &mut AkDraft, i: u32, label: u32, key: &[u32]) -> Result<u32, Memory>
         requires over { AreOver self.now d.old }
         requires level { i < length self.now }
@@ -140,7 +141,8 @@ impl AkFamily {
     }
 
     /// The block of a level that has the key as shown. Where none has it, one is drafted, with this label and without members. Past 2^31
-    /// blocks there is no number for one, which counts as want of memory.
+    /// blocks there is no number for one, which counts as want of memory. Time and memory are those of `find`, and of `new_block` where a
+    /// block is drafted: expected O(l) for a key of l numbers.
     pub fn keyed_block(
         &self,
         d: &mut AkDraft,
@@ -163,7 +165,8 @@ impl AkFamily {
         }
     }
 
-    /// Drafts the move of a node, which is below 2^31, to a block of a level as shown, or out of its block there.
+    /// Drafts the move of a node, which is below 2^31, to a block of a level as shown, or out of its block there. Expected O(1), spread over
+    /// all that are drafted; it takes the memory of one move.
     pub fn put(&self, d: &mut AkDraft, i: u32, n: NodeId, b: Option<u32>) -> Result<(), Memory>
         requires over { AreOver self.now d.old }
         requires level { i < length self.now }
@@ -182,7 +185,8 @@ impl AkFamily {
         Ok(())
     }
 
-    /// Drafts that one more edge leads from `a` to `b`, both blocks of a level as shown.
+    /// Drafts that one more edge leads from `a` to `b`, both blocks of a level as shown. Expected O(1), spread over all that are drafted; it
+    /// takes the memory of one pair.
     pub fn raise(&self, d: &mut AkDraft, i: u32, a: u32, b: u32) -> Result<(), Memory>
         requires over { AreOver self.now d.old }
         requires level { i < length self.now }
@@ -202,7 +206,8 @@ impl AkFamily {
         Ok(())
     }
 
-    /// Drafts that one edge fewer leads from `a` to `b`, both blocks of a level as shown, which have support.
+    /// Drafts that one edge fewer leads from `a` to `b`, both blocks of a level as shown, which have support. Expected O(1), spread over all
+    /// that are drafted; it takes the memory of one pair.
     pub fn lower(&self, d: &mut AkDraft, i: u32, a: u32, b: u32) -> Result<(), Memory>
         requires over { AreOver self.now d.old }
         requires level { i < length self.now }
@@ -223,7 +228,8 @@ impl AkFamily {
     }
 
     /// Drafts the move of a node to a block of a level as shown, with the supports of its edges there. Its parents and its children are
-    /// read once, and its children stay in `near`. After `Memory` the draft is only good to be cleared.
+    /// read once, and its children stay in `near`. After `Memory` the draft is only good to be cleared. Expected O(p + c) for p parents and
+    /// c children; it takes the memory of one move and of two pairs for each.
     pub fn move_node<L: Ledger>(
         &self,
         d: &mut AkDraft,

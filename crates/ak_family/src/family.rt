@@ -10,7 +10,7 @@ ghost use Rattle.keyed_quotient.specs.Levels.{AreKeyed, key_at};
 ghost use Rattle.ak_family.specs.Families.{level_at, blocks_at, quotients_of, AreLabelKeys, AreParentKeys, IsKeyedFamily};
 
 use crate::keyed::keyed_summary;
-use crate::layers::{above, lowest};
+use crate::labelled_levels::{above, lowest};
 use keyed_quotient::KeyedSummary;
 use label_graph::GraphView;
 use px_base::{Memory, NodeId};
@@ -45,8 +45,9 @@ impl Model for AkFamily {
 
 impl AkFamily {
     /// The family of a graph. The edges are listed once. Each level reads the list of edges once, and above
-    /// level 0 each node's parents; where there isn't exactly one parent, their blocks are sorted. Keys and
-    /// pairs of blocks that aren't at hand are found by hash.
+    /// level 0 each node's parents; where there isn't exactly one parent, their blocks are sorted. Expected
+    /// O((k + 1) (n + m log m)) for n node numbers and m edges. It takes the memory of a quotient and a table of
+    /// keys for each level, and while it runs 8 bytes an edge.
     pub fn build(alloc: Global, view: &GraphView<'_>, k: u32) -> Result<AkFamily, Memory>
         requires few { k ≤ 8 }
         ensures count { IfOk result (λ f. length f ≡ k + 1) }
@@ -56,20 +57,20 @@ impl AkFamily {
         ensures parent_keys { IfOk result (λ f. (i : ℕ) → i < k → AreParentKeys view.now f i) }
     {
         let edges = EdgeList::of(alloc, view)?;
-        let (mut layer, keys) = lowest(alloc, view)?;
+        let (mut below, keys) = lowest(alloc, view)?;
         let mut levels = Vec::with_capacity(alloc, k as usize + 1)?;
-        let level = keyed_summary(alloc, view, &edges, &layer, keys)?;
+        let level = keyed_summary(alloc, view, &edges, &below, keys)?;
         levels.push(level)?;
         for _ in 0..k {
-            let (next, keys) = above(alloc, view, &layer)?;
+            let (next, keys) = above(alloc, view, &below)?;
             let upper = keyed_summary(alloc, view, &edges, &next, keys)?;
             levels.push(upper)?;
-            layer = next;
+            below = next;
         }
         Ok(AkFamily { levels })
     }
 
-    /// The greatest level: at most 8.
+    /// The greatest level: at most 8. O(1), no memory.
     pub fn k(&self) -> u32
         ensures count { length self.now ≡ result + 1 }
         ensures few { result ≤ 8 }
@@ -78,7 +79,7 @@ impl AkFamily {
         self.levels.len() as u32 - 1
     }
 
-    /// The A(i)-index.
+    /// The A(i)-index. O(1), no memory.
     pub fn level(&self, i: u32) -> &Summary
         requires level { i < length self.now }
         ensures quotient { result.now ≡ (level_at self.now i).quotient }
@@ -88,7 +89,7 @@ impl AkFamily {
         self.levels[i as usize].summary()
     }
 
-    /// Whether two nodes are in one block of the A(i)-index. It takes no memory, and constant time.
+    /// Whether two nodes are in one block of the A(i)-index. O(1), no memory.
     pub fn same(&self, i: u32, u: NodeId, v: NodeId) -> bool
         requires level { i < length self.now }
         requires first { IsSome (at (blocks_at self.now i) u) }

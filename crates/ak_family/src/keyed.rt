@@ -11,9 +11,9 @@ ghost use Rattle.quotient.specs.Quotients.{view_of};
 ghost use Rattle.quotient.specs.Joined.{AreListed};
 ghost use Rattle.keyed_quotient.specs.Levels.{AreKeyed, key_at};
 ghost use Rattle.block_filling.specs.Filling.{SameBlocks};
-ghost use Rattle.ak_family.specs.Layers.{BlocksHaveLabels};
+ghost use Rattle.ak_family.specs.BlockLabels.{BlocksHaveLabels};
 
-use crate::layers::Layer;
+use crate::labelled_levels::LabelledLevel;
 use block_filling::fill;
 use key_table::KeyTable;
 use keyed_quotient::KeyedSummary;
@@ -27,23 +27,23 @@ pub(crate) fn keyed_summary(
     alloc: Global,
     view: &GraphView<'_>,
     edges: &EdgeList,
-    layer: &Layer,
+    labelled: &LabelledLevel,
     keys: KeyTable,
 ) -> Result<KeyedSummary, Memory>
     requires listed { AreListed view.now.edges edges.now }
-    requires partition { IsPartition (shape_of view.now) layer.now.block.items }
-    requires labelled { BlocksHaveLabels view.now layer.now.block.items layer.now.labels.items }
-    requires span { AreBlocksBelow layer.now.block.items (length keys) }
+    requires partition { IsPartition (shape_of view.now) labelled.now.block.items }
+    requires labelled { BlocksHaveLabels view.now labelled.now.block.items labelled.now.labels.items }
+    requires span { AreBlocksBelow labelled.now.block.items (length keys) }
     requires distinct { AreDistinct keys }
-    requires count { length layer.now.labels.items ≡ length keys }
-    requires few { length layer.now.labels.items ≤ 2 ^ 31 }
-    ensures blocks { IfOk result (λ s. SameBlocks s.quotient.blocks.block_of layer.now.block.items) }
+    requires count { length labelled.now.labels.items ≡ length keys }
+    requires few { length labelled.now.labels.items ≤ 2 ^ 31 }
+    ensures blocks { IfOk result (λ s. SameBlocks s.quotient.blocks.block_of labelled.now.block.items) }
     ensures fits { IfOk result (λ s. ViewFits view.now (view_of s.quotient)) }
     ensures labels { IfOk result (λ s. (n b : ℕ) → at s.quotient.blocks.block_of n ≡ Some b → at s.quotient.blocks.labels b ≡ label_number view.now n) }
     ensures keys { IfOk result (λ s. (b : ℕ) → key_at s.keys b ≡ slice_get keys b) }
     ensures keyed { IfOk result (λ s. AreKeyed s.quotient.blocks.labels (key_at s.keys)) }
 {
-    let blocks = fill(alloc, view.created(), &layer.block, &layer.labels)?;
+    let blocks = fill(alloc, view.created(), &labelled.block, &labelled.labels)?;
     let summary = Summary::of_edges(alloc, blocks, edges)?;
     let level = KeyedSummary::new(alloc, summary, keys)?;
     let _ = level.summary();

@@ -4,8 +4,8 @@
 mod drafting;
 mod family;
 mod keyed;
+mod labelled_levels;
 mod labels;
-mod layers;
 mod settling;
 #[cfg(test)]
 mod tests;

@@ -12,8 +12,9 @@ use keyed_quotient::{KeyedDraft, KeyedSummary};
 use px_base::Memory;
 
 impl AkFamily {
-    /// Makes the room that settling this draft needs. It leaves the family as it is seen. Linear in what is drafted;
-    /// where a level holds many keys of blocks that are gone, these are dropped first, which takes time linear in its block numbers and keys.
+    /// Makes the room that settling this draft needs. It leaves the family as it is seen. Expected O(k + d + l) for d entries
+    /// that are drafted, with keys of l numbers together, and linear in a table of a level where that moves; it takes what the drafted entries
+    /// take there. Where a level holds many keys of blocks that are gone, these are dropped first, in time linear in its block numbers and keys.
     pub fn reserve(&mut self, d: &AkDraft) -> Result<(), Memory>
         requires over { AreOver self.old d.now }
         ensures same { AreSeenAs self.old self.new }
@@ -27,7 +28,7 @@ impl AkFamily {
     }
 
     /// Makes the family what the draft shows, without blocks that have no members, and drops what was drafted. It can't fail and takes
-    /// no memory. Linear in what is drafted, but for hashing.
+    /// no memory. Expected O(k + d + l) for d entries that are drafted, with keys of l numbers together, and what `clear` takes.
     pub fn settle(&mut self, d: &mut AkDraft)
         requires room { HaveRoom self.old d.old }
         requires shows { ShowsFamily self.old d.old }

@@ -5,12 +5,12 @@ use Rattle.ak_family.proofs.keyed.keyed_summary.Goals as goal
 
 pub fill-requires-clause-blocks : goal.fill-requires-clause-blocks
 fill-requires-clause-blocks c =
-    rw (c.deref.ensures.value, c.deref-2.ensures.value) (labelled_below c.args.view.now c.args.layer.now.block.items c.args.layer.now.labels.items c.requires.labelled)
+    rw (c.deref.ensures.value, c.deref-2.ensures.value) (labelled_below c.args.view.now c.args.labelled.now.block.items c.args.labelled.now.labels.items c.requires.labelled)
 
 pub new-requires : goal.new-requires
 new-requires c =
     rw c.in_ok-summary.ensures.blocks
-    (filled_keyed c.in_ok-blocks.blocks c.args.layer.now.labels.items _ (rw (← c.deref-2.ensures.value) c.in_ok-blocks.ensures.labels) c.requires.count c.requires.distinct)
+    (filled_keyed c.in_ok-blocks.blocks c.args.labelled.now.labels.items _ (rw (← c.deref-2.ensures.value) c.in_ok-blocks.ensures.labels) c.requires.count c.requires.distinct)
 
 pub returns-clause-blocks : goal.returns-clause-blocks
 returns-clause-blocks c = rw (c.in_ok-level.ensures.quotient, c.in_ok-summary.ensures.blocks, ← c.deref.ensures.value) c.in_ok-blocks.ensures.blocks
@@ -18,7 +18,7 @@ returns-clause-blocks c = rw (c.in_ok-level.ensures.quotient, c.in_ok-summary.en
 pub returns-clause-fits : goal.returns-clause-fits
 returns-clause-fits c =
     rw c.in_ok-level.ensures.quotient
-    (filled_fits c.args.view.now c.args.layer.now.block.items c.args.layer.now.labels.items c.in_ok-summary.summary c.created.ensures.graph c.requires.partition c.requires.labelled
+    (filled_fits c.args.view.now c.args.labelled.now.block.items c.args.labelled.now.labels.items c.in_ok-summary.summary c.created.ensures.graph c.requires.partition c.requires.labelled
     (rw c.requires.count c.requires.span.inhabited)
     (rw (c.in_ok-summary.ensures.blocks, ← c.deref.ensures.value) c.in_ok-blocks.ensures.blocks)
     (rw (c.in_ok-summary.ensures.blocks, ← c.deref-2.ensures.value) c.in_ok-blocks.ensures.labels)
@@ -27,6 +27,6 @@ returns-clause-fits c =
 pub returns-clause-labels : goal.returns-clause-labels
 returns-clause-labels c =
     rw c.in_ok-level.ensures.quotient
-    (filled_labels c.args.view.now c.args.layer.now.block.items c.args.layer.now.labels.items c.in_ok-summary.summary c.requires.labelled
+    (filled_labels c.args.view.now c.args.labelled.now.block.items c.args.labelled.now.labels.items c.in_ok-summary.summary c.requires.labelled
     (rw (c.in_ok-summary.ensures.blocks, ← c.deref.ensures.value) c.in_ok-blocks.ensures.blocks)
     (rw (c.in_ok-summary.ensures.blocks, ← c.deref-2.ensures.value) c.in_ok-blocks.ensures.labels))

@@ -1,5 +1,5 @@
 use Rattle.ak_family.proofs.Labelled.{keys_begin, labelled_lowest}
-use Rattle.ak_family.proofs.layers.lowest.Goals as goal
+use Rattle.ak_family.proofs.labelled_levels.lowest.Goals as goal
 
 pub own_numbers-requires : goal.own_numbers-requires
 own_numbers-requires c = keys_begin _ _ _ _ _ c.in_ok-level.ensures.numbered

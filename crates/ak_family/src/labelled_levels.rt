@@ -9,7 +9,7 @@ ghost use Rattle.bisim_levels.specs.declared.sides.Side.TheVariants.{Parents};
 ghost use Rattle.bisim_levels.specs.Sides.{is_near, no_neighbours};
 ghost use Rattle.bisim_levels.specs.Refining.{AreNumbered, AreBlocksBelow};
 ghost use Rattle.key_table.specs.NumberedKeys.{AreDistinct};
-ghost use Rattle.ak_family.specs.Layers.{BlocksHaveLabels};
+ghost use Rattle.ak_family.specs.BlockLabels.{BlocksHaveLabels};
 
 use crate::labels::{look_up, own_numbers};
 use bisim_levels::{label_level, next_level};
@@ -18,9 +18,9 @@ use label_graph::GraphView;
 use px_base::Memory;
 use std::alloc::Global;
 
-/// A level of bisimilarity.
+/// A level of bisimilarity, and the labels of its blocks. The keys, which go to the quotient by the level, aren't with it.
 #[derive(Drop)]
-pub(crate) struct Layer {
+pub(crate) struct LabelledLevel {
     /// The block of each node, and `None` where the number is no node.
     pub(crate) block: Vec<Option<u32>>,
     /// The number of each block's label.
@@ -28,7 +28,10 @@ pub(crate) struct Layer {
 }
 
 /// Level 0, and the keys of its blocks.
-pub(crate) fn lowest(alloc: Global, view: &GraphView<'_>) -> Result<(Layer, KeyTable), Memory>
+pub(crate) fn lowest(
+    alloc: Global,
+    view: &GraphView<'_>,
+) -> Result<(LabelledLevel, KeyTable), Memory>
     ensures agrees { IfOk result (λ l. Agrees (shape_of view.now) l.0.block.items (Bis (shape_of view.now) 0)) }
     ensures labelled { IfOk result (λ l. BlocksHaveLabels view.now l.0.block.items l.0.labels.items) }
     ensures numbered { IfOk result (λ l. AreNumbered (label_number view.now) [] no_neighbours l.0.block.items (slice_get l.1)) }
@@ -39,35 +42,35 @@ pub(crate) fn lowest(alloc: Global, view: &GraphView<'_>) -> Result<(Layer, KeyT
 {
     let level = label_level(alloc, view)?;
     let labels = own_numbers(alloc, &level.keys)?;
-    let layer = Layer {
+    let labelled = LabelledLevel {
         block: level.block,
         labels,
     };
-    Ok((layer, level.keys))
+    Ok((labelled, level.keys))
 }
 
 /// The level above a level, and the keys of its blocks.
 pub(crate) fn above(
     alloc: Global,
     view: &GraphView<'_>,
-    layer: &Layer,
-) -> Result<(Layer, KeyTable), Memory>
-    requires partition { IsPartition (shape_of view.now) layer.now.block.items }
-    requires labelled { BlocksHaveLabels view.now layer.now.block.items layer.now.labels.items }
-    ensures agrees { IfOk result (λ l. (i : ℕ) → Agrees (shape_of view.now) layer.now.block.items (Bis (shape_of view.now) i) → Agrees (shape_of view.now) l.0.block.items (Bis (shape_of view.now) (suc i))) }
+    below: &LabelledLevel,
+) -> Result<(LabelledLevel, KeyTable), Memory>
+    requires partition { IsPartition (shape_of view.now) below.now.block.items }
+    requires labelled { BlocksHaveLabels view.now below.now.block.items below.now.labels.items }
+    ensures agrees { IfOk result (λ l. (i : ℕ) → Agrees (shape_of view.now) below.now.block.items (Bis (shape_of view.now) i) → Agrees (shape_of view.now) l.0.block.items (Bis (shape_of view.now) (suc i))) }
     ensures labelled { IfOk result (λ l. BlocksHaveLabels view.now l.0.block.items l.0.labels.items) }
-    ensures numbered { IfOk result (λ l. AreNumbered (at layer.now.block.items) layer.now.block.items (is_near Parents view.now) l.0.block.items (slice_get l.1)) }
+    ensures numbered { IfOk result (λ l. AreNumbered (at below.now.block.items) below.now.block.items (is_near Parents view.now) l.0.block.items (slice_get l.1)) }
     ensures span { IfOk result (λ l. AreBlocksBelow l.0.block.items (length l.1)) }
     ensures distinct { IfOk result (λ l. AreDistinct l.1) }
     ensures count { IfOk result (λ l. length l.0.labels.items ≡ length l.1) }
     ensures few { IfOk result (λ l. length l.0.labels.items ≤ 2 ^ 31) }
 {
-    let level = next_level(alloc, view, &layer.block)?;
+    let level = next_level(alloc, view, &below.block)?;
     let own = own_numbers(alloc, &level.keys)?;
-    let labels = look_up(alloc, &layer.labels, &own)?;
-    let layer = Layer {
+    let labels = look_up(alloc, &below.labels, &own)?;
+    let labelled = LabelledLevel {
         block: level.block,
         labels,
     };
-    Ok((layer, level.keys))
+    Ok((labelled, level.keys))
 }
