@@ -21,7 +21,7 @@ impl Model for Near {
 }
 
 impl Near {
-    /// Empty buffers. They take no memory until they are used.
+    /// Empty buffers. O(1), no memory until they are used.
     pub fn new(alloc: Global) -> Near
         ensures empty { result ≡ [] }
     {
@@ -31,7 +31,7 @@ impl Near {
         }
     }
 
-    /// The children of the node that was moved last.
+    /// The children of the node that was moved last. O(1), no memory.
     pub fn children(&self) -> &[NodeId]
         ensures { result.now ≡ self.now }
     {

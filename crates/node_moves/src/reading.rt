@@ -9,7 +9,8 @@ use graph_update::{After, Neighbours};
 use px_base::{Memory, NodeId, Steps};
 use std::sync::ledger::Ledger;
 
-/// Lists the parents of a node in the graph after a change, in place of what the list held.
+/// Lists the parents of a node in the graph after a change, in place of what the list held. O(p) for p parents, and at
+/// most p + 2 steps; it takes 4 bytes a parent where the list has no room.
 pub fn read_parents<L: Ledger>(
     list: &mut Vec<NodeId>,
     after: &After<'_>,
