@@ -5,7 +5,7 @@ use Rattle.std.specs.List.{IsDistinct, position}
 use Rattle.std.proofs.lemmas.Option.{slice_get-get_or}
 use Rattle.px_spec.specs.Shapes.{shape_by}
 use Rattle.path_expr.proofs.LabelNumbers.{number_is}
-use Rattle.path_expr.proofs.Following.{some_is}
+use Rattle.path_expr.proofs.ProductSearch.{some_is}
 use Rattle.branch_spec.specs.Trees as tree
 use Rattle.branch_spec.specs.Answers.{Passes}
 

@@ -6,7 +6,7 @@ use Rattle.std.proofs.lemmas.Bool.Decides.{eqb_tells}
 use Rattle.std.proofs.lemmas.List.{take_more}
 use Rattle.std.proofs.lemmas.List.Folds.{list_any-append}
 use Rattle.px_spec.specs.Members.{has}
-use Rattle.path_search.specs.Spreading.{Passes}
+use Rattle.path_search.specs.NewMarks.{Passes}
 
 pub passing_node : (label_at : ℕ → Option ℕ) (test : Option ℕ) (n : ℕ) → Passes label_at test n → IsSome (label_at n)
 passing_node label_at None n h = h

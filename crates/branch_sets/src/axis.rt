@@ -17,7 +17,7 @@ pub enum Axis {
 impl Axis {
     ghost use Rattle.branch_sets.specs.Axes.{axis_of, turned};
 
-    /// The axis that leads back.
+    /// The axis that leads back. O(1), no memory.
     pub fn turned(self) -> Axis
         ensures { axis_of result ≡ turned (axis_of self) }
     {

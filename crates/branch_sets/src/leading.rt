@@ -1,7 +1,7 @@
 // Where a set of nodes leads along an axis.
 ghost use Rattle.std.specs.Prelude.{◌≡◌, ◌↔◌, ◌⊎◌, ℕ, ◌∷◌, [], true, length, IsTrue, IsSome, IfOk, OnOk};
 ghost use Rattle.px_spec.specs.Members.{has};
-ghost use Rattle.path_search.specs.Spreading.{Passes};
+ghost use Rattle.path_search.specs.NewMarks.{Passes};
 ghost use Rattle.path_search.specs.declared.state.State.TheVariants.{End, Any, Fork};
 ghost use Rattle.branch_spec.specs.Answers.{Along, Reaches};
 ghost use Rattle.branch_sets.specs.Axes.{axis_of};
@@ -163,7 +163,8 @@ fn far<G: Digraph>(alloc: Global, g: &G, set: &Bits) -> Result<Bits, Memory>
 }
 
 /// The nodes to which the axis leads from a member of the set: a set of numbers below the graph's size. `Memory` comes at
-/// want of memory alone. Each node and edge is read once at most; the memory is in proportion to the nodes.
+/// want of memory alone. O(n + e) for n node numbers and the e edges that are followed, each of which is read once at most; it takes a
+/// byte for each number, and a few more along `Below` and `Above`.
 pub fn along<G: Digraph>(alloc: Global, g: &G, axis: Axis, set: &Bits) -> Result<Bits, Memory>
     requires { (v : ℕ) → IsTrue (has set.now.members v) → IsSome (G.label_at g.now v) }
     ensures size { IfOk result (λ b. b.size ≡ G.span g.now) }

@@ -1,7 +1,7 @@
 // Nodes whose label passes, taken by runs of numbers.
 ghost use Rattle.std.specs.Prelude.{◌≡◌, ◌+◌, ◌<◌, ◌≤◌, ◌↔◌, ◌⊎◌, ℕ, length, take, IsTrue, IsSome};
 ghost use Rattle.px_spec.specs.Members.{has};
-ghost use Rattle.path_search.specs.Spreading.{Passes};
+ghost use Rattle.path_search.specs.NewMarks.{Passes};
 
 use label_graph::Digraph;
 use px_base::NodeId;

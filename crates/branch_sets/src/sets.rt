@@ -1,7 +1,7 @@
 // Sets of nodes from other sets, and from labels.
 ghost use Rattle.std.specs.Prelude.{◌≡◌, ◌+◌, ◌<◌, ◌≤◌, ◌↔◌, ◌⊎◌, ℕ, Some, length, take, IsTrue, IsSome, IfOk};
 ghost use Rattle.px_spec.specs.Members.{has};
-ghost use Rattle.path_search.specs.Spreading.{Passes};
+ghost use Rattle.path_search.specs.NewMarks.{Passes};
 
 use crate::runs::{RUN, end_of_run, is_passing, note_passing};
 use label_graph::Digraph;
@@ -20,7 +20,7 @@ fn remove_unless(set: &mut Bits, n: NodeId, stays: bool)
     }
 }
 
-/// Takes the numbers out of a set that aren't in another one. Linear in the size of the first; it takes no memory.
+/// Takes the numbers out of a set that aren't in another one. O(n) for the first set's size n, no memory.
 pub fn intersect(set: &mut Bits, other: &Bits)
     ensures size { set.new.size ≡ set.old.size }
     ensures members { (n : ℕ) → IsTrue (has set.new.members n) ↔ (IsTrue (has set.old.members n) × IsTrue (has other.now.members n)) }
@@ -34,7 +34,7 @@ pub fn intersect(set: &mut Bits, other: &Bits)
     }
 }
 
-/// Puts the numbers of another set into a set, which has the same size. Linear in their size; it takes no memory.
+/// Puts the numbers of another set into a set, which has the same size. O(n) for their size n, no memory.
 pub fn unite(set: &mut Bits, other: &Bits)
     requires { other.now.size ≡ set.old.size }
     ensures size { set.new.size ≡ set.old.size }
@@ -49,7 +49,7 @@ pub fn unite(set: &mut Bits, other: &Bits)
     }
 }
 
-/// Takes the numbers of another set out of a set. Linear in the size of the first; it takes no memory.
+/// Takes the numbers of another set out of a set. O(n) for the first set's size n, no memory.
 pub fn subtract(set: &mut Bits, gone: &Bits)
     ensures size { set.new.size ≡ set.old.size }
     ensures members { (n : ℕ) → IsTrue (has set.new.members n) ↔ (IsTrue (has set.old.members n) × (IsTrue (has gone.now.members n) → ⊥)) }

@@ -1,8 +1,9 @@
 pub mod LabelNumbers
-pub mod Reading
-pub mod Standing
-pub mod Following
+pub mod AutomatonWords
+pub mod MovedParts
+pub mod ProductSearch
 pub mod Within
-pub mod Compiling
+pub mod AutomatonParts
 pub mod LongestLaws
 pub mod Places
+pub mod PartLists

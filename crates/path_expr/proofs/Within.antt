@@ -8,7 +8,7 @@ use Rattle.path_spec.specs.Matches.{Word}
 use Rattle.path_spec.specs.Answers.{AreAnswers}
 use Rattle.path_spec.specs.Parts.{part_of}
 use Rattle.path_search.specs.Searches.{label_in, edge_in}
-use Rattle.path_expr.proofs.Following.{IsTabled}
+use Rattle.path_expr.proofs.ProductSearch.{IsTabled}
 
 both_true : (a b : Bool) → (a && b) ≡ true → (a ≡ true) × (b ≡ true)
 both_true true b h = (refl, h)

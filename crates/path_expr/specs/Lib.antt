@@ -2,6 +2,7 @@ pub mod Coding
 pub mod Sizes
 pub mod Views
 pub mod Falls
+pub mod TreeParts
 pub mod Automata
 pub mod Compiled
 pub mod Capped

@@ -13,8 +13,8 @@ use px_base::{Bits, Memory};
 use std::alloc::Global;
 
 /// The nodes in which a walk ends whose labels, in order, match the expression: a set of numbers below
-/// the graph's size. `Memory` comes at want of memory alone. For an expression with m labels, signs and separators
-/// the time is at most in proportion to m times the nodes and edges; each label is looked up once.
+/// the graph's size. `Memory` comes at want of memory alone. O(m (n + e)) for m labels, signs and separators, n node numbers and e
+/// edges, and each label is looked up once, in expected O(1) for each of its bytes; it takes memory as `path_search::search` does.
 pub fn eval<G: Digraph>(alloc: Global, g: &G, labels: &Labels, expr: &Expr) -> Result<Bits, Memory>
     requires labelled { (n l : ℕ) → G.label_at g.now n ≡ Some l → l < length labels.now.texts }
     ensures size { IfOk result (λ b. b.size ≡ G.span g.now) }
@@ -29,8 +29,8 @@ pub fn eval<G: Digraph>(alloc: Global, g: &G, labels: &Labels, expr: &Expr) -> R
 }
 
 /// The answers over the part of the graph that has the members of a set alone, and the edges between these: a set of numbers below
-/// the graph's size. `Memory` comes at want of memory alone. For an expression with m labels, signs and separators the time
-/// is at most in proportion to m times the members and the edges from them, and the numbers below the set's size.
+/// the graph's size. `Memory` comes at want of memory alone. O(m (n + e + s)) for m labels, signs and separators, n members, e edges
+/// from them, and the greater s of the graph's size and the set's, beside the look-ups of the labels; it takes memory as `eval` does.
 pub fn eval_within<G: Digraph>(
     alloc: Global,
     g: &G,

@@ -5,6 +5,7 @@
 mod answers;
 mod compile;
 mod lengths;
+mod parts;
 mod tree;
 
 pub use answers::{eval, eval_within};

@@ -10,7 +10,7 @@ use Rattle.path_spec.specs.Spelling.{EndsSlash, SpellsTokens, canonical}
 use Rattle.path_spec.proofs.Writing.{SpellThemselves, NoSlash, canonical_spells}
 use Rattle.path_query.specs.Labels.{IsPlainLabel, SpellsLabel}
 use Rattle.path_query.specs.Parsed.{Spells}
-use Rattle.path_query.proofs.Lexing.{label_first}
+use Rattle.path_query.proofs.LexerLaws.{label_first}
 
 -- a label is spelled by its own text
 pub label_again : (w t : List ℕ) → SpellsLabel w t → SpellsLabel t t

@@ -1,8 +1,8 @@
 pub mod Cuts
 pub mod LabelBytes
 pub mod LabelLaws
-pub mod Readings
-pub mod Lexing
+pub mod GrammarLaws
+pub mod LexerLaws
 pub mod OneText
 pub mod Shortness
 pub mod Canon

@@ -8,7 +8,7 @@ use Rattle.path_query.specs.Labels.{SpellsLabel}
 use Rattle.path_query.specs.Fronts.{IsTokenFront, mark_front}
 use Rattle.path_query.specs.Parsed.{Spells}
 use Rattle.path_query.proofs.LabelLaws.{front_one}
-use Rattle.path_query.proofs.Lexing.{mark_only, as_label, past, blanks_past, front_some, first_token}
+use Rattle.path_query.proofs.LexerLaws.{mark_only, as_label, past, blanks_past, front_some, first_token}
 
 -- one token stands in front
 token_one : (text : List ℕ) (t u : Token) (r q : List ℕ) → IsTokenFront text t r → IsTokenFront text u q → (t ≡ u) × (r ≡ q)

@@ -12,7 +12,7 @@ use Rattle.path_query.specs.Labels.{SpellsLabel}
 use Rattle.path_query.specs.Lengths.{IsBounded, IsNarrow}
 use Rattle.path_query.specs.Depths.{depth}
 use Rattle.path_query.specs.Parsed.{Spells, is_past}
-use Rattle.path_query.proofs.Lexing.{past, first_token, front_shorter, past_shorter}
+use Rattle.path_query.proofs.LexerLaws.{past, first_token, front_shorter, past_shorter}
 
 -- the tokens in front of the others are at least as many as the labels of the longest word
 abbrev Adds : Option ℕ → List Token → List Token → Type 0

@@ -52,7 +52,7 @@ impl PathExpr {
     /// The one expression that the text spells, as `a//(b|<http://e/c>)*`, where spaces and tabs may stand between
     /// tokens and at both ends. `Limit` comes exactly where the text has more bytes than `expr_bytes` or its
     /// brackets nest deeper than `expr_depth`, else `Syntax` only where it spells none, and `Memory` at want of
-    /// memory. Linear in the text.
+    /// memory. O(n) for n bytes, in time and memory.
     pub fn parse(alloc: Global, text: &[u8], limits: &Limits) -> Result<PathExpr, ExprError>
         ensures ok { IfOk result (λ e. Spells text.now e) }
         ensures only { IfOk result (λ e. (other : tree.Expr) → Spells text.now other → other ≡ e) }
@@ -71,7 +71,8 @@ impl PathExpr {
     }
 
     /// The canonical text: the tokens without any blank, labels in their one spelling. It spells this very expression,
-    /// so `parse` of it, where it is within the limits, gives the same tree.
+    /// so `parse` of it, where it is within the limits, gives the same tree. `Memory` comes at want of memory alone. O(n) for a text of n
+    /// bytes; it takes that text.
     pub fn write(&self, alloc: Global) -> Result<Text, Memory>
         ensures canonical { IfOk result (λ t. t ≡ canonical self.now) }
         ensures again { IfOk result (λ t. Spells t self.now) }
@@ -82,14 +83,14 @@ impl PathExpr {
     }
 
     /// The number of labels of the longest matching word, and None exactly where there is no longest. It is at most 2^30, since
-    /// each of these labels takes a byte of a text within the limits. It takes no memory. Linear in the expression.
+    /// each of these labels takes a byte of a text within the limits. O(m) for m labels, signs and separators, no memory.
     pub fn longest(&self) -> Option<u32>
         ensures { result ≡ longest self.now }
     {
         narrow(longest(&self.tree))
     }
 
-    /// The tree.
+    /// The tree. Its parts are read by the calls of `Expr` and `Seq`. O(1), no memory.
     pub fn tree(&self) -> &Expr
         ensures { result.now ≡ self.now }
     {

@@ -10,7 +10,8 @@ use path_expr::Expr;
 use px_spec::Limits;
 use std::alloc::Global;
 
-/// Whether the text has more bytes than `expr_bytes`, or its brackets nest deeper than `expr_depth`. Linear in the text.
+/// Whether the text has more bytes than `expr_bytes`, or its brackets nest deeper than `expr_depth`. O(n)
+/// for n bytes, no memory.
 pub fn is_past(limits: &Limits, text: &[u8]) -> bool
     ensures { result ≡ is_past limits.now text.now }
 {

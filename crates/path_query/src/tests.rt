@@ -4,7 +4,7 @@ ghost use Rattle.label_graph.specs.Views.{label_number};
 
 use super::*;
 use label_graph::{Graph, GraphView};
-use px_base::{Bits, NodeId, Steps};
+use px_base::{Bits, Memory, NodeId, Steps};
 use px_spec::Limits;
 use std::alloc::Global;
 use std::marker::Brand;
@@ -85,6 +85,53 @@ fn texts_are_read(rt: HostRuntime) {
     for (text, answer, len) in TEXTS {
         assert!(rt; is_read_as(rt.alloc(), text, answer, *len), "at {text}");
     }
+}
+
+/// Whether the item is this label without a sign.
+fn is_label(item: &Item, label: &str) -> bool {
+    match &item.atom {
+        Atom::Label(text) => text.as_str() == label && item.sign.is_none(),
+        _ => false,
+    }
+}
+
+/// Whether the sequence is `a/b//c`.
+fn has_items(seq: &Seq) -> bool {
+    if seq.len() != 2 {
+        return false;
+    }
+    is_label(seq.first(), "a")
+        && seq.sep(0) == Sep::Child
+        && is_label(seq.item(0), "b")
+        && seq.sep(1) == Sep::Below
+        && is_label(seq.item(1), "c")
+}
+
+/// Whether the item is any label with a star.
+fn is_starred(item: &Item) -> bool {
+    matches!(&item.atom, Atom::Any) && item.sign == Some(Sign::Star)
+}
+
+/// Whether the expression is `a/b//c|_*`.
+fn has_parts(expr: &Expr) -> bool {
+    if expr.len() != 2 {
+        return false;
+    }
+    has_items(expr.seq(0)) && expr.seq(1).len() == 0 && is_starred(expr.seq(1).first())
+}
+
+/// Whether the text is read as that expression.
+fn is_read_in_parts(alloc: Global, text: &str) -> bool {
+    match PathExpr::parse(alloc, text.as_bytes(), &Limits::program()) {
+        Ok(expr) => has_parts(expr.tree()),
+        Err(_) => false,
+    }
+}
+
+#[test]
+fn trees_have_parts(rt: HostRuntime) {
+    assert!(rt; is_read_in_parts(rt.alloc(), " a / b // c | _ *"));
+    assert!(rt; !is_read_in_parts(rt.alloc(), "a/b/c|_*"));
 }
 
 const FEW: Limits = Limits {
@@ -239,6 +286,18 @@ const ANSWERS: &[(&str, &[NodeId])] = &[
     ("d|(d/a|b)?/b", &[1, 3]),
 ];
 
+/// Expressions, nodes of the small graph, and the answers over these nodes and the edges between them alone.
+const WITHIN: &[(&str, &[NodeId], &[NodeId])] = &[
+    ("a/b/c", &[0, 1, 4], &[4]),
+    ("a/b/c", &[1, 4], &[]),
+    ("a/b/c", &[0, 4], &[]),
+    ("c|a/b", &[0, 1, 2], &[1]),
+    ("a//c", &[0, 2, 4], &[4]),
+    ("b//b", &[3], &[3]),
+    ("_", &[1, 3], &[1, 3]),
+    ("a", &[], &[]),
+];
+
 /// Whether these are the marked nodes.
 fn are(marked: &Bits, nodes: &[NodeId]) -> bool {
     marked.count() as usize == nodes.len() && nodes.iter().all(|n| marked.contains(*n))
@@ -264,12 +323,53 @@ fn has_answers(
     }
 }
 
+/// The set of these numbers, those below the size.
+fn set_of(alloc: Global, size: u32, nodes: &[NodeId]) -> Result<Bits, Memory> {
+    let mut set = Bits::new(alloc, size)?;
+    for n in nodes {
+        if *n < set.size() {
+            set.insert(*n);
+        }
+    }
+    Ok(set)
+}
+
+/// Whether these are the answers to the text over some of the nodes.
+fn has_answers_within(
+    alloc: Global,
+    graph: &Graph,
+    view: &GraphView<'_>,
+    text: &str,
+    nodes: &[NodeId],
+    answers: &[NodeId],
+) -> bool
+    requires same { view.now ≡ graph.now.graph }
+    requires labelled { (n l : ℕ) → label_number graph.now.graph n ≡ Some l → l < length graph.now.graph.seen }
+{
+    let Ok(expr) = PathExpr::parse(alloc, text.as_bytes(), &Limits::program()) else {
+        return false;
+    };
+    let Ok(set) = set_of(alloc, 5, nodes) else {
+        return false;
+    };
+    match eval_within(alloc, view, graph.labels(), &expr, &set) {
+        Ok(marked) => are(&marked, answers),
+        Err(_) => false,
+    }
+}
+
 fn check_answers(rt: &impl Abort, alloc: Global, graph: &Graph, view: &GraphView<'_>)
     requires same { view.now ≡ graph.now.graph }
     requires labelled { (n l : ℕ) → label_number graph.now.graph n ≡ Some l → l < length graph.now.graph.seen }
 {
     for (text, answers) in ANSWERS {
         assert!(rt; has_answers(alloc, graph, view, text, answers), "at {text}");
+    }
+    for (text, nodes, answers) in WITHIN {
+        assert!(rt;
+            has_answers_within(alloc, graph, view, text, nodes, answers),
+            "at {text}"
+        );
     }
 }
 

@@ -37,21 +37,21 @@ fn word_len(bytes: &[u8]) -> usize
     bytes.iter().take_while(|byte| !is_blank(**byte)).count()
 }
 
-/// The bytes from the first that is no blank.
+/// The bytes from the first that is no blank. O(n) for n blanks in front, no memory.
 pub fn skip_blanks(bytes: &[u8]) -> &[u8]
     ensures { result.now ≡ drop (prefix_len is_blank bytes.now) bytes.now }
 {
     &bytes[blanks_len(bytes)..]
 }
 
-/// The bytes up to the last that is no blank.
+/// The bytes up to the last that is no blank. O(n) for n blanks at the end, no memory.
 pub fn trim_end_blanks(bytes: &[u8]) -> &[u8]
     ensures { result.now ≡ take (length bytes.now - suffix_len is_blank bytes.now) bytes.now }
 {
     &bytes[..bytes.len() - end_blanks_len(bytes)]
 }
 
-/// The bytes before the first blank, and from it on.
+/// The bytes before the first blank, and from it on. O(n) for n bytes before it, no memory.
 pub fn split_word(bytes: &[u8]) -> (&[u8], &[u8])
     ensures word { result.0.now ≡ take (position_or_len is_blank bytes.now) bytes.now }
     ensures rest { result.1.now ≡ drop (position_or_len is_blank bytes.now) bytes.now }

@@ -1,6 +1,6 @@
 pub mod Runs
 pub mod Bits
-pub mod Gathering
-pub mod Spread
-pub mod Kept
+pub mod RowMarks
+pub mod PairMarks
+pub mod SearchInvariant
 pub mod Inside

@@ -2,4 +2,4 @@ pub mod Searches
 pub mod Rows
 pub mod Waits
 pub mod Programs
-pub mod Spreading
+pub mod NewMarks

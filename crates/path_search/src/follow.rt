@@ -3,7 +3,7 @@ ghost use Rattle.std.specs.Prelude.{◌≡◌, ◌↔◌, ◌≤◌, ◌+◌, �
 ghost use Rattle.px_spec.specs.Members.{has};
 ghost use Rattle.path_search.specs.Searches.{label_in, edge_in};
 ghost use Rattle.path_search.specs.Rows.{IsSet};
-ghost use Rattle.path_search.specs.Spreading.{Gathers, Passes, Next, NextOf, IsPlace};
+ghost use Rattle.path_search.specs.NewMarks.{Gathers, Passes, Next, NextOf, IsPlace};
 
 use crate::frontier::mark_if;
 use crate::row::Row;

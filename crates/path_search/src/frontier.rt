@@ -2,7 +2,7 @@
 ghost use Rattle.std.specs.Prelude.{◌≡◌, ◌<◌, ◌≤◌, ℕ, [], length, IsTrue, IfOk, OnOk};
 ghost use Rattle.px_spec.specs.Members.{has};
 ghost use Rattle.path_search.specs.Rows.{row, IsSet, IsMarked, HasRoom};
-ghost use Rattle.path_search.specs.Spreading.{Gathers, Spreads};
+ghost use Rattle.path_search.specs.NewMarks.{Gathers, Spreads};
 
 use crate::row::Row;
 use crate::waiting::Waiting;

@@ -27,7 +27,7 @@ impl Model for Program {
 }
 
 impl Program {
-    /// The automaton of the end alone.
+    /// The automaton of the end alone. O(1); it takes memory for one state.
     pub fn new(alloc: Global) -> Result<Program, Memory>
         ensures { IfOk result (λ p. p ≡ End ∷ []) }
     {
@@ -35,7 +35,8 @@ impl Program {
         Ok(Program { states })
     }
 
-    /// Adds a state behind the others, and gives its number.
+    /// Adds a state behind the others, and gives its number. `Memory` comes at want of memory, or where there are 2^32 states. O(1),
+    /// amortized; it takes memory for one state.
     pub fn push(&mut self, state: State) -> Result<u32, Memory>
         requires { LeadsInside (length self.old + 1) state }
         ensures number { IfOk result (λ k. k ≡ length self.old) }
@@ -48,7 +49,7 @@ impl Program {
         Ok(number)
     }
 
-    /// Writes a state in the place of another.
+    /// Writes a state in the place of another. O(1), no memory.
     pub fn set(&mut self, number: u32, state: State)
         requires there { number < length self.old }
         requires inside { LeadsInside (length self.old) state }
@@ -57,14 +58,14 @@ impl Program {
         self.states[number as usize] = state;
     }
 
-    /// How many states there are.
+    /// How many states there are. O(1), no memory.
     pub fn len(&self) -> usize
         ensures { result ≡ length self.now }
     {
         self.states.len()
     }
 
-    /// The state with the number.
+    /// The state with the number. O(1), no memory.
     pub fn state(&self, number: u32) -> State
         requires { number < length self.now }
         ensures there { slice_get self.now number ≡ Some result }

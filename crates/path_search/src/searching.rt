@@ -5,7 +5,7 @@ ghost use Rattle.px_spec.specs.Members.{has};
 ghost use Rattle.path_search.specs.Searches.{label_in, edge_in, Succeeds, AreEnds};
 ghost use Rattle.path_search.specs.declared.state.State.TheVariants.{End};
 ghost use Rattle.path_search.specs.Rows.{row, IsMarked, HasRoom};
-ghost use Rattle.path_search.specs.Spreading.{Spreads, NextOf, SucceedsOne, IsPlace};
+ghost use Rattle.path_search.specs.NewMarks.{Spreads, NextOf, SucceedsOne, IsPlace};
 
 use crate::follow::follow;
 use crate::frontier::Frontier;
@@ -182,8 +182,8 @@ fn search_in<G: Digraph, S: Scope>(
 
 /// The nodes at which a word can end that is read from the state `start` on behind one of the places, where
 /// the graph's size is the place in front of all nodes: a set of numbers below that size. `Memory` comes at
-/// want of memory alone. For m states, n nodes and e edges it takes O(m (n + e)): a bit for each node and each state
-/// that is entered, at most 4 bytes for each of these pairs that waits, and no allocation for a node or an edge.
+/// want of memory alone. O(m (n + e)) for m states, n node numbers and e edges; it takes a bit for each state that is entered and each
+/// number, 4 bytes for each place at which a state waits and 16 for each run of such places, and a few bytes for each number.
 pub fn search<G: Digraph>(
     alloc: Global,
     g: &G,
@@ -199,8 +199,9 @@ pub fn search<G: Digraph>(
     search_in(alloc, g, &Everywhere, program, start, places)
 }
 
-/// The same where only members of the set are entered: the graph has no other nodes then, and the edges between these. It looks at
-/// members alone and their edges, besides a pass over the set for each state that is entered in front of all nodes.
+/// The same where only members of the set are entered: the graph has no other nodes then, and the edges between these. O(m (n + e + s))
+/// for m states, n members, e edges from them, and the greater s of the graph's size and the set's. The set is passed over once for each
+/// state that is entered in front of all nodes, and no other number is looked at. It takes memory as `search` does.
 pub fn search_within<G: Digraph>(
     alloc: Global,
     g: &G,

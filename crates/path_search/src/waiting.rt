@@ -13,8 +13,8 @@ pub(crate) struct Run {
     pub len: usize,
 }
 
-/// Pairs of a state and a place. Places that came together for one state lie in one array, a run of them, so that a
-/// pair takes 4 bytes, and what is done for a state is done for a whole run.
+/// Pairs of a state and a place. Places that came together for one state lie in one array, a run of them: a place takes 4
+/// bytes, and a run 16 more. What is done for a state is done for a whole run.
 #[derive(Drop)]
 pub(crate) struct Waiting {
     runs: Vec<Run>,

@@ -1,5 +1,5 @@
 use Rattle.std.proofs.Common.{◌∙◌, ℕ, ◌<◌, sym, subst, arith, take}
-use Rattle.path_search.specs.Spreading.{Passes}
+use Rattle.path_search.specs.NewMarks.{Passes}
 use Rattle.branch_sets.proofs.Taken.{OfRun, led_run, passing_node}
 use Rattle.branch_sets.proofs.leading.passing_children.Goals as goal
 

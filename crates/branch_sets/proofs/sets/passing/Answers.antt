@@ -1,5 +1,5 @@
 use Rattle.std.proofs.Common.{◌∙◌, sym, subst, arith, take}
-use Rattle.path_search.specs.Spreading.{Passes}
+use Rattle.path_search.specs.NewMarks.{Passes}
 use Rattle.branch_sets.proofs.Taken.{OfRun, put_run, passing_node}
 use Rattle.branch_sets.proofs.sets.passing.Goals as goal
 

@@ -1,6 +1,6 @@
 use Rattle.std.proofs.Common.{◌≡◌, ◌↔◌, ◌-◌, ◌≤◌, ℕ, ◌<◌, length, IsTrue}
 use Rattle.px_spec.specs.Members.{has}
-use Rattle.path_search.specs.Spreading.{Passes}
+use Rattle.path_search.specs.NewMarks.{Passes}
 use Rattle.branch_sets.proofs.sets.passing.Given as goal
 
 abbrev pub invariant-loop-from : goal.invariant-loop-from

@@ -5,7 +5,7 @@ use Rattle.std.specs.Prelude.{slice_get}
 use Rattle.std.proofs.lemmas.Result.{IfOk-weaker}
 use Rattle.path_search.specs.Searches.{AreEnds}
 use Rattle.path_search.specs.declared.state.State.TheVariants.{End}
-use Rattle.path_expr.proofs.Following.{ends_answers}
+use Rattle.path_expr.proofs.ProductSearch.{ends_answers}
 use Rattle.path_expr.proofs.answers.eval.Goals as goal
 
 pub returns-clause-answers : goal.returns-clause-answers

@@ -5,7 +5,7 @@ use Rattle.std.specs.Prelude.{slice_get}
 use Rattle.std.proofs.lemmas.Result.{IfOk-weaker}
 use Rattle.path_search.specs.Searches.{label_in, edge_in, AreEnds}
 use Rattle.path_search.specs.declared.state.State.TheVariants.{End}
-use Rattle.path_expr.proofs.Following.{IsTabled, ends_answers}
+use Rattle.path_expr.proofs.ProductSearch.{IsTabled, ends_answers}
 use Rattle.path_expr.proofs.Within.{answers_of_part, tabled_in}
 use Rattle.path_expr.proofs.answers.eval_within.Goals as goal
 

@@ -5,7 +5,7 @@ use Rattle.path_expr.specs.Automata.{Stands, StandsItem, StandsAtom}
 use Rattle.path_search.specs.declared.state.State.TheVariants.{Fork}
 use Rattle.path_expr.specs.Views.{atom_of, item_of, signed_by, seq_of}
 use Rattle.path_expr.specs.Compiled.{Grows, HasFork, StandMore, StandRest}
-use Rattle.path_expr.proofs.Compiling.{grows_then, grows_push, loop_grows, star_stands, plus_stands, opt_stands, alternatives, more_then, rest_then, whole_seq, drop_back, drop_none, opt_ok}
+use Rattle.path_expr.proofs.AutomatonParts.{grows_then, grows_push, loop_grows, star_stands, plus_stands, opt_stands, alternatives, more_then, rest_then, whole_seq, drop_back, drop_none, opt_ok}
 use Rattle.path_expr.proofs.compile.+compile.Goals as goal
 
 pub compile_atom-returns-in-Group-clause-stands : goal.compile_atom-returns-in-Group-clause-stands

@@ -4,7 +4,7 @@ use Rattle.path_spec.specs.Tokens.{onto, seq_onto, item_onto, atom_onto, bar, se
 use Rattle.path_expr.specs.Views.{sep_of, item_of, seq_of, seq_from, expr_from}
 use Rattle.path_query.specs.declared.grammar.ReadError.TheVariants.{Syntax}
 use Rattle.path_query.specs.Seen.{seen}
-use Rattle.path_query.proofs.Readings.{expr_more, seq_more, expr_peel, expr_begins, seq_peel, seq_begins, item_begins, seq_ends, none_begins, other_token, inside_of, unclosed}
+use Rattle.path_query.proofs.GrammarLaws.{expr_more, seq_more, expr_peel, expr_begins, seq_peel, seq_begins, item_begins, seq_ends, none_begins, other_token, inside_of, unclosed}
 use Rattle.path_query.proofs.grammar.+read.Goals as goal
 
 pub read_atom-returns-in_default-clause-syntax : goal.read_atom-returns-in_default-clause-syntax

@@ -1,7 +1,7 @@
 use Rattle.std.proofs.Common.{◌≡◌, true≢false, length, sym, ◌∙◌, arith}
 use Rattle.std.proofs.lemmas.Bool.Decides.{nat_tests}
 use Rattle.path_query.specs.Seen.{seen}
-use Rattle.path_query.proofs.Readings.{all_read}
+use Rattle.path_query.proofs.GrammarLaws.{all_read}
 use Rattle.path_query.proofs.grammar.read_tokens.Goals as goal
 
 pub returns-else-is_empty-clause-syntax : goal.returns-else-is_empty-clause-syntax

@@ -1,6 +1,6 @@
 use Rattle.path_expr.specs.Views.{sign_of}
 use Rattle.path_query.specs.Seen.{seen}
-use Rattle.path_query.proofs.Readings.{sign_only, no_sign_only}
+use Rattle.path_query.proofs.GrammarLaws.{sign_only, no_sign_only}
 use Rattle.path_query.proofs.grammar.split_sign.Goals as goal
 
 pub returns-in-Some-clause-only : goal.returns-in-Some-clause-only

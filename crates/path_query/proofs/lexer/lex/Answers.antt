@@ -4,7 +4,7 @@ use Rattle.std.proofs.lemmas.List.{map_push, nil_from_length}
 use Rattle.std.proofs.lemmas.Result.{err_from_is_err_and}
 use Rattle.path_query.specs.declared.grammar.ReadError.TheVariants.{Syntax}
 use Rattle.path_query.specs.Seen.{token_of, seen}
-use Rattle.path_query.proofs.Lexing.{Lexed, past_shorter, front_shorter, lexed_none, lexed_more, lexed_bad, lexed_all, lexed_only}
+use Rattle.path_query.proofs.LexerLaws.{Lexed, past_shorter, front_shorter, lexed_none, lexed_more, lexed_bad, lexed_all, lexed_only}
 use Rattle.path_query.proofs.lexer.lex.Goals as goal
 
 pub tokens-init : goal.tokens-init

@@ -1,6 +1,6 @@
 use Rattle.std.proofs.Common.{length}
 use Rattle.path_query.specs.Seen.{seen}
-use Rattle.path_query.proofs.Lexing.{Lexed}
+use Rattle.path_query.proofs.LexerLaws.{Lexed}
 use Rattle.path_query.proofs.lexer.lex.Given as goal
 
 abbrev pub invariant-tokens : goal.invariant-tokens

@@ -1,7 +1,7 @@
 use Rattle.std.proofs.Common.{◌≡◌, ◌∙◌, sym, ap, subst, drop, true≢false}
 use Rattle.path_spec.specs.Tokens.{lab}
 use Rattle.path_spec.specs.Spelling.{EndsName}
-use Rattle.path_query.proofs.Lexing.{as_label, LabelAt}
+use Rattle.path_query.proofs.LexerLaws.{as_label, LabelAt}
 use Rattle.path_query.proofs.lexer.read_label.Goals as goal
 
 pub returns-in_default-clause-syntax : goal.returns-in_default-clause-syntax

@@ -1,6 +1,6 @@
 use Rattle.std.proofs.Common.{◌≡◌, ◌∙◌, sym, ap}
 use Rattle.path_query.specs.Seen.{token_of}
-use Rattle.path_query.proofs.Lexing.{mark_is_front, mark_only}
+use Rattle.path_query.proofs.LexerLaws.{mark_is_front, mark_only}
 use Rattle.path_query.proofs.lexer.read_token.Goals as goal
 
 pub returns-in-Some-clause-ok : goal.returns-in-Some-clause-ok

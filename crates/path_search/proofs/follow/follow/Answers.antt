@@ -1,7 +1,7 @@
 use Rattle.std.proofs.Common.{get_or, inl, inr, subst}
 use Rattle.path_search.specs.Searches.{label_in, edge_in}
-use Rattle.path_search.specs.Spreading.{Next}
-use Rattle.path_search.proofs.Gathering.{gathers_as, gathers_then, has_there, take_cases}
+use Rattle.path_search.specs.NewMarks.{Next}
+use Rattle.path_search.proofs.RowMarks.{gathers_as, gathers_then, has_there, take_cases}
 use Rattle.path_search.proofs.follow.follow.Goals as goal
 
 pub mark_next-requires-clause-place : goal.mark_next-requires-clause-place

@@ -2,7 +2,7 @@ use Rattle.std.proofs.Common.{ℕ, take, IsTrue}
 use Rattle.path_search.specs.Searches.{label_in, edge_in}
 use Rattle.px_spec.specs.Members.{has}
 use Rattle.path_search.specs.Rows.{IsSet}
-use Rattle.path_search.specs.Spreading.{Gathers, Next, NextOf}
+use Rattle.path_search.specs.NewMarks.{Gathers, Next, NextOf}
 use Rattle.path_search.proofs.follow.follow.Given as goal
 
 abbrev pub invariant-loop-p : goal.invariant-loop-p

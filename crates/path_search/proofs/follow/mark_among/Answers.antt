@@ -2,8 +2,8 @@ use Rattle.std.proofs.Common.{IsTrue, inl, inr, sym, subst}
 use Rattle.path_search.specs.Searches.{label_in}
 use Rattle.px_spec.specs.Members.{has}
 use Rattle.path_search.specs.Rows.{IsSet}
-use Rattle.path_search.specs.Spreading.{Passes}
-use Rattle.path_search.proofs.Gathering.{gathers_as, gathers_then, has_there, take_cases}
+use Rattle.path_search.specs.NewMarks.{Passes}
+use Rattle.path_search.proofs.RowMarks.{gathers_as, gathers_then, has_there, take_cases}
 use Rattle.path_search.proofs.follow.mark_among.Goals as goal
 
 pub loop-node-preserved : goal.loop-node-preserved

@@ -2,7 +2,7 @@ use Rattle.std.proofs.Common.{ℕ, take, IsTrue}
 use Rattle.path_search.specs.Searches.{label_in}
 use Rattle.px_spec.specs.Members.{has}
 use Rattle.path_search.specs.Rows.{IsSet}
-use Rattle.path_search.specs.Spreading.{Gathers, Passes}
+use Rattle.path_search.specs.NewMarks.{Gathers, Passes}
 use Rattle.path_search.proofs.follow.mark_among.Given as goal
 
 abbrev pub invariant-loop-node : goal.invariant-loop-node

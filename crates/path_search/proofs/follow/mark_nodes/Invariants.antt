@@ -1,7 +1,7 @@
 use Rattle.std.proofs.Common.{◌<◌, ◌-◌, ℕ}
 use Rattle.path_search.specs.Searches.{label_in}
 use Rattle.path_search.specs.Rows.{IsSet}
-use Rattle.path_search.specs.Spreading.{Gathers, Passes}
+use Rattle.path_search.specs.NewMarks.{Gathers, Passes}
 use Rattle.path_search.proofs.follow.mark_nodes.Given as goal
 
 abbrev pub invariant-nodes : goal.invariant-nodes

@@ -1,6 +1,6 @@
 use Rattle.std.proofs.Common.{◌≡◌, ◌∙◌, get_or, false, sym}
 use Rattle.std.proofs.lemmas.Bool.{not-true}
-use Rattle.path_search.proofs.Gathering.{gathers_new}
+use Rattle.path_search.proofs.RowMarks.{gathers_new}
 use Rattle.path_search.proofs.frontier.mark.Goals as goal
 
 pub returns-in_ok-push-clause-gathers : goal.returns-in_ok-push-clause-gathers

@@ -1,7 +1,7 @@
 use Rattle.std.proofs.Common.{IsTrue, get_or, inl, inr, sym, subst, arith}
 use Rattle.px_spec.specs.Members.{has}
 use Rattle.path_search.specs.Rows.{IsSet}
-use Rattle.path_search.proofs.Gathering.{gathers_as, gathers_then, has_there, take_cases}
+use Rattle.path_search.proofs.RowMarks.{gathers_as, gathers_then, has_there, take_cases}
 use Rattle.path_search.proofs.frontier.mark_each.Goals as goal
 
 pub mark-requires : goal.mark-requires

@@ -1,7 +1,7 @@
 use Rattle.std.proofs.Common.{ℕ, take, IsTrue}
 use Rattle.px_spec.specs.Members.{has}
 use Rattle.path_search.specs.Rows.{IsSet}
-use Rattle.path_search.specs.Spreading.{Gathers}
+use Rattle.path_search.specs.NewMarks.{Gathers}
 use Rattle.path_search.proofs.frontier.mark_each.Given as goal
 
 abbrev pub invariant-loop-n : goal.invariant-loop-n

@@ -1,8 +1,8 @@
 use Rattle.std.proofs.Common.{[]}
 use Rattle.std.proofs.lemmas.List.{get_or_read}
 use Rattle.path_search.specs.Searches.{label_in, edge_in}
-use Rattle.path_search.specs.Spreading.{NextOf}
-use Rattle.path_search.proofs.Spread.{spreads_found}
+use Rattle.path_search.specs.NewMarks.{NextOf}
+use Rattle.path_search.proofs.PairMarks.{spreads_found}
 use Rattle.path_search.proofs.searching.advance.Goals as goal
 
 pub returns-clause-spreads : goal.returns-clause-spreads

@@ -5,9 +5,9 @@ use Rattle.path_search.specs.Searches.{label_in, edge_in}
 use Rattle.px_spec.specs.Members.{has}
 use Rattle.path_search.specs.Rows.{HasRoom}
 use Rattle.path_search.specs.Waits.{all_at, IsTaken}
-use Rattle.path_search.specs.Spreading.{SpreadsOver, SucceedsOne}
-use Rattle.path_search.proofs.Spread.{members_le, room_on, falls, length_at, row_there}
-use Rattle.path_search.proofs.Kept.{searching_begins, searching_next, searching_ends, state_waits, place_waits, none_rises, IsSearching}
+use Rattle.path_search.specs.NewMarks.{SpreadsOver, SucceedsOne}
+use Rattle.path_search.proofs.PairMarks.{members_le, room_on, falls, length_at, row_there}
+use Rattle.path_search.proofs.SearchInvariant.{searching_begins, searching_next, searching_ends, state_waits, place_waits, none_rises, IsSearching}
 use Rattle.std.specs.Prelude.{MatchOption}
 use Rattle.path_search.proofs.searching.search_in.Goals as goal
 

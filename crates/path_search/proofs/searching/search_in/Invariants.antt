@@ -3,7 +3,7 @@ use Rattle.std.specs.Prelude.{slice_get}
 use Rattle.path_search.specs.Searches.{label_in, edge_in}
 use Rattle.px_spec.specs.Members.{has}
 use Rattle.path_search.specs.Rows.{members, pairs, HasRoom}
-use Rattle.path_search.proofs.Kept.{IsSearching}
+use Rattle.path_search.proofs.SearchInvariant.{IsSearching}
 use Rattle.path_search.proofs.searching.search_in.Given as goal
 
 abbrev pub invariant-runs : goal.invariant-runs

@@ -1,7 +1,7 @@
 use Rattle.std.proofs.Common.{[], IsTrue}
 use Rattle.std.proofs.lemmas.List.{get_or_read}
 use Rattle.px_spec.specs.Members.{has}
-use Rattle.path_search.proofs.Spread.{spreads_found}
+use Rattle.path_search.proofs.PairMarks.{spreads_found}
 use Rattle.path_search.proofs.frontier.Frontier.mark_all.Goals as goal
 
 pub returns-clause-spreads : goal.returns-clause-spreads

@@ -7,7 +7,7 @@ use Rattle.path_search.specs.declared.state.State.{State}
 use Rattle.path_search.specs.declared.state.State.TheVariants.{Fork, Any}
 use Rattle.path_spec.specs.Trees as tree
 use Rattle.path_expr.specs.Automata.{Stands, StandsSeq, StandsItem, StandsAtom}
-use Rattle.path_expr.proofs.Standing.{moved, moved_seq, moved_item, moved_atom}
+use Rattle.path_expr.proofs.MovedParts.{moved, moved_seq, moved_item, moved_atom}
 use Rattle.path_search.proofs.Inside.{get_push, get_last, get_set, get_set_other}
 use Rattle.path_expr.specs.declared.tree.Sep.{Sep}
 use Rattle.path_expr.specs.declared.tree.Sep.TheVariants.{Child, Below}

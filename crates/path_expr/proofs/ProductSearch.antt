@@ -14,7 +14,7 @@ use Rattle.path_expr.specs.Automata.{Run, Known, Stands}
 use Rattle.px_spec.specs.Members.{has}
 use Rattle.path_spec.specs.Answers.{IsAnswer, AreAnswers}
 use Rattle.path_search.specs.Searches.{Succeeds, leads, Reached, begin, onward, AreEnds}
-use Rattle.path_expr.proofs.Reading.{reads_by, read_by, read_matches, matches_read}
+use Rattle.path_expr.proofs.AutomatonWords.{reads_by, read_by, read_matches, matches_read}
 use Rattle.path_expr.proofs.LabelNumbers.{number_one}
 
 pub some_is : (o : Option ℕ) → IsSome o → (l : ℕ) × (o ≡ Some l)

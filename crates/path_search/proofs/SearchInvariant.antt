@@ -7,9 +7,9 @@ use Rattle.path_search.specs.declared.state.State.TheVariants.{End}
 use Rattle.path_search.specs.Searches.{Succeeds, Reached, begin, onward, AreEnds}
 use Rattle.path_search.specs.Rows.{IsMarked}
 use Rattle.path_search.specs.Waits.{all_at, Among}
-use Rattle.path_search.specs.Spreading.{SpreadsOver, SucceedsOne, IsPlace}
-use Rattle.path_search.proofs.Gathering.{has_there}
-use Rattle.path_search.proofs.Spread.{among_more, among_back, among_cases, among_at, at_among}
+use Rattle.path_search.specs.NewMarks.{SpreadsOver, SucceedsOne, IsPlace}
+use Rattle.path_search.proofs.RowMarks.{has_there}
+use Rattle.path_search.proofs.PairMarks.{among_more, among_back, among_cases, among_at, at_among}
 
 module _ (at : ℕ → Option State) (size : ℕ) (label_at : ℕ → Option ℕ) (edge : ℕ → ℕ → Bool) (First : ℕ → Type 0) (start states : ℕ) where
   -- the pair was visited

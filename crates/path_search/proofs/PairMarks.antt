@@ -7,7 +7,7 @@ use Rattle.std.proofs.Common.{eqb, eq-eqb, eqb-true}
 use Rattle.px_spec.specs.Members.{has}
 use Rattle.path_search.specs.Rows.{row, IsMarked, row_members, members, pairs, HasRoom}
 use Rattle.path_search.specs.Waits.{all_at, Among}
-use Rattle.path_search.specs.Spreading.{Gathers, SpreadsOver}
+use Rattle.path_search.specs.NewMarks.{Gathers, SpreadsOver}
 
 pub among_more : (ps qs : List (ℕ × ℕ)) (s v : ℕ) → Among ps s v → Among (ps ++ qs) s v
 among_more [] qs s v h = absurd h

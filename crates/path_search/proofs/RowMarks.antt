@@ -6,7 +6,7 @@ use Rattle.std.proofs.lemmas.List.Folds.{list_any_at}
 use Rattle.std.proofs.lemmas.List.Sums.{sum_by-set}
 use Rattle.px_spec.specs.Members.{has}
 use Rattle.path_search.specs.Rows.{IsSet, row_members}
-use Rattle.path_search.specs.Spreading.{Gathers}
+use Rattle.path_search.specs.NewMarks.{Gathers}
 
 -- a number that stands there is in the list
 pub has_there : (xs : List ℕ) (i : ℕ) → i < length xs → has xs (get_or xs i 0) ≡ true

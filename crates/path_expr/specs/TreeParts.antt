@@ -1,0 +1,18 @@
+-- The parts of a tree, in order.
+use Rattle.std.specs.Prelude.{List, [], ◌∷◌}
+use Rattle.path_spec.specs.Trees.{Sep, Expr, only, or, Seq, last, then, Item}
+
+-- the alternatives of an expression
+abbrev pub alternatives : Expr → List Seq
+alternatives (only s) = s ∷ []
+alternatives (or s e) = s ∷ alternatives e
+
+-- the items of a sequence
+abbrev pub items : Seq → List Item
+items (last i) = i ∷ []
+items (then i p s) = i ∷ items s
+
+-- the separators of a sequence, each between two items
+abbrev pub separators : Seq → List Sep
+separators (last i) = []
+separators (then i p s) = p ∷ separators s
