@@ -20,8 +20,8 @@ pub enum Query<'a> {
 
 impl Query<'_> {
     /// The nodes of a graph that answer the query: a set of numbers below the graph's size. `Memory` comes at want of
-    /// memory alone. For a path expression with m labels, signs and separators it takes time at most in proportion to m
-    /// times the nodes and edges.
+    /// memory alone. O(m (n + e)) for m labels, signs, separators, axes and words, n node numbers and e edges, beside the look-ups of
+    /// the labels. For a path expression it takes O(m n) memory, and for a branching query O(d n) where brackets nest d deep.
     pub fn answers<G: Digraph>(&self, alloc: Global, g: &G, labels: &Labels) -> Result<Bits, Memory>
         requires labelled { (n l : ℕ) → G.label_at g.now n ≡ Some l → l < length labels.now.texts }
         ensures size { IfOk result (λ b. b.size ≡ G.span g.now) }
@@ -34,7 +34,7 @@ impl Query<'_> {
     }
 
     /// The nodes of a graph that answer the query's relaxed form, likewise. A path expression is its own relaxed form; that
-    /// of a branching query is made first, in time and memory linear in the query.
+    /// of a branching query is made first. O(m (n + e)), and memory, as `answers` takes for that form.
     pub fn relaxed_answers<G: Digraph>(
         &self,
         alloc: Global,
