@@ -1,6 +1,6 @@
 pub mod Fronts
-pub mod Lexing
+pub mod LexerLaws
 pub mod OneText
-pub mod Readings
+pub mod GrammarLaws
 pub mod Canon
 pub mod Again

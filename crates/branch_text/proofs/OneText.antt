@@ -9,7 +9,7 @@ use Rattle.branch_text.specs.Fronts.{IsTokenFront, mark_front, label_len}
 use Rattle.branch_text.specs.Parsed.{Spells}
 use Rattle.path_query.proofs.LabelLaws.{label_one}
 use Rattle.branch_text.proofs.Fronts.{mark_only, as_label, front_some}
-use Rattle.branch_text.proofs.Lexing.{past, blanks_past, first_token}
+use Rattle.branch_text.proofs.LexerLaws.{past, blanks_past, first_token}
 
 -- one token stands in front
 token_one : (text : List ℕ) (t u : Token) (r q : List ℕ) → IsTokenFront text t r → IsTokenFront text u q → (t ≡ u) × (r ≡ q)

@@ -7,7 +7,7 @@ use Rattle.branch_sets.specs.Axes.{axis_of}
 use Rattle.branch_expr.specs.Views.{test_of, preds_of, step_of, chain_of, cond_of, and_from, and_of, or_from}
 use Rattle.branch_text.specs.declared.grammar.ReadError.TheVariants.{Syntax}
 use Rattle.branch_text.specs.Seen.{seen}
-use Rattle.branch_text.proofs.Readings as readings
+use Rattle.branch_text.proofs.GrammarLaws as readings
 use Rattle.branch_text.proofs.grammar.+read.Goals as goal
 
 pub read_pred-returns-in_err-or-clause-syntax : goal.read_pred-returns-in_err-or-clause-syntax

@@ -1,5 +1,5 @@
 use Rattle.branch_text.specs.Seen.{seen}
-use Rattle.branch_text.proofs.Readings.{no_test, other_test}
+use Rattle.branch_text.proofs.GrammarLaws.{no_test, other_test}
 use Rattle.branch_text.proofs.grammar.read_test.Goals as goal
 
 pub returns-in_default-clause-syntax : goal.returns-in_default-clause-syntax

@@ -5,7 +5,7 @@ use Rattle.branch_spec.specs.Tokens.{step_onto}
 use Rattle.branch_expr.specs.Views.{step_of, chain_of}
 use Rattle.branch_text.specs.declared.grammar.ReadError.TheVariants.{Syntax}
 use Rattle.branch_text.specs.Seen.{seen}
-use Rattle.branch_text.proofs.Readings.{all_read, query_begins, query_rest}
+use Rattle.branch_text.proofs.GrammarLaws.{all_read, query_begins, query_rest}
 use Rattle.branch_text.proofs.grammar.read_tokens.Goals as goal
 
 pub returns-in_err-first-clause-syntax : goal.returns-in_err-first-clause-syntax

@@ -5,7 +5,7 @@ use Rattle.std.proofs.lemmas.Result.{err_from_is_err_and}
 use Rattle.branch_text.specs.declared.grammar.ReadError.TheVariants.{Syntax}
 use Rattle.branch_text.specs.Seen.{token_of, seen}
 use Rattle.branch_text.proofs.Fronts.{front_shorter}
-use Rattle.branch_text.proofs.Lexing.{Lexed, past_shorter, lexed_none, lexed_more, lexed_bad, lexed_all, lexed_only}
+use Rattle.branch_text.proofs.LexerLaws.{Lexed, past_shorter, lexed_none, lexed_more, lexed_bad, lexed_all, lexed_only}
 use Rattle.branch_text.proofs.lexer.lex.Goals as goal
 
 pub tokens-init : goal.tokens-init

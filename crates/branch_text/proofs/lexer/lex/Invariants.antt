@@ -1,6 +1,6 @@
 use Rattle.std.proofs.Common.{length}
 use Rattle.branch_text.specs.Seen.{seen}
-use Rattle.branch_text.proofs.Lexing.{Lexed}
+use Rattle.branch_text.proofs.LexerLaws.{Lexed}
 use Rattle.branch_text.proofs.lexer.lex.Given as goal
 
 abbrev pub invariant-tokens : goal.invariant-tokens
