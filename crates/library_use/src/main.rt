@@ -1,15 +1,13 @@
 //! A caller of the library: it loads two triples, adds an edge, and asks a path through the 1-index.
 #![tactic(auto)]
 
-ghost use Rattle.std.specs.Prelude.{◌≡◌, ◌<◌, Ok, None, map, IfOk, IfSome, IsSome};
+ghost use Rattle.std.specs.Prelude.{◌≡◌, ◌<◌, None, map, IfSome, IsSome};
 ghost use Rattle.px_spec.specs.ProgramLimits.{program_limits};
-ghost use Rattle.px_spec.specs.Changes.{apply, link};
 ghost use Rattle.px_spec.specs.Shapes.{shape_of};
 ghost use Rattle.graph_load.specs.Loads.{Loads, loaded};
-ghost use Rattle.path_spec.specs.Trees.{Expr};
-ghost use Rattle.path_query.specs.Parsed.{Spells};
 ghost use Rattle.branch_query.specs.Queries.{path, AreQueryAnswers};
 ghost use Rattle.pathindex_core.specs.Engines.{engine_seen, graph_in, opened_of, IsSound};
+ghost use Rattle.library_use.specs.Questions.{AreLinkedAnswers};
 
 use full_engine::{EngineTask, with_full_engine};
 use graph_load::load;
@@ -17,7 +15,7 @@ use graph_update::Change;
 use index_api::Via;
 use label_graph::Graph;
 use path_query::PathExpr;
-use pathindex_core::{AskError, Engine};
+use pathindex_core::Engine;
 use px_base::{Bits, Limits, MemShelf, Steps, Text};
 use std::alloc::Global;
 use std::io;
@@ -43,45 +41,30 @@ fn load_triples(alloc: Global, triples: &str) -> Option<Graph>
     load(alloc, &mut shelf, "triples", &Limits::program()).ok()
 }
 
-/// Opens the engine with the graph, and adds an edge from n3 to n0: Bo knows Ana too. None where it can't be.
-fn link(alloc: Global, engine: &mut Engine, graph: Graph) -> Option<()>
-    requires closed { opened_of engine.old.state ≡ None }
-    requires sound { IsSound (engine_seen (map (λ b. meaning (b.vtable, b.value)) engine.old.boxes.items) engine.old.state) }
-    ensures sound { IsSound (engine_seen (map (λ b. meaning (b.vtable, b.value)) engine.new.boxes.items) engine.new.state) }
-    ensures open { IfSome result (λ _. IsSome (opened_of engine.new.state)) }
-    ensures linked { IfSome result (λ _. apply (link 3 0) graph.graph program_limits ≡ Ok (graph_in (opened_of engine.new.state))) }
-{
-    engine.open(graph, Limits::program(), 2).ok()?;
-    engine.update(alloc, Change::Link(3, 0)).ok()?;
-    Some(())
-}
-
 /// The nodes to which the path leads. They are asked of the 1-index, and are those of the graph. None where there is no answer.
-fn nodes_of(alloc: Global, engine: &mut Engine, text: &str) -> Option<Bits>
-    requires open { IsSome (opened_of engine.old.state) }
-    requires sound { IsSound (engine_seen (map (λ b. meaning (b.vtable, b.value)) engine.old.boxes.items) engine.old.state) }
-    ensures { IfSome result (λ nodes. (e : Expr) × Spells text.now e × AreQueryAnswers (shape_of (graph_in (opened_of engine.old.state))) (path e) nodes.members) }
-{
-    let expr = PathExpr::parse(alloc, text.as_bytes(), &Limits::program()).ok()?;
-    ask::<Brand>(alloc, engine, &expr, Blank::new(1)).ok()
-}
-
-/// What the engine answers, with a count of its steps.
-fn ask<L: Ledger>(
-    alloc: Global,
-    engine: &mut Engine,
-    expr: &PathExpr,
-    blank: Blank,
-) -> Result<Bits, AskError>
+fn ask<L: Ledger>(alloc: Global, engine: &mut Engine, expr: &PathExpr, blank: Blank) -> Option<Bits>
     requires open { IsSome (opened_of engine.old.state) }
     requires sound { IsSound (engine_seen (map (λ b. meaning (b.vtable, b.value)) engine.old.boxes.items) engine.old.state) }
     requires name { blank.name ≡ L.name }
     requires parts { blank.parts ≡ L.parts }
     requires some { 0 < blank.parts }
-    ensures { IfOk result (λ nodes. AreQueryAnswers (shape_of (graph_in (opened_of engine.old.state))) (path expr.now) nodes.members) }
+    ensures { IfSome result (λ nodes. AreQueryAnswers (shape_of (graph_in (opened_of engine.old.state))) (path expr.now) nodes.members) }
 {
     let mut steps = Steps::<L>::new(blank);
-    Ok(engine.path(alloc, Via::One, expr, &mut steps)?.nodes)
+    let answer = engine.path(alloc, Via::One, expr, &mut steps).ok()?;
+    Some(answer.nodes)
+}
+
+/// Opens the engine with the graph, adds an edge from n3 to n0, so that Bo knows Ana too, and asks where the path leads then.
+fn link_and_ask(alloc: Global, engine: &mut Engine, graph: Graph, text: &str) -> Option<Bits>
+    requires closed { opened_of engine.old.state ≡ None }
+    requires sound { IsSound (engine_seen (map (λ b. meaning (b.vtable, b.value)) engine.old.boxes.items) engine.old.state) }
+    ensures { IfSome result (λ nodes. AreLinkedAnswers graph.graph text.now nodes.members) }
+{
+    let expr = PathExpr::parse(alloc, text.as_bytes(), &Limits::program()).ok()?;
+    engine.open(graph, Limits::program(), 2).ok()?;
+    engine.update(alloc, Change::Link(3, 0)).ok()?;
+    ask::<Brand>(alloc, engine, &expr, Blank::new(1))
 }
 
 /// Where a path, the second text, leads in the graph of the triples, the first, once Bo knows Ana too.
@@ -90,16 +73,15 @@ struct Question<'a>(&'a str, &'a str);
 
 impl EngineTask for Question<'_> {
     ghost use Rattle.std.specs.Prelude.{IfSome};
-    ghost use Rattle.library_use.specs.Questions.{AreAnswers};
+    ghost use Rattle.library_use.specs.Questions.{AreAnswersOfTexts};
 
     type Answer = Option<Bits>;
 
-    ghost gives = { λ q answer. IfSome answer (λ nodes. AreAnswers q.0.now q.1.now nodes.members) };
+    ghost gives = { λ q answer. IfSome answer (λ nodes. AreAnswersOfTexts q.0.now q.1.now nodes.members) };
 
     fn carry_out(self, alloc: Global, engine: &mut Engine) -> Option<Bits> {
         let graph = load_triples(alloc, self.0)?;
-        link(alloc, engine, graph)?;
-        nodes_of(alloc, engine, self.1)
+        link_and_ask(alloc, engine, graph, self.1)
     }
 }
 
