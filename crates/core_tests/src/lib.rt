@@ -4,18 +4,20 @@
 #[cfg(test)]
 mod calls;
 #[cfg(test)]
+mod failing_index;
+#[cfg(test)]
 mod failing_tests;
 #[cfg(test)]
 mod full_tests;
+#[cfg(test)]
+mod kept_ring_tests;
 #[cfg(test)]
 mod limit_tests;
 #[cfg(test)]
 mod made_tests;
 #[cfg(test)]
+mod no_memory_tests;
+#[cfg(test)]
 mod one_tests;
 #[cfg(test)]
 mod ring_tests;
-#[cfg(test)]
-mod tired;
-#[cfg(test)]
-mod tired_tests;

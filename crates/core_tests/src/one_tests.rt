@@ -17,7 +17,7 @@ use std::test::Fail;
 use test_graphs::drawn;
 
 /// What is done with something that is lent.
-trait Task: Drop {
+pub(crate) trait Task: Drop {
     /// What is lent.
     type Lent: Drop;
 
@@ -26,7 +26,7 @@ trait Task: Drop {
 }
 
 /// Lends a value to the task, and drops it. That the value is of any type keeps its tables out of the proof.
-fn lend<T: Task>(mut value: T::Lent, task: T) -> bool {
+pub(crate) fn lend<T: Task>(mut value: T::Lent, task: T) -> bool {
     task.carry_out(&mut value)
 }
 
@@ -58,7 +58,7 @@ fn builds<L: Ledger>(index: &mut OneKept, graph: &Graph, blank: Blank) -> bool
 }
 
 /// The same, where nobody counts what it reads.
-fn is_built(index: &mut OneKept, graph: &Graph) -> bool
+pub(crate) fn is_built(index: &mut OneKept, graph: &Graph) -> bool
     ensures { IsTrue result → IsReady (meaning_of index.new.kept) graph.now.graph }
 {
     builds::<Brand>(index, graph, Blank::new(1))
@@ -80,7 +80,7 @@ fn stages<L: Ledger>(index: &mut OneKept, graph: &Graph, change: &Change, blank:
 }
 
 /// Makes the change of the index, if it alters the graph.
-fn makes(index: &mut OneKept, graph: &Graph, change: &Change) -> bool
+pub(crate) fn makes(index: &mut OneKept, graph: &Graph, change: &Change) -> bool
     requires ready { IsReady (meaning_of index.old.kept) graph.now.graph }
 {
     if !stages::<Brand>(index, graph, change, Blank::new(1)) {

@@ -17,7 +17,7 @@ use std::test::Fail;
 use test_graphs::drawn;
 
 /// A graph whose nodes have these labels, a byte each, and these edges.
-fn graph_of<L: Ledger>(
+pub(crate) fn graph_of<L: Ledger>(
     alloc: Global,
     labels: &[u8],
     edges: &[(NodeId, NodeId)],

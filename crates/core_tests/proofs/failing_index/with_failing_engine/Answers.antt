@@ -1,10 +1,10 @@
 use Rattle.std.proofs.Common.{◌≡◌, refl, sym, subst, ap, ◌∙◌}
 use Rattle.bisim_spec.specs.declared.kind.Kind.TheVariants.{A, One, Fb}
-use Rattle.core_tests.proofs.tired.with_tired_engine.OwnLists.{own-1}
+use Rattle.core_tests.proofs.failing_index.with_failing_engine.OwnLists.{own-1}
 use Rattle.full_engine.proofs.Apart.{three_apart, kept_is_one}
 use Rattle.index_api.specs.Kept.{kinds_of}
 use Rattle.core_tests.proofs.ThreeKinds.{three_kinds}
-use Rattle.core_tests.proofs.tired.with_tired_engine.Goals as goal
+use Rattle.core_tests.proofs.failing_index.with_failing_engine.Goals as goal
 
 pub new-engine-requires : goal.new-engine-requires
 new-engine-requires g c = record {

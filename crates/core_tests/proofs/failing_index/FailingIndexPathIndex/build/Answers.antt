@@ -2,7 +2,7 @@ use Rattle.std.proofs.Common.{ℕ, zero, suc, ◌<◌, [], ◌∷◌, None, refl
 use Rattle.px_spec.specs.Graphs.{Graph}
 use Rattle.bisim_spec.specs.declared.kind.Kind.TheVariants.{Fb}
 use Rattle.bisim_spec.specs.Fits.{FitsAt, view_at}
-use Rattle.core_tests.proofs.tired.TiredPathIndex.build.Goals as goal
+use Rattle.core_tests.proofs.failing_index.FailingIndexPathIndex.build.Goals as goal
 
 not_computed : (g : Graph) (i : ℕ) → i < 1 → FitsAt Fb g i (view_at (None ∷ []) i)
 not_computed g zero h = tt

@@ -15,12 +15,12 @@ use std::alloc::Global;
 
 /// A forward and backward index that is built without its view, and then never finds memory.
 #[derive(Drop)]
-struct Tired {
+struct FailingIndex {
     is_built: bool,
     is_staged: bool,
 }
 
-impl PathIndex for Tired {
+impl PathIndex for FailingIndex {
     ghost meaning = { λ t. record { kind = Fb; views = if t.is_built then None ∷ [] else []; staged = if t.is_staged then Some [] else None } };
 
     fn kind(&self) -> Kind {
@@ -56,17 +56,20 @@ impl PathIndex for Tired {
 }
 
 /// Has the task done with an engine that keeps the A(k)-indexes, the 1-index, and an index that never finds memory.
-pub(crate) fn with_tired_engine<T: EngineTask>(alloc: Global, task: T) -> Result<T::Answer, Memory>
+pub(crate) fn with_failing_engine<T: EngineTask>(
+    alloc: Global,
+    task: T,
+) -> Result<T::Answer, Memory>
     ensures { IfOk result (T.gives task) }
 {
-    let tired = Tired {
+    let failing = FailingIndex {
         is_built: false,
         is_staged: false,
     };
     let mut boxes: Vec<Box<dyn PathIndex>> = Vec::new(alloc);
     boxes.push(Box::new(alloc, AkIndex::new(alloc)?)?)?;
     boxes.push(Box::new(alloc, OneKept::new(alloc)?)?)?;
-    boxes.push(Box::new(alloc, tired)?)?;
+    boxes.push(Box::new(alloc, failing)?)?;
     let mut engine = Engine::new(boxes);
     let answer = task.carry_out(alloc, &mut engine);
     Ok(answer)

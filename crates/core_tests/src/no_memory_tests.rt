@@ -3,7 +3,7 @@ ghost use Rattle.std.specs.Prelude.{◌≡◌, ◌<◌, ⊤, None, IsSome, map};
 ghost use Rattle.pathindex_core.specs.Engines.{engine_seen, opened_of, IsSound};
 
 use crate::calls::{FEW, adds_node, fails_to_add, lists, opens};
-use crate::tired::with_tired_engine;
+use crate::failing_index::with_failing_engine;
 use full_engine::EngineTask;
 use index_api::{Answer, Kind, Via};
 use label_graph::Graph;
@@ -72,7 +72,7 @@ fn is_as_begun(engine: &mut Engine, alloc: Global, nodes: u32, list: &str) -> bo
     engine.graph().created() == nodes && all_list(engine, alloc, list)
 }
 
-/// Whether a node is added with this number once the tired box is forgotten.
+/// Whether a node is added with this number once the box that fails is forgotten.
 fn goes_on_without(engine: &mut Engine, alloc: Global, number: u32) -> bool
     requires open { IsSome (opened_of engine.old.state) }
     requires sound { IsSound (engine_seen (map (λ b. meaning (b.vtable, b.value)) engine.old.boxes.items) engine.old.state) }
@@ -105,13 +105,19 @@ impl EngineTask for Changes {
 #[test]
 fn a_change_without_memory_leaves_no_node(rt: HostRuntime) {
     let start = start_empty(rt.alloc());
-    assert_eq!(rt; with_tired_engine(rt.alloc(), Changes { start }), Ok(true));
+    assert_eq!(rt;
+        with_failing_engine(rt.alloc(), Changes { start }),
+        Ok(true)
+    );
 }
 
 #[test]
 fn a_change_without_memory_leaves_a_node(rt: HostRuntime) {
     let start = start_with_one(rt.alloc());
-    assert_eq!(rt; with_tired_engine(rt.alloc(), Changes { start }), Ok(true));
+    assert_eq!(rt;
+        with_failing_engine(rt.alloc(), Changes { start }),
+        Ok(true)
+    );
 }
 
 /// The answer of the graph itself.
@@ -172,13 +178,13 @@ impl EngineTask for Lists {
 #[test]
 fn a_list_without_memory_leaves_no_node(rt: HostRuntime) {
     let start = start_empty(rt.alloc());
-    assert_eq!(rt; with_tired_engine(rt.alloc(), Lists { start }), Ok(true));
+    assert_eq!(rt; with_failing_engine(rt.alloc(), Lists { start }), Ok(true));
 }
 
 #[test]
 fn a_list_without_memory_leaves_a_node(rt: HostRuntime) {
     let start = start_with_one(rt.alloc());
-    assert_eq!(rt; with_tired_engine(rt.alloc(), Lists { start }), Ok(true));
+    assert_eq!(rt; with_failing_engine(rt.alloc(), Lists { start }), Ok(true));
 }
 
 /// A run of this script, what it writes, and the status.
@@ -237,7 +243,7 @@ fn a_run_ends_where_a_box_finds_no_memory(rt: HostRuntime) {
             status: *status,
         };
         assert_eq!(rt;
-            with_tired_engine(rt.alloc(), task),
+            with_failing_engine(rt.alloc(), task),
             Ok(Some(true)),
             "{script}"
         );
