@@ -21,6 +21,8 @@ use quotient_draft::Draft;
 /// Drafts that the members of block `b` go to block `a`, where the two can be merged. Each member of `b` is
 /// moved, and each block next to `b` written once; so `b` had better be the smaller of the two. `list` is room
 /// that is used again. Where memory runs out, the draft may have a part of it.
+///
+/// O(s log s) expected for s members, parents and children of `b` in the base and as drafted; the draft takes O(s) memory more.
 pub fn join(
     base: &Summary,
     draft: &mut Draft,

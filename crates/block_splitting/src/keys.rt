@@ -54,7 +54,7 @@ fn drop_repeats(numbers: &mut Vec<u32>)
     numbers.dedup();
 }
 
-/// Sorts the numbers, and keeps each once.
+/// Sorts the numbers, and keeps each once. O(n log n) for n numbers, no memory.
 pub fn sort_once(numbers: &mut Vec<u32>)
     ensures { IsSetOf numbers.old.items numbers.new.items }
 {

@@ -12,7 +12,7 @@ use bisim_levels::Side;
 use label_graph::{Digraph, GraphView};
 use px_base::{Memory, NodeId};
 
-/// The nodes of which this one is a neighbour on a side, each once: its neighbours on the other side.
+/// The nodes of which this one is a neighbour on a side, each once: its neighbours on the other side. O(1), no memory.
 pub fn opposite_neighbours<'a>(view: &'a GraphView<'_>, side: Side, q: NodeId) -> &'a [NodeId]
     requires graph { IsGraph view.now }
     requires node { IsSome (label_number view.now q) }

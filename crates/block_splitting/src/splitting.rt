@@ -27,7 +27,7 @@ pub struct Tables {
 }
 
 impl Tables {
-    /// Tables for nodes below a size.
+    /// Tables for nodes below a size. O(s) for a size s; it takes 4 bytes for each number below it.
     pub fn new(alloc: Global, size: u32) -> Result<Tables, Memory>
         ensures { IfOk result (λ t. vec_len t.group ≡ size) }
     {
@@ -42,8 +42,9 @@ impl Tables {
 /// Parts the nodes that wait by the blocks of their neighbours on a side, and from the others of their
 /// block. It gives those that went to another block. On want of memory the partition stays.
 ///
-/// It takes the time to sort the neighbours' blocks of each node that waits. The largest part of a block
-/// keeps its number, where all members waited.
+/// The neighbours' blocks of each node that waits are sorted: O(w + m log d) expected for w nodes that wait, with m neighbours,
+/// at most d each, and O(b) more where these tables have not been used yet and there are b block numbers. It takes O(w + m)
+/// memory. The largest part of a block keeps its number, where all members waited.
 pub fn split(
     alloc: Global,
     view: &GraphView<'_>,

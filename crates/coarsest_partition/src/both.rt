@@ -117,8 +117,10 @@ fn settle_both_ways(
 /// The coarsest partition that is stable under parents and under children: its blocks are the classes of full
 /// bisimilarity both ways.
 ///
-/// Rounds by parents and rounds by children take turns, each over the nodes that wait on its side; a node waits on a
-/// side where a neighbour there went to another block, unless it is alone in its own.
+/// Rounds by parents and rounds by children take turns, each over the nodes that wait on its side: at first all, and then
+/// those of which a neighbour there went to another block, unless they are alone in their own. There are at most twice as
+/// many rounds as blocks. n numbers of nodes, m edges and at most d neighbours of a node on a side take O(r (n + m log d))
+/// expected for r rounds, and O(n + m) memory.
 pub fn full_bisimulation_both_ways(alloc: Global, view: &GraphView<'_>) -> Result<Blocks, Memory>
     ensures agrees { IfOk result (λ p. Agrees (shape_of view.now) p.block_of (FB (shape_of view.now))) }
     ensures fits { IfOk result (FitsWithSupports view.now) }

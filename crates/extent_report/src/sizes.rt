@@ -15,7 +15,7 @@ use px_base::{Memory, Text};
 use quotient::Summary;
 use std::alloc::Global;
 
-/// The line of the size of a graph, `nodes N edges E` and LF.
+/// The line of the size of a graph, `nodes N edges E` and LF. O(1); it takes the memory of the text.
 pub fn sizes_head(alloc: Global, nodes: u32, edges: u32) -> Result<Text, Memory>
     ensures { IfOk result (λ t. t ≡ head_line nodes edges) }
 {
@@ -54,7 +54,7 @@ fn size_text(alloc: Global, via: Via, blocks: u32, edges: u64) -> Result<Text, M
 }
 
 /// The line of the size of an index, as `a0 blocks B edges S` and LF: through what it is asked, how
-/// many blocks it has, and how many pairs of blocks have support. Counting takes constant time.
+/// many blocks it has, and how many pairs of blocks have support. O(1); it takes the memory of the text.
 pub fn sizes_line(alloc: Global, via: Via, summary: &Summary) -> Result<Text, Memory>
     requires index { via ≢ Data }
     ensures text { IfOk result (λ t. t ≡ size_line via (block_count summary.now.blocks) (pair_count summary.now.supports)) }

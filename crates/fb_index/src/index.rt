@@ -15,7 +15,8 @@ use std::alloc::Global;
 
 /// The forward and backward index of a graph. A change leaves no view of it, which takes no time and no memory, and the next `refresh`
 /// computes the view of the graph as it then is. A build or a refresh keys each node at first, and then in rounds those next to
-/// nodes that moved; its tables take O(nodes + edges) memory.
+/// nodes that moved: O(r (n + m log d)) expected at most for r rounds, n node numbers, m edges and at most d neighbours of a node on a
+/// side. Its tables take O(n + m) memory.
 #[derive(Drop)]
 pub struct FbIndex {
     alloc: Global,
@@ -24,7 +25,7 @@ pub struct FbIndex {
 }
 
 impl FbIndex {
-    /// An index without a view. It takes no memory until it is built.
+    /// An index without a view. O(1); it takes no memory until it is built.
     pub fn new(alloc: Global) -> Result<FbIndex, Memory>
         ensures { IfOk result (λ index. meaning_of index.summary index.is_staged ≡ meaning_of None false) }
     {

@@ -19,7 +19,7 @@ pub enum Via {
 
 impl Via {
     /// The kind of the index and its level, which is 0 for the 1-index and for the forward and backward index.
-    /// None exactly for the graph itself.
+    /// None exactly for the graph itself. O(1), no memory.
     pub fn place(self) -> Option<(Kind, u32)>
         ensures { result ≡ place_of self }
     {
@@ -32,7 +32,7 @@ impl Via {
     }
 
     /// The index at place `n`, counted from 0, in the list of all indexes with levels up to `k`: the A(i)-indexes
-    /// from level 0 up to `k`, then the 1-index, then the forward and backward index. None exactly past these.
+    /// from level 0 up to `k`, then the 1-index, then the forward and backward index. None exactly past these. O(1), no memory.
     pub fn nth(n: u32, k: u32) -> Option<Via>
         requires few { k ≤ 8 }
         ensures { result ≡ slice_get (all_indexes k) n }

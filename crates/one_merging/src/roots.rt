@@ -37,7 +37,8 @@ impl Model for Roots {
 }
 
 impl Roots {
-    /// Those of a base. Linear in its blocks and their supports.
+    /// Those of a base. O(b) expected for b block numbers, where no two blocks can be merged: then a label has two of them at most, one
+    /// of which is its own parent. It takes O(l) memory for l labels with such blocks.
     pub fn of(alloc: Global, base: &Summary) -> Result<Roots, Memory>
         ensures covers { IfOk result (CoversBase base.now) }
     {
@@ -52,7 +53,7 @@ impl Roots {
         Ok(roots)
     }
 
-    /// Whether far more blocks were noted since these were made than then.
+    /// Whether far more blocks were noted since these were made than then. O(1), no memory.
     pub fn are_many(&self) -> bool {
         self.further > self.made.saturating_add(64)
     }
@@ -65,8 +66,9 @@ impl Roots {
         Ok(())
     }
 
-    /// Notes those that a draft brings, so that those that the base has once it is settled are noted. Linear in what is drafted and in the parents of the
-    /// blocks that it touches.
+    /// Notes those that a draft brings, so that those that the base has once it is settled are noted. O(t + p + r) expected for t blocks
+    /// that the draft touches, with p parents in the base and as drafted, and r blocks that are noted for a label of such a block. It takes
+    /// 4 to 8 bytes for each touched block, and as much for each that is noted.
     pub fn note_touched(
         &mut self,
         alloc: Global,

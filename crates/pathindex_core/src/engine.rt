@@ -71,7 +71,7 @@ fn build_of(boxes: &mut Vec<Box<dyn PathIndex>>, graph: &Graph, k: u32) -> Resul
 }
 
 impl Engine {
-    /// An engine with these boxes, of which no two are of one kind. It isn't open. It takes no memory.
+    /// An engine with these boxes, of which no two are of one kind. It isn't open. O(1), no memory.
     pub fn new(boxes: Vec<Box<dyn PathIndex>>) -> Engine
         requires apart { AllPairs (λ a b. a.kind ≢ b.kind) (map meaning boxes.items) }
         ensures seen { engine_seen (map meaning result.boxes.items) result.state ≡ record { boxes = map meaning boxes.items; opened = None } }
@@ -82,6 +82,10 @@ impl Engine {
 
     /// Opens the engine with a graph, limits on what changes may make of it, and the highest level of the A(k)-family, and builds each index. At want of
     /// memory the graph is dropped, and the engine isn't open.
+    ///
+    /// O(n + m) for n node numbers and m edges, and what the build of each box takes. With all indexes of this library that is
+    /// O((k + r) (n + m log d)) expected in all, where a node has at most d neighbours on a side, and the 1-index and the forward and
+    /// backward index take r rounds; they take O(k (n + m)) memory, for a k of 1 at least.
     pub fn open(&mut self, graph: Graph, limits: Limits, k: u32) -> Result<(), Memory>
         requires closed { opened_of self.old.state ≡ None }
         requires few { k ≤ 8 }
@@ -112,6 +116,9 @@ impl Engine {
     /// engine's limits, memory or not. An error leaves all as it was. So does the link of an edge that is there, which takes no
     /// memory. Each other change takes all its memory before the graph or an index changes, and the partition of the 1-index, where it is kept,
     /// moves by one step (Yi, He, Stanoi and Yang 2004).
+    ///
+    /// O(i) for i indexes, and what the change takes in the graph and `prepare` and `commit` in each index. How much that is depends on
+    /// what the change reaches, and not on the size of the graph: `AkIndex` and `OneKept` say it, and `FbIndex` takes O(1). The memory is theirs too.
     pub fn update(&mut self, alloc: Global, change: Change) -> Result<Applied, UpdateError>
         requires open { IsSome (opened_of self.old.state) }
         requires sound { IsSound (engine_seen (map meaning self.old.boxes.items) self.old.state) }
@@ -138,7 +145,7 @@ impl Engine {
     }
 
     /// Takes out the index of a kind and drops it; all else stays. `NoIndex` comes exactly where none of that kind is kept, and no other
-    /// refusal. It takes no memory.
+    /// refusal. O(i) for i indexes, and what it takes to drop one; no memory.
     pub fn forget(&mut self, kind: Kind) -> Result<(), Refusal>
         requires sound { IsSound (engine_seen (map meaning self.old.boxes.items) self.old.state) }
         ensures sound { IsSound (engine_seen (map meaning self.new.boxes.items) self.new.state) }
@@ -160,6 +167,10 @@ impl Engine {
     /// were found. `NoIndex` comes exactly where the index isn't kept, memory or not. The view of the forward and backward index
     /// is first computed, where it isn't. Of the graph itself a query costs one view of the graph; through an index that is exact
     /// for it and computed, it reads nothing of the graph. An error leaves the graph and each view that is computed.
+    ///
+    /// An expression with m labels, signs and separators takes O(m (n + e)) of a graph with n node numbers and e edges. Through an index
+    /// n and e are the numbers of its blocks and of the pairs with support, O(s) comes to that for s node numbers, and where it isn't exact,
+    /// what `data_validate::check` takes. It takes O(m n + s) memory.
     pub fn path<L: Ledger>(
         &mut self,
         alloc: Global,
@@ -189,6 +200,8 @@ impl Engine {
 
     /// The answers of a branching query, asked of the graph itself or through an index, and how they were found, as in `path`. The
     /// forward and backward index alone is exact for it; through another one the candidates of its relaxed form are looked up in the graph.
+    ///
+    /// O(m (n + e)) for m labels, axes and words, as for `path`. It takes O(d n + s) memory, where predicates are nested d - 1 deep.
     pub fn branch<L: Ledger>(
         &mut self,
         alloc: Global,
@@ -250,7 +263,7 @@ impl Engine {
 
     /// The size of the graph and of each index that is kept, in the order of `Via::nth`. The forward and backward index is first
     /// computed, where it is kept and isn't, at the cost of a view of the graph; else nothing of the graph is read. `Memory` leaves the
-    /// graph and each view that is computed.
+    /// graph and each view that is computed. O(k) for levels up to k where nothing is computed; it takes the memory of the text.
     pub fn sizes<L: Ledger>(&mut self, alloc: Global, steps: &mut Steps<L>) -> Result<Text, Memory>
         requires open { IsSome (opened_of self.old.state) }
         requires sound { IsSound (engine_seen (map meaning self.old.boxes.items) self.old.state) }
