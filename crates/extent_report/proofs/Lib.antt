@@ -5,6 +5,8 @@ mod Chained
 mod Texts
 mod Wording
 mod Summed
+mod Rising
+mod Leading
 pub mod Alike
 mod Listed
 mod Counting

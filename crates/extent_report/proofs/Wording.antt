@@ -60,7 +60,7 @@ word_end block first last h l =
     texts_past (last + 1) (length block) (word_with block first) (omega (arith, within)) (λ k a b. silent block first k (sym (row_same block first last k h) ∙ l k a))
 
 -- the first node, which leads the others
-led_block : (p : Partition) (n : ℕ) → leads p n ≡ true → IsSome (at p.block_of n)
+pub led_block : (p : Partition) (n : ℕ) → leads p n ≡ true → IsSome (at p.block_of n)
 led_block p n h = elim (none_or_some (at p.block_of n)) [
   | inl none ↦ absurd (true≢false (sym (and_parts (is_some (label_at p n)) (not (any_below n (together p.block_of n))) h).0 ∙ ap (λ o. is_some (option_and_then (at p.labels) o)) none))
   | inr (b, e) ↦ is_some_at (at p.block_of n) b e

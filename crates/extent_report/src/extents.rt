@@ -1,8 +1,7 @@
 // The members of the blocks, as they are printed.
-ghost use Rattle.std.specs.Prelude.{◌≡◌, ◌++◌, ◌∷◌, [], ℕ, Bool, true, Some, IsSome, OnOk, IfOk, codes, decimal, length, string_bytes};
+ghost use Rattle.std.specs.Prelude.{◌≡◌, ◌++◌, ℕ, Bool, true, Some, IsSome, OnOk, IfOk, length, string_bytes};
 ghost use Rattle.px_spec.specs.Graphs.{Graph};
 ghost use Rattle.px_spec.specs.Shapes.{shape_of};
-ghost use Rattle.px_spec.specs.Words.{node_word};
 ghost use Rattle.px_spec.specs.Members.{at};
 ghost use Rattle.bisim_spec.specs.Tests.{together};
 ghost use Rattle.bisim_spec.specs.Below.{count_below};
@@ -12,8 +11,9 @@ ghost use Rattle.extent_report.specs.Summaries.{shape_of_blocks, LabelsHaveTexts
 ghost use Rattle.extent_report.specs.Chains.{leads, word_with};
 
 use crate::chains::Chains;
-use crate::output::{end_line, push_node, push_number};
-use label_graph::Labels;
+use crate::gathered::text_by_members;
+use crate::output::{end_line, push_count, push_node};
+use label_graph::{Digraph, Labels};
 use px_base::{Memory, NodeId, Text};
 use quotient::Summary;
 use std::alloc::Global;
@@ -88,29 +88,60 @@ fn count_led(chains: &Chains<'_>) -> u32
     count
 }
 
-// Appends the line of the number of blocks.
-fn push_count(out: &mut String, blocks: u32) -> Result<(), Memory>
-    ensures { OnOk result (string_bytes out.new ≡ string_bytes out.old ++ (codes "blocks " ++ decimal blocks ++ 10 ∷ [])) }
+// The members of the blocks, as they are printed, by passes over all node numbers.
+fn text_by_chains(alloc: Global, summary: &Summary, labels: &Labels) -> Result<Text, Memory>
+    requires labelled { LabelsHaveTexts labels.now.texts summary.now.blocks }
+    ensures { IfOk result (λ t. t ≡ printed.extents_text (shape_of_blocks labels.now.texts summary.now.blocks) (together summary.now.blocks.block_of)) }
 {
-    push_number(out, "blocks ", u64::from(blocks))?;
-    end_line(out)?;
-    Ok(())
+    let chains = Chains::of(alloc, summary)?;
+    let mut out = String::new(alloc);
+    push_count(&mut out, u64::from(count_led(&chains)))?;
+    push_blocks(&mut out, &chains, labels)?;
+    Ok(Text::from_string(out))
+}
+
+// How many members the number has, where it is that of a block.
+fn members_of(summary: &Summary, b: u32) -> u64 {
+    if summary.is_block(b) {
+        u64::from(summary.member_count(b))
+    } else {
+        0
+    }
+}
+
+// Whether fewer than half of the node numbers that were given are those of members.
+fn is_sparse(summary: &Summary) -> bool {
+    let mut members: u64 = 0;
+    for b in 0..summary.size() {
+        members = members.saturating_add(members_of(summary, b));
+    }
+    members < u64::from(summary.numbers() / 2)
+}
+
+// The members of the blocks, as they are printed.
+fn text_of(alloc: Global, summary: &Summary, labels: &Labels) -> Result<Text, Memory>
+    requires labelled { LabelsHaveTexts labels.now.texts summary.now.blocks }
+    ensures { IfOk result (λ t. t ≡ printed.extents_text (shape_of_blocks labels.now.texts summary.now.blocks) (together summary.now.blocks.block_of)) }
+{
+    if is_sparse(summary) {
+        return text_by_members(alloc, summary, labels);
+    }
+    text_by_chains(alloc, summary, labels)
 }
 
 /// The members of the blocks of an index: `blocks B`, and then a line for each block, by rising least
 /// members, with its label and its members, rising, as in `a n0 n2`. Each line ends with LF. A block
 /// without members has no line.
 ///
-/// It takes linear time, with no sort, and 8 bytes for each node number and each block number beside
-/// the text.
+/// Where half of the node numbers that were given are those of members, or more, there is no sort, and it takes 8 bytes for each of
+/// these numbers and each block number; else the members are sorted, and it takes 4 to 8 bytes for each block and for each member of
+/// the largest one. So it is O(b + m log m + t) at most for b block numbers, m members and t bytes of text, whatever was dropped. The
+/// text comes to that memory.
 pub fn extents_text(alloc: Global, summary: &Summary, labels: &Labels) -> Result<Text, Memory>
     requires labelled { LabelsHaveTexts labels.now.texts summary.now.blocks }
     ensures text { IfOk result (λ t. t ≡ printed.extents_text (shape_of_blocks labels.now.texts summary.now.blocks) (together summary.now.blocks.block_of)) }
     ensures listed { IfOk result (λ t. (g : Graph) (r : ℕ → ℕ → Bool) → IsSummaryOf g r summary.now → g.seen ≡ labels.now.texts → t ≡ printed.extents_text (shape_of g) r) }
 {
-    let chains = Chains::of(alloc, summary)?;
-    let mut out = String::new(alloc);
-    push_count(&mut out, count_led(&chains))?;
-    push_blocks(&mut out, &chains, labels)?;
-    Ok(Text::from_string(out))
+    let text = text_of(alloc, summary, labels)?;
+    Ok(text)
 }

@@ -4,6 +4,8 @@
 mod answers;
 mod chains;
 mod extents;
+mod gathered;
+mod leads;
 mod output;
 mod sizes;
 #[cfg(test)]

@@ -1,5 +1,5 @@
 // Pieces of what is printed.
-ghost use Rattle.std.specs.Prelude.{◌≡◌, ◌++◌, ◌∷◌, [], OnOk, decimal, string_bytes};
+ghost use Rattle.std.specs.Prelude.{◌≡◌, ◌++◌, ◌∷◌, [], OnOk, codes, decimal, string_bytes};
 ghost use Rattle.px_spec.specs.Words.{node_word};
 
 use itoa::Buffer;
@@ -30,5 +30,14 @@ pub(crate) fn end_line(out: &mut String) -> Result<(), Memory>
     ensures { OnOk result (string_bytes out.new ≡ string_bytes out.old ++ 10 ∷ []) }
 {
     out.push('\n')?;
+    Ok(())
+}
+
+/// Appends the line of the number of blocks.
+pub(crate) fn push_count(out: &mut String, blocks: u64) -> Result<(), Memory>
+    ensures { OnOk result (string_bytes out.new ≡ string_bytes out.old ++ (codes "blocks " ++ decimal blocks ++ 10 ∷ [])) }
+{
+    push_number(out, "blocks ", blocks)?;
+    end_line(out)?;
     Ok(())
 }

@@ -25,14 +25,20 @@ fn put_block(rt: &impl Abort, blocks: &mut Blocks, label: u32) -> Result<(), Fai
     Ok(())
 }
 
-// Puts the next node into a block.
+// In place of a block: the node was dropped.
+const GONE: u32 = 9;
+
+// Puts the next node into a block, if the number is that of one.
 fn put_member(rt: &impl Abort, blocks: &mut Blocks, b: u32) -> Result<(), Fail> {
     let n = blocks.numbers();
     assert!(rt; n < MOST);
     assert!(rt; blocks.count() < MOST);
     blocks.reserve(1, 0)?;
-    assert!(rt; blocks.is_block(b));
-    blocks.place(n, b);
+    if blocks.is_block(b) {
+        blocks.place(n, b);
+        return Ok(());
+    }
+    blocks.append(None);
     Ok(())
 }
 
@@ -103,6 +109,14 @@ const ROWS: &[Row] = &[
         members: &[0, 0, 1, 1],
         extents: "blocks 2\na n0 n1\nb n2 n3\n",
         size: "a2 blocks 2 edges 1\n",
+    },
+    Row {
+        labels: b"aabbbabbb",
+        edges: &[],
+        blocks: &[1, 0],
+        members: &[GONE, 1, GONE, GONE, 0, 1, GONE, GONE, GONE],
+        extents: "blocks 2\na n1 n5\nb n4\n",
+        size: "a2 blocks 2 edges 0\n",
     },
     Row {
         labels: b"",

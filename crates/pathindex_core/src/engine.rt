@@ -232,8 +232,9 @@ impl Engine {
 
     /// The list of the blocks of an index that isn't the graph itself, each with its nodes. `NoIndex` comes exactly where the index
     /// isn't kept, memory or not. That of the forward and backward index is first computed, where it isn't, at the cost of a view of the
-    /// graph; else nothing of the graph is read. The list takes O(n + b + t) for n node numbers that were given, b block numbers of the
-    /// index and t bytes of text, and 8 bytes of memory for each of these numbers. An error leaves the graph and each view that is computed.
+    /// graph; else nothing of the graph is read. An error leaves the graph and each view that is computed.
+    ///
+    /// The list takes O(b + m log m + t) for b block numbers of the index, m nodes and t bytes of text, and O(b + m) memory beside the text.
     pub fn extents<L: Ledger>(
         &mut self,
         alloc: Global,

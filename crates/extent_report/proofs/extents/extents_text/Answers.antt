@@ -1,19 +1,6 @@
-use Rattle.std.proofs.Common.{◌∙◌, ap, sym, subst}
-use Rattle.bisim_spec.specs.Tests.{together}
-use Rattle.extent_report.specs.Listing.{extents_text}
-use Rattle.extent_report.specs.Summaries.{shape_of_blocks, LabelsHaveTexts}
-use Rattle.extent_report.proofs.Summed.{gathered}
+use Rattle.std.proofs.Common.{◌∙◌}
 use Rattle.extent_report.proofs.Listed.{listed_extents}
 use Rattle.extent_report.proofs.extents.extents_text.Goals as goal
 
-pub returns-clause-text : goal.returns-clause-text
-returns-clause-text c =
-    let texts = c.args.labels.now.texts in
-    let p = c.in_ok-chains.chains in
-    let same = c.in_ok-chains.ensures in
-    c.from_string.ensures
-    ∙ gathered texts p (subst (LabelsHaveTexts texts) (sym same) c.requires.labelled) c.count_led.result _ _ _ c.count_led.ensures c.new-out.ensures.bytes c.in_ok-push_count.ensures c.in_ok-push_blocks.ensures
-    ∙ ap (λ p. extents_text (shape_of_blocks texts p) (together p.block_of)) same
-
 pub returns-clause-listed : goal.returns-clause-listed
-returns-clause-listed c = λ g r h seen. returns-clause-text c ∙ listed_extents g c.args.summary.now r c.args.labels.now.texts h seen
+returns-clause-listed c = λ g r h seen. c.in_ok-text.ensures ∙ listed_extents g c.args.summary.now r c.args.labels.now.texts h seen

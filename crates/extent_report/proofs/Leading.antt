@@ -1,0 +1,164 @@
+-- The least members of blocks.
+use Rattle.std.proofs.Common.{◌≡◌, ◌≢◌, ℕ, zero, suc, ◌+◌, ◌<◌, ◌≤◌, List, [], ◌∷◌, ◌++◌, length, get_or, Option, Some, None, is_some, refl, sym, ◌∙◌, ap, arith, inl, inr, true, false, Bool, ◌||◌, ◌&&◌, not, true≢false}
+use Rattle.std.specs.Prelude.{nat_eq, option_and_then}
+use Rattle.std.specs.List.Sorted.{IsStrictlyIncreasing}
+use Rattle.std.proofs.lemmas.Bool.{or_left, cases_lt, cases_Bool}
+use Rattle.std.proofs.lemmas.Bool.Decides.{eqb_tells}
+use Rattle.px_spec.specs.Words.{node_word}
+use Rattle.px_spec.specs.Members.{at, has, is_this}
+use Rattle.block_partition.specs.Partitions.{Partition, is_member}
+use Rattle.bisim_spec.specs.Below.{any_below}
+use Rattle.bisim_spec.specs.Tests.{together}
+use Rattle.bisim_spec.proofs.BelowLaws.{any_get, any_from}
+use Rattle.bisim_spec.proofs.Together.{block_below}
+use Rattle.extent_report.specs.Listing.{texts_below}
+use Rattle.extent_report.specs.Chains.{leads, word_with}
+use Rattle.extent_report.specs.Leads.{is_head, leads_block}
+use Rattle.extent_report.proofs.Chained.{with_is_of}
+use Rattle.extent_report.proofs.Texts.{any_same}
+use Rattle.extent_report.proofs.Wording.{led_block}
+use Rattle.extent_report.proofs.Rising.{or_none, has_push, texts_listed, flat_same, none_before}
+use Rattle.std.specs.List.{flat_map}
+
+-- the first number of a list, where it is put behind others
+pub head_pushed : (members list now : List ℕ) (v d : ℕ) → 0 < length members → v ≡ get_or members 0 d → now ≡ list ++ v ∷ [] → (n : ℕ) → has now n ≡ (is_head members n || has list n)
+head_pushed [] list now v d l e is n = absurd (omega (arith, l))
+head_pushed (x ∷ xs) list now v d l e is n = ap (λ l. has l n) is ∙ has_push list v n ∙ ap (λ w. has list n || nat_eq n w) e ∙ swap (has list n) (nat_eq n x)
+  where
+    swap : (a b : Bool) → (a || b) ≡ (b || a)
+    swap true true = refl
+    swap true false = refl
+    swap false true = refl
+    swap false false = refl
+
+pub head_none : (members : List ℕ) (n : ℕ) → length members ≡ 0 → is_head members n ≡ false
+head_none [] n e = refl
+head_none (x ∷ xs) n e = absurd (omega (arith, e))
+
+-- the first of rising numbers is the least
+pub head_least : (q : ℕ → Bool) (xs : List ℕ) → IsStrictlyIncreasing xs → ((n : ℕ) → has xs n ≡ q n) → (n : ℕ) → is_head xs n ≡ (q n && not (any_below n q))
+head_least q [] r h n = ap (λ b. b && not (any_below n q)) (h n)
+head_least q (x ∷ xs) r h n = elim (eqb_tells n x) [
+  | inl same ↦ (
+      let on : q n ≡ true = sym (h n) ∙ or_left (nat_eq n x) (has xs n) same.0 in
+      let none : any_below n q ≡ false = elim (cases_Bool (any_below n q)) [
+        | inl some ↦ absurd (
+            let k = any_get n q some in
+            let l = k.1 in
+            let e = same.1 in
+            true≢false (sym k.2 ∙ sym (h k.0) ∙ none_before x xs k.0 r (omega (arith, l, e))))
+        | inr off ↦ off
+      ] in
+      same.0 ∙ sym (ap (λ b. b && not (any_below n q)) on ∙ ap not none))
+  | inr apart ↦ apart.0 ∙ sym (other (q n) refl apart.1)
+]
+  where
+    at_x : q x ≡ true
+    at_x = sym (h x) ∙ or_left (nat_eq x x) (has xs x) (elim (eqb_tells x x) [ inl s ↦ s.0 | inr d ↦ absurd (d.1 refl) ])
+
+    other : (b : Bool) → q n ≡ b → n ≢ x → (b && not (any_below n q)) ≡ false
+    other false e d = refl
+    other true e d = elim (cases_lt x n) [
+      | inl above ↦ ap not (any_from n q x above at_x)
+      | inr past ↦ absurd (true≢false (sym (h n ∙ e) ∙ none_before x xs n r (omega (arith, past, d))))
+    ]
+
+-- the first of a block's members is the block's least one
+pub least_is : (p : Partition) (b : ℕ) (members shown : List ℕ) (r : Bool) → r ≡ true → r ≡ is_some (at p.labels b) → IsStrictlyIncreasing members
+    → ((k : ℕ) → has members k ≡ is_member p b k) → shown ≡ members → (n : ℕ) → is_head shown n ≡ leads_block p b n
+least_is p b members shown r live e rising same is n =
+    ap (λ l. is_head l n) is ∙ head_least (is_member p b) members rising same n
+    ∙ ap (λ t. t && (is_member p b n && not (any_below n (is_member p b)))) (sym live ∙ e)
+
+-- where one number alone may pass, it decides
+any_only : (n c : ℕ) (f : ℕ → Bool) → ((b : ℕ) → b ≢ c → f b ≡ false) → (n ≤ c → f c ≡ false) → any_below n f ≡ f c
+any_only zero c f h past = sym (past (omega arith))
+any_only (suc n) c f h past = elim (eqb_tells n c) [
+  | inl same ↦ (
+      let e = same.1 in
+      let none : any_below n f ≡ false = elim (cases_Bool (any_below n f)) [
+        | inl some ↦ absurd (
+            let k = any_get n f some in
+            let l = k.1 in
+            true≢false (sym k.2 ∙ h k.0 (λ d. omega (arith, l, e, d))))
+        | inr off ↦ off
+      ] in
+      ap (λ b. f n || b) none ∙ or_none (f n) ∙ ap f e)
+  | inr apart ↦ (
+      let d = apart.1 in
+      ap (λ b. b || any_below n f) (h n d) ∙ any_only n c f h (λ l. past (omega (arith, l, d))))
+]
+
+none_any : (n : ℕ) (f : ℕ → Bool) → ((b : ℕ) → f b ≡ false) → any_below n f ≡ false
+none_any zero f h = refl
+none_any (suc n) f h = ap (λ b. b || any_below n f) (h n) ∙ none_any n f h
+
+and_none : (a : Bool) → (a && false) ≡ false
+and_none true = refl
+and_none false = refl
+
+past_labels : (xs : List (Option ℕ)) (c : ℕ) → length xs ≤ c → is_some (at xs c) ≡ false
+past_labels [] c l = refl
+past_labels (x ∷ xs) zero l = absurd (omega (arith, l))
+past_labels (x ∷ xs) (suc c) l = past_labels xs c (omega (arith, l))
+
+-- a node leads its block exactly where it is the least member of some block
+pub leads_some : (p : Partition) (n : ℕ) → any_below (length p.labels) (λ b. leads_block p b n) ≡ leads p n
+leads_some p n = by (at p.block_of n) refl
+  where
+    rest : ℕ → Bool
+    rest b = not (any_below n (is_member p b))
+
+    block_at : (b : ℕ) (o : Option ℕ) → at p.block_of n ≡ o → leads_block p b n ≡ (is_some (at p.labels b) && (is_this b o && rest b))
+    block_at b o e = ap (λ m. is_some (at p.labels b) && (is_this b m && rest b)) e
+
+    no_block : (b : ℕ) (t : Bool) → t ≡ false → (is_some (at p.labels b) && (t && rest b)) ≡ false
+    no_block b t e = ap (λ m. is_some (at p.labels b) && (m && rest b)) e ∙ and_none (is_some (at p.labels b))
+
+    own_block : (c : ℕ) (t : Bool) → t ≡ true → (is_some (at p.labels c) && (t && rest c)) ≡ (is_some (at p.labels c) && rest c)
+    own_block c t e = ap (λ m. is_some (at p.labels c) && (m && rest c)) e
+
+    leads_at : (o : Option ℕ) → at p.block_of n ≡ o → leads p n ≡ (is_some (option_and_then (at p.labels) o) && not (any_below n (together p.block_of n)))
+    leads_at o e = ap (λ m. is_some (option_and_then (at p.labels) m) && not (any_below n (together p.block_of n))) e
+
+    by : (o : Option ℕ) → at p.block_of n ≡ o → any_below (length p.labels) (λ b. leads_block p b n) ≡ leads p n
+    by None e = none_any (length p.labels) (λ b. leads_block p b n) (λ b. block_at b None e ∙ no_block b false refl) ∙ sym (leads_at None e)
+    by (Some c) e =
+        let apart : (b : ℕ) → b ≢ c → nat_eq b c ≡ false = λ b d. elim (eqb_tells b c) [ inl s ↦ absurd (d s.1) | inr a ↦ a.0 ] in
+        let same : nat_eq c c ≡ true = elim (eqb_tells c c) [ inl s ↦ s.0 | inr a ↦ absurd (a.1 refl) ] in
+        let past : length p.labels ≤ c → leads_block p c n ≡ false = λ l. ap (λ m. m && (is_member p c n && rest c)) (past_labels p.labels c l) in
+        let equal : any_below n (is_member p c) ≡ any_below n (together p.block_of n) = any_same n (is_member p c) (together p.block_of n) (λ k _. sym (with_is_of p.block_of n c k e)) in
+        any_only (length p.labels) c (λ b. leads_block p b n) (λ b d. block_at b (Some c) e ∙ no_block b (nat_eq b c) (apart b d)) past
+        ∙ block_at c (Some c) e
+        ∙ own_block c (nat_eq c c) same
+        ∙ ap (λ m. is_some (at p.labels c) && not m) equal
+        ∙ sym (leads_at (Some c) e)
+
+-- a node that leads its block has a number that was given
+pub led_below : (p : Partition) (n : ℕ) → leads p n ≡ true → n < length p.block_of
+led_below p n h = block_below p.block_of n (led_block p n h)
+
+-- the members of the block of a node, as they are written
+pub words_listed : (p : Partition) (n b : ℕ) (members : List ℕ) → at p.block_of n ≡ Some b → IsStrictlyIncreasing members → ((k : ℕ) → has members k ≡ is_member p b k)
+    → flat_map (λ k. 32 ∷ node_word k) members ≡ texts_below (length p.block_of) (word_with p.block_of n)
+words_listed p n b members e r same =
+    let with : (k : ℕ) → has members k ≡ together p.block_of n k = λ k. same k ∙ sym (with_is_of p.block_of n b k e) in
+    flat_same (λ k. 32 ∷ node_word k) (word_with p.block_of n) members (λ k h. sym (spoken k (sym (with k) ∙ h)))
+    ∙ sym (texts_listed (word_with p.block_of n) (length p.block_of) members r (λ k h. member_below k (sym (same k) ∙ h)) (λ k h. silent k (sym (with k) ∙ h)))
+  where
+    spoken : (k : ℕ) → together p.block_of n k ≡ true → word_with p.block_of n k ≡ 32 ∷ node_word k
+    spoken k h = rw h refl
+
+    silent : (k : ℕ) → together p.block_of n k ≡ false → word_with p.block_of n k ≡ []
+    silent k h = rw h refl
+
+    member_below : (k : ℕ) → is_member p b k ≡ true → k < length p.block_of
+    member_below k h = block_below p.block_of k (live (at p.block_of k) h)
+      where
+        live : (o : Option ℕ) → is_this b o ≡ true → is_some o ≡ true
+        live None h = absurd (true≢false (sym h))
+        live (Some c) h = refl
+
+-- one block more
+pub any_more : (f : ℕ → Bool) (b : ℕ) (t : Bool) → t ≡ any_below b f → (f b || t) ≡ any_below (b + 1) f
+any_more f b t e = let more : b + 1 ≡ suc b = omega arith in ap (λ m. f b || m) e ∙ sym (ap (λ k. any_below k f) more)

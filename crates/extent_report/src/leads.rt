@@ -1,0 +1,94 @@
+// The members of blocks, sorted, and the least ones.
+ghost use Rattle.std.specs.Prelude.{◌≡◌, ◌||◌, ℕ, IsSome, IfOk, OnOk};
+ghost use Rattle.std.specs.List.Sorted.{IsStrictlyIncreasing};
+ghost use Rattle.px_spec.specs.Members.{at, has};
+ghost use Rattle.bisim_spec.specs.Below.{any_below};
+ghost use Rattle.block_partition.specs.Partitions.{is_member};
+ghost use Rattle.extent_report.specs.Chains.{leads};
+ghost use Rattle.extent_report.specs.Leads.{is_head, leads_block};
+
+use key_table::sort_once;
+use label_graph::Digraph;
+use px_base::{Memory, NodeId};
+use quotient::Summary;
+use std::alloc::Global;
+
+// Puts the members of a block behind the others.
+fn push_members(list: &mut Vec<NodeId>, summary: &Summary, b: u32) -> Result<(), Memory>
+    requires block { IsSome (at summary.now.blocks.labels b) }
+    ensures { OnOk result ((n : ℕ) → has list.new.items n ≡ (is_member summary.now.blocks b n || has list.old.items n)) }
+{
+    for n in summary.extent(b) {
+        list.push(n)?;
+    }
+    Ok(())
+}
+
+/// Lists the members of a block, rising, in place of what the list held.
+pub(crate) fn fill_members(list: &mut Vec<NodeId>, summary: &Summary, b: u32) -> Result<(), Memory>
+    requires block { IsSome (at summary.now.blocks.labels b) }
+    ensures rising { OnOk result (IsStrictlyIncreasing list.new.items) }
+    ensures members { OnOk result ((n : ℕ) → has list.new.items n ≡ is_member summary.now.blocks b n) }
+{
+    list.clear();
+    push_members(list, summary, b)?;
+    sort_once(list);
+    Ok(())
+}
+
+// Puts the first of the members behind the others, where there is one.
+fn push_head(list: &mut Vec<NodeId>, members: &[NodeId]) -> Result<(), Memory>
+    ensures { OnOk result ((n : ℕ) → has list.new.items n ≡ (is_head members.now n || has list.old.items n)) }
+{
+    if members.is_empty() {
+        return Ok(());
+    }
+    list.push(members[0])?;
+    Ok(())
+}
+
+// Puts the least member of a block behind the others, where the number is that of a block with members. `members` is
+// room that is used again.
+fn push_least(
+    list: &mut Vec<NodeId>,
+    members: &mut Vec<NodeId>,
+    summary: &Summary,
+    b: u32,
+) -> Result<(), Memory>
+    ensures { OnOk result ((n : ℕ) → has list.new.items n ≡ (leads_block summary.now.blocks b n || has list.old.items n)) }
+{
+    if !summary.is_block(b) {
+        return Ok(());
+    }
+    fill_members(members, summary, b)?;
+    push_head(list, members)
+}
+
+// The least members of the blocks, block by block.
+fn least_members(
+    alloc: Global,
+    members: &mut Vec<NodeId>,
+    summary: &Summary,
+) -> Result<Vec<NodeId>, Memory>
+    ensures { IfOk result (λ l. (n : ℕ) → has l.items n ≡ leads summary.now.blocks n) }
+{
+    let mut list = Vec::new(alloc);
+    for b in 0..summary.size() {
+        push_least(&mut list, members, summary, b)?;
+    }
+    Ok(list)
+}
+
+/// The least member of each block that has members, rising. `members` is room that is used again.
+pub(crate) fn leading_nodes(
+    alloc: Global,
+    members: &mut Vec<NodeId>,
+    summary: &Summary,
+) -> Result<Vec<NodeId>, Memory>
+    ensures rising { IfOk result (λ l. IsStrictlyIncreasing l.items) }
+    ensures leads { IfOk result (λ l. (n : ℕ) → has l.items n ≡ leads summary.now.blocks n) }
+{
+    let mut list = least_members(alloc, members, summary)?;
+    sort_once(&mut list);
+    Ok(list)
+}
