@@ -1,16 +1,15 @@
 // The key of a node, read off the tables of a partition.
-ghost use Rattle.std.specs.Prelude.{◌≡◌, ◌++◌, ◌∷◌, [], ℕ, List, filter_map, nat_eq, option_to_list, OnOk, IfOk, IsSome};
-ghost use Rattle.std.specs.List.Retain.{IsFiltered, DiffersFromLast};
+ghost use Rattle.std.specs.Prelude.{◌≡◌, ◌++◌, ℕ, List, filter_map, option_to_list, OnOk, IfOk, IsSome};
 ghost use Rattle.px_spec.specs.Graphs.{IsGraph};
 ghost use Rattle.px_spec.specs.Members.{Lists, at};
 ghost use Rattle.label_graph.specs.Views.{label_number};
 ghost use Rattle.key_table.specs.NumberedKeys.{AreDistinct, Interns};
-ghost use Rattle.bisim_levels.specs.Keys.{IsSetOf, IsWritten, IsKey};
+ghost use Rattle.bisim_levels.specs.Keys.{IsWritten, IsKey};
 ghost use Rattle.bisim_levels.specs.Sides.{is_near};
 
 use bisim_levels::Side;
 use block_partition::Blocks;
-use key_table::KeyTable;
+use key_table::{KeyTable, sort_once};
 use label_graph::{Digraph, GraphView};
 use px_base::{Memory, NodeId};
 
@@ -45,21 +44,6 @@ fn push_blocks(numbers: &mut Vec<u32>, blocks: &Blocks, nodes: &[NodeId]) -> Res
         push_block(numbers, blocks.block_of(*n))?;
     }
     Ok(())
-}
-
-// Of numbers that follow one another and are equal only the first stays.
-fn drop_repeats(numbers: &mut Vec<u32>)
-    ensures { IsFiltered (DiffersFromLast nat_eq) [] numbers.old.items numbers.new.items }
-{
-    numbers.dedup();
-}
-
-/// Sorts the numbers, and keeps each once. O(n log n) for n numbers, no memory.
-pub fn sort_once(numbers: &mut Vec<u32>)
-    ensures { IsSetOf numbers.old.items numbers.new.items }
-{
-    numbers.sort_unstable();
-    drop_repeats(numbers);
 }
 
 // Writes the key of a node with these neighbours, whose own block has this number.

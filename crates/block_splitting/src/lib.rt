@@ -12,7 +12,6 @@ mod reaching;
 mod splitter;
 mod splitting;
 
-pub use keys::sort_once;
 pub use nodes::NodeSet;
 pub use reaching::opposite_neighbours;
 pub use splitter::split_by;

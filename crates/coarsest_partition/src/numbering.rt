@@ -8,8 +8,7 @@ ghost use Rattle.key_table.specs.NumberedKeys.{AreDistinct, Interns};
 ghost use Rattle.bisim_levels.specs.Keys.{IsWritten};
 ghost use Rattle.coarsest_partition.specs.Ordered.{IsOrdered, IsReady};
 
-use block_splitting::sort_once;
-use key_table::KeyTable;
+use key_table::{KeyTable, sort_once};
 use label_graph::{Digraph, GraphView};
 use px_base::{Memory, NodeId};
 

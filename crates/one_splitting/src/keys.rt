@@ -1,10 +1,9 @@
 // The keys of nodes: their own blocks, and the blocks of their parents.
-ghost use Rattle.std.specs.Prelude.{◌≡◌, ◌++◌, ◌+◌, ◌≤◌, ◌<◌, [], ℕ, List, filter_map, nat_eq, option_to_list, OnOk, IfOk, Some, IsSome, IsTrue, length, sum_by};
-ghost use Rattle.std.specs.List.Retain.{IsFiltered, DiffersFromLast};
+ghost use Rattle.std.specs.Prelude.{◌≡◌, ◌++◌, ◌+◌, ◌≤◌, ◌<◌, [], ℕ, List, filter_map, option_to_list, OnOk, IfOk, Some, IsSome, IsTrue, length, sum_by};
 ghost use Rattle.px_spec.specs.Members.{has, at};
 ghost use Rattle.px_spec.specs.Graphs.{has_edge};
 ghost use Rattle.px_spec.specs.Shapes.{shape_of, IsShape};
-ghost use Rattle.bisim_levels.specs.Keys.{IsSetOf, IsWritten, IsKey};
+ghost use Rattle.bisim_levels.specs.Keys.{IsWritten, IsKey};
 ghost use Rattle.key_table.specs.NumberedKeys.{Interns};
 ghost use Rattle.graph_update.specs.Pending.{graph_after};
 ghost use Rattle.quotient_draft.specs.Drafts.{shown_blocks};
@@ -13,7 +12,7 @@ ghost use Rattle.node_moves.specs.Costs.{parents_cost};
 ghost use Rattle.one_splitting.specs.Numbered.{HaveNumbers};
 
 use graph_update::After;
-use key_table::KeyTable;
+use key_table::{KeyTable, sort_once};
 use node_moves::read_parents;
 use px_base::{Memory, NodeId, Steps};
 use quotient::Summary;
@@ -46,21 +45,6 @@ fn push_blocks(
         push_block(numbers, draft.block_of(base, *n))?;
     }
     Ok(())
-}
-
-// Of numbers that follow one another and are equal only the first stays.
-fn drop_repeats(numbers: &mut Vec<u32>)
-    ensures { IsFiltered (DiffersFromLast nat_eq) [] numbers.old.items numbers.new.items }
-{
-    numbers.dedup();
-}
-
-/// Sorts the numbers, and keeps each once.
-pub(crate) fn sort_once(numbers: &mut Vec<u32>)
-    ensures { IsSetOf numbers.old.items numbers.new.items }
-{
-    numbers.sort_unstable();
-    drop_repeats(numbers);
 }
 
 // Writes the key of a node with these parents, whose own block has this number.

@@ -16,11 +16,11 @@ ghost use Rattle.one_splitting.specs.NodeGoals.{goal_at, AreBlocks, GoalsAreBloc
 
 use crate::company::with_company;
 use crate::goals::find_goals;
-use crate::keys::{number_nodes, sort_once};
+use crate::keys::number_nodes;
 use crate::moving::move_and_list;
 use crate::owners::count_owners;
 use graph_update::After;
-use key_table::KeyTable;
+use key_table::{KeyTable, sort_once};
 use node_moves::Near;
 use px_base::{Memory, NodeId, Steps};
 use quotient::Summary;

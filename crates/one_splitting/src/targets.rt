@@ -20,10 +20,11 @@ ghost use Rattle.one_splitting.specs.SplitStates.{IsParting, IsFirst};
 
 use crate::company::push_if;
 use crate::goals::draft_block;
-use crate::keys::{own_block, sort_once};
+use crate::keys::own_block;
 use crate::moving::move_and_list;
 use crate::rounds::{is_done, round};
 use graph_update::After;
+use key_table::sort_once;
 use node_moves::Near;
 use px_base::{Memory, NodeId, Steps};
 use quotient::Summary;

@@ -51,7 +51,7 @@ returns-clause-cost g c =
     omega (arith, parts, cost, moves)
 
 pub returns-clause-once : goal.returns-clause-once
-returns-clause-once g c = set_distinct c.in_ok-next.next.items c.sort_once.new.numbers.items c.sort_once.ensures
+returns-clause-once g c = set_distinct c.in_ok-next.next.items c.sort_once.new.numbers.items (record { rising = c.sort_once.ensures.rising; same = c.sort_once.ensures.same })
 
 pub returns-clause-more : goal.returns-clause-more
 returns-clause-more g c =
@@ -59,7 +59,7 @@ returns-clause-more g c =
     let nodes = c.args.nodes.now in
     let goals_are : c.deref-2.result.now ≡ c.in_ok-goals.goals.items = c.deref-2.ensures.value in
     more_or_none s nodes c.deref.result.now c.in_ok-goals.goals.items (length nodes) c.sort_once.new.numbers.items c.args.made.now.items c.find_goals.new.made.items
-    (next_set s nodes c.deref.result.now c.in_ok-goals.goals.items (length nodes) c.in_ok-next.next.items c.sort_once.new.numbers.items c.sort_once.ensures
+    (next_set s nodes c.deref.result.now c.in_ok-goals.goals.items (length nodes) c.in_ok-next.next.items c.sort_once.new.numbers.items (record { rising = c.sort_once.ensures.rising; same = c.sort_once.ensures.same })
     (subst (λ gs. ListsChildrenOf s nodes c.deref.result.now gs (length nodes) c.in_ok-next.next.items) goals_are c.in_ok-next.ensures.next))
     c.in_ok-goals.ensures.from
 
@@ -83,7 +83,7 @@ returns-clause-split g c = λ inside first closed split.
     (subst (λ x. HaveGone x p2 nodes numbers goals (length nodes)) c.in_ok-goals.ensures.stay
     (subst (λ ks. HaveGone q p2 nodes ks goals (length nodes)) numbers_are
     (subst (λ gs. HaveGone q p2 nodes c.deref.result.now gs (length nodes)) goals_are c.in_ok-next.ensures.gone)))
-    (next_set s nodes numbers goals (length nodes) c.in_ok-next.next.items c.sort_once.new.numbers.items c.sort_once.ensures
+    (next_set s nodes numbers goals (length nodes) c.in_ok-next.next.items c.sort_once.new.numbers.items (record { rising = c.sort_once.ensures.rising; same = c.sort_once.ensures.same })
     (subst (λ ks. ListsChildrenOf s nodes ks goals (length nodes) c.in_ok-next.next.items) numbers_are
     (subst (λ gs. ListsChildrenOf s nodes c.deref.result.now gs (length nodes) c.in_ok-next.next.items) goals_are c.in_ok-next.ensures.next)))
     c.in_ok-goals.ensures.from c.in_ok-goals.ensures.made.once

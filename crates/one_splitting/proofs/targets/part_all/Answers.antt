@@ -73,7 +73,7 @@ returns-clause-split g c = λ inside closed within.
     (c.loop-t.invariant.parting inside closed within)
 
 pub returns-clause-once : goal.returns-clause-once
-returns-clause-once g c = set_distinct c.loop-t.next.items c.sort_once.new.numbers.items c.sort_once.ensures
+returns-clause-once g c = set_distinct c.loop-t.next.items c.sort_once.new.numbers.items (record { rising = c.sort_once.ensures.rising; same = c.sort_once.ensures.same })
 
 pub returns-clause-named : goal.returns-clause-named
 returns-clause-named g c =
