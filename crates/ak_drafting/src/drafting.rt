@@ -90,7 +90,7 @@ fn draft_pending<L: Ledger>(
 ///
 /// It takes at most `8 * k * w` steps, where `w` is one for each node within `k` edges of the target of the change in the graph
 /// after it, one for each of its parents and one for each of its children. Expected O((k + 1) (1 + w log w)), as `move_near`; it takes the memory of
-/// the near nodes and of what is drafted. At want of memory the draft is only good to be dropped.
+/// the near nodes and of what is drafted. Where memory runs out, the draft is only good to be dropped.
 pub fn draft_change<L: Ledger>(
     alloc: Global,
     family: &AkFamily,

@@ -37,8 +37,8 @@ impl AkIndex {
     /// Stages what a change will make of the index, as `prepare` does, and counts steps: at most `8 * k * w`, where levels up to `k`
     /// are kept, and `w` is one for each node within `k` edges of the change's target in the graph after it, one for each
     /// of its parents and one for each of its children. Expected O((k + 1) (1 + w log w)), where no table moves and no keys are
-    /// dropped, as `AkFamily::reserve` says; it takes the memory of the near nodes, of what is drafted, and of the room for it. At want of
-    /// memory it leaves the index as it was.
+    /// dropped, as `AkFamily::reserve` says; it takes the memory of the near nodes, of what is drafted, and of the room for it. Where memory runs
+    /// out, it leaves the index as it was.
     pub fn prepare_counted<L: Ledger>(
         &mut self,
         graph: &Graph,

@@ -145,7 +145,7 @@ impl Blocks {
     }
 
     /// Makes room for that many further numbers past the end of the list, and for that many further
-    /// blocks, in place of the room that there was. On want of memory that room stays. O(`blocks`), and
+    /// blocks, in place of the room that there was. Where memory runs out, that room stays. O(`blocks`), and
     /// O(`numbers` + `span`) more where a table moves; it takes 12 bytes a node and little more than 16 a block.
     pub fn reserve(&mut self, nodes: u32, blocks: u32) -> Result<(), Memory>
         requires nodes { length self.old.block_of + nodes ≤ 2 ^ 31 }

@@ -85,7 +85,7 @@ fn make_room(blocks: &mut Blocks, more: u32) -> Result<(), Memory>
 }
 
 /// Chooses a block for each group: the block of the key's nodes, where the group keeps its number, and else a
-/// new one. On want of memory the partition stays.
+/// new one. Where memory runs out, the partition stays.
 pub(crate) fn choose(
     alloc: Global,
     blocks: &mut Blocks,

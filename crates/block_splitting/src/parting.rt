@@ -15,7 +15,7 @@ use std::alloc::Global;
 /// Splits the blocks of the waiting nodes by their groups, and gives those that went to another block.
 /// A group is the number of a key, which begins with the block of the nodes that have it. The largest
 /// group of a block keeps the block's number, where all members of the block wait. `keeper` is used
-/// again. On want of memory the partition stays.
+/// again. Where memory runs out, the partition stays.
 pub(crate) fn part(
     alloc: Global,
     blocks: &mut Blocks,

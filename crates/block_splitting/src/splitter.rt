@@ -94,7 +94,7 @@ fn group_touched(
 }
 
 /// Splits each block by whether its members have a parent in the splitter, and by whether they have a
-/// child there. On want of memory the partition stays.
+/// child there. Where memory runs out, the partition stays.
 ///
 /// O(n + b + m) expected for n numbers of nodes, b numbers of blocks and m edges at the splitter; it takes 7 bytes for each
 /// node number, 4 to 8 for each block number, and O(t) for t nodes at these edges.

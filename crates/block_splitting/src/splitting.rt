@@ -40,7 +40,7 @@ impl Tables {
 }
 
 /// Parts the nodes that wait by the blocks of their neighbours on a side, and from the others of their
-/// block. It gives those that went to another block. On want of memory the partition stays.
+/// block. It gives those that went to another block. Where memory runs out, the partition stays.
 ///
 /// The neighbours' blocks of each node that waits are sorted: O(w + m log d) expected for w nodes that wait, with m neighbours,
 /// at most d each, and O(b) more where these tables have not been used yet and there are b block numbers. It takes O(w + m)

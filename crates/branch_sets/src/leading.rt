@@ -84,7 +84,7 @@ fn insert_led<G: Digraph>(g: &G, nodes: &[u32], set: &mut Bits)
 }
 
 /// The children of the nodes whose label passes: any one, or the one with the number. They are a set of numbers below the
-/// graph's size. `Memory` comes at want of memory alone. O(n + e) for n node numbers and the e edges that lead from those nodes;
+/// graph's size. `Memory` comes only where memory runs out. O(n + e) for n node numbers and the e edges that lead from those nodes;
 /// each node is read once. It takes a byte for each number, and 4 KiB.
 pub fn passing_children<G: Digraph>(alloc: Global, g: &G, test: Option<u32>) -> Result<Bits, Memory>
     ensures size { IfOk result (λ b. b.size ≡ G.span g.now) }
@@ -128,7 +128,7 @@ fn remove_led<G: Digraph>(g: &G, nodes: &[u32], set: &mut Bits)
 }
 
 /// Takes the children of the nodes whose label passes out of a set of numbers below the graph's size: any label, or the one with
-/// the number. `Memory` comes at want of memory alone. O(n + e) for n node numbers and the e edges that lead from those nodes;
+/// the number. `Memory` comes only where memory runs out. O(n + e) for n node numbers and the e edges that lead from those nodes;
 /// each node is read once. It takes 4 KiB.
 pub fn remove_passing_children<G: Digraph>(
     alloc: Global,
@@ -162,8 +162,8 @@ fn far<G: Digraph>(alloc: Global, g: &G, set: &Bits) -> Result<Bits, Memory>
     search(alloc, g, &program, 1, &places)
 }
 
-/// The nodes to which the axis leads from a member of the set: a set of numbers below the graph's size. `Memory` comes at
-/// want of memory alone. O(n + e) for n node numbers and the e edges that are followed, each of which is read once at most; it takes a
+/// The nodes to which the axis leads from a member of the set: a set of numbers below the graph's size. `Memory` comes only
+/// where memory runs out. O(n + e) for n node numbers and the e edges that are followed, each of which is read once at most; it takes a
 /// byte for each number, and a few more along `Below` and `Above`.
 pub fn along<G: Digraph>(alloc: Global, g: &G, axis: Axis, set: &Bits) -> Result<Bits, Memory>
     requires { (v : ℕ) → IsTrue (has set.now.members v) → IsSome (G.label_at g.now v) }

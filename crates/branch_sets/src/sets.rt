@@ -75,7 +75,7 @@ fn insert_all(set: &mut Bits, list: &[u32])
 }
 
 /// The nodes whose label has the number, or all nodes where none is given. They are a set of numbers below the graph's size.
-/// `Memory` comes at want of memory alone. O(n) for n node numbers; it takes a byte for each, and 4 KiB.
+/// `Memory` comes only where memory runs out. O(n) for n node numbers; it takes a byte for each, and 4 KiB.
 pub fn passing<G: Digraph>(alloc: Global, g: &G, test: Option<u32>) -> Result<Bits, Memory>
     ensures size { IfOk result (λ s. s.size ≡ G.span g.now) }
     ensures members { IfOk result (λ s. (n : ℕ) → IsTrue (has s.members n) ↔ Passes (G.label_at g.now) test n) }

@@ -41,7 +41,7 @@ impl Model for Branch {
 impl Branch {
     /// The one query that the text spells, as `a//b[/c and not(\<http://e/d>)]/_`, where spaces and tabs may stand between
     /// tokens and at both ends. `Limit` comes exactly where the text has more bytes than `expr_bytes` or its brackets nest
-    /// deeper than `expr_depth`, else `Syntax` only where it spells none, and `Memory` at want of memory. O(n) for n
+    /// deeper than `expr_depth`, else `Syntax` only where it spells none, and `Memory` where memory runs out. O(n) for n
     /// bytes, in time and memory.
     pub fn parse(alloc: Global, text: &[u8], limits: &Limits) -> Result<Branch, ExprError>
         ensures ok { IfOk result (λ q. Spells text.now q) }
@@ -63,7 +63,7 @@ impl Branch {
 
     /// The canonical text: the tokens without any blank but one on each side of `and` and `or`, labels in their one
     /// spelling. It spells this very query, so `parse` of it, where it is within the limits, gives the same tree. What
-    /// `parse` gives has a text; a relaxed form has none where something was denied. `Memory` comes at want of memory alone. O(n) for a
+    /// `parse` gives has a text; a relaxed form has none where something was denied. `Memory` comes only where memory runs out. O(n) for a
     /// text of n bytes; it takes that text.
     pub fn write(&self, alloc: Global) -> Result<Text, Memory>
         requires { IsTrue (has_text self.now) }
@@ -76,7 +76,7 @@ impl Branch {
     }
 
     /// The relaxed form: what is denied by a `not` that stands in no other one is left out, also in the steps of a
-    /// predicate, and what holds everywhere stands in its place. `Memory` comes at want of memory alone. O(m) for a query with m
+    /// predicate, and what holds everywhere stands in its place. `Memory` comes only where memory runs out. O(m) for a query with m
     /// labels, axes and words and the bytes of its labels; it takes the memory of such a query.
     pub fn relax(&self, alloc: Global) -> Result<Branch, Memory>
         ensures { IfOk result (λ q. q ≡ relax self.now) }

@@ -18,7 +18,7 @@ use std::alloc::{AllocFailed, Global};
 pub(crate) enum ReadError {
     /// They spell none.
     Syntax,
-    /// Want of memory.
+    /// Memory ran out.
     Memory,
 }
 

@@ -125,7 +125,7 @@ fn reckoned_rounds(most: Option<u32>) -> u32
 
 /// The members of the set that are nodes, and the nodes from which at most so many edges lead to one of these, or any number of
 /// edges where no bound is given: a set of numbers below the graph's size. `None` where that seems to take more looks at nodes and edges
-/// than the graph's size over 64, so that little is lost then. `Memory` comes at want of memory alone. O(n + e + s), where n nodes are
+/// than the graph's size over 64, so that little is lost then. `Memory` comes only where memory runs out. O(n + e + s), where n nodes are
 /// found, e edges lead to them, and s is the greater of both sizes.
 pub(crate) fn ancestors<G: Digraph>(
     alloc: Global,

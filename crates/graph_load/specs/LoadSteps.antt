@@ -29,7 +29,7 @@ abbrev pub LacksFile : Option (List File) → List ℕ → Type 0
 LacksFile None name = ⊤
 LacksFile (Some files) name = content_of files name ≡ None
 
--- the outcome that an error tells; want of memory and a call that failed tell none
+-- the outcome that an error tells; memory that ran out and a call that failed tell none
 abbrev pub TellsOutcome : (Outcome → Type 0) → LoadError → Type 0
 TellsOutcome P (error.Syntax l) = P (syntax l)
 TellsOutcome P (error.Limit l) = P (limit l)

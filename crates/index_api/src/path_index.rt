@@ -17,8 +17,8 @@ use quotient::Summary;
 /// all the memory that the index needs; then it is committed with the graph, which can't fail, or it is cancelled.
 ///
 /// The views of an index are index graphs, one for each of its levels from 0 on. That of the forward and backward index may be
-/// not computed; each other one is there once the index is built. `build`, `prepare` and `refresh` answer `Memory` at want of
-/// memory alone, and then leave all as it was. The other calls take no memory, and no call changes the kind.
+/// not computed; each other one is there once the index is built. `build`, `prepare` and `refresh` answer `Memory` only where memory
+/// runs out, and then leave all as it was. The other calls take no memory, and no call changes the kind.
 pub trait PathIndex: Drop {
     /// The kind, the views, and the views that are staged.
     ghost meaning: { Self → Meaning };

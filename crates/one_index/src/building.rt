@@ -18,7 +18,7 @@ pub struct OneIndex;
 
 impl OneIndex {
     /// The index graph of the classes of full bisimilarity. It is the coarsest stable partition: each other
-    /// one lies within its blocks. `Memory` comes at want of memory alone.
+    /// one lies within its blocks. `Memory` comes only where memory runs out.
     ///
     /// n numbers of nodes, m edges and at most d parents of a node take O(n + m log d) expected where the graph has no cycle: one pass
     /// in which parents come first, and one over the edges. One cycle anywhere loses that pass, and all blocks are found by rounds over

@@ -22,7 +22,7 @@ pub enum ExprError {
     Limit,
     /// The text spells none.
     Syntax,
-    /// Want of memory.
+    /// Memory ran out.
     Memory,
 }
 
@@ -51,8 +51,8 @@ impl Model for PathExpr {
 impl PathExpr {
     /// The one expression that the text spells, as `a//(b|<http://e/c>)*`, where spaces and tabs may stand between
     /// tokens and at both ends. `Limit` comes exactly where the text has more bytes than `expr_bytes` or its
-    /// brackets nest deeper than `expr_depth`, else `Syntax` only where it spells none, and `Memory` at want of
-    /// memory. O(n) for n bytes, in time and memory.
+    /// brackets nest deeper than `expr_depth`, else `Syntax` only where it spells none, and `Memory` where memory runs
+    /// out. O(n) for n bytes, in time and memory.
     pub fn parse(alloc: Global, text: &[u8], limits: &Limits) -> Result<PathExpr, ExprError>
         ensures ok { IfOk result (λ e. Spells text.now e) }
         ensures only { IfOk result (λ e. (other : tree.Expr) → Spells text.now other → other ≡ e) }
@@ -71,7 +71,7 @@ impl PathExpr {
     }
 
     /// The canonical text: the tokens without any blank, labels in their one spelling. It spells this very expression,
-    /// so `parse` of it, where it is within the limits, gives the same tree. `Memory` comes at want of memory alone. O(n) for a text of n
+    /// so `parse` of it, where it is within the limits, gives the same tree. `Memory` comes only where memory runs out. O(n) for a text of n
     /// bytes; it takes that text.
     pub fn write(&self, alloc: Global) -> Result<Text, Memory>
         ensures canonical { IfOk result (λ t. t ≡ canonical self.now) }

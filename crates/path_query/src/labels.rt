@@ -105,7 +105,7 @@ pub(crate) fn read_front(alloc: Global, text: &[u8]) -> Result<Option<(Text, usi
 
 /// The label that the word spells: a name, which is its own label, or an IRIREF (RDF 1.1 N-Triples,
 /// section 7), whose label is the canonical spelling of its IRI. None exactly where the word spells
-/// none. `Memory` comes at want of memory alone. O(n) for n bytes, in time and memory.
+/// none. `Memory` comes only where memory runs out. O(n) for n bytes, in time and memory.
 pub fn read_label(alloc: Global, word: &[u8]) -> Result<Option<Text>, Memory>
     ensures found { IfOk result (λ r. IfSome r (λ t. SpellsLabel word.now t)) }
     ensures none { IfOk result (λ r. IfNone r ((t : List ℕ) → SpellsLabel word.now t → ⊥)) }

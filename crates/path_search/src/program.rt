@@ -35,7 +35,7 @@ impl Program {
         Ok(Program { states })
     }
 
-    /// Adds a state behind the others, and gives its number. `Memory` comes at want of memory, or where there are 2^32 states. O(1),
+    /// Adds a state behind the others, and gives its number. `Memory` comes where memory runs out, or where there are 2^32 states. O(1),
     /// amortized; it takes memory for one state.
     pub fn push(&mut self, state: State) -> Result<u32, Memory>
         requires { LeadsInside (length self.old + 1) state }

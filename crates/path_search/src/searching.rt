@@ -181,8 +181,8 @@ fn search_in<G: Digraph, S: Scope>(
 }
 
 /// The nodes at which a word can end that is read from the state `start` on behind one of the places, where
-/// the graph's size is the place in front of all nodes: a set of numbers below that size. `Memory` comes at
-/// want of memory alone. O(m (n + e)) for m states, n node numbers and e edges; it takes a bit for each state that is entered and each
+/// the graph's size is the place in front of all nodes: a set of numbers below that size. `Memory` comes only
+/// where memory runs out. O(m (n + e)) for m states, n node numbers and e edges; it takes a bit for each state that is entered and each
 /// number, 4 bytes for each place at which a state waits and 16 for each run of such places, and a few bytes for each number.
 pub fn search<G: Digraph>(
     alloc: Global,

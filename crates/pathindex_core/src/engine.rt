@@ -80,8 +80,8 @@ impl Engine {
         Engine { boxes, state: None }
     }
 
-    /// Opens the engine with a graph, limits on what changes may make of it, and the highest level of the A(k)-family, and builds each index. At want of
-    /// memory the graph is dropped, and the engine isn't open.
+    /// Opens the engine with a graph, limits on what changes may make of it, and the highest level of the A(k)-family, and builds each index. Where memory runs
+    /// out, the graph is dropped, and the engine isn't open.
     ///
     /// O(n + m) for n node numbers and m edges, and what the build of each box takes. With all indexes of this library that is
     /// O((k + r) (n + m log d)) expected in all, where a node has at most d neighbours on a side, and the 1-index and the forward and

@@ -40,7 +40,7 @@ fn make(
     Ok(applied)
 }
 
-/// Judges a change, and makes it where it is accepted. A refusal and want of memory leave all as it was, and so does a change that alters
+/// Judges a change, and makes it where it is accepted. A refusal and `Memory` leave all as it was, and so does a change that alters
 /// nothing, which takes no memory.
 pub(crate) fn update(
     alloc: Global,

@@ -42,7 +42,7 @@ impl Model for Summary {
 }
 
 impl Summary {
-    /// The quotient of a graph by a partition of its nodes. On want of memory the blocks are dropped. Expected
+    /// The quotient of a graph by a partition of its nodes. Where memory runs out, the blocks are dropped. Expected
     /// O(n + m) for n node numbers and m edges. While it runs it takes 8 bytes an edge, beside the memory of
     /// `of_edges`.
     pub fn of(alloc: Global, blocks: Blocks, view: &GraphView<'_>) -> Result<Summary, Memory>
@@ -54,7 +54,7 @@ impl Summary {
     }
 
     /// The quotient by a partition, from a list of edges: the support of a pair of blocks is the number of
-    /// edges of the list from a member of the first to a member of the second. On want of memory the blocks
+    /// edges of the list from a member of the first to a member of the second. Where memory runs out, the blocks
     /// are dropped. Expected O(`span` + m) for m edges; it takes memory for each pair with support, for the list of
     /// neighbours of each block number, and 80 KiB while it runs.
     pub fn of_edges(alloc: Global, blocks: Blocks, edges: &EdgeList) -> Result<Summary, Memory>

@@ -39,7 +39,7 @@ impl PutLog {
         }
     }
 
-    /// Adds the put of a node into a block. On want of memory the puts are as before.
+    /// Adds the put of a node into a block. Where memory runs out, the puts are as before.
     pub(crate) fn add(&mut self, n: NodeId, b: u32) -> Result<(), Memory>
         ensures ok { OnOk result (self.new ≡ self.old ++ (n, b) ∷ []) }
         ensures err { OnErr result (self.new ≡ self.old) }

@@ -49,7 +49,7 @@ pub enum ScriptError {
     /// The line asks with an expression that passes a limit.
     #[error("the expression passes a limit")]
     Limit,
-    /// Want of memory.
+    /// Memory ran out.
     #[error("out of memory")]
     Memory,
 }
