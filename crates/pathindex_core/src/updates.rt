@@ -17,8 +17,8 @@ use label_graph::Graph;
 use px_base::{Limits, Memory};
 use std::alloc::Global;
 
-/// Makes a change that alters the graph. All memory that it needs is taken before the graph or an index changes; at want of it all are
-/// as before.
+/// Makes a change that alters the graph. All memory that it needs is taken before the graph or an index changes; where it
+/// runs out, all are as before.
 fn make(
     alloc: Global,
     boxes: &mut Vec<Box<dyn PathIndex>>,

@@ -25,7 +25,7 @@ impl Limits {
     ghost use Rattle.px_spec.specs.ProgramLimits.{program_limits};
 
     /// The limits of the program: 2^21 node numbers, 2^22 edges, 2^20 labels, and query texts of
-    /// 4,096 bytes and a depth of 64.
+    /// 4,096 bytes and a depth of 64. O(1), no memory.
     pub fn program() -> Limits
         ensures { result ≡ program_limits }
     {

@@ -19,7 +19,7 @@ pub enum Refusal {
 impl Refusal {
     ghost use Rattle.px_spec.specs.Refusals.{word_of};
 
-    /// The word that is printed for it, as `no-node`.
+    /// The word that is printed for it, as `no-node`. O(1), no memory.
     pub fn word(&self) -> &'static str
         ensures { result.now ≡ word_of self.now }
     {
