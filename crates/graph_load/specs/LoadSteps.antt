@@ -1,8 +1,9 @@
 -- What the steps of a load do, and what their answers say.
-use Rattle.std.specs.Prelude.{◌≡◌, ℕ, ◌<◌, ◌≤◌, ⊤, Bool, false, IsTrue, List, [], ◌∷◌, ◌++◌, ◌⊎◌, Option, None, Some, Result, Ok, Err}
+use Rattle.std.specs.Prelude.{◌≡◌, ◌≢◌, ℕ, ◌<◌, ◌≤◌, ⊤, Bool, false, IsTrue, List, [], ◌∷◌, ◌++◌, ◌⊎◌, Option, None, Some, Result, Ok, Err, IfOk, IfErr, IsErrOf}
+use Rattle.px_base.specs.Causes.{Rose}
 use Rattle.px_base.specs.declared.lines.TheConstants.{LINE_BYTES, GRAPH_BYTES}
 use Rattle.px_base.specs.Files.{File, content_of}
-use Rattle.px_base.specs.ReaderStates.{Reading}
+use Rattle.px_base.specs.ReaderStates.{Reading, stream}
 use Rattle.px_spec.specs.Lines.{cut}
 use Rattle.px_spec.specs.declared.limits.Limits.{Limits}
 use Rattle.px_spec.specs.declared.refusal.Refusal.{Refusal}
@@ -107,6 +108,19 @@ ReadsLines r waited before next q waits after =
 -- more of the text is taken
 abbrev pub IsNearer : Reading → Reading → Type 0
 IsNearer r q = (r.taken < q.taken) × (q.taken ≤ GRAPH_BYTES)
+
+-- What a call that reads on does to the reader, to the triples that wait and to the shelf. Of a shelf the functions give what is left
+-- of the open file, whether one is open, the files, and the count of faults.
+pub record ReadsOn {S : Type 0} (left : S → Option (List ℕ)) (is_open : S → Bool) (files : S → Option (List File)) (faults : S → ℕ)
+    (r q : Reading) (waited waits : List Waiting) (old new : S) (result : Result Next LoadError) : Type 0 where
+  pub reads : IfOk result (λ next. ReadsLines r waited (stream r (left old)) next q waits (stream q (left new)))
+  pub can : IfOk result (λ next. OnLines next (CanRead q (is_open new)))
+  pub nearer : IfOk result (λ next. OnLines next (IsNearer r q))
+  pub none : IfErr result (TellsOutcome (λ _. ⊥))
+  pub found : result ≢ Err error.Missing
+  pub same : files new ≡ files old
+  pub fault : IsErrOf result error.Fault → Rose (faults old) (faults new)
+  pub no_fault : result ≢ Err error.Fault → faults new ≡ faults old
 
 -- the triples that waited are loaded
 pub record AreLoaded (limits : Limits) (waited : List Waiting) (old new : Loader) : Type 0 where

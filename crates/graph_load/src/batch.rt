@@ -1,10 +1,8 @@
 // Triples are read in batches, looked up ahead together, and loaded.
-ghost use Rattle.std.specs.Prelude.{◌≡◌, ◌≢◌, ◌++◌, ◌∷◌, [], IfOk, IfErr, OnOk, IsErrOf, Err};
-ghost use Rattle.px_base.specs.Causes.{Rose};
-ghost use Rattle.px_base.specs.ReaderStates.{stream};
+ghost use Rattle.std.specs.Prelude.{◌≡◌, ◌≢◌, ◌++◌, ◌∷◌, [], IfOk, IfErr, OnOk, Err};
 ghost use Rattle.graph_load.specs.Hashed.{triple_of, hashed};
 ghost use Rattle.graph_load.specs.Loaders.{IsSoundLoader, IsTaken};
-ghost use Rattle.graph_load.specs.LoadSteps.{TellsOutcome, CanRead, OnLines, AddsLine, ReadsLines, IsNearer, AreLoaded, Stops, OneStops};
+ghost use Rattle.graph_load.specs.LoadSteps.{TellsOutcome, CanRead, AddsLine, ReadsOn, AreLoaded, Stops, OneStops};
 
 use crate::files::LoadError;
 use crate::hashed::HashedTriple;
@@ -74,14 +72,7 @@ fn read_next<H: Shelf>(
     shelf: &mut H,
 ) -> Result<Next, LoadError>
     requires can { CanRead reader.old (H.is_open shelf.old) }
-    ensures reads { IfOk result (λ next. ReadsLines reader.old waiting.old.items (stream reader.old (H.left shelf.old)) next reader.new waiting.new.items (stream reader.new (H.left shelf.new))) }
-    ensures can { IfOk result (λ next. OnLines next (CanRead reader.new (H.is_open shelf.new))) }
-    ensures nearer { IfOk result (λ next. OnLines next (IsNearer reader.old reader.new)) }
-    ensures none { IfErr result (TellsOutcome (λ _. ⊥)) }
-    ensures found { result ≢ Err LoadError.Missing }
-    ensures files { H.files shelf.new ≡ H.files shelf.old }
-    ensures fault { IsErrOf result LoadError.Fault → Rose (H.faults shelf.old) (H.faults shelf.new) }
-    ensures no_fault { result ≢ Err LoadError.Fault → H.faults shelf.new ≡ H.faults shelf.old }
+    ensures { ReadsOn H.left H.is_open H.files H.faults reader.old reader.new waiting.old.items waiting.new.items shelf.old shelf.new result }
 {
     match reader.next(shelf) {
         Ok(true) => take(spare, waiting, reader.line(), reader.number()),
@@ -100,14 +91,7 @@ pub(crate) fn read_batch<H: Shelf>(
     shelf: &mut H,
 ) -> Result<Next, LoadError>
     requires can { CanRead reader.old (H.is_open shelf.old) }
-    ensures reads { IfOk result (λ next. ReadsLines reader.old waiting.old.items (stream reader.old (H.left shelf.old)) next reader.new waiting.new.items (stream reader.new (H.left shelf.new))) }
-    ensures can { IfOk result (λ next. OnLines next (CanRead reader.new (H.is_open shelf.new))) }
-    ensures nearer { IfOk result (λ next. OnLines next (IsNearer reader.old reader.new)) }
-    ensures none { IfErr result (TellsOutcome (λ _. ⊥)) }
-    ensures found { result ≢ Err LoadError.Missing }
-    ensures files { H.files shelf.new ≡ H.files shelf.old }
-    ensures fault { IsErrOf result LoadError.Fault → Rose (H.faults shelf.old) (H.faults shelf.new) }
-    ensures no_fault { result ≢ Err LoadError.Fault → H.faults shelf.new ≡ H.faults shelf.old }
+    ensures { ReadsOn H.left H.is_open H.files H.faults reader.old reader.new waiting.old.items waiting.new.items shelf.old shelf.new result }
 {
     'lines: loop {
         match read_next(reader, spare, waiting, shelf) {

@@ -34,9 +34,9 @@ batches-preserved g c =
       holds = d.1;
       leads = batch_leads c.args.limits.now c.batches.reader c.read_batch.new.reader (stream c.batches.reader (g.H.Shelf.left c.batches.shelf)) (stream c.read_batch.new.reader (g.H.Shelf.left c.read_batch.new.shelf))
           c.batches.waiting.items c.read_batch.new.waiting.items Lines (load_state c.batches.loader inv.triples) (Ok (load_state c.load_batch.new.loader d.0)) _
-          inv.none (rw c.in-Lines.is at c.in-Ok.ensures.reads) all inv.leads;
+          inv.none (rw (c.in-Ok.is, c.in-Lines.is) at c.read_batch.ensures.reads) all inv.leads;
       sound = loaded.sound;
-      can = rw c.in-Lines.is at c.in-Ok.ensures.can;
+      can = rw (c.in-Ok.is, c.in-Lines.is) at c.read_batch.ensures.can;
       files = search rules;
       faults = search rules;
     }
@@ -50,7 +50,7 @@ returns-in-End-clause-loaded g c =
     rw c.into_graph.ensures (
     batch_leads c.args.limits.now c.batches.reader c.read_batch.new.reader (stream c.batches.reader (g.H.Shelf.left c.batches.shelf)) (stream c.read_batch.new.reader (g.H.Shelf.left c.read_batch.new.shelf))
     c.batches.waiting.items c.read_batch.new.waiting.items End (load_state c.batches.loader inv.triples) (Ok (load_state c.load_batch.new.loader d.0)) _
-    inv.none (rw c.in-End.is at c.in-Ok.ensures.reads) all inv.leads (outcome.loaded c.load_batch.new.loader.graph.graph) refl)
+    inv.none (rw (c.in-Ok.is, c.in-End.is) at c.read_batch.ensures.reads) all inv.leads (outcome.loaded c.load_batch.new.loader.graph.graph) refl)
 
 pub returns-in-Syntax-clause-refused : goal.returns-in-Syntax-clause-refused
 returns-in-Syntax-clause-refused g c =
@@ -60,7 +60,7 @@ returns-in-Syntax-clause-refused g c =
     let all = ap (λ ws. with_all c.args.limits.now ws (load_state c.batches.loader inv.triples)) (sym c.deref.ensures.value) ∙ d.2 in
     batch_leads c.args.limits.now c.batches.reader c.read_batch.new.reader (stream c.batches.reader (g.H.Shelf.left c.batches.shelf)) (stream c.read_batch.new.reader (g.H.Shelf.left c.read_batch.new.shelf))
     c.batches.waiting.items c.read_batch.new.waiting.items (Syntax c.in-Syntax.line) (load_state c.batches.loader inv.triples) (Ok (load_state c.load_batch.new.loader d.0)) _
-    inv.none (rw c.in-Syntax.is at c.in-Ok.ensures.reads) all inv.leads (outcome.syntax c.in-Syntax.line) refl
+    inv.none (rw (c.in-Ok.is, c.in-Syntax.is) at c.read_batch.ensures.reads) all inv.leads (outcome.syntax c.in-Syntax.line) refl
 
 pub returns-in-Limit-clause-refused : goal.returns-in-Limit-clause-refused
 returns-in-Limit-clause-refused g c =
@@ -70,7 +70,7 @@ returns-in-Limit-clause-refused g c =
     let all = ap (λ ws. with_all c.args.limits.now ws (load_state c.batches.loader inv.triples)) (sym c.deref.ensures.value) ∙ d.2 in
     batch_leads c.args.limits.now c.batches.reader c.read_batch.new.reader (stream c.batches.reader (g.H.Shelf.left c.batches.shelf)) (stream c.read_batch.new.reader (g.H.Shelf.left c.read_batch.new.shelf))
     c.batches.waiting.items c.read_batch.new.waiting.items (Limit c.in-Limit.line) (load_state c.batches.loader inv.triples) (Ok (load_state c.load_batch.new.loader d.0)) _
-    inv.none (rw c.in-Limit.is at c.in-Ok.ensures.reads) all inv.leads (outcome.limit c.in-Limit.line) refl
+    inv.none (rw (c.in-Ok.is, c.in-Limit.is) at c.read_batch.ensures.reads) all inv.leads (outcome.limit c.in-Limit.line) refl
 
 pub returns-in-Err-load_batch-clause-refused : goal.returns-in-Err-load_batch-clause-refused
 returns-in-Err-load_batch-clause-refused g c =
@@ -79,5 +79,5 @@ returns-in-Err-load_batch-clause-refused g c =
     let s = stops inv.triples inv.holds in
     batch_leads c.args.limits.now c.batches.reader c.read_batch.new.reader (stream c.batches.reader (g.H.Shelf.left c.batches.shelf)) (stream c.read_batch.new.reader (g.H.Shelf.left c.read_batch.new.shelf))
     c.batches.waiting.items c.read_batch.new.waiting.items c.in-Ok.next (load_state c.batches.loader inv.triples) (Err s.0) _
-    inv.none c.in-Ok.ensures.reads (ap (λ ws. with_all c.args.limits.now ws (load_state c.batches.loader inv.triples)) (sym c.deref.ensures.value) ∙ s.2) inv.leads o s.1)
+    inv.none (rw c.in-Ok.is at c.read_batch.ensures.reads) (ap (λ ws. with_all c.args.limits.now ws (load_state c.batches.loader inv.triples)) (sym c.deref.ensures.value) ∙ s.2) inv.leads o s.1)
     c.in-Err-load_batch.error c.in-Err-load_batch.ensures.stopped
