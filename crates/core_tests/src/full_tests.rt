@@ -102,7 +102,7 @@ fn path_counted<L: Ledger>(
 }
 
 /// Whether these nodes answer the path, asked so.
-fn path_gives(
+pub(crate) fn path_gives(
     engine: &mut Engine,
     alloc: Global,
     via: Via,

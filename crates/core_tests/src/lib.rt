@@ -4,6 +4,8 @@
 #[cfg(test)]
 mod calls;
 #[cfg(test)]
+mod check_tests;
+#[cfg(test)]
 mod failing_index;
 #[cfg(test)]
 mod failing_tests;
