@@ -18,7 +18,7 @@ help:
 
 run:
 	@$(NEEDS_RT)
-	@echo 'Proving and building the program, $(JOBS) crates at a time. The first time takes minutes.'
+	@echo 'Proving and building the program, $(JOBS) crates at a time. The first time takes about half an hour on four cores.'
 	@mkdir -p bin
 	@(cd crates && rt all check --jobs $(JOBS)) >bin/run.log 2>&1 || { status=$$?; cat bin/run.log; exit $$status; }
 	@cd $(PROGRAM) && rt run -- ../../examples/foaf.script --graph ../../examples/foaf.nt >../../bin/foaf.out 2>>../../bin/run.log \
