@@ -17,7 +17,7 @@ pub stable_parents : (s : Shape) (block : List (Option ℕ)) → Stable s block 
 stable_parents s block st u v t = st.parents u v refl refl t
 
 -- the blocks of a stable partition are a bisimulation
-stable_bisimulation : (s : Shape) (block : List (Option ℕ)) → Stable s block → IsBisimulation s (Together block)
+pub stable_bisimulation : (s : Shape) (block : List (Option ℕ)) → Stable s block → IsBisimulation s (Together block)
 stable_bisimulation s block st = record {
   label = λ u v t. let l = some_of (s.label u) (st.partition.only u (together_some block u v t)) in (l.0, l.1, sym (stable_label s block st u v t) ∙ l.1);
   there = λ u v p t e. stable_parents s block st u v t p e;

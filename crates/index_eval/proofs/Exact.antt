@@ -1,20 +1,20 @@
 -- Where an index is exact for a query, the candidates are the answers.
-use Rattle.std.proofs.Common.{ℕ, ◌+◌, List, sym, ◌∙◌, Option, Bool, true}
+use Rattle.std.proofs.Common.{ℕ, ◌+◌, List, Option, Bool, true}
 use Rattle.px_spec.specs.Graphs.{Graph, IsGraph}
 use Rattle.px_spec.specs.Shapes.{Shape, IsNode, IsShape, shape_of}
 use Rattle.px_spec.specs.Members.{at}
 use Rattle.px_spec.proofs.GraphLaws.{is_shape}
 use Rattle.path_spec.specs.Trees.{Expr}
 use Rattle.path_spec.specs.Longest.{longest}
-use Rattle.bisim_spec.specs.Bisimilarity.{Bis, IsBisimulation}
+use Rattle.bisim_spec.specs.Bisimilarity.{Bis}
 use Rattle.bisim_spec.specs.Partitions.{Together, IsPartition, Agrees}
 use Rattle.bisim_spec.specs.Stability.{Stable, StableBoth}
 use Rattle.bisim_spec.specs.Tests.{together}
 use Rattle.bisim_spec.specs.Views.{View, ViewFits, shape_of_view}
 use Rattle.bisim_spec.proofs.Bisimilar.{some_of, bis_self}
-use Rattle.bisim_spec.proofs.Stable.{stable_label, stable_parents, fb_stable}
+use Rattle.bisim_spec.proofs.Stable.{stable_label, stable_parents, stable_bisimulation, fb_stable}
 use Rattle.bisim_spec.proofs.StabilityTests.{together_decides}
-use Rattle.bisim_spec.proofs.Together.{together_sym, together_trans, together_some}
+use Rattle.bisim_spec.proofs.Together.{together_sym, together_trans}
 use Rattle.index_api.specs.declared.kinds.Via.{Via}
 use Rattle.index_api.specs.declared.kinds.Via.TheVariants.{Data, A, One, Fb}
 use Rattle.branch_spec.specs.Trees.{Branch}
@@ -38,15 +38,6 @@ same_block s block p n node = let b = some_of (at block n) (p.live n node) in (b
 
 agrees_self : (s : Shape) (block : List (Option ℕ)) → IsPartition s block → Agrees s block (Together block)
 agrees_self s block p = record { partition = p; related = λ x y t. t; grouped = λ x y nx ny t. t }
-
-stable_bisimulation : (s : Shape) (block : List (Option ℕ)) → Stable s block → IsBisimulation s (Together block)
-stable_bisimulation s block st = record {
-  label = λ u v t. let l = some_of (s.label u) (st.partition.only u (together_some block u v t)) in (l.0, l.1, sym (stable_label s block st u v t) ∙ l.1);
-  there = λ u v p t e. stable_parents s block st u v t p e;
-  back = λ u v q t e.
-      let p = stable_parents s block st v u (together_sym block u v t) q e in
-      (p.0, p.1, together_sym block q p.0 p.2);
-}
 
 -- related nodes of a partition that is stable both ways have related parents and children
 stable_follows : (s : Shape) (block : List (Option ℕ)) → StableBoth s block → Follows s s (Together block)
