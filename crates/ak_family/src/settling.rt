@@ -14,7 +14,7 @@ use px_base::Memory;
 impl AkFamily {
     /// Makes the room that settling this draft needs. It leaves the family as it is seen. Expected O(k + d + l) for d entries
     /// that are drafted, with keys of l numbers together, and linear in a table of a level where that moves; it takes what the drafted entries
-    /// take there. Where a level holds many keys of blocks that are gone, these are dropped first, in time linear in its block numbers and keys.
+    /// take there. Where a level holds many keys of blocks that are gone, or long ones, these are dropped first, in time linear in its block numbers and keys.
     pub fn reserve(&mut self, d: &AkDraft) -> Result<(), Memory>
         requires over { AreOver self.old d.now }
         ensures same { AreSeenAs self.old self.new }

@@ -135,8 +135,8 @@ fn text_of(alloc: Global, summary: &Summary, labels: &Labels) -> Result<Text, Me
 ///
 /// Where half of the node numbers that were given are those of members, or more, there is no sort, and it takes 8 bytes for each of
 /// these numbers and each block number; else the members are sorted, and it takes 4 to 8 bytes for each block and for each member of
-/// the largest one. So it is O(b + m log m + t) at most for b block numbers, m members and t bytes of text, whatever was dropped. The
-/// text comes to that memory.
+/// the largest one. So it is O(b + m log m + t) at most for b block numbers, m members and t bytes of text, however many nodes were
+/// dropped. There are as many block numbers as the index had blocks at one time. The text comes to that memory.
 pub fn extents_text(alloc: Global, summary: &Summary, labels: &Labels) -> Result<Text, Memory>
     requires labelled { LabelsHaveTexts labels.now.texts summary.now.blocks }
     ensures text { IfOk result (λ t. t ≡ printed.extents_text (shape_of_blocks labels.now.texts summary.now.blocks) (together summary.now.blocks.block_of)) }

@@ -118,7 +118,8 @@ impl Engine {
     /// moves by one step (Yi, He, Stanoi and Yang 2004).
     ///
     /// O(i) for i indexes, and what the change takes in the graph and `prepare` and `commit` in each index. How much that is depends on
-    /// what the change reaches, and not on the size of the graph: `AkIndex` and `OneKept` say it, and `FbIndex` takes O(1). The memory is theirs too.
+    /// what the change reaches, and not on the size of the graph, but where a table moves as it grows, keys are dropped, or a view of the forward and
+    /// backward index goes: `AkIndex`, `OneKept` and `FbIndex` say it. The memory is theirs too.
     pub fn update(&mut self, alloc: Global, change: Change) -> Result<Applied, UpdateError>
         requires open { IsSome (opened_of self.old.state) }
         requires sound { IsSound (engine_seen (map meaning self.old.boxes.items) self.old.state) }
