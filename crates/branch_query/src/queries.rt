@@ -20,7 +20,7 @@ pub enum Query<'a> {
 
 impl Query<'_> {
     /// The nodes of a graph that answer the query: a set of numbers below the graph's size. `Memory` comes only where memory
-    /// runs out. O(m (n + e)) for m labels, signs, separators, axes and words, n node numbers and e edges, beside the look-ups of
+    /// runs out. O(m (n + e)) for m tokens, n node numbers and e edges, beside the look-ups of
     /// the labels. For a path expression it takes O(m n) memory, and for a branching query O(d n) where brackets nest d deep.
     pub fn answers<G: Digraph>(&self, alloc: Global, g: &G, labels: &Labels) -> Result<Bits, Memory>
         requires labelled { (n l : ℕ) → G.label_at g.now n ≡ Some l → l < length labels.now.texts }

@@ -77,7 +77,7 @@ impl Branch {
 
     /// The relaxed form: what is denied by a `not` that stands in no other one is left out, also in the steps of a
     /// predicate, and what holds everywhere stands in its place. `Memory` comes only where memory runs out. O(m) for a query with m
-    /// labels, axes and words and the bytes of its labels; it takes the memory of such a query.
+    /// tokens and the bytes of its labels; it takes the memory of such a query.
     pub fn relax(&self, alloc: Global) -> Result<Branch, Memory>
         ensures { IfOk result (λ q. q ≡ relax self.now) }
     {

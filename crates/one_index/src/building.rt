@@ -23,11 +23,11 @@ impl OneIndex {
     /// n numbers of nodes, m edges and at most d parents of a node take O(n + m log d) expected where the graph has no cycle: one pass
     /// in which parents come first, and one over the edges. One cycle anywhere loses that pass, and all blocks are found by rounds over
     /// nodes that wait: in the first round all, in each later one those of which a parent moved in the round before, but for those alone
-    /// in their blocks. A round takes O(w + p log d) expected for w nodes that wait, with p parents, and for the children of those that
-    /// move. There are at most as many rounds as blocks, so r rounds take O(r (n + m log d)) at most.
+    /// in their blocks. A round takes O(w + p log d + c) expected for w nodes that wait, with p parents, and c children of those
+    /// that move. There are at most as many rounds as blocks, so r rounds take O(r (n + m log d)) at most.
     ///
-    /// It takes O(n + m) memory. On a graph of triples, as `tools/make_triples.py` makes them of the shape `deep`, that is about 28 bytes
-    /// for each node and edge while blocks are found, and 65 with the index graph.
+    /// It takes O(n + m) memory. On a graph of triples, as `tools/make_triples.py` makes them of the shape `deep`, the tables by which blocks
+    /// are found take about 28 bytes for each node and edge; the index graph, which is made when they are gone, takes more.
     pub fn build(alloc: Global, view: &GraphView<'_>) -> Result<Summary, Memory>
         ensures fits { IfOk result (λ s. FitsOne view.now (view_of s)) }
         ensures whole { IfOk result (λ s. Agrees (shape_of view.now) s.blocks.block_of (Bisim (shape_of view.now))) }

@@ -74,7 +74,7 @@ fn seq_len(seq: &Seq) -> Option<u64>
 }
 
 /// The number of labels of the longest matching word, None exactly where there is no longest. Past 2^64 - 1,
-/// which no text within the limits reaches, it is that number. O(m) for m labels, signs and separators, no memory.
+/// which no text within the limits reaches, it is that number. O(m) for m tokens, no memory.
 #[cycle(longest)]
 pub fn longest(expr: &Expr) -> Option<u64>
     ensures { result ≡ capped greatest_length (longest expr.now) }

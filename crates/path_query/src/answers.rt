@@ -11,7 +11,7 @@ use px_base::{Bits, Memory};
 use std::alloc::Global;
 
 /// The nodes in which a walk ends whose labels, in order, match the expression: a set of numbers below
-/// the graph's size. `Memory` comes only where memory runs out. O(m (n + e)) for m labels, signs and separators, n node numbers and e
+/// the graph's size. `Memory` comes only where memory runs out. O(m (n + e)) for m tokens, n node numbers and e
 /// edges, and each label is looked up once, in expected O(1) for each of its bytes. At most 2 m states are entered: it takes a bit for
 /// each of these and each number, at most 20 bytes for each place at which a state waits, and a few bytes for each number.
 pub fn eval<G: Digraph>(
@@ -28,7 +28,7 @@ pub fn eval<G: Digraph>(
 }
 
 /// The answers over the part of the graph that has the members of a set alone, and the edges between these: a set of numbers below
-/// the graph's size. `Memory` comes only where memory runs out. O(m (n + e + s)) for m labels, signs and separators, n members, e edges
+/// the graph's size. `Memory` comes only where memory runs out. O(m (n + e + s)) for m tokens, n members, e edges
 /// from them, and the greater s of the graph's size and the set's, beside the look-ups of the labels; it takes memory as `eval` does.
 pub fn eval_within<G: Digraph>(
     alloc: Global,

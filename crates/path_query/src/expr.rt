@@ -83,7 +83,7 @@ impl PathExpr {
     }
 
     /// The number of labels of the longest matching word, and None exactly where there is no longest. It is at most 2^30, since
-    /// each of these labels takes a byte of a text within the limits. O(m) for m labels, signs and separators, no memory.
+    /// each of these labels takes a byte of a text within the limits. O(m) for m tokens, no memory.
     pub fn longest(&self) -> Option<u32>
         ensures { result ≡ longest self.now }
     {

@@ -169,9 +169,9 @@ impl Engine {
     /// is first computed, where it isn't. Of the graph itself a query costs one view of the graph; through an index that is exact
     /// for it and computed, it reads nothing of the graph. An error leaves the graph and each view that is computed.
     ///
-    /// An expression with m labels, signs and separators takes O(m (n + e)) of a graph with n node numbers and e edges. Through an index
-    /// n and e are the numbers of its blocks and of the pairs with support, O(s) comes to that for s node numbers, and where it isn't exact,
-    /// what `data_validate::check` takes. It takes O(m n + s) memory.
+    /// An expression of m tokens takes O(m (n + e)) of a graph with n node numbers and e edges, and O(m n) memory. Through an index
+    /// n and e are the numbers of its blocks and of the pairs with support, O(s) comes to both for s node numbers, and where it isn't exact,
+    /// what `data_validate::check` takes: up to O(m s) memory.
     pub fn path<L: Ledger>(
         &mut self,
         alloc: Global,
@@ -202,7 +202,7 @@ impl Engine {
     /// The answers of a branching query, asked of the graph itself or through an index, and how they were found, as in `path`. The
     /// forward and backward index alone is exact for it; through another one the candidates of its relaxed form are looked up in the graph.
     ///
-    /// O(m (n + e)) for m labels, axes and words, as for `path`. It takes O(d n + s) memory, where predicates are nested d - 1 deep.
+    /// O(m (n + e)) for m tokens, as for `path`. It takes O(d n + s) memory, where predicates are nested d - 1 deep.
     pub fn branch<L: Ledger>(
         &mut self,
         alloc: Global,
