@@ -60,10 +60,7 @@ fn keep_label<G: Digraph>(
     ensures keeps { OnOk result (Keeps set.old.members set.new.members (Passes (shape_by labels.now.texts (G.span g.now) (G.label_at g.now) (G.edge g.now)) (tree.label text.now))) }
 {
     match labels.find(text) {
-        Some(label) => {
-            keep_labelled(g, label, set);
-            Ok(())
-        }
+        Some(label) => keep_labelled(alloc, g, label, set),
         None => {
             let none = Bits::new(alloc, 0)?;
             intersect(set, &none);

@@ -7,6 +7,7 @@ use Rattle.std.proofs.lemmas.List.{take_more}
 use Rattle.std.proofs.lemmas.List.Folds.{list_any-append}
 use Rattle.px_spec.specs.Members.{has}
 use Rattle.path_search.specs.NewMarks.{Passes}
+use Rattle.branch_sets.proofs.Steps.{Filtered}
 
 pub passing_node : (label_at : ℕ → Option ℕ) (test : Option ℕ) (n : ℕ) → Passes label_at test n → IsSome (label_at n)
 passing_node label_at None n h = h
@@ -56,6 +57,25 @@ module _ (P : ℕ → Type 0) where
       λ led. let here = (tells led.0).0 led.1 in p.1 (led.0, here.1, here.2, led.2),
     ),
   )
+
+-- of the members of a run those stay at which it holds
+pub filtered_run : (P : ℕ → Type 0) (old now new run : List ℕ) (from to : ℕ) → from < to → OfRun (λ m. IsTrue (has now m)) run from to → Filtered P old now from
+    → ((m : ℕ) → IsTrue (has new m) ↔ (IsTrue (has now m) × (IsTrue (has run m) → P m))) → Filtered P old new to
+filtered_run P old now new run from to more tells before left m = (
+  λ h.
+      let p = (left m).0 h in
+      let q = (before m).0 p.0 in (
+        q.0,
+        elim q.1 [
+          | inl past ↦ elim (cases_lt m to) [ inl low ↦ inr (p.1 ((tells m).1 (past, low, p.0))) | inr behind ↦ inl behind ]
+          | inr holds ↦ inr holds
+        ],
+      ),
+  λ p. (left m).1 (
+    (before m).1 (p.0, elim p.1 [ inl behind ↦ inl (omega (arith, more, behind)) | inr holds ↦ inr holds ]),
+    λ r. elim p.1 [ inl behind ↦ absurd (let low = ((tells m).0 r).1 in omega (arith, low, behind)) | inr holds ↦ holds ],
+  ),
+)
 
 -- one more of a list
 

@@ -4,7 +4,7 @@ ghost use Rattle.px_spec.specs.Members.{has};
 ghost use Rattle.path_search.specs.NewMarks.{Passes};
 
 use label_graph::Digraph;
-use px_base::NodeId;
+use px_base::{Bits, NodeId};
 
 /// Whether the node's label passes: any one, or the one with the number.
 #[inline(always)]
@@ -61,6 +61,23 @@ pub(crate) fn note_passing<G: Digraph>(
     let mut count = 0;
     for n in from..to {
         count = note_if(noted, count, n, is_passing(g, test, n));
+    }
+    count
+}
+
+/// Notes the members of a set from `from` on and below `to`, and tells how many they are. It has no branch that depends on
+/// whether a number is one.
+#[inline(always)]
+pub(crate) fn note_members(set: &Bits, from: u32, to: u32, noted: &mut Vec<u32>) -> usize
+    requires order { from ≤ to }
+    requires room { to ≤ from + length noted.old.items }
+    ensures length { length noted.new.items ≡ length noted.old.items }
+    ensures within { result ≤ length noted.new.items }
+    ensures noted { (m : ℕ) → IsTrue (has (take result noted.new.items) m) ↔ ((from ≤ m) × (m < to) × IsTrue (has set.now.members m)) }
+{
+    let mut count = 0;
+    for n in from..to {
+        count = note_if(noted, count, n, set.contains(n));
     }
     count
 }

@@ -1,9 +1,9 @@
 // Sets of nodes from other sets, and from labels.
-ghost use Rattle.std.specs.Prelude.{◌≡◌, ◌+◌, ◌<◌, ◌≤◌, ◌↔◌, ◌⊎◌, ℕ, Some, length, take, IsTrue, IsSome, IfOk};
+ghost use Rattle.std.specs.Prelude.{◌≡◌, ◌+◌, ◌<◌, ◌≤◌, ◌↔◌, ◌⊎◌, ℕ, Some, length, take, IsTrue, IsSome, IfOk, OnOk};
 ghost use Rattle.px_spec.specs.Members.{has};
 ghost use Rattle.path_search.specs.NewMarks.{Passes};
 
-use crate::runs::{RUN, end_of_run, is_passing, note_passing};
+use crate::runs::{RUN, end_of_run, is_passing, note_members, note_passing};
 use label_graph::Digraph;
 use px_base::{Bits, Memory, NodeId};
 use std::alloc::Global;
@@ -92,17 +92,35 @@ pub fn passing<G: Digraph>(alloc: Global, g: &G, test: Option<u32>) -> Result<Bi
     Ok(set)
 }
 
-/// Takes the numbers out of a set that aren't those of nodes whose label has the number. O(n) for a set of numbers below n, and
-/// each member's label is read once; it takes no memory.
-pub fn keep_labelled<G: Digraph>(g: &G, label: u32, set: &mut Bits)
+/// Takes those of the listed numbers out of a set that aren't those of nodes whose label has the number.
+fn keep_listed<G: Digraph>(g: &G, label: u32, list: &[u32], set: &mut Bits)
+    requires { (n : ℕ) → IsTrue (has list.now n) → n < set.old.size }
     ensures size { set.new.size ≡ set.old.size }
-    ensures members { (n : ℕ) → IsTrue (has set.new.members n) ↔ (IsTrue (has set.old.members n) × (G.label_at g.now n ≡ Some label)) }
+    ensures members { (n : ℕ) → IsTrue (has set.new.members n) ↔ (IsTrue (has set.old.members n) × (IsTrue (has list.now n) → G.label_at g.now n ≡ Some label)) }
 {
-    // The members are below the size, which this call says.
-    let _size = set.size();
-    let mut from = 0;
-    while let Some(n) = set.next_from(from) {
-        remove_unless(set, n, is_passing(g, Some(label), n));
-        from = n + 1;
+    for i in 0..list.len() {
+        remove_unless(set, list[i], is_passing(g, Some(label), list[i]));
     }
+}
+
+/// Takes the numbers out of a set that aren't those of nodes whose label has the number. `Memory` comes only where memory runs
+/// out. O(n) for a set of numbers below n, and each member's label is read once; it takes 4 KiB.
+pub fn keep_labelled<G: Digraph>(
+    alloc: Global,
+    g: &G,
+    label: u32,
+    set: &mut Bits,
+) -> Result<(), Memory>
+    ensures size { set.new.size ≡ set.old.size }
+    ensures members { OnOk result ((n : ℕ) → IsTrue (has set.new.members n) ↔ (IsTrue (has set.old.members n) × (G.label_at g.now n ≡ Some label))) }
+{
+    let mut noted = vec![in alloc; 0; RUN as usize]?;
+    let mut from = 0;
+    while from < set.size() {
+        let to = end_of_run(from, set.size());
+        let count = note_members(set, from, to, &mut noted);
+        keep_listed(g, label, &noted[..count], set);
+        from = to;
+    }
+    Ok(())
 }
