@@ -202,7 +202,8 @@ impl Engine {
     /// The answers of a branching query, asked of the graph itself or through an index, and how they were found, as in `path`. The
     /// forward and backward index alone is exact for it; through another one the candidates of its relaxed form are looked up in the graph.
     ///
-    /// O(m (n + e)) for m tokens, as for `path`. It takes O(d n + s) memory, where predicates are nested d - 1 deep.
+    /// O(m (n + e)) for m tokens, as for `path`. It takes O(d n + s) memory where brackets nest d - 1 deep, parentheses
+    /// counted; through an index that isn't exact, O(d s).
     pub fn branch<L: Ledger>(
         &mut self,
         alloc: Global,
