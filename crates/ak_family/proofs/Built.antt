@@ -1,4 +1,4 @@
--- The levels that are built so far.
+-- The levels that are built.
 use Rattle.std.proofs.Common.{◌≡◌, ℕ, suc, ◌+◌, ◌<◌, ◌≤◌, List, [], ◌∷◌, ◌++◌, length, Option, Some, is_some, slice_get, refl, sym, ◌∙◌, ap, subst, inl, inr, Bool, arith}
 use Rattle.std.proofs.lemmas.Bool.{cases_lt}
 use Rattle.std.proofs.lemmas.List.{get_or_push, get_or_append_left, length-append}

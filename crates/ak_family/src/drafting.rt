@@ -141,8 +141,8 @@ impl AkFamily {
     }
 
     /// The block of a level that has the key as shown. Where none has it, one is drafted, with this label and without members. Past 2^31
-    /// blocks there is no number for one, which is answered as memory that ran out. Time and memory are those of `find`, and of `new_block` where a
-    /// block is drafted: expected O(l) for a key of l numbers.
+    /// blocks there is no number for one, which is answered as memory that ran out. Expected O(l) for a key of l numbers; it takes
+    /// memory where a block is drafted, as `new_block` does.
     pub fn keyed_block(
         &self,
         d: &mut AkDraft,

@@ -23,6 +23,11 @@ use std::marker::Model;
 /// level below, and whose parents are in the same blocks there. Each block has a key, which says this in
 /// numbers: the number of the label alone at level 0, and above it the own block one level below, and
 /// then the blocks of the parents one level below, rising, each once.
+///
+/// The index of level 1 is a graph of its own:
+///
+///     let family = AkFamily::build(alloc, &graph.view(&mut steps), 2)?;
+///     let blocks = eval(alloc, family.level(1), graph.labels(), &expr)?;
 #[derive(Drop)]
 pub struct AkFamily {
     pub(crate) levels: Vec<KeyedSummary>,

@@ -79,7 +79,7 @@ total_most w k i before now some within many cost =
     let one : 1 * w ≤ k * w = mul-le 1 k w many in
     omega (arith, cost, all, levels, search, one)
 
--- what is spent so far is within the bound of all levels
+-- what is spent is within the bound of all levels
 pub spent_most : (s : Shape) (target k i before now : ℕ) → target < s.size → i ≤ k → (k ≡ 0 → now ≡ before)
     → now ≤ before + (weight s (near s (has (target ∷ [])) k) + 1) + i * (3 * weight s (near s (has (target ∷ [])) k) + 3) → (len m : ℕ) → len ≡ k + 1 → len ≡ m + 1
     → now ≤ before + 8 * m * weight s (near s (has (target ∷ [])) m)

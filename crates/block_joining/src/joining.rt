@@ -22,7 +22,7 @@ use quotient_draft::Draft;
 /// moved, and each block next to `b` written once; so `b` had better be the smaller of the two. `list` is room
 /// that is used again. Where memory runs out, the draft may have a part of it.
 ///
-/// O(s log s) expected for s members, parents and children of `b` in the base and as drafted; the draft takes O(s) memory more.
+/// Expected O(s log s) for s members, parents and children of `b` in the base and as drafted; the draft takes O(s) memory more.
 pub fn join(
     base: &Summary,
     draft: &mut Draft,

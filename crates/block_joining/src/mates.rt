@@ -73,7 +73,7 @@ fn has_unmet_parent(base: &Summary, draft: &Draft, a: u32, b: u32) -> bool
 /// Whether two blocks with members can be merged: they have one label, and the same parent blocks once the two count as
 /// one. Their parents are listed only where the base has none that rules it out. `list` is room that is used again.
 ///
-/// O(p log p) expected for p parents of the two in the base and as drafted; the list takes 4 to 8 bytes for each.
+/// Expected O(p log p) for p parents of the two in the base and as drafted; the list takes 4 to 8 bytes for each.
 pub fn mergeable(
     base: &Summary,
     draft: &Draft,

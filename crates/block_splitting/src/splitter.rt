@@ -96,7 +96,7 @@ fn group_touched(
 /// Splits each block by whether its members have a parent in the splitter, and by whether they have a
 /// child there. Where memory runs out, the partition stays.
 ///
-/// O(n + b + m) expected for n numbers of nodes, b numbers of blocks and m edges at the splitter; it takes 7 bytes for each
+/// Expected O(n + b + m) for n numbers of nodes, b numbers of blocks and m edges at the splitter; it takes 7 bytes for each
 /// node number, 4 to 8 for each block number, and O(t) for t nodes at these edges.
 pub fn split_by(
     alloc: Global,

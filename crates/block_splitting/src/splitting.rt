@@ -42,7 +42,7 @@ impl Tables {
 /// Parts the nodes that wait by the blocks of their neighbours on a side, and from the others of their
 /// block. It gives those that went to another block. Where memory runs out, the partition stays.
 ///
-/// The neighbours' blocks of each node that waits are sorted: O(w + m log d) expected for w nodes that wait, with m neighbours,
+/// The neighbours' blocks of each node that waits are sorted: expected O(w + m log d) for w nodes that wait, with m neighbours,
 /// at most d each, and O(b) more where these tables have not been used yet and there are b block numbers. It takes O(w + m)
 /// memory. The largest part of a block keeps its number, where all members waited.
 pub fn split(

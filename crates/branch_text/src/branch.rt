@@ -18,6 +18,11 @@ use std::marker::Model;
 
 /// A branching query, whose labels are labels: one that some text spells, or the relaxed form of one. It is seen as its
 /// tree.
+///
+/// The persons with a name and without an age:
+///
+///     let query = Branch::parse(alloc, b"person[/name and not(/age)]", &Limits::program())?;
+///     let nodes = eval(alloc, &graph.view(&mut steps), graph.labels(), &query)?;
 #[derive(Drop)]
 pub struct Branch {
     tree: BranchTree,

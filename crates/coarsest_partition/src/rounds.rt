@@ -137,7 +137,7 @@ fn classes(alloc: Global, view: &GraphView<'_>) -> Result<Blocks, Memory>
 /// nodes that wait: at first nodes of one label are together, and all wait. A round looks at the nodes that wait. Then
 /// those wait of which a parent went to another block, unless they are alone in theirs. In each block the largest group
 /// of them keeps the block's number, where no other member is left. There are at most as many rounds as blocks, and r
-/// rounds take O(r (n + m log d)) expected at most. It takes O(n + m) memory.
+/// rounds take expected O(r (n + m log d)) at most. It takes O(n + m) memory.
 pub fn full_bisimulation(alloc: Global, view: &GraphView<'_>) -> Result<Blocks, Memory>
     ensures agrees { IfOk result (λ p. Agrees (shape_of view.now) p.block_of (Bisim (shape_of view.now))) }
     ensures fits { IfOk result (FitsWithSupports view.now) }

@@ -15,7 +15,7 @@ use std::alloc::Global;
 
 /// The forward and backward index of a graph. A change leaves no view of it, which takes no memory, and the time to drop the view
 /// that there was; the next `refresh` computes the view of the graph as it then is. A build or a refresh keys each node at first, and then in rounds those next to
-/// nodes that moved: O(r (n + m log d)) expected at most for r rounds, n node numbers, m edges and at most d neighbours of a node on a
+/// nodes that moved: expected O(r (n + m log d)) at most for r rounds, n node numbers, m edges and at most d neighbours of a node on a
 /// side. Its tables take O(n + m) memory.
 #[derive(Drop)]
 pub struct FbIndex {

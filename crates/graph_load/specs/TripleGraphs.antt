@@ -30,7 +30,7 @@ pub record LoadState : Type 0 where
   pub graph : Graph
   -- each term that is a node, with its number
   pub terms : List (Term × ℕ)
-  -- the triples so far, each once
+  -- the triples that were taken, each once
   pub triples : List Triple
 
 abbrev pub nothing_loaded : LoadState

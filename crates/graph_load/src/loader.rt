@@ -1,4 +1,4 @@
-// What is loaded so far.
+// What a load has taken.
 ghost use Rattle.std.specs.Prelude.{◌≡◌, ℕ, List, [], length, position, bytes_eq, Some, None, Ok, OnOk, IfOk, IfSome, IsErrOf, false};
 ghost use Rattle.px_spec.specs.Changes.{node, link};
 ghost use Rattle.graph_load.specs.TripleGraphs.{need, changed, joined, with_triple, nothing_loaded, predicate_label};
@@ -22,7 +22,7 @@ use px_base::{Limits, Memory, NodeId, Text};
 use std::alloc::Global;
 use term_table::{Found, HashedTerm, TermTable};
 
-/// The graph of the triples so far, and the tables by which their terms and the triples are found.
+/// The graph of the triples that were taken, and the tables by which their terms and the triples are found.
 #[derive(Drop)]
 pub(crate) struct Loader {
     graph: Graph,

@@ -2,6 +2,11 @@
 use px_base::{NodeId, Text};
 
 /// A change of a graph.
+///
+/// One more node, and an edge that leads to it:
+///
+///     let change = Change::Node(Text::from_bytes(alloc, b"note")?);
+///     let change = Change::Link(5, 22);
 #[derive(Debug, Drop)]
 pub enum Change {
     /// One more node, with this label.

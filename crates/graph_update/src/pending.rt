@@ -82,7 +82,7 @@ impl<'a> After<'a> {
         }
     }
 
-    /// How many node numbers will have been given: at most 2^30. O(1).
+    /// How many node numbers will have been given: at most 2^30. O(1), no memory.
     pub fn created(&self) -> u32
         ensures count { result ≡ length (graph_after self.now).given }
         ensures few { result ≤ 2 ^ 30 }
@@ -96,7 +96,7 @@ impl<'a> After<'a> {
         }
     }
 
-    /// How many edges there will be: at most 2^30. O(1).
+    /// How many edges there will be: at most 2^30. O(1), no memory.
     pub fn edge_count(&self) -> u32
         ensures count { result ≡ edge_count (graph_after self.now) }
         ensures few { result ≤ 2 ^ 30 }

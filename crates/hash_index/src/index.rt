@@ -35,7 +35,7 @@ impl<T: Copy> Model for HashIndex<T> {
 }
 
 impl<T: Copy> HashIndex<T> {
-    /// An index without items. O(1), and 64 bytes of memory.
+    /// An index without items. O(1); it takes 64 bytes.
     pub fn new(alloc: Global) -> Result<HashIndex<T>, Memory>
         ensures { IfOk result (λ x. x ≡ no_items) }
     {
@@ -46,7 +46,7 @@ impl<T: Copy> HashIndex<T> {
         })
     }
 
-    /// How many items there are. O(1).
+    /// How many items there are. O(1), no memory.
     #[inline(always)]
     pub fn len(&self) -> u32
         ensures items { result ≡ length self.now.items }
@@ -56,7 +56,7 @@ impl<T: Copy> HashIndex<T> {
         self.slots.len() as u32
     }
 
-    /// The item of a number. O(1).
+    /// The item of a number. O(1), no memory.
     #[inline(always)]
     pub fn item(&self, n: u32) -> T
         requires { n < length self.now.items }
@@ -65,7 +65,7 @@ impl<T: Copy> HashIndex<T> {
         read_item(&self.slots, n as usize)
     }
 
-    /// The greatest number that has the hash. O(1) where hashes differ.
+    /// The greatest number that has the hash. Expected O(1), no memory.
     #[inline(always)]
     pub fn newest(&self, hash: u32) -> Option<u32>
         ensures { IsNewest self.now.hashes hash (length self.now.hashes) result }
@@ -77,7 +77,7 @@ impl<T: Copy> HashIndex<T> {
         )
     }
 
-    /// The greatest smaller number that has the hash of this one. O(1) where hashes differ.
+    /// The greatest smaller number that has the hash of this one. Expected O(1), no memory.
     #[inline(always)]
     pub fn older(&self, n: u32) -> Option<u32>
         requires { n < length self.now.hashes }
@@ -87,7 +87,7 @@ impl<T: Copy> HashIndex<T> {
         along(&self.slots, read_link(&self.slots, n as usize), hash)
     }
 
-    /// The number in front of the chain of a hash, whatever its own hash is. Nobody needs it but to read ahead. O(1).
+    /// The number in front of the chain of a hash, whatever its own hash is. Nobody needs it but to read ahead. O(1), no memory.
     #[inline(always)]
     pub fn front(&self, hash: u32) -> Option<u32>
         ensures { IfSome result (λ n. n < length self.now.items) }
@@ -95,8 +95,8 @@ impl<T: Copy> HashIndex<T> {
         read_head(&self.heads, bucket(&self.heads, hash)).checked_sub(1)
     }
 
-    /// Some number that has the hash, from this one on along its chain. Nobody needs it but to read ahead. O(1) where hashes
-    /// differ.
+    /// Some number that has the hash, from this one on along its chain. Nobody needs it but to read ahead. Expected O(1), no
+    /// memory.
     #[inline(always)]
     pub fn from(&self, n: u32, hash: u32) -> Option<u32>
         requires { n < length self.now.items }
@@ -106,7 +106,8 @@ impl<T: Copy> HashIndex<T> {
     }
 
     /// Puts an item behind the others, and gives its number. `Memory` comes where memory runs out or there are 2^31 - 1
-    /// items, and leaves the items. O(1), spread over all that are put in.
+    /// items, and leaves the items. O(1), amortized; it
+    /// takes what is said of the index.
     pub fn push(&mut self, hash: u32, item: T) -> Result<u32, Memory>
         ensures number { IfOk result (λ n. n ≡ length self.old.items) }
         ensures ok { OnOk result (self.new ≡ with_item self.old hash item) }
@@ -116,7 +117,7 @@ impl<T: Copy> HashIndex<T> {
         add(&mut self.slots, &mut self.heads, hash, item)
     }
 
-    /// Drops all items. One bucket is left, and the memory is kept for items to come. O(1).
+    /// Drops all items. One bucket is left, and the memory is kept for items to come. O(1), no memory.
     pub fn clear(&mut self)
         ensures { self.new ≡ no_items }
     {

@@ -23,12 +23,13 @@ pub trait PathIndex: Drop {
     /// The kind, the views, and the views that are staged.
     ghost meaning: { Self → Meaning };
 
-    /// The kind of the index.
+    /// The kind of the index. O(1), no memory.
     fn kind(&self) -> Kind
         ensures { result ≡ (meaning self.now).kind };
 
     /// Builds the index of the graph, in place of the views that there are, with nothing staged. The A(k)-family has a view for each
-    /// level up to `k`, each other index has one. That of the 1-index is full bisimilarity.
+    /// level up to `k`, each other index has one. That of the 1-index is full bisimilarity. `AkFamily::build`,
+    /// `OneIndex::build` and `FbIndex` have the time and the memory.
     fn build(&mut self, view: &GraphView<'_>, k: u32) -> Result<(), Memory>
         requires few { k ≤ 8 }
         ensures built { OnOk result (IsBuilt (meaning self.old) (meaning self.new) view.now k) }
@@ -36,28 +37,31 @@ pub trait PathIndex: Drop {
 
     /// Stages what a change will make of the index. The graph is as it was, and `judge` accepts the change as new within some limits. The
     /// partition of the 1-index moves by one step (Yi, He, Stanoi and Yang 2004): nodes that the change doesn't reach stay together or apart.
+    /// Time and memory grow with what is near the change: `AkIndex::prepare_counted` and `OneKept::prepare_counted` have them; O(1), no
+    /// memory, for the forward and backward index.
     fn prepare(&mut self, graph: &Graph, change: &Change) -> Result<(), Memory>
         requires ready { IsReady (meaning self.old) graph.now.graph }
         requires new { IsNew (change_of change.now) graph.now.graph }
         ensures staged { OnOk result (IsPrepared (meaning self.old) (meaning self.new) (change_of change.now) graph.now.graph) }
         ensures err { OnErr result (meaning self.new ≡ meaning self.old) };
 
-    /// Puts what is staged in force.
+    /// Puts what is staged in force. O(d) for what the draft moves, and the time to drop a view that isn't computed any more; no memory.
     fn commit(&mut self)
         requires staged { IsSome (meaning self.old).staged }
         ensures { IsCommitted (meaning self.old) (meaning self.new) };
 
-    /// Lets go of what is staged, if anything is.
+    /// Lets go of what is staged, if anything is. O(d) for what was drafted, no memory.
     fn cancel(&mut self)
         ensures { meaning self.new ≡ unstaged (meaning self.old) };
 
-    /// Computes each view of the graph that isn't computed.
+    /// Computes each view of the graph that isn't computed. O(1), no memory, where each is; else what `build` takes.
     fn refresh(&mut self, view: &GraphView<'_>) -> Result<(), Memory>
         requires ready { IsReady (meaning self.old) view.now }
         ensures refreshed { OnOk result (IsRefreshed (meaning self.old) (meaning self.new) view.now) }
         ensures err { OnErr result (meaning self.new ≡ meaning self.old) };
 
     /// The view of a level. None exactly where the index has no such level, or its view isn't computed.
+    /// O(1), no memory.
     fn summary(&self, level: u32) -> Option<&Summary>
         ensures { option_map (λ s. view_of s.now) result ≡ view_at (meaning self.now).views level };
 }

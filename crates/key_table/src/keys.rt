@@ -15,6 +15,13 @@ use std::marker::Model;
 ///
 /// A key takes 4 bytes for each of its numbers, 16 for its place in the index and 4 to 8 for its bucket. There are
 /// fewer than 2^31 keys, with fewer than 2^32 numbers together.
+///
+/// A key that comes again has the number that it has:
+///
+///     let mut keys = KeyTable::new(alloc)?;
+///     let first = keys.intern(&[7, 1, 4])?;  // 0
+///     let other = keys.intern(&[7])?;        // 1
+///     let again = keys.intern(&[7, 1, 4])?;  // 0
 #[derive(Drop)]
 pub struct KeyTable {
     arena: Vec<u32>,
@@ -45,7 +52,7 @@ impl KeyTable {
         })
     }
 
-    /// How many keys there are. O(1).
+    /// How many keys there are. O(1), no memory.
     pub fn len(&self) -> u32
         ensures len { result ≡ length self.now }
         ensures distinct { AreDistinct self.now }
@@ -54,7 +61,7 @@ impl KeyTable {
         self.index.len()
     }
 
-    /// The key of a number. O(1).
+    /// The key of a number. O(1), no memory.
     pub fn key(&self, i: u32) -> &[u32]
         requires { i < length self.now }
         ensures { slice_get self.now i ≡ Some result.now }
@@ -74,8 +81,8 @@ impl KeyTable {
     }
 
     /// The number of a key, which is put behind the others where it is new. `Memory` comes where memory runs
-    /// out or the table is full, and leaves the keys. Expected O(k) for a key of k numbers, spread over all
-    /// that are put in. A key that is there takes no memory, a new one what is said of the table.
+    /// out or the table is full, and leaves the keys. Expected O(k), amortized, for a key of
+    /// k numbers; a key that is there takes no memory, a new one what is said of the table.
     pub fn intern(&mut self, key: &[u32]) -> Result<u32, Memory>
         ensures ok { IfOk result (λ i. Interns self.old self.new key.now i) }
         ensures distinct { AreDistinct self.new }
@@ -88,7 +95,7 @@ impl KeyTable {
         add(&mut self.arena, &mut self.index, key, hash)
     }
 
-    /// Drops all keys. The memory is kept for keys to come. O(1).
+    /// Drops all keys. The memory is kept for keys to come. O(1), no memory.
     pub fn clear(&mut self)
         ensures { self.new ≡ [] }
     {

@@ -2,8 +2,8 @@
 ghost use Rattle.std.specs.Prelude.{◌≡◌, ◌<◌, ℕ, Bool, Option, Some, is_some, IsTrue, IsSome};
 ghost use Rattle.px_spec.specs.Members.{Lists};
 
-/// A directed graph whose nodes are numbers and whose labels are numbers of a table. Reading it takes
-/// no memory.
+/// A directed graph whose nodes are numbers and whose labels are numbers of a table. Each read is
+/// O(1), no memory: a list is lent where it lies.
 pub trait Digraph {
     /// The nodes have numbers below it.
     ghost span: { Self → ℕ };

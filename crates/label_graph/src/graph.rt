@@ -18,6 +18,16 @@ use std::sync::ledger::Ledger;
 
 /// A directed graph with a label on each node, and room for at most one addition. Nodes have the
 /// numbers from 0 in the order in which they were added; at most 2^30 nodes and 2^30 edges.
+///
+/// An addition is made in two calls, of which only the first can fail:
+///
+///     let mut graph = Graph::new(alloc)?;
+///     graph.reserve_node(alloc, &label)?;
+///     let ana = graph.add_node();
+///     graph.reserve_node(alloc, &label)?;
+///     let bo = graph.add_node();
+///     graph.reserve_edge(ana, bo)?;
+///     graph.add_edge(ana, bo);
 #[derive(Drop)]
 pub struct Graph {
     labels: Labels,
@@ -195,7 +205,7 @@ impl Graph {
 
 // Room for one addition, and the additions.
 impl Graph {
-    /// A graph with no nodes. It takes no memory until something is added. O(1).
+    /// A graph with no nodes. O(1), no memory until something is added.
     pub fn new(alloc: Global) -> Result<Graph, Memory>
         ensures { IfOk result (λ g. g ≡ record { graph = empty_graph; room = no_room }) }
     {

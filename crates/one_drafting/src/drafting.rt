@@ -143,10 +143,10 @@ fn draft_pending<L: Ledger>(
 /// after the change. The blocks of the base to which no other has support are among the roots.
 ///
 /// It takes at most `8 * (r + 1) * w` steps, where the change reaches `r` nodes, and `w` is one for each of them, one
-/// for each of its parents and one for each of its children. It takes no step for an edge between blocks that have support. Where memory runs out, the draft is only good to be cleared.
+/// for each of its parents and one for each of its children. It takes no step for an edge between blocks that have support. Where memory
+/// runs out, the draft is only good to be cleared.
 ///
-/// O((r + 1) w log w + b) expected to split, with b numbers of blocks, and then what `one_merging::merge` takes from the blocks on that were
-/// made; O(1) expected for an edge between blocks that have support. The memory is that of the draft: O(w), and what is merged.
+/// Expected O((r + 1) w log w) to split, and then what `one_merging::merge` takes from the blocks on that were made; expected O(1) for an edge between blocks that have support. The memory is that of the draft: O(w), and what is merged.
 pub fn draft_change<L: Ledger>(
     alloc: Global,
     base: &Summary,

@@ -31,7 +31,7 @@ use std::sync::ledger::Ledger;
 /// It takes at most `4 * (r + 1) * w` steps, where the target reaches `r` nodes, and `w` is one for each of them, one for each of its
 /// parents and one for each of its children. After `Memory`, which also comes past 2^31 blocks, the draft is only good to be cleared.
 ///
-/// O((r + 1) w log w + b) expected at most, with b numbers of blocks, and O(w) memory.
+/// Expected O((r + 1) w log w) at most, and O(w) memory.
 pub fn split<L: Ledger>(
     alloc: Global,
     base: &Summary,
@@ -85,7 +85,7 @@ fn add_blocks(
 /// It takes at most `3 * (r + 1) * w` steps, where the target reaches `r` nodes, and `w` is one for each of them, one for each of its
 /// parents and one for each of its children. After `Memory` the draft is only good to be cleared.
 ///
-/// O(w + b) expected to find the blocks, with b numbers of blocks, and then what `one_merging::merge` takes from these on. It takes O(w)
+/// Expected O(w + b) to find the blocks, with b numbers of blocks, and then what `one_merging::merge` takes from these on. It takes O(w)
 /// memory, and what is merged.
 pub fn merge<L: Ledger>(
     alloc: Global,

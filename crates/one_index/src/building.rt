@@ -14,16 +14,21 @@ use std::alloc::Global;
 
 /// The 1-index of a graph, as a build makes it (T. Milo and D. Suciu, "Index Structures for Path Expressions",
 /// ICDT 1999).
+///
+/// Its blocks answer each path expression exactly:
+///
+///     let index = OneIndex::build(alloc, &graph.view(&mut steps))?;
+///     let blocks = eval(alloc, &index, graph.labels(), &expr)?;
 pub struct OneIndex;
 
 impl OneIndex {
     /// The index graph of the classes of full bisimilarity. It is the coarsest stable partition: each other
     /// one lies within its blocks. `Memory` comes only where memory runs out.
     ///
-    /// n numbers of nodes, m edges and at most d parents of a node take O(n + m log d) expected where the graph has no cycle: one pass
+    /// n numbers of nodes, m edges and at most d parents of a node take expected O(n + m log d) where the graph has no cycle: one pass
     /// in which parents come first, and one over the edges. One cycle anywhere loses that pass, and all blocks are found by rounds over
     /// nodes that wait: in the first round all, in each later one those of which a parent moved in the round before, but for those alone
-    /// in their blocks. A round takes O(w + p log d + c) expected for w nodes that wait, with p parents, and c children of those
+    /// in their blocks. A round takes expected O(w + p log d + c) for w nodes that wait, with p parents, and c children of those
     /// that move. There are at most as many rounds as blocks, so r rounds take O(r (n + m log d)) at most.
     ///
     /// It takes O(n + m) memory. On a graph of triples, as `tools/make_triples.py` makes them of the shape `deep`, the tables by which blocks

@@ -59,7 +59,7 @@ fn agree_as_one(summary: &Summary, a: u32, b: u32) -> bool
 /// labels and their parent blocks alone decide it, for each graph of which the summary is a stable one. A
 /// block without members can be merged with any.
 ///
-/// O(p) expected for p parent blocks of the two: a look-up or two for each at most. No memory.
+/// Expected O(p) for p parent blocks of the two: a look-up or two for each at most. No memory.
 pub fn mergeable(summary: &Summary, a: u32, b: u32) -> bool
     requires first { IsSome (at summary.now.blocks.labels a) }
     requires second { IsSome (at summary.now.blocks.labels b) }
@@ -118,7 +118,7 @@ fn has_mergeable(summary: &Summary, a: u32) -> bool
 /// Whether no two distinct blocks with members can be merged, for each graph of which the summary is a
 /// stable one.
 ///
-/// It compares each block with each other one, as `mergeable` does: O(b (b + q)) expected for b block numbers and q pairs of
+/// It compares each block with each other one, as `mergeable` does: expected O(b (b + q)) for b block numbers and q pairs of
 /// blocks with support. No memory.
 pub fn is_minimal(summary: &Summary) -> bool
     ensures { (g : Graph) → IsGraph g → IsStableView g (view_of summary.now) → IsTrue result ↔ Minimal (shape_of g) summary.now.blocks.block_of }

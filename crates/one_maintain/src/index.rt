@@ -22,9 +22,9 @@ use std::sync::ledger::{Blank, Ledger};
 
 /// The 1-index of a graph, kept while it changes (K. Yi, H. He, I. Stanoi and J. Yang, "Incremental Maintenance of XML Structural
 /// Indexes", SIGMOD 2004). A change is drafted over the index in force: blocks are split from the change's target on, and then
-/// merged. How much of the graph is read depends on what the change reaches, and not on the size of the graph. The tables of the index are
-/// looked through for the next free number of a block, and for the blocks without other parents where as many came since they were last looked
-/// for as there were then, and 64 more.
+/// merged. How much of the graph is read depends on what the change reaches, and not on the size of the graph. The blocks of the index are
+/// looked through for those without other parents where as many of these came since they were last looked for as there were then, and
+/// 64 more.
 #[derive(Drop)]
 pub struct OneKept {
     alloc: Global,
@@ -41,7 +41,7 @@ impl OneKept {
 
     /// Stages what a change will make of the index, as `prepare` does, and counts steps: at most `8 * (r + 1) * w`, where the
     /// change reaches `r` nodes, and `w` is one for each of them, one for each of its parents and one for each of its children. A
-    /// link takes none where the blocks of its ends have support already, and then O(1) expected time and memory.
+    /// link takes none where the blocks of its ends have support already, and then expected O(1) time and memory.
     ///
     /// The time and the memory are those of `one_drafting::draft_change`. Besides, all blocks are looked through in O(b), for b block
     /// numbers, where blocks without other parents are looked for anew.

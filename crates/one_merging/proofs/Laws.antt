@@ -167,7 +167,7 @@ push_cases xs ys y n e h = elim (or_cases (has xs n) (nat_eq n y) (sym (ap (λ z
   | inr here ↦ inr ((Decides-eqb n y).0 here)
 ]
 
--- what holds of the numbers so far, and of the next one
+-- what holds of the numbers below one, and of the next one
 pub more_hold : (P : ℕ → Type 0) (xs : List ℕ) (i d : ℕ) → i < length xs → ((b : ℕ) → IsTrue (has (take i xs) b) → P b) → P (get_or xs i d) → (b : ℕ) → IsTrue (has (take (i + 1) xs) b) → P b
 more_hold P xs i d h before here b k = elim (or_cases (has (take i xs) b) (nat_eq b (get_or xs i d)) (sym (has_more xs i d b h) ∙ k)) [
   | inl there ↦ before b there

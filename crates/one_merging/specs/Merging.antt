@@ -31,7 +31,7 @@ AreShownSuspects s q d among = AreSuspects s (shown_blocks q d) among
 abbrev pub inhabited : Quotient → Drafted → ℕ
 inhabited q d = count_below (length (shown_labels q d)) (has_member (shown_blocks q d))
 
--- Merging so far: pairs were merged, the tables fit, and of each two blocks that can be merged one is among these.
+-- After some merges: pairs were merged, the tables fit, and of each two blocks that can be merged one is among these.
 pub record IsMerging (s : Shape) (first block : List (Option ℕ)) (labels : ℕ → Option ℕ) (joined : ℕ → ℕ → Bool) (suspects : List ℕ) : Type 0 where
   pub merges : Merges s first block
   pub viewed : IsViewed s block labels joined

@@ -93,7 +93,7 @@ fn merge_pairs(
 /// taken, or else the one with the fewest. Where it has no other parent than itself, it is compared with the blocks noted for its
 /// label, with those that the draft touches, and with its children where it is a parent of itself.
 ///
-/// O(u k p log p) expected, where u blocks are looked at, which are the suspects, and after each merge the merged block and the
+/// Expected O(u k p log p), where u blocks are looked at, which are the suspects, and after each merge the merged block and the
 /// children of the smaller one, each is compared with k blocks, and has p parents, at most; and what `join` takes for each merge.
 /// Most comparisons end at another label or at the first parent that differs. The memory is that of `join`, and O(u + k + p).
 pub fn merge(

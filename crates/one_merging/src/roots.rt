@@ -37,7 +37,7 @@ impl Model for Roots {
 }
 
 impl Roots {
-    /// Those of a base. O(b) expected for b block numbers, where no two blocks can be merged: then a label has two of them at most, one
+    /// Those of a base. Expected O(b) for b block numbers, where no two blocks can be merged: then a label has two of them at most, one
     /// of which is its own parent. It takes O(l) memory for l labels with such blocks.
     pub fn of(alloc: Global, base: &Summary) -> Result<Roots, Memory>
         ensures covers { IfOk result (CoversBase base.now) }
@@ -66,7 +66,7 @@ impl Roots {
         Ok(())
     }
 
-    /// Notes those that a draft brings, so that those that the base has once it is settled are noted. O(t + p + r) expected for t blocks
+    /// Notes those that a draft brings, so that those that the base has once it is settled are noted. Expected O(t + p + r) for t blocks
     /// that the draft touches, with p parents in the base and as drafted, and r blocks that are noted for a label of such a block. It takes
     /// 4 to 8 bytes for each touched block, and as much for each that is noted.
     pub fn note_touched(

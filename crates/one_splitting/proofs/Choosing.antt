@@ -1,4 +1,4 @@
--- The next group has its goal: what holds of all goals so far.
+-- The next group has its goal: what holds of all that have one.
 use Rattle.std.proofs.Common.{◌≡◌, ℕ, ◌+◌, ◌<◌, List, [], ◌∷◌, ◌++◌, length, Option, Some, None, IsSome, is_some, refl, sym, ◌∙◌, ap, subst, arith, inl, inr, false, true≢false, option_to_list}
 use Rattle.std.specs.Prelude.{slice_get, nat_eq, ◌||◌}
 use Rattle.std.specs.List.{IsDistinct}

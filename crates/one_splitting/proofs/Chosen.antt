@@ -7,7 +7,7 @@ use Rattle.std.proofs.lemmas.List.{get_or_push, get_or_append_left, get_or_past,
 use Rattle.px_spec.specs.Members.{has}
 use Rattle.one_splitting.specs.NodeGoals.{BeginsAt, goal_at, IsCountedWhole, AreGoing, StaysIf, GoesIf, GoalsAreBlocks}
 
--- the blocks in which groups stay, so far
+-- the blocks in which groups stay, of those that were looked at
 pub record AreNoted (keys : List (List ℕ)) (goals : List (Option ℕ)) (stays : List ℕ) : Type 0 where
   pub into : (j own : ℕ) → j < length goals → goal_at goals j ≡ None → BeginsAt keys j own → has stays own ≡ true
   pub from : (own : ℕ) → has stays own ≡ true → (j : ℕ) × (j < length goals) × (goal_at goals j ≡ None) × BeginsAt keys j own

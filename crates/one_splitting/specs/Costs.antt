@@ -11,7 +11,7 @@ move_cost a n = parents_cost a n + children_cost a n
 abbrev pub round_cost : Pending → ℕ → ℕ
 round_cost a n = 2 * parents_cost a n + children_cost a n
 
--- What the rounds have cost so far, where the nodes inside weigh w: at most so much for each block that was made; once nothing is
+-- What the rounds have cost, where the nodes inside weigh w: at most so much for each block that was made; once nothing is
 -- to be looked at, for one more, and then there is an edge inside.
 pub data HasCost (w made spent : ℕ) (next : List ℕ) : Type 0 where
   going : spent ≤ made * (3 * w + 3) → HasCost w made spent next

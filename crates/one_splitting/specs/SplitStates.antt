@@ -11,7 +11,7 @@ use Rattle.upkeep_spec.specs.Rounds.{IsRefinement, SameBut}
 abbrev pub either : (ℕ → Bool) → (ℕ → Bool) → ℕ → Bool
 either f g n = f n || g n
 
--- Targets so far: the partition is stable but maybe at the targets that are left and the nodes that are looked at next, and for
+-- After some targets: the partition is stable but maybe at the targets that are left and the nodes that are looked at next, and for
 -- the rest as for `IsSplitInside`.
 pub record IsParting (s : Shape) (inside : ℕ → Bool) (first p : List (Option ℕ)) (next : List ℕ) (rest : ℕ → Bool) (made : List ℕ) : Type 0 where
   pub stable : StableBut s p (either (has next) rest)

@@ -150,8 +150,7 @@ fn part_all<L: Ledger>(
 /// It takes at most `4 * ((r + 1) * w)` steps, where the set has `r` nodes and weighs `w`: one for each of them, one
 /// for each parent and one for each child. After `Memory`, also past 2^31 blocks, the draft is good for `clear` alone.
 ///
-/// O((r + 1) w log w + b) expected at most, with b numbers of blocks, among which the next free ones are looked for. The draft grows by
-/// what moves: O(w) memory.
+/// Expected O((r + 1) w log w) at most. The draft grows by what moves: O(w) memory.
 pub fn split<L: Ledger>(
     alloc: Global,
     base: &Summary,

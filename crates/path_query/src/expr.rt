@@ -27,6 +27,11 @@ pub enum ExprError {
 }
 
 /// A path expression that some text spells, seen as its tree.
+///
+/// The literals below those who are known, near or far:
+///
+///     let expr = PathExpr::parse(alloc, b"knows//literal", &Limits::program())?;
+///     let nodes = eval(alloc, &graph.view(&mut steps), graph.labels(), &expr)?;
 #[derive(Drop)]
 pub struct PathExpr {
     tree: Expr,

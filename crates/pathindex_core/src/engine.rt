@@ -37,6 +37,14 @@ use std::sync::ledger::{Blank, Ledger};
 /// which each index is then built, and from there on changes go through the engine.
 ///
 /// No contract can name what a box means in a field, so the clauses name the engine's two fields, through `engine_seen`.
+///
+/// An edge is added, and the 1-index is asked:
+///
+///     engine.open(graph, Limits::program(), 2)?;
+///     engine.update(alloc, Change::Link(3, 0))?;
+///     let answer = engine.path(alloc, Via::One, &expr, &mut steps)?;
+///
+/// `crates/library_use` is a whole caller.
 #[derive(Drop)]
 pub struct Engine {
     boxes: Vec<Box<dyn PathIndex>>,
@@ -84,7 +92,7 @@ impl Engine {
     /// out, the graph is dropped, and the engine isn't open.
     ///
     /// O(n + m) for n node numbers and m edges, and what the build of each box takes. With all indexes of this library that is
-    /// O((k + r) (n + m log d)) expected in all, where a node has at most d neighbours on a side, and the 1-index and the forward and
+    /// expected O((k + r) (n + m log d)) in all, where a node has at most d neighbours on a side, and the 1-index and the forward and
     /// backward index take r rounds; they take O(k (n + m)) memory, for a k of 1 at least.
     pub fn open(&mut self, graph: Graph, limits: Limits, k: u32) -> Result<(), Memory>
         requires closed { opened_of self.old.state ≡ None }
@@ -101,7 +109,7 @@ impl Engine {
         Ok(())
     }
 
-    /// The graph. O(1).
+    /// The graph. O(1), no memory.
     pub fn graph(&self) -> &Graph
         requires open { IsSome (opened_of self.now.state) }
         ensures { result.now.graph ≡ graph_in (opened_of self.now.state) }

@@ -9,7 +9,7 @@ pub record ShelfInMemory : Type 0 where
   pub left : Option (List ℕ)
   -- the most bytes that one read moves
   pub piece : ℕ
-  -- the numbers of the calls that fail, from 1 on, the calls so far, and the faults among them
+  -- the numbers of the calls that fail, from 1 on, the calls that were made, and the faults among them
   pub failing : List ℕ
   pub calls : ℕ
   pub faults : ℕ
@@ -19,7 +19,7 @@ pub record SinkInMemory : Type 0 where
   -- the most bytes that are written in all, and by one call
   pub room : ℕ
   pub piece : ℕ
-  -- the numbers of the calls that fail, from 1 on, the calls so far, and the faults among them
+  -- the numbers of the calls that fail, from 1 on, the calls that were made, and the faults among them
   pub failing : List ℕ
   pub calls : ℕ
   pub faults : ℕ

@@ -9,7 +9,7 @@ pub record Reading : Type 0 where
   -- the line, without its end, and its number from 1 on; 0 before the first
   pub line : List ℕ
   pub number : ℕ
-  -- the bytes of the lines so far, with their ends
+  -- the bytes of the lines that were taken, with their ends
   pub taken : ℕ
   -- the most bytes of a line without its end, and of a text
   pub line_limit : ℕ

@@ -12,6 +12,14 @@ use std::marker::Model;
 /// A set of numbers below a size, seen as that size and the list of its members, rising.
 ///
 /// It takes a byte for each number below the size.
+///
+/// The members, rising:
+///
+///     let mut next = nodes.next_from(0);
+///     while let Some(node) = next {
+///         take(node);
+///         next = nodes.next_from(node + 1);
+///     }
 #[derive(Drop)]
 pub struct Bits {
     flags: Vec<bool>,
@@ -30,7 +38,7 @@ impl Model for Bits {
 }
 
 impl Bits {
-    /// The empty set below `size`, which is any number. O(size), and a byte for each number below the size.
+    /// The empty set below `size`, which is any number. O(size); it takes a byte for each number below the size.
     pub fn new(alloc: Global, size: u32) -> Result<Bits, Memory>
         ensures { IfOk result (λ b. b ≡ record { size = size; members = [] }) }
     {
@@ -38,7 +46,7 @@ impl Bits {
         Ok(Bits { flags, count: 0 })
     }
 
-    /// What each member is below. O(1).
+    /// What each member is below. O(1), no memory.
     pub fn size(&self) -> u32
         ensures size { result ≡ self.now.size }
         ensures rising { IsStrictlyIncreasing self.now.members }
@@ -48,14 +56,14 @@ impl Bits {
         self.flags.len() as u32
     }
 
-    /// Whether the number is a member; false from the size on. O(1).
+    /// Whether the number is a member; false from the size on. O(1), no memory.
     pub fn contains(&self, n: u32) -> bool
         ensures { result ≡ has self.now.members n }
     {
         (n as usize) < self.flags.len() && self.flags[n as usize]
     }
 
-    /// How many members there are. O(1).
+    /// How many members there are. O(1), no memory.
     pub fn count(&self) -> u32
         ensures count { result ≡ length self.now.members }
         ensures rising { IsStrictlyIncreasing self.now.members }
@@ -78,7 +86,7 @@ impl Bits {
         }
     }
 
-    /// Makes `n` a member. O(1).
+    /// Makes `n` a member. O(1), no memory.
     pub fn insert(&mut self, n: u32)
         requires { n < self.old.size }
         ensures size { self.new.size ≡ self.old.size }
@@ -92,7 +100,7 @@ impl Bits {
         self.count += 1;
     }
 
-    /// Makes `n` no member. O(1).
+    /// Makes `n` no member. O(1), no memory.
     pub fn remove(&mut self, n: u32)
         requires { n < self.old.size }
         ensures size { self.new.size ≡ self.old.size }

@@ -15,6 +15,12 @@ use std::alloc::Global;
 use std::marker::Model;
 
 /// Files in memory, seen as what they hold, how far the open one was read, and which calls fail.
+///
+/// A shelf with one file, of which no call fails:
+///
+///     let mut files = Vec::new(alloc);
+///     files.push((name, bytes))?;
+///     let shelf = MemShelf::new(files, 4096, Vec::new(alloc));
 #[derive(Drop)]
 pub struct MemShelf {
     files: Vec<(Text, Vec<u8>)>,

@@ -156,6 +156,14 @@ fn take_line<H: Shelf>(
 /// A line ends at LF, at CR LF, which is one end, or at a CR that no LF follows. The last line needs
 /// no end, and nothing after the last end is no line. All lines are taken into one buffer, and reads
 /// fill one block of 64 KiB.
+///
+/// The lines of a file, in order:
+///
+///     let mut reader = LineReader::new(alloc, 1 << 20, 1 << 26)?;
+///     shelf.open("name")?;
+///     while reader.next(&mut shelf)? {
+///         take(reader.number(), reader.line());
+///     }
 #[derive(Drop)]
 pub struct LineReader {
     window: Window,

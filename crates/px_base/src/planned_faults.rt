@@ -10,9 +10,9 @@ use crate::Failed;
 pub(crate) struct PlannedFaults {
     /// The numbers of the calls that fail, from 1 on.
     pub(crate) numbers: Vec<u32>,
-    /// The calls so far.
+    /// The calls that were made.
     pub(crate) calls: u64,
-    /// The faults so far.
+    /// The faults among them.
     pub(crate) faults: u64,
 }
 

@@ -6,6 +6,11 @@ use std::sync::ledger::{Blank, Book, Ledger, Share};
 
 /// How many steps were taken, seen as that number. It is known to the proofs alone: it takes no
 /// bytes, and counting costs nothing when the program runs.
+///
+/// A caller whose ledger is `L` is given a `Blank`, and begins a count with it:
+///
+///     let mut steps = Steps::<L>::new(blank);
+///     let found = graph.has_edge(u, v, &mut steps);
 #[derive(Drop)]
 pub struct Steps<L: Ledger> {
     book: Book<L>,

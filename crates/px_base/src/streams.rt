@@ -26,7 +26,7 @@ pub trait Shelf {
     ghost faults: { Self → ℕ };
 
     /// Opens the file of that name in place of the open one. `Ok(false)`: there is none. Where it
-    /// fails, the count of faults rises.
+    /// fails, the count of faults rises. O(1) beside what the system takes, no memory.
     fn open(&mut self, name: &str) -> Result<bool, Failed>
         ensures files { files self.new ≡ files self.old }
         ensures found { IfOk result (λ found. Finds (files self.old) name.now found (left self.new)) }
@@ -34,7 +34,8 @@ pub trait Shelf {
         ensures cause { HasCause (faults self.old) (faults self.new) result };
 
     /// Reads some of the next bytes of the open file into the front of `buf`, and answers how many;
-    /// 0 only at the end. Where it fails, none are read, and the count of faults rises.
+    /// 0 only at the end. Where it fails, none are read, and the count of faults rises. O(r) for r bytes
+    /// read, no memory.
     fn read(&mut self, buf: &mut [u8]) -> Result<usize, Failed>
         requires room { 0 < length buf.old }
         requires open { IsTrue (is_open self.old) }
@@ -56,7 +57,7 @@ pub trait Sink {
     ghost faults: { Self → ℕ };
 
     /// Writes some of the bytes, from the first on, and answers how many. Where it fails, none are
-    /// written, and the count of faults rises.
+    /// written, and the count of faults rises. O(w) for w bytes written; a sink in memory grows by as many.
     fn write(&mut self, piece: &[u8]) -> Result<usize, Failed>
         requires { 0 < length piece.now }
         ensures taken { IfOk result (λ n. (0 < n) × (n ≤ length piece.now)) }

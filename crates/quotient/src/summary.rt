@@ -20,6 +20,11 @@ use std::marker::Model;
 /// blocks, which is the number of edges from a member of the first to a member of the second. As a
 /// graph its nodes are the blocks, and edges join the pairs that have support: the index graph of the
 /// partition.
+///
+/// The index graph of a partition, and how many edges lead from block 0 to block 1:
+///
+///     let summary = Summary::of(alloc, blocks, &graph.view(&mut steps))?;
+///     let edges = summary.support(0, 1);
 #[derive(Drop)]
 pub struct Summary {
     pub(crate) blocks: Blocks,

@@ -19,6 +19,12 @@ use std::marker::Model;
 /// labels must stay while something is drafted, and what is shown follows the base's blocks and supports.
 ///
 /// It takes memory for each block, move and pair that is drafted.
+///
+/// A node moves to a block of its own once the draft is settled:
+///
+///     let mut draft = Draft::new(alloc)?;
+///     let block = draft.new_block(&base, label)?;
+///     draft.put(&base, node, Some(block))?;
 #[derive(Drop)]
 pub struct Draft {
     pub(crate) added: Added,

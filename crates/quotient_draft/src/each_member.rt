@@ -34,8 +34,8 @@ impl<'a> Model for DraftMembers<'a> {
 }
 
 impl Draft {
-    /// The members of a block as shown, each once, in no stated order; none where the number is no block. It takes no memory. O(1)
-    /// to begin, and O(m + d) expected for all, of m members in the base and d nodes of which moves are drafted.
+    /// The members of a block as shown, each once, in no stated order; none where the number is no block. O(1) to begin, and
+    /// expected O(m + d) for all, of m members in the base and d nodes of which moves are drafted; no memory.
     pub fn members<'a>(&'a self, base: &'a Summary, b: u32) -> DraftMembers<'a>
         requires over { IsOver base.now.blocks.block_of base.now.blocks.labels self.now }
         ensures members { Lists (λ n. is_this b (at (shown_blocks base.now self.now) n)) result }

@@ -11,8 +11,8 @@ use crate::near::{base_children, base_parents};
 use quotient::Summary;
 
 impl Draft {
-    /// The least block from `from` on that has support to `b` as shown; none where there is none. It takes no memory. O(p)
-    /// expected, of p parents of `b` in the base and drafted pairs that end there.
+    /// The least block from `from` on that has support to `b` as shown; none where there is none. Expected O(p), of p
+    /// parents of `b` in the base and drafted pairs that end there; no memory.
     pub fn next_parent(&self, base: &Summary, b: u32, from: u32) -> Option<u32>
         ensures next { IsNext (λ a. nat_lt 0 (shown_support base.now self.now a b)) from result }
     {
@@ -20,8 +20,8 @@ impl Draft {
         next_parent_in(self.changed.parents(b), base, &self.changed, b, from, first)
     }
 
-    /// The least block from `from` on to which `a` has support as shown; none where there is none. It takes no memory. O(c)
-    /// expected, of c children of `a` in the base and drafted pairs that begin there.
+    /// The least block from `from` on to which `a` has support as shown; none where there is none. Expected O(c), of c
+    /// children of `a` in the base and drafted pairs that begin there; no memory.
     pub fn next_child(&self, base: &Summary, a: u32, from: u32) -> Option<u32>
         ensures next { IsNext (λ b. nat_lt 0 (shown_support base.now self.now a b)) from result }
     {

@@ -150,7 +150,7 @@ last_of_empty old new status Last r = subst (λ p. Last p.state) (only r.is_run.
     only [] left printed last e t = t.1
     only (l ∷ ls) left printed last e t = cc
 
--- so far the end of a script prints nothing
+-- the end of a script prints nothing
 front_at_end : (p : Progress) (front : List ℕ) → PrintsFront (rules_for Whole) p [] front → front ≡ []
 front_at_end p front (inl e) = e
 front_at_end p front (inr (rest, inl t)) = absurd t

@@ -92,7 +92,7 @@ TakesLines rules p [] printed q = (printed ≡ []) × (q ≡ p)
 TakesLines rules p (l ∷ ls) printed q = (text : List ℕ) × (rest : List ℕ) × (mid : Progress)
     × TakesLine rules p l text mid × TakesLines rules mid ls rest q × (printed ≡ text ++ rest)
 
--- what the end of the script prints: nothing so far
+-- what the end of the script prints: nothing
 abbrev pub end_text : Progress → List ℕ
 end_text p = []
 

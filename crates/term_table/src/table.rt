@@ -51,6 +51,14 @@ impl Hint {
 ///
 /// A term takes its bytes, 32 for its entry and 4 to 8 for its bucket. There are fewer than 2^31 terms, with fewer than 2^32
 /// bytes together.
+///
+/// A term is hashed once, and then looked for and put in:
+///
+///     let mut terms = TermTable::new(alloc)?;
+///     let term = HashedTerm::new(term);
+///     if terms.find_hashed(&term).is_none() {
+///         terms.insert(&term, node)?;
+///     }
 #[derive(Drop)]
 pub struct TermTable {
     arena: Vec<u8>,
@@ -81,7 +89,7 @@ impl TermTable {
         })
     }
 
-    /// How many terms there are. O(1).
+    /// How many terms there are. O(1), no memory.
     pub fn len(&self) -> u32
         ensures { result ≡ length self.now }
     {

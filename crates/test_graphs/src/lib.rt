@@ -42,7 +42,8 @@ fn put_edge<L: Ledger>(
 }
 
 /// A graph whose nodes have these labels, a byte each, and these edges. It fails where an edge comes twice or one of its ends is no
-/// node. O(nodes + edges) but for the reads of `Graph::has_edge`.
+/// node. O(n + e) for n nodes and e edges, but for the reads of `Graph::has_edge`; it takes
+/// the memory of the graph.
 pub fn drawn<L: Ledger>(
     alloc: Global,
     labels: &[u8],

@@ -32,7 +32,7 @@ impl Model for SpareTexts {
 }
 
 impl SpareTexts {
-    /// No texts. It takes no memory. O(1).
+    /// No texts. O(1), no memory.
     pub fn new(alloc: Global) -> SpareTexts {
         SpareTexts {
             alloc,
