@@ -72,7 +72,9 @@ impl Loader {
             subject: self
                 .terms
                 .find_near(&triple.subject, hints.map(|h| h.subject)),
-            predicate: self.predicates.find(&triple.predicate),
+            predicate: self
+                .predicates
+                .find_near(&triple.predicate, hints.and_then(|h| h.predicate)),
             object: self
                 .terms
                 .find_near(&triple.object, hints.map(|h| h.object)),

@@ -1,5 +1,5 @@
 // The predicates of the triples that are loaded.
-ghost use Rattle.std.specs.Prelude.{◌≡◌, ◌<◌, ◌^◌, ◌++◌, ◌∷◌, [], length, position, bytes_eq, Some, None, OnOk, IfOk, IfSome, false};
+ghost use Rattle.std.specs.Prelude.{◌≡◌, ◌<◌, ◌^◌, ◌++◌, ◌∷◌, [], length, position, bytes_eq, Some, None, OnOk, IfOk, IfSome, false, true};
 ghost use Rattle.std.specs.List.{list_any};
 ghost use Rattle.graph_load.specs.TripleGraphs.{predicate_label};
 ghost use Rattle.graph_load.specs.Places.{predicate_at, with_predicate};
@@ -61,6 +61,28 @@ impl Predicates {
     {
         let place = self.table.get_index_of(iri)?;
         Some(place as u32)
+    }
+
+    // Whether the predicate stands at that place.
+    fn is_at(&self, place: u32, iri: &Text) -> bool
+        ensures { result ≡ true → position (bytes_eq iri.now) self.now ≡ Some place }
+    {
+        // The predicates are distinct, which this call says.
+        let _known = self.table.len();
+        match self.table.get_index(place as usize) {
+            Some((text, _)) => *text == *iri,
+            None => false,
+        }
+    }
+
+    /// The place of the predicate. A place where it may stand is tried first.
+    pub(crate) fn find_near(&self, iri: &Text, hint: Option<u32>) -> Option<u32>
+        ensures { result ≡ position (bytes_eq iri.now) self.now }
+    {
+        match hint {
+            Some(place) if self.is_at(place, iri) => Some(place),
+            _ => self.find(iri),
+        }
     }
 
     /// The change that adds the node of a triple with the predicate at that place.

@@ -18,7 +18,7 @@ use triples_read::Term;
 #[derive(Clone, Copy)]
 pub(crate) struct Hints {
     pub(crate) subject: Hint,
-    predicate: Option<u32>,
+    pub(crate) predicate: Option<u32>,
     pub(crate) object: Hint,
 }
 
