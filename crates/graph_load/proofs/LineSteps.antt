@@ -24,7 +24,7 @@ use Rattle.graph_load.specs.Loads.{Outcome, loaded, syntax, limit, Place, at_sta
 use Rattle.graph_load.specs.Loaders.{load_state, Holds, with_new, IsSoundLoader, IsTaken}
 use Rattle.graph_load.specs.LoadSteps.{LoadsTold, LoadsAhead, TellsOutcome, place, OnLines, at_line, then_load, with_one, with_all, LoadsBehind, LoadsThen, AddsLine, ReadsLines, IsNearer, AreLoaded, Stops, OneStops}
 
--- what becomes of the first line decides
+-- the outcome of the first line decides
 follows : (limits : Limits) (p : Place) (l : Line) (before after : Option (List ℕ)) (q : Place) (o : Outcome) → IsFirst l before after → IsWithinFile p l
     → ((rest : List Line) → LoadsFrom limits rest q o → LoadsLine limits p l (LoadsFrom limits rest) o) → LoadsAhead limits after q o → LoadsAhead limits before p o
 follows limits p l None after q o first within step ahead = tt
@@ -222,7 +222,7 @@ module _ (limits : Limits) (ws : List Waiting) (n : ℕ) (old r : Loader) (left 
               ∙ ap (λ x. then_load (at_line w.line x) (with_all limits (drop (n + 1) ws))) (untaken d.0 d.1).1,
         )
 
--- what comes of a batch comes of what lay ahead
+-- the outcome of a batch is one of what lay ahead
 pub batch_leads : (limits : Limits) (r q : Reading) (before after : Option (List ℕ)) (waited waits : List Waiting) (next : Next) (l : LoadState) (x : Result LoadState ℕ) (Q : Outcome → Type 0)
     → waited ≡ [] → ReadsLines r waited before next q waits after → with_all limits waits l ≡ x → ((o : Outcome) → LoadsAhead limits before (place r l) o → Q o)
     → (o : Outcome) → LoadsThen limits next q after x o → Q o

@@ -122,7 +122,7 @@ impl Loader {
         Ok(Found { place, number })
     }
 
-    // Where the term stands, which becomes a node where it is none. It was looked up, and `found` came of that.
+    // Where the term stands, which becomes a node where it is none. `found` is what a look-up gave.
     fn need(
         &mut self,
         alloc: Global,

@@ -1,5 +1,5 @@
-// Triples are looked up ahead, a batch at once, so that the processor waits for the memory of all of them together. What
-// comes of it is hints, and no contract speaks of them.
+// Triples are looked up ahead, a batch at once, so that the processor waits for the memory of all of them together. This
+// gives hints, and no contract speaks of them.
 ghost use Rattle.std.specs.Prelude.{◌≡◌, ◌<◌};
 
 use crate::batch::Waiting;
