@@ -30,7 +30,7 @@ pub record AreNumbered (own : ℕ → Option ℕ) (base : List (Option ℕ)) (ne
       → (k : ℕ) × (numbers : List ℕ) × (at next n ≡ Some k) × (key k ≡ Some numbers) × IsKey own base near n numbers
   pub inhabited : (k : ℕ) → IsSome (key k) → (n : ℕ) × (at next n ≡ Some k)
 
--- The blocks of next are numbered by keys over both sides: nodes are parted by their parents, what comes of that by their
+-- The blocks of next are numbered by keys over both sides: nodes are parted by their parents, and these parts by their
 -- children, both times with the blocks of one partition, and a block's key is that of the second step.
 pub record AreNumberedTwice (block : List (Option ℕ)) (parents children : ℕ → ℕ → Bool) (next : List (Option ℕ)) (key : ℕ → Option (List ℕ)) : Type 0 where
   pub parted : List (Option ℕ)
