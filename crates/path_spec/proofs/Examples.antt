@@ -5,6 +5,7 @@ use Rattle.px_spec.specs.Shapes.{Shape}
 use Rattle.path_spec.specs.Trees.{star, plus, opt, child, below, Expr, only, or, last, then, Item, once, signed, Atom, label, any, group}
 use Rattle.path_spec.specs.Matches.{Word, Matches}
 use Rattle.path_spec.specs.Tests.{matches}
+use Rattle.path_spec.specs.Trimmed.{trimmed}
 use Rattle.path_spec.specs.Answers.{IsAnswer}
 use Rattle.path_spec.specs.Longest.{longest}
 use Rattle.path_spec.specs.Spelling.{canonical}
@@ -144,6 +145,31 @@ longest_star = refl
 
 longest_below : longest a_below_c ≡ None
 longest_below = refl
+
+-- _*/a/_+ has the answers of a/_+, and so has b*//_?/a+/_+
+abbrev a_some : Expr
+a_some = only (then (once a) child (last (signed any plus)))
+
+trimmed_any : trimmed (only (then (signed any star) child (then (once a) child (last (signed any plus))))) ≡ a_some
+trimmed_any = refl
+
+trimmed_more : trimmed (only (then (signed b star) below (then (signed any opt) child (then (signed a plus) child (last (signed any plus)))))) ≡ a_some
+trimmed_more = refl
+
+-- an item that reads a label stays, once
+trimmed_label : trimmed a_some ≡ a_some
+trimmed_label = refl
+
+trimmed_plus : trimmed (only (then (signed b plus) child (last (once a)))) ≡ only (then (once b) child (last (once a)))
+trimmed_plus = refl
+
+-- an item stays too where all behind it may be empty
+trimmed_star : trimmed (only (then (signed b star) child (last (signed a star)))) ≡ only (then (signed b opt) child (last (signed a star)))
+trimmed_star = refl
+
+-- each alternative by itself, and none in parentheses
+trimmed_or : trimmed (or (then (signed any star) child (last (once c))) (one (once (group ab_star)))) ≡ or (last (once c)) (one (once (group ab_star)))
+trimmed_or = refl
 
 -- parentheses are kept
 canonical_star : canonical ab_star ≡ codes "(a/b)*"

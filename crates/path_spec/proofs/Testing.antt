@@ -82,14 +82,14 @@ mutual
   says (only s) = says_seq s
   says (or s e) = says_either (seq_matches s) (matches e) (MatchesSeq s) (Matches e) (says_seq s) (says e)
 
-  says_seq : (s : Seq) → Says (seq_matches s) (MatchesSeq s)
+  pub says_seq : (s : Seq) → Says (seq_matches s) (MatchesSeq s)
   says_seq (last i) = says_item i
   says_seq (then i child s) = says_then (item_matches i) (seq_matches s) (MatchesItem i) (MatchesSeq s) (says_item i) (says_seq s)
   says_seq (then i below s) =
       says_then (item_matches i) (splits (λ v. true) (seq_matches s)) (MatchesItem i) (Then AnyWord (MatchesSeq s)) (says_item i)
       (says_then (λ v. true) (seq_matches s) AnyWord (MatchesSeq s) says_any_word (says_seq s))
 
-  says_item : (i : Item) → Says (item_matches i) (MatchesItem i)
+  pub says_item : (i : Item) → Says (item_matches i) (MatchesItem i)
   says_item (once a) = says_atom a
   says_item (signed a star) = says_pieces (atom_matches a) (MatchesAtom a) (says_atom a)
   says_item (signed a plus) =

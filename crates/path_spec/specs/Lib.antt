@@ -1,6 +1,7 @@
 pub mod Trees
 pub mod Matches
 pub mod Tests
+pub mod Trimmed
 pub mod Answers
 pub mod Parts
 pub mod Longest

@@ -1,0 +1,29 @@
+-- What is left of an expression at its front. A walk may begin at any node, so the same nodes are answers.
+use Rattle.std.specs.Prelude.{[], cond}
+use Rattle.path_spec.specs.Trees.{star, plus, opt, Expr, only, or, Seq, last, then, Item, once, signed}
+use Rattle.path_spec.specs.Tests.{seq_matches, item_matches}
+
+-- a first item comes once at most: what it matches again is left to what lies in front of the walk
+abbrev pub trimmed_item : Item → Item
+trimmed_item (once a) = once a
+trimmed_item (signed a star) = signed a opt
+trimmed_item (signed a plus) = once a
+trimmed_item (signed a opt) = signed a opt
+
+abbrev pub first_trimmed : Seq → Seq
+first_trimmed (last i) = last (trimmed_item i)
+first_trimmed (then i p s) = then (trimmed_item i) p s
+
+-- the sequence from the first item on that the empty word doesn't match
+abbrev pub reading : Seq → Seq
+reading (last i) = last i
+reading (then i p s) = cond (item_matches i []) (reading s) (then i p s)
+
+-- where there is such an item, those in front of it are left out
+abbrev pub trimmed_seq : Seq → Seq
+trimmed_seq s = first_trimmed (cond (seq_matches s []) s (reading s))
+
+-- each alternative by itself; what stands in parentheses stays
+abbrev pub trimmed : Expr → Expr
+trimmed (only s) = only (trimmed_seq s)
+trimmed (or s e) = or (trimmed_seq s) (trimmed e)
