@@ -14,7 +14,8 @@ use Rattle.path_expr.specs.declared.tree.Sep.TheVariants.{Child, Below}
 use Rattle.path_expr.specs.declared.tree.Step.{Step}
 use Rattle.path_expr.specs.declared.tree.Seq.{Seq}
 use Rattle.path_expr.specs.Views.{sep_of, item_of, seq_of, seq_from, expr_from}
-use Rattle.path_expr.specs.Compiled.{Grows, HasFork, HasSep, StandMore, StandSep, StandRest}
+use Rattle.path_spec.specs.Trimmed.{trimmed_seq, trimmed}
+use Rattle.path_expr.specs.Compiled.{Grows, HasFork, HasSep, expr_by, StandMore, StandSep, StandRest}
 
 pub grows_same : (a : List State) → Grows a a
 grows_same a = record { longer = omega arith; kept = λ k s e. e }
@@ -60,11 +61,11 @@ module _ (texts : List (List ℕ)) where
       by Child h = seq_on (seq_from (item_of s.item) ss) p q low low after next (omega arith) g h
       by Below (x, y, fork, more, la, lx, hs) = (x, y, g.kept after (Fork x y) fork, g.kept x (Any after) more, la, lx, seq_on (seq_from (item_of s.item) ss) p q low low y next (omega arith) g hs)
 
-  pub more_on : (ss : List Seq) (p q : List State) (low next : ℕ) (behind : Option ℕ) → Grows p q → StandMore texts p low ss next behind → StandMore texts q low ss next behind
-  more_on [] p q low next behind g h = h
-  more_on (s ∷ ss) p q low next behind g (i, e, l, h) =
+  pub more_on : (f : tree.Seq → tree.Seq) (ss : List Seq) (p q : List State) (low next : ℕ) (behind : Option ℕ) → Grows p q → StandMore texts p low f ss next behind → StandMore texts q low f ss next behind
+  more_on f [] p q low next behind g h = h
+  more_on f (s ∷ ss) p q low next behind g (i, e, l, h) =
       let longer = g.longer in
-      (i, e, omega arith, expr_on (expr_from (seq_of s) ss) p q low low i next (omega arith) g h)
+      (i, e, omega arith, expr_on (expr_by f (seq_of s) ss) p q low low i next (omega arith) g h)
 
   -- an item in front of steps
   pub item_then : (a : tree.Item) (ss : List Step) (p : List State) (low first next after : ℕ) → StandsItem texts (λ k. slice_get p k) a low first after → StandRest texts p low ss next after
@@ -86,15 +87,15 @@ module _ (texts : List (List ℕ)) where
       by Below (x, fork, more, la, lx) = (x, first, fork, more, omega arith, omega arith, seq_on (seq_from (item_of s.item) ss) p q low low first next (omega arith) g h)
 
   -- alternatives in front of others
-  pub fork_then : (s : tree.Seq) (ss : List Seq) (p q : List State) (low first next : ℕ) (behind : Option ℕ) (i : ℕ) → low ≤ length p → Grows p q → HasFork p q first behind i
-      → StandsSeq texts (λ k. slice_get p k) s low first next → StandMore texts p low ss next behind → Stands texts (λ k. slice_get q k) (expr_from s ss) low i next
-  fork_then s [] p q low first next behind i le g has h none =
+  pub fork_then : (f : tree.Seq → tree.Seq) (s : tree.Seq) (ss : List Seq) (p q : List State) (low first next : ℕ) (behind : Option ℕ) (i : ℕ) → low ≤ length p → Grows p q → HasFork p q first behind i
+      → StandsSeq texts (λ k. slice_get p k) (f s) low first next → StandMore texts p low f ss next behind → Stands texts (λ k. slice_get q k) (expr_by f s ss) low i next
+  fork_then f s [] p q low first next behind i le g has h none =
       let e : i ≡ first = subst (λ b. HasFork p q first b i) none has in
-      subst (λ x. StandsSeq texts (λ k. slice_get q k) s low x next) (sym e) (seq_on s p q low low first next (omega arith) g h)
-  fork_then s (r ∷ rs) p q low first next behind i le g has h (j, some, l, k) =
-      let f : (slice_get q i ≡ Some (Fork first j)) × (length p ≤ i) = subst (λ b. HasFork p q first b i) some has in
-      let past : length p ≤ i = f.1 in
-      (first, j, f.0, omega arith, seq_on s p q low low first next (omega arith) g h, expr_on (expr_from (seq_of r) rs) p q low low j next (omega arith) g k)
+      subst (λ x. StandsSeq texts (λ k. slice_get q k) (f s) low x next) (sym e) (seq_on (f s) p q low low first next (omega arith) g h)
+  fork_then f s (r ∷ rs) p q low first next behind i le g has h (j, some, l, k) =
+      let fork : (slice_get q i ≡ Some (Fork first j)) × (length p ≤ i) = subst (λ b. HasFork p q first b i) some has in
+      let past : length p ≤ i = fork.1 in
+      (first, j, fork.0, omega arith, seq_on (f s) p q low low first next (omega arith) g h, expr_on (expr_by f (seq_of r) rs) p q low low j next (omega arith) g k)
 
   module _ (a : tree.Atom) (p0 p1 p2 p3 : List State) (fork first next : ℕ) (number : fork ≡ length p0) (pushed : p1 ≡ p0 ++ Fork next next ∷ [])
       (grows : Grows p1 p2) (written : p3 ≡ set p2 fork (Fork first next)) where
@@ -132,18 +133,18 @@ module _ (texts : List (List ℕ)) where
         atom_on a p1 p2 (length p0) first next (grows_push p1 p2 (Fork next first) pushed) h,
       )
 
-  pub alternatives : (s : tree.Seq) (ss : List Seq) (p0 p q : List State) (low first next : ℕ) (behind : Option ℕ) (i : ℕ) → low ≤ length p0 → Grows p0 p → Grows p q
-      → HasFork p q first behind i → StandsSeq texts (λ k. slice_get p k) s (length p0) first next → StandMore texts p0 low ss next behind
-      → Stands texts (λ k. slice_get q k) (expr_from s ss) low i next
-  alternatives s ss p0 p q low first next behind i le g g2 has h k =
+  pub alternatives : (f : tree.Seq → tree.Seq) (s : tree.Seq) (ss : List Seq) (p0 p q : List State) (low first next : ℕ) (behind : Option ℕ) (i : ℕ) → low ≤ length p0 → Grows p0 p → Grows p q
+      → HasFork p q first behind i → StandsSeq texts (λ k. slice_get p k) (f s) (length p0) first next → StandMore texts p0 low f ss next behind
+      → Stands texts (λ k. slice_get q k) (expr_by f s ss) low i next
+  alternatives f s ss p0 p q low first next behind i le g g2 has h k =
       let l = g.longer in
-      fork_then s ss p q low first next behind i (omega arith) g2 has (seq_on s p p (length p0) low first next le (grows_same p) h) (more_on ss p0 p low next behind g k)
+      fork_then f s ss p q low first next behind i (omega arith) g2 has (seq_on (f s) p p (length p0) low first next le (grows_same p) h) (more_on f ss p0 p low next behind g k)
 
-  pub more_then : (xs : List Seq) (s : Seq) (ss : List Seq) (p0 p q : List State) (low first next : ℕ) (behind : Option ℕ) (i : ℕ) → xs ≡ s ∷ ss → low ≤ length p0 → Grows p0 p → Grows p q
-      → HasFork p q first behind i → i < length q → StandsSeq texts (λ k. slice_get p k) (seq_of s) (length p0) first next → StandMore texts p0 low ss next behind
-      → StandMore texts q low xs next (Some i)
-  more_then xs s ss p0 p q low first next behind i e le g g2 has l h k =
-      subst (λ x. StandMore texts q low x next (Some i)) (sym e) (i, refl, l, alternatives (seq_of s) ss p0 p q low first next behind i le g g2 has h k)
+  pub more_then : (f : tree.Seq → tree.Seq) (xs : List Seq) (s : Seq) (ss : List Seq) (p0 p q : List State) (low first next : ℕ) (behind : Option ℕ) (i : ℕ) → xs ≡ s ∷ ss → low ≤ length p0 → Grows p0 p → Grows p q
+      → HasFork p q first behind i → i < length q → StandsSeq texts (λ k. slice_get p k) (f (seq_of s)) (length p0) first next → StandMore texts p0 low f ss next behind
+      → StandMore texts q low f xs next (Some i)
+  more_then f xs s ss p0 p q low first next behind i e le g g2 has l h k =
+      subst (λ x. StandMore texts q low f x next (Some i)) (sym e) (i, refl, l, alternatives f (seq_of s) ss p0 p q low first next behind i le g g2 has h k)
 
   pub rest_then : (xs : List Step) (s : Step) (ss : List Step) (p0 p q : List State) (low first after next after2 : ℕ) → xs ≡ s ∷ ss → low ≤ length p0 → Grows p0 p → Grows p q
       → HasSep s.sep p q first after2 → StandsItem texts (λ k. slice_get p k) (item_of s.item) (length p0) first after → StandRest texts p0 low ss next after
@@ -158,6 +159,15 @@ module _ (texts : List (List ℕ)) where
       → StandsItem texts (λ k. slice_get p k) a (length p0) first after → StandRest texts p0 low ss next after → StandsSeq texts (λ k. slice_get p k) (seq_from a ss) low first next
   whole_seq a ss p0 p low first after next le g h k =
       item_then a ss p low first next after (item_on a p p (length p0) low first after le (grows_same p) h) (rest_on ss p0 p low next after g k)
+
+-- as they are, the alternatives are the expression's
+pub expr_same : (s : tree.Seq) (ss : List Seq) → expr_by (λ r. r) s ss ≡ expr_from s ss
+expr_same s [] = refl
+expr_same s (r ∷ rs) = ap (tree.or s) (expr_same (seq_of r) rs)
+
+pub expr_trimmed : (s : tree.Seq) (ss : List Seq) → expr_by trimmed_seq s ss ≡ trimmed (expr_from s ss)
+expr_trimmed s [] = refl
+expr_trimmed s (r ∷ rs) = ap (tree.or (trimmed_seq s)) (expr_trimmed (seq_of r) rs)
 
 -- one step back in a list
 pub drop_back : {X : Type 0} (xs : List X) (j : ℕ) (x : X) → 0 < j → j ≤ length xs → x ≡ get_or xs (j - 1) x → drop (j - 1) xs ≡ x ∷ drop j xs

@@ -7,3 +7,5 @@ pub mod AutomatonParts
 pub mod LongestLaws
 pub mod Places
 pub mod PartLists
+pub mod NullableLaws
+pub mod Fronts

@@ -8,7 +8,7 @@ use Rattle.path_expr.specs.declared.tree.Sep.{Sep}
 use Rattle.path_expr.specs.declared.tree.Sep.TheVariants.{Child, Below}
 use Rattle.path_expr.specs.declared.tree.Step.{Step}
 use Rattle.path_expr.specs.declared.tree.Seq.{Seq}
-use Rattle.path_expr.specs.Views.{item_of, seq_of, seq_from, expr_from}
+use Rattle.path_expr.specs.Views.{item_of, seq_of, seq_from}
 
 -- the states that were there are there still
 pub record Grows (old new : List State) : Type 0 where
@@ -26,11 +26,16 @@ HasSep Child old new next result = result ≡ next
 HasSep Below old new next result =
     (h : ℕ) × (slice_get new result ≡ Some (Fork h next)) × (slice_get new h ≡ Some (Any result)) × (length old ≤ result) × (length old ≤ h)
 
+-- the alternatives, each as it is compiled
+abbrev pub expr_by : (tree.Seq → tree.Seq) → tree.Seq → List Seq → tree.Expr
+expr_by f s [] = tree.only (f s)
+expr_by f s (r ∷ rs) = tree.or (f s) (expr_by f (seq_of r) rs)
+
 module _ (texts : List (List ℕ)) (states : List State) (low : ℕ) where
   -- the alternatives stand, if there are any
-  abbrev pub StandMore : List Seq → (next : ℕ) → Option ℕ → Type 0
-  StandMore [] next behind = behind ≡ None
-  StandMore (s ∷ ss) next behind = (i : ℕ) × (behind ≡ Some i) × (i < length states) × Stands texts (λ k. slice_get states k) (expr_from (seq_of s) ss) low i next
+  abbrev pub StandMore : (tree.Seq → tree.Seq) → List Seq → (next : ℕ) → Option ℕ → Type 0
+  StandMore f [] next behind = behind ≡ None
+  StandMore f (s ∷ ss) next behind = (i : ℕ) × (behind ≡ Some i) × (i < length states) × Stands texts (λ k. slice_get states k) (expr_by f (seq_of s) ss) low i next
 
   -- what follows a separator stands, and this state comes first
   abbrev pub StandSep : Sep → tree.Seq → (next after : ℕ) → Type 0

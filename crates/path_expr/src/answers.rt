@@ -5,7 +5,7 @@ ghost use Rattle.px_spec.specs.Shapes.{shape_by};
 ghost use Rattle.path_spec.specs.Answers.{AreAnswers};
 ghost use Rattle.path_spec.specs.Parts.{part_of};
 
-use crate::compile::compile_expr;
+use crate::front::compile_trimmed;
 use crate::tree::Expr;
 use label_graph::{Digraph, Labels};
 use path_search::{Program, search, search_within};
@@ -23,7 +23,7 @@ pub fn eval<G: Digraph>(alloc: Global, g: &G, labels: &Labels, expr: &Expr) -> R
     // The labels are distinct, which this call says.
     let _known = labels.len();
     let mut program = Program::new(alloc)?;
-    let start = compile_expr(labels, &mut program, expr, 0)?;
+    let start = compile_trimmed(labels, &mut program, expr, 0)?;
     let places = [g.size()];
     search(alloc, g, &program, start, &places)
 }
@@ -45,7 +45,7 @@ pub fn eval_within<G: Digraph>(
     // The labels are distinct, which this call says.
     let _known = labels.len();
     let mut program = Program::new(alloc)?;
-    let start = compile_expr(labels, &mut program, expr, 0)?;
+    let start = compile_trimmed(labels, &mut program, expr, 0)?;
     let places = [g.size()];
     search_within(alloc, g, set, &program, start, &places)
 }

@@ -1,10 +1,10 @@
 // The automaton of an expression.
-ghost use Rattle.std.specs.Prelude.{◌≡◌, ◌<◌, ◌≤◌, ℕ, List, length, slice_get, Option, Some, IfSome, IfOk, OnOk};
+ghost use Rattle.std.specs.Prelude.{◌≡◌, ◌<◌, ◌≤◌, ℕ, List, length, drop, slice_get, Option, Some, IfSome, IfOk, OnOk};
 ghost use Rattle.path_expr.specs.Automata.{Stands, StandsSeq, StandsItem, StandsAtom, ReadsLabel};
-ghost use Rattle.path_expr.specs.Views.{seq_of, item_of, atom_of};
-ghost use Rattle.path_expr.specs.Compiled.{Grows, HasFork, HasSep};
+ghost use Rattle.path_expr.specs.Views.{seq_of, signed_by, atom_of};
+ghost use Rattle.path_expr.specs.Compiled.{Grows, HasFork, HasSep, StandRest};
 
-use crate::tree::{Atom, Expr, Item, Sep, Seq, Sign};
+use crate::tree::{Atom, Expr, Sep, Seq, Sign};
 use label_graph::Labels;
 use path_search::{Program, State};
 use px_base::{Memory, Text};
@@ -20,7 +20,7 @@ fn label_state(labels: &Labels, label: &Text, next: u32) -> State
 }
 
 /// The state from which both are entered, where there is a second one.
-fn join(program: &mut Program, first: u32, second: Option<u32>) -> Result<u32, Memory>
+pub(crate) fn join(program: &mut Program, first: u32, second: Option<u32>) -> Result<u32, Memory>
     requires first { first < length program.old }
     requires second { IfSome second (λ s. s < length program.old) }
     ensures number { IfOk result (λ i. i < length program.new) }
@@ -71,36 +71,61 @@ fn compile_atom(
 }
 
 #[cycle(compile)]
-fn compile_item(
+pub(crate) fn compile_item(
     labels: &Labels,
     program: &mut Program,
-    item: &Item,
+    atom: &Atom,
+    sign: Option<Sign>,
     next: u32,
 ) -> Result<u32, Memory>
     requires next { next < length program.old }
     ensures number { IfOk result (λ i. i < length program.new) }
     ensures grows { OnOk result (Grows program.old program.new) }
-    ensures stands { IfOk result (λ i. StandsItem labels.now.texts (λ k. slice_get program.new k) (item_of item.now) (length program.old) i next) }
+    ensures stands { IfOk result (λ i. StandsItem labels.now.texts (λ k. slice_get program.new k) (signed_by (atom_of atom.now) sign) (length program.old) i next) }
 {
-    match item.sign {
-        None => compile_atom(labels, program, &item.atom, next),
+    match sign {
+        None => compile_atom(labels, program, atom, next),
         Some(Sign::Star) => {
             let fork = program.push(State::Fork(next, next))?;
-            let first = compile_atom(labels, program, &item.atom, fork)?;
+            let first = compile_atom(labels, program, atom, fork)?;
             program.set(fork, State::Fork(first, next));
             Ok(fork)
         }
         Some(Sign::Plus) => {
             let fork = program.push(State::Fork(next, next))?;
-            let first = compile_atom(labels, program, &item.atom, fork)?;
+            let first = compile_atom(labels, program, atom, fork)?;
             program.set(fork, State::Fork(first, next));
             Ok(first)
         }
         Some(Sign::Opt) => {
-            let first = compile_atom(labels, program, &item.atom, next)?;
+            let first = compile_atom(labels, program, atom, next)?;
             program.push(State::Fork(next, first))
         }
     }
+}
+
+/// The state from which the items behind the separators are read, from the separator with the number on.
+#[cycle(compile)]
+pub(crate) fn compile_rest(
+    labels: &Labels,
+    program: &mut Program,
+    seq: &Seq,
+    from: usize,
+    next: u32,
+) -> Result<u32, Memory>
+    requires from { from ≤ length seq.now.rest.items }
+    requires next { next < length program.old }
+    ensures number { IfOk result (λ i. i < length program.new) }
+    ensures grows { OnOk result (Grows program.old program.new) }
+    ensures stands { IfOk result (λ i. StandRest labels.now.texts program.new (length program.old) (drop from seq.now.rest.items) next i) }
+{
+    let mut after = next;
+    for j in (from..seq.rest.len()).rev() {
+        let step = &seq.rest[j];
+        let first = compile_item(labels, program, &step.item.atom, step.item.sign, after)?;
+        after = compile_sep(program, step.sep, first)?;
+    }
+    Ok(after)
 }
 
 #[cycle(compile)]
@@ -110,17 +135,12 @@ fn compile_seq(labels: &Labels, program: &mut Program, seq: &Seq, next: u32) -> 
     ensures grows { OnOk result (Grows program.old program.new) }
     ensures stands { IfOk result (λ i. StandsSeq labels.now.texts (λ k. slice_get program.new k) (seq_of seq.now) (length program.old) i next) }
 {
-    let mut after = next;
-    for j in (0..seq.rest.len()).rev() {
-        let step = &seq.rest[j];
-        let first = compile_item(labels, program, &step.item, after)?;
-        after = compile_sep(program, step.sep, first)?;
-    }
-    compile_item(labels, program, &seq.first, after)
+    let after = compile_rest(labels, program, seq, 0, next)?;
+    compile_item(labels, program, &seq.first.atom, seq.first.sign, after)
 }
 
 #[cycle(compile)]
-pub(crate) fn compile_expr(
+fn compile_expr(
     labels: &Labels,
     program: &mut Program,
     expr: &Expr,

@@ -4,7 +4,9 @@
 
 mod answers;
 mod compile;
+mod front;
 mod lengths;
+mod nullable;
 mod parts;
 mod tree;
 

@@ -5,6 +5,9 @@ use Rattle.std.specs.Prelude.{slice_get}
 use Rattle.std.proofs.lemmas.Result.{IfOk-weaker}
 use Rattle.path_search.specs.Searches.{AreEnds}
 use Rattle.path_search.specs.declared.state.State.TheVariants.{End}
+use Rattle.path_spec.specs.Trimmed.{trimmed}
+use Rattle.px_spec.specs.Shapes.{shape_by}
+use Rattle.path_spec.proofs.Trimming.{answers_trimmed}
 use Rattle.path_expr.proofs.ProductSearch.{ends_answers}
 use Rattle.path_expr.proofs.answers.eval.Goals as goal
 
@@ -14,12 +17,13 @@ returns-clause-answers g c =
     let label_at = g.G.Digraph.label_at c.args.g.now in
     let edge = g.G.Digraph.edge c.args.g.now in
     let texts = c.args.labels.now.texts in
-    let at = λ (k : ℕ). slice_get c.compile_expr.new.program k in
+    let at = λ (k : ℕ). slice_get c.compile_trimmed.new.program k in
     let First : ℕ → Type 0 = λ v. IsTrue (has (c.size.result ∷ []) v) in
     let start = c.in_ok-start.start in
     let made = c.in_ok-program.ensures in
     let end = c.in_ok-start.ensures.grows.kept 0 End (ap (λ p. slice_get p 0) made) in
     IfOk-weaker c.search.result (λ b. AreEnds at span label_at edge First start b.members) _
-    (λ b h. ends_answers texts at span label_at edge
+    (λ b h. (answers_trimmed (shape_by texts span label_at edge) c.args.expr.now b.members).0
+    (ends_answers texts at span label_at edge
     (record { distinct = c.len-known.ensures.distinct; labelled = c.requires.labelled; below = g.met.G.Digraph.below c.args.g.now; ends = g.met.G.Digraph.ends c.args.g.now })
-    c.args.expr.now (length c.in_ok-program.program) start c.in_ok-start.ensures.stands end First (one_there span c.size.result (c.size.ensures)) (λ v f. one_only span c.size.result v c.size.ensures f) b.members h) c.search.ensures.ends
+    (trimmed c.args.expr.now) (length c.in_ok-program.program) start c.in_ok-start.ensures.stands end First (one_there span c.size.result (c.size.ensures)) (λ v f. one_only span c.size.result v c.size.ensures f) b.members h)) c.search.ensures.ends
