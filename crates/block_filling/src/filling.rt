@@ -71,7 +71,7 @@ fn append_nodes(blocks: &mut Blocks, size: u32, block: &[Option<u32>])
 
 /// The partition with these labels of blocks, each at its number, in which the nodes below a size have the
 /// blocks that the list gives. `Memory` comes only where memory runs out. O(s + l) for a size s and l labels; it
-/// takes 12 bytes a number below the size, and little more than 16 a label.
+/// takes 12 bytes a number below the size, and little more than 24 a label.
 pub fn fill(
     alloc: Global,
     size: u32,

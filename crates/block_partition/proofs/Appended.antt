@@ -3,7 +3,7 @@ use Rattle.std.proofs.Common.{◌≡◌, ℕ, ◌+◌, ◌-◌, ◌<◌, List, [
 use Rattle.std.proofs.Math.ListN.{replicate}
 use Rattle.std.proofs.lemmas.List.{length-append, get_or_past}
 use Rattle.px_spec.specs.Members.{at}
-use Rattle.block_partition.specs.Tables.{Table, Gaps, set_at, grown, IsIn}
+use Rattle.block_partition.specs.Tables.{Table, Gaps, NumberSet, set_at, grown, IsIn}
 use Rattle.block_partition.specs.Soundness.{IsSoundPartition}
 use Rattle.block_partition.proofs.Growth.{length_grown}
 use Rattle.block_partition.proofs.Mirrors.{at_grown}
@@ -25,18 +25,18 @@ pub in_longer : (o : Option ℕ) (xs ys : List (Option ℕ)) → IsIn o xs → I
 in_longer None xs ys h = tt
 in_longer (Some i) xs ys h = let l = length-append xs ys in omega (arith, l, h)
 
-pub sound_appended : (bl nx pv fs : Table) (lb : List (Option ℕ)) (lc : ℕ) (sz : List ℕ) (sc : ℕ) (fr : Gaps) (count nr br b : ℕ)
-    → IsSoundPartition bl nx pv fs lb lc sz sc fr count nr br → 0 < nr → IsSome (at lb b)
+pub sound_appended : (bl nx pv fs : Table) (lb : List (Option ℕ)) (lc : ℕ) (sz : List ℕ) (sc : ℕ) (fr : Gaps) (lv : NumberSet) (nr br b : ℕ)
+    → IsSoundPartition bl nx pv fs lb lc sz sc fr lv nr br → 0 < nr → IsSome (at lb b)
     → IsSoundPartition (put_in bl (bl.places ++ Some b ∷ [])) (put_in nx (nx.places ++ at fs.places b ∷ []))
     (put_in pv (set_at (pv.places ++ None ∷ []) (at fs.places b) (Some (length bl.places)))) (put_in fs (slice_set fs.places b (Some (length bl.places))))
-    lb lc (slice_set sz b (slice_index sz b + 1)) sc fr count (nr - 1) br
-sound_appended bl nx pv fs lb lc sz sc fr count nr br b s room is_block =
+    lb lc (slice_set sz b (slice_index sz b + 1)) sc fr lv (nr - 1) br
+sound_appended bl nx pv fs lb lc sz sc fr lv nr br b s room is_block =
     let n = length bl.places in
     let more = length_grown bl.places (n + 1) in
-    let longer = sound_grown bl nx pv fs lb lc sz sc fr count nr br (n + 1) s (omega (arith, room)) in
+    let longer = sound_grown bl nx pv fs lb lc sz sc fr lv nr br (n + 1) s (omega (arith, room)) in
     let free : at (grown bl.places (n + 1)) n ≡ None = at_grown bl.places (n + 1 - n) n ∙ get_or_past bl.places n None (omega arith) in
     let used : nr - (length (grown bl.places (n + 1)) - n) ≡ nr - 1 = omega (arith, more) in
     let all =
-    sound_in (put_in bl (grown bl.places (n + 1))) (put_in nx (grown nx.places (n + 1))) (put_in pv (grown pv.places (n + 1))) fs lb lc sz sc fr count
+    sound_in (put_in bl (grown bl.places (n + 1))) (put_in nx (grown nx.places (n + 1))) (put_in pv (grown pv.places (n + 1))) fs lb lc sz sc fr lv
     (nr - (length (grown bl.places (n + 1)) - n)) br n b longer free (omega (arith, more)) is_block in
     rw (set_next bl.places n (Some b) refl, set_next nx.places n (at fs.places b) s.mirrored.length_next, grown_next pv.places n s.mirrored.length_prev, used) at all

@@ -4,5 +4,7 @@ mod Chains
 mod Counts
 mod Growth
 mod FreedNumbers
+mod NumberSets
+mod ListedBlocks
 mod KeepsSound
 pub mod Appended

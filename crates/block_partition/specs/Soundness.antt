@@ -1,8 +1,8 @@
 -- What holds of the tables of each partition.
-use Rattle.std.specs.Prelude.{◌≡◌, ℕ, ◌+◌, ◌*◌, ◌<◌, ◌≤◌, ◌^◌, List, length, Option, None, Some, IsSome, is_some, slice_index}
-use Rattle.std.specs.List.{count_by}
-use Rattle.px_spec.specs.Members.{at, is_this}
-use Rattle.block_partition.specs.Tables.{Table, Gaps, full_at, gap_room, group}
+use Rattle.std.specs.Prelude.{◌≡◌, ℕ, ◌+◌, ◌*◌, ◌<◌, ◌≤◌, ◌^◌, List, length, Option, None, Some, IsSome, is_some, slice_index, nat_eq}
+use Rattle.std.specs.List.{count_by, IsDistinct}
+use Rattle.px_spec.specs.Members.{at, has, is_this}
+use Rattle.block_partition.specs.Tables.{Table, Gaps, NumberSet, full_at, gap_room, group}
 
 -- The members of a block form a doubly linked list: the block of a node, the next member and the one before it, and the
 -- first member of a block. Ranks fall along each list, so none runs in a ring
@@ -44,18 +44,26 @@ pub record AreFullRuns (labels : List (Option ℕ)) (full : List ℕ) : Type 0 w
   pub passed : (k c : ℕ) → 64 * k ≤ c → c < 64 * (k + full_at full k) → c < length labels → IsSome (at labels c)
   pub grouped : (k : ℕ) → IsInGroup k (full_at full k)
 
+-- for each number the place where it is listed is kept
+pub record HavePlaces (numbers places : List ℕ) : Type 0 where
+  pub once : IsDistinct nat_eq numbers
+  pub within : (i : ℕ) → i < length numbers → slice_index numbers i < length places
+  pub back : (i : ℕ) → i < length numbers → slice_index places (slice_index numbers i) ≡ i
+
 -- no entry passes a free number, and none is too low
 pub record AreGaps (labels : List (Option ℕ)) (g : Gaps) : Type 0 where
   pub above : (c : ℕ) → c < g.low → IsSome (at labels c)
   pub runs : AreFullRuns labels g.full
 
--- the tables by block are of one length, and free numbers are found
-pub record AreTables (first labels : List (Option ℕ)) (sizes : List ℕ) (freed : Gaps) : Type 0 where
+-- the tables by block are of one length, and numbers that are free and those that are blocks are found
+pub record AreTables (first labels : List (Option ℕ)) (sizes : List ℕ) (freed : Gaps) (live : NumberSet) : Type 0 where
   pub length_first : length first ≡ length labels
   pub length_sizes : length sizes ≡ length labels
   pub few : length labels ≤ 2 ^ 31
   pub gaps : AreGaps labels freed
   pub all_fit : length labels ≤ gap_room freed
+  pub listed : (b : ℕ) → has live.numbers b ≡ is_some (at labels b)
+  pub all_have_places : length labels ≤ live.span
 
 -- that many more numbers fit behind the list
 pub record NodesFit (block next prev : Table) (more : ℕ) : Type 0 where
@@ -65,17 +73,19 @@ pub record NodesFit (block next prev : Table) (more : ℕ) : Type 0 where
   pub prev_fits : length block.places + more ≤ prev.capacity
 
 -- that many more blocks fit
-pub record BlocksFit (count first labels sizes freed more : ℕ) : Type 0 where
+pub record BlocksFit (count first labels sizes freed span live more : ℕ) : Type 0 where
   pub few : count + more ≤ 2 ^ 31
   pub first_fits : count + more ≤ first
   pub labels_fit : count + more ≤ labels
   pub sizes_fit : count + more ≤ sizes
   pub freed_fit : count + more ≤ freed
+  pub places_fit : count + more ≤ span
+  pub live_fit : count + more ≤ live
 
 pub record IsSoundPartition (block next prev first : Table) (labels : List (Option ℕ)) (labels_capacity : ℕ) (sizes : List ℕ)
-    (sizes_capacity : ℕ) (freed : Gaps) (count node_room block_room : ℕ) : Type 0 where
+    (sizes_capacity : ℕ) (freed : Gaps) (live : NumberSet) (node_room block_room : ℕ) : Type 0 where
   pub mirrored : AreMirrored block.places next.places prev.places first.places
-  pub counted : AreBlockCounts block.places labels sizes count
-  pub tables : AreTables first.places labels sizes freed
+  pub counted : AreBlockCounts block.places labels sizes (length live.numbers)
+  pub tables : AreTables first.places labels sizes freed live
   pub nodes_fit : NodesFit block next prev node_room
-  pub blocks_fit : BlocksFit count first.capacity labels_capacity sizes_capacity (gap_room freed) block_room
+  pub blocks_fit : BlocksFit (length live.numbers) first.capacity labels_capacity sizes_capacity (gap_room freed) live.span live.capacity block_room

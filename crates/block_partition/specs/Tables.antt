@@ -13,6 +13,12 @@ pub record Gaps : Type 0 where
   pub full : List ℕ
   pub low : ℕ
 
+-- numbers, each below the span, and how many fit with no more memory
+pub record NumberSet : Type 0 where
+  pub numbers : List ℕ
+  pub span : ℕ
+  pub capacity : ℕ
+
 -- the entry of a run, and zero past the end
 abbrev pub full_at : List ℕ → ℕ → ℕ
 full_at full k = slice_index_or full k 0

@@ -6,6 +6,7 @@ ghost use Rattle.block_partition.specs.Appending.{with_next};
 ghost use Rattle.block_partition.specs.Tables.{Keeps, head_where, with_length};
 
 use crate::freed::Freed;
+use crate::live::Live;
 use crate::members::Members;
 use crate::slots::Slots;
 use px_base::{Memory, NodeId};
@@ -15,7 +16,7 @@ use std::marker::Model;
 /// A partition of nodes into blocks: a list with a block or none for each node number, and a label for
 /// each block. Numbers of nodes and of blocks are below 2^31.
 ///
-/// It takes 12 bytes for each node number, and little more than 16 for each block number. A call that takes
+/// It takes 12 bytes for each node number, and little more than 24 for each block number. A call that takes
 /// 'no memory' asks the allocator for none.
 #[derive(Drop)]
 pub struct Blocks {
@@ -26,7 +27,7 @@ pub struct Blocks {
     labels: Vec<Option<u32>>,
     sizes: Vec<u32>,
     freed: Freed,
-    count: u32,
+    live: Live,
     node_room: u32,
     block_room: u32,
 }
@@ -40,7 +41,7 @@ impl Model for Blocks {
 
     ghost view = { λ b. record { block_of = b.block.places; labels = b.labels.items; room = record { nodes = b.node_room; blocks = b.block_room } } };
 
-    ghost invariant = { λ b. IsSoundPartition b.block b.next b.prev b.first b.labels.items (vec_capacity b.labels) b.sizes.items (vec_capacity b.sizes) b.freed b.count b.node_room b.block_room };
+    ghost invariant = { λ b. IsSoundPartition b.block b.next b.prev b.first b.labels.items (vec_capacity b.labels) b.sizes.items (vec_capacity b.sizes) b.freed b.live b.node_room b.block_room };
 }
 
 // Reading.
@@ -73,7 +74,15 @@ impl Blocks {
         ensures count { result ≡ block_count self.now }
         ensures few { result ≤ 2 ^ 31 }
     {
-        self.count
+        self.live.len() as u32
+    }
+
+    /// The numbers of the blocks, each once, in no stated order. O(1), no memory.
+    pub fn live(&self) -> &[u32]
+        ensures blocks { Lists (λ b. is_some (at self.now.labels b)) result.now }
+        ensures count { length result.now ≡ block_count self.now }
+    {
+        self.live.as_slice()
     }
 
     /// The numbers of blocks are below it: at most 2^31. O(1), no memory.
@@ -93,8 +102,8 @@ impl Blocks {
         ensures from { from ≤ result }
         ensures passed { (c : ℕ) → from ≤ c → c < result → IsBlock self.now c }
     {
-        if self.count as usize == self.labels.len() {
-            return from.max(self.count);
+        if self.live.len() == self.labels.len() {
+            return from.max(self.labels.len() as u32);
         }
         self.freed.next_from(&self.labels, from)
     }
@@ -138,7 +147,7 @@ impl Blocks {
             labels: Vec::new(alloc),
             sizes: Vec::new(alloc),
             freed: Freed::new(alloc),
-            count: 0,
+            live: Live::new(alloc),
             node_room: 0,
             block_room: 0,
         })
@@ -146,7 +155,7 @@ impl Blocks {
 
     /// Makes room for that many further numbers past the end of the list, and for that many further
     /// blocks, in place of the room that there was. Where memory runs out, that room stays. O(`blocks`), and
-    /// O(`numbers` + `span`) more where a table moves; it takes 12 bytes a node and little more than 16 a block.
+    /// O(`numbers` + `span`) more where a table moves; it takes 12 bytes a node and little more than 24 a block.
     pub fn reserve(&mut self, nodes: u32, blocks: u32) -> Result<(), Memory>
         requires nodes { length self.old.block_of + nodes ≤ 2 ^ 31 }
         requires blocks { block_count self.old + blocks ≤ 2 ^ 31 }
@@ -165,7 +174,9 @@ impl Blocks {
             &mut self.sizes,
             blocks as usize,
         )?;
-        self.freed.reserve(self.labels.len() + blocks as usize)?;
+        let span = self.labels.len() + blocks as usize;
+        self.freed.reserve(span)?;
+        self.live.reserve(span, blocks as usize)?;
         self.node_room = nodes;
         self.block_room = blocks;
         Ok(())
@@ -200,7 +211,7 @@ impl Blocks {
     {
         self.labels[b as usize] = Some(label);
         self.freed.pass(&self.labels, b);
-        self.count += 1;
+        self.live.push(b);
         self.block_room -= 1;
     }
 
@@ -215,7 +226,7 @@ impl Blocks {
         self.sizes.push_reserved(0);
         self.first.push_none();
         self.freed.pass(&self.labels, b);
-        self.count += 1;
+        self.live.push(b);
         self.block_room -= 1;
     }
 
@@ -282,7 +293,7 @@ impl Blocks {
         ensures { self.new ≡ without_block self.old b }
     {
         self.labels[b as usize] = None;
-        self.count -= 1;
+        self.live.remove(b);
         self.freed.put(b);
     }
 

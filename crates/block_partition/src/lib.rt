@@ -3,6 +3,7 @@
 
 mod blocks;
 mod freed;
+mod live;
 mod members;
 mod slots;
 mod splitting;

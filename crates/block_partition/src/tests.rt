@@ -120,7 +120,14 @@ fn finds_gaps(rt: HostRuntime) -> Result<(), Fail> {
     retire(&rt, &mut blocks, 0);
     retire(&rt, &mut blocks, 2);
     check_gaps(&rt, &blocks);
+    check_live(&rt, &blocks);
     Ok(())
+}
+
+fn check_live(rt: &impl Abort, blocks: &Blocks) {
+    let live = blocks.live();
+    assert_eq!(rt; live.len(), 2);
+    assert!(rt; live.contains(&1) && live.contains(&3));
 }
 
 fn check_gaps(rt: &impl Abort, blocks: &Blocks) {

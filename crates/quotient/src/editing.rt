@@ -15,7 +15,7 @@ impl Summary {
     /// Makes room for that many further numbers of nodes past the end of the list and for that many further
     /// blocks, in place of the room that there was, and for that many further pairs with support. It leaves
     /// the quotient as it is seen. O(`blocks`), and linear in all node numbers, block numbers and pairs where a
-    /// table moves; it takes 12 bytes a number, 16 a block, and what a pair takes.
+    /// table moves; it takes 12 bytes a number, little more than 24 a block, and what a pair takes.
     pub fn reserve(&mut self, nodes: u32, blocks: u32, pairs: usize) -> Result<(), Memory>
         requires nodes { length self.old.blocks.block_of + nodes ≤ 2 ^ 31 }
         requires blocks { block_count self.old.blocks + blocks ≤ 2 ^ 31 }

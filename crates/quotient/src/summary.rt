@@ -86,6 +86,14 @@ impl Summary {
         b < self.blocks.span() && self.blocks.is_block(b)
     }
 
+    /// The numbers of the blocks, each once, in no stated order. O(1), no memory.
+    pub fn live(&self) -> &[u32]
+        ensures blocks { Lists (λ b. is_some (at self.now.blocks.labels b)) result.now }
+        ensures count { length result.now ≡ block_count self.now.blocks }
+    {
+        self.blocks.live()
+    }
+
     /// The least number from this one on that is no block. O(1), no memory.
     pub fn next_free(&self, from: u32) -> u32
         ensures free { at self.now.blocks.labels result ≡ None }

@@ -8,7 +8,7 @@ use Rattle.block_partition.proofs.blocks.Blocks.make_next.Goals as goal
 pub push_reserved-requires : goal.push_reserved-requires
 push_reserved-requires c =
     let s = c.self.inside in
-    let full = count_full s.block s.next s.prev s.first s.labels.items _ s.sizes.items _ s.freed s.count s.node_room s.block_room c.args.b c.self.invariant (rw (← c.self.view_is) at c.requires.past) (rw (← c.self.view_is) at c.requires.least) in
+    let full = count_full s.block s.next s.prev s.first s.labels.items _ s.sizes.items _ s.freed s.live s.node_room s.block_room c.args.b c.self.invariant (rw (← c.self.view_is) at c.requires.past) (rw (← c.self.view_is) at c.requires.least) in
     let room = rw (← c.self.view_is) at c.requires.room in
     let fits = c.self.invariant.blocks_fit.labels_fit in
     omega (arith, full, room, fits)
@@ -16,7 +16,7 @@ push_reserved-requires c =
 pub push_reserved-requires-2 : goal.push_reserved-requires-2
 push_reserved-requires-2 c =
     let s = c.self.inside in
-    let full = count_full s.block s.next s.prev s.first s.labels.items _ s.sizes.items _ s.freed s.count s.node_room s.block_room c.args.b c.self.invariant (rw (← c.self.view_is) at c.requires.past) (rw (← c.self.view_is) at c.requires.least) in
+    let full = count_full s.block s.next s.prev s.first s.labels.items _ s.sizes.items _ s.freed s.live s.node_room s.block_room c.args.b c.self.invariant (rw (← c.self.view_is) at c.requires.past) (rw (← c.self.view_is) at c.requires.least) in
     let room = rw (← c.self.view_is) at c.requires.room in
     let fits = c.self.invariant.blocks_fit.sizes_fit in
     let same = c.self.invariant.tables.length_sizes in
@@ -25,7 +25,7 @@ push_reserved-requires-2 c =
 pub push_none-requires : goal.push_none-requires
 push_none-requires c =
     let s = c.self.inside in
-    let full = count_full s.block s.next s.prev s.first s.labels.items _ s.sizes.items _ s.freed s.count s.node_room s.block_room c.args.b c.self.invariant (rw (← c.self.view_is) at c.requires.past) (rw (← c.self.view_is) at c.requires.least) in
+    let full = count_full s.block s.next s.prev s.first s.labels.items _ s.sizes.items _ s.freed s.live s.node_room s.block_room c.args.b c.self.invariant (rw (← c.self.view_is) at c.requires.past) (rw (← c.self.view_is) at c.requires.least) in
     let room = rw (← c.self.view_is) at c.requires.room in
     let fits = c.self.invariant.blocks_fit.first_fits in
     let same = c.self.invariant.tables.length_first in
@@ -45,20 +45,32 @@ pass-requires-clause-few c =
     let s = c.self.inside in
     let past = rw (← c.self.view_is) at c.requires.past in
     let least = rw (← c.self.view_is) at c.requires.least in
-    let full = count_full s.block s.next s.prev s.first s.labels.items _ s.sizes.items _ s.freed s.count s.node_room s.block_room c.args.b c.self.invariant past least in
+    let full = count_full s.block s.next s.prev s.first s.labels.items _ s.sizes.items _ s.freed s.live s.node_room s.block_room c.args.b c.self.invariant past least in
     let next = least_is_next s.labels.items c.args.b past least in
     let room = rw (← c.self.view_is) at c.requires.room in
     let fits = c.self.invariant.blocks_fit.few in
     omega (arith, full, next, room, fits)
 
+pub push-requires-clause-within : goal.push-requires-clause-within
+push-requires-clause-within c =
+    let s = c.self.inside in
+    let past = rw (← c.self.view_is) at c.requires.past in
+    let least = rw (← c.self.view_is) at c.requires.least in
+    let full = count_full s.block s.next s.prev s.first s.labels.items _ s.sizes.items _ s.freed s.live s.node_room s.block_room c.args.b c.self.invariant past least in
+    let next = least_is_next s.labels.items c.args.b past least in
+    let room = rw (← c.self.view_is) at c.requires.room in
+    let fits = c.self.invariant.blocks_fit.places_fit in
+    omega (arith, full, next, room, fits)
+
 pub invariant_of-self : goal.invariant_of-self
 invariant_of-self c =
     let s = c.self.inside in
-    let full = count_full s.block s.next s.prev s.first s.labels.items _ s.sizes.items _ s.freed s.count s.node_room s.block_room c.args.b c.self.invariant (rw (← c.self.view_is) at c.requires.past) (rw (← c.self.view_is) at c.requires.least) in
+    let full = count_full s.block s.next s.prev s.first s.labels.items _ s.sizes.items _ s.freed s.live s.node_room s.block_room c.args.b c.self.invariant (rw (← c.self.view_is) at c.requires.past) (rw (← c.self.view_is) at c.requires.least) in
+    let next = least_is_next s.labels.items c.args.b (rw (← c.self.view_is) at c.requires.past) (rw (← c.self.view_is) at c.requires.least) in
     let gaps = rw (c.deref.ensures.value, c.push_reserved.ensures.items) at c.pass.ensures.gaps in
-    rw (c.push_none.ensures, c.push_reserved.ensures.items, c.push_reserved.ensures.capacity, c.push_reserved-2.ensures.items, c.push_reserved-2.ensures.capacity)
-    (sound_next s.block s.next s.prev s.first s.labels.items _ s.sizes.items _ s.freed c.pass.new.self s.count s.node_room s.block_room c.args.label
-    c.self.invariant (rw (← c.self.view_is) at c.requires.room) full gaps c.pass.ensures.room)
+    rw (c.push.ensures, c.push_none.ensures, c.push_reserved.ensures.items, c.push_reserved.ensures.capacity, c.push_reserved-2.ensures.items, c.push_reserved-2.ensures.capacity)
+    (sound_next s.block s.next s.prev s.first s.labels.items _ s.sizes.items _ s.freed c.pass.new.self s.live s.node_room s.block_room c.args.b c.args.label
+    c.self.invariant (rw (← c.self.view_is) at c.requires.room) full next gaps c.pass.ensures.room)
 
 pub returns : goal.returns
 returns c =

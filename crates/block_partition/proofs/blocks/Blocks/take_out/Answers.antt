@@ -30,7 +30,7 @@ pub overflow_sub-index_mut : goal.overflow_sub-index_mut
 overflow_sub-index_mut c =
     let s = c.self.inside in
     let has = sym c.get.ensures.place ∙ c.in-Some.is in
-    let above = size_above s.block.places s.labels.items s.sizes.items s.count c.args.n c.in-Some.own c.self.invariant.counted has in
+    let above = size_above s.block.places s.labels.items s.sizes.items (length s.live.numbers) c.args.n c.in-Some.own c.self.invariant.counted has in
     let h = some_within s.labels.items c.in-Some.own (c.self.invariant.counted.live c.args.n c.in-Some.own has) in
     let same = c.self.invariant.tables.length_sizes in
     let in_sizes : c.in-Some.own < length s.sizes.items = omega (arith, h, same) in
@@ -46,4 +46,4 @@ invariant_of-self c =
     let in_sizes : c.in-Some.own < length s.sizes.items = omega (arith, h, same) in
     let read : c.index_mut.result.now ≡ slice_index s.sizes.items c.in-Some.own = get_or_read s.sizes.items _ _ in_sizes c.index_mut.ensures.value 0 in
     rw (c.set.ensures, c.set-2.ensures, c.set-3.ensures, c.set_at.ensures, c.set_at-2.ensures, c.set_at-3.ensures, c.head_of.ensures, c.get-before.ensures.place, c.get-after.ensures.place, read)
-    (sound_out s.block s.next s.prev s.first s.labels.items _ s.sizes.items _ s.freed s.count s.node_room s.block_room c.args.n c.in-Some.own c.self.invariant has)
+    (sound_out s.block s.next s.prev s.first s.labels.items _ s.sizes.items _ s.freed s.live s.node_room s.block_room c.args.n c.in-Some.own c.self.invariant has)
