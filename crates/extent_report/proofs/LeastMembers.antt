@@ -1,5 +1,5 @@
 -- The least members of blocks.
-use Rattle.std.proofs.Common.{◌≡◌, ◌≢◌, ℕ, zero, suc, ◌+◌, ◌<◌, ◌≤◌, List, [], ◌∷◌, ◌++◌, length, get_or, Option, Some, None, is_some, refl, sym, ◌∙◌, ap, arith, inl, inr, true, false, Bool, ◌||◌, ◌&&◌, not, true≢false}
+use Rattle.std.proofs.Common.{◌≡◌, ◌≢◌, ℕ, ◌<◌, List, [], ◌∷◌, ◌++◌, length, get_or, Option, Some, None, is_some, refl, sym, ◌∙◌, ap, arith, inl, inr, true, false, Bool, ◌||◌, ◌&&◌, not, true≢false}
 use Rattle.std.specs.Prelude.{nat_eq, option_and_then}
 use Rattle.std.specs.List.Sorted.{IsStrictlyIncreasing}
 use Rattle.std.proofs.lemmas.Bool.{or_left, cases_lt, cases_Bool}
@@ -16,9 +16,9 @@ use Rattle.extent_report.specs.Chains.{leads, word_with}
 use Rattle.extent_report.specs.Leads.{is_head, leads_block}
 use Rattle.extent_report.proofs.Chained.{with_is_of}
 use Rattle.extent_report.proofs.Texts.{any_same}
-use Rattle.extent_report.proofs.Wording.{led_block}
-use Rattle.extent_report.proofs.Rising.{or_none, has_push, texts_listed, flat_same, none_before}
-use Rattle.std.specs.List.{flat_map}
+use Rattle.extent_report.proofs.NodeWords.{led_block}
+use Rattle.extent_report.proofs.Rising.{has_push, texts_listed, flat_same, none_before}
+use Rattle.std.specs.List.{flat_map, list_any}
 
 -- the first number of a list, where it is put behind others
 pub head_pushed : (members list now : List ℕ) (v d : ℕ) → 0 < length members → v ≡ get_or members 0 d → now ≡ list ++ v ∷ [] → (n : ℕ) → has now n ≡ (is_head members n || has list n)
@@ -64,47 +64,43 @@ head_least q (x ∷ xs) r h n = elim (eqb_tells n x) [
     ]
 
 -- the first of a block's members is the block's least one
-pub least_is : (p : Partition) (b : ℕ) (members shown : List ℕ) (r : Bool) → r ≡ true → r ≡ is_some (at p.labels b) → IsStrictlyIncreasing members
+pub least_is : (p : Partition) (b : ℕ) (members shown : List ℕ) → is_some (at p.labels b) ≡ true → IsStrictlyIncreasing members
     → ((k : ℕ) → has members k ≡ is_member p b k) → shown ≡ members → (n : ℕ) → is_head shown n ≡ leads_block p b n
-least_is p b members shown r live e rising same is n =
+least_is p b members shown live rising same is n =
     ap (λ l. is_head l n) is ∙ head_least (is_member p b) members rising same n
-    ∙ ap (λ t. t && (is_member p b n && not (any_below n (is_member p b)))) (sym live ∙ e)
+    ∙ ap (λ t. t && (is_member p b n && not (any_below n (is_member p b)))) (sym live)
 
 -- where one number alone may pass, it decides
-any_only : (n c : ℕ) (f : ℕ → Bool) → ((b : ℕ) → b ≢ c → f b ≡ false) → (n ≤ c → f c ≡ false) → any_below n f ≡ f c
-any_only zero c f h past = sym (past (omega arith))
-any_only (suc n) c f h past = elim (eqb_tells n c) [
-  | inl same ↦ (
-      let e = same.1 in
-      let none : any_below n f ≡ false = elim (cases_Bool (any_below n f)) [
-        | inl some ↦ absurd (
-            let k = any_get n f some in
-            let l = k.1 in
-            true≢false (sym k.2 ∙ h k.0 (λ d. omega (arith, l, e, d))))
-        | inr off ↦ off
-      ] in
-      ap (λ b. f n || b) none ∙ or_none (f n) ∙ ap f e)
-  | inr apart ↦ (
-      let d = apart.1 in
-      ap (λ b. b || any_below n f) (h n d) ∙ any_only n c f h (λ l. past (omega (arith, l, d))))
+any_only : (xs : List ℕ) (c : ℕ) (f : ℕ → Bool) → ((b : ℕ) → b ≢ c → f b ≡ false) → list_any f xs ≡ (has xs c && f c)
+any_only [] c f h = refl
+any_only (x ∷ xs) c f h = elim (eqb_tells c x) [
+  | inl same ↦
+      ap (λ b. b || list_any f xs) (ap f (sym same.1)) ∙ ap (λ b. f c || b) (any_only xs c f h)
+      ∙ once (f c) (has xs c) ∙ sym (ap (λ b. (b || has xs c) && f c) same.0)
+  | inr apart ↦
+      ap (λ b. b || list_any f xs) (h x (λ e. apart.1 (sym e))) ∙ any_only xs c f h ∙ sym (ap (λ b. (b || has xs c) && f c) apart.0)
 ]
+  where
+    once : (a b : Bool) → (a || (b && a)) ≡ a
+    once true b = refl
+    once false true = refl
+    once false false = refl
 
-none_any : (n : ℕ) (f : ℕ → Bool) → ((b : ℕ) → f b ≡ false) → any_below n f ≡ false
-none_any zero f h = refl
-none_any (suc n) f h = ap (λ b. b || any_below n f) (h n) ∙ none_any n f h
+none_any : (xs : List ℕ) (f : ℕ → Bool) → ((b : ℕ) → f b ≡ false) → list_any f xs ≡ false
+none_any [] f h = refl
+none_any (x ∷ xs) f h = ap (λ b. b || list_any f xs) (h x) ∙ none_any xs f h
 
 and_none : (a : Bool) → (a && false) ≡ false
 and_none true = refl
 and_none false = refl
 
-past_labels : (xs : List (Option ℕ)) (c : ℕ) → length xs ≤ c → is_some (at xs c) ≡ false
-past_labels [] c l = refl
-past_labels (x ∷ xs) zero l = absurd (omega (arith, l))
-past_labels (x ∷ xs) (suc c) l = past_labels xs c (omega (arith, l))
+and_same : (a b : Bool) → (a && (a && b)) ≡ (a && b)
+and_same true b = refl
+and_same false b = refl
 
 -- a node leads its block exactly where it is the least member of some block
-pub leads_some : (p : Partition) (n : ℕ) → any_below (length p.labels) (λ b. leads_block p b n) ≡ leads p n
-leads_some p n = by (at p.block_of n) refl
+pub leads_some : (p : Partition) (live : List ℕ) (n : ℕ) → ((b : ℕ) → has live b ≡ is_some (at p.labels b)) → list_any (λ b. leads_block p b n) live ≡ leads p n
+leads_some p live n all = by (at p.block_of n) refl
   where
     rest : ℕ → Bool
     rest b = not (any_below n (is_member p b))
@@ -121,16 +117,16 @@ leads_some p n = by (at p.block_of n) refl
     leads_at : (o : Option ℕ) → at p.block_of n ≡ o → leads p n ≡ (is_some (option_and_then (at p.labels) o) && not (any_below n (together p.block_of n)))
     leads_at o e = ap (λ m. is_some (option_and_then (at p.labels) m) && not (any_below n (together p.block_of n))) e
 
-    by : (o : Option ℕ) → at p.block_of n ≡ o → any_below (length p.labels) (λ b. leads_block p b n) ≡ leads p n
-    by None e = none_any (length p.labels) (λ b. leads_block p b n) (λ b. block_at b None e ∙ no_block b false refl) ∙ sym (leads_at None e)
+    by : (o : Option ℕ) → at p.block_of n ≡ o → list_any (λ b. leads_block p b n) live ≡ leads p n
+    by None e = none_any live (λ b. leads_block p b n) (λ b. block_at b None e ∙ no_block b false refl) ∙ sym (leads_at None e)
     by (Some c) e =
         let apart : (b : ℕ) → b ≢ c → nat_eq b c ≡ false = λ b d. elim (eqb_tells b c) [ inl s ↦ absurd (d s.1) | inr a ↦ a.0 ] in
         let same : nat_eq c c ≡ true = elim (eqb_tells c c) [ inl s ↦ s.0 | inr a ↦ absurd (a.1 refl) ] in
-        let past : length p.labels ≤ c → leads_block p c n ≡ false = λ l. ap (λ m. m && (is_member p c n && rest c)) (past_labels p.labels c l) in
         let equal : any_below n (is_member p c) ≡ any_below n (together p.block_of n) = any_same n (is_member p c) (together p.block_of n) (λ k _. sym (with_is_of p.block_of n c k e)) in
-        any_only (length p.labels) c (λ b. leads_block p b n) (λ b d. block_at b (Some c) e ∙ no_block b (nat_eq b c) (apart b d)) past
-        ∙ block_at c (Some c) e
-        ∙ own_block c (nat_eq c c) same
+        any_only live c (λ b. leads_block p b n) (λ b d. block_at b (Some c) e ∙ no_block b (nat_eq b c) (apart b d))
+        ∙ ap (λ m. m && leads_block p c n) (all c)
+        ∙ ap (λ m. is_some (at p.labels c) && m) (block_at c (Some c) e ∙ own_block c (nat_eq c c) same)
+        ∙ and_same (is_some (at p.labels c)) (rest c)
         ∙ ap (λ m. is_some (at p.labels c) && not m) equal
         ∙ sym (leads_at (Some c) e)
 
@@ -158,7 +154,3 @@ words_listed p n b members e r same =
         live : (o : Option ℕ) → is_this b o ≡ true → is_some o ≡ true
         live None h = absurd (true≢false (sym h))
         live (Some c) h = refl
-
--- one block more
-pub any_more : (f : ℕ → Bool) (b : ℕ) (t : Bool) → t ≡ any_below b f → (f b || t) ≡ any_below (b + 1) f
-any_more f b t e = let more : b + 1 ≡ suc b = omega arith in ap (λ m. f b || m) e ∙ sym (ap (λ k. any_below k f) more)

@@ -3,11 +3,11 @@ pub mod NodeTextLemmas
 pub mod AnswerExamples
 mod Chained
 mod Texts
-mod Wording
+mod NodeWords
 mod Summed
 mod Rising
-mod Leading
+mod LeastMembers
 pub mod Alike
 mod Listed
-mod Counting
+mod PairCounts
 mod Sized

@@ -22,7 +22,7 @@ use Rattle.extent_report.specs.Listing.{is_related, is_first, are_joined, block_
 use Rattle.extent_report.specs.Summaries.{IsSummaryOf}
 use Rattle.extent_report.specs.Chains.{is_of}
 use Rattle.extent_report.proofs.Listed.{given_below}
-use Rattle.extent_report.proofs.Counting.{count_into, taken_places, pairs_into, pairs_over, kept_key, kept_some}
+use Rattle.extent_report.proofs.PairCounts.{count_into, taken_places, pairs_into, pairs_over, kept_key, kept_some}
 
 module _ (g : Graph) (q : Quotient) (r : ℕ → ℕ → Bool) (fits : ViewFits g (view_of q)) (agrees : Agrees (shape_of g) q.blocks.block_of (λ u v. IsTrue (r u v))) where
   -- n is the first node of the block a

@@ -12,7 +12,7 @@ use Rattle.extent_report.specs.Listing.{texts_below, is_related, is_first, block
 use Rattle.extent_report.specs.Summaries.{label_at, shape_of_blocks, LabelsHaveTexts, line_at}
 use Rattle.extent_report.specs.Chains.{leads, word_with}
 use Rattle.extent_report.proofs.Texts.{texts_same, any_same}
-use Rattle.extent_report.proofs.Wording.{in_one}
+use Rattle.extent_report.proofs.NodeWords.{in_one}
 
 there : (texts : List (List ℕ)) (l : ℕ) → l < length texts → is_some (slice_get texts l) ≡ true
 there [] l h = absurd (omega (arith, h))

@@ -13,7 +13,7 @@ ghost use Rattle.extent_report.specs.Chains.{leads, word_with};
 use crate::chains::Chains;
 use crate::gathered::text_by_members;
 use crate::output::{end_line, push_count, push_node};
-use label_graph::{Digraph, Labels};
+use label_graph::Labels;
 use px_base::{Memory, NodeId, Text};
 use quotient::Summary;
 use std::alloc::Global;
@@ -100,20 +100,11 @@ fn text_by_chains(alloc: Global, summary: &Summary, labels: &Labels) -> Result<T
     Ok(Text::from_string(out))
 }
 
-// How many members the number has, where it is that of a block.
-fn members_of(summary: &Summary, b: u32) -> u64 {
-    if summary.is_block(b) {
-        u64::from(summary.member_count(b))
-    } else {
-        0
-    }
-}
-
 // Whether fewer than half of the node numbers that were given are those of members.
 fn is_sparse(summary: &Summary) -> bool {
     let mut members: u64 = 0;
-    for b in 0..summary.size() {
-        members = members.saturating_add(members_of(summary, b));
+    for b in summary.live() {
+        members = members.saturating_add(u64::from(summary.member_count(*b)));
     }
     members < u64::from(summary.numbers() / 2)
 }
@@ -133,10 +124,11 @@ fn text_of(alloc: Global, summary: &Summary, labels: &Labels) -> Result<Text, Me
 /// members, with its label and its members, rising, as in `a n0 n2`. Each line ends with LF. A block
 /// without members has no line.
 ///
-/// Where half of the node numbers that were given are those of members, or more, there is no sort, and it takes 8 bytes for each of
-/// these numbers and each block number; else the members are sorted, and it takes 4 to 8 bytes for each block and for each member of
-/// the largest one. So it is O(b + m log m + t) at most for b block numbers, m members and t bytes of text, however many nodes were
-/// dropped. There are as many block numbers as the index had blocks at one time. The text comes to that memory.
+/// Where half of the node numbers that were given are those of members, or more, there is no sort: it is O(m + s + t) for m members,
+/// block numbers below s and t bytes of text, and it takes 8 bytes for each of these node numbers and block numbers. Else the members
+/// are sorted, and it is O(b + m log m + t) for b blocks, whatever there was before. Where each block has a member, as those of
+/// an index have, that is O(m log m + t). It takes 4 to 8 bytes for each block and for each member of the largest one. The text comes
+/// to that memory.
 pub fn extents_text(alloc: Global, summary: &Summary, labels: &Labels) -> Result<Text, Memory>
     requires labelled { LabelsHaveTexts labels.now.texts summary.now.blocks }
     ensures text { IfOk result (λ t. t ≡ printed.extents_text (shape_of_blocks labels.now.texts summary.now.blocks) (together summary.now.blocks.block_of)) }

@@ -67,7 +67,7 @@ fn push_blocks(
 }
 
 /// The members of the blocks, as they are printed. The members of each block are sorted, and the blocks by their least
-/// members: O(b + m log m) for b block numbers and m members.
+/// members: O(b + m log m + t) for b blocks, m members and t bytes of text.
 pub(crate) fn text_by_members(
     alloc: Global,
     summary: &Summary,

@@ -2,13 +2,11 @@
 ghost use Rattle.std.specs.Prelude.{◌≡◌, ◌||◌, ℕ, IsSome, IfOk, OnOk};
 ghost use Rattle.std.specs.List.Sorted.{IsStrictlyIncreasing};
 ghost use Rattle.px_spec.specs.Members.{at, has};
-ghost use Rattle.bisim_spec.specs.Below.{any_below};
 ghost use Rattle.block_partition.specs.Partitions.{is_member};
 ghost use Rattle.extent_report.specs.Chains.{leads};
 ghost use Rattle.extent_report.specs.Leads.{is_head, leads_block};
 
 use key_table::sort_once;
-use label_graph::Digraph;
 use px_base::{Memory, NodeId};
 use quotient::Summary;
 use std::alloc::Global;
@@ -47,19 +45,16 @@ fn push_head(list: &mut Vec<NodeId>, members: &[NodeId]) -> Result<(), Memory>
     Ok(())
 }
 
-// Puts the least member of a block behind the others, where the number is that of a block with members. `members` is
-// room that is used again.
+// Puts the least member of a block behind the others, where it has members. `members` is room that is used again.
 fn push_least(
     list: &mut Vec<NodeId>,
     members: &mut Vec<NodeId>,
     summary: &Summary,
     b: u32,
 ) -> Result<(), Memory>
+    requires block { IsSome (at summary.now.blocks.labels b) }
     ensures { OnOk result ((n : ℕ) → has list.new.items n ≡ (leads_block summary.now.blocks b n || has list.old.items n)) }
 {
-    if !summary.is_block(b) {
-        return Ok(());
-    }
     fill_members(members, summary, b)?;
     push_head(list, members)
 }
@@ -73,8 +68,8 @@ fn least_members(
     ensures { IfOk result (λ l. (n : ℕ) → has l.items n ≡ leads summary.now.blocks n) }
 {
     let mut list = Vec::new(alloc);
-    for b in 0..summary.size() {
-        push_least(&mut list, members, summary, b)?;
+    for b in summary.live() {
+        push_least(&mut list, members, summary, *b)?;
     }
     Ok(list)
 }

@@ -244,7 +244,8 @@ impl Engine {
     /// isn't kept, memory or not. That of the forward and backward index is first computed, where it isn't, at the cost of a view of the
     /// graph; else nothing of the graph is read. An error leaves the graph and each view that is computed.
     ///
-    /// The list takes O(b + m log m + t) for b block numbers of the index, m nodes and t bytes of text, and O(b + m) memory beside the text.
+    /// Where fewer than half of the numbers that nodes were ever given are those of nodes now, the list takes O(m log m + t) for m nodes and t bytes
+    /// of text, and O(m) memory beside the text. Else it takes O(m + s + t), and O(m + s) memory, for block numbers of the index below s.
     pub fn extents<L: Ledger>(
         &mut self,
         alloc: Global,

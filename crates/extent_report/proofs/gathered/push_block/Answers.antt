@@ -4,7 +4,7 @@ use Rattle.std.specs.List.{flat_map}
 use Rattle.px_spec.specs.Words.{node_word}
 use Rattle.extent_report.proofs.Summed.{line_led, line_at_led}
 use Rattle.extent_report.proofs.Texts.{three_pushed}
-use Rattle.extent_report.proofs.Leading.{words_listed}
+use Rattle.extent_report.proofs.LeastMembers.{words_listed}
 use Rattle.extent_report.proofs.gathered.push_block.Goals as goal
 
 pub returns : goal.returns

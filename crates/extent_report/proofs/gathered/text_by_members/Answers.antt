@@ -5,7 +5,7 @@ use Rattle.px_spec.specs.Members.{has}
 use Rattle.extent_report.specs.Chains.{leads}
 use Rattle.extent_report.specs.Summaries.{line_at}
 use Rattle.extent_report.proofs.Summed.{gathered, line_at_other}
-use Rattle.extent_report.proofs.Leading.{led_below}
+use Rattle.extent_report.proofs.LeastMembers.{led_below}
 use Rattle.extent_report.proofs.Rising.{texts_listed, count_listed}
 use Rattle.extent_report.proofs.gathered.text_by_members.Goals as goal
 
