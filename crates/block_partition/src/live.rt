@@ -97,8 +97,8 @@ fn grow(places: &mut Vec<u32>, span: usize) -> Result<(), Memory>
     ensures longer { vec_len places.old ≤ vec_len places.new }
     ensures ok { OnOk result (span ≤ vec_len places.new) }
 {
-    'places: while places.len() < span {
-        places.push(0)?;
+    if places.len() < span {
+        places.resize(span, 0)?;
     }
     Ok(())
 }
