@@ -52,7 +52,7 @@ impl Live {
         &self.numbers
     }
 
-    /// Makes room for that many more numbers, each below the span. Where the span stays, it takes no time for that.
+    /// Makes room for that many more numbers, and for numbers below that span.
     pub(crate) fn reserve(&mut self, span: usize, more: usize) -> Result<(), Memory>
         ensures numbers { self.new.numbers ≡ self.old.numbers }
         ensures span { self.old.span ≤ self.new.span }
