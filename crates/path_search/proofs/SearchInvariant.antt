@@ -1,20 +1,24 @@
 -- What the search keeps.
-use Rattle.std.proofs.Common.{◌≡◌, ℕ, ◌<◌, ◌⊎◌, inl, inr, List, [], ◌++◌, length, get_or, Bool, sym, subst, arith, Option, Some, IsTrue, true≢false}
+use Rattle.std.proofs.Common.{◌≡◌, ℕ, ◌<◌, ◌⊎◌, inl, inr, List, [], ◌++◌, length, get_or, Bool, refl, sym, subst, arith, Option, None, Some, IsTrue, true≢false}
 use Rattle.std.specs.List.Sorted.{IsStrictlyIncreasing}
 use Rattle.px_spec.specs.Members.{has}
 use Rattle.path_search.specs.declared.state.State.{State}
-use Rattle.path_search.specs.declared.state.State.TheVariants.{End}
+use Rattle.path_search.specs.declared.state.State.TheVariants.{End, Stuck, Any, Label, Fork}
 use Rattle.path_search.specs.Searches.{Succeeds, Reached, begin, onward, AreEnds}
 use Rattle.path_search.specs.Rows.{IsMarked}
 use Rattle.path_search.specs.Waits.{all_at, Among}
-use Rattle.path_search.specs.NewMarks.{SpreadsOver, SucceedsOne, IsPlace}
+use Rattle.path_search.specs.NewMarks.{SpreadsOver, SucceedsOne, Enters, EndsHere, MarksOne, IsPlace}
 use Rattle.path_search.proofs.RowMarks.{has_there}
 use Rattle.path_search.proofs.PairMarks.{among_more, among_back, among_cases, among_at, at_among}
 
 module _ (at : ℕ → Option State) (size : ℕ) (label_at : ℕ → Option ℕ) (edge : ℕ → ℕ → Bool) (First : ℕ → Type 0) (start states : ℕ) where
+  -- the state is an end, and was noted with no mark
+  abbrev pub IsNoted : List ℕ → ℕ → ℕ → Type 0
+  IsNoted answers s v = (at s ≡ Some End) × (v < size → IsTrue (has answers v))
+
   -- the pair was visited
   pub record IsDone (marks : List (List Bool)) (answers : List ℕ) (s v : ℕ) : Type 0 where
-    pub onto : (s2 v2 : ℕ) → Succeeds size label_at edge (at s) v s2 v2 → IsMarked marks s2 v2
+    pub onto : (s2 v2 : ℕ) → Succeeds size label_at edge (at s) v s2 v2 → IsMarked marks s2 v2 ⊎ IsNoted answers s2 v2
     pub ends : at s ≡ Some End → v < size → IsTrue (has answers v)
 
   pub record IsSearching (marks : List (List Bool)) (waiting : List (ℕ × ℕ)) (answers : List ℕ) : Type 0 where
@@ -56,26 +60,70 @@ module _ (at : ℕ → Option State) (size : ℕ) (label_at : ℕ → Option ℕ
       → 0 < length places → s0 < states
   state_waits m ks k s0 places a h was some = (place_waits m ks k s0 places a h was (get_or places 0 0) (has_there places 0 some)).1
 
+  is_end : (o : Option State) → (o ≡ Some End) ⊎ (o ≡ Some End → ⊥)
+  is_end None = inr (λ e. cc)
+  is_end (Some End) = inl refl
+  is_end (Some Stuck) = inr (λ e. cc)
+  is_end (Some (Any next)) = inr (λ e. cc)
+  is_end (Some (Label l next)) = inr (λ e. cc)
+  is_end (Some (Fork a b)) = inr (λ e. cc)
+
+  -- what succeeds is marked, or it is an end that is entered where one is
+  marked_or_entered : (s0 : ℕ) (o : Option State) → at s0 ≡ o → (places : List ℕ) (s c : ℕ) → SucceedsOne size label_at edge o places s c
+      → (MarksOne at size label_at edge s0 places s c) ⊎ (EndsHere at s0 × (at s ≡ Some End) × IsTrue (has places c))
+  marked_or_entered s0 None e places s c t = absurd t.2
+  marked_or_entered s0 (Some End) e places s c t = absurd t.2
+  marked_or_entered s0 (Some Stuck) e places s c t = absurd t.2
+  marked_or_entered s0 (Some (Any next)) e places s c t = inl (subst (λ o. SucceedsOne size label_at edge o places s c × (Enters o s → at s ≡ Some End → ⊥)) (sym e) (t, λ h k. h))
+  marked_or_entered s0 (Some (Label l next)) e places s c t = inl (subst (λ o. SucceedsOne size label_at edge o places s c × (Enters o s → at s ≡ Some End → ⊥)) (sym e) (t, λ h k. h))
+  marked_or_entered s0 (Some (Fork a b)) e places s c t = elim (is_end (at s)) [
+    | inl end ↦ inr (inr (s, subst (λ o. Enters o s) (sym e) t.2.0, end), end, subst (λ x. IsTrue (has places x)) (sym t.2.1) t.1)
+    | inr other ↦ inl (subst (λ o. SucceedsOne size label_at edge o places s c × (Enters o s → at s ≡ Some End → ⊥)) (sym e) (t, λ h k. other k))
+  ]
+
+  -- nothing succeeds an end
+  past_end : (s v s2 v2 : ℕ) → at s ≡ Some End → Succeeds size label_at edge (at s) v s2 v2 → ⊥
+  past_end s v s2 v2 e k = subst (λ o. Succeeds size label_at edge o v s2 v2) e k
+
+  -- an end that is entered is reached where its fork is
+  reached_here : (s v : ℕ) → EndsHere at s → Reached at size label_at edge First start s v → (k : ℕ) × (at k ≡ Some End) × Reached at size label_at edge First start k v
+  reached_here s v (inl e) r = (s, e, r)
+  reached_here s v (inr (k, enters, e)) r = (k, e, onward s v k v r (entered (at s) enters))
+    where
+      entered : (o : Option State) → Enters o k → Succeeds size label_at edge o v k v
+      entered None h = absurd h
+      entered (Some End) h = absurd h
+      entered (Some Stuck) h = absurd h
+      entered (Some (Any next)) h = absurd h
+      entered (Some (Label l next)) h = absurd h
+      entered (Some (Fork a b)) h = (h, refl)
+
   pub searching_next : (m m2 : List (List Bool)) (ks k k2 : List (ℕ × ℕ)) (s0 : ℕ) (places : List ℕ) (a a2 : List ℕ)
       → IsSearching m ks a
       → ks ≡ k ++ all_at s0 places
-      → SpreadsOver (SucceedsOne size label_at edge (at s0) places) m m2 k k2
-      → ((s c : ℕ) → SucceedsOne size label_at edge (at s0) places s c → IsMarked m2 s c)
+      → SpreadsOver (MarksOne at size label_at edge s0 places) m m2 k k2
+      → ((s c : ℕ) → MarksOne at size label_at edge s0 places s c → IsMarked m2 s c)
       → ((s c : ℕ) → SucceedsOne size label_at edge (at s0) places s c → (s < states) × IsPlace size label_at c)
       → ((v : ℕ) → IsTrue (has a v) → IsTrue (has a2 v))
-      → (at s0 ≡ Some End → (v : ℕ) → IsTrue (has places v) → v < size → IsTrue (has a2 v))
-      → ((v : ℕ) → IsTrue (has a2 v) → IsTrue (has a v) ⊎ ((at s0 ≡ Some End) × (v < size) × IsTrue (has places v)))
+      → (EndsHere at s0 → (v : ℕ) → IsTrue (has places v) → v < size → IsTrue (has a2 v))
+      → ((v : ℕ) → IsTrue (has a2 v) → IsTrue (has a v) ⊎ (EndsHere at s0 × (v < size) × IsTrue (has places v)))
       → IsStrictlyIncreasing a2
       → IsSearching m2 k2 a2
   searching_next m m2 ks k k2 s0 places a a2 h was spreads onto inside kept noted source rising =
       let on : (s v : ℕ) → IsMarked m s v → IsMarked m2 s v = λ s v x. spreads.grows s v x in
-      let still : (s v : ℕ) → IsDone m a s v → IsDone m2 a2 s v = λ s v d. record { onto = λ s2 v2 t. on s2 v2 (d.onto s2 v2 t); ends = λ e b. kept v (d.ends e b) } in
-      let done : (v : ℕ) → IsTrue (has places v) → IsDone m2 a2 s0 v = λ v p. record { onto = λ s2 v2 t. onto s2 v2 (v, p, t); ends = λ e b. noted e v p b } in
+      let still : (s v : ℕ) → IsDone m a s v → IsDone m2 a2 s v = λ s v d. record {
+        onto = λ s2 v2 t. elim (d.onto s2 v2 t) [ inl x ↦ inl (on s2 v2 x) | inr n ↦ inr (n.0, λ b. kept v2 (n.1 b)) ];
+        ends = λ e b. kept v (d.ends e b);
+      } in
+      let done : (v : ℕ) → IsTrue (has places v) → IsDone m2 a2 s0 v = λ v p. record {
+        onto = λ s2 v2 t. elim (marked_or_entered s0 (at s0) refl places s2 v2 (v, p, t)) [ inl x ↦ inl (onto s2 v2 x) | inr n ↦ inr (n.1, λ b. noted n.0 v2 n.2 b) ];
+        ends = λ e b. noted (inl e) v p b;
+      } in
       let from : (v : ℕ) → IsTrue (has places v) → Reached at size label_at edge First start s0 v = λ v p. h.reached s0 v (place_waits m ks k s0 places a h was v p).0 in
       record {
         reached = λ s v x. elim (spreads.fresh s v x) [
           | inl old ↦ h.reached s v old
-          | inr r ↦ onward s0 r.0.0 s v (from r.0.0 r.0.1) r.0.2
+          | inr r ↦ onward s0 r.0.0.0 s v (from r.0.0.0 r.0.0.1) r.0.0.2
         ];
         visited = λ s v x. elim (spreads.fresh s v x) [
           | inl old ↦ elim (h.visited s v old) [
@@ -89,12 +137,12 @@ module _ (at : ℕ → Option State) (size : ℕ) (label_at : ℕ → Option ℕ
         ];
         waits = λ s v x. elim (spreads.source s v x) [
           | inl b ↦ (let w = h.waits s v (subst (λ y. Among y s v) (sym was) (among_more k (all_at s0 places) s v b)) in (on s v w.0, w.1, w.2))
-          | inr r ↦ (let i = inside s v r in (onto s v r, i.0, i.1))
+          | inr r ↦ (let i = inside s v r.0 in (onto s v r, i.0, i.1))
         ];
         begun = λ v f. on start v (h.begun v f);
         found = λ v x. elim (source v x) [
           | inl old ↦ h.found v old
-          | inr e ↦ (s0, e.0, e.1, from v e.2)
+          | inr e ↦ (let r = reached_here s0 v e.0 (from v e.2) in (r.0, r.1, e.1, r.2))
         ];
         rising = rising;
       }
@@ -103,15 +151,18 @@ module _ (at : ℕ → Option State) (size : ℕ) (label_at : ℕ → Option ℕ
     done_of : (s v : ℕ) → IsMarked m s v → IsDone m a s v
     done_of s v x = elim (h.visited s v x) [ inl w ↦ absurd w | inr d ↦ d ]
 
-    marked_of : (s v : ℕ) → Reached at size label_at edge First start s v → IsMarked m s v
-    marked_of s v (begin v0 f) = h.begun v f
-    marked_of s v (onward s0 v0 s1 v1 r k) = (done_of s0 v0 (marked_of s0 v0 r)).onto s1 v1 k
+    marked_of : (s v : ℕ) → Reached at size label_at edge First start s v → IsMarked m s v ⊎ IsNoted a s v
+    marked_of s v (begin v0 f) = inl (h.begun v f)
+    marked_of s v (onward s0 v0 s1 v1 r k) = elim (marked_of s0 v0 r) [
+      | inl x ↦ (done_of s0 v0 x).onto s1 v1 k
+      | inr n ↦ absurd (past_end s0 v0 s1 v1 n.0 k)
+    ]
 
     pub searching_ends : AreEnds at size label_at edge First start a
     searching_ends = record {
       rising = h.rising;
       sound = λ v x. h.found v x;
-      complete = λ s v e b r. (done_of s v (marked_of s v r)).ends e b;
+      complete = λ s v e b r. elim (marked_of s v r) [ inl x ↦ (done_of s v x).ends e b | inr n ↦ n.1 b ];
     }
 
 pub none_rises : IsStrictlyIncreasing []

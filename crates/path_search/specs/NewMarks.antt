@@ -3,6 +3,7 @@ use Rattle.std.specs.Prelude.{◌≡◌, ℕ, ◌+◌, ◌≤◌, ◌⊎◌, Boo
 use Rattle.px_spec.specs.Members.{has}
 use Rattle.path_search.specs.Searches.{leads, Succeeds}
 use Rattle.path_search.specs.declared.state.State.{State}
+use Rattle.path_search.specs.declared.state.State.TheVariants.{End, Stuck, Any, Label, Fork}
 use Rattle.path_search.specs.Rows.{row, IsSet, IsMarked, row_members, members, pairs}
 use Rattle.path_search.specs.Waits.{Among}
 use Rattle.path_search.specs.declared.frontier.Frontier.{Frontier}
@@ -52,3 +53,20 @@ IsPlace size label_at v = (v ≡ size) ⊎ IsSome (label_at v)
 -- from this state at one of the places one gets to the state s at the place c
 abbrev pub SucceedsOne : ℕ → (ℕ → Option ℕ) → (ℕ → ℕ → Bool) → Option State → List ℕ → ℕ → ℕ → Type 0
 SucceedsOne size label_at edge state places s c = (v : ℕ) × IsTrue (has places v) × Succeeds size label_at edge state v s c
+
+-- the state is entered from this one with no label read
+abbrev pub Enters : Option State → ℕ → Type 0
+Enters None s = ⊥
+Enters (Some End) s = ⊥
+Enters (Some Stuck) s = ⊥
+Enters (Some (Any next)) s = ⊥
+Enters (Some (Label l next)) s = ⊥
+Enters (Some (Fork a b)) s = (s ≡ a) ⊎ (s ≡ b)
+
+-- a word ends in the state, or in one that is entered from it
+abbrev pub EndsHere : (ℕ → Option State) → ℕ → Type 0
+EndsHere at s = (at s ≡ Some End) ⊎ ((k : ℕ) × Enters (at s) k × (at k ≡ Some End))
+
+-- to what one gets, but for an end that is entered
+abbrev pub MarksOne : (ℕ → Option State) → ℕ → (ℕ → Option ℕ) → (ℕ → ℕ → Bool) → ℕ → List ℕ → ℕ → ℕ → Type 0
+MarksOne at size label_at edge state places s c = SucceedsOne size label_at edge (at state) places s c × (Enters (at state) s → at s ≡ Some End → ⊥)

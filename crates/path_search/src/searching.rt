@@ -5,7 +5,7 @@ ghost use Rattle.px_spec.specs.Members.{has};
 ghost use Rattle.path_search.specs.Searches.{label_in, edge_in, Succeeds, AreEnds};
 ghost use Rattle.path_search.specs.declared.state.State.TheVariants.{End};
 ghost use Rattle.path_search.specs.Rows.{row, IsMarked, HasRoom};
-ghost use Rattle.path_search.specs.NewMarks.{Spreads, NextOf, SucceedsOne, IsPlace};
+ghost use Rattle.path_search.specs.NewMarks.{Spreads, NextOf, SucceedsOne, EndsHere, MarksOne, IsPlace};
 
 use crate::follow::follow;
 use crate::frontier::Frontier;
@@ -48,26 +48,50 @@ fn advance<G: Digraph, S: Scope>(
     Ok(())
 }
 
-/// Marks both states at each of the places.
+/// Marks the state at each of the places, unless it is an end: these are noted before.
+fn enter(
+    program: &Program,
+    frontier: &mut Frontier,
+    found: &mut Vec<u32>,
+    state: u32,
+    places: &[u32],
+) -> Result<(), Memory>
+    requires state { state < length program.now }
+    requires there { state < length frontier.old.rows.items }
+    requires room { (v : ℕ) → IsTrue (has places.now v) → v < length (row frontier.old.rows.items state) }
+    ensures spreads { OnOk result (Spreads (λ s v. (s ≡ state) × IsTrue (has places.now v) × (slice_get program.now s ≡ Some End → ⊥)) frontier.old frontier.new) }
+    ensures marked { OnOk result ((v : ℕ) → IsTrue (has places.now v) → (slice_get program.now state ≡ Some End → ⊥) → IsMarked frontier.new.rows.items state v) }
+{
+    if is_end(program, state) {
+        Ok(())
+    } else {
+        frontier.mark_all(found, state, places)
+    }
+}
+
+/// Marks both states at each of the places, but for an end.
 fn fork(
+    program: &Program,
     frontier: &mut Frontier,
     found: &mut Vec<u32>,
     first: u32,
     second: u32,
     places: &[u32],
 ) -> Result<(), Memory>
+    requires first_state { first < length program.now }
+    requires second_state { second < length program.now }
     requires first { first < length frontier.old.rows.items }
     requires second { second < length frontier.old.rows.items }
     requires first_room { (v : ℕ) → IsTrue (has places.now v) → v < length (row frontier.old.rows.items first) }
     requires second_room { (v : ℕ) → IsTrue (has places.now v) → v < length (row frontier.old.rows.items second) }
-    ensures spreads { OnOk result (Spreads (λ s v. ((s ≡ first) ⊎ (s ≡ second)) × IsTrue (has places.now v)) frontier.old frontier.new) }
-    ensures marked { OnOk result ((s v : ℕ) → ((s ≡ first) ⊎ (s ≡ second)) → IsTrue (has places.now v) → IsMarked frontier.new.rows.items s v) }
+    ensures spreads { OnOk result (Spreads (λ s v. ((s ≡ first) ⊎ (s ≡ second)) × IsTrue (has places.now v) × (slice_get program.now s ≡ Some End → ⊥)) frontier.old frontier.new) }
+    ensures marked { OnOk result ((s v : ℕ) → ((s ≡ first) ⊎ (s ≡ second)) → IsTrue (has places.now v) → (slice_get program.now s ≡ Some End → ⊥) → IsMarked frontier.new.rows.items s v) }
 {
-    frontier.mark_all(found, first, places)?;
-    frontier.mark_all(found, second, places)
+    enter(program, frontier, found, first, places)?;
+    enter(program, frontier, found, second, places)
 }
 
-/// Marks all that succeeds the state at one of the places.
+/// Marks all that succeeds the state at one of the places, but for an end that a fork enters.
 fn visit<G: Digraph, S: Scope>(
     g: &G,
     scope: &S,
@@ -80,24 +104,36 @@ fn visit<G: Digraph, S: Scope>(
     requires state { state < length program.now }
     requires places { (v : ℕ) → IsTrue (has places.now v) → IsPlace (G.span g.now) (label_in (S.keeps scope.now) (G.label_at g.now)) v }
     requires room { HasRoom (length program.now) (G.span g.now + 1) frontier.old.rows.items }
-    ensures spreads { OnOk result (Spreads (SucceedsOne (G.span g.now) (label_in (S.keeps scope.now) (G.label_at g.now)) (edge_in (S.keeps scope.now) (G.edge g.now)) (slice_get program.now state) places.now) frontier.old frontier.new) }
-    ensures marked { OnOk result ((s c : ℕ) → SucceedsOne (G.span g.now) (label_in (S.keeps scope.now) (G.label_at g.now)) (edge_in (S.keeps scope.now) (G.edge g.now)) (slice_get program.now state) places.now s c → IsMarked frontier.new.rows.items s c) }
+    ensures spreads { OnOk result (Spreads (MarksOne (λ k. slice_get program.now k) (G.span g.now) (label_in (S.keeps scope.now) (G.label_at g.now)) (edge_in (S.keeps scope.now) (G.edge g.now)) state places.now) frontier.old frontier.new) }
+    ensures marked { OnOk result ((s c : ℕ) → MarksOne (λ k. slice_get program.now k) (G.span g.now) (label_in (S.keeps scope.now) (G.label_at g.now)) (edge_in (S.keeps scope.now) (G.edge g.now)) state places.now s c → IsMarked frontier.new.rows.items s c) }
     ensures inside { (s c : ℕ) → SucceedsOne (G.span g.now) (label_in (S.keeps scope.now) (G.label_at g.now)) (edge_in (S.keeps scope.now) (G.edge g.now)) (slice_get program.now state) places.now s c → (s < length program.now) × IsPlace (G.span g.now) (label_in (S.keeps scope.now) (G.label_at g.now)) c }
 {
     match program.state(state) {
         State::End | State::Stuck => Ok(()),
         State::Any(next) => advance(g, scope, frontier, found, None, next, places),
         State::Label(label, next) => advance(g, scope, frontier, found, Some(label), next, places),
-        State::Fork(first, second) => fork(frontier, found, first, second, places),
+        State::Fork(first, second) => fork(program, frontier, found, first, second, places),
     }
 }
 
 /// Whether a word ends in the state.
-fn ends(program: &Program, state: u32) -> bool
+fn is_end(program: &Program, state: u32) -> bool
     requires { state < length program.now }
     ensures { IsTrue result ↔ (slice_get program.now state ≡ Some End) }
 {
     matches!(program.state(state), State::End)
+}
+
+/// Whether a word ends in the state, or in one that is entered from it.
+fn ends(program: &Program, state: u32) -> bool
+    requires { state < length program.now }
+    ensures { IsTrue result ↔ EndsHere (λ k. slice_get program.now k) state }
+{
+    match program.state(state) {
+        State::End => true,
+        State::Fork(first, second) => is_end(program, first) || is_end(program, second),
+        State::Stuck | State::Any(_) | State::Label(_, _) => false,
+    }
 }
 
 /// Adds to the answers each of the places that is below their size.
@@ -129,14 +165,14 @@ fn note(answers: &mut Bits, place: u32)
     }
 }
 
-/// Adds the nodes among the places to the answers where a word ends in the state.
+/// Adds the nodes among the places to the answers where a word ends in the state, or in one that is entered from it.
 fn note_ends(program: &Program, answers: &mut Bits, state: u32, places: &[u32])
     requires state { state < length program.now }
     requires rising { IsStrictlyIncreasing answers.old.members }
     ensures size { answers.new.size ≡ answers.old.size }
     ensures kept { (v : ℕ) → IsTrue (has answers.old.members v) → IsTrue (has answers.new.members v) }
-    ensures noted { slice_get program.now state ≡ Some End → (v : ℕ) → IsTrue (has places.now v) → v < answers.old.size → IsTrue (has answers.new.members v) }
-    ensures source { (v : ℕ) → IsTrue (has answers.new.members v) → IsTrue (has answers.old.members v) ⊎ ((slice_get program.now state ≡ Some End) × (v < answers.old.size) × IsTrue (has places.now v)) }
+    ensures noted { EndsHere (λ k. slice_get program.now k) state → (v : ℕ) → IsTrue (has places.now v) → v < answers.old.size → IsTrue (has answers.new.members v) }
+    ensures source { (v : ℕ) → IsTrue (has answers.new.members v) → IsTrue (has answers.old.members v) ⊎ (EndsHere (λ k. slice_get program.now k) state × (v < answers.old.size) × IsTrue (has places.now v)) }
     ensures rising { IsStrictlyIncreasing answers.new.members }
 {
     if ends(program, state) {

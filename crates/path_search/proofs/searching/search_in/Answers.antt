@@ -5,7 +5,7 @@ use Rattle.path_search.specs.Searches.{label_in, edge_in}
 use Rattle.px_spec.specs.Members.{has}
 use Rattle.path_search.specs.Rows.{HasRoom}
 use Rattle.path_search.specs.Waits.{all_at, IsTaken}
-use Rattle.path_search.specs.NewMarks.{SpreadsOver, SucceedsOne}
+use Rattle.path_search.specs.NewMarks.{SpreadsOver, SucceedsOne, MarksOne}
 use Rattle.path_search.proofs.PairMarks.{members_le, room_on, falls, length_at, row_there}
 use Rattle.path_search.proofs.SearchInvariant.{searching_begins, searching_next, searching_ends, state_waits, place_waits, none_rises, IsSearching}
 use Rattle.std.specs.Prelude.{MatchOption}
@@ -95,8 +95,8 @@ runs-preserved g c =
       size = n.size ∙ kept.size;
       searching = searching_next at span label_at edge First c.args.start states rows after.rows.items c.runs.frontier.waiting c.take.new.self after.waiting c.in-Some.state places
           c.runs.answers.members c.note_ends.new.answers.members kept.searching t.last
-          (subst (λ x. SpreadsOver (SucceedsOne span label_at edge (at c.in-Some.state) x) rows after.rows.items c.take.new.self after.waiting) visited v.spreads)
-          (λ s e h. v.marked s e (subst (λ x. SucceedsOne span label_at edge (at c.in-Some.state) x s e) (sym visited) h))
+          (subst (λ x. SpreadsOver (MarksOne at span label_at edge c.in-Some.state x) rows after.rows.items c.take.new.self after.waiting) visited v.spreads)
+          (λ s e h. v.marked s e (subst (λ x. MarksOne at span label_at edge c.in-Some.state x s e) (sym visited) h))
           (λ s e h. v.inside s e (subst (λ x. SucceedsOne span label_at edge (at c.in-Some.state) x s e) (sym visited) h))
           n.kept
           (λ e u p b. n.noted e u (subst (λ x. IsTrue (has x u)) (sym noted) p) (subst (λ x. u < x) (sym kept.size) b))
