@@ -2,13 +2,15 @@
 use Rattle.std.proofs.Common.{◌≡◌, ℕ, zero, suc, ◌<◌, ◌⊎◌, List, [], ◌∷◌, length, refl, sym, ◌∙◌, ap, subst, arith, inl, inr, true, false, Bool, Contains, get_or, true≢false}
 use Rattle.std.specs.Prelude.{nat_eq}
 use Rattle.std.specs.Ordering.{nat_cmp}
-use Rattle.std.specs.List.{dedup}
-use Rattle.std.specs.List.Sorted.{IsSorted, IsPermutation, IsStrictlyIncreasing}
+use Rattle.std.specs.Cmp.{ranked}
+use Rattle.std.specs.List.{dedup, IsDistinct, AllByRecursion}
+use Rattle.std.specs.List.Sorted.{IsSorted, IsPermutation, IsStrictlySortedBy, IsStrictlyIncreasing}
+use Rattle.std.specs.declared.cmp.Ordering.TheVariants.{Less}
 use Rattle.std.proofs.lemmas.Bool.{or_cases, or_left, or_right}
 use Rattle.std.proofs.lemmas.Bool.Decides.{Decides-eqb}
 use Rattle.std.proofs.lemmas.List.Sorted.{list_any-IsPermutation}
 use Rattle.std.proofs.lemmas.List.Kept.{Contains-dedup_nat, Contains-from_dedup}
-use Rattle.std.proofs.lemmas.Map.Keys.{IsStrictlyIncreasing-dedup}
+use Rattle.std.proofs.lemmas.Map.Keys.{IsStrictlyIncreasing-dedup, sorted_from_strictly_increasing}
 use Rattle.px_spec.specs.Members.{has}
 
 pub has_cases : (y : ℕ) (ys : List ℕ) (n : ℕ) → has (y ∷ ys) n ≡ true → (n ≡ y) ⊎ (has ys n ≡ true)
@@ -43,6 +45,22 @@ same_answer false false h k = refl
 -- what is left of sorted numbers without repeats rises
 pub deduped_rising : (sorted kept : List ℕ) → IsSorted nat_cmp sorted → kept ≡ dedup nat_eq sorted → IsStrictlyIncreasing kept
 deduped_rising sorted kept is_sorted kept_is = subst IsStrictlyIncreasing (sym kept_is) (IsStrictlyIncreasing-dedup sorted is_sorted)
+
+above_differ : (x : ℕ) (xs : List ℕ) → AllByRecursion (λ y. nat_cmp x y ≡ Less) xs → AllByRecursion (λ y. nat_eq x y ≡ false) xs
+above_differ x [] h = h
+above_differ x (y ∷ ys) h = (apart, above_differ x ys h.1)
+  where
+    apart : nat_eq x y ≡ false
+    apart = let less : x < y = ranked x y Less (sym h.0) in grind (arith, less)
+
+sorted_once : (xs : List ℕ) → IsStrictlySortedBy nat_cmp xs → IsDistinct nat_eq xs
+unfolding IsStrictlySortedBy IsDistinct
+sorted_once [] h = h
+sorted_once (x ∷ xs) h = (above_differ x xs h.0, sorted_once xs h.1)
+
+-- so each is there once
+pub deduped_once : (sorted kept : List ℕ) → IsSorted nat_cmp sorted → kept ≡ dedup nat_eq sorted → IsDistinct nat_eq kept
+deduped_once sorted kept is_sorted kept_is = sorted_once kept (sorted_from_strictly_increasing kept (deduped_rising sorted kept is_sorted kept_is))
 
 -- and has the numbers of the list that was sorted
 pub deduped_same : (raw sorted kept : List ℕ) → IsPermutation raw sorted → kept ≡ dedup nat_eq sorted → (b : ℕ) → has kept b ≡ has raw b

@@ -3,33 +3,15 @@ use Rattle.std.proofs.Common.{◌≡◌, ℕ, ◌<◌, List, [], ◌∷◌, ◌+
 use Rattle.std.specs.Prelude.{nat_eq}
 use Rattle.std.specs.Ordering.{nat_cmp}
 use Rattle.std.specs.Cmp.{ranked}
-use Rattle.std.specs.List.{dedup, IsDistinct, AllByRecursion}
-use Rattle.std.specs.List.Sorted.{IsSorted, IsPermutation, IsStrictlySortedBy, IsStrictlyIncreasing}
+use Rattle.std.specs.List.{IsDistinct, AllByRecursion}
+use Rattle.std.specs.List.Sorted.{IsStrictlySortedBy, IsStrictlyIncreasing}
 use Rattle.std.specs.declared.cmp.Ordering.TheVariants.{Less}
-use Rattle.std.proofs.lemmas.Cmp.{nat_eq_equiv}
 use Rattle.std.proofs.lemmas.List.Folds.{list_any-append}
-use Rattle.std.proofs.lemmas.List.Sorted.{list_any-IsPermutation}
-use Rattle.std.proofs.lemmas.List.Kept.{Contains-dedup_nat, Contains-from_dedup, IsStrictlyIncreasing-filter}
-use Rattle.std.proofs.lemmas.Map.Keys.{IsStrictlyIncreasing-dedup, sorted_from_strictly_increasing}
-use Rattle.std.proofs.lemmas.Map.Views.{any-filter_same, list_any-from_Contains, Contains-from_any}
+use Rattle.std.proofs.lemmas.List.Kept.{IsStrictlyIncreasing-filter}
+use Rattle.std.proofs.lemmas.Map.Keys.{sorted_from_strictly_increasing}
+use Rattle.std.proofs.lemmas.Map.Views.{any-filter_same}
 use Rattle.px_spec.specs.Members.{Lists, has}
 use Rattle.quotient_draft.proofs.Written.{number_is}
-
-same_answer : (a b : Bool) → (a ≡ true → b ≡ true) → (b ≡ true → a ≡ true) → a ≡ b
-same_answer true b h k = sym (h refl)
-same_answer false true h k = k refl
-same_answer false false h k = refl
-
-pub deduped_rising : (sorted kept : List ℕ) → IsSorted nat_cmp sorted → kept ≡ dedup nat_eq sorted → IsStrictlyIncreasing kept
-deduped_rising sorted kept is_sorted e = subst IsStrictlyIncreasing (sym e) (IsStrictlyIncreasing-dedup sorted is_sorted)
-
-pub deduped_same : (raw sorted kept : List ℕ) → IsPermutation raw sorted → kept ≡ dedup nat_eq sorted → (b : ℕ) → has kept b ≡ has raw b
-deduped_same raw sorted kept perm e b =
-    ap (λ xs. has xs b) e
-    ∙ same_answer (has (dedup nat_eq sorted) b) (has sorted b)
-    (λ h. list_any-from_Contains nat_eq_equiv b sorted (Contains-from_dedup nat_eq sorted b (Contains-from_any number_is b (dedup nat_eq sorted) h)))
-    (λ h. list_any-from_Contains nat_eq_equiv b (dedup nat_eq sorted) (Contains-dedup_nat sorted b (Contains-from_any number_is b sorted h)))
-    ∙ sym (list_any-IsPermutation (nat_eq b) raw sorted perm)
 
 above_differ : (x : ℕ) (xs : List ℕ) → AllByRecursion (λ y. nat_cmp x y ≡ Less) xs → AllByRecursion (λ y. nat_eq x y ≡ false) xs
 above_differ x [] h = h
@@ -42,9 +24,6 @@ sorted_once : (xs : List ℕ) → IsStrictlySortedBy nat_cmp xs → IsDistinct n
 unfolding IsStrictlySortedBy IsDistinct
 sorted_once [] h = h
 sorted_once (x ∷ xs) h = (above_differ x xs h.0, sorted_once xs h.1)
-
-pub deduped_once : (sorted kept : List ℕ) → IsSorted nat_cmp sorted → kept ≡ dedup nat_eq sorted → IsDistinct nat_eq kept
-deduped_once sorted kept is_sorted e = sorted_once kept (sorted_from_strictly_increasing kept (deduped_rising sorted kept is_sorted e))
 
 settle : (p q d : Bool) → (d ≡ false → p ≡ q) → (p && (q || d)) ≡ p
 settle false q d h = refl

@@ -14,7 +14,6 @@ mod next;
 mod put_log;
 mod retiring;
 mod settling;
-mod sorting;
 mod touching;
 mod writing;
 

@@ -12,8 +12,8 @@ ghost use Rattle.quotient_draft.specs.Remaining.{is_unmoved};
 
 use crate::counts::{count_of, count_one};
 use crate::put_log::PutLog;
-use crate::sorting::sort_once;
 use indexmap::IndexMap;
+use key_table::sort_once;
 use px_base::{Memory, NodeId};
 use quotient::Summary;
 use std::alloc::Global;

@@ -7,7 +7,7 @@ ghost use Rattle.quotient_draft.specs.Drafts.{shown_support, with_supports};
 
 use crate::changed::Changed;
 use crate::draft::Draft;
-use crate::sorting::sort_once;
+use key_table::sort_once;
 use label_graph::Digraph;
 use px_base::Memory;
 use quotient::Summary;

@@ -1,6 +1,0 @@
-use Rattle.std.proofs.Common.{◌≡◌, ◌++◌, filter_map, take}
-use Rattle.px_spec.specs.Members.{at}
-use Rattle.block_splitting.proofs.keys.push_blocks.Given as goal
-
-abbrev pub invariant-loop-n : goal.invariant-loop-n
-invariant-loop-n l = l.numbers.items ≡ l.initial.numbers.items ++ filter_map (at l.blocks.block_of) (take l.n-index l.nodes)

@@ -1,5 +1,0 @@
-use Rattle.bisim_levels.proofs.Written.{blocks_more}
-use Rattle.one_splitting.proofs.keys.push_blocks.Goals as goal
-
-pub loop-n-preserved : goal.loop-n-preserved
-loop-n-preserved c = blocks_more _ c.args.nodes.now _ _ _ _ 0 _ c.loop-n-test.true c.loop-n.invariant c.block_of.ensures.block c.in_ok-push_block.ensures
