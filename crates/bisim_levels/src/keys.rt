@@ -1,14 +1,14 @@
 // Writing the key of a node.
-ghost use Rattle.std.specs.Prelude.{◌≡◌, ◌++◌, ◌∷◌, [], ℕ, filter_map, option_to_list, OnOk, IfSome, Some};
+ghost use Rattle.std.specs.Prelude.{◌≡◌, ◌++◌, ◌∷◌, [], ℕ, Option, filter_map, option_to_list, OnOk, IfSome, Some};
 ghost use Rattle.px_spec.specs.Members.{at};
-ghost use Rattle.bisim_levels.specs.Keys.{IsWritten};
+ghost use Rattle.bisim_levels.specs.Keys.{Gives, IsWritten};
 
 use key_table::sort_once;
 use px_base::{Memory, NodeId};
 
-/// The block of a node, and `None` past the end of the list.
+/// The block of a node, and `None` past the end of the list. O(1), no memory.
 #[inline(always)]
-pub(crate) fn block_of(block: &[Option<u32>], n: NodeId) -> Option<u32>
+pub fn block_of(block: &[Option<u32>], n: NodeId) -> Option<u32>
     ensures { result ≡ at block.now n }
 {
     if (n as usize) < block.len() {
@@ -19,9 +19,9 @@ pub(crate) fn block_of(block: &[Option<u32>], n: NodeId) -> Option<u32>
 }
 
 /// The block of the only node of a list, and `None` where there are more nodes, or none, or where that
-/// node has no block.
+/// node has no block. O(1), no memory.
 #[inline(always)]
-pub(crate) fn only_block(block: &[Option<u32>], nodes: &[NodeId]) -> Option<u32>
+pub fn only_block(block: &[Option<u32>], nodes: &[NodeId]) -> Option<u32>
     ensures { IfSome result (λ b. (p : ℕ) × (nodes.now ≡ p ∷ []) × (at block.now p ≡ Some b)) }
 {
     if nodes.len() == 1 {
@@ -43,30 +43,34 @@ fn push_block(numbers: &mut Vec<u32>, block: Option<u32>) -> Result<(), Memory>
 }
 
 // Puts the blocks of the nodes behind the numbers.
-fn push_blocks(
+fn push_blocks<F: Fn(NodeId) -> Option<u32>>(
     numbers: &mut Vec<u32>,
-    block: &[Option<u32>],
     nodes: &[NodeId],
+    block_of: F,
 ) -> Result<(), Memory>
-    ensures { OnOk result (numbers.new.items ≡ numbers.old.items ++ filter_map (at block.now) nodes.now) }
+    requires { F.IsAlwaysCallable block_of }
+    ensures { OnOk result ((f : ℕ → Option ℕ) → Gives (F.post block_of) f → numbers.new.items ≡ numbers.old.items ++ filter_map f nodes.now) }
 {
     for n in nodes {
-        push_block(numbers, block_of(block, *n))?;
+        push_block(numbers, block_of(*n))?;
     }
     Ok(())
 }
 
-/// Writes the key of a node with these neighbours, whose own block has this number.
-pub(crate) fn write_key(
+/// Writes the key of a node with these neighbours, whose own block has this number: that number, and then the
+/// blocks of the neighbours, rising, each once. O(m log m) for m neighbours; it takes 4 bytes for each where the
+/// list has no room.
+pub fn write_key<F: Fn(NodeId) -> Option<u32>>(
     key: &mut Vec<u32>,
-    block: &[Option<u32>],
     nodes: &[NodeId],
     number: u32,
+    block_of: F,
 ) -> Result<(), Memory>
-    ensures { OnOk result (IsWritten (at block.now) nodes.now number key.new.items) }
+    requires { F.IsAlwaysCallable block_of }
+    ensures { OnOk result ((f : ℕ → Option ℕ) → Gives (F.post block_of) f → IsWritten f nodes.now number key.new.items) }
 {
     key.clear();
-    push_blocks(key, block, nodes)?;
+    push_blocks(key, nodes, block_of)?;
     sort_once(key);
     key.insert(0, number)?;
     Ok(())

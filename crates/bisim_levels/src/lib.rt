@@ -9,6 +9,7 @@ mod sides;
 #[cfg(test)]
 mod tests;
 
+pub use keys::{block_of, only_block, write_key};
 pub use levels::{label_level, next_level, next_level_both};
 pub use refining::{Level, refine};
 pub use sides::Side;

@@ -39,7 +39,7 @@ fn intern_key(
     ensures ok { IfOk result (λ k. (key : List ℕ) × IsWritten (at base.now) nodes.now number key × Interns keys.old keys.new key k) }
     ensures distinct { IfOk result (λ k. AreDistinct keys.new) }
 {
-    write_key(key, base, nodes, number)?;
+    write_key(key, nodes, number, |n| block_of(base, n))?;
     keys.intern(key)
 }
 

@@ -9,7 +9,8 @@ ghost use Rattle.block_splitting.specs.Splits.{AreLabelled, AreInhabited};
 ghost use Rattle.coarsest_partition.specs.Ordered.{IsOrdered, AreAllNumbered, IsNumbered};
 
 use crate::labels::first_numbers;
-use crate::numbering::{number_node, number_of};
+use crate::numbering::number_node;
+use bisim_levels::block_of;
 use block_filling::fill;
 use block_partition::Blocks;
 use key_table::KeyTable;
@@ -163,7 +164,7 @@ fn number_ordered(alloc: Global, view: &GraphView<'_>) -> Result<Numbers, Memory
 fn is_numbered(block: &[Option<u32>], view: &GraphView<'_>, n: NodeId) -> bool
     ensures { IsTrue result → IsNumbered view.now block.now n }
 {
-    number_of(block, n).is_some() || !view.is_node(n)
+    block_of(block, n).is_some() || !view.is_node(n)
 }
 
 // Whether each node has a number.

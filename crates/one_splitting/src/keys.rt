@@ -1,9 +1,9 @@
 // The keys of nodes: their own blocks, and the blocks of their parents.
-ghost use Rattle.std.specs.Prelude.{◌≡◌, ◌++◌, ◌+◌, ◌≤◌, ◌<◌, [], ℕ, List, filter_map, option_to_list, OnOk, IfOk, Some, IsSome, IsTrue, length, sum_by};
+ghost use Rattle.std.specs.Prelude.{◌≡◌, ◌+◌, ◌≤◌, ◌<◌, [], ℕ, List, IfOk, Some, IsSome, IsTrue, length, sum_by};
 ghost use Rattle.px_spec.specs.Members.{has, at};
 ghost use Rattle.px_spec.specs.Graphs.{has_edge};
 ghost use Rattle.px_spec.specs.Shapes.{shape_of, IsShape};
-ghost use Rattle.bisim_levels.specs.Keys.{IsWritten, IsKey};
+ghost use Rattle.bisim_levels.specs.Keys.{IsKey};
 ghost use Rattle.key_table.specs.NumberedKeys.{Interns};
 ghost use Rattle.graph_update.specs.Pending.{graph_after};
 ghost use Rattle.quotient_draft.specs.Drafts.{shown_blocks};
@@ -11,58 +11,40 @@ ghost use Rattle.quotient_draft.specs.Basis.{IsOver};
 ghost use Rattle.node_moves.specs.Costs.{parents_cost};
 ghost use Rattle.one_splitting.specs.Numbered.{HaveNumbers};
 
+use bisim_levels::write_key;
 use graph_update::After;
-use key_table::{KeyTable, sort_once};
+use key_table::KeyTable;
 use node_moves::read_parents;
 use px_base::{Memory, NodeId, Steps};
 use quotient::Summary;
 use quotient_draft::Draft;
 use std::alloc::Global;
+use std::marker::Model;
 use std::sync::ledger::Ledger;
 
-// Puts a block behind the numbers, where there is one.
-#[inline(always)]
-fn push_block(numbers: &mut Vec<u32>, block: Option<u32>) -> Result<(), Memory>
-    ensures { OnOk result (numbers.new.items ≡ numbers.old.items ++ option_to_list block) }
-{
-    if let Some(b) = block {
-        numbers.push(b)?;
-    }
-    Ok(())
+// A key, and the parents of its node. A contract sees nothing in them.
+#[derive(Drop)]
+struct KeyBuffers {
+    key: Vec<u32>,
+    parents: Vec<NodeId>,
 }
 
-// Puts the blocks of the nodes behind the numbers.
-fn push_blocks(
-    numbers: &mut Vec<u32>,
-    base: &Summary,
-    draft: &Draft,
-    nodes: &[NodeId],
-) -> Result<(), Memory>
-    requires over { IsOver base.now.blocks.block_of base.now.blocks.labels draft.now }
-    ensures { OnOk result (numbers.new.items ≡ numbers.old.items ++ filter_map (at (shown_blocks base.now draft.now)) nodes.now) }
-{
-    for n in nodes {
-        push_block(numbers, draft.block_of(base, *n))?;
-    }
-    Ok(())
+impl Model for KeyBuffers {
+    ghost use Rattle.std.specs.Prelude.{⊤};
+
+    ghost Value = { ⊤ };
+
+    ghost view = { λ _. tt };
 }
 
-// Writes the key of a node with these parents, whose own block has this number.
-fn write_key(
-    key: &mut Vec<u32>,
-    base: &Summary,
-    draft: &Draft,
-    parents: &[NodeId],
-    own: u32,
-) -> Result<(), Memory>
-    requires over { IsOver base.now.blocks.block_of base.now.blocks.labels draft.now }
-    ensures { OnOk result (IsWritten (at (shown_blocks base.now draft.now)) parents.now own key.new.items) }
-{
-    key.clear();
-    push_blocks(key, base, draft, parents)?;
-    sort_once(key);
-    key.insert(0, own)?;
-    Ok(())
+impl KeyBuffers {
+    // Empty buffers. They take no memory until they are used.
+    fn new(alloc: Global) -> KeyBuffers {
+        KeyBuffers {
+            key: Vec::new(alloc),
+            parents: Vec::new(alloc),
+        }
+    }
 }
 
 /// The block of a node that has one.
@@ -74,15 +56,14 @@ pub(crate) fn own_block(base: &Summary, draft: &Draft, n: NodeId) -> u32
     draft.block_of(base, n).unwrap()
 }
 
-// The number of a node's key. The key and its parents are written into the lists.
+// The number of a node's key. Its parents are read once.
 fn number_of<L: Ledger>(
     base: &Summary,
     draft: &Draft,
     after: &After<'_>,
     n: NodeId,
     keys: &mut KeyTable,
-    key: &mut Vec<u32>,
-    parents: &mut Vec<NodeId>,
+    buffers: &mut KeyBuffers,
     steps: &mut Steps<L>,
 ) -> Result<u32, Memory>
     requires over { IsOver base.now.blocks.block_of base.now.blocks.labels draft.now }
@@ -91,9 +72,15 @@ fn number_of<L: Ledger>(
     ensures ok { IfOk result (λ k. (key : List ℕ) × IsKey (at (shown_blocks base.now draft.now)) (shown_blocks base.now draft.now) (has_edge (graph_after after.now)) n key × Interns keys.old keys.new key k) }
     ensures cost { steps.new ≤ steps.old + parents_cost after.now n }
 {
-    read_parents(parents, after, n, steps)?;
-    write_key(key, base, draft, parents, own_block(base, draft, n))?;
-    keys.intern(key)
+    read_parents(&mut buffers.parents, after, n, steps)?;
+    let own = own_block(base, draft, n);
+    write_key(
+        &mut buffers.key,
+        &buffers.parents,
+        own,
+        |p| draft.block_of(base, p),
+    )?;
+    keys.intern(&buffers.key)
 }
 
 /// The numbers of the keys of these nodes, in an empty table.
@@ -115,10 +102,9 @@ pub(crate) fn number_nodes<L: Ledger>(
     ensures cost { steps.new ≤ steps.old + sum_by (parents_cost after.now) nodes.now }
 {
     let mut numbers = Vec::with_capacity(alloc, nodes.len())?;
-    let mut key = Vec::new(alloc);
-    let mut parents = Vec::new(alloc);
+    let mut buffers = KeyBuffers::new(alloc);
     for n in nodes {
-        let k = number_of(base, draft, after, *n, keys, &mut key, &mut parents, steps)?;
+        let k = number_of(base, draft, after, *n, keys, &mut buffers, steps)?;
         numbers.push(k)?;
     }
     Ok(numbers)

@@ -1,6 +1,6 @@
-use Rattle.std.proofs.Common.{◌≡◌, ◌++◌, filter_map, take}
-use Rattle.px_spec.specs.Members.{at}
+use Rattle.std.proofs.Common.{◌≡◌, ◌++◌, ℕ, Option, filter_map, take}
+use Rattle.bisim_levels.specs.Keys.{Gives}
 use Rattle.bisim_levels.proofs.keys.push_blocks.Given as goal
 
 abbrev pub invariant-loop-n : goal.invariant-loop-n
-invariant-loop-n l = l.numbers.items ≡ l.initial.numbers.items ++ filter_map (at l.block) (take l.n-index l.nodes)
+invariant-loop-n g l = (f : ℕ → Option ℕ) → Gives (goal.F-post g l.block_of) f → l.numbers.items ≡ l.initial.numbers.items ++ filter_map f (take l.n-index l.nodes)
