@@ -5,6 +5,7 @@ mod company;
 mod goals;
 mod keys;
 mod moving;
+mod next_nodes;
 mod owners;
 mod rounds;
 mod targets;

@@ -10,8 +10,9 @@ ghost use Rattle.quotient_draft.specs.Drafts.{shown_blocks, shown_labels, shown_
 ghost use Rattle.quotient_draft.specs.Basis.{IsOver};
 ghost use Rattle.node_moves.specs.Costs.{parents_cost, children_cost};
 
+use crate::next_nodes::NextNodes;
 use graph_update::After;
-use node_moves::{Near, move_node};
+use node_moves::move_node;
 use px_base::{Memory, NodeId, Steps};
 use quotient::Summary;
 use quotient_draft::Draft;
@@ -24,8 +25,7 @@ pub(crate) fn move_and_list<L: Ledger>(
     after: &After<'_>,
     n: NodeId,
     b: u32,
-    near: &mut Near,
-    next: &mut Vec<NodeId>,
+    next: &mut NextNodes,
     steps: &mut Steps<L>,
 ) -> Result<(), Memory>
     requires over { IsOver base.now.blocks.block_of base.now.blocks.labels draft.old }
@@ -36,11 +36,11 @@ pub(crate) fn move_and_list<L: Ledger>(
     ensures moved { OnOk result ((m : ℕ) → at (shown_blocks base.now draft.new) m ≡ (if nat_eq m n then Some b else at (shown_blocks base.now draft.old) m)) }
     ensures added { draft.new.added ≡ draft.old.added }
     ensures supports { OnOk result (AreEdgeCounts (graph_after after.now) (shown_blocks base.now draft.new) (shown_support base.now draft.new)) }
-    ensures next { OnOk result ((children : List ℕ) × Lists (has_edge (graph_after after.now) n) children × (next.new.items ≡ next.old.items ++ children)) }
+    ensures next { OnOk result ((children : List ℕ) × Lists (has_edge (graph_after after.now) n) children × (next.new.list.items ≡ next.old.list.items ++ children)) }
     ensures over { OnOk result (IsOver base.now.blocks.block_of base.now.blocks.labels draft.new) }
     ensures cost { steps.new ≤ steps.old + parents_cost after.now n + children_cost after.now n }
 {
-    move_node(base, draft, after, n, b, near, steps)?;
-    next.extend_from_slice(near.children())?;
+    move_node(base, draft, after, n, b, &mut next.near, steps)?;
+    next.list.extend_from_slice(next.near.children())?;
     Ok(())
 }

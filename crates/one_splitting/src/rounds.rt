@@ -1,5 +1,5 @@
 // Splitting in rounds.
-ghost use Rattle.std.specs.Prelude.{◌≡◌, ◌⊎◌, ◌+◌, ◌≤◌, ◌<◌, [], ℕ, Bool, List, Option, IfOk, OnOk, IsSome, IfSome, IsTrue, is_some, ◌&&◌, ◌||◌, length, nat_eq, sum_by, if◌then◌else◌};
+ghost use Rattle.std.specs.Prelude.{◌≡◌, ◌⊎◌, ◌+◌, ◌≤◌, ◌<◌, [], ℕ, Bool, List, Option, IfOk, OnOk, IsSome, IfSome, IsTrue, is_some, ◌&&◌, ◌||◌, length, nat_eq, slice_index, sum_by, if◌then◌else◌};
 ghost use Rattle.std.specs.List.{IsDistinct};
 ghost use Rattle.px_spec.specs.Members.{has, at};
 ghost use Rattle.px_spec.specs.Graphs.{is_live, has_edge};
@@ -18,10 +18,10 @@ use crate::company::with_company;
 use crate::goals::find_goals;
 use crate::keys::number_nodes;
 use crate::moving::move_and_list;
+use crate::next_nodes::NextNodes;
 use crate::owners::count_owners;
 use graph_update::After;
 use key_table::{KeyTable, sort_once};
-use node_moves::Near;
 use px_base::{Memory, NodeId, Steps};
 use quotient::Summary;
 use quotient_draft::Draft;
@@ -35,8 +35,7 @@ fn move_one<L: Ledger>(
     after: &After<'_>,
     n: NodeId,
     goal: Option<u32>,
-    near: &mut Near,
-    next: &mut Vec<NodeId>,
+    next: &mut NextNodes,
     steps: &mut Steps<L>,
 ) -> Result<(), Memory>
     requires over { IsOver base.now.blocks.block_of base.now.blocks.labels draft.old }
@@ -48,20 +47,28 @@ fn move_one<L: Ledger>(
     ensures moved { OnOk result ((m : ℕ) → at (shown_blocks base.now draft.new) m ≡ (if nat_eq m n && is_some goal then goal else at (shown_blocks base.now draft.old) m)) }
     ensures added { draft.new.added ≡ draft.old.added }
     ensures supports { OnOk result (AreEdgeCounts (graph_after after.now) (shown_blocks base.now draft.new) (shown_support base.now draft.new)) }
-    ensures next { OnOk result ((m : ℕ) → has next.new.items m ≡ (has next.old.items m || (is_some goal && has_edge (graph_after after.now) n m))) }
+    ensures next { OnOk result ((m : ℕ) → has next.new.list.items m ≡ (has next.old.list.items m || (is_some goal && has_edge (graph_after after.now) n m))) }
     ensures cost { steps.new ≤ steps.old + move_cost after.now n }
 {
     match goal {
-        Some(b) => move_and_list(base, draft, after, n, b, near, next, steps),
+        Some(b) => move_and_list(base, draft, after, n, b, next, steps),
         None => Ok(()),
     }
 }
 
-// The goal of a group.
-fn goal_of(goals: &[Option<u32>], k: u32) -> Option<u32>
-    ensures { result ≡ goal_at goals.now k }
+// The groups of nodes in a round: the number of each node's group, and for each group the block to which it goes, if any.
+#[derive(Drop)]
+struct Groups {
+    numbers: Vec<u32>,
+    goals: Vec<Option<u32>>,
+}
+
+// The block to which the group of the i-th node goes.
+fn goal_of(groups: &Groups, i: usize) -> Option<u32>
+    requires { i < length groups.now.numbers.items }
+    ensures { result ≡ goal_at groups.now.goals.items (slice_index groups.now.numbers.items i) }
 {
-    let goal = goals.get(k as usize)?;
+    let goal = groups.goals.get(groups.numbers[i] as usize)?;
     *goal
 }
 
@@ -72,31 +79,29 @@ fn move_nodes<L: Ledger>(
     draft: &mut Draft,
     after: &After<'_>,
     nodes: &[NodeId],
-    numbers: &[u32],
-    goals: &[Option<u32>],
+    groups: &Groups,
     steps: &mut Steps<L>,
 ) -> Result<Vec<NodeId>, Memory>
     requires over { IsOver base.now.blocks.block_of base.now.blocks.labels draft.old }
     requires live { (n : ℕ) → IsTrue (has nodes.now n) → IsTrue (is_live (graph_after after.now) n) }
     requires once { IsDistinct nat_eq nodes.now }
-    requires count { length numbers.now ≡ length nodes.now }
+    requires count { length groups.now.numbers.items ≡ length nodes.now }
     requires partition { IsPartition (shape_of (graph_after after.now)) (shown_blocks base.now draft.old) }
-    requires blocks { GoalsAreBlocks goals.now (at (shown_labels base.now draft.old)) }
+    requires blocks { GoalsAreBlocks groups.now.goals.items (at (shown_labels base.now draft.old)) }
     requires supports { AreEdgeCounts (graph_after after.now) (shown_blocks base.now draft.old) (shown_support base.now draft.old) }
     ensures over { OnOk result (IsOver base.now.blocks.block_of base.now.blocks.labels draft.new) }
-    ensures gone { OnOk result (HaveGone (shown_blocks base.now draft.old) (shown_blocks base.now draft.new) nodes.now numbers.now goals.now (length nodes.now)) }
-    ensures next { IfOk result (λ next. ListsChildrenOf (shape_of (graph_after after.now)) nodes.now numbers.now goals.now (length nodes.now) next.items) }
+    ensures gone { OnOk result (HaveGone (shown_blocks base.now draft.old) (shown_blocks base.now draft.new) nodes.now groups.now.numbers.items groups.now.goals.items (length nodes.now)) }
+    ensures next { IfOk result (λ next. ListsChildrenOf (shape_of (graph_after after.now)) nodes.now groups.now.numbers.items groups.now.goals.items (length nodes.now) next.items) }
     ensures added { OnOk result (draft.new.added ≡ draft.old.added) }
     ensures supports { OnOk result (AreEdgeCounts (graph_after after.now) (shown_blocks base.now draft.new) (shown_support base.now draft.new)) }
     ensures cost { steps.new ≤ steps.old + sum_by (move_cost after.now) nodes.now }
 {
-    let mut near = Near::new(alloc);
-    let mut next = Vec::new(alloc);
+    let mut next = NextNodes::new(alloc);
     for (i, n) in nodes.iter().enumerate() {
-        let goal = goal_of(goals, numbers[i]);
-        move_one(base, draft, after, *n, goal, &mut near, &mut next, steps)?;
+        let goal = goal_of(groups, i);
+        move_one(base, draft, after, *n, goal, &mut next, steps)?;
     }
-    Ok(next)
+    Ok(next.list)
 }
 
 // Parts these nodes by their keys, and gives those that are to be looked at next: the children of those that moved.
@@ -131,7 +136,8 @@ fn part_by_keys<L: Ledger>(
     let numbers = number_nodes(alloc, base, draft, after, nodes, &mut keys, steps)?;
     let counts = count_owners(alloc, base, draft, nodes)?;
     let goals = find_goals(alloc, base, draft, &counts, &keys, made)?;
-    let mut next = move_nodes(alloc, base, draft, after, nodes, &numbers, &goals, steps)?;
+    let groups = Groups { numbers, goals };
+    let mut next = move_nodes(alloc, base, draft, after, nodes, &groups, steps)?;
     sort_once(&mut next);
     Ok(next)
 }

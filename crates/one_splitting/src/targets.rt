@@ -22,10 +22,10 @@ use crate::company::push_if;
 use crate::goals::draft_block;
 use crate::keys::own_block;
 use crate::moving::move_and_list;
+use crate::next_nodes::NextNodes;
 use crate::rounds::{is_done, round};
 use graph_update::After;
 use key_table::sort_once;
-use node_moves::Near;
 use px_base::{Memory, NodeId, Steps};
 use quotient::Summary;
 use quotient_draft::Draft;
@@ -74,9 +74,8 @@ fn part_one<L: Ledger>(
     draft: &mut Draft,
     after: &After<'_>,
     target: NodeId,
-    near: &mut Near,
     made: &mut Vec<u32>,
-    next: &mut Vec<NodeId>,
+    next: &mut NextNodes,
     steps: &mut Steps<L>,
 ) -> Result<(), Memory>
     requires over { IsOver base.now.blocks.block_of base.now.blocks.labels draft.old }
@@ -88,7 +87,7 @@ fn part_one<L: Ledger>(
     requires supports { AreEdgeCounts (graph_after after.now) (shown_blocks base.now draft.old) (shown_support base.now draft.old) }
     ensures over { OnOk result (IsOver base.now.blocks.block_of base.now.blocks.labels draft.new) }
     ensures live { OnOk result (MembersHaveLabels (shown_blocks base.now draft.new) (at (shown_labels base.now draft.new))) }
-    ensures parting { OnOk result ((inside : ℕ → Bool) (first : List (Option ℕ)) (rest rest2 : ℕ → Bool) → IsClosed (shape_of (graph_after after.now)) inside → IsTrue (inside target) → IsFirst rest rest2 target → IsParting (shape_of (graph_after after.now)) inside first (shown_blocks base.now draft.old) next.old.items rest made.old.items → IsParting (shape_of (graph_after after.now)) inside first (shown_blocks base.now draft.new) next.new.items rest2 made.new.items) }
+    ensures parting { OnOk result ((inside : ℕ → Bool) (first : List (Option ℕ)) (rest rest2 : ℕ → Bool) → IsClosed (shape_of (graph_after after.now)) inside → IsTrue (inside target) → IsFirst rest rest2 target → IsParting (shape_of (graph_after after.now)) inside first (shown_blocks base.now draft.old) next.old.list.items rest made.old.items → IsParting (shape_of (graph_after after.now)) inside first (shown_blocks base.now draft.new) next.new.list.items rest2 made.new.items) }
     ensures named { OnOk result ((rest rest2 : ℕ → Bool) → IsFirst rest rest2 target → AreNamedOff rest (shown_blocks base.now draft.old) (at (shown_labels base.now draft.old)) (label_number (graph_after after.now)) → AreNamedOff rest2 (shown_blocks base.now draft.new) (at (shown_labels base.now draft.new)) (label_number (graph_after after.now))) }
     ensures made { OnOk result (AreBlocks (at (shown_labels base.now draft.new)) made.new.items) }
     ensures supports { OnOk result (AreEdgeCounts (graph_after after.now) (shown_blocks base.now draft.new) (shown_support base.now draft.new)) }
@@ -101,7 +100,7 @@ fn part_one<L: Ledger>(
     }
     let b = draft_block(base, draft, after.label(target))?;
     made.push(b)?;
-    move_and_list(base, draft, after, target, b, near, next, steps)?;
+    move_and_list(base, draft, after, target, b, next, steps)?;
     Ok(())
 }
 
@@ -134,13 +133,12 @@ fn part_all<L: Ledger>(
     ensures charged { OnOk result ((w : ℕ) → ((n : ℕ) → IsTrue (has targets.now n) → move_cost after.now n ≤ w) → steps.new ≤ steps.old + length made.new.items * w) }
     ensures cost { steps.new ≤ steps.old + sum_by (move_cost after.now) targets.now }
 {
-    let mut near = Near::new(alloc);
-    let mut next = Vec::new(alloc);
+    let mut next = NextNodes::new(alloc);
     for t in targets {
-        part_one(base, draft, after, *t, &mut near, made, &mut next, steps)?;
+        part_one(base, draft, after, *t, made, &mut next, steps)?;
     }
-    sort_once(&mut next);
-    Ok(next)
+    sort_once(&mut next.list);
+    Ok(next.list)
 }
 
 /// Splits blocks in the draft until the partition shown is stable on the graph after the change, where before

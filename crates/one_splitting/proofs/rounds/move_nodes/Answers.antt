@@ -17,15 +17,15 @@ loop-i-preserved g c =
     let q = shown_blocks c.args.base.now c.loop-i.draft in
     let q2 = shown_blocks c.args.base.now c.move_one.new.draft in
     let nodes = c.args.nodes.now in
-    let numbers = c.args.numbers.now in
-    let goals = c.args.goals.now in
+    let numbers = c.args.groups.now.numbers.items in
+    let goals = c.args.groups.now.goals.items in
     let i = c.loop-i.i in
     let inv = c.loop-i.invariant in
     let ok = c.in_ok-move_one.ensures in
     let below : c.loop-i.i < length c.args.nodes.now = omega arith in
     let is : c.goal_of-goal.result ≡ goal_at goals (slice_index numbers i) = c.goal_of-goal.ensures in
     let moved : OneMoved (slice_index nodes i) c.goal_of-goal.result q q2 = record { blocks = ok.moved } in
-    let listed : OneListed s (slice_index nodes i) c.goal_of-goal.result c.loop-i.next.items c.move_one.new.next.items = record { members = ok.next } in
+    let listed : OneListed s (slice_index nodes i) c.goal_of-goal.result c.loop-i.next.list.items c.move_one.new.next.list.items = record { members = ok.next } in
     let next = sum_next (move_cost c.args.after.now) nodes i 0 below in
     let so_far = inv.cost in
     let here = c.move_one.ensures.cost in
@@ -33,8 +33,8 @@ loop-i-preserved g c =
       over = ok.over;
       partition = partition_moved s q q2 (slice_index nodes i) c.goal_of-goal.result inv.partition (c.requires.live (slice_index nodes i) (has_place nodes i below)) ok.moved;
       gone = gone_more (shown_blocks c.args.base.now c.args.draft.now) q q2 nodes numbers goals i c.requires.once below inv.gone (subst (λ o. OneMoved (slice_index nodes i) o q q2) is moved);
-      next = next_more s nodes numbers goals i c.loop-i.next.items c.move_one.new.next.items inv.next
-          (subst (λ o. OneListed s (slice_index nodes i) o c.loop-i.next.items c.move_one.new.next.items) is listed);
+      next = next_more s nodes numbers goals i c.loop-i.next.list.items c.move_one.new.next.list.items inv.next
+          (subst (λ o. OneListed s (slice_index nodes i) o c.loop-i.next.list.items c.move_one.new.next.list.items) is listed);
       supports = ok.supports;
       added = c.move_one.ensures.added ∙ inv.added;
       cost = omega (arith, next, so_far, here);
@@ -51,4 +51,4 @@ returns-in_err-move_one-clause-cost g c =
 pub returns-clause-gone : goal.returns-clause-gone
 returns-clause-gone g c =
     let end : c.loop-i.i ≡ length c.args.nodes.now = omega arith in
-    subst (HaveGone (shown_blocks c.args.base.now c.args.draft.now) (shown_blocks c.args.base.now c.loop-i.draft) c.args.nodes.now c.args.numbers.now c.args.goals.now) end c.loop-i.invariant.gone
+    subst (HaveGone (shown_blocks c.args.base.now c.args.draft.now) (shown_blocks c.args.base.now c.loop-i.draft) c.args.nodes.now c.args.groups.now.numbers.items c.args.groups.now.goals.items) end c.loop-i.invariant.gone

@@ -14,8 +14,8 @@ abbrev pub invariant-loop-i : goal.invariant-loop-i
 invariant-loop-i g l = record {
   over : IsOver l.base.blocks.block_of l.base.blocks.labels l.draft;
   partition : IsPartition (shape_of (graph_after l.after)) (shown_blocks l.base l.draft);
-  gone : HaveGone (shown_blocks l.base l.initial.draft) (shown_blocks l.base l.draft) l.nodes l.numbers l.goals l.i;
-  next : ListsChildrenOf (shape_of (graph_after l.after)) l.nodes l.numbers l.goals l.i l.next.items;
+  gone : HaveGone (shown_blocks l.base l.initial.draft) (shown_blocks l.base l.draft) l.nodes l.groups.numbers.items l.groups.goals.items l.i;
+  next : ListsChildrenOf (shape_of (graph_after l.after)) l.nodes l.groups.numbers.items l.groups.goals.items l.i l.next.list.items;
   supports : AreEdgeCounts (graph_after l.after) (shown_blocks l.base l.draft) (shown_support l.base l.draft);
   added : l.draft.added ≡ l.initial.draft.added;
   cost : l.steps ≤ l.initial.steps + sum_by (move_cost l.after) (take l.i l.nodes);

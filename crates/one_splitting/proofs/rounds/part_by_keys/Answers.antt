@@ -6,7 +6,7 @@ use Rattle.upkeep_spec.specs.Named.{AreNamed}
 use Rattle.graph_update.specs.Pending.{graph_after}
 use Rattle.quotient_draft.specs.Drafts.{shown_blocks, shown_labels, with_added}
 use Rattle.one_splitting.specs.Counted.{AreCounted}
-use Rattle.one_splitting.specs.NodeGoals.{HaveGone, ListsChildrenOf}
+use Rattle.one_splitting.specs.NodeGoals.{HaveGone}
 use Rattle.one_splitting.proofs.Ends.{set_distinct, next_set, more_or_none, owns, round_parts}
 use Rattle.one_splitting.proofs.Named.{named_step}
 use Rattle.one_splitting.proofs.Steps.{split_step}
@@ -57,10 +57,9 @@ pub returns-clause-more : goal.returns-clause-more
 returns-clause-more g c =
     let s = shape_of (graph_after c.args.after.now) in
     let nodes = c.args.nodes.now in
-    let goals_are : c.deref-2.result.now ≡ c.in_ok-goals.goals.items = c.deref-2.ensures.value in
-    more_or_none s nodes c.deref.result.now c.in_ok-goals.goals.items (length nodes) c.sort_once.new.numbers.items c.args.made.now.items c.find_goals.new.made.items
-    (next_set s nodes c.deref.result.now c.in_ok-goals.goals.items (length nodes) c.in_ok-next.next.items c.sort_once.new.numbers.items (record { rising = c.sort_once.ensures.rising; same = c.sort_once.ensures.same })
-    (subst (λ gs. ListsChildrenOf s nodes c.deref.result.now gs (length nodes) c.in_ok-next.next.items) goals_are c.in_ok-next.ensures.next))
+    more_or_none s nodes c.in_ok-numbers.numbers.items c.in_ok-goals.goals.items (length nodes) c.sort_once.new.numbers.items c.args.made.now.items c.find_goals.new.made.items
+    (next_set s nodes c.in_ok-numbers.numbers.items c.in_ok-goals.goals.items (length nodes) c.in_ok-next.next.items c.sort_once.new.numbers.items
+    (record { rising = c.sort_once.ensures.rising; same = c.sort_once.ensures.same }) c.in_ok-next.ensures.next)
     c.in_ok-goals.ensures.from
 
 pub returns-clause-split : goal.returns-clause-split
@@ -68,7 +67,6 @@ returns-clause-split g c = λ inside first closed split.
     let s = shape_of (graph_after c.args.after.now) in
     let nodes = c.args.nodes.now in
     let p = shown_blocks c.args.base.now c.args.draft.now in
-    let q = shown_blocks c.args.base.now c.find_goals.new.draft in
     let p2 = shown_blocks c.args.base.now c.move_nodes.new.draft in
     let keys = c.number_nodes.new.keys in
     let numbers = c.in_ok-numbers.numbers.items in
@@ -76,16 +74,11 @@ returns-clause-split g c = λ inside first closed split.
     let counts = c.in_ok-counts.counts.entries in
     let counted : AreCounted p nodes counts = record { once = c.requires.once; each = c.in_ok-counts.ensures } in
     let numbered = c.in_ok-numbers.ensures.numbered in
-    let numbers_are : c.deref.result.now ≡ c.in_ok-numbers.numbers.items = c.deref.ensures.value in
-    let goals_are : c.deref-2.result.now ≡ c.in_ok-goals.goals.items = c.deref-2.ensures.value in
     split_step s inside first p p2 keys nodes numbers c.args.made.now.items c.sort_once.new.numbers.items c.find_goals.new.made.items goals counts c.requires.shape closed split c.requires.once
     c.in_ok-numbers.ensures.count numbered c.in_ok-goals.ensures.count counted c.in_ok-goals.ensures.going
-    (subst (λ x. HaveGone x p2 nodes numbers goals (length nodes)) c.in_ok-goals.ensures.stay
-    (subst (λ ks. HaveGone q p2 nodes ks goals (length nodes)) numbers_are
-    (subst (λ gs. HaveGone q p2 nodes c.deref.result.now gs (length nodes)) goals_are c.in_ok-next.ensures.gone)))
+    (subst (λ x. HaveGone x p2 nodes numbers goals (length nodes)) c.in_ok-goals.ensures.stay c.in_ok-next.ensures.gone)
     (next_set s nodes numbers goals (length nodes) c.in_ok-next.next.items c.sort_once.new.numbers.items (record { rising = c.sort_once.ensures.rising; same = c.sort_once.ensures.same })
-    (subst (λ ks. ListsChildrenOf s nodes ks goals (length nodes) c.in_ok-next.next.items) numbers_are
-    (subst (λ gs. ListsChildrenOf s nodes c.deref.result.now gs (length nodes) c.in_ok-next.next.items) goals_are c.in_ok-next.ensures.next)))
+    c.in_ok-next.ensures.next)
     c.in_ok-goals.ensures.from c.in_ok-goals.ensures.made.once
     (λ k h. let o = owns p (has_edge (graph_after c.args.after.now)) keys nodes numbers numbered k h in (o.0, o.1))
 
@@ -94,15 +87,10 @@ returns-clause-named g c = λ names named.
     let s = shape_of (graph_after c.args.after.now) in
     let nodes = c.args.nodes.now in
     let p = shown_blocks c.args.base.now c.args.draft.now in
-    let q = shown_blocks c.args.base.now c.find_goals.new.draft in
     let p2 = shown_blocks c.args.base.now c.move_nodes.new.draft in
     let numbers = c.in_ok-numbers.numbers.items in
     let goals = c.in_ok-goals.goals.items in
-    let numbers_are : c.deref.result.now ≡ c.in_ok-numbers.numbers.items = c.deref.ensures.value in
-    let goals_are : c.deref-2.result.now ≡ c.in_ok-goals.goals.items = c.deref-2.ensures.value in
-    let gone = subst (λ x. HaveGone x p2 nodes numbers goals (length nodes)) c.in_ok-goals.ensures.stay
-    (subst (λ ks. HaveGone q p2 nodes ks goals (length nodes)) numbers_are
-    (subst (λ gs. HaveGone q p2 nodes c.deref.result.now gs (length nodes)) goals_are c.in_ok-next.ensures.gone)) in
+    let gone = subst (λ x. HaveGone x p2 nodes numbers goals (length nodes)) c.in_ok-goals.ensures.stay c.in_ok-next.ensures.gone in
     let labels : shown_labels c.args.base.now c.move_nodes.new.draft ≡ shown_labels c.args.base.now c.find_goals.new.draft = ap (with_added c.args.base.now.blocks.labels) c.in_ok-next.ensures.added in
     subst (λ (ls : List (Option ℕ)). AreNamed p2 (at ls) names) (sym labels)
     (named_step s p p2 c.number_nodes.new.keys nodes numbers goals (at (shown_labels c.args.base.now c.args.draft.now)) (at (shown_labels c.args.base.now c.find_goals.new.draft)) names

@@ -19,8 +19,8 @@ loop-t-init g c = record {
   over = c.requires.over;
   live = c.requires.live;
   parting = λ inside closed within.
-      parting_first (shape_of (graph_after c.args.after.now)) inside (shown_blocks c.args.base.now c.args.draft.now) c.new-next.result.items c.args.made.now.items (λ n. has (drop 0 c.args.targets.now) n)
-      c.new-next.ensures.items c.requires.none c.requires.stable;
+      parting_first (shape_of (graph_after c.args.after.now)) inside (shown_blocks c.args.base.now c.args.draft.now) c.new-next.result.list.items c.args.made.now.items (λ n. has (drop 0 c.args.targets.now) n)
+      c.new-next.ensures c.requires.none c.requires.stable;
   named = c.requires.named;
   supports = c.requires.supports;
   made = blocks_none (at (shown_labels c.args.base.now c.args.draft.now)) c.args.made.now.items c.requires.none;
@@ -68,12 +68,12 @@ loop-t-preserved g c =
 
 pub returns-clause-split : goal.returns-clause-split
 returns-clause-split g c = λ inside closed within.
-    parting_done (shape_of (graph_after c.args.after.now)) inside (shown_blocks c.args.base.now c.args.draft.now) (shown_blocks c.args.base.now c.loop-t.draft) c.loop-t.next.items
+    parting_done (shape_of (graph_after c.args.after.now)) inside (shown_blocks c.args.base.now c.args.draft.now) (shown_blocks c.args.base.now c.loop-t.draft) c.loop-t.next.list.items
     c.sort_once.new.numbers.items (λ n. has (drop c.loop-t.t-index c.args.targets.now) n) c.loop-t.made.items (none_left c.args.targets.now c.loop-t.t-index (omega arith)) c.sort_once.ensures.same
     (c.loop-t.invariant.parting inside closed within)
 
 pub returns-clause-once : goal.returns-clause-once
-returns-clause-once g c = set_distinct c.loop-t.next.items c.sort_once.new.numbers.items (record { rising = c.sort_once.ensures.rising; same = c.sort_once.ensures.same })
+returns-clause-once g c = set_distinct c.loop-t.next.list.items c.sort_once.new.numbers.items (record { rising = c.sort_once.ensures.rising; same = c.sort_once.ensures.same })
 
 pub returns-clause-named : goal.returns-clause-named
 returns-clause-named g c =

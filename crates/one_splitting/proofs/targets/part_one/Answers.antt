@@ -15,7 +15,7 @@ use Rattle.one_splitting.proofs.targets.part_one.Goals as goal
 pub returns-then-is_apart-clause-parting : goal.returns-then-is_apart-clause-parting
 returns-then-is_apart-clause-parting g c = λ inside first rest rest2 closed within is_first a.
     let p = shown_blocks c.args.base.now c.args.draft.now in
-    part_stays (shape_of (graph_after c.args.after.now)) inside first p c.args.next.now.items rest rest2 c.args.made.now.items c.args.target c.requires.shape
+    part_stays (shape_of (graph_after c.args.after.now)) inside first p c.args.next.now.list.items rest rest2 c.args.made.now.items c.args.target c.requires.shape
     (alone_from p c.args.target c.own_block-own.result c.own_block-own.ensures (c.is_apart.ensures.alone c.if-is_apart.true)) is_first a
 
 pub returns-then-is_apart-clause-named : goal.returns-then-is_apart-clause-named
@@ -48,9 +48,9 @@ returns-clause-parting g c = λ inside first rest rest2 closed within is_first a
     let keep = labels_kept labels labels2 c.in_ok-b.b c.label.result c.in_ok-b.ensures.free c.in_ok-b.ensures.told in
     let some = is_some_at (labels2 c.in_ok-b.b) c.label.result (told_some labels labels2 c.in_ok-b.b c.label.result c.in_ok-b.ensures.told) in
     let blocks = blocks_more labels labels2 c.args.made.now.items c.push.new.self.items c.in_ok-b.b c.requires.made c.in_ok-b.ensures.free keep some c.in_ok-push.ensures.items in
-    part_moves s inside first p p2 c.args.next.now.items c.move_and_list.new.next.items rest rest2 c.args.made.now.items c.push.new.self.items c.args.target c.in_ok-b.b c.requires.shape closed within
+    part_moves s inside first p p2 c.args.next.now.list.items c.move_and_list.new.next.list.items rest rest2 c.args.made.now.items c.push.new.self.items c.args.target c.in_ok-b.b c.requires.shape closed within
     c.requires.node (apart_from p (shown_blocks c.args.base.now c.draft_block.new.draft) p2 c.args.target c.in_ok-b.b c.in_ok-b.ensures.empty c.in_ok-b.ensures.stay c.in_ok-move_and_list.ensures.moved)
-    (children_more s c.args.target c.args.next.now.items c.move_and_list.new.next.items ch.0 ch.1 ch.2) c.in_ok-push.ensures.items blocks.once is_first a
+    (children_more s c.args.target c.args.next.now.list.items c.move_and_list.new.next.list.items ch.0 ch.1 ch.2) c.in_ok-push.ensures.items blocks.once is_first a
 
 pub returns-clause-named : goal.returns-clause-named
 returns-clause-named g c = λ rest rest2 is_first named.
