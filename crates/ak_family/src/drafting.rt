@@ -23,6 +23,15 @@ use std::alloc::Global;
 use std::marker::Model;
 use std::sync::ledger::Ledger;
 
+/// A block of a level.
+#[derive(Clone, Copy)]
+pub struct LevelBlock {
+    /// The level, from 0 on.
+    pub level: u32,
+    /// The number of the block there.
+    pub block: u32,
+}
+
 /// What is drafted over a family, level by level: further blocks with their keys, moves of nodes, and supports. Reads show the family as
 /// it will be once the draft is settled. Each call is given the family; its blocks, labels and keys must stay while something is drafted.
 #[derive(Drop)]
@@ -233,30 +242,29 @@ impl AkFamily {
     pub fn move_node<L: Ledger>(
         &self,
         d: &mut AkDraft,
-        i: u32,
         after: &After<'_>,
         n: NodeId,
-        b: u32,
+        to: LevelBlock,
         near: &mut Near,
         steps: &mut Steps<L>,
     ) -> Result<(), Memory>
         requires over { AreOver self.now d.old }
-        requires level { i < length self.now }
+        requires level { to.level < length self.now }
         requires live { IsTrue (is_live (graph_after after.now) n) }
-        requires partition { IsPartition (shape_of (graph_after after.now)) (blocks_shown self.now d.old i) }
-        requires block { IsSome (at (labels_shown self.now d.old i) b) }
-        requires supports { AreEdgeCounts (graph_after after.now) (blocks_shown self.now d.old i) (support_shown self.now d.old i) }
-        ensures moved { OnOk result ((m : ℕ) → at (blocks_shown self.now d.new i) m ≡ (if nat_eq m n then Some b else at (blocks_shown self.now d.old i) m)) }
-        ensures labels { labels_shown self.now d.new i ≡ labels_shown self.now d.old i }
-        ensures keys { (b : ℕ) → key_shown self.now d.new i b ≡ key_shown self.now d.old i b }
-        ensures supports { OnOk result (AreEdgeCounts (graph_after after.now) (blocks_shown self.now d.new i) (support_shown self.now d.new i)) }
+        requires partition { IsPartition (shape_of (graph_after after.now)) (blocks_shown self.now d.old to.level) }
+        requires block { IsSome (at (labels_shown self.now d.old to.level) to.block) }
+        requires supports { AreEdgeCounts (graph_after after.now) (blocks_shown self.now d.old to.level) (support_shown self.now d.old to.level) }
+        ensures moved { OnOk result ((m : ℕ) → at (blocks_shown self.now d.new to.level) m ≡ (if nat_eq m n then Some to.block else at (blocks_shown self.now d.old to.level) m)) }
+        ensures labels { labels_shown self.now d.new to.level ≡ labels_shown self.now d.old to.level }
+        ensures keys { (b : ℕ) → key_shown self.now d.new to.level b ≡ key_shown self.now d.old to.level b }
+        ensures supports { OnOk result (AreEdgeCounts (graph_after after.now) (blocks_shown self.now d.new to.level) (support_shown self.now d.new to.level)) }
         ensures children { OnOk result (Lists (has_edge (graph_after after.now) n) near.new) }
-        ensures others { AreSameBut i d.old d.new }
+        ensures others { AreSameBut to.level d.old d.new }
         ensures over { OnOk result (AreOver self.now d.new) }
         ensures cost { steps.new ≤ steps.old + parents_cost after.now n + children_cost after.now n }
     {
-        let level = level_of(&self.levels, i);
-        d.levels[i as usize].move_node(level, after, n, b, near, steps)?;
+        let level = level_of(&self.levels, to.level);
+        d.levels[to.level as usize].move_node(level, after, n, to.block, near, steps)?;
         Ok(())
     }
 }

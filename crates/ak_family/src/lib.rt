@@ -10,5 +10,5 @@ mod settling;
 #[cfg(test)]
 mod tests;
 
-pub use drafting::AkDraft;
+pub use drafting::{AkDraft, LevelBlock};
 pub use family::AkFamily;

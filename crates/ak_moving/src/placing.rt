@@ -1,5 +1,5 @@
 // Placing a node in the block of its key.
-ghost use Rattle.std.specs.Prelude.{◌≡◌, ◌+◌, ◌<◌, ◌≤◌, ◌∷◌, [], Some, IsSome, IsTrue, OnOk, length};
+ghost use Rattle.std.specs.Prelude.{◌+◌, ◌<◌, ◌≤◌, ◌∷◌, [], IsSome, IsTrue, OnOk, length};
 ghost use Rattle.px_spec.specs.Graphs.{is_live};
 ghost use Rattle.px_spec.specs.Members.{at};
 ghost use Rattle.px_spec.specs.Shapes.{shape_of};
@@ -12,10 +12,10 @@ ghost use Rattle.ak_moving.specs.Placed.{AreTwoLevels, HasMoved, ArePlaced};
 ghost use Rattle.ak_moving.specs.Costs.{place_cost};
 
 use crate::buffers::Buffers;
-use crate::keys::write_key;
-use ak_family::{AkDraft, AkFamily};
+use crate::keys::write_level_key;
+use ak_family::{AkDraft, AkFamily, LevelBlock};
 use graph_update::After;
-use node_moves::Near;
+use node_moves::{Near, read_parents};
 use px_base::{Memory, NodeId, Steps};
 use std::sync::ledger::Ledger;
 
@@ -23,61 +23,25 @@ use std::sync::ledger::Ledger;
 fn move_to<L: Ledger>(
     family: &AkFamily,
     draft: &mut AkDraft,
-    i: u32,
     after: &After<'_>,
     n: NodeId,
-    b: u32,
+    to: LevelBlock,
     near: &mut Near,
     steps: &mut Steps<L>,
 ) -> Result<(), Memory>
     requires over { AreOver family.now draft.old }
-    requires level { i < length family.now }
+    requires level { to.level < length family.now }
     requires live { IsTrue (is_live (graph_after after.now) n) }
-    requires partition { IsPartition (shape_of (graph_after after.now)) (blocks_shown family.now draft.old i) }
-    requires block { IsSome (at (labels_shown family.now draft.old i) b) }
-    requires supports { AreEdgeCounts (graph_after after.now) (blocks_shown family.now draft.old i) (support_shown family.now draft.old i) }
-    ensures moved { OnOk result (HasMoved (graph_after after.now) family.now draft.old draft.new i n b) }
+    requires partition { IsPartition (shape_of (graph_after after.now)) (blocks_shown family.now draft.old to.level) }
+    requires block { IsSome (at (labels_shown family.now draft.old to.level) to.block) }
+    requires supports { AreEdgeCounts (graph_after after.now) (blocks_shown family.now draft.old to.level) (support_shown family.now draft.old to.level) }
+    ensures moved { OnOk result (HasMoved (graph_after after.now) family.now draft.old draft.new to.level n to.block) }
     ensures cost { steps.new ≤ steps.old + parents_cost after.now n + children_cost after.now n }
 {
-    if family.shown(draft, i, n) == Some(b) {
+    if family.shown(draft, to.level, n) == Some(to.block) {
         return Ok(());
     }
-    family.move_node(draft, i, after, n, b, near, steps)?;
-    Ok(())
-}
-
-// Places a node that has a block at the level below.
-fn place_in<L: Ledger>(
-    family: &AkFamily,
-    draft: &mut AkDraft,
-    i: u32,
-    after: &After<'_>,
-    n: NodeId,
-    own: u32,
-    buffers: &mut Buffers,
-    steps: &mut Steps<L>,
-) -> Result<(), Memory>
-    requires levels { AreTwoLevels (graph_after after.now) family.now draft.old i }
-    requires live { IsTrue (is_live (graph_after after.now) n) }
-    requires own { at (blocks_shown family.now draft.old i) n ≡ Some own }
-    ensures placed { OnOk result (ArePlaced (graph_after after.now) family.now draft.old draft.new i (n ∷ [])) }
-    ensures cost { steps.new ≤ steps.old + place_cost after.now n }
-{
-    // This says that there are few levels.
-    let _ = family.k();
-    write_key(
-        &mut buffers.key,
-        family,
-        draft,
-        i,
-        after,
-        n,
-        own,
-        &mut buffers.parents,
-        steps,
-    )?;
-    let b = family.keyed_block(draft, i + 1, after.label(n), &buffers.key)?;
-    move_to(family, draft, i + 1, after, n, b, &mut buffers.near, steps)?;
+    family.move_node(draft, after, n, to, near, steps)?;
     Ok(())
 }
 
@@ -96,8 +60,18 @@ pub(crate) fn place<L: Ledger>(
     ensures placed { OnOk result (ArePlaced (graph_after after.now) family.now draft.old draft.new i (n ∷ [])) }
     ensures cost { steps.new ≤ steps.old + place_cost after.now n }
 {
-    match family.shown(draft, i, n) {
-        Some(own) => place_in(family, draft, i, after, n, own, buffers, steps),
-        None => Ok(()),
-    }
+    let Some(own) = family.shown(draft, i, n) else {
+        return Ok(());
+    };
+    // This says that there are few levels.
+    let _ = family.k();
+    read_parents(&mut buffers.parents, after, n, steps)?;
+    write_level_key(&mut buffers.key, family, draft, i, &buffers.parents, own)?;
+    let b = family.keyed_block(draft, i + 1, after.label(n), &buffers.key)?;
+    let to = LevelBlock {
+        level: i + 1,
+        block: b,
+    };
+    move_to(family, draft, after, n, to, &mut buffers.near, steps)?;
+    Ok(())
 }
