@@ -10,15 +10,15 @@ use Rattle.bisim_spec.specs.Reach.{near}
 use Rattle.bisim_spec.specs.Targets.{target}
 use Rattle.bisim_spec.specs.Weights.{weight}
 use Rattle.bisim_spec.proofs.Differs.{differs_after}
-use Rattle.graph_update.specs.Pending.{Pending, graph_after}
+use Rattle.graph_update.specs.PendingChanges.{Pending, graph_after}
 use Rattle.keyed_quotient.specs.Levels.{KeyedQuotient}
 use Rattle.keyed_quotient.specs.Changes.{KeyedChanges}
 use Rattle.ak_family.specs.Families.{IsKeyedFamily}
-use Rattle.ak_moving.specs.Moving.{IsMoving, AreKeyedNear}
-use Rattle.ak_drafting.specs.Drafting.{FamilyFits, most_steps}
+use Rattle.ak_moving.specs.MovedLevels.{IsMoving, AreKeyedNear}
+use Rattle.ak_drafting.specs.FamilyDrafts.{FamilyFits, most_steps}
 use Rattle.ak_drafting.specs.Stages.{AreMoved}
 use Rattle.ak_drafting.proofs.Bases.{bases}
-use Rattle.ak_drafting.proofs.Showing.{HaveMoved}
+use Rattle.ak_drafting.proofs.MovedDrafts.{HaveMoved}
 
 -- the change has this target and no other
 pub record IsAimedAt (a : Pending) (v : ℕ) : Type 0 where

@@ -17,7 +17,7 @@ use Rattle.level_spec.specs.Keyed.{IsKeyed, AreLabelled, IsLevelOf, LabelsGoUp, 
 use Rattle.ak_family.specs.Families.{level_at, blocks_at, IsKeyedFamily}
 use Rattle.ak_family.proofs.Labelled.{member_key}
 use Rattle.ak_family.proofs.ParentKeys.{parent_keys}
-use Rattle.ak_drafting.specs.Drafting.{FamilyFits}
+use Rattle.ak_drafting.specs.FamilyDrafts.{FamilyFits}
 
 pub next_is : (i : ℕ) → i + 1 ≡ suc i
 next_is i = omega arith

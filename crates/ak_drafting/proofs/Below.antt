@@ -4,7 +4,7 @@ use Rattle.std.proofs.lemmas.Bool.{cases_lt}
 use Rattle.keyed_quotient.specs.Levels.{KeyedQuotient}
 use Rattle.keyed_quotient.specs.Changes.{KeyedChanges, no_keyed_changes}
 use Rattle.ak_family.specs.Families.{level_at}
-use Rattle.ak_family.specs.Drafting.{changes_at, AreOver, AreSameBut}
+use Rattle.ak_family.specs.LevelDrafts.{changes_at, AreOver, AreSameBut}
 
 -- the levels below i are done, and nothing is drafted at the others
 pub record AreDone (P : KeyedQuotient → KeyedChanges → Type 0) (f : List KeyedQuotient) (d : List KeyedChanges) (i : ℕ) : Type 0 where

@@ -15,14 +15,14 @@ use Rattle.bisim_spec.specs.Views.{support_at}
 use Rattle.bisim_spec.proofs.Differs.{differs_drop}
 use Rattle.bisim_spec.proofs.Reached.{near_more}
 use Rattle.graph_update.specs.NewChanges.{IsNew}
-use Rattle.graph_update.specs.Pending.{Pending}
+use Rattle.graph_update.specs.PendingChanges.{Pending}
 use Rattle.keyed_quotient.specs.Levels.{KeyedQuotient}
 use Rattle.keyed_quotient.specs.Changes.{KeyedChanges, blocks_as_shown, labels_as_shown, support_as_shown}
 use Rattle.level_spec.specs.Keyed.{IsLevelOf, SameFar}
 use Rattle.level_spec.proofs.Lone.{IsPut, put_same, put_other, IsLone, counts_lone, near_lone}
 use Rattle.ak_family.specs.Families.{level_at, blocks_at}
-use Rattle.ak_family.specs.Drafting.{changes_at, blocks_shown, AreOver}
-use Rattle.ak_moving.specs.Moving.{IsMoving, AreKeyedNear}
+use Rattle.ak_family.specs.LevelDrafts.{changes_at, blocks_shown, AreOver}
+use Rattle.ak_moving.specs.MovedLevels.{IsMoving, AreKeyedNear}
 use Rattle.ak_drafting.specs.Stages.{IsBefore, AreMoved, IsGone}
 use Rattle.ak_drafting.proofs.Bases.{AreBases, bases}
 use Rattle.ak_drafting.proofs.Unchanged.{lowest_kept, up_kept, keys_kept}

@@ -13,15 +13,15 @@ use Rattle.bisim_spec.specs.Targets.{target}
 use Rattle.bisim_spec.specs.Views.{support_at}
 use Rattle.bisim_spec.proofs.Bisimilar.{is_some_at, some_of}
 use Rattle.bisim_spec.proofs.Differs.{differs_node}
-use Rattle.graph_update.specs.Pending.{Pending, graph_after}
+use Rattle.graph_update.specs.PendingChanges.{Pending, graph_after}
 use Rattle.keyed_quotient.specs.Levels.{KeyedQuotient, key_at}
 use Rattle.keyed_quotient.specs.Changes.{KeyedChanges, no_keyed_changes, blocks_as_shown, labels_as_shown, support_as_shown, shown_key}
 use Rattle.bisim_levels.specs.Keys.{IsKey}
 use Rattle.level_spec.specs.Keyed.{IsLevelOf, IsKeyed, AreLabelled, LabelsGoUp, first_number}
 use Rattle.level_spec.proofs.Lone.{IsPut, put_same, put_other, IsLone, counts_lone, near_lone}
 use Rattle.ak_family.specs.Families.{level_at, blocks_at, IsKeyedFamily}
-use Rattle.ak_family.specs.Drafting.{changes_at, blocks_shown, labels_shown, key_shown, AreOver, AreSameBut}
-use Rattle.ak_moving.specs.Moving.{IsMoving, AreKeyedNear}
+use Rattle.ak_family.specs.LevelDrafts.{changes_at, blocks_shown, labels_shown, key_shown, AreOver, AreSameBut}
+use Rattle.ak_moving.specs.MovedLevels.{IsMoving, AreKeyedNear}
 use Rattle.ak_drafting.specs.Stages.{IsBefore, AreMoved, IsJoined, IsNodeChange, own_number}
 use Rattle.ak_drafting.proofs.Bases.{next_is, number_of, AreBases, bases}
 use Rattle.ak_drafting.proofs.GoneLevels.{far_put}

@@ -9,15 +9,15 @@ use Rattle.label_graph.specs.Views.{label_number}
 use Rattle.bisim_spec.specs.Views.{support_at}
 use Rattle.upkeep_spec.specs.Supported.{AreEdgeCounts}
 use Rattle.graph_update.specs.NewChanges.{IsNew}
-use Rattle.graph_update.specs.Pending.{Pending, graph_after}
+use Rattle.graph_update.specs.PendingChanges.{Pending, graph_after}
 use Rattle.keyed_quotient.specs.Levels.{KeyedQuotient}
 use Rattle.quotient.specs.Joined.{one_if}
 use Rattle.keyed_quotient.specs.Changes.{KeyedChanges, no_keyed_changes, blocks_as_shown, labels_as_shown, support_as_shown, shown_key}
 use Rattle.level_spec.specs.Keyed.{IsLevelOf}
 use Rattle.level_spec.proofs.Linked.{counts_linked, counts_unlinked, count_few, count_some}
 use Rattle.ak_family.specs.Families.{level_at, blocks_at}
-use Rattle.ak_family.specs.Drafting.{changes_at, support_shown, AreOver}
-use Rattle.ak_moving.specs.Moving.{IsMoving}
+use Rattle.ak_family.specs.LevelDrafts.{changes_at, support_shown, AreOver}
+use Rattle.ak_moving.specs.MovedLevels.{IsMoving}
 use Rattle.ak_drafting.specs.Stages.{IsBefore, HasSameKeys, IsLinked, IsUnlinked}
 use Rattle.ak_drafting.proofs.Bases.{AreBases, bases}
 use Rattle.ak_drafting.proofs.Unchanged.{lowest_kept, up_kept, keys_kept, none_blocks, none_labels, none_support, none_key}

@@ -7,14 +7,14 @@ use Rattle.px_spec.specs.Members.{at}
 use Rattle.bisim_spec.specs.Targets.{target}
 use Rattle.bisim_spec.specs.Views.{support_at}
 use Rattle.graph_update.specs.NewChanges.{IsNew}
-use Rattle.graph_update.specs.Pending.{Pending, graph_after}
+use Rattle.graph_update.specs.PendingChanges.{Pending, graph_after}
 use Rattle.quotient.specs.Joined.{one_if}
 use Rattle.keyed_quotient.specs.Levels.{KeyedQuotient, key_at}
 use Rattle.keyed_quotient.specs.Changes.{KeyedChanges, blocks_as_shown, labels_as_shown, support_as_shown, shown_key}
 use Rattle.ak_family.specs.Families.{IsKeyedFamily}
-use Rattle.ak_family.specs.Drafting.{blocks_shown, HasBlock}
-use Rattle.ak_moving.specs.Moving.{IsMoving, AreKeyedNear}
-use Rattle.ak_drafting.specs.Drafting.{FamilyFits}
+use Rattle.ak_family.specs.LevelDrafts.{blocks_shown, HasBlock}
+use Rattle.ak_moving.specs.MovedLevels.{IsMoving, AreKeyedNear}
+use Rattle.ak_drafting.specs.FamilyDrafts.{FamilyFits}
 
 -- the family is that of the graph before the change, and the change is new
 pub record IsBefore (a : Pending) (f : List KeyedQuotient) : Type 0 where

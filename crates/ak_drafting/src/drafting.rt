@@ -2,9 +2,9 @@
 ghost use Rattle.std.specs.Prelude.{◌≡◌, ◌+◌, ◌≤◌, ℕ, OnOk, length};
 ghost use Rattle.px_spec.specs.Changes.{after, link, unlink, drop};
 ghost use Rattle.graph_update.specs.NewChanges.{IsNew};
-ghost use Rattle.graph_update.specs.Judging.{change_of};
-ghost use Rattle.ak_family.specs.Drafting.{AreOver, AreEmpty, ShowsFamily};
-ghost use Rattle.ak_drafting.specs.Drafting.{FamilyFits, ShownFit, most_steps};
+ghost use Rattle.graph_update.specs.Verdicts.{change_of};
+ghost use Rattle.ak_family.specs.LevelDrafts.{AreOver, AreEmpty, ShowsFamily};
+ghost use Rattle.ak_drafting.specs.FamilyDrafts.{FamilyFits, ShownFit, most_steps};
 ghost use Rattle.ak_drafting.specs.Stages.{IsBefore, AreMoved, IsNodeChange};
 
 use crate::edges::{draft_link, draft_unlink};

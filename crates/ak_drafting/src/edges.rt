@@ -3,11 +3,11 @@ ghost use Rattle.std.specs.Prelude.{◌≡◌, ◌<◌, ◌≤◌, ◌^◌, ◌�
 ghost use Rattle.px_spec.specs.Changes.{link, unlink};
 ghost use Rattle.px_spec.specs.Members.{at, has};
 ghost use Rattle.bisim_spec.specs.Views.{support_at};
-ghost use Rattle.graph_update.specs.Pending.{graph_after};
+ghost use Rattle.graph_update.specs.PendingChanges.{graph_after};
 ghost use Rattle.keyed_quotient.specs.Changes.{no_keyed_changes};
 ghost use Rattle.ak_family.specs.Families.{level_at, blocks_at};
-ghost use Rattle.ak_family.specs.Drafting.{changes_at, blocks_shown, labels_shown, AreOver, AreSameBut, AreEmpty};
-ghost use Rattle.ak_moving.specs.Moving.{IsMoving};
+ghost use Rattle.ak_family.specs.LevelDrafts.{changes_at, blocks_shown, labels_shown, AreOver, AreSameBut, AreEmpty};
+ghost use Rattle.ak_moving.specs.MovedLevels.{IsMoving};
 ghost use Rattle.ak_drafting.specs.Stages.{IsBefore, IsLinked, IsUnlinked};
 
 use ak_family::{AkDraft, AkFamily};

@@ -6,7 +6,7 @@ ghost use Rattle.bisim_spec.specs.Views.{support_at};
 ghost use Rattle.keyed_quotient.specs.Levels.{key_at};
 ghost use Rattle.keyed_quotient.specs.Changes.{no_keyed_changes};
 ghost use Rattle.ak_family.specs.Families.{level_at};
-ghost use Rattle.ak_family.specs.Drafting.{changes_at, blocks_shown, labels_shown, support_shown, key_shown, AreOver, AreSameBut, AreEmpty, HasBlock};
+ghost use Rattle.ak_family.specs.LevelDrafts.{changes_at, blocks_shown, labels_shown, support_shown, key_shown, AreOver, AreSameBut, AreEmpty, HasBlock};
 ghost use Rattle.ak_drafting.specs.Stages.{IsBefore, AreMoved, IsGone, IsJoined, IsNodeChange};
 
 use ak_family::{AkDraft, AkFamily};

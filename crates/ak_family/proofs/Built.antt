@@ -10,7 +10,7 @@ use Rattle.px_spec.specs.Members.{at}
 use Rattle.bisim_spec.specs.Partitions.{Agrees}
 use Rattle.bisim_spec.specs.Views.{ViewFits}
 use Rattle.bisim_levels.specs.Keys.{IsKey}
-use Rattle.bisim_levels.specs.Refining.{AreNumbered}
+use Rattle.bisim_levels.specs.Refinement.{AreNumbered}
 use Rattle.bisim_levels.specs.Sides.{is_near, no_neighbours}
 use Rattle.bisim_levels.specs.declared.sides.Side.TheVariants.{Parents}
 use Rattle.quotient.specs.Quotients.{view_of}
@@ -18,7 +18,7 @@ use Rattle.keyed_quotient.specs.Levels.{KeyedQuotient, no_level, key_at, AreKeye
 use Rattle.ak_family.specs.Families.{level_at, blocks_at, AreLabelKeys, AreParentKeys, IsKeyedFamily}
 use Rattle.ak_family.proofs.Supported.{supported_keys, labels_alone}
 use Rattle.quotient_draft.proofs.Gone.{member_there}
-use Rattle.block_filling.specs.Filling.{SameBlocks}
+use Rattle.block_filling.specs.FilledTables.{SameBlocks}
 use Rattle.block_filling.proofs.Filled.{agrees_moved}
 use Rattle.ak_family.specs.BlockLabels.{BlocksHaveLabels}
 

@@ -9,7 +9,7 @@ use Rattle.keyed_quotient.specs.Levels.{KeyedQuotient}
 use Rattle.keyed_quotient.specs.Changes.{KeyedChanges, no_keyed_changes, IsKeyedOver}
 use Rattle.keyed_quotient.proofs.Shown.{over_none}
 use Rattle.ak_family.specs.Families.{level_at, IsKeyedFamily}
-use Rattle.ak_family.specs.Drafting.{changes_at, AreOver, AreEmpty}
+use Rattle.ak_family.specs.LevelDrafts.{changes_at, AreOver, AreEmpty}
 
 pub over_set : (f : List KeyedQuotient) (d : List KeyedChanges) (i : ℕ) (y : KeyedChanges) → AreOver f d → i < length f → IsKeyedOver (level_at f i) y → AreOver f (slice_set d i y)
 over_set f d i y o h is = record {

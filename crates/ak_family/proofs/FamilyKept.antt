@@ -10,7 +10,7 @@ use Rattle.keyed_quotient.proofs.Numbered.{test_is}
 use Rattle.keyed_quotient.proofs.SettledKeys.{left_at}
 use Rattle.level_spec.specs.Keyed.{first_number, AreLabelled}
 use Rattle.ak_family.specs.Families.{level_at, blocks_at, AreKeyedBySupports, IsKeyedFamily}
-use Rattle.ak_family.specs.Drafting.{changes_at, blocks_shown, labels_shown, support_shown, key_shown, AreSeenAs, AreSettled, ShowsFamily}
+use Rattle.ak_family.specs.LevelDrafts.{changes_at, blocks_shown, labels_shown, support_shown, key_shown, AreSeenAs, AreSettled, ShowsFamily}
 use Rattle.ak_family.proofs.Reserved.{seen_at, key_seen, over_all_seen}
 
 -- The keys of blocks with members, and of those with support, are all that counts.

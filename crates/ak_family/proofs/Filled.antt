@@ -8,7 +8,7 @@ use Rattle.px_spec.specs.Shapes.{Shape, shape_of}
 use Rattle.label_graph.proofs.Viewed.{viewed_shape}
 use Rattle.px_spec.specs.Members.{at}
 use Rattle.block_partition.specs.Partitions.{Partition}
-use Rattle.block_filling.specs.Filling.{HaveLabels, SameBlocks}
+use Rattle.block_filling.specs.FilledTables.{HaveLabels, SameBlocks}
 use Rattle.bisim_spec.specs.Partitions.{IsPartition}
 use Rattle.bisim_spec.specs.Views.{ViewFits}
 use Rattle.bisim_spec.proofs.Bisimilar.{some_of, is_some_at}

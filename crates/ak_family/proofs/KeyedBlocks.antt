@@ -6,7 +6,7 @@ use Rattle.px_spec.specs.Members.{at}
 use Rattle.block_partition.specs.Partitions.{put}
 use Rattle.quotient_draft.proofs.Puts.{at_put, same_number}
 use Rattle.keyed_quotient.specs.Levels.{AreKeyed}
-use Rattle.ak_family.specs.Drafting.{HasBlock}
+use Rattle.ak_family.specs.LevelDrafts.{HasBlock}
 
 -- a block that has the key
 pub found_block : (label b : ℕ) (key : List ℕ) (labels : List (Option ℕ)) (keys : ℕ → Option (List ℕ)) → IsSome (at labels b) → keys b ≡ Some key

@@ -8,7 +8,7 @@ use Rattle.px_spec.specs.Members.{at}
 use Rattle.bisim_spec.proofs.Bisimilar.{none_or_some, is_some_at}
 use Rattle.bisim_levels.specs.Sides.{no_neighbours}
 use Rattle.bisim_levels.specs.Keys.{IsKey}
-use Rattle.bisim_levels.specs.Refining.{AreNumbered, AreBlocksBelow}
+use Rattle.bisim_levels.specs.Refinement.{AreNumbered, AreBlocksBelow}
 use Rattle.ak_family.specs.BlockLabels.{BlocksHaveLabels}
 
 get_before : (xs : List ℕ) (x j : ℕ) → j < length xs → slice_get (xs ++ x ∷ []) j ≡ slice_get xs j

@@ -12,7 +12,7 @@ use Rattle.quotient_draft.specs.Basis.{IsOver}
 use Rattle.keyed_quotient.specs.Levels.{KeyedQuotient, no_level, key_at}
 use Rattle.keyed_quotient.specs.Changes.{KeyedChanges, shown_key, IsKeyedOver, HasKeyRoom, IsSettled}
 use Rattle.ak_family.specs.Families.{level_at}
-use Rattle.ak_family.specs.Drafting.{changes_at, AreOver, AreSeenAs, AreSettled, HaveRoom}
+use Rattle.ak_family.specs.LevelDrafts.{changes_at, AreOver, AreSeenAs, AreSettled, HaveRoom}
 
 -- a level that is read off the list
 pub level_read : (f : List KeyedQuotient) (i : ℕ) (q : KeyedQuotient) → i < length f → q ≡ get_or f i q → q ≡ level_at f i

@@ -6,7 +6,7 @@ use Rattle.std.proofs.lemmas.List.{get_or_default, get_or-set_same, get_or-set_o
 use Rattle.keyed_quotient.specs.Levels.{KeyedQuotient, no_level}
 use Rattle.keyed_quotient.specs.Changes.{KeyedChanges, no_keyed_changes, IsSettled}
 use Rattle.ak_family.specs.Families.{level_at}
-use Rattle.ak_family.specs.Drafting.{changes_at, AreOver, AreSettled, AreEmpty}
+use Rattle.ak_family.specs.LevelDrafts.{changes_at, AreOver, AreSettled, AreEmpty}
 use Rattle.ak_family.proofs.Reserved.{level_read}
 
 -- The levels below i are settled, and their drafts are empty. The others are as they were.

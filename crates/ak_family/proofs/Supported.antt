@@ -10,7 +10,7 @@ use Rattle.label_graph.specs.Views.{label_number}
 use Rattle.quotient_draft.proofs.Puts.{same_number}
 use Rattle.bisim_levels.specs.Sides.{no_neighbours}
 use Rattle.bisim_levels.specs.Keys.{IsKey}
-use Rattle.bisim_levels.specs.Refining.{AreNumbered}
+use Rattle.bisim_levels.specs.Refinement.{AreNumbered}
 use Rattle.level_spec.specs.Keyed.{first_number}
 use Rattle.ak_family.specs.Families.{AreKeyedBySupports}
 use Rattle.ak_family.proofs.Labelled.{member_key}

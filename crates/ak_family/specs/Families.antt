@@ -7,7 +7,7 @@ use Rattle.px_spec.specs.Graphs.{Graph, has_edge}
 use Rattle.px_spec.specs.Members.{at, has}
 use Rattle.label_graph.specs.Views.{label_number}
 use Rattle.bisim_levels.specs.Sides.{no_neighbours}
-use Rattle.bisim_levels.specs.Refining.{AreNumbered}
+use Rattle.bisim_levels.specs.Refinement.{AreNumbered}
 use Rattle.bisim_spec.specs.Views.{support_at}
 use Rattle.quotient.specs.Quotients.{Quotient}
 use Rattle.keyed_quotient.specs.Levels.{KeyedQuotient, no_level, key_at, AreKeyed}

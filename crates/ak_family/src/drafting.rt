@@ -5,14 +5,14 @@ ghost use Rattle.px_spec.specs.Graphs.{is_live, has_edge};
 ghost use Rattle.px_spec.specs.Shapes.{shape_of};
 ghost use Rattle.bisim_spec.specs.Partitions.{IsPartition};
 ghost use Rattle.upkeep_spec.specs.Supported.{AreEdgeCounts};
-ghost use Rattle.graph_update.specs.Pending.{graph_after};
+ghost use Rattle.graph_update.specs.PendingChanges.{graph_after};
 ghost use Rattle.block_partition.specs.Partitions.{IsLeastFree, put};
 ghost use Rattle.quotient.specs.Joined.{one_if};
 ghost use Rattle.node_moves.specs.Costs.{parents_cost, children_cost};
 ghost use Rattle.keyed_quotient.specs.Levels.{KeyedQuotient};
 ghost use Rattle.keyed_quotient.specs.Changes.{KeyedChanges};
 ghost use Rattle.ak_family.specs.Families.{level_at, IsKeyedFamily};
-ghost use Rattle.ak_family.specs.Drafting.{changes_at, blocks_shown, labels_shown, support_shown, key_shown, AreOver, AreSameBut, AreEmpty, HasBlock};
+ghost use Rattle.ak_family.specs.LevelDrafts.{changes_at, blocks_shown, labels_shown, support_shown, key_shown, AreOver, AreSameBut, AreEmpty, HasBlock};
 
 use crate::family::AkFamily;
 use graph_update::After;

@@ -5,12 +5,12 @@ ghost use Rattle.px_spec.specs.Members.{at};
 ghost use Rattle.label_graph.specs.Views.{label_number};
 ghost use Rattle.bisim_spec.specs.Partitions.{IsPartition};
 ghost use Rattle.bisim_spec.specs.Views.{ViewFits};
-ghost use Rattle.bisim_levels.specs.Refining.{AreBlocksBelow};
+ghost use Rattle.bisim_levels.specs.Refinement.{AreBlocksBelow};
 ghost use Rattle.key_table.specs.NumberedKeys.{AreDistinct};
 ghost use Rattle.quotient.specs.Quotients.{view_of};
 ghost use Rattle.quotient.specs.Joined.{AreListed};
 ghost use Rattle.keyed_quotient.specs.Levels.{AreKeyed, key_at};
-ghost use Rattle.block_filling.specs.Filling.{SameBlocks};
+ghost use Rattle.block_filling.specs.FilledTables.{SameBlocks};
 ghost use Rattle.ak_family.specs.BlockLabels.{BlocksHaveLabels};
 
 use crate::labelled_levels::LabelledLevel;

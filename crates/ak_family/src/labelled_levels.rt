@@ -7,7 +7,7 @@ ghost use Rattle.px_spec.specs.Members.{at};
 ghost use Rattle.bisim_spec.specs.Partitions.{Agrees, IsPartition};
 ghost use Rattle.bisim_levels.specs.declared.sides.Side.TheVariants.{Parents};
 ghost use Rattle.bisim_levels.specs.Sides.{is_near, no_neighbours};
-ghost use Rattle.bisim_levels.specs.Refining.{AreNumbered, AreBlocksBelow};
+ghost use Rattle.bisim_levels.specs.Refinement.{AreNumbered, AreBlocksBelow};
 ghost use Rattle.key_table.specs.NumberedKeys.{AreDistinct};
 ghost use Rattle.ak_family.specs.BlockLabels.{BlocksHaveLabels};
 

@@ -4,7 +4,7 @@ ghost use Rattle.quotient.specs.Quotients.{view_of};
 ghost use Rattle.keyed_quotient.specs.Levels.{KeyedQuotient};
 ghost use Rattle.keyed_quotient.specs.Changes.{AreInhabited};
 ghost use Rattle.ak_family.specs.Families.{level_at, IsKeyedFamily};
-ghost use Rattle.ak_family.specs.Drafting.{AreOver, AreSeenAs, HaveRoom, ShowsFamily, AreSettled, AreEmpty};
+ghost use Rattle.ak_family.specs.LevelDrafts.{AreOver, AreSeenAs, HaveRoom, ShowsFamily, AreSettled, AreEmpty};
 
 use crate::drafting::{AkDraft, draft_of};
 use crate::family::AkFamily;

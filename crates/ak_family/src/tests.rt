@@ -2,7 +2,7 @@
 ghost use Rattle.std.specs.Prelude.{◌≡◌, ◌<◌, ◌≤◌, ◌↔◌, IfOk, IsTrue, IsSome, length};
 ghost use Rattle.px_spec.specs.Shapes.{IsNode, shape_of};
 ghost use Rattle.bisim_spec.specs.Bisimilarity.{Bis};
-ghost use Rattle.ak_family.specs.Drafting.{AreOver};
+ghost use Rattle.ak_family.specs.LevelDrafts.{AreOver};
 
 use super::*;
 use label_graph::GraphView;

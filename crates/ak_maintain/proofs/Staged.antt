@@ -7,8 +7,8 @@ use Rattle.bisim_spec.specs.Views.{View}
 use Rattle.bisim_spec.specs.Fits.{Fits, FitsAt, view_at}
 use Rattle.keyed_quotient.specs.Levels.{KeyedQuotient}
 use Rattle.keyed_quotient.specs.Changes.{KeyedChanges}
-use Rattle.ak_family.specs.Drafting.{AreSeenAs, AreSettled}
-use Rattle.ak_drafting.specs.Drafting.{FamilyFits}
+use Rattle.ak_family.specs.LevelDrafts.{AreSeenAs, AreSettled}
+use Rattle.ak_drafting.specs.FamilyDrafts.{FamilyFits}
 use Rattle.index_api.specs.Meanings.{IsReady, IsBuilt, IsPrepared, IsCommitted, IsRefreshed, unstaged}
 use Rattle.ak_maintain.specs.KeptFamilies.{KeptFamily, IsStagedFor, views_of, settled_views, kept_views, meaning_of}
 use Rattle.ak_maintain.proofs.Views.{view_total, settled_total, family_fits, fits_family, shown_fits, same_views, views_settled}

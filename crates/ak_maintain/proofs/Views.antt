@@ -13,8 +13,8 @@ use Rattle.quotient_draft.specs.Drafts.{settled_view}
 use Rattle.keyed_quotient.specs.Levels.{KeyedQuotient, no_level}
 use Rattle.keyed_quotient.specs.Changes.{KeyedChanges}
 use Rattle.ak_family.specs.Families.{level_at, blocks_at}
-use Rattle.ak_family.specs.Drafting.{changes_at, AreSeenAs, AreSettled}
-use Rattle.ak_drafting.specs.Drafting.{FamilyFits, ShownFit}
+use Rattle.ak_family.specs.LevelDrafts.{changes_at, AreSeenAs, AreSettled}
+use Rattle.ak_drafting.specs.FamilyDrafts.{FamilyFits, ShownFit}
 use Rattle.ak_maintain.specs.KeptFamilies.{views_of, settled_from, settled_views}
 
 -- the view of a level

@@ -8,8 +8,8 @@ use Rattle.quotient.specs.Quotients.{view_of}
 use Rattle.quotient_draft.specs.Drafts.{settled_view}
 use Rattle.keyed_quotient.specs.Levels.{KeyedQuotient, keyed_code}
 use Rattle.keyed_quotient.specs.Changes.{KeyedChanges, changes_code}
-use Rattle.ak_family.specs.Drafting.{changes_at, HaveRoom, ShowsFamily}
-use Rattle.ak_drafting.specs.Drafting.{ShownFit}
+use Rattle.ak_family.specs.LevelDrafts.{changes_at, HaveRoom, ShowsFamily}
+use Rattle.ak_drafting.specs.FamilyDrafts.{ShownFit}
 use Rattle.index_api.specs.Meanings.{Meaning}
 
 pub record KeptFamily : Type 0 where

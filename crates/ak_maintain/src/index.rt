@@ -1,9 +1,9 @@
 // The index.
 ghost use Rattle.std.specs.Prelude.{◌≡◌, ◌+◌, ◌≤◌, ◌<◌, ℕ, IfOk, OnOk, OnErr, None, length};
 ghost use Rattle.graph_update.specs.NewChanges.{IsNew};
-ghost use Rattle.graph_update.specs.Judging.{change_of};
+ghost use Rattle.graph_update.specs.Verdicts.{change_of};
 ghost use Rattle.index_api.specs.Meanings.{IsReady, IsPrepared};
-ghost use Rattle.ak_drafting.specs.Drafting.{most_steps};
+ghost use Rattle.ak_drafting.specs.FamilyDrafts.{most_steps};
 ghost use Rattle.ak_maintain.specs.KeptFamilies.{meaning_of};
 
 use crate::kept::Kept;

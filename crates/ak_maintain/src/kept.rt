@@ -2,9 +2,9 @@
 ghost use Rattle.std.specs.Prelude.{◌≡◌, ◌+◌, ◌≤◌, ℕ, None, IsSome, IfOk, IfSome, OnOk, OnErr, length};
 ghost use Rattle.px_spec.specs.Changes.{after};
 ghost use Rattle.graph_update.specs.NewChanges.{IsNew};
-ghost use Rattle.graph_update.specs.Judging.{change_of};
-ghost use Rattle.ak_family.specs.Drafting.{AreSeenAs, AreSettled, ShowsFamily};
-ghost use Rattle.ak_drafting.specs.Drafting.{FamilyFits, ShownFit, most_steps};
+ghost use Rattle.graph_update.specs.Verdicts.{change_of};
+ghost use Rattle.ak_family.specs.LevelDrafts.{AreSeenAs, AreSettled, ShowsFamily};
+ghost use Rattle.ak_drafting.specs.FamilyDrafts.{FamilyFits, ShownFit, most_steps};
 ghost use Rattle.ak_maintain.specs.KeptFamilies.{CanSettle, IsStagedFor};
 
 use ak_drafting::draft_change;

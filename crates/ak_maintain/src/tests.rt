@@ -1,6 +1,6 @@
 // The levels of two chains, of which one gets a further parent.
 ghost use Rattle.std.specs.Prelude.{◌≡◌, ◌<◌, IfOk, OnOk};
-ghost use Rattle.graph_update.specs.Judging.{change_of};
+ghost use Rattle.graph_update.specs.Verdicts.{change_of};
 ghost use Rattle.index_api.specs.Meanings.{IsReady, IsPrepared};
 ghost use Rattle.ak_maintain.specs.KeptFamilies.{meaning_of};
 

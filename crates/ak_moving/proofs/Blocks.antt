@@ -6,7 +6,7 @@ use Rattle.px_spec.specs.Members.{at}
 use Rattle.upkeep_spec.specs.Supported.{AreEdgeCounts}
 use Rattle.keyed_quotient.specs.Levels.{KeyedQuotient}
 use Rattle.keyed_quotient.specs.Changes.{KeyedChanges}
-use Rattle.ak_family.specs.Drafting.{blocks_shown, support_shown, AreOver}
+use Rattle.ak_family.specs.LevelDrafts.{blocks_shown, support_shown, AreOver}
 use Rattle.ak_moving.specs.Placed.{HasMoved}
 
 pub moved_not : (g : Graph) (f : List KeyedQuotient) (d : List KeyedChanges) (i n b : ℕ) → AreOver f d → AreEdgeCounts g (blocks_shown f d i) (support_shown f d i)

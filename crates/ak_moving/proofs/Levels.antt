@@ -9,9 +9,9 @@ use Rattle.bisim_spec.specs.Reach.{near}
 use Rattle.keyed_quotient.specs.Levels.{KeyedQuotient, key_at}
 use Rattle.keyed_quotient.specs.Changes.{KeyedChanges, blocks_as_shown, labels_as_shown, support_as_shown, shown_key}
 use Rattle.ak_family.specs.Families.{level_at, blocks_at}
-use Rattle.ak_family.specs.Drafting.{blocks_shown, labels_shown, support_shown, key_shown}
+use Rattle.ak_family.specs.LevelDrafts.{blocks_shown, labels_shown, support_shown, key_shown}
 use Rattle.level_spec.specs.Keyed.{IsKeyed, KeysStay, SameFar, AreLabelled, IsLevelOf, LabelsGoUp, first_number}
-use Rattle.ak_moving.specs.Moving.{IsMoving, AreKeyedNear}
+use Rattle.ak_moving.specs.MovedLevels.{IsMoving, AreKeyedNear}
 use Rattle.ak_moving.specs.Placed.{AreTwoLevels, ArePlaced}
 
 -- a level and the one above it

@@ -15,7 +15,7 @@ use Rattle.upkeep_spec.specs.Supported.{AreEdgeCounts}
 use Rattle.keyed_quotient.specs.Levels.{KeyedQuotient}
 use Rattle.keyed_quotient.specs.Changes.{KeyedChanges, blocks_as_shown, labels_as_shown, support_as_shown}
 use Rattle.ak_family.specs.Families.{level_at}
-use Rattle.ak_family.specs.Drafting.{changes_at, blocks_shown, labels_shown, key_shown, AreSameBut, HasBlock}
+use Rattle.ak_family.specs.LevelDrafts.{changes_at, blocks_shown, labels_shown, key_shown, AreSameBut, HasBlock}
 use Rattle.level_spec.specs.Keyed.{IsLevelOf, first_number}
 use Rattle.ak_moving.specs.Placed.{AreTwoLevels, HasMoved, ArePlaced}
 

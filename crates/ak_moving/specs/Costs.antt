@@ -1,6 +1,6 @@
 -- What it costs to place a node.
 use Rattle.std.specs.Prelude.{ℕ, ◌+◌, ◌*◌}
-use Rattle.graph_update.specs.Pending.{Pending}
+use Rattle.graph_update.specs.PendingChanges.{Pending}
 use Rattle.node_moves.specs.Costs.{parents_cost, children_cost}
 
 -- its parents are read for its key and again for its move, and its children once

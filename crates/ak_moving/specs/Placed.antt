@@ -6,7 +6,7 @@ use Rattle.px_spec.specs.Members.{at, has}
 use Rattle.upkeep_spec.specs.Supported.{AreEdgeCounts}
 use Rattle.keyed_quotient.specs.Levels.{KeyedQuotient}
 use Rattle.keyed_quotient.specs.Changes.{KeyedChanges}
-use Rattle.ak_family.specs.Drafting.{blocks_shown, labels_shown, support_shown, key_shown, AreOver, AreSameBut}
+use Rattle.ak_family.specs.LevelDrafts.{blocks_shown, labels_shown, support_shown, key_shown, AreOver, AreSameBut}
 use Rattle.level_spec.specs.Keyed.{IsKeyed, KeysStay, IsLevelOf, LabelsGoUp}
 
 -- blocks stay blocks, and keep their labels

@@ -2,7 +2,7 @@
 ghost use Rattle.std.specs.Prelude.{◌<◌, OnOk, length};
 ghost use Rattle.px_spec.specs.Members.{at};
 ghost use Rattle.bisim_levels.specs.Keys.{IsWritten};
-ghost use Rattle.ak_family.specs.Drafting.{blocks_shown, AreOver};
+ghost use Rattle.ak_family.specs.LevelDrafts.{blocks_shown, AreOver};
 
 use ak_family::{AkDraft, AkFamily};
 use bisim_levels::write_key;

@@ -1,6 +1,6 @@
 // Placing the near nodes at one level.
 ghost use Rattle.std.specs.Prelude.{◌+◌, ◌≤◌, ℕ, OnOk, sum_by};
-ghost use Rattle.graph_update.specs.Pending.{graph_after};
+ghost use Rattle.graph_update.specs.PendingChanges.{graph_after};
 ghost use Rattle.ak_moving.specs.Placed.{AreTwoLevels, ArePlaced};
 ghost use Rattle.ak_moving.specs.Costs.{place_cost};
 

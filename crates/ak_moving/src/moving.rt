@@ -4,9 +4,9 @@ ghost use Rattle.px_spec.specs.Members.{has};
 ghost use Rattle.px_spec.specs.Shapes.{shape_of};
 ghost use Rattle.bisim_spec.specs.Reach.{near};
 ghost use Rattle.bisim_spec.specs.Weights.{weight};
-ghost use Rattle.graph_update.specs.Pending.{graph_after};
-ghost use Rattle.ak_family.specs.Drafting.{blocks_shown};
-ghost use Rattle.ak_moving.specs.Moving.{IsMoving, AreKeyedNear};
+ghost use Rattle.graph_update.specs.PendingChanges.{graph_after};
+ghost use Rattle.ak_family.specs.LevelDrafts.{blocks_shown};
+ghost use Rattle.ak_moving.specs.MovedLevels.{IsMoving, AreKeyedNear};
 
 use crate::buffers::Buffers;
 use crate::level::place_all;

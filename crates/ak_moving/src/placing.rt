@@ -5,9 +5,9 @@ ghost use Rattle.px_spec.specs.Members.{at};
 ghost use Rattle.px_spec.specs.Shapes.{shape_of};
 ghost use Rattle.bisim_spec.specs.Partitions.{IsPartition};
 ghost use Rattle.upkeep_spec.specs.Supported.{AreEdgeCounts};
-ghost use Rattle.graph_update.specs.Pending.{graph_after};
+ghost use Rattle.graph_update.specs.PendingChanges.{graph_after};
 ghost use Rattle.node_moves.specs.Costs.{parents_cost, children_cost};
-ghost use Rattle.ak_family.specs.Drafting.{blocks_shown, labels_shown, support_shown, AreOver};
+ghost use Rattle.ak_family.specs.LevelDrafts.{blocks_shown, labels_shown, support_shown, AreOver};
 ghost use Rattle.ak_moving.specs.Placed.{AreTwoLevels, HasMoved, ArePlaced};
 ghost use Rattle.ak_moving.specs.Costs.{place_cost};
 

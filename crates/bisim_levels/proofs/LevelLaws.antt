@@ -11,7 +11,7 @@ use Rattle.bisim_spec.specs.Partitions.{IsPartition, Agrees}
 use Rattle.bisim_spec.proofs.Keys.{bis_from_key, key_from_bis, both_from_key, key_from_both}
 use Rattle.bisim_levels.specs.declared.sides.Side.TheVariants.{Parents, Children}
 use Rattle.bisim_levels.specs.Sides.{is_near, no_neighbours}
-use Rattle.bisim_levels.specs.Refining.{Share, Refines}
+use Rattle.bisim_levels.specs.Refinement.{Share, Refines}
 use Rattle.bisim_spec.proofs.Bisimilar.{some_of}
 use Rattle.bisim_levels.proofs.Views.{label_at, node_number, number_node}
 

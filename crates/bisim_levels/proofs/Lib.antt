@@ -1,6 +1,6 @@
-pub mod Rising
+pub mod RisingLists
 pub mod Written
-pub mod Numbering
+pub mod NumberedNodes
 pub mod Views
 pub mod LevelLaws
 pub mod Recalled

@@ -7,8 +7,8 @@ use Rattle.key_table.specs.NumberedKeys.{Interns}
 use Rattle.bisim_levels.specs.declared.recent.Recent.{Recent}
 use Rattle.bisim_levels.specs.Recent.{AreRecent}
 use Rattle.bisim_levels.specs.Keys.{IsWritten}
-use Rattle.bisim_levels.proofs.Rising.{images_set}
-use Rattle.bisim_levels.proofs.Numbering.{get_append, get_last}
+use Rattle.bisim_levels.proofs.RisingLists.{images_set}
+use Rattle.bisim_levels.proofs.NumberedNodes.{get_append, get_last}
 
 -- the number leads to the key
 pub interned_at : (old new : List (List ℕ)) (key : List ℕ) (k : ℕ) → Interns old new key k → slice_get new k ≡ Some key

@@ -1,4 +1,4 @@
 pub mod Sides
 pub mod Keys
-pub mod Refining
+pub mod Refinement
 pub mod Recent

@@ -8,7 +8,7 @@ ghost use Rattle.px_spec.specs.Members.{at};
 ghost use Rattle.bisim_spec.specs.Partitions.{IsPartition, Agrees};
 ghost use Rattle.bisim_levels.specs.declared.sides.Side.TheVariants.{Parents, Children};
 ghost use Rattle.bisim_levels.specs.Sides.{is_near, no_neighbours};
-ghost use Rattle.bisim_levels.specs.Refining.{AreNumbered, AreNumberedTwice, AreBlocksBelow, Numbers};
+ghost use Rattle.bisim_levels.specs.Refinement.{AreNumbered, AreNumberedTwice, AreBlocksBelow, Numbers};
 ghost use Rattle.bisim_levels.specs.Recent.{own_number, AreRecent};
 
 use crate::recent::{Recent, intern_recent, none_recent};

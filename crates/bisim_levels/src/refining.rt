@@ -8,7 +8,7 @@ ghost use Rattle.px_spec.specs.Members.{at};
 ghost use Rattle.bisim_spec.specs.Partitions.{IsPartition};
 ghost use Rattle.bisim_levels.specs.Sides.{is_near};
 ghost use Rattle.bisim_levels.specs.Keys.{IsWritten};
-ghost use Rattle.bisim_levels.specs.Refining.{Refines, AreNumbered, AreBlocksBelow, Numbers};
+ghost use Rattle.bisim_levels.specs.Refinement.{Refines, AreNumbered, AreBlocksBelow, Numbers};
 ghost use Rattle.bisim_levels.specs.Recent.{two_numbers, AreRecent};
 
 use crate::keys::{block_of, only_block, write_key};

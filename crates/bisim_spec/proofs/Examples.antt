@@ -11,7 +11,7 @@ use Rattle.bisim_spec.specs.Reach.{near, reach, Acyclic}
 use Rattle.bisim_spec.specs.Targets.{HasOther}
 use Rattle.bisim_spec.specs.Weights.{weight, size_of}
 use Rattle.bisim_spec.specs.Supports.{support}
-use Rattle.bisim_spec.specs.Touching.{touching_count}
+use Rattle.bisim_spec.specs.NodeEdges.{touching_count}
 use Rattle.bisim_spec.specs.Tests.{bis, bisim, both, fb, agrees, together}
 use Rattle.bisim_spec.proofs.BelowLaws.{all_get}
 use Rattle.bisim_spec.proofs.Bisimilar.{bis_sym, bis_node, both_sym, both_node}

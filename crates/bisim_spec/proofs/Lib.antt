@@ -6,8 +6,8 @@ pub mod Settled
 pub mod Together
 pub mod Keys
 pub mod Stable
-pub mod Merging
-pub mod Rising
+pub mod MergeableBlocks
+pub mod GrowingSets
 pub mod Reached
 pub mod Ranks
 pub mod Outside
@@ -16,7 +16,7 @@ pub mod Moves
 pub mod Differs
 pub mod Changed
 pub mod Supported
-pub mod Fitting
+pub mod FitLaws
 pub mod StabilityTests
 pub mod Drawn
 pub mod Examples

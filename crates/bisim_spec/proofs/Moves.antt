@@ -10,7 +10,7 @@ use Rattle.px_spec.specs.Graphs.{Edges}
 use Rattle.px_spec.specs.Members.{has, Lists, is_this}
 use Rattle.px_spec.proofs.EdgeOrder.{edge_cmp_total, edge_cmp-IsAntisymmetric, eq_pair}
 use Rattle.bisim_spec.specs.Supports.{joins, edges_between}
-use Rattle.bisim_spec.specs.Touching.{edges_onto, edges_from, touching_count, DifferAlone}
+use Rattle.bisim_spec.specs.NodeEdges.{edges_onto, edges_from, touching_count, DifferAlone}
 use Rattle.bisim_spec.proofs.EdgeSets.{eq, eq_is, eq_self, kept, same_len, kept_len, count_cons, len_more}
 
 pub block_get : (a : ℕ) (o : Option ℕ) → is_this a o ≡ true → o ≡ Some a

@@ -9,7 +9,7 @@ use Rattle.bisim_spec.specs.Stability.{StableBut, Stable, Mergeable, Minimal, me
 use Rattle.bisim_spec.specs.Reach.{near, reach}
 use Rattle.bisim_spec.proofs.Stable.{stable_label, stable_parents}
 use Rattle.bisim_spec.proofs.Together.{together_sym, together_at, merged_keeps, merged_a, merged_b, merged_cases}
-use Rattle.bisim_spec.proofs.Merging.{mergeable_from}
+use Rattle.bisim_spec.proofs.MergeableBlocks.{mergeable_from}
 use Rattle.bisim_spec.proofs.Reached.{near_next, near_step, near_more, reach_start, unreached_parent}
 
 -- the two shapes differ at the targets alone: in their labels, and in the edges that lead to them

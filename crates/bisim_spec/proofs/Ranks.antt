@@ -14,7 +14,7 @@ use Rattle.bisim_spec.specs.Reach.{reach, Acyclic}
 use Rattle.bisim_spec.proofs.BelowLaws.{count_strict}
 use Rattle.bisim_spec.proofs.Bisimilar.{some_of}
 use Rattle.bisim_spec.proofs.Stable.{stable_within}
-use Rattle.bisim_spec.proofs.Merging.{related_together}
+use Rattle.bisim_spec.proofs.MergeableBlocks.{related_together}
 use Rattle.bisim_spec.proofs.Settled.{bisim_bisimulation}
 use Rattle.bisim_spec.proofs.Reached.{near_walk, reach_step, reach_start}
 

@@ -11,7 +11,7 @@ use Rattle.bisim_spec.specs.Below.{any_below}
 use Rattle.bisim_spec.specs.Reach.{near, reach}
 use Rattle.bisim_spec.proofs.BelowLaws.{any_get, any_from}
 use Rattle.bisim_spec.proofs.Bisimilar.{some_of}
-use Rattle.bisim_spec.proofs.Rising.{comes_to_end}
+use Rattle.bisim_spec.proofs.GrowingSets.{comes_to_end}
 
 -- one edge on
 pub near_step : (s : Shape) → IsShape s → (from : ℕ → Bool) (j p n : ℕ) → near s from j p ≡ true → IsTrue (s.edge p n) → near s from (suc j) n ≡ true

@@ -11,4 +11,4 @@ pub mod Targets
 pub mod MinimalIndex
 pub mod OneStep
 pub mod Fits
-pub mod Touching
+pub mod NodeEdges

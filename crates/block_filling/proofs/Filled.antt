@@ -6,7 +6,7 @@ use Rattle.std.proofs.lemmas.Option.{slice_get_past}
 use Rattle.px_spec.specs.Shapes.{Shape}
 use Rattle.px_spec.specs.Members.{at}
 use Rattle.bisim_spec.specs.Partitions.{IsPartition, Agrees}
-use Rattle.block_filling.specs.Filling.{SameBlocks}
+use Rattle.block_filling.specs.FilledTables.{SameBlocks}
 
 pub partition_moved : (s : Shape) (xs ys : List (Option ℕ)) → SameBlocks xs ys → IsPartition s ys → IsPartition s xs
 partition_moved s xs ys same p = record {

@@ -2,7 +2,7 @@
 ghost use Rattle.std.specs.Prelude.{◌≡◌, ◌+◌, ◌<◌, ◌≤◌, ◌^◌, ℕ, [], None, Some, IfOk, IfSome, length, nat_eq, nat_lt, is_some, if◌then◌else◌};
 ghost use Rattle.px_spec.specs.Members.{at};
 ghost use Rattle.block_partition.specs.Partitions.{IsBlock};
-ghost use Rattle.block_filling.specs.Filling.{HaveLabels, SameBlocks, SameBelow};
+ghost use Rattle.block_filling.specs.FilledTables.{HaveLabels, SameBlocks, SameBelow};
 
 use block_partition::Blocks;
 use px_base::{Memory, NodeId};

@@ -17,7 +17,7 @@ use Rattle.upkeep_spec.specs.Named.{AreNamed}
 use Rattle.upkeep_spec.specs.Supported.{AreEdgeCounts}
 use Rattle.upkeep_spec.specs.Viewed.{IsViewed}
 use Rattle.upkeep_spec.proofs.Labelled.{labelled_merged}
-use Rattle.upkeep_spec.proofs.Merging.{merged_stable, unmerged}
+use Rattle.upkeep_spec.proofs.MergedPairs.{merged_stable, unmerged}
 use Rattle.upkeep_spec.proofs.SetLists.{between_onto, between_from, between_within, between_gone_from, between_gone_onto, between_other, between_most}
 use Rattle.block_joining.specs.Mates.{renamed, AreMates}
 use Rattle.block_joining.specs.Merged.{with_column, with_row, merged_support, HasGraph}

@@ -9,9 +9,9 @@ use Rattle.px_spec.specs.Members.{at, has, Lists}
 use Rattle.bisim_spec.specs.Stability.{Mergeable, merged_at}
 use Rattle.bisim_spec.proofs.Bisimilar.{none_or_some}
 use Rattle.bisim_spec.proofs.Together.{at_merged}
-use Rattle.bisim_spec.proofs.Merging.{IsParentBlock, mergeable_blocks}
+use Rattle.bisim_spec.proofs.MergeableBlocks.{IsParentBlock, mergeable_blocks}
 use Rattle.upkeep_spec.specs.Viewed.{IsViewed}
-use Rattle.upkeep_spec.proofs.Merging.{can_swap}
+use Rattle.upkeep_spec.proofs.MergedPairs.{can_swap}
 use Rattle.block_joining.specs.Mates.{renamed, met, ParentsAreMet, AreMates, AreNoMates}
 
 same_is : (x y : ℕ) → x ≡ y → nat_eq x y ≡ true

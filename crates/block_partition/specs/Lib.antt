@@ -2,5 +2,5 @@ pub mod Partitions
 pub mod Tables
 pub mod Soundness
 pub mod Chains
-pub mod Appending
-pub mod Splitting
+pub mod Extensions
+pub mod SplitBlocks

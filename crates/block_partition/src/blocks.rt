@@ -2,7 +2,7 @@
 ghost use Rattle.std.specs.Prelude.{◌≡◌, ◌≢◌, ◌+◌, ◌-◌, ◌<◌, ◌≤◌, ◌^◌, ℕ, nat_eq, if◌then◌else◌, Some, None, IsSome, is_some, IfOk, OnOk, OnErr, IfSome, length, slice_set, slice_index, vec_len, vec_capacity};
 ghost use Rattle.px_spec.specs.Members.{Lists, at};
 ghost use Rattle.block_partition.specs.Partitions.{IsBlock, is_member, block_count, member_count, IsLeastFree, no_blocks, with_room, with_block, with_member, with_move, without_block};
-ghost use Rattle.block_partition.specs.Appending.{with_next};
+ghost use Rattle.block_partition.specs.Extensions.{with_next};
 ghost use Rattle.block_partition.specs.Tables.{Keeps, head_where, with_length};
 
 use crate::freed::Freed;

@@ -2,7 +2,7 @@
 ghost use Rattle.std.specs.Prelude.{◌≡◌, ◌<◌, ℕ, true, Some, IsSome, length, if◌then◌else◌};
 ghost use Rattle.px_spec.specs.Members.{at, has};
 ghost use Rattle.block_partition.specs.Partitions.{IsBlock, IsLeastFree};
-ghost use Rattle.block_partition.specs.Splitting.{IsSplitOff};
+ghost use Rattle.block_partition.specs.SplitBlocks.{IsSplitOff};
 
 use crate::blocks::Blocks;
 use px_base::NodeId;

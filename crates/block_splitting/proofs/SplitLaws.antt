@@ -8,7 +8,7 @@ use Rattle.px_spec.specs.Members.{has, at}
 use Rattle.bisim_spec.specs.Partitions.{Together, IsPartition}
 use Rattle.bisim_levels.specs.declared.sides.Side.{Side}
 use Rattle.bisim_levels.specs.Sides.{is_near}
-use Rattle.bisim_levels.specs.Refining.{StayTogether}
+use Rattle.bisim_levels.specs.Refinement.{StayTogether}
 use Rattle.bisim_levels.proofs.Views.{near_block}
 use Rattle.bisim_levels.proofs.Written.{together_from_key, key_from_together}
 use Rattle.block_partition.specs.Partitions.{Partition, IsBlock, block_count}

@@ -80,7 +80,7 @@ pub struct Or {
 
 impl Model for Or {
     ghost use Rattle.branch_spec.specs.Trees.{Or as Tree};
-    ghost use Rattle.branch_expr.specs.Coding.{coded_or};
+    ghost use Rattle.branch_expr.specs.TreeCodes.{coded_or};
 
     ghost Value = { Tree };
 
@@ -109,7 +109,7 @@ pub struct BranchTree {
 
 impl Model for BranchTree {
     ghost use Rattle.branch_spec.specs.Trees.{Branch, branch};
-    ghost use Rattle.branch_expr.specs.Coding.{coded_branch};
+    ghost use Rattle.branch_expr.specs.TreeCodes.{coded_branch};
     ghost use Rattle.branch_expr.specs.Views.{step_of, chain_of};
 
     ghost Value = { Branch };

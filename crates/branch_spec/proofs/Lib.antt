@@ -1,5 +1,5 @@
-pub mod Relaxing
+pub mod RelaxedAnswers
 pub mod Alike
 pub mod OneReading
-pub mod Writing
+pub mod CanonicalTexts
 pub mod Examples

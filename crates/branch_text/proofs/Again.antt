@@ -9,7 +9,7 @@ use Rattle.branch_spec.specs.Trees as tree
 use Rattle.branch_spec.specs.Relaxed.{relax, relax_step, relax_preds, relax_or, relax_and, relax_cond, relax_chain}
 use Rattle.branch_spec.specs.Tokens.{Token, lab, underscore, axis, left, right, opening, closing, not_word, and_word, or_word, nothing, test_onto, step_onto, preds_onto, or_onto, and_onto, cond_onto, chain_onto, tokens}
 use Rattle.branch_spec.specs.Spelling.{EndsBackslash, SpellsTokens, canonical}
-use Rattle.branch_spec.proofs.Writing.{SpellThemselves, BeginWithNoAxis, canonical_spells}
+use Rattle.branch_spec.proofs.CanonicalTexts.{SpellThemselves, BeginWithNoAxis, canonical_spells}
 use Rattle.branch_text.specs.Parsed.{Spells, AreLabels, is_spelled, has_text}
 use Rattle.branch_text.proofs.Fronts.{label_first}
 

@@ -10,7 +10,7 @@ use Rattle.std.proofs.lemmas.Option.{same_Some, some_pair_parts}
 use Rattle.std.proofs.lemmas.Slice.Eq.{bytes_eq-Decides}
 use Rattle.px_spec.specs.Words.{is_blank, is_letter, is_name_byte, is_name}
 use Rattle.triples_read.specs.Lines.{IsIriFront}
-use Rattle.triples_read.specs.Reading.{starts_with}
+use Rattle.triples_read.specs.ByteReaders.{starts_with}
 use Rattle.triples_read.specs.Canonical.{iri_text, iri_spelling}
 use Rattle.triples_read.proofs.CanonicalLaws.{iri_canonical}
 use Rattle.triples_read.proofs.IriFronts.{front-cut, end-found}

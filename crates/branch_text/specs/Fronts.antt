@@ -5,7 +5,7 @@ use Rattle.px_spec.specs.Words.{is_name_byte}
 use Rattle.branch_spec.specs.Trees.{Axis, child, below, parent, above}
 use Rattle.branch_spec.specs.Tokens.{Token, underscore, axis, left, right, opening, closing, not_word, and_word, or_word}
 use Rattle.branch_spec.specs.Spelling.{EndsToken, SpellsToken}
-use Rattle.triples_read.specs.Reading.{starts_with}
+use Rattle.triples_read.specs.ByteReaders.{starts_with}
 use Rattle.path_query.specs.Labels.{SpellsLabel}
 
 -- a token stands in front, as long as can be

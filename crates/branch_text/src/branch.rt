@@ -31,7 +31,7 @@ pub struct Branch {
 impl Model for Branch {
     ghost use Rattle.branch_spec.specs.Trees.{Branch as Tree};
     ghost use Rattle.branch_spec.specs.Tokens.{tokens};
-    ghost use Rattle.branch_expr.specs.Coding.{coded_branch};
+    ghost use Rattle.branch_expr.specs.TreeCodes.{coded_branch};
     ghost use Rattle.branch_text.specs.Parsed.{AreLabels};
 
     ghost Value = { Tree };

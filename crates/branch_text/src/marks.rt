@@ -1,7 +1,7 @@
 // The tokens that are no labels, and where a label ends.
 ghost use Rattle.std.specs.Prelude.{◌≡◌, ◌≤◌, List, ℕ, Option, length, nat_eq, option_map};
 ghost use Rattle.std.specs.List.{position_or_len};
-ghost use Rattle.triples_read.specs.Reading.{starts_with};
+ghost use Rattle.triples_read.specs.ByteReaders.{starts_with};
 ghost use Rattle.branch_sets.specs.Axes.{axis_of};
 ghost use Rattle.branch_text.specs.Seen.{token_of};
 ghost use Rattle.branch_text.specs.Fronts.{mark_at, axis_front, sign_front, word_token, word_front, mark_front, iri_len, label_len};

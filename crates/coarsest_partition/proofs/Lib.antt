@@ -3,5 +3,5 @@ pub mod RoundLaws
 pub mod BothLaws
 pub mod Alone
 pub mod Starts
-pub mod Fitting
+pub mod IndexBlocks
 pub mod OrderLaws

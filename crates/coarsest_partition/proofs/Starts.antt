@@ -12,9 +12,9 @@ use Rattle.block_partition.specs.Partitions.{Partition}
 use Rattle.bisim_levels.specs.Sides.{no_neighbours}
 use Rattle.block_splitting.specs.Chosen.{HasFirst}
 use Rattle.block_splitting.specs.Splits.{AreLabelled, AreInhabited}
-use Rattle.block_filling.specs.Filling.{HaveLabels, SameBlocks}
+use Rattle.block_filling.specs.FilledTables.{HaveLabels, SameBlocks}
 use Rattle.px_spec.specs.Shapes.{shape_of}
-use Rattle.bisim_levels.specs.Refining.{AreNumbered, AreBlocksBelow}
+use Rattle.bisim_levels.specs.Refinement.{AreNumbered, AreBlocksBelow}
 use Rattle.bisim_levels.proofs.Views.{node_number}
 
 pub nodes_below : (g : Graph) → IsGraph g → (block block2 : List (Option ℕ)) (size : ℕ) → block2 ≡ block → IsPartition (shape_of g) block → size ≡ length g.given

@@ -8,7 +8,7 @@ ghost use Rattle.px_spec.specs.Shapes.{shape_of};
 ghost use Rattle.block_partition.specs.Partitions.{block_count};
 ghost use Rattle.block_splitting.specs.Nodes.{AreNodes};
 ghost use Rattle.block_splitting.specs.Splits.{AreLabelled, AreInhabited};
-ghost use Rattle.coarsest_partition.specs.Fitting.{FitsWithSupports};
+ghost use Rattle.coarsest_partition.specs.IndexBlocks.{FitsWithSupports};
 ghost use Rattle.coarsest_partition.specs.Refined.{both_sides, IsRefined, IsStep};
 ghost use Rattle.coarsest_partition.specs.Sides.{two, by_side, other_of};
 

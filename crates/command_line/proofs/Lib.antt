@@ -2,5 +2,5 @@ pub mod NoFlag
 pub mod Marks
 pub mod Seeds
 pub mod Usages
-pub mod Reading
+pub mod ClapWords
 pub mod Examples

@@ -1,6 +1,6 @@
 // The 1-index by itself, without an engine: an edge that comes between blocks which have support leaves them.
 ghost use Rattle.std.specs.Prelude.{◌≡◌, ◌<◌, IsTrue};
-ghost use Rattle.graph_update.specs.Judging.{change_of};
+ghost use Rattle.graph_update.specs.Verdicts.{change_of};
 ghost use Rattle.index_api.specs.Meanings.{IsReady, IsPrepared};
 ghost use Rattle.one_maintain.specs.KeptQuotients.{meaning_of};
 

@@ -1,4 +1,4 @@
 pub mod Kept
-pub mod Noting
+pub mod NotedNodes
 pub mod Rounds
 pub mod Walks

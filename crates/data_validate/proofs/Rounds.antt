@@ -4,8 +4,8 @@ use Rattle.std.specs.Prelude.{◌&&◌, ◌||◌, not, nat_eq, is_some, IsSome}
 use Rattle.std.proofs.lemmas.Bool.{or_cases, or_left, or_right}
 use Rattle.std.proofs.Common.{eqb-true}
 use Rattle.px_spec.specs.Members.{has}
-use Rattle.data_validate.specs.Leading.{Leading, IsFew, IsLeading, IsNoted, IsSpread}
-use Rattle.data_validate.proofs.Noting.{has_more}
+use Rattle.data_validate.specs.Ancestors.{Leading, IsFew, IsLeading, IsNoted, IsSpread}
+use Rattle.data_validate.proofs.NotedNodes.{has_more}
 
 both : (a b : Bool) → (a && b) ≡ true → (a ≡ true) × (b ≡ true)
 both true b h = (refl, h)

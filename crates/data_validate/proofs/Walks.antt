@@ -10,7 +10,7 @@ use Rattle.path_spec.specs.Longest.{IsLongest, longest}
 use Rattle.path_spec.specs.Answers.{IsAnswer, AreAnswers}
 use Rattle.path_spec.specs.Parts.{part_of}
 use Rattle.path_spec.proofs.Longest.{longest_is}
-use Rattle.data_validate.specs.Leading.{Leading, IsFew, IsLeading}
+use Rattle.data_validate.specs.Ancestors.{Leading, IsFew, IsLeading}
 
 both_true : (a b : Bool) → (a && b) ≡ true → (a ≡ true) × (b ≡ true)
 both_true true b h = (refl, h)

@@ -1,2 +1,2 @@
+pub mod Ancestors
 pub mod Checks
-pub mod Leading

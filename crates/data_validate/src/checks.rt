@@ -7,7 +7,7 @@ ghost use Rattle.path_spec.specs.Answers.{IsAnswer};
 ghost use Rattle.path_spec.specs.Longest.{longest};
 ghost use Rattle.branch_query.specs.Queries.{query_of, IsQueryAnswer, AreQueryAnswers};
 ghost use Rattle.data_validate.specs.Checks.{AreAnswersAmong};
-ghost use Rattle.data_validate.specs.Leading.{IsFew};
+ghost use Rattle.data_validate.specs.Ancestors.{IsFew};
 
 use crate::leading::ancestors;
 use branch_query::Query;

@@ -1,7 +1,7 @@
 // What leads to the members of a set by few edges.
 ghost use Rattle.std.specs.Prelude.{◌≡◌, ◌<◌, ◌≤◌, ◌+◌, ◌&&◌, ◌⊎◌, [], ℕ, nat_eq, is_some, length, IsTrue, IsFalse, IsSome, IfOk, IfSome, OnOk};
 ghost use Rattle.px_spec.specs.Members.{has};
-ghost use Rattle.data_validate.specs.Leading.{IsFew, IsLeading, IsNoted, IsSpread};
+ghost use Rattle.data_validate.specs.Ancestors.{IsFew, IsLeading, IsNoted, IsSpread};
 
 use label_graph::Digraph;
 use px_base::{Bits, Memory, NodeId};

@@ -5,7 +5,7 @@ mod Chained
 mod Texts
 mod NodeWords
 mod Summed
-mod Rising
+mod RisingLists
 mod LeastMembers
 pub mod Alike
 mod Listed

@@ -8,7 +8,7 @@ use Rattle.bisim_spec.specs.Views.{View}
 use Rattle.bisim_spec.specs.Fits.{Fits, FitsAt, FitsFb, view_at}
 use Rattle.quotient.specs.Quotients.{Quotient, view_of}
 use Rattle.index_api.specs.Meanings.{IsReady, IsPrepared, IsRefreshed}
-use Rattle.fb_index.specs.Fitting.{views_of, staged_of, meaning_of}
+use Rattle.fb_index.specs.FbMeanings.{views_of, staged_of, meaning_of}
 
 -- one view that is what it must be
 pub one_fits : (g : Graph) (o : Option View) → FitsAt Fb g 0 o → Fits Fb (o ∷ []) g

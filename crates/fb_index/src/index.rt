@@ -1,9 +1,9 @@
 // The index.
 ghost use Rattle.std.specs.Prelude.{◌≡◌, ◌≤◌, IfOk, OnOk, OnErr, IsSome, None, Ok, true, false};
 ghost use Rattle.graph_update.specs.NewChanges.{IsNew};
-ghost use Rattle.graph_update.specs.Judging.{change_of};
+ghost use Rattle.graph_update.specs.Verdicts.{change_of};
 ghost use Rattle.index_api.specs.Meanings.{IsReady, IsBuilt, IsPrepared};
-ghost use Rattle.fb_index.specs.Fitting.{meaning_of};
+ghost use Rattle.fb_index.specs.FbMeanings.{meaning_of};
 
 use crate::building::summary_of_view;
 use graph_update::Change;
@@ -38,7 +38,7 @@ impl FbIndex {
 }
 
 impl PathIndex for FbIndex {
-    ghost use Rattle.fb_index.specs.Fitting.{meaning_of as the_meaning_of};
+    ghost use Rattle.fb_index.specs.FbMeanings.{meaning_of as the_meaning_of};
 
     ghost meaning = { λ index. the_meaning_of index.summary index.is_staged };
 

@@ -4,7 +4,7 @@ use Rattle.std.specs.Prelude.{IfSome, position, bytes_eq}
 use Rattle.triples_read.specs.declared.term.Term.{Term}
 use Rattle.graph_load.specs.declared.loader.Loader.{Loader}
 use Rattle.term_table.specs.declared.table.Found.{Found}
-use Rattle.term_table.specs.Finding.{IsFound, IsFoundAs}
+use Rattle.term_table.specs.FoundTerms.{IsFound, IsFoundAs}
 use Rattle.graph_load.specs.Loaders.{Grows}
 use Rattle.graph_load.proofs.EdgeSteps.{number_stays}
 use Rattle.graph_load.proofs.AddTriple.{place_stays, predicate_stays}

@@ -9,7 +9,7 @@ use Rattle.graph_load.specs.declared.known.Key.{Key}
 use Rattle.graph_load.specs.declared.loader.Loader.{Loader}
 use Rattle.graph_load.specs.declared.loader.Places.{Places}
 use Rattle.term_table.specs.Entries.{Begins}
-use Rattle.term_table.specs.Finding.{IsFoundAs}
+use Rattle.term_table.specs.FoundTerms.{IsFoundAs}
 use Rattle.graph_load.specs.TripleGraphs.{LoadState, same_triple, with_triple}
 use Rattle.graph_load.specs.Places.{is_key_of}
 

@@ -2,7 +2,7 @@
 ghost use Rattle.std.specs.Prelude.{◌≡◌, ◌<◌, ◌^◌, ℕ, length, IfOk, OnOk, IsErrOf, Ok};
 ghost use Rattle.px_spec.specs.Changes.{apply};
 ghost use Rattle.label_graph.specs.Held.{no_room};
-ghost use Rattle.graph_update.specs.Judging.{change_of};
+ghost use Rattle.graph_update.specs.Verdicts.{change_of};
 ghost use Rattle.graph_load.specs.Refused.{IsRefused};
 ghost use Rattle.graph_load.specs.declared.limited_changes.Stop.TheVariants.{Memory as NoMemory};
 

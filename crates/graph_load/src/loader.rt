@@ -3,7 +3,7 @@ ghost use Rattle.std.specs.Prelude.{◌≡◌, ℕ, List, [], length, position, 
 ghost use Rattle.px_spec.specs.Changes.{node, link};
 ghost use Rattle.graph_load.specs.TripleGraphs.{need, changed, joined, with_triple, nothing_loaded, predicate_label};
 ghost use Rattle.term_table.specs.Terms.{number_of, place_in};
-ghost use Rattle.term_table.specs.Finding.{IsFound, IsFoundAs};
+ghost use Rattle.term_table.specs.FoundTerms.{IsFound, IsFoundAs};
 ghost use Rattle.triples_read.specs.declared.term.Term.{Term as TermSeen};
 ghost use Rattle.graph_load.specs.Hashed.{triple_of};
 ghost use Rattle.graph_load.specs.Loaders.{ArePlaces, is_known, load_state, with_new, Holds, IsSoundLoader, LoaderStep, IsStopped, IsTaken, IsUntaken};

@@ -3,7 +3,7 @@ use Rattle.std.proofs.Common.{◌≡◌, ◌≢◌, ℕ, Bool, true, false, List
 use Rattle.std.specs.Prelude.{◌||◌, ◌&&◌, not}
 use Rattle.px_spec.specs.Graphs.{Graph, has_edge}
 use Rattle.px_spec.specs.Changes.{with_edge, without_edge, after}
-use Rattle.graph_update.specs.Judging.{change_of}
+use Rattle.graph_update.specs.Verdicts.{change_of}
 use Rattle.graph_update.specs.declared.changes.Change.{Change as Asked}
 use Rattle.graph_update.specs.declared.changes.Change.TheVariants.{Node, Link, Unlink, Drop}
 use Rattle.px_spec.specs.Members.{has, Lists}

@@ -9,7 +9,7 @@ use Rattle.std.proofs.lemmas.Slice.Eq.{bytes_eq-Decides}
 use Rattle.px_spec.specs.Graphs.{Graph, is_live, label_of, is_seen}
 use Rattle.px_spec.specs.Changes.{with_node, with_label, after}
 use Rattle.label_graph.specs.Views.{label_number}
-use Rattle.graph_update.specs.Judging.{change_of}
+use Rattle.graph_update.specs.Verdicts.{change_of}
 use Rattle.graph_update.specs.declared.changes.Change.{Change as Asked}
 use Rattle.graph_update.specs.declared.changes.Change.TheVariants.{Node, Link, Unlink, Drop}
 use Rattle.graph_update.proofs.Links.{is_some-position}

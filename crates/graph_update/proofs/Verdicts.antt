@@ -9,7 +9,7 @@ use Rattle.px_spec.specs.declared.refusal.Refusal.TheVariants.{NoNode, NoEdge, I
 use Rattle.px_spec.specs.Graphs.{Graph, is_live, has_edge, is_seen}
 use Rattle.px_spec.specs.Changes.{Change, node, link, unlink, drop, apply, with_node, with_edge, without_edge, without_node, is_used, node_fits, edge_fits, after}
 use Rattle.graph_update.specs.NewChanges.{is_same, IsNew, AreHighest}
-use Rattle.graph_update.specs.Judging.{Judges}
+use Rattle.graph_update.specs.Verdicts.{Judges}
 use Rattle.graph_update.specs.declared.changes.Verdict.{Verdict}
 use Rattle.graph_update.specs.declared.changes.Verdict.TheVariants.{New, Same}
 use Rattle.graph_update.proofs.Links.{linked}

@@ -1,4 +1,4 @@
 pub mod NewChanges
-pub mod Judging
-pub mod Staging
-pub mod Pending
+pub mod Verdicts
+pub mod StagedChanges
+pub mod PendingChanges

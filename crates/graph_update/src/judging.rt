@@ -3,7 +3,7 @@ ghost use Rattle.std.specs.Prelude.{◌≡◌, ◌≢◌, ◌<◌, ◌||◌, ◌
 ghost use Rattle.px_spec.specs.Graphs.{is_seen, has_edge};
 ghost use Rattle.px_spec.specs.Changes.{node, link, unlink, drop, node_fits, is_used};
 ghost use Rattle.graph_update.specs.NewChanges.{IsNew, AreHighest};
-ghost use Rattle.graph_update.specs.Judging.{change_of, Judges};
+ghost use Rattle.graph_update.specs.Verdicts.{change_of, Judges};
 
 use crate::changes::{Change, Verdict};
 use label_graph::{Graph, Labels};

@@ -5,8 +5,8 @@ ghost use Rattle.px_spec.specs.Changes.{with_label};
 ghost use Rattle.px_spec.specs.Members.{Lists};
 ghost use Rattle.label_graph.specs.Views.{label_number, edge_count};
 ghost use Rattle.graph_update.specs.NewChanges.{IsNew};
-ghost use Rattle.graph_update.specs.Judging.{change_of};
-ghost use Rattle.graph_update.specs.Pending.{graph_after, lost_edge, lost_from, lost_onto};
+ghost use Rattle.graph_update.specs.Verdicts.{change_of};
+ghost use Rattle.graph_update.specs.PendingChanges.{graph_after, lost_edge, lost_from, lost_onto};
 
 use crate::changes::Change;
 use crate::neighbours::Neighbours;
@@ -25,7 +25,7 @@ pub struct After<'a> {
 }
 
 impl<'a> Model for After<'a> {
-    ghost use Rattle.graph_update.specs.Pending.{Pending, pending_code};
+    ghost use Rattle.graph_update.specs.PendingChanges.{Pending, pending_code};
 
     ghost Value = { Pending };
 
@@ -34,7 +34,7 @@ impl<'a> Model for After<'a> {
     ghost use Rattle.std.specs.Prelude.{◌≡◌};
     ghost use Rattle.px_spec.specs.Graphs.{IsGraph};
     ghost use Rattle.graph_update.specs.NewChanges.{IsNew};
-    ghost use Rattle.graph_update.specs.Judging.{change_of};
+    ghost use Rattle.graph_update.specs.Verdicts.{change_of};
 
     ghost view = { λ a. record { before = a.graph.now.graph; change = change_of a.change.now } };
 

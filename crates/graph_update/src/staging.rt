@@ -4,8 +4,8 @@ ghost use Rattle.px_spec.specs.Changes.{after};
 ghost use Rattle.px_spec.specs.Changes as change;
 ghost use Rattle.label_graph.specs.Held.{no_room};
 ghost use Rattle.graph_update.specs.NewChanges.{IsNew};
-ghost use Rattle.graph_update.specs.Judging.{change_of};
-ghost use Rattle.graph_update.specs.Staging.{IsStaged, applied_of};
+ghost use Rattle.graph_update.specs.Verdicts.{change_of};
+ghost use Rattle.graph_update.specs.StagedChanges.{IsStaged, applied_of};
 
 use crate::changes::{Applied, Change};
 use label_graph::Graph;

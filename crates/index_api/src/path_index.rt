@@ -2,7 +2,7 @@
 ghost use Rattle.std.specs.Prelude.{◌≡◌, ◌≤◌, List, OnOk, OnErr, IsSome, option_map};
 ghost use Rattle.px_spec.specs.Changes.{after};
 ghost use Rattle.graph_update.specs.NewChanges.{IsNew};
-ghost use Rattle.graph_update.specs.Judging.{change_of};
+ghost use Rattle.graph_update.specs.Verdicts.{change_of};
 ghost use Rattle.quotient.specs.Quotients.{view_of};
 ghost use Rattle.bisim_spec.specs.Fits.{view_at};
 ghost use Rattle.index_api.specs.Meanings.{Meaning, IsReady, IsBuilt, IsPrepared, IsCommitted, IsRefreshed, unstaged};

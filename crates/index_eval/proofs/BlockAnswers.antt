@@ -13,7 +13,7 @@ use Rattle.bisim_spec.proofs.StabilityTests.{together_decides}
 use Rattle.branch_query.specs.Queries.{Query, path, branch, IsQueryAnswer, relaxed, form_of}
 use Rattle.branch_query.specs.Candidates.{loose, AreCandidates}
 use Rattle.index_eval.specs.Extents.{AreOfBlocks}
-use Rattle.index_eval.proofs.Walking.{ends_in_node}
+use Rattle.index_eval.proofs.MappedWalks.{ends_in_node}
 use Rattle.index_eval.proofs.LooseWalks.{loose_is, path_kept}
 use Rattle.index_eval.proofs.LooseBranches.{branch_node, relaxed_branch}
 use Rattle.index_eval.proofs.Mapped.{block_or_past, block_answers, node_answers, block_branches, node_branches}

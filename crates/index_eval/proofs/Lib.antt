@@ -1,5 +1,5 @@
 pub mod BlockSets
-pub mod Walking
+pub mod MappedWalks
 pub mod LooseWalks
 pub mod LooseBranches
 pub mod Mapped

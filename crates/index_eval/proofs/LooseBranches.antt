@@ -5,7 +5,7 @@ use Rattle.px_spec.specs.Shapes.{Shape, IsNode, IsShape}
 use Rattle.branch_spec.specs.Trees.{Test, label, any, Step, step, Chain, end, go, Branch, branch}
 use Rattle.branch_spec.specs.Answers.{Passes, Meets, Ends, IsBranchAnswer}
 use Rattle.branch_spec.specs.Relaxed.{relax}
-use Rattle.branch_spec.proofs.Relaxing.{relaxed}
+use Rattle.branch_spec.proofs.RelaxedAnswers.{relaxed}
 use Rattle.branch_spec.proofs.Alike.{Follows, alike}
 use Rattle.index_eval.proofs.LooseWalks.{IsLoose}
 

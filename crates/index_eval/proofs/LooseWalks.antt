@@ -16,7 +16,7 @@ use Rattle.bisim_spec.proofs.Bisimilar.{bis_sym, bis_trans, bis_self, bis_label,
 use Rattle.bisim_spec.proofs.Settled.{bis_family, falls_to}
 use Rattle.branch_query.specs.Candidates.{loose, has_edge_between}
 use Rattle.index_eval.specs.Exactness.{IsWithin}
-use Rattle.index_eval.proofs.Walking.{ends_in_node}
+use Rattle.index_eval.proofs.MappedWalks.{ends_in_node}
 
 -- t has the nodes and labels of s, and edges just between all that are related to the ends of an edge
 pub record IsLoose (s : Shape) (R : ℕ → ℕ → Type 0) (t : Shape) : Type 0 where

@@ -18,7 +18,7 @@ use Rattle.bisim_spec.proofs.Bisimilar.{none_or_some, some_of, is_some_at}
 use Rattle.bisim_spec.proofs.Supported.{view_edges}
 use Rattle.branch_query.specs.Candidates.{loose}
 use Rattle.index_eval.proofs.LooseWalks.{IsLoose, loose_is}
-use Rattle.index_eval.proofs.Walking.{answer_kept, answer_back}
+use Rattle.index_eval.proofs.MappedWalks.{answer_kept, answer_back}
 use Rattle.index_eval.proofs.LooseBranches.{branch_node}
 
 -- the block of a node; a number that is no block where it has none

@@ -1,4 +1,4 @@
 pub mod Levels
 pub mod Changes
 pub mod Numberings
-pub mod Compacting
+pub mod CarriedKeys

@@ -2,7 +2,7 @@
 ghost use Rattle.std.specs.Prelude.{◌≡◌, ◌<◌, ◌≤◌, ◌+◌, IsTrue, IsFalse, IfOk, OnOk, OnErr, length};
 ghost use Rattle.block_partition.specs.Partitions.{block_count};
 ghost use Rattle.keyed_quotient.specs.Numberings.{block_keys, IsNumbering};
-ghost use Rattle.keyed_quotient.specs.Compacting.{AreCarried, AreFew};
+ghost use Rattle.keyed_quotient.specs.CarriedKeys.{AreCarried, AreFew};
 
 use crate::keyed::key_in;
 use crate::numbering::KeyNumbers;

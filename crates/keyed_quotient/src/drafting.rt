@@ -8,7 +8,7 @@ ghost use Rattle.px_spec.specs.Graphs.{is_live, has_edge};
 ghost use Rattle.px_spec.specs.Shapes.{shape_of};
 ghost use Rattle.bisim_spec.specs.Partitions.{IsPartition};
 ghost use Rattle.upkeep_spec.specs.Supported.{AreEdgeCounts};
-ghost use Rattle.graph_update.specs.Pending.{graph_after};
+ghost use Rattle.graph_update.specs.PendingChanges.{graph_after};
 ghost use Rattle.block_partition.specs.Partitions.{IsLeastFree, put};
 ghost use Rattle.quotient.specs.Joined.{one_if};
 ghost use Rattle.quotient_draft.specs.Drafts.{with_left};

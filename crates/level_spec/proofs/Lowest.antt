@@ -8,7 +8,7 @@ use Rattle.bisim_spec.specs.Bisimilarity.{Bis}
 use Rattle.bisim_spec.specs.Partitions.{IsPartition, Agrees}
 use Rattle.bisim_spec.proofs.Bisimilar.{some_of}
 use Rattle.bisim_levels.specs.Sides.{no_neighbours}
-use Rattle.bisim_levels.specs.Refining.{Refines}
+use Rattle.bisim_levels.specs.Refinement.{Refines}
 use Rattle.bisim_levels.proofs.Views.{node_number, number_node}
 use Rattle.bisim_levels.proofs.LevelLaws.{labels_agree}
 use Rattle.upkeep_spec.specs.Named.{AreNamed}

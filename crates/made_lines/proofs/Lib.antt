@@ -4,5 +4,5 @@ pub mod ScriptLines
 pub mod ProperScript
 pub mod GraphLines
 pub mod ProperGraph
-pub mod Taking
-pub mod Loading
+pub mod TakenTriples
+pub mod MadeFileLoads

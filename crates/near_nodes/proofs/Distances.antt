@@ -8,7 +8,7 @@ use Rattle.px_spec.specs.Members.{has, Lists}
 use Rattle.px_spec.specs.Shapes.{Shape, IsShape}
 use Rattle.bisim_spec.specs.Reach.{near}
 use Rattle.near_nodes.specs.Searches.{IsSpread, AreNear}
-use Rattle.near_nodes.proofs.Spreading.{spread_on, spread_near, spread_longer}
+use Rattle.near_nodes.proofs.MetChildren.{spread_on, spread_near, spread_longer}
 
 -- The nodes that are near by at most i edges are met, and how many they were for each fewer is noted. The children of those before the
 -- place are met.

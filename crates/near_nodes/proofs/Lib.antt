@@ -1,4 +1,4 @@
-mod Spreading
+mod MetChildren
 mod Distances
-pub mod Costing
+pub mod SearchCosts
 mod Rounds

@@ -9,12 +9,12 @@ use Rattle.bisim_spec.specs.Reach.{near, reach}
 use Rattle.bisim_spec.specs.Weights.{weight}
 use Rattle.bisim_spec.proofs.BelowLaws.{count_few}
 use Rattle.bisim_spec.proofs.Reached.{near_cases, reach_start, reach_step}
-use Rattle.graph_update.specs.Pending.{Pending, graph_after}
+use Rattle.graph_update.specs.PendingChanges.{Pending, graph_after}
 use Rattle.upkeep_spec.proofs.Sums.{few_listed}
 use Rattle.near_nodes.specs.Costs.{children_cost}
 use Rattle.near_nodes.specs.Searches.{IsSpread}
-use Rattle.near_nodes.proofs.Costing.{near_below, read_most}
-use Rattle.near_nodes.proofs.Spreading.{has_front, has_place, place_in, same_answer, spread_on, spread_longer}
+use Rattle.near_nodes.proofs.SearchCosts.{near_below, read_most}
+use Rattle.near_nodes.proofs.MetChildren.{has_front, has_place, place_in, same_answer, spread_on, spread_longer}
 
 -- The targets are met, and only what is reached. The children of those before the place are met.
 pub record IsReaching (s : Shape) (from : ℕ → Bool) (place : ℕ) (met : List ℕ) : Type 0 where

@@ -2,7 +2,7 @@
 use Rattle.std.specs.Prelude.{ℕ, ◌+◌}
 use Rattle.px_spec.specs.Shapes.{shape_of}
 use Rattle.bisim_spec.specs.Weights.{child_count}
-use Rattle.graph_update.specs.Pending.{Pending, graph_after, lost_edge, lost_from}
+use Rattle.graph_update.specs.PendingChanges.{Pending, graph_after, lost_edge, lost_from}
 
 -- a step, one for each child, and one for a child to which the change takes the edge away
 abbrev pub children_cost : Pending → ℕ → ℕ

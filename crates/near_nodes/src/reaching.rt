@@ -4,7 +4,7 @@ ghost use Rattle.px_spec.specs.Members.{has, Lists};
 ghost use Rattle.px_spec.specs.Shapes.{shape_of};
 ghost use Rattle.bisim_spec.specs.Reach.{reach};
 ghost use Rattle.bisim_spec.specs.Weights.{weight};
-ghost use Rattle.graph_update.specs.Pending.{graph_after};
+ghost use Rattle.graph_update.specs.PendingChanges.{graph_after};
 
 use crate::reading::{meet, spread};
 use graph_update::After;

@@ -3,7 +3,7 @@ ghost use Rattle.std.specs.Prelude.{◌≡◌, ◌+◌, ◌<◌, ◌≤◌, ◌|
 ghost use Rattle.px_spec.specs.Members.{has};
 ghost use Rattle.px_spec.specs.Graphs.{has_edge};
 ghost use Rattle.px_spec.specs.Shapes.{shape_of};
-ghost use Rattle.graph_update.specs.Pending.{graph_after};
+ghost use Rattle.graph_update.specs.PendingChanges.{graph_after};
 ghost use Rattle.near_nodes.specs.Costs.{children_cost};
 ghost use Rattle.near_nodes.specs.Searches.{IsSpread};
 

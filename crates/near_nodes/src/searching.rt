@@ -4,7 +4,7 @@ ghost use Rattle.px_spec.specs.Members.{has};
 ghost use Rattle.px_spec.specs.Shapes.{shape_of};
 ghost use Rattle.bisim_spec.specs.Reach.{near};
 ghost use Rattle.bisim_spec.specs.Weights.{weight};
-ghost use Rattle.graph_update.specs.Pending.{graph_after};
+ghost use Rattle.graph_update.specs.PendingChanges.{graph_after};
 ghost use Rattle.near_nodes.specs.Searches.{AreNear, within};
 
 use crate::reading::{meet, spread};

@@ -10,7 +10,7 @@ use Rattle.std.proofs.lemmas.List.Sums.{sum_by-cons, sum_by_push, sum_by-take-le
 use Rattle.px_spec.specs.Graphs.{Edges}
 use Rattle.px_spec.specs.Members.{Lists, at, is_this}
 use Rattle.bisim_spec.specs.Supports.{joins, edges_between}
-use Rattle.bisim_spec.specs.Touching.{edges_onto, edges_from, joins_off, touching_count}
+use Rattle.bisim_spec.specs.NodeEdges.{edges_onto, edges_from, joins_off, touching_count}
 use Rattle.bisim_spec.proofs.Bisimilar.{is_some_at}
 use Rattle.bisim_spec.proofs.Moves.{block_from, between_most, between_moved, touching_most}
 use Rattle.bisim_spec.proofs.Together.{block_below}

@@ -2,7 +2,7 @@
 use Rattle.std.specs.Prelude.{ℕ, ◌+◌}
 use Rattle.px_spec.specs.Shapes.{shape_of}
 use Rattle.bisim_spec.specs.Weights.{parent_count, child_count}
-use Rattle.graph_update.specs.Pending.{Pending, graph_after, lost_edge, lost_from, lost_onto}
+use Rattle.graph_update.specs.PendingChanges.{Pending, graph_after, lost_edge, lost_from, lost_onto}
 
 -- a step, one for each parent, and one for a parent that the change takes away
 abbrev pub parents_cost : Pending → ℕ → ℕ

@@ -3,7 +3,7 @@ use Rattle.std.specs.Prelude.{◌≡◌, ◌≢◌, ℕ, List, Option, Some}
 use Rattle.std.specs.List.{sum_by}
 use Rattle.px_spec.specs.Members.{at}
 use Rattle.bisim_spec.specs.Supports.{joins}
-use Rattle.bisim_spec.specs.Touching.{joins_off}
+use Rattle.bisim_spec.specs.NodeEdges.{joins_off}
 use Rattle.quotient.specs.Joined.{one_if}
 
 -- how many of the edges from these to n lead from a member of x to a member of y

@@ -2,7 +2,7 @@
 ghost use Rattle.std.specs.Prelude.{◌≡◌, ◌+◌, ◌≤◌, ◌^◌, OnOk, length};
 ghost use Rattle.px_spec.specs.Members.{Lists};
 ghost use Rattle.px_spec.specs.Graphs.{IsGraph, has_edge};
-ghost use Rattle.graph_update.specs.Pending.{graph_after};
+ghost use Rattle.graph_update.specs.PendingChanges.{graph_after};
 ghost use Rattle.node_moves.specs.Costs.{parents_cost, children_cost};
 
 use graph_update::{After, Neighbours};

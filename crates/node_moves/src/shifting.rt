@@ -2,7 +2,7 @@
 ghost use Rattle.std.specs.Prelude.{◌≡◌, ◌+◌, ◌≤◌, ◌<◌, ◌^◌, ◌&&◌, ℕ, List, Option, Some, IsSome, IsTrue, true, OnOk, nat_eq};
 ghost use Rattle.px_spec.specs.Members.{at, has};
 ghost use Rattle.bisim_spec.specs.Supports.{joins};
-ghost use Rattle.bisim_spec.specs.Touching.{joins_off};
+ghost use Rattle.bisim_spec.specs.NodeEdges.{joins_off};
 ghost use Rattle.quotient.specs.Joined.{one_if};
 ghost use Rattle.quotient_draft.specs.Drafts.{shown_labels, shown_blocks, shown_support};
 ghost use Rattle.quotient_draft.specs.Basis.{IsOver};

@@ -5,7 +5,7 @@ ghost use Rattle.px_spec.specs.Graphs.{empty_graph};
 ghost use Rattle.px_spec.specs.Changes.{node};
 ghost use Rattle.quotient.specs.Quotients.{AreSupports};
 ghost use Rattle.graph_update.specs.NewChanges.{IsNew};
-ghost use Rattle.graph_update.specs.Judging.{change_of};
+ghost use Rattle.graph_update.specs.Verdicts.{change_of};
 
 use super::*;
 use block_partition::Blocks;

@@ -25,7 +25,7 @@ use Rattle.quotient_draft.specs.Basis.{IsOver}
 use Rattle.upkeep_spec.specs.Named.{AreNamed}
 use Rattle.upkeep_spec.specs.Supported.{AreEdgeCounts}
 use Rattle.upkeep_spec.proofs.Stills.{twin_link, twin_unlink, one_step_still, supported_other}
-use Rattle.one_drafting.specs.Drafting.{ShowsChange, IsDrafted, AreSupportsAlone}
+use Rattle.one_drafting.specs.OneDrafts.{ShowsChange, IsDrafted, AreSupportsAlone}
 use Rattle.one_drafting.proofs.Bases.{named_texts, base_texts}
 
 blocks_same : (q : Quotient) (d : Drafted) → AreSupportsAlone d → shown_blocks q d ≡ q.blocks.block_of

@@ -1,5 +1,5 @@
 pub mod Bases
-pub mod Settling
+pub mod SettledDrafts
 pub mod NodeChanges
 pub mod EdgeChanges
 pub mod Stepping

@@ -21,7 +21,7 @@ use Rattle.quotient.specs.Quotients.{Quotient, view_of}
 use Rattle.quotient_draft.specs.Drafts.{Drafted, shown_blocks, shown_labels, with_supports, with_added}
 use Rattle.quotient_draft.specs.Basis.{IsOver}
 use Rattle.quotient_draft.proofs.Puts.{at_put}
-use Rattle.one_drafting.specs.Drafting.{ShowsChange}
+use Rattle.one_drafting.specs.OneDrafts.{ShowsChange}
 use Rattle.one_drafting.proofs.Bases.{number_from, named_texts}
 
 -- where nodes other than n have the blocks that they had

@@ -19,13 +19,13 @@ use Rattle.bisim_spec.specs.Weights.{parent_count}
 use Rattle.bisim_spec.proofs.Moves.{between_most, block_get, block_from}
 use Rattle.bisim_spec.proofs.Together.{together_at, together_sym}
 use Rattle.graph_update.specs.NewChanges.{IsNew}
-use Rattle.graph_update.specs.Pending.{Pending, graph_after, lost_edge, lost_onto}
+use Rattle.graph_update.specs.PendingChanges.{Pending, graph_after, lost_edge, lost_onto}
 use Rattle.quotient.specs.Quotients.{Quotient}
 use Rattle.quotient.specs.Joined.{one_if}
 use Rattle.quotient_draft.specs.Drafts.{Drafted, no_changes, shown_blocks, shown_labels, shown_support, with_moves}
 use Rattle.quotient_draft.specs.Basis.{IsOver}
 use Rattle.upkeep_spec.proofs.Sums.{few_lists}
-use Rattle.one_drafting.specs.Drafting.{IsBefore, ShowsChange, IsDrafted, IsNodeChange, IsOnlyTarget, AreSupportsAlone}
+use Rattle.one_drafting.specs.OneDrafts.{IsBefore, ShowsChange, IsDrafted, IsNodeChange, IsOnlyTarget, AreSupportsAlone}
 use Rattle.one_drafting.proofs.NodeChanges.{changed_node, changed_drop}
 use Rattle.one_drafting.proofs.EdgeChanges.{AreAt, changed_link, changed_unlink, other_linked, none_linked, other_unlinked, unlink_some, still_link, still_unlink}
 

@@ -31,11 +31,11 @@ use Rattle.upkeep_spec.specs.Splits.{IsClosed, IsSplitInside}
 use Rattle.upkeep_spec.specs.Supported.{AreEdgeCounts}
 use Rattle.upkeep_spec.specs.Suspected.{AreSuspected}
 use Rattle.upkeep_spec.specs.Viewed.{IsViewed, IsDone}
-use Rattle.upkeep_spec.proofs.Joining.{one_step_done}
+use Rattle.upkeep_spec.proofs.SplitThenMerge.{one_step_done}
 use Rattle.upkeep_spec.proofs.Labelled.{labelled_named}
 use Rattle.upkeep_spec.proofs.Sums.{sum_without}
 use Rattle.upkeep_spec.proofs.OneSteps.{Stages, reach_closed}
-use Rattle.one_drafting.specs.Drafting.{ShowsChange, IsOnlyTarget, reached, rounds_cost}
+use Rattle.one_drafting.specs.OneDrafts.{ShowsChange, IsOnlyTarget, reached, rounds_cost}
 
 pub one_once : (t : ℕ) → IsDistinct nat_eq (t ∷ [])
 unfolding IsDistinct

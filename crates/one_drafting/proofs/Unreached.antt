@@ -25,13 +25,13 @@ use Rattle.upkeep_spec.specs.Rounds.{SameBut}
 use Rattle.upkeep_spec.specs.Splits.{IsSplitInside}
 use Rattle.upkeep_spec.specs.Supported.{AreEdgeCounts}
 use Rattle.upkeep_spec.specs.Viewed.{IsDone}
-use Rattle.upkeep_spec.proofs.Joining.{viewed_supports}
+use Rattle.upkeep_spec.proofs.SplitThenMerge.{viewed_supports}
 use Rattle.upkeep_spec.proofs.Labelled.{labelled_named}
-use Rattle.upkeep_spec.proofs.Merging.{merges_stable, merges_keep, outside_merges}
+use Rattle.upkeep_spec.proofs.MergedPairs.{merges_stable, merges_keep, outside_merges}
 use Rattle.upkeep_spec.proofs.OneSteps.{reach_closed}
 use Rattle.upkeep_spec.proofs.Sums.{sum_without}
 use Rattle.upkeep_spec.proofs.Suspects.{unmarked_suspects}
-use Rattle.one_drafting.specs.Drafting.{IsOnlyTarget, IsSplitOf, reached, rounds_cost}
+use Rattle.one_drafting.specs.OneDrafts.{IsOnlyTarget, IsSplitOf, reached, rounds_cost}
 use Rattle.one_drafting.proofs.Stepping.{HasMerge, HasSplit, more_times, own_has, same_test, target_reached}
 
 -- what the split clause says of the nodes that are reached

@@ -4,11 +4,11 @@ ghost use Rattle.px_spec.specs.Graphs.{Graph};
 ghost use Rattle.px_spec.specs.Changes.{after, link, unlink, drop};
 ghost use Rattle.bisim_spec.specs.Fits.{FitsOne};
 ghost use Rattle.graph_update.specs.NewChanges.{IsNew};
-ghost use Rattle.graph_update.specs.Judging.{change_of};
+ghost use Rattle.graph_update.specs.Verdicts.{change_of};
 ghost use Rattle.quotient.specs.Quotients.{view_of};
 ghost use Rattle.quotient_draft.specs.Drafts.{no_changes, has_member, settled_view, shown_blocks, shown_support};
 ghost use Rattle.one_merging.specs.Roots.{CoversBase};
-ghost use Rattle.one_drafting.specs.Drafting.{IsBefore, IsDrafted, IsNodeChange, IsSupported, most_steps};
+ghost use Rattle.one_drafting.specs.OneDrafts.{IsBefore, IsDrafted, IsNodeChange, IsSupported, most_steps};
 
 use crate::linking::{draft_link, draft_unlink};
 use crate::nodes::{draft_drop, draft_node};

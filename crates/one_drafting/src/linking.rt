@@ -8,9 +8,9 @@ ghost use Rattle.px_spec.specs.Shapes.{shape_of};
 ghost use Rattle.bisim_spec.specs.Targets.{HasOther};
 ghost use Rattle.bisim_spec.specs.Views.{support_at};
 ghost use Rattle.bisim_spec.specs.Weights.{parent_count};
-ghost use Rattle.graph_update.specs.Pending.{graph_after};
+ghost use Rattle.graph_update.specs.PendingChanges.{graph_after};
 ghost use Rattle.quotient_draft.specs.Drafts.{no_changes};
-ghost use Rattle.one_drafting.specs.Drafting.{IsBefore, ShowsChange, IsOnlyTarget, AreSupportsAlone};
+ghost use Rattle.one_drafting.specs.OneDrafts.{IsBefore, ShowsChange, IsOnlyTarget, AreSupportsAlone};
 
 use graph_update::{After, Neighbours};
 use px_base::{Memory, NodeId, Steps};

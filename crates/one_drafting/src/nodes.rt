@@ -2,7 +2,7 @@
 ghost use Rattle.std.specs.Prelude.{◌≡◌, ℕ, OnOk, IfOk};
 ghost use Rattle.px_spec.specs.Changes.{drop};
 ghost use Rattle.quotient_draft.specs.Drafts.{no_changes};
-ghost use Rattle.one_drafting.specs.Drafting.{IsBefore, ShowsChange, IsNodeChange, IsOnlyTarget};
+ghost use Rattle.one_drafting.specs.OneDrafts.{IsBefore, ShowsChange, IsNodeChange, IsOnlyTarget};
 
 use graph_update::After;
 use px_base::{Memory, NodeId};

@@ -8,10 +8,10 @@ ghost use Rattle.bisim_spec.specs.Targets.{KeepsBlocks};
 ghost use Rattle.upkeep_spec.specs.Named.{AreNamed, AreNamedOff};
 ghost use Rattle.upkeep_spec.specs.Rounds.{IsRefinement, SameBut};
 ghost use Rattle.upkeep_spec.specs.Supported.{AreEdgeCounts};
-ghost use Rattle.graph_update.specs.Pending.{graph_after};
+ghost use Rattle.graph_update.specs.PendingChanges.{graph_after};
 ghost use Rattle.quotient_draft.specs.Drafts.{shown_blocks, shown_labels, shown_support};
 ghost use Rattle.quotient_draft.specs.Basis.{IsOver};
-ghost use Rattle.one_drafting.specs.Drafting.{IsOnlyTarget, IsSplitOf, reached, rounds_cost};
+ghost use Rattle.one_drafting.specs.OneDrafts.{IsOnlyTarget, IsSplitOf, reached, rounds_cost};
 
 use crate::resettling::add_block;
 use graph_update::After;

@@ -3,11 +3,11 @@ ghost use Rattle.std.specs.Prelude.{◌≡◌, ◌+◌, ◌*◌, ◌≤◌, ℕ,
 ghost use Rattle.px_spec.specs.Members.{at, has};
 ghost use Rattle.px_spec.specs.Shapes.{shape_of};
 ghost use Rattle.bisim_spec.specs.Targets.{KeepsParents};
-ghost use Rattle.graph_update.specs.Pending.{graph_after};
+ghost use Rattle.graph_update.specs.PendingChanges.{graph_after};
 ghost use Rattle.quotient_draft.specs.Drafts.{shown_blocks};
 ghost use Rattle.quotient_draft.specs.Basis.{IsOver};
 ghost use Rattle.one_merging.specs.Roots.{CoversBase};
-ghost use Rattle.one_drafting.specs.Drafting.{IsBefore, ShowsChange, IsDrafted, IsOnlyTarget, reached, rounds_cost};
+ghost use Rattle.one_drafting.specs.OneDrafts.{IsBefore, ShowsChange, IsDrafted, IsOnlyTarget, reached, rounds_cost};
 
 use graph_update::After;
 use one_merging::{Roots, merge};

@@ -3,11 +3,11 @@ ghost use Rattle.std.specs.Prelude.{◌≡◌, ◌<◌};
 ghost use Rattle.px_spec.specs.Changes.{link};
 ghost use Rattle.bisim_spec.specs.Fits.{FitsOne};
 ghost use Rattle.graph_update.specs.NewChanges.{IsNew};
-ghost use Rattle.graph_update.specs.Judging.{change_of};
+ghost use Rattle.graph_update.specs.Verdicts.{change_of};
 ghost use Rattle.quotient.specs.Quotients.{view_of};
 ghost use Rattle.quotient_draft.specs.Basis.{IsOver};
 ghost use Rattle.quotient_draft.specs.Drafts.{no_changes};
-ghost use Rattle.one_drafting.specs.Drafting.{IsBefore};
+ghost use Rattle.one_drafting.specs.OneDrafts.{IsBefore};
 
 use super::*;
 use crate::linking::draft_link;

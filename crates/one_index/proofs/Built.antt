@@ -6,10 +6,10 @@ use Rattle.bisim_spec.specs.Bisimilarity.{Bisim}
 use Rattle.bisim_spec.specs.Partitions.{Agrees}
 use Rattle.bisim_spec.specs.Views.{ViewFits}
 use Rattle.bisim_spec.specs.Fits.{FitsOne}
-use Rattle.bisim_spec.proofs.Fitting.{fits_full}
+use Rattle.bisim_spec.proofs.FitLaws.{fits_full}
 use Rattle.block_partition.specs.Partitions.{Partition}
 use Rattle.quotient.specs.Quotients.{Quotient, AreSupports, view_of}
-use Rattle.coarsest_partition.specs.Fitting.{FitsWithSupports}
+use Rattle.coarsest_partition.specs.IndexBlocks.{FitsWithSupports}
 
 pub full_fits : (g : Graph) (q : Quotient) (p : Partition) → IsGraph g → q.blocks ≡ p → Agrees (shape_of g) p.block_of (Bisim (shape_of g)) → FitsWithSupports g p
     → AreSupports g.edges p.block_of q.supports → FitsOne g (view_of q)

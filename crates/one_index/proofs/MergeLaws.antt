@@ -17,7 +17,7 @@ use Rattle.bisim_spec.proofs.Bisimilar.{some_of, is_some_at}
 use Rattle.bisim_spec.proofs.Stable.{stable_label, stable_parents}
 use Rattle.bisim_spec.proofs.Supported.{support_joined, joined_support}
 use Rattle.bisim_spec.proofs.Together.{together_at, merged_keeps, merged_a, merged_b, merged_cases, merged_partition}
-use Rattle.bisim_spec.proofs.Merging.{mergeable_from, merges_from}
+use Rattle.bisim_spec.proofs.MergeableBlocks.{mergeable_from, merges_from}
 use Rattle.quotient.specs.Quotients.{Quotient, is_joined, view_of}
 use Rattle.quotient.specs.Joined.{is_supported}
 use Rattle.quotient.specs.Laws.{below_span}

@@ -19,7 +19,7 @@ use Rattle.quotient_draft.proofs.Gone.{member_there}
 use Rattle.one_merging.specs.Roots.{RootLists, CoversRoots, CoversBase, CoversShown}
 use Rattle.index_api.specs.Meanings.{IsReady, IsBuilt, IsPrepared, IsCommitted, unstaged}
 use Rattle.one_maintain.specs.KeptQuotients.{KeptQuotient, CanSettle, meaning_of, staged_views}
-use Rattle.one_drafting.specs.Drafting.{IsSupported}
+use Rattle.one_drafting.specs.OneDrafts.{IsSupported}
 use Rattle.one_maintain.proofs.OneView.{one_fits}
 
 -- the view that a draft will leave, from the view that it is over

@@ -4,9 +4,9 @@ ghost use Rattle.px_spec.specs.Changes.{link};
 ghost use Rattle.bisim_spec.specs.Views.{View};
 ghost use Rattle.bisim_spec.specs.Fits.{view_at};
 ghost use Rattle.graph_update.specs.NewChanges.{IsNew};
-ghost use Rattle.graph_update.specs.Judging.{change_of};
+ghost use Rattle.graph_update.specs.Verdicts.{change_of};
 ghost use Rattle.index_api.specs.Meanings.{IsReady, IsPrepared};
-ghost use Rattle.one_drafting.specs.Drafting.{IsSupported, most_steps};
+ghost use Rattle.one_drafting.specs.OneDrafts.{IsSupported, most_steps};
 ghost use Rattle.one_maintain.specs.KeptQuotients.{meaning_of};
 
 use crate::kept::Kept;

@@ -4,11 +4,11 @@ ghost use Rattle.px_spec.specs.Changes.{after, link};
 ghost use Rattle.bisim_spec.specs.Fits.{FitsOne};
 ghost use Rattle.bisim_spec.specs.OneStep.{OneStep};
 ghost use Rattle.graph_update.specs.NewChanges.{IsNew};
-ghost use Rattle.graph_update.specs.Judging.{change_of};
+ghost use Rattle.graph_update.specs.Verdicts.{change_of};
 ghost use Rattle.quotient.specs.Quotients.{view_of};
 ghost use Rattle.quotient_draft.specs.Drafts.{no_changes, settled_view};
 ghost use Rattle.one_merging.specs.Roots.{CoversBase, CoversShown};
-ghost use Rattle.one_drafting.specs.Drafting.{IsSupported, most_steps};
+ghost use Rattle.one_drafting.specs.OneDrafts.{IsSupported, most_steps};
 ghost use Rattle.one_maintain.specs.KeptQuotients.{CanSettle};
 
 use graph_update::Change;

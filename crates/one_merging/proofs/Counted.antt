@@ -9,7 +9,7 @@ use Rattle.bisim_spec.specs.Below.{count_below}
 use Rattle.bisim_spec.proofs.BelowLaws.{bit_of, count_strict}
 use Rattle.bisim_spec.proofs.Moves.{block_get, block_from}
 use Rattle.upkeep_spec.specs.Merges.{IsMerged}
-use Rattle.upkeep_spec.proofs.Merging.{unmerged, merged_gone}
+use Rattle.upkeep_spec.proofs.MergedPairs.{unmerged, merged_gone}
 use Rattle.quotient_draft.specs.Drafts.{has_member}
 
 pub member_get : (p : List (Option ℕ)) (b : ℕ) → has_member p b ≡ true → (n : ℕ) × (at p n ≡ Some b)

@@ -8,16 +8,16 @@ use Rattle.std.proofs.lemmas.List.{take_more, take_all}
 use Rattle.std.proofs.lemmas.List.Folds.{list_any-append}
 use Rattle.px_spec.specs.Members.{has, at, Lists}
 use Rattle.px_spec.specs.Shapes.{Shape}
-use Rattle.bisim_spec.proofs.Merging.{mergeable_blocks}
+use Rattle.bisim_spec.proofs.MergeableBlocks.{mergeable_blocks}
 use Rattle.upkeep_spec.specs.Merges.{IsMergeablePair, IsMerged, one_more, none, AreSuspects}
 use Rattle.upkeep_spec.specs.Viewed.{IsViewed, IsDone}
-use Rattle.upkeep_spec.proofs.Merging.{can_swap}
+use Rattle.upkeep_spec.proofs.MergedPairs.{can_swap}
 use Rattle.upkeep_spec.proofs.Suspects.{partner, minimal_from, suspect_cleared}
 use Rattle.block_partition.specs.Partitions.{put}
 use Rattle.quotient_draft.specs.Drafts.{with_added}
 use Rattle.quotient_draft.specs.Basis.{AreLeastFree}
 use Rattle.block_joining.specs.Mates.{AreMates, AreNoMates}
-use Rattle.one_merging.specs.Merging.{IsMerging}
+use Rattle.one_merging.specs.ShownMerges.{IsMerging}
 use Rattle.one_merging.proofs.Near.{suspects_near}
 
 -- the order of the two makes no difference

@@ -8,10 +8,10 @@ use Rattle.px_spec.specs.Shapes.{Shape}
 use Rattle.bisim_spec.specs.Partitions.{Together}
 use Rattle.bisim_spec.specs.Stability.{Stable, merged, merged_at}
 use Rattle.bisim_spec.proofs.Together.{merged_keeps, merged_a, merged_b, merged_cases}
-use Rattle.bisim_spec.proofs.Merging.{mergeable_from, merges_from}
+use Rattle.bisim_spec.proofs.MergeableBlocks.{mergeable_from, merges_from}
 use Rattle.upkeep_spec.specs.Merges.{IsMergeablePair, IsMerged, AreSuspects, IsChildBlock}
 use Rattle.upkeep_spec.specs.Viewed.{IsViewed}
-use Rattle.upkeep_spec.proofs.Merging.{unmerged, merged_gone}
+use Rattle.upkeep_spec.proofs.MergedPairs.{unmerged, merged_gone}
 
 -- a member of the merged block was one of either
 was_either : (a b : ℕ) (p p2 : List (Option ℕ)) (n : ℕ) → IsMerged a b p p2 → at p2 n ≡ Some a → (at p n ≡ Some a) ⊎ (at p n ≡ Some b)

@@ -8,7 +8,7 @@ use Rattle.std.proofs.lemmas.List.{get_or_past}
 use Rattle.px_spec.specs.Members.{has, at, is_this, Lists}
 use Rattle.px_spec.specs.Shapes.{Shape}
 use Rattle.bisim_spec.proofs.Together.{together_at, merged_cases}
-use Rattle.bisim_spec.proofs.Merging.{mergeable_blocks, merges_from}
+use Rattle.bisim_spec.proofs.MergeableBlocks.{mergeable_blocks, merges_from}
 use Rattle.bisim_spec.specs.Views.{support_at}
 use Rattle.upkeep_spec.specs.Merges.{IsMergeablePair, IsChildBlock}
 use Rattle.upkeep_spec.specs.Viewed.{IsViewed}

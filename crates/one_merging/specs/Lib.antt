@@ -1,2 +1,2 @@
-pub mod Merging
 pub mod Roots
+pub mod ShownMerges

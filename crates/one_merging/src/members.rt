@@ -3,7 +3,7 @@ ghost use Rattle.std.specs.Prelude.{◌≡◌, ◌≢◌, ◌⊎◌, ℕ, Some, 
 ghost use Rattle.px_spec.specs.Members.{at};
 ghost use Rattle.quotient_draft.specs.Drafts.{shown_blocks};
 ghost use Rattle.quotient_draft.specs.Basis.{IsOver};
-ghost use Rattle.one_merging.specs.Merging.{HasShownGraph, AreShownMates};
+ghost use Rattle.one_merging.specs.ShownMerges.{HasShownGraph, AreShownMates};
 
 use quotient::Summary;
 use quotient_draft::{Draft, base_children};

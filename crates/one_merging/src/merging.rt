@@ -11,7 +11,7 @@ ghost use Rattle.quotient_draft.specs.Drafts.{shown_labels, shown_blocks, shown_
 ghost use Rattle.quotient_draft.specs.Basis.{IsOver};
 ghost use Rattle.block_joining.specs.Mates.{shown_joined};
 ghost use Rattle.block_joining.specs.Merged.{HasGraph};
-ghost use Rattle.one_merging.specs.Merging.{IsShown, HasShownGraph, AreShownMates, AreShownSuspects};
+ghost use Rattle.one_merging.specs.ShownMerges.{IsShown, HasShownGraph, AreShownMates, AreShownSuspects};
 ghost use Rattle.one_merging.specs.Roots.{CoversBase};
 
 use crate::members::larger_first;

@@ -6,7 +6,7 @@ ghost use Rattle.bisim_spec.specs.Views.{support_at};
 ghost use Rattle.quotient_draft.specs.Drafts.{shown_labels, shown_blocks, shown_support};
 ghost use Rattle.quotient_draft.specs.Basis.{IsOver};
 ghost use Rattle.block_joining.specs.Mates.{shown_joined};
-ghost use Rattle.one_merging.specs.Merging.{HasShownGraph, AreShownMates, AreNoShownMates};
+ghost use Rattle.one_merging.specs.ShownMerges.{HasShownGraph, AreShownMates, AreNoShownMates};
 ghost use Rattle.one_merging.specs.Roots.{IsNoted, CoversBase};
 
 use crate::members::{children_count, has_members};

@@ -8,7 +8,7 @@ use Rattle.px_spec.specs.Members.{has}
 use Rattle.px_spec.specs.Shapes.{Shape, shape_of}
 use Rattle.bisim_spec.specs.Below.{count_below}
 use Rattle.bisim_spec.proofs.BelowLaws.{bit_of}
-use Rattle.graph_update.specs.Pending.{Pending, graph_after, lost_edge, lost_from, lost_onto}
+use Rattle.graph_update.specs.PendingChanges.{Pending, graph_after, lost_edge, lost_from, lost_onto}
 use Rattle.bisim_spec.specs.Below.{sum_below}
 use Rattle.bisim_spec.specs.Weights.{weight_at, weight, size_of}
 use Rattle.upkeep_spec.proofs.Sums.{where_in, sum_listed}

@@ -13,7 +13,7 @@ use Rattle.std.proofs.lemmas.Map.Keys.{sorted_from_strictly_increasing}
 use Rattle.px_spec.specs.Members.{at, has}
 use Rattle.px_spec.specs.Shapes.{Shape}
 use Rattle.bisim_levels.specs.Keys.{IsSetOf}
-use Rattle.graph_update.specs.Pending.{Pending}
+use Rattle.graph_update.specs.PendingChanges.{Pending}
 use Rattle.node_moves.specs.Costs.{parents_cost}
 use Rattle.one_splitting.specs.Costs.{move_cost, round_cost}
 use Rattle.one_splitting.specs.Numbered.{HaveNumbers}

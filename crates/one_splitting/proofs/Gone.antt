@@ -8,7 +8,7 @@ use Rattle.px_spec.specs.Members.{at, has}
 use Rattle.px_spec.specs.Shapes.{Shape}
 use Rattle.bisim_spec.proofs.Bisimilar.{some_of, is_some_at}
 use Rattle.one_splitting.specs.NodeGoals.{goal_at, HaveGone, ListsChildrenOf}
-use Rattle.one_splitting.proofs.Places.{place_of, place_is}
+use Rattle.one_splitting.proofs.Places.{place_in, place_is}
 
 -- what one move makes of the partition
 pub record OneMoved (n : ℕ) (goal : Option ℕ) (p p2 : List (Option ℕ)) : Type 0 where
@@ -34,7 +34,7 @@ apart_places : (nodes : List ℕ) (i j : ℕ) → IsDistinct nat_eq nodes → i 
 apart_places nodes i j once li lj e =
     let a = place_is nodes j once (omega (arith, li, lj)) in
     let b = place_is nodes i once li in
-    let same : j ≡ i = sym a ∙ ap (place_of nodes) e ∙ b in
+    let same : j ≡ i = sym a ∙ ap (place_in nodes) e ∙ b in
     omega (arith, same, lj)
 
 apart_test : (n m : ℕ) → n ≢ m → nat_eq n m ≡ false

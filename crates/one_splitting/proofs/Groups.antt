@@ -8,18 +8,18 @@ use Rattle.px_spec.specs.Shapes.{Shape, IsShape}
 use Rattle.bisim_spec.specs.Partitions.{Together, IsPartition}
 use Rattle.bisim_spec.proofs.Bisimilar.{some_of}
 use Rattle.bisim_levels.specs.Keys.{IsKey}
-use Rattle.bisim_levels.specs.Refining.{StayTogether}
+use Rattle.bisim_levels.specs.Refinement.{StayTogether}
 use Rattle.bisim_levels.proofs.Written.{together_from_key}
 use Rattle.upkeep_spec.specs.Rounds.{AreGoals}
 use Rattle.one_splitting.specs.Counted.{AreCounted}
 use Rattle.one_splitting.proofs.Wholes.{whole_counted, part_counted}
 use Rattle.one_splitting.specs.Numbered.{HasNumber, HaveNumbers}
 use Rattle.one_splitting.specs.NodeGoals.{BeginsAt, goal_at, AreGoing, HaveGone}
-use Rattle.one_splitting.proofs.Places.{place_of, place_found, has_place, place_is}
+use Rattle.one_splitting.proofs.Places.{place_in, place_found, has_place, place_is}
 
 -- the group of a node that is looked at
 abbrev pub group_of : List ℕ → List ℕ → ℕ → ℕ
-group_of nodes numbers n = slice_index numbers (place_of nodes n)
+group_of nodes numbers n = slice_index numbers (place_in nodes n)
 
 -- where a node goes: where its group goes, if it is looked at
 abbrev pub goal_of : List ℕ → List ℕ → List (Option ℕ) → ℕ → Option ℕ
@@ -46,7 +46,7 @@ module _ (s : Shape) (p : List (Option ℕ)) (keys : List (List ℕ)) (nodes num
   number_at n h =
       let f = place_found nodes n h in
       let l = f.0 in
-      subst (λ m. HasNumber p s.edge keys m (group_of nodes numbers n)) f.1 (numbered.each (place_of nodes n) (omega (arith, l, count)))
+      subst (λ m. HasNumber p s.edge keys m (group_of nodes numbers n)) f.1 (numbered.each (place_in nodes n) (omega (arith, l, count)))
 
   -- its key begins with its block
   pub ends_at : (n : ℕ) → (h : has nodes n ≡ true) → (own : ℕ) × (at p n ≡ Some own) × BeginsAt keys (group_of nodes numbers n) own
@@ -76,10 +76,10 @@ module _ (s : Shape) (p : List (Option ℕ)) (keys : List (List ℕ)) (nodes num
     moved = λ n b h.
         let g = goal_looked nodes numbers goals n b h in
         let f = place_found nodes n g.0 in
-        ap (at p2) (sym f.1) ∙ gone.moved (place_of nodes n) b f.0 g.1;
+        ap (at p2) (sym f.1) ∙ gone.moved (place_in nodes n) b f.0 g.1;
     kept = λ n none. gone.kept n (λ j b l e h.
         let here : has nodes n ≡ true = ap (has nodes) (sym e) ∙ has_place nodes j l in
-        let place : place_of nodes n ≡ j = ap (place_of nodes) (sym e) ∙ place_is nodes j once l in
+        let place : place_in nodes n ≡ j = ap (place_in nodes) (sym e) ∙ place_is nodes j once l in
         let goes : goal_of nodes numbers goals n ≡ Some b = goal_there nodes numbers goals n here ∙ ap (λ i. goal_at goals (slice_index numbers i)) place ∙ h in
         let clash : Some b ≡ None = sym goes ∙ none in
         cc);

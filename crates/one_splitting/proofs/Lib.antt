@@ -1,7 +1,7 @@
 pub mod Places
-pub mod Numbering
+pub mod NumberedNodes
 pub mod Chosen
-pub mod Choosing
+pub mod ChosenGoals
 pub mod Groups
 pub mod Gone
 pub mod Named

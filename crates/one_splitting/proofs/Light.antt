@@ -6,7 +6,7 @@ use Rattle.std.proofs.Math.Nat.{mul-le-mul_left}
 use Rattle.std.proofs.lemmas.Bool.{cases_Bool}
 use Rattle.px_spec.specs.Members.{has}
 use Rattle.px_spec.specs.Shapes.{IsShape, IsNode, shape_of}
-use Rattle.graph_update.specs.Pending.{Pending, graph_after, lost_edge}
+use Rattle.graph_update.specs.PendingChanges.{Pending, graph_after, lost_edge}
 use Rattle.bisim_spec.specs.Below.{sum_below}
 use Rattle.bisim_spec.specs.Weights.{weight_at, weight}
 use Rattle.upkeep_spec.proofs.Sums.{where_in, sum_listed}

@@ -8,7 +8,7 @@ use Rattle.bisim_spec.proofs.Bisimilar.{some_of, none_or_some, is_some_at}
 use Rattle.one_splitting.specs.Numbered.{HaveNumbers}
 use Rattle.one_splitting.specs.NodeGoals.{BeginsAt, goal_at, HaveGone, GoalsHaveLabels, LabelsStay}
 use Rattle.upkeep_spec.specs.Named.{AreNamed}
-use Rattle.one_splitting.proofs.Places.{place_of, place_found, has_place, place_is}
+use Rattle.one_splitting.proofs.Places.{place_in, place_found, has_place, place_is}
 use Rattle.one_splitting.proofs.Chosen.{goal_cases, one_own}
 use Rattle.one_splitting.proofs.Groups.{group_of, goal_of, goal_looked, goal_there, ends_at}
 
@@ -40,7 +40,7 @@ module _ (s : Shape) (p p2 : List (Option ℕ)) (keys : List (List ℕ)) (nodes 
   stays : (n : ℕ) → goal_of nodes numbers goals n ≡ None → at p2 n ≡ at p n
   stays n none = gone.kept n (λ j b l e h.
       let here : has nodes n ≡ true = ap (has nodes) (sym e) ∙ has_place nodes j l in
-      let place : place_of nodes n ≡ j = ap (place_of nodes) (sym e) ∙ place_is nodes j once l in
+      let place : place_in nodes n ≡ j = ap (place_in nodes) (sym e) ∙ place_is nodes j once l in
       let goes : goal_of nodes numbers goals n ≡ Some b = goal_there nodes numbers goals n here ∙ ap (λ i. goal_at goals (slice_index numbers i)) place ∙ h in
       let clash : Some b ≡ None = sym goes ∙ none in
       cc)
@@ -55,7 +55,7 @@ module _ (s : Shape) (p p2 : List (Option ℕ)) (keys : List (List ℕ)) (nodes 
       | inr (c, goes) ↦ (
           let f = goal_looked nodes numbers goals n c goes in
           let r = place_found nodes n f.0 in
-          let found : at p2 n ≡ Some c = ap (at p2) (sym r.1) ∙ gone.moved (place_of nodes n) c r.0 f.1 in
+          let found : at p2 n ≡ Some c = ap (at p2) (sym r.1) ∙ gone.moved (place_in nodes n) c r.0 f.1 in
           let same : c ≡ b = cc in
           let own = ends_at s p keys nodes numbers count once numbered n f.0 in
           let d = named.is n own.0 own.1 in

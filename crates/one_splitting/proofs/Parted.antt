@@ -14,7 +14,7 @@ use Rattle.bisim_spec.specs.Bisimilarity.{Covers}
 use Rattle.bisim_spec.proofs.Bisimilar.{some_of, is_some_at}
 use Rattle.bisim_spec.proofs.Together.{together_sym}
 use Rattle.upkeep_spec.specs.Rounds.{MayStayTogether}
-use Rattle.upkeep_spec.proofs.Splitting.{same_but_moved, same_but_on, within_on}
+use Rattle.upkeep_spec.proofs.SplitRounds.{same_but_moved, same_but_on, within_on}
 use Rattle.upkeep_spec.proofs.Sums.{first_has, rest_apart}
 use Rattle.graph_update.proofs.NeighbourLists.{and_one}
 use Rattle.upkeep_spec.specs.Named.{AreNamed, AreNamedOff}

@@ -8,11 +8,11 @@ use Rattle.px_spec.specs.Members.{has}
 use Rattle.upkeep_spec.proofs.Sums.{rest_apart}
 
 -- the first place of a number
-abbrev pub place_of : List ℕ → ℕ → ℕ
-place_of [] n = 0
-place_of (x ∷ xs) n = cond (nat_eq n x) 0 (suc (place_of xs n))
+abbrev pub place_in : List ℕ → ℕ → ℕ
+place_in [] n = 0
+place_in (x ∷ xs) n = cond (nat_eq n x) 0 (suc (place_in xs n))
 
-pub place_found : (xs : List ℕ) (n : ℕ) → has xs n ≡ true → (place_of xs n < length xs) × (slice_index xs (place_of xs n) ≡ n)
+pub place_found : (xs : List ℕ) (n : ℕ) → has xs n ≡ true → (place_in xs n < length xs) × (slice_index xs (place_in xs n) ≡ n)
 place_found [] n h = absurd (true≢false (sym h))
 place_found (x ∷ xs) n h = elim (eqb_tells n x) [
   | inl s ↦ rw s.0 (omega arith, sym s.1)
@@ -30,7 +30,7 @@ has_place (x ∷ xs) (suc i) h = elim (eqb_tells (slice_index xs i) x) [
   | inr d ↦ rw d.0 (has_place xs i (omega (arith, h)))
 ]
 
-pub place_is : (xs : List ℕ) (i : ℕ) → IsDistinct nat_eq xs → i < length xs → place_of xs (slice_index xs i) ≡ i
+pub place_is : (xs : List ℕ) (i : ℕ) → IsDistinct nat_eq xs → i < length xs → place_in xs (slice_index xs i) ≡ i
 place_is [] i d h = absurd (omega (arith, h))
 place_is (x ∷ xs) zero d h = elim (eqb_tells x x) [ inl s ↦ rw s.0 refl | inr f ↦ absurd (f.1 refl) ]
 place_is (x ∷ xs) (suc i) d h =

@@ -7,13 +7,13 @@ use Rattle.px_spec.specs.Shapes.{Shape, IsParent, IsShape}
 use Rattle.bisim_spec.specs.Partitions.{IsPartition}
 use Rattle.bisim_spec.proofs.Bisimilar.{some_of, none_or_some, is_some_at}
 use Rattle.upkeep_spec.specs.Rounds.{AreGoals}
-use Rattle.upkeep_spec.proofs.Splitting.{round_stable, same_but_moved, same_but_on, within_on}
+use Rattle.upkeep_spec.proofs.SplitRounds.{round_stable, same_but_moved, same_but_on, within_on}
 use Rattle.upkeep_spec.proofs.Goals.{is_moved, goals_within, goals_round, goals_partition, goals_left}
 use Rattle.one_splitting.specs.Counted.{AreCounted}
 use Rattle.one_splitting.specs.Numbered.{HaveNumbers}
 use Rattle.one_splitting.specs.NodeGoals.{BeginsAt, goal_at, AreGoing, HaveGone, ListsChildrenOf, AreAdded}
 use Rattle.upkeep_spec.specs.Splits.{IsClosed, IsSplitInside}
-use Rattle.one_splitting.proofs.Places.{place_of, place_found, has_place}
+use Rattle.one_splitting.proofs.Places.{place_in, place_found, has_place}
 use Rattle.one_splitting.proofs.Groups.{group_of, goal_of, goal_looked, goal_there, groups_go, node_of}
 
 pub split_step : (s : Shape) (inside : ℕ → Bool) (first p p2 : List (Option ℕ)) (keys : List (List ℕ)) (nodes numbers made next2 made2 : List ℕ) (goals : List (Option ℕ)) (counts : List (ℕ × ℕ))
@@ -84,4 +84,4 @@ split_step s inside first p p2 keys nodes numbers made next2 made2 goals counts 
         let b = some_of (goal_of nodes numbers goals q) h in
         let f = goal_looked nodes numbers goals q b.0 b.1 in
         let r = place_found nodes q f.0 in
-        next.into (place_of nodes q) b.0 n r.0 f.1 (subst (λ m. IsParent s m n) (sym r.1) e)
+        next.into (place_in nodes q) b.0 n r.0 f.1 (subst (λ m. IsParent s m n) (sym r.1) e)

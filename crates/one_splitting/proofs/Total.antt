@@ -10,7 +10,7 @@ use Rattle.px_spec.specs.Shapes.{Shape, IsParent, IsShape, shape_of}
 use Rattle.bisim_spec.specs.Below.{count_below}
 use Rattle.bisim_spec.proofs.BelowLaws.{bit_of, count_few}
 use Rattle.bisim_spec.proofs.Bisimilar.{is_some_at}
-use Rattle.graph_update.specs.Pending.{Pending, graph_after, lost_edge, lost_from, lost_onto}
+use Rattle.graph_update.specs.PendingChanges.{Pending, graph_after, lost_edge, lost_from, lost_onto}
 use Rattle.bisim_spec.specs.Weights.{parent_count, child_count, weight_at, weight, size_of}
 use Rattle.upkeep_spec.proofs.Sums.{sum_without, few_listed, blocks_few, first_has}
 use Rattle.one_splitting.specs.Costs.{move_cost, round_cost}

@@ -1,6 +1,6 @@
 -- What splitting costs.
 use Rattle.std.specs.Prelude.{◌≡◌, ℕ, ◌+◌, ◌*◌, ◌≤◌, List, []}
-use Rattle.graph_update.specs.Pending.{Pending}
+use Rattle.graph_update.specs.PendingChanges.{Pending}
 use Rattle.node_moves.specs.Costs.{parents_cost, children_cost}
 
 -- moving a node reads its parents and its children once

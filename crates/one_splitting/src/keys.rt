@@ -5,7 +5,7 @@ ghost use Rattle.px_spec.specs.Graphs.{has_edge};
 ghost use Rattle.px_spec.specs.Shapes.{shape_of, IsShape};
 ghost use Rattle.bisim_levels.specs.Keys.{IsKey};
 ghost use Rattle.key_table.specs.NumberedKeys.{Interns};
-ghost use Rattle.graph_update.specs.Pending.{graph_after};
+ghost use Rattle.graph_update.specs.PendingChanges.{graph_after};
 ghost use Rattle.quotient_draft.specs.Drafts.{shown_blocks};
 ghost use Rattle.quotient_draft.specs.Basis.{IsOver};
 ghost use Rattle.node_moves.specs.Costs.{parents_cost};

@@ -8,7 +8,7 @@ ghost use Rattle.bisim_spec.specs.Partitions.{IsPartition};
 ghost use Rattle.upkeep_spec.specs.Named.{AreNamed};
 ghost use Rattle.upkeep_spec.specs.Splits.{IsClosed, IsSplitInside};
 ghost use Rattle.upkeep_spec.specs.Supported.{AreEdgeCounts};
-ghost use Rattle.graph_update.specs.Pending.{graph_after};
+ghost use Rattle.graph_update.specs.PendingChanges.{graph_after};
 ghost use Rattle.quotient_draft.specs.Drafts.{shown_blocks, shown_labels, shown_support};
 ghost use Rattle.quotient_draft.specs.Basis.{IsOver};
 ghost use Rattle.one_splitting.specs.Costs.{move_cost, round_cost};

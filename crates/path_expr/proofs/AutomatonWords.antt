@@ -6,7 +6,7 @@ use Rattle.path_search.specs.declared.state.State.{State}
 use Rattle.path_search.specs.declared.state.State.TheVariants.{End, Stuck, Any, Label, Fork}
 use Rattle.path_spec.specs.Trees.{star, plus, opt, child, below, Expr, only, or, Seq, last, then, Item, once, signed, Atom, label, any, group}
 use Rattle.path_spec.specs.Matches.{Word, joined, AnyWord, Then, Pieces, Matches, MatchesSeq, MatchesItem, MatchesAtom}
-use Rattle.path_expr.specs.Automata.{Reads, Run, Known, ReadsLabel, Stands, StandsSeq, StandsItem, StandsAtom}
+use Rattle.path_expr.specs.Automata.{ReadsFrom, Run, Known, ReadsLabel, Stands, StandsSeq, StandsItem, StandsAtom}
 
 module _ (texts : List (List ℕ)) where
   known_front : (a b : Word) → AllByRecursion (Known texts) (a ++ b) → AllByRecursion (Known texts) a
@@ -19,11 +19,11 @@ module _ (texts : List (List ℕ)) where
 
 module _ (texts : List (List ℕ)) (at : ℕ → Option State) where
   -- by what the state is
-  pub reads_by : (s : ℕ) (o : Option State) (n : ℕ) (w : Word) → at s ≡ o → Reads texts o (λ r v. Run texts at n r v) w → Run texts at (suc n) s w
-  reads_by s o n w e h = subst (λ x. Reads texts x (λ r v. Run texts at n r v) w) (sym e) h
+  pub reads_by : (s : ℕ) (o : Option State) (n : ℕ) (w : Word) → at s ≡ o → ReadsFrom texts o (λ r v. Run texts at n r v) w → Run texts at (suc n) s w
+  reads_by s o n w e h = subst (λ x. ReadsFrom texts x (λ r v. Run texts at n r v) w) (sym e) h
 
-  pub read_by : (s : ℕ) (o : Option State) (n : ℕ) (w : Word) → at s ≡ o → Run texts at (suc n) s w → Reads texts o (λ r v. Run texts at n r v) w
-  read_by s o n w e h = subst (λ x. Reads texts x (λ r v. Run texts at n r v) w) e h
+  pub read_by : (s : ℕ) (o : Option State) (n : ℕ) (w : Word) → at s ≡ o → Run texts at (suc n) s w → ReadsFrom texts o (λ r v. Run texts at n r v) w
+  read_by s o n w e h = subst (λ x. ReadsFrom texts x (λ r v. Run texts at n r v) w) e h
 
   -- a word of the kind, in front of what is read from `next` on, is read from `from` on
   abbrev pub Forwards : (Word → Type 0) → (from next : ℕ) → Type 0

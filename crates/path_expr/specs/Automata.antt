@@ -6,18 +6,18 @@ use Rattle.path_spec.specs.Trees.{star, plus, opt, child, below, Expr, only, or,
 use Rattle.path_spec.specs.Matches.{Word}
 
 -- what is read from a state on, where `Run` says what is read from the states that follow
-abbrev pub Reads : List (List ℕ) → Option State → (ℕ → Word → Type 0) → Word → Type 0
-Reads texts None Rest w = ⊥
-Reads texts (Some End) Rest w = w ≡ []
-Reads texts (Some Stuck) Rest w = ⊥
-Reads texts (Some (Any next)) Rest w = (t : List ℕ) × (rest : Word) × (w ≡ t ∷ rest) × Rest next rest
-Reads texts (Some (Label l next)) Rest w = (t : List ℕ) × (rest : Word) × (w ≡ t ∷ rest) × (slice_get texts l ≡ Some t) × Rest next rest
-Reads texts (Some (Fork a b)) Rest w = Rest a w ⊎ Rest b w
+abbrev pub ReadsFrom : List (List ℕ) → Option State → (ℕ → Word → Type 0) → Word → Type 0
+ReadsFrom texts None Rest w = ⊥
+ReadsFrom texts (Some End) Rest w = w ≡ []
+ReadsFrom texts (Some Stuck) Rest w = ⊥
+ReadsFrom texts (Some (Any next)) Rest w = (t : List ℕ) × (rest : Word) × (w ≡ t ∷ rest) × Rest next rest
+ReadsFrom texts (Some (Label l next)) Rest w = (t : List ℕ) × (rest : Word) × (w ≡ t ∷ rest) × (slice_get texts l ≡ Some t) × Rest next rest
+ReadsFrom texts (Some (Fork a b)) Rest w = Rest a w ⊎ Rest b w
 
 -- from the state on the word is read to its end, within so many steps
 abbrev pub Run : List (List ℕ) → (ℕ → Option State) → ℕ → ℕ → Word → Type 0
 Run texts at zero s w = ⊥
-Run texts at (suc n) s w = Reads texts (at s) (λ r v. Run texts at n r v) w
+Run texts at (suc n) s w = ReadsFrom texts (at s) (λ r v. Run texts at n r v) w
 
 -- the text is a label of the table
 abbrev pub Known : List (List ℕ) → List ℕ → Type 0

@@ -1,4 +1,4 @@
-pub mod Coding
+pub mod TreeCodes
 pub mod Sizes
 pub mod Views
 pub mod Falls

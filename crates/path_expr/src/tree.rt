@@ -78,7 +78,7 @@ pub struct Expr {
 
 impl Model for Expr {
     ghost use Rattle.path_spec.specs.Trees.{Expr as Tree};
-    ghost use Rattle.path_expr.specs.Coding.{coded_tree};
+    ghost use Rattle.path_expr.specs.TreeCodes.{coded_tree};
 
     ghost Value = { Tree };
 

@@ -7,7 +7,7 @@ use Rattle.triples_read.proofs.CanonicalLaws.{iri_canonical}
 use Rattle.path_spec.specs.Trees.{Expr}
 use Rattle.path_spec.specs.Tokens.{Token, lab, underscore, slash, slashes, bar, opening, closing, sign, tokens}
 use Rattle.path_spec.specs.Spelling.{EndsSlash, SpellsTokens, canonical}
-use Rattle.path_spec.proofs.Writing.{SpellThemselves, NoSlash, canonical_spells}
+use Rattle.path_spec.proofs.CanonicalTexts.{SpellThemselves, NoSlash, canonical_spells}
 use Rattle.path_query.specs.Labels.{IsPlainLabel, SpellsLabel}
 use Rattle.path_query.specs.Parsed.{Spells}
 use Rattle.path_query.proofs.LexerLaws.{label_first}

@@ -12,7 +12,7 @@ use Rattle.px_spec.specs.Words.{is_name_byte}
 use Rattle.triples_read.specs.Characters.{is_iri_char}
 use Rattle.triples_read.specs.Terminals.{Many, IriPiece}
 use Rattle.triples_read.specs.Canonical.{iri_text, iri_spelling}
-use Rattle.triples_read.specs.Reading.{starts_with}
+use Rattle.triples_read.specs.ByteReaders.{starts_with}
 use Rattle.triples_read.proofs.Basics.{cons-tail}
 use Rattle.path_query.specs.Labels.{IsPlainLabel, SpellsLabel}
 use Rattle.path_query.proofs.LabelBytes.{both}

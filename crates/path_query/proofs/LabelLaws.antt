@@ -10,12 +10,12 @@ use Rattle.px_spec.specs.Words.{is_blank, is_letter, is_name_byte, is_name}
 use Rattle.triples_read.specs.Lines.{IsIri, IsIriFront}
 use Rattle.triples_read.specs.Canonical.{iri_spelling}
 use Rattle.triples_read.specs.Fronts.{IsText}
-use Rattle.triples_read.specs.Reading.{starts_with}
-use Rattle.triples_read.proofs.Opening.{front-quoted}
+use Rattle.triples_read.specs.ByteReaders.{starts_with}
+use Rattle.triples_read.proofs.OpeningQuotes.{front-quoted}
 use Rattle.triples_read.proofs.IriFronts.{front-cut, end-found, cut-there}
 use Rattle.triples_read.proofs.OneReading.{iri-unique}
 use Rattle.path_spec.specs.Spelling.{EndsName}
-use Rattle.path_query.specs.Labels.{IsPlainLabel, SpellsLabel, IsLabelFront}
+use Rattle.path_query.specs.Labels.{IsPlainLabel, SpellsLabel, IsNameFront}
 use Rattle.path_query.proofs.LabelBytes.{named, name_bytes, letter_is_no_blank}
 use Rattle.path_query.proofs.Cuts.{Stops, prefix_len-cut}
 
@@ -88,12 +88,12 @@ pub data Kind (text : List ℕ) (n : ℕ) (t : List ℕ) : Type 0 where
   plain : IsPlainLabel (take n text) → t ≡ take n text → Kind text n t
   bracketed : (iri : List ℕ) → IsIriFront text n iri → t ≡ iri_spelling iri → Kind text n t
 
-pub kind : (text : List ℕ) (n : ℕ) (t : List ℕ) → IsLabelFront text n t → Kind text n t
+pub kind : (text : List ℕ) (n : ℕ) (t : List ℕ) → IsNameFront text n t → Kind text n t
 kind text n t (le, inl (l, e)) = plain l e
 kind text n t (le, inr (iri, h, e)) = bracketed iri (iri_in_front text n iri le h) e
 
 -- the law of one front
-pub front_one : (text : List ℕ) (m n : ℕ) (a b : List ℕ) → IsLabelFront text m a → EndsName (drop m text) → IsLabelFront text n b → EndsName (drop n text)
+pub front_one : (text : List ℕ) (m n : ℕ) (a b : List ℕ) → IsNameFront text m a → EndsName (drop m text) → IsNameFront text n b → EndsName (drop n text)
     → (m ≡ n) × (a ≡ b)
 front_one text m n a b h p k q =
     elim (kind text m a h) [
@@ -110,14 +110,14 @@ front_one text m n a b h p k q =
     ]
 
 -- a whole text is its own front
-pub whole_front : (text t : List ℕ) → SpellsLabel text t → IsLabelFront text (length text) t
+pub whole_front : (text t : List ℕ) → SpellsLabel text t → IsNameFront text (length text) t
 whole_front text t h = (omega arith, subst (λ x. SpellsLabel x t) (sym (take-length text)) h)
 
 pub whole_ends : (text : List ℕ) → EndsName (drop (length text) text)
 whole_ends [] = tt
 whole_ends (x ∷ xs) = whole_ends xs
 
-pub front_whole : (text : List ℕ) (n : ℕ) (t : List ℕ) → n ≡ length text → IsLabelFront text n t → SpellsLabel text t
+pub front_whole : (text : List ℕ) (n : ℕ) (t : List ℕ) → n ≡ length text → IsNameFront text n t → SpellsLabel text t
 front_whole text n t e h = subst (λ x. SpellsLabel x t) (ap (λ i. take i text) e ∙ take-length text) h.1
 
 -- a word spells at most one label

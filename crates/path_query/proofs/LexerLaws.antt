@@ -11,7 +11,7 @@ use Rattle.px_spec.specs.Words.{is_blank, AreBlanks, is_letter}
 use Rattle.path_spec.specs.Trees.{star, plus, opt}
 use Rattle.path_spec.specs.Tokens.{Token, lab, underscore, slash, slashes, bar, opening, closing, sign}
 use Rattle.path_spec.specs.Spelling.{EndsName, EndsSlash, EndsToken, SpellsToken, SpellsTokens}
-use Rattle.path_query.specs.Labels.{SpellsLabel, IsLabelFront}
+use Rattle.path_query.specs.Labels.{SpellsLabel, IsNameFront}
 use Rattle.path_query.proofs.LabelBytes.{both, named, letter_is_no_blank}
 use Rattle.path_query.proofs.LabelLaws.{iri_opens}
 use Rattle.path_query.proofs.Cuts.{Stops, cut_at, drop_front, front_passes}
@@ -188,7 +188,7 @@ mark_is_front (b ∷ bs) t rest e = elim (chosen (b == 47) (Some (slash_front bs
 -- a label in front
 pub record LabelAt (text v q : List ℕ) : Type 0 where
   pub len : ℕ
-  pub front : IsLabelFront text len v
+  pub front : IsNameFront text len v
   pub ends : EndsName (drop len text)
   pub rest : q ≡ drop len text
 

@@ -15,5 +15,5 @@ SpellsLabel text t =
     (IsPlainLabel text × (t ≡ text)) ⊎ ((iri : List ℕ) × IsIriFront text (length text) iri × (t ≡ iri_spelling iri))
 
 -- the first n bytes spell the label
-abbrev pub IsLabelFront : List ℕ → ℕ → List ℕ → Type 0
-IsLabelFront text n t = (n ≤ length text) × SpellsLabel (take n text) t
+abbrev pub IsNameFront : List ℕ → ℕ → List ℕ → Type 0
+IsNameFront text n t = (n ≤ length text) × SpellsLabel (take n text) t

@@ -40,7 +40,7 @@ pub struct PathExpr {
 impl Model for PathExpr {
     ghost use Rattle.path_spec.specs.Trees.{Expr as Tree};
     ghost use Rattle.path_spec.specs.Spelling.{canonical};
-    ghost use Rattle.path_expr.specs.Coding.{coded_tree};
+    ghost use Rattle.path_expr.specs.TreeCodes.{coded_tree};
     ghost use Rattle.path_query.specs.Parsed.{Spells};
     ghost use Rattle.path_query.specs.Lengths.{IsNarrow};
 

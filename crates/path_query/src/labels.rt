@@ -4,9 +4,9 @@ ghost use Rattle.std.specs.List.{list_all, prefix_len};
 ghost use Rattle.px_spec.specs.Words.{is_letter, is_name_byte, is_name};
 ghost use Rattle.triples_read.specs.Lines.{IsIriFront};
 ghost use Rattle.triples_read.specs.Canonical.{iri_spelling};
-ghost use Rattle.triples_read.specs.Reading.{starts_with};
+ghost use Rattle.triples_read.specs.ByteReaders.{starts_with};
 ghost use Rattle.path_spec.specs.Spelling.{EndsName};
-ghost use Rattle.path_query.specs.Labels.{IsPlainLabel, SpellsLabel, IsLabelFront};
+ghost use Rattle.path_query.specs.Labels.{IsPlainLabel, SpellsLabel, IsNameFront};
 
 use px_base::{Memory, Text, TextError};
 use std::alloc::Global;
@@ -93,8 +93,8 @@ fn opens_iri(text: &[u8]) -> bool
 /// The label at the front of the text, and how many bytes spell it. Where a label stands there and no
 /// name goes on behind it, that one is read. None where no label stands there. Linear in what it reads.
 pub(crate) fn read_front(alloc: Global, text: &[u8]) -> Result<Option<(Text, usize)>, Memory>
-    ensures found { IfOk result (λ r. IfSome r (λ f. IsLabelFront text.now f.1 f.0)) }
-    ensures only { (n : ℕ) (t : List ℕ) → IsLabelFront text.now n t → EndsName (drop n text.now) → IfOk result (λ r. IsSomeAnd r (λ f. (f.0 ≡ t) × (f.1 ≡ n))) }
+    ensures found { IfOk result (λ r. IfSome r (λ f. IsNameFront text.now f.1 f.0)) }
+    ensures only { (n : ℕ) (t : List ℕ) → IsNameFront text.now n t → EndsName (drop n text.now) → IfOk result (λ r. IsSomeAnd r (λ f. (f.0 ≡ t) × (f.1 ≡ n))) }
 {
     if opens_iri(text) {
         read_iri(alloc, text)

@@ -9,7 +9,7 @@ use Rattle.path_spec.specs.Trimmed.{trimmed}
 use Rattle.path_spec.specs.Answers.{IsAnswer}
 use Rattle.path_spec.specs.Longest.{longest}
 use Rattle.path_spec.specs.Spelling.{canonical}
-use Rattle.path_spec.proofs.Testing.{says}
+use Rattle.path_spec.proofs.WordTests.{says}
 
 abbrev a : Atom
 a = label (codes "a")

@@ -1,6 +1,6 @@
-pub mod Testing
+pub mod WordTests
 pub mod Longest
 pub mod OneReading
-pub mod Writing
+pub mod CanonicalTexts
 pub mod Trimming
 pub mod Examples

@@ -9,7 +9,7 @@ use Rattle.path_spec.specs.Matches.{Word, joined, AnyWord, Then, Pieces, Matches
 use Rattle.path_spec.specs.Tests.{seq_matches, item_matches}
 use Rattle.path_spec.specs.Trimmed.{trimmed_item, first_trimmed, reading, trimmed_seq, trimmed}
 use Rattle.path_spec.specs.Answers.{IsAnswer, AreAnswers}
-use Rattle.path_spec.proofs.Testing.{says_seq, says_item}
+use Rattle.path_spec.proofs.WordTests.{says_seq, says_item}
 
 -- the word ends in one of the kind that isn't empty
 abbrev EndsIn : (Word → Type 0) → Word → Type 0

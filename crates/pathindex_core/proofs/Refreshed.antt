@@ -14,7 +14,7 @@ use Rattle.index_api.specs.Meanings.{Meaning, IsReady, KeepsViews, IsRefreshed, 
 use Rattle.index_api.specs.Kept.{KeptIndexes, kinds_of, has_kind, kept_view, kept_of}
 use Rattle.pathindex_core.specs.Engines.{Opened, EachBecomes, IsKeptFor}
 use Rattle.pathindex_core.specs.Boxes.{StandsAt, BecomesAt, HasFirst, HasFirstView, IsFbComputed}
-use Rattle.pathindex_core.proofs.Becoming.{map_kept}
+use Rattle.pathindex_core.proofs.BoxLoops.{map_kept}
 use Rattle.pathindex_core.proofs.Found.{look_up, IsFound, IsMissed, found_at, none_found, become_found, AreFound, AreMissed, some_box}
 
 pub keeps_itself : (a : Meaning) → KeepsViews a a

@@ -2,7 +2,7 @@
 ghost use Rattle.std.specs.Prelude.{◌≡◌, ◌≢◌, ◌≤◌, not, true, false, length, map, All, OnOk, OnErr, IsSome, MatchOption};
 ghost use Rattle.std.specs.List.{AllPairs, filter};
 ghost use Rattle.graph_update.specs.NewChanges.{IsNew};
-ghost use Rattle.graph_update.specs.Judging.{change_of};
+ghost use Rattle.graph_update.specs.Verdicts.{change_of};
 ghost use Rattle.index_api.specs.Meanings.{IsReady, IsBuilt, IsPrepared, IsCommitted, unstaged};
 ghost use Rattle.index_api.specs.Kept.{is_kind, kinds_of, has_kind};
 ghost use Rattle.pathindex_core.specs.Engines.{EachBecomes};
@@ -21,7 +21,7 @@ fn is_kind(kind: Kind, other: Kind) -> bool
 }
 
 /// The place of the box of a kind, and None exactly where there is none.
-pub(crate) fn place_of(boxes: &Vec<Box<dyn PathIndex>>, kind: Kind) -> Option<usize>
+pub(crate) fn box_place(boxes: &Vec<Box<dyn PathIndex>>, kind: Kind) -> Option<usize>
     ensures { MatchOption result (has_kind (kinds_of (map meaning boxes.now.items)) kind ≡ false) (StandsAt (map meaning boxes.now.items) kind) }
 {
     for i in 0..boxes.len() {

@@ -3,8 +3,8 @@ ghost use Rattle.std.specs.Prelude.{◌≡◌, ◌≢◌, ◌+◌, ◌<◌, ◌�
 ghost use Rattle.std.specs.List.{AllPairs, filter};
 ghost use Rattle.label_graph.specs.Views.{live_count, edge_count};
 ghost use Rattle.graph_update.specs.NewChanges.{is_same};
-ghost use Rattle.graph_update.specs.Judging.{change_of};
-ghost use Rattle.graph_update.specs.Staging.{applied_of};
+ghost use Rattle.graph_update.specs.Verdicts.{change_of};
+ghost use Rattle.graph_update.specs.StagedChanges.{applied_of};
 ghost use Rattle.branch_query.specs.Queries.{path, branch};
 ghost use Rattle.index_eval.specs.Exactness.{IsExact};
 ghost use Rattle.pathindex_core.specs.QueryAnswers.{IsAnswered, IsUnkept};
@@ -17,7 +17,7 @@ ghost use Rattle.pathindex_core.specs.Engines.{engine_seen, opened_of, graph_in,
 ghost use Rattle.pathindex_core.specs.Updates.{outcome_in, opened_after, IsUpdated};
 
 use crate::asking::ask;
-use crate::boxes::{build_all, place_of, take_out};
+use crate::boxes::{build_all, box_place, take_out};
 use crate::errors::{AskError, UpdateError};
 use crate::lists::{list, measure};
 use crate::state::Open;
@@ -163,7 +163,7 @@ impl Engine {
         ensures no_index { (result ≡ Err Refusal.NoIndex) ↔ (has_kind (kinds_of (map meaning self.old.boxes.items)) kind ≡ false) }
         ensures no_other { (r : Refusal) → result ≡ Err r → r ≡ Refusal.NoIndex }
     {
-        match place_of(&self.boxes, kind) {
+        match box_place(&self.boxes, kind) {
             Some(i) => {
                 take_out(&mut self.boxes, kind, i);
                 Ok(())

@@ -3,8 +3,8 @@ ghost use Rattle.std.specs.Prelude.{◌≡◌, ℕ, ◌↔◌, Ok, Err, true, fa
 ghost use Rattle.px_spec.specs.declared.refusal.Refusal.{Refusal};
 ghost use Rattle.px_spec.specs.Changes.{after, apply};
 ghost use Rattle.graph_update.specs.NewChanges.{IsNew, is_same};
-ghost use Rattle.graph_update.specs.Judging.{change_of};
-ghost use Rattle.graph_update.specs.Staging.{applied_of};
+ghost use Rattle.graph_update.specs.Verdicts.{change_of};
+ghost use Rattle.graph_update.specs.StagedChanges.{applied_of};
 ghost use Rattle.index_api.specs.Meanings.{IsReady};
 ghost use Rattle.pathindex_core.specs.Engines.{EachBecomes};
 ghost use Rattle.pathindex_core.specs.Updates.{IsMoved, IsUpdated, StaysReady, graph_or};

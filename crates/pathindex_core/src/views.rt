@@ -8,7 +8,7 @@ ghost use Rattle.index_api.specs.Kept.{kinds_of, has_kind, kept_view};
 ghost use Rattle.pathindex_core.specs.Engines.{EachBecomes};
 ghost use Rattle.pathindex_core.specs.Boxes.{BecomesAt, HasFirst, IsFbComputed, via_view, HasFirstView};
 
-use crate::boxes::place_of;
+use crate::boxes::box_place;
 use index_api::{Kind, PathIndex, Via};
 use label_graph::Graph;
 use px_base::{Memory, Steps};
@@ -50,7 +50,7 @@ pub(crate) fn refresh_fb<L: Ledger>(
     ensures still { IsFbComputed (map meaning boxes.old.items) → steps.new ≡ steps.old }
     ensures cost { steps.new ≤ steps.old + 1 + live_count graph.now.graph + edge_count graph.now.graph }
 {
-    match place_of(boxes, Kind::Fb) {
+    match box_place(boxes, Kind::Fb) {
         Some(i) => refresh_at(boxes, i, graph, steps),
         None => Ok(()),
     }
@@ -83,7 +83,7 @@ pub(crate) fn refresh_for<L: Ledger>(
 fn summary_at(boxes: &Vec<Box<dyn PathIndex>>, kind: Kind, level: u32) -> Option<&Summary>
     ensures { option_map (λ s. view_of s.now) result ≡ kept_view (map meaning boxes.now.items) kind level }
 {
-    match place_of(boxes, kind) {
+    match box_place(boxes, kind) {
         Some(i) => boxes[i].summary(level),
         None => None,
     }

@@ -11,7 +11,7 @@ use Rattle.label_graph.specs.Views.{is_linked}
 use Rattle.label_graph.proofs.Viewed.{linked_is}
 use Rattle.px_spec.specs.Members.{has, Lists}
 use Rattle.bisim_spec.specs.Supports.{joins, edges_between}
-use Rattle.bisim_spec.specs.Touching.{edges_from}
+use Rattle.bisim_spec.specs.NodeEdges.{edges_from}
 use Rattle.bisim_spec.proofs.EdgeSets.{eq, kept, same_len, kept_len, len_more}
 use Rattle.bisim_spec.proofs.Moves.{from_has, from_distinct}
 use Rattle.quotient.specs.Joined.{pairs_between, edges_below}

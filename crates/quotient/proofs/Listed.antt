@@ -13,7 +13,7 @@ use Rattle.label_graph.specs.Views.{label_number}
 use Rattle.label_graph.specs.ViewLaws.{ends_seen}
 use Rattle.label_graph.proofs.Viewed.{linked_is}
 use Rattle.bisim_spec.specs.Supports.{joins, support}
-use Rattle.bisim_spec.specs.Touching.{edges_from}
+use Rattle.bisim_spec.specs.NodeEdges.{edges_from}
 use Rattle.quotient.specs.Joined.{AreListed, AreListedBelow, AreFew, pairs_between, one_if}
 use Rattle.quotient.proofs.Between.{below_zero, below_step, below_all, below_most}
 use Rattle.bisim_spec.proofs.Moves.{block_get}

@@ -6,7 +6,7 @@ use Rattle.px_spec.specs.Graphs.{Edges}
 use Rattle.px_spec.specs.Members.{Lists, at}
 use Rattle.block_partition.specs.Partitions.{Partition}
 use Rattle.bisim_spec.specs.Supports.{joins, support, edges_between}
-use Rattle.bisim_spec.specs.Touching.{edges_from}
+use Rattle.bisim_spec.specs.NodeEdges.{edges_from}
 use Rattle.bisim_spec.specs.Views.{SupportTable, support_at}
 
 -- the list with this number, and an empty one past the end

@@ -1,7 +1,7 @@
 // The edges of a graph, in a list.
 ghost use Rattle.std.specs.Prelude.{◌≡◌, ◌++◌, suc, IfOk, OnOk};
 ghost use Rattle.px_spec.specs.Graphs.{IsGraph};
-ghost use Rattle.bisim_spec.specs.Touching.{edges_from};
+ghost use Rattle.bisim_spec.specs.NodeEdges.{edges_from};
 ghost use Rattle.quotient.specs.Joined.{AreListed, AreListedBelow, AreFew};
 
 use label_graph::{Digraph, GraphView};

@@ -10,7 +10,7 @@ use Rattle.quotient.specs.Quotients.{Quotient}
 use Rattle.block_partition.specs.Partitions.{without_block}
 use Rattle.quotient_draft.specs.Drafts.{has_member}
 use Rattle.quotient_draft.specs.Retired.{IsRetired}
-use Rattle.quotient_draft.proofs.Making.{take_next}
+use Rattle.quotient_draft.proofs.AppliedDrafts.{take_next}
 use Rattle.quotient_draft.proofs.Puts.{at_with_put}
 use Rattle.quotient_draft.proofs.Written.{test_is}
 

@@ -4,16 +4,16 @@ mod Spans
 pub mod Written
 mod Over
 mod Examples
-pub mod Making
-mod Counting
+pub mod AppliedDrafts
+mod PairCounts
 pub mod Gone
 mod ShownCounts
 mod Linked
-mod Listing
+mod ListedMembers
 pub mod Settled
 mod Noted
 mod Supported
 mod Forgotten
 mod Touched
 mod Nearest
-mod Remaining
+mod ShownMembers

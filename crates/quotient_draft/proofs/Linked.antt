@@ -10,7 +10,7 @@ use Rattle.px_spec.specs.Members.{has}
 use Rattle.quotient_draft.specs.Drafts.{is_pair}
 use Rattle.quotient_draft.specs.Kept.{counted}
 use Rattle.quotient_draft.specs.PutLogs.{has_put, goes_to, last_put, AreLinked, is_goal, is_moved_to}
-use Rattle.quotient_draft.proofs.Making.{take_next}
+use Rattle.quotient_draft.proofs.AppliedDrafts.{take_next}
 use Rattle.quotient_draft.proofs.Written.{test_is, number_is, or_else}
 
 pub last_below : (puts : List (ℕ × ℕ)) (b k : ℕ) → last_put puts b k ≤ k

@@ -8,7 +8,7 @@ use Rattle.px_spec.specs.Members.{has}
 use Rattle.quotient.specs.Joined.{one_if}
 use Rattle.quotient_draft.specs.Drafts.{is_pair}
 use Rattle.quotient_draft.specs.Ends.{ends_from, ends_onto}
-use Rattle.quotient_draft.proofs.Counting.{counts_cons}
+use Rattle.quotient_draft.proofs.PairCounts.{counts_cons}
 use Rattle.quotient_draft.proofs.Written.{test_is}
 
 none_first : (a b : Bool) → (a || b) ≡ false → a ≡ false

@@ -14,7 +14,7 @@ use Rattle.quotient_draft.specs.Basis.{AreLeastFree, IsOver}
 use Rattle.quotient_draft.specs.Scans.{from_after}
 use Rattle.quotient_draft.specs.Retired.{IsRetired}
 use Rattle.quotient_draft.proofs.Scanned.{count_some, count_none, from_few, added_absent}
-use Rattle.quotient_draft.proofs.Making.{all_below, none_yet, added_length}
+use Rattle.quotient_draft.proofs.AppliedDrafts.{all_below, none_yet, added_length}
 use Rattle.quotient_draft.proofs.Written.{moves_absent}
 use Rattle.quotient_draft.proofs.Gone.{member_at, member_there, retired_both}
 

@@ -7,4 +7,4 @@ pub mod PutLogs
 pub mod Retired
 pub mod Ends
 pub mod Nexts
-pub mod Remaining
+pub mod ShownMembers

@@ -6,7 +6,7 @@ ghost use Rattle.std.specs.Iterator.{YieldsFirst, item_count};
 ghost use Rattle.quotient_draft.specs.Drafts.{shown_blocks};
 ghost use Rattle.quotient_draft.specs.Basis.{IsOver};
 ghost use Rattle.quotient_draft.specs.PutLogs.{is_moved_to};
-ghost use Rattle.quotient_draft.specs.Remaining.{is_unmoved, IsTaken};
+ghost use Rattle.quotient_draft.specs.ShownMembers.{is_unmoved, IsTaken};
 
 use crate::draft::Draft;
 use crate::moves::Moves;
@@ -26,7 +26,7 @@ pub struct DraftMembers<'a> {
 
 impl<'a> Model for DraftMembers<'a> {
     ghost use Rattle.std.specs.Prelude.{ℕ, List};
-    ghost use Rattle.quotient_draft.specs.Remaining.{members_left};
+    ghost use Rattle.quotient_draft.specs.ShownMembers.{members_left};
 
     ghost Value = { List ℕ };
 

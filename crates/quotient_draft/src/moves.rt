@@ -8,7 +8,7 @@ ghost use Rattle.quotient.specs.Joined.{one_if};
 ghost use Rattle.quotient_draft.specs.Drafts.{with_moves, with_left};
 ghost use Rattle.quotient_draft.specs.Kept.{counted, AreTaken};
 ghost use Rattle.quotient_draft.specs.PutLogs.{has_put, is_kept, is_moved_to};
-ghost use Rattle.quotient_draft.specs.Remaining.{is_unmoved};
+ghost use Rattle.quotient_draft.specs.ShownMembers.{is_unmoved};
 
 use crate::counts::{count_of, count_one};
 use crate::put_log::PutLog;

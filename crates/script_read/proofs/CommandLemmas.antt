@@ -13,7 +13,7 @@ use Rattle.path_query.specs.Parsed.{Spells, is_past}
 use Rattle.branch_spec.specs.Trees.{Branch}
 use Rattle.branch_text.specs.Parsed.{Spells as SpellsQuery}
 use Rattle.script_read.specs.ScannedLines.{SaysNode, SaysQuery, OpensOther}
-use Rattle.script_read.specs.Reading.{Reads}
+use Rattle.script_read.specs.ReadLines.{ReadsCommand}
 use Rattle.script_read.specs.declared.commands.ScriptError.{ScriptError}
 use Rattle.script_read.specs.declared.commands.ScriptError.TheVariants.{Bad, Limit, Memory}
 use Rattle.px_spec.specs.Words.{node_word}
@@ -274,7 +274,7 @@ branch_bad line via text s absent =
 
 -- what is read where the word behind `node` gave this error
 pub failed_node : (limits : Limits) (line word : List ℕ) (e : ScriptError) → SaysNode line word → (e ≢ Limit) → (e ≡ Bad → (t : List ℕ) → SpellsLabel word t → ⊥)
-    → Reads limits line (Err e)
+    → ReadsCommand limits line (Err e)
 failed_node limits line word Bad s n f = (node_bad line word s (f refl), node_free limits line word s)
 failed_node limits line word Limit s n f = absurd (n refl)
 failed_node limits line word Memory s n f = tt
@@ -285,14 +285,14 @@ within_is limits line word via text s within k = within (subst (λ t. IsTrue (is
 
 -- what is read where the text of a path expression gave this error
 pub failed_path : (limits : Limits) (line : List ℕ) (via : Via) (text : List ℕ) (e : ScriptError) → SaysQuery (codes "path") line via text → (e ≡ Limit ↔ IsTrue (is_past limits text))
-    → (e ≡ Bad → (x : Expr) → Spells text x → ⊥) → Reads limits line (Err e)
+    → (e ≡ Bad → (x : Expr) → Spells text x → ⊥) → ReadsCommand limits line (Err e)
 failed_path limits line via text Bad s l f = (path_bad line via text s (f refl), within_is limits line _ via text s (λ p. (let b : ◌≡◌ {A = ScriptError} Bad Limit = l.1 p in cc)))
 failed_path limits line via text Limit s l f = ((via, inl s.0), subst (λ t. IsTrue (is_past limits t)) s.1 (l.0 refl))
 failed_path limits line via text Memory s l f = tt
 
 -- and where that of a branching query did
 pub failed_branch : (limits : Limits) (line : List ℕ) (via : Via) (text : List ℕ) (e : ScriptError) → SaysQuery (codes "branch") line via text
-    → (e ≡ Limit ↔ IsTrue (is_past limits text)) → (e ≡ Bad → (q : Branch) → SpellsQuery text q → ⊥) → Reads limits line (Err e)
+    → (e ≡ Limit ↔ IsTrue (is_past limits text)) → (e ≡ Bad → (q : Branch) → SpellsQuery text q → ⊥) → ReadsCommand limits line (Err e)
 failed_branch limits line via text Bad s l f =
     (branch_bad line via text s (f refl), within_is limits line _ via text s (λ p. (let b : ◌≡◌ {A = ScriptError} Bad Limit = l.1 p in cc)))
 failed_branch limits line via text Limit s l f = ((via, inr s.0), subst (λ t. IsTrue (is_past limits t)) s.1 (l.0 refl))

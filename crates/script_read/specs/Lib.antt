@@ -1,4 +1,4 @@
 pub mod Parts
 pub mod Commands
 pub mod ScannedLines
-pub mod Reading
+pub mod ReadLines

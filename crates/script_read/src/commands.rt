@@ -6,7 +6,7 @@ ghost use Rattle.path_query.specs.Parsed.{Spells, is_past};
 ghost use Rattle.branch_spec.specs.Trees.{Branch as Query};
 ghost use Rattle.branch_text.specs.Parsed.{Spells as SpellsQuery};
 ghost use Rattle.script_read.specs.Commands.{Command as Spelled, IsQuiet, IsSpelled, LabelsOnce, PathsOnce, BranchesOnce, SpellsOnce};
-ghost use Rattle.script_read.specs.Reading.{Reads};
+ghost use Rattle.script_read.specs.ReadLines.{ReadsCommand};
 
 use crate::scan::{ScannedLine, scan};
 use branch_text::Branch;
@@ -104,7 +104,7 @@ fn parse_branch(alloc: Global, text: &[u8], limits: &Limits) -> Result<Branch, S
 /// line is without its end. O(m) for m bytes of the line, and at most O(m) bytes of memory.
 #[tactic(auto, using(crate::proofs::CommandLaws::reading_laws))]
 pub fn read(alloc: Global, line: &[u8], limits: &Limits) -> Result<Option<Command>, ScriptError>
-    ensures reads { Reads limits.now line.now result }
+    ensures reads { ReadsCommand limits.now line.now result }
     ensures once { SpellsOnce line.now }
     ensures quiet { IsQuiet line.now → (c : Spelled) → IsSpelled line.now c → ⊥ }
 {

@@ -9,7 +9,7 @@ use Rattle.px_spec.specs.Changes.{Change, apply}
 use Rattle.bisim_spec.specs.declared.kind.Kind.{Kind}
 use Rattle.graph_update.specs.NewChanges.{is_same}
 use Rattle.graph_update.specs.declared.changes.Applied.{Applied}
-use Rattle.graph_update.specs.Staging.{applied_of}
+use Rattle.graph_update.specs.StagedChanges.{applied_of}
 use Rattle.index_api.specs.declared.kinds.Via.{Via}
 use Rattle.index_api.specs.declared.kinds.Via.TheVariants.{Data}
 use Rattle.index_api.specs.Meanings.{Meaning, IsBuilt}

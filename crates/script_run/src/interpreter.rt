@@ -1,10 +1,10 @@
 // Carrying out the lines of a script.
 ghost use Rattle.std.specs.Prelude.{◌≡◌, ◌≢◌, ◌<◌, ◌↔◌, ◌++◌, map, Err, IfOk, OnOk, OnErr, false, true, if◌then◌else◌};
-ghost use Rattle.graph_update.specs.Judging.{change_of};
+ghost use Rattle.graph_update.specs.Verdicts.{change_of};
 ghost use Rattle.index_api.specs.declared.kinds.Via.TheVariants.{Data};
 ghost use Rattle.branch_query.specs.Queries.{query_of};
 ghost use Rattle.script_read.specs.Commands.{change as changing, extents as listing, sizes as measuring, forget as forgetting};
-ghost use Rattle.script_read.specs.Reading.{command_of};
+ghost use Rattle.script_read.specs.ReadLines.{command_of};
 ghost use Rattle.pathindex_core.specs.Engines.{engine_seen};
 ghost use Rattle.pathindex_core.specs.QueryAnswers.{IsAnswered, IsUnkept};
 ghost use Rattle.script_run.specs.Rules.{rules_for, if_whole};

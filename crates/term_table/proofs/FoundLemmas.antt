@@ -11,7 +11,7 @@ use Rattle.term_table.specs.declared.entries.Entry.{Entry}
 use Rattle.term_table.specs.Terms.{same_term}
 use Rattle.term_table.specs.Parts.{parts_of, term_of}
 use Rattle.term_table.specs.Entries.{entry_at, parts_in, terms_of, IsTermTable, LackParts}
-use Rattle.term_table.specs.Finding.{IsFoundAs}
+use Rattle.term_table.specs.FoundTerms.{IsFoundAs}
 use Rattle.term_table.proofs.SameTerms.{same_bytes, term_is, term_same}
 use Rattle.term_table.proofs.Positions.{position-cons}
 

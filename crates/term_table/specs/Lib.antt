@@ -1,4 +1,4 @@
 pub mod Terms
 pub mod Parts
 pub mod Entries
-pub mod Finding
+pub mod FoundTerms

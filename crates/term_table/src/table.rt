@@ -4,7 +4,7 @@ ghost use Rattle.triples_read.specs.declared.term.Term.{Term as Value_of_term};
 ghost use Rattle.term_table.specs.Terms.{number_of};
 ghost use Rattle.term_table.specs.Parts.{parts_of, shown_parts, hash_of};
 ghost use Rattle.term_table.specs.Entries.{IsTermTable, LackParts, terms_of};
-ghost use Rattle.term_table.specs.Finding.{IsFoundAs};
+ghost use Rattle.term_table.specs.FoundTerms.{IsFoundAs};
 
 use crate::entries::{Entry, has_parts, read_entry};
 use crate::hashed::HashedTerm;

@@ -11,7 +11,7 @@ use Rattle.std.proofs.lemmas.List.{append-nil, length-drop}
 use Rattle.std.proofs.lemmas.List.Sums.{prefix_len-le-length}
 use Rattle.triples_read.specs.Characters.{is_blank}
 use Rattle.triples_read.specs.Terminals.{AllOf, Blanks}
-use Rattle.triples_read.specs.Reading.{past_blanks}
+use Rattle.triples_read.specs.ByteReaders.{past_blanks}
 use Rattle.triples_read.specs.Fronts.{Front, IsText}
 use Rattle.triples_read.proofs.Basics.{bool_cases, scalars-right, split-encodes, seam}
 

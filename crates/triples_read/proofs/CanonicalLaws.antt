@@ -17,7 +17,7 @@ use Rattle.triples_read.specs.Terminals.{Many, StringPiece, STRING_LITERAL_QUOTE
 use Rattle.triples_read.specs.Lines.{IsIri, IsBlankNode, IsLiteral, IsSubject, IsObject, Suffix, Spells, xsd_string, lang_string}
 use Rattle.triples_read.specs.Fronts.{IsLabelFront}
 use Rattle.triples_read.specs.Quotes.{inner, Escape, escape_at, PieceIn}
-use Rattle.triples_read.specs.Reading.{past_tag, tag_part}
+use Rattle.triples_read.specs.ByteReaders.{past_tag, tag_part}
 use Rattle.triples_read.specs.Canonical.{iri_char, iri_text, string_char, string_text, suffix_text, term_text, triple_text, IsSpelled}
 use Rattle.triples_read.specs.declared.quoted.Quote.{Quote}
 use Rattle.triples_read.specs.declared.quoted.Quote.TheVariants.{Angle, Double}
@@ -26,7 +26,7 @@ use Rattle.triples_read.specs.declared.term.Term.TheVariants.{Iri, Blank, Litera
 use Rattle.triples_read.specs.declared.term.Triple.{Triple}
 use Rattle.triples_read.proofs.Basics.{bool_cases, and_both, scalars-both, none_some}
 use Rattle.triples_read.proofs.Pieces.{many-scalars}
-use Rattle.triples_read.proofs.Quoting.{quote_escapes}
+use Rattle.triples_read.proofs.QuotedPieces.{quote_escapes}
 use Rattle.triples_read.proofs.SpellingLaws.{pieces_of}
 use Rattle.triples_read.proofs.TagLaws.{TagRest, dashed, langtag-rest, rest-whole, rest-langtag, rest_bytes, tag-read, past-part, past-empty, past-dash, past-stop, some_same, no_cons}
 

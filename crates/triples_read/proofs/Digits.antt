@@ -5,7 +5,7 @@ use Rattle.std.proofs.Math.Nat.{pow-succ'}
 use Rattle.std.proofs.lemmas.Bool.{ltb-true}
 use Rattle.std.specs.Char.{digit_value}
 use Rattle.triples_read.specs.Characters.{is_hex}
-use Rattle.triples_read.specs.Reading.{hex_at}
+use Rattle.triples_read.specs.ByteReaders.{hex_at}
 
 -- what is left gives the whole
 pub record HexSoFar (count done n : ℕ) (whole rest : List ℕ) : Type 0 where

@@ -7,7 +7,7 @@ use Rattle.std.proofs.lemmas.Str.{encode_ascii}
 use Rattle.std.proofs.lemmas.Bool.{eqb-true}
 use Rattle.triples_read.specs.Characters.{is_blank}
 use Rattle.triples_read.specs.Terminals.{Blanks}
-use Rattle.triples_read.specs.Reading.{past_blanks, starts_with}
+use Rattle.triples_read.specs.ByteReaders.{past_blanks, starts_with}
 use Rattle.triples_read.specs.Fronts.{IsText}
 use Rattle.triples_read.proofs.Basics.{scalars-right, split-encodes, seam, rest-utf8, eqb_same}
 use Rattle.triples_read.proofs.BlankLaws.{skip-whole}

@@ -15,8 +15,8 @@ use Rattle.triples_read.specs.Quotes.{PieceIn, IsQuoted, inner, Escape, escape_a
 use Rattle.triples_read.specs.declared.quoted.Quote.TheVariants.{Angle}
 use Rattle.triples_read.proofs.Basics.{no_both, take-past, scalars-both}
 use Rattle.triples_read.proofs.Pieces.{many-scalars}
-use Rattle.triples_read.proofs.Quoting.{quote_escapes}
-use Rattle.triples_read.proofs.Opening.{front-quoted, in_quotes, quotes_before}
+use Rattle.triples_read.proofs.QuotedPieces.{quote_escapes}
+use Rattle.triples_read.proofs.OpeningQuotes.{front-quoted, in_quotes, quotes_before}
 
 lacks-both : (c : ℕ) (xs ys : List ℕ) → Lacks c xs → Lacks c ys → Lacks c (xs ++ ys)
 lacks-both c [] ys a b = b

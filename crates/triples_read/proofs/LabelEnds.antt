@@ -8,7 +8,7 @@ use Rattle.std.proofs.lemmas.Bool.{ne_eqb}
 use Rattle.triples_read.specs.Characters.{pn_chars, label_inner, label_first}
 use Rattle.triples_read.specs.Terminals.{EndsIn, AllOf, IsLabel}
 use Rattle.triples_read.specs.Fronts.{IsLabelFront, EndsLabel}
-use Rattle.triples_read.specs.Reading.{past_label}
+use Rattle.triples_read.specs.ByteReaders.{past_label}
 use Rattle.triples_read.proofs.Basics.{bool_cases, and_both, no_both}
 
 past-pn : (tail cs : List ℕ) (c : ℕ) → pn_chars c ≡ true → past_label tail (c ∷ cs) ≡ past_label cs cs

@@ -2,11 +2,11 @@ pub mod Basics
 pub mod Digits
 pub mod Pieces
 pub mod Uchars
-pub mod Opening
+pub mod OpeningQuotes
 pub mod IriFronts
 pub mod LabelEnds
 pub mod StringEscapes
-pub mod Quoting
+pub mod QuotedPieces
 pub mod SpellingLaws
 pub mod NearMisses
 pub mod BlankLaws

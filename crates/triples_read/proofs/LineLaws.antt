@@ -5,7 +5,7 @@ use Rattle.std.proofs.Math.Utf8.{scalars, encodes}
 use Rattle.std.proofs.lemmas.Str.{encodes-append}
 use Rattle.std.proofs.lemmas.List.{append-nil}
 use Rattle.triples_read.specs.Terminals.{Blanks, Comment}
-use Rattle.triples_read.specs.Reading.{past_blanks, starts_with, is_over}
+use Rattle.triples_read.specs.ByteReaders.{past_blanks, starts_with, is_over}
 use Rattle.triples_read.specs.Lines.{Suffix, IsIri, IsBlankNode, IsLiteral, IsSubject, IsObject, Spells, Empty}
 use Rattle.triples_read.specs.Fronts.{Front, IsText, EndsLabel}
 use Rattle.triples_read.specs.Parts.{AfterObject, AfterPredicate, AfterSubject, FromSubject}

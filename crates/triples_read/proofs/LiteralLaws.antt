@@ -4,7 +4,7 @@ use Rattle.std.specs.List.{flat_map}
 use Rattle.std.proofs.Math.Utf8.{scalars, encodes}
 use Rattle.std.proofs.lemmas.Str.{encode_ascii}
 use Rattle.triples_read.specs.Terminals.{Blanks, LANGTAG}
-use Rattle.triples_read.specs.Reading.{past_blanks, starts_with}
+use Rattle.triples_read.specs.ByteReaders.{past_blanks, starts_with}
 use Rattle.triples_read.specs.Lines.{IsIri, Suffix, IsLiteral, IsObject, xsd_string, lang_string}
 use Rattle.triples_read.specs.Fronts.{Front, IsText, EndsTag}
 use Rattle.triples_read.specs.Parts.{IsDatatype, AfterObject}
@@ -12,7 +12,7 @@ use Rattle.triples_read.specs.Quotes.{IsQuoted}
 use Rattle.triples_read.specs.declared.quoted.Quote.TheVariants.{Double}
 use Rattle.triples_read.specs.declared.term.Term.TheVariants.{Literal}
 use Rattle.triples_read.proofs.Basics.{cons-tail, scalars-right}
-use Rattle.triples_read.proofs.Opening.{quoted-split, quoted-join, in_quotes}
+use Rattle.triples_read.proofs.OpeningQuotes.{quoted-split, quoted-join, in_quotes}
 use Rattle.triples_read.proofs.BlankLaws.{skip-whole}
 use Rattle.triples_read.proofs.FrontLaws.{first-byte, behind-byte, Starts, skip-to}
 use Rattle.triples_read.proofs.Follow.{tag-ends}

@@ -5,7 +5,7 @@ use Rattle.triples_read.specs.Characters.{pn_chars, label_inner}
 use Rattle.triples_read.specs.Terminals.{EndsIn, LANGTAG}
 use Rattle.triples_read.specs.Lines.{Spells}
 use Rattle.triples_read.specs.declared.term.Term.TheVariants.{Iri, Blank}
-use Rattle.triples_read.specs.Reading.{past_label, string_escape_at, uchar_at}
+use Rattle.triples_read.specs.ByteReaders.{past_label, string_escape_at, uchar_at}
 use Rattle.triples_read.proofs.Basics.{no_both}
 
 no_nil : (xs : List ℕ) → xs ++ 46 ∷ [] ≡ [] → ⊥

@@ -5,7 +5,7 @@ use Rattle.std.proofs.Math.Utf8.{encodes}
 use Rattle.std.proofs.lemmas.Str.{encodes_same}
 use Rattle.std.proofs.lemmas.List.{append_cancel_right}
 use Rattle.triples_read.specs.Terminals.{LANGTAG}
-use Rattle.triples_read.specs.Reading.{past_blanks, past_label, starts_with, is_over}
+use Rattle.triples_read.specs.ByteReaders.{past_blanks, past_label, starts_with, is_over}
 use Rattle.triples_read.specs.Lines.{IsIri, IsBlankNode, IsSubject, IsObject, Suffix, Spells, Empty}
 use Rattle.triples_read.specs.Fronts.{IsText, EndsLabel, EndsTag}
 use Rattle.triples_read.specs.Parts.{IsDatatype, AfterObject, AfterPredicate, AfterSubject, FromSubject}
@@ -15,7 +15,7 @@ use Rattle.triples_read.specs.declared.term.Term.TheVariants.{Iri, Blank, Litera
 use Rattle.triples_read.specs.declared.term.Triple.{Triple}
 use Rattle.triples_read.proofs.Basics.{no_both, cons-tail}
 use Rattle.triples_read.proofs.LabelEnds.{label-whole}
-use Rattle.triples_read.proofs.Opening.{iri-whole, quoted-unique, text-rest}
+use Rattle.triples_read.proofs.OpeningQuotes.{iri-whole, quoted-unique, text-rest}
 use Rattle.triples_read.proofs.TagLaws.{tag-stands, some_same}
 use Rattle.triples_read.proofs.LiteralLaws.{carets_bytes, datatype-stands, suffix-stands, literal-stands}
 use Rattle.triples_read.proofs.Follow.{label-ends}

@@ -11,7 +11,7 @@ use Rattle.std.proofs.lemmas.List.{take-append-drop, append-nil}
 use Rattle.std.proofs.Math.ListN.{drop_of_length-le}
 use Rattle.std.proofs.lemmas.List.Sums.{prefix_len-le-length, passes_at_first, take_while-cons}
 use Rattle.triples_read.specs.Terminals.{Many}
-use Rattle.triples_read.specs.Reading.{starts_with}
+use Rattle.triples_read.specs.ByteReaders.{starts_with}
 use Rattle.triples_read.specs.Bodies.{PieceOf, Body, Step, Adds, StopsAt, IsBodyFront}
 use Rattle.triples_read.proofs.Basics.{and_both, no_both, cons-tail, drop-past, scalars-both, seam, eqb_same, if_none, first_of, second_of, none_some}
 

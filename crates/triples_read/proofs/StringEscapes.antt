@@ -6,7 +6,7 @@ use Rattle.std.proofs.lemmas.Bool.{cases_lt}
 use Rattle.std.proofs.lemmas.Bool.Decides.{nat_tests}
 use Rattle.triples_read.specs.Characters.{is_string_char}
 use Rattle.triples_read.specs.Terminals.{escape_of}
-use Rattle.triples_read.specs.Reading.{uchar_at, escape_or, string_escape_at}
+use Rattle.triples_read.specs.ByteReaders.{uchar_at, escape_or, string_escape_at}
 use Rattle.triples_read.specs.Quotes.{StringEscape}
 use Rattle.triples_read.proofs.Basics.{cons-tail, first_of, second_of}
 use Rattle.triples_read.proofs.Pieces.{Escapes, Kind}

@@ -11,7 +11,7 @@ use Rattle.std.proofs.lemmas.Bool.Decides.{nat_tests}
 use Rattle.std.proofs.lemmas.List.Concat.{flat_map-cons}
 use Rattle.triples_read.specs.Characters.{is_letter, is_letter_or_digit}
 use Rattle.triples_read.specs.Terminals.{AllOf, OneOrMore, LANGTAG}
-use Rattle.triples_read.specs.Reading.{past_tag, tag_part}
+use Rattle.triples_read.specs.ByteReaders.{past_tag, tag_part}
 use Rattle.triples_read.specs.Fronts.{Front, IsText, EndsTag}
 use Rattle.triples_read.proofs.Basics.{bool_cases, no_both, cons-tail, drop-past, take-past, scalars-right, split-encodes, seam, none_some}
 use Rattle.triples_read.proofs.BlankLaws.{own_bytes}

@@ -9,7 +9,7 @@ use Rattle.std.proofs.lemmas.Bool.{ltb-true, eqb-true, cases_lt}
 use Rattle.std.proofs.lemmas.Bool.Decides.{nat_tests}
 use Rattle.triples_read.specs.Characters.{is_hex, is_iri_char}
 use Rattle.triples_read.specs.Terminals.{UCHAR, HEX, hex_number}
-use Rattle.triples_read.specs.Reading.{hex_at, scalar_of, with_len, uchar_at}
+use Rattle.triples_read.specs.ByteReaders.{hex_at, scalar_of, with_len, uchar_at}
 use Rattle.triples_read.proofs.Basics.{bool_cases, first_of, second_of, none_some}
 use Rattle.triples_read.proofs.Pieces.{Escapes, Kind}
 

@@ -4,7 +4,7 @@ use Rattle.std.specs.Str.{all_scalars}
 use Rattle.std.specs.List.{AllByRecursion}
 use Rattle.triples_read.specs.Characters.{is_letter_or_digit}
 use Rattle.triples_read.specs.Terminals.{IsLabel}
-use Rattle.triples_read.specs.Reading.{past_label}
+use Rattle.triples_read.specs.ByteReaders.{past_label}
 
 -- the bytes are the UTF-8 of the characters
 abbrev pub IsText : List ℕ → List ℕ → Type 0

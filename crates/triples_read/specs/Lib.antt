@@ -2,7 +2,7 @@ pub mod Characters
 pub mod Terminals
 pub mod Lines
 pub mod Fronts
-pub mod Reading
+pub mod ByteReaders
 pub mod Bodies
 pub mod Quotes
 pub mod Canonical

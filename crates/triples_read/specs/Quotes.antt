@@ -4,7 +4,7 @@ use Rattle.std.specs.List.{flat_map}
 use Rattle.std.proofs.Math.Utf8.{encodes}
 use Rattle.triples_read.specs.Characters.{is_iri_char, is_string_char}
 use Rattle.triples_read.specs.Terminals.{ECHAR, UCHAR, Many}
-use Rattle.triples_read.specs.Reading.{uchar_at, string_escape_at}
+use Rattle.triples_read.specs.ByteReaders.{uchar_at, string_escape_at}
 use Rattle.triples_read.specs.Bodies.{PieceOf}
 use Rattle.triples_read.specs.Canonical.{iri_char, string_char}
 use Rattle.triples_read.specs.declared.quoted.Quote.{Quote}

@@ -3,8 +3,8 @@ ghost use Rattle.std.specs.Prelude.{◌≡◌, ◌≤◌, Some, None, if◌then�
 ghost use Rattle.std.specs.Char.{digit_value};
 ghost use Rattle.triples_read.specs.Characters.{is_hex};
 ghost use Rattle.triples_read.specs.Terminals.{escape_of};
-ghost use Rattle.triples_read.specs.Reading.{hex_at, uchar_at, string_escape_at, scalar_of};
-ghost use Rattle.triples_read.specs.Reading.{with_len as with_len_of};
+ghost use Rattle.triples_read.specs.ByteReaders.{hex_at, uchar_at, string_escape_at, scalar_of};
+ghost use Rattle.triples_read.specs.ByteReaders.{with_len as with_len_of};
 
 fn digit(b: u8) -> Option<u32>
     ensures { result ≡ (if is_hex b then Some (digit_value b) else None) }

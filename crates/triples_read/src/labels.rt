@@ -1,6 +1,6 @@
 // Blank node labels.
 ghost use Rattle.std.specs.Prelude.{true, ◌≡◌, ◌++◌, [], List, ℕ, MatchOption, IfOk, IfSome, IsSomeAnd, encode_utf8, encode_utf8_all, ◌∷◌};
-ghost use Rattle.triples_read.specs.Reading.{past_label};
+ghost use Rattle.triples_read.specs.ByteReaders.{past_label};
 ghost use Rattle.triples_read.specs.Terminals.{IsLabel};
 ghost use Rattle.triples_read.specs.Fronts.{IsLabelFront, EndsLabel, Front, IsText};
 ghost use Rattle.triples_read.specs.Lines.{IsBlankNode};

@@ -5,7 +5,7 @@ ghost use Rattle.std.specs.List.{list_all};
 ghost use Rattle.std.proofs.Common.{not};
 ghost use Rattle.triples_read.specs.Characters.{from_to};
 ghost use Rattle.triples_read.specs.Terminals.{LANGTAG};
-ghost use Rattle.triples_read.specs.Reading.{tag_part, past_tag as past};
+ghost use Rattle.triples_read.specs.ByteReaders.{tag_part, past_tag as past};
 ghost use Rattle.triples_read.specs.Fronts.{Front, IsText, EndsTag};
 
 use crate::characters::{is_letter, is_letter_or_digit};

@@ -1,12 +1,12 @@
 pub mod Sums
-pub mod Splitting
+pub mod SplitRounds
 pub mod Goals
 pub mod Unmoved
-pub mod Merging
+pub mod MergedPairs
 pub mod Suspects
 pub mod SetLists
 pub mod Still
 pub mod Stills
 pub mod OneSteps
-pub mod Joining
+pub mod SplitThenMerge
 pub mod Labelled

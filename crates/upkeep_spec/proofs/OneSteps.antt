@@ -18,8 +18,8 @@ use Rattle.bisim_spec.specs.Targets.{KeepsBlocks, KeepsParents, target}
 use Rattle.upkeep_spec.specs.Merges.{Merges, AreSuspects}
 use Rattle.bisim_spec.specs.OneStep.{OneStep}
 use Rattle.bisim_spec.proofs.Changed.{live_before}
-use Rattle.upkeep_spec.proofs.Merging.{merges_stable, outside_merges}
-use Rattle.upkeep_spec.proofs.Splitting.{stable_at_end}
+use Rattle.upkeep_spec.proofs.MergedPairs.{merges_stable, outside_merges}
+use Rattle.upkeep_spec.proofs.SplitRounds.{stable_at_end}
 use Rattle.upkeep_spec.proofs.Suspects.{unmarked_suspects}
 use Rattle.upkeep_spec.proofs.Unmoved.{IsFiner, IsUnmoved, none_unmoved}
 use Rattle.upkeep_spec.specs.Splits.{IsClosed, IsSplitInside}

@@ -12,9 +12,9 @@ use Rattle.bisim_spec.proofs.BelowLaws.{any_get, any_from, none_get}
 use Rattle.bisim_spec.proofs.Bisimilar.{is_some_at}
 use Rattle.bisim_spec.proofs.Moves.{block_get, block_from}
 use Rattle.bisim_spec.proofs.Together.{together_at, merged_keeps, merged_a, merged_b, merged_cases}
-use Rattle.bisim_spec.proofs.Merging.{mergeable_from, merges_from}
+use Rattle.bisim_spec.proofs.MergeableBlocks.{mergeable_from, merges_from}
 use Rattle.upkeep_spec.specs.Merges.{IsMergeablePair, IsMerged, AreSuspects, IsChildBlock}
-use Rattle.upkeep_spec.proofs.Merging.{can_swap, unmerged, merged_gone}
+use Rattle.upkeep_spec.proofs.MergedPairs.{can_swap, unmerged, merged_gone}
 
 -- where none is left, no two blocks can be merged
 pub minimal_from : (s : Shape) (p : List (Option ℕ)) → AreSuspects s p (λ b. ⊥) → Minimal s p

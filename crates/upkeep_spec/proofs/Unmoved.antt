@@ -7,7 +7,7 @@ use Rattle.bisim_spec.specs.Stability.{Stable, Mergeable, Minimal, merged}
 use Rattle.bisim_spec.proofs.Bisimilar.{is_some_at}
 use Rattle.bisim_spec.proofs.Stable.{stable_label, stable_parents}
 use Rattle.bisim_spec.proofs.Together.{together_sym, together_at, merged_keeps, merged_a, merged_b, merged_cases}
-use Rattle.bisim_spec.proofs.Merging.{mergeable_from}
+use Rattle.bisim_spec.proofs.MergeableBlocks.{mergeable_from}
 use Rattle.bisim_spec.proofs.Outside.{DiffersAt}
 
 -- nodes that are together now, and were live before, were together before

@@ -2,12 +2,12 @@ use Rattle.std.proofs.Common.{◌≡◌, ◌+◌, ◌≤◌, ℕ, length, subst,
 use Rattle.px_spec.specs.Graphs.{IsGraph}
 use Rattle.px_spec.specs.Changes.{after}
 use Rattle.bisim_spec.specs.Targets.{target}
-use Rattle.graph_update.specs.Judging.{change_of}
-use Rattle.graph_update.specs.Pending.{Pending, graph_after}
-use Rattle.ak_drafting.specs.Drafting.{most_steps}
+use Rattle.graph_update.specs.Verdicts.{change_of}
+use Rattle.graph_update.specs.PendingChanges.{Pending, graph_after}
+use Rattle.ak_drafting.specs.FamilyDrafts.{most_steps}
 use Rattle.ak_drafting.specs.Stages.{AreMoved}
 use Rattle.ak_drafting.proofs.Aimed.{have_moved}
-use Rattle.ak_drafting.proofs.Showing.{shown_fit, shows_family}
+use Rattle.ak_drafting.proofs.MovedDrafts.{shown_fit, shows_family}
 use Rattle.ak_drafting.proofs.drafting.draft_change.Goals as goal
 
 pub returns-in_err-draft_pending-clause-cost : goal.returns-in_err-draft_pending-clause-cost

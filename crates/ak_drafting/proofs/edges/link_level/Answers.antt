@@ -1,6 +1,6 @@
 use Rattle.std.proofs.Common.{◌<◌, ◌^◌, ℕ, sym, subst}
 use Rattle.ak_family.specs.Families.{level_at}
-use Rattle.ak_family.specs.Drafting.{changes_at}
+use Rattle.ak_family.specs.LevelDrafts.{changes_at}
 use Rattle.ak_drafting.proofs.Unchanged.{none_support}
 use Rattle.ak_drafting.proofs.LinkedLevels.{level_linked, some_shown}
 use Rattle.ak_drafting.proofs.edges.link_level.Goals as goal

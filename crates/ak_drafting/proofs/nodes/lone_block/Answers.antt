@@ -1,5 +1,5 @@
 use Rattle.std.proofs.Common.{[], ◌∷◌}
-use Rattle.ak_family.specs.Drafting.{labels_shown, key_shown}
+use Rattle.ak_family.specs.LevelDrafts.{labels_shown, key_shown}
 use Rattle.ak_drafting.proofs.LoneBlocks.{lone_label}
 use Rattle.ak_drafting.proofs.nodes.lone_block.Goals as goal
 

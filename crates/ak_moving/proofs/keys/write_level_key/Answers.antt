@@ -1,6 +1,6 @@
 use Rattle.std.proofs.Common.{rules}
 use Rattle.px_spec.specs.Members.{at}
-use Rattle.ak_family.specs.Drafting.{blocks_shown}
+use Rattle.ak_family.specs.LevelDrafts.{blocks_shown}
 use Rattle.ak_moving.proofs.keys.write_level_key.Goals as goal
 
 pub returns : goal.returns

@@ -1,10 +1,10 @@
 use Rattle.std.proofs.Common.{ℕ, List, sym, subst, arith, take, get_or}
 use Rattle.std.proofs.lemmas.List.{take_more}
-use Rattle.graph_update.specs.Pending.{graph_after}
+use Rattle.graph_update.specs.PendingChanges.{graph_after}
 use Rattle.ak_moving.specs.Costs.{place_cost}
 use Rattle.ak_moving.specs.Placed.{ArePlaced}
-use Rattle.near_nodes.proofs.Costing.{sum_next}
-use Rattle.ak_moving.proofs.Costing.{sum_first}
+use Rattle.near_nodes.proofs.SearchCosts.{sum_next}
+use Rattle.ak_moving.proofs.PlacingCosts.{sum_first}
 use Rattle.ak_moving.proofs.Nodes.{placed_next}
 use Rattle.ak_moving.proofs.level.place_all.Goals as goal
 

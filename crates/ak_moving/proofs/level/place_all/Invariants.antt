@@ -1,6 +1,6 @@
 use Rattle.std.proofs.Common.{◌+◌, ◌≤◌, take}
 use Rattle.std.specs.List.{sum_by}
-use Rattle.graph_update.specs.Pending.{graph_after}
+use Rattle.graph_update.specs.PendingChanges.{graph_after}
 use Rattle.ak_moving.specs.Placed.{ArePlaced}
 use Rattle.ak_moving.specs.Costs.{place_cost}
 use Rattle.ak_moving.proofs.level.place_all.Given as goal

@@ -3,10 +3,10 @@ use Rattle.px_spec.specs.Members.{has, Lists}
 use Rattle.px_spec.specs.Shapes.{shape_of}
 use Rattle.px_spec.proofs.GraphLaws.{is_shape}
 use Rattle.bisim_spec.specs.Reach.{near}
-use Rattle.graph_update.specs.Pending.{graph_after}
+use Rattle.graph_update.specs.PendingChanges.{graph_after}
 use Rattle.keyed_quotient.specs.Changes.{KeyedChanges, blocks_as_shown}
 use Rattle.ak_family.specs.Families.{level_at}
-use Rattle.ak_moving.proofs.Costing.{level_most, spent_most}
+use Rattle.ak_moving.proofs.PlacingCosts.{level_most, spent_most}
 use Rattle.ak_moving.proofs.Levels.{moving_placed, keyed_next, keyed_all}
 use Rattle.ak_moving.proofs.moving.move_near.Goals as goal
 

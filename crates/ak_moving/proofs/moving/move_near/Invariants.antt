@@ -3,9 +3,9 @@ use Rattle.px_spec.specs.Members.{has}
 use Rattle.px_spec.specs.Shapes.{shape_of}
 use Rattle.bisim_spec.specs.Reach.{near}
 use Rattle.bisim_spec.specs.Weights.{weight}
-use Rattle.graph_update.specs.Pending.{graph_after}
-use Rattle.ak_family.specs.Drafting.{blocks_shown}
-use Rattle.ak_moving.specs.Moving.{IsMoving}
+use Rattle.graph_update.specs.PendingChanges.{graph_after}
+use Rattle.ak_family.specs.LevelDrafts.{blocks_shown}
+use Rattle.ak_moving.specs.MovedLevels.{IsMoving}
 use Rattle.ak_moving.proofs.Levels.{AreKeyedTo}
 use Rattle.ak_moving.proofs.moving.move_near.Given as goal
 

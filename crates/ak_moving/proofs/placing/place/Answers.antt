@@ -2,8 +2,8 @@ use Rattle.std.proofs.Common.{◌+◌, ℕ, List, sym, ◌∙◌, subst}
 use Rattle.px_spec.specs.Graphs.{has_edge}
 use Rattle.px_spec.specs.Members.{Lists, at}
 use Rattle.bisim_levels.proofs.Written.{key_of}
-use Rattle.graph_update.specs.Pending.{graph_after}
-use Rattle.ak_family.specs.Drafting.{blocks_shown, labels_shown, key_shown, HasBlock}
+use Rattle.graph_update.specs.PendingChanges.{graph_after}
+use Rattle.ak_family.specs.LevelDrafts.{blocks_shown, labels_shown, key_shown, HasBlock}
 use Rattle.ak_moving.proofs.Nodes.{placed_none, placed_one}
 use Rattle.ak_moving.proofs.placing.place.Goals as goal
 

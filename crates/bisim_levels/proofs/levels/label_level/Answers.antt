@@ -1,6 +1,6 @@
 use Rattle.std.proofs.Common.{arith, sym, true≢false}
 use Rattle.label_graph.specs.ViewLaws.{below_span}
-use Rattle.bisim_levels.proofs.Numbering.{numbered_more, numbered_all, numbered_refines, numbered_below}
+use Rattle.bisim_levels.proofs.NumberedNodes.{numbered_more, numbered_all, numbered_refines, numbered_below}
 use Rattle.bisim_levels.proofs.LevelLaws.{labels_agree}
 use Rattle.bisim_levels.proofs.levels.label_level.Goals as goal
 

@@ -3,7 +3,7 @@ use Rattle.label_graph.specs.Views.{label_number}
 use Rattle.key_table.specs.NumberedKeys.{AreDistinct}
 use Rattle.bisim_levels.specs.Sides.{no_neighbours}
 use Rattle.bisim_levels.specs.Recent.{own_number, AreRecent}
-use Rattle.bisim_levels.proofs.Numbering.{NumberedBelow}
+use Rattle.bisim_levels.proofs.NumberedNodes.{NumberedBelow}
 use Rattle.bisim_levels.proofs.levels.label_level.Given as goal
 
 abbrev pub invariant-loop-n : goal.invariant-loop-n

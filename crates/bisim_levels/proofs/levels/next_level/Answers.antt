@@ -3,7 +3,7 @@ use Rattle.px_spec.specs.Members.{at}
 use Rattle.bisim_levels.specs.declared.refining.Level.{Level}
 use Rattle.bisim_levels.specs.declared.sides.Side.TheVariants.{Parents}
 use Rattle.bisim_levels.specs.Sides.{is_near}
-use Rattle.bisim_levels.specs.Refining.{Refines}
+use Rattle.bisim_levels.specs.Refinement.{Refines}
 use Rattle.bisim_levels.proofs.LevelLaws.{bis_up}
 use Rattle.bisim_levels.proofs.levels.next_level.Goals as goal
 

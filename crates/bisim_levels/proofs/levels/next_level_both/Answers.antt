@@ -4,7 +4,7 @@ use Rattle.px_spec.specs.Members.{at}
 use Rattle.bisim_levels.specs.declared.refining.Level.{Level}
 use Rattle.bisim_levels.specs.declared.sides.Side.TheVariants.{Children}
 use Rattle.bisim_levels.specs.Sides.{is_near}
-use Rattle.bisim_levels.specs.Refining.{Refines, AreNumbered}
+use Rattle.bisim_levels.specs.Refinement.{Refines, AreNumbered}
 use Rattle.bisim_levels.proofs.LevelLaws.{both_up}
 use Rattle.bisim_levels.proofs.levels.next_level_both.Goals as goal
 

@@ -1,6 +1,6 @@
 use Rattle.std.proofs.Common.{arith}
 use Rattle.label_graph.specs.ViewLaws.{below_span}
-use Rattle.bisim_levels.proofs.Numbering.{numbered_more, numbered_all, numbered_refines, numbered_below}
+use Rattle.bisim_levels.proofs.NumberedNodes.{numbered_more, numbered_all, numbered_refines, numbered_below}
 use Rattle.bisim_levels.proofs.Views.{node_number, near_block}
 use Rattle.bisim_levels.proofs.refining.refine.Goals as goal
 

@@ -2,7 +2,7 @@ use Rattle.key_table.specs.NumberedKeys.{AreDistinct}
 use Rattle.px_spec.specs.Members.{at}
 use Rattle.bisim_levels.specs.Sides.{is_near}
 use Rattle.bisim_levels.specs.Recent.{two_numbers, AreRecent}
-use Rattle.bisim_levels.proofs.Numbering.{NumberedBelow}
+use Rattle.bisim_levels.proofs.NumberedNodes.{NumberedBelow}
 use Rattle.bisim_levels.proofs.refining.refine.Given as goal
 
 abbrev pub invariant-loop-n : goal.invariant-loop-n

@@ -1,5 +1,5 @@
 use Rattle.std.proofs.Common.{◌≡◌, ◌+◌, length}
-use Rattle.block_filling.specs.Filling.{SameBelow}
+use Rattle.block_filling.specs.FilledTables.{SameBelow}
 use Rattle.block_filling.proofs.filling.append_nodes.Given as goal
 
 abbrev pub invariant-loop-n : goal.invariant-loop-n

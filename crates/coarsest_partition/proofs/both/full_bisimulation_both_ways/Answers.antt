@@ -1,4 +1,4 @@
-use Rattle.coarsest_partition.proofs.Fitting.{fits_with}
+use Rattle.coarsest_partition.proofs.IndexBlocks.{fits_with}
 use Rattle.coarsest_partition.proofs.both.full_bisimulation_both_ways.Goals as goal
 
 pub returns-clause-fits : goal.returns-clause-fits

@@ -1,5 +1,5 @@
 use Rattle.std.proofs.Common.{map, string_bytes, ◌∙◌}
-use Rattle.command_line.proofs.Reading.{matched, refused}
+use Rattle.command_line.proofs.ClapWords.{matched, refused}
 use Rattle.command_line.proofs.given.matches.Goals as goal
 
 pub returns-in-Ok : goal.returns-in-Ok

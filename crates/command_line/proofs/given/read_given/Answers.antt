@@ -1,5 +1,5 @@
 use Rattle.std.proofs.Common.{map, string_bytes}
-use Rattle.command_line.proofs.Reading.{gathered, not_gathered}
+use Rattle.command_line.proofs.ClapWords.{gathered, not_gathered}
 use Rattle.command_line.proofs.given.read_given.Goals as goal
 
 pub returns-in-Some : goal.returns-in-Some

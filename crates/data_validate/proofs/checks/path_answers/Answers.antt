@@ -5,7 +5,7 @@ use Rattle.px_spec.specs.Members.{has}
 use Rattle.px_spec.specs.Shapes.{shape_by}
 use Rattle.path_spec.specs.Answers.{AreAnswers}
 use Rattle.path_spec.specs.Parts.{part_of}
-use Rattle.data_validate.specs.Leading.{IsLeading}
+use Rattle.data_validate.specs.Ancestors.{IsLeading}
 use Rattle.data_validate.proofs.Walks.{near_sound, near_complete}
 use Rattle.data_validate.proofs.checks.path_answers.Goals as goal
 

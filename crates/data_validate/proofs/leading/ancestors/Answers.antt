@@ -1,5 +1,5 @@
 use Rattle.std.proofs.Common.{◌≡◌, ◌+◌, ◌<◌, ◌≤◌, ℕ, length, subst, sym, ap, ◌∙◌, inl, inr, arith, IfSome}
-use Rattle.data_validate.specs.Leading.{IsSpread}
+use Rattle.data_validate.specs.Ancestors.{IsSpread}
 use Rattle.data_validate.proofs.Rounds.{IsMet, met_next, met_closed, met_enough}
 use Rattle.data_validate.proofs.leading.ancestors.Goals as goal
 

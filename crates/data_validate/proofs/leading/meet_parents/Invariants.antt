@@ -1,5 +1,5 @@
 use Rattle.std.proofs.Common.{◌≡◌, ◌+◌, ◌≤◌, take}
-use Rattle.data_validate.specs.Leading.{IsSpread}
+use Rattle.data_validate.specs.Ancestors.{IsSpread}
 use Rattle.data_validate.proofs.leading.meet_parents.Given as goal
 
 abbrev pub invariant-loop-i : goal.invariant-loop-i

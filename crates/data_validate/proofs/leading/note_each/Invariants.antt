@@ -1,6 +1,6 @@
 use Rattle.std.proofs.Common.{◌≡◌, take}
 use Rattle.px_spec.specs.Members.{has}
-use Rattle.data_validate.specs.Leading.{IsNoted}
+use Rattle.data_validate.specs.Ancestors.{IsNoted}
 use Rattle.data_validate.proofs.leading.note_each.Given as goal
 
 abbrev pub invariant-loop-i : goal.invariant-loop-i

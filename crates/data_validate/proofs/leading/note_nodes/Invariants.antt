@@ -1,6 +1,6 @@
 use Rattle.std.proofs.Common.{◌≡◌, ◌≤◌, ◌-◌}
 use Rattle.std.specs.Prelude.{is_some}
-use Rattle.data_validate.specs.Leading.{IsNoted}
+use Rattle.data_validate.specs.Ancestors.{IsNoted}
 use Rattle.data_validate.proofs.Kept.{is_kept}
 use Rattle.data_validate.proofs.leading.note_nodes.Given as goal
 

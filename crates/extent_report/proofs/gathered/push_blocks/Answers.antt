@@ -1,5 +1,5 @@
 use Rattle.extent_report.specs.Summaries.{line_at}
-use Rattle.extent_report.proofs.Rising.{flat_more}
+use Rattle.extent_report.proofs.RisingLists.{flat_more}
 use Rattle.extent_report.proofs.gathered.push_blocks.Goals as goal
 
 pub loop-n-preserved : goal.loop-n-preserved

@@ -1,6 +1,6 @@
 use Rattle.std.proofs.Common.{◌∷◌}
 use Rattle.px_spec.specs.Words.{node_word}
-use Rattle.extent_report.proofs.Rising.{flat_more}
+use Rattle.extent_report.proofs.RisingLists.{flat_more}
 use Rattle.extent_report.proofs.gathered.push_nodes.Goals as goal
 
 pub loop-n-preserved : goal.loop-n-preserved

@@ -6,7 +6,7 @@ use Rattle.extent_report.specs.Chains.{leads}
 use Rattle.extent_report.specs.Summaries.{line_at}
 use Rattle.extent_report.proofs.Summed.{gathered, line_at_other}
 use Rattle.extent_report.proofs.LeastMembers.{led_below}
-use Rattle.extent_report.proofs.Rising.{texts_listed, count_listed}
+use Rattle.extent_report.proofs.RisingLists.{texts_listed, count_listed}
 use Rattle.extent_report.proofs.gathered.text_by_members.Goals as goal
 
 pub returns : goal.returns

@@ -1,7 +1,7 @@
 use Rattle.std.proofs.Common.{◌||◌, ap, ◌∙◌}
 use Rattle.px_spec.specs.Members.{has}
 use Rattle.block_partition.specs.Partitions.{is_member}
-use Rattle.extent_report.proofs.Rising.{or_none}
+use Rattle.extent_report.proofs.RisingLists.{or_none}
 use Rattle.extent_report.proofs.leads.fill_members.Goals as goal
 
 pub returns-clause-members : goal.returns-clause-members

@@ -1,4 +1,4 @@
-use Rattle.keyed_quotient.specs.Compacting.{AreCarried}
+use Rattle.keyed_quotient.specs.CarriedKeys.{AreCarried}
 use Rattle.keyed_quotient.proofs.compacting.anew.Given as goal
 
 abbrev pub invariant-blocks-2 : goal.invariant-blocks-2

@@ -4,11 +4,11 @@ use Rattle.px_spec.specs.Members.{has, Lists}
 use Rattle.px_spec.specs.Shapes.{shape_of}
 use Rattle.px_spec.proofs.GraphLaws.{is_shape}
 use Rattle.bisim_spec.specs.Reach.{reach}
-use Rattle.graph_update.specs.Pending.{graph_after}
+use Rattle.graph_update.specs.PendingChanges.{graph_after}
 use Rattle.near_nodes.specs.Costs.{children_cost}
 use Rattle.near_nodes.specs.Searches.{IsSpread}
 use Rattle.near_nodes.proofs.Distances.{met_first}
-use Rattle.near_nodes.proofs.Spreading.{first_again}
+use Rattle.near_nodes.proofs.MetChildren.{first_again}
 use Rattle.near_nodes.proofs.Rounds.{IsReaching, reaching_first, reaching_next, reaching_all, reaching_few, reaching_most, reaching_part}
 use Rattle.near_nodes.proofs.reaching.reached_nodes.Goals as goal
 

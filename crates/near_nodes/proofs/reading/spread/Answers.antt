@@ -2,10 +2,10 @@ use Rattle.std.proofs.Common.{◌≡◌, ◌+◌, ◌<◌, length, arith, ap, sy
 use Rattle.std.proofs.lemmas.List.Sums.{sum_by-take-le}
 use Rattle.std.specs.Prelude.{slice_index}
 use Rattle.px_spec.specs.Shapes.{shape_of}
-use Rattle.graph_update.specs.Pending.{graph_after}
+use Rattle.graph_update.specs.PendingChanges.{graph_after}
 use Rattle.near_nodes.specs.Costs.{children_cost}
-use Rattle.near_nodes.proofs.Spreading.{spread_more, stays_at, spread_longer}
-use Rattle.near_nodes.proofs.Costing.{sum_next}
+use Rattle.near_nodes.proofs.MetChildren.{spread_more, stays_at, spread_longer}
+use Rattle.near_nodes.proofs.SearchCosts.{sum_next}
 use Rattle.near_nodes.proofs.reading.spread.Goals as goal
 
 pub node_at-n-requires : goal.node_at-n-requires

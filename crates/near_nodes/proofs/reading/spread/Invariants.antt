@@ -1,7 +1,7 @@
 use Rattle.std.proofs.Common.{◌+◌, ◌≤◌, take}
 use Rattle.std.specs.List.{sum_by}
 use Rattle.px_spec.specs.Shapes.{shape_of}
-use Rattle.graph_update.specs.Pending.{graph_after}
+use Rattle.graph_update.specs.PendingChanges.{graph_after}
 use Rattle.near_nodes.specs.Costs.{children_cost}
 use Rattle.near_nodes.specs.Searches.{IsSpread}
 use Rattle.near_nodes.proofs.reading.spread.Given as goal

@@ -3,12 +3,12 @@ use Rattle.std.specs.List.{sum_by}
 use Rattle.px_spec.specs.Members.{has}
 use Rattle.px_spec.specs.Shapes.{shape_of}
 use Rattle.px_spec.proofs.GraphLaws.{is_shape}
-use Rattle.graph_update.specs.Pending.{graph_after}
+use Rattle.graph_update.specs.PendingChanges.{graph_after}
 use Rattle.near_nodes.specs.Costs.{children_cost}
 use Rattle.near_nodes.specs.Searches.{IsSpread}
 use Rattle.near_nodes.proofs.Distances.{IsSearched, met_first, searched_first, searched_next}
-use Rattle.near_nodes.proofs.Spreading.{first_again}
-use Rattle.near_nodes.proofs.Costing.{search_most, first_most}
+use Rattle.near_nodes.proofs.MetChildren.{first_again}
+use Rattle.near_nodes.proofs.SearchCosts.{search_most, first_most}
 use Rattle.near_nodes.proofs.searching.near_nodes.Goals as goal
 
 pub loop-init : goal.loop-init

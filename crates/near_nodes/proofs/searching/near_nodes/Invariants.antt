@@ -2,7 +2,7 @@ use Rattle.std.proofs.Common.{◌≡◌, ◌+◌, ◌≤◌, take}
 use Rattle.std.specs.List.{sum_by}
 use Rattle.px_spec.specs.Members.{has}
 use Rattle.px_spec.specs.Shapes.{shape_of}
-use Rattle.graph_update.specs.Pending.{graph_after}
+use Rattle.graph_update.specs.PendingChanges.{graph_after}
 use Rattle.near_nodes.specs.Costs.{children_cost}
 use Rattle.near_nodes.proofs.Distances.{IsSearched}
 use Rattle.near_nodes.proofs.searching.near_nodes.Given as goal

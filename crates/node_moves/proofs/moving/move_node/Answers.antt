@@ -3,7 +3,7 @@ use Rattle.std.specs.FinSet as set
 use Rattle.px_spec.specs.Members.{Lists}
 use Rattle.px_spec.proofs.GraphLaws.{is_shape}
 use Rattle.bisim_spec.specs.Views.{support_at}
-use Rattle.graph_update.specs.Pending.{graph_after}
+use Rattle.graph_update.specs.PendingChanges.{graph_after}
 use Rattle.quotient_draft.specs.Drafts.{with_moves, with_supports, shown_blocks, shown_support}
 use Rattle.node_moves.specs.Shifts.{from_count, MovesNode}
 use Rattle.node_moves.proofs.Moved.{moved_set, moved_same, moved_at, parts_most, shifted_all, room_for}

@@ -2,7 +2,7 @@ use Rattle.std.proofs.Common.{arith}
 use Rattle.px_spec.specs.Graphs.{has_edge}
 use Rattle.px_spec.specs.Shapes.{shape_of}
 use Rattle.px_spec.proofs.GraphLaws.{is_shape}
-use Rattle.graph_update.specs.Pending.{graph_after}
+use Rattle.graph_update.specs.PendingChanges.{graph_after}
 use Rattle.upkeep_spec.proofs.Sums.{few_lists}
 use Rattle.node_moves.proofs.reading.read_children.Goals as goal
 

@@ -1,5 +1,5 @@
 use Rattle.std.proofs.Common.{◌≡◌, ◌∙◌, ℕ, Bool, List, Option, Some, ◌^◌, get_or, slice_set, arith, sym, ap, subst}
-use Rattle.bisim_spec.specs.Touching.{joins_off}
+use Rattle.bisim_spec.specs.NodeEdges.{joins_off}
 use Rattle.quotient.specs.Joined.{one_if}
 use Rattle.quotient_draft.specs.Drafts.{with_moves, shown_blocks, shown_support}
 use Rattle.node_moves.specs.Shifts.{from_count, MovesNode}

@@ -3,7 +3,7 @@ use Rattle.std.specs.FinSet as set
 use Rattle.px_spec.specs.Graphs.{Graph}
 use Rattle.px_spec.specs.Changes.{Change, node, after}
 use Rattle.bisim_spec.specs.Views.{support_at}
-use Rattle.graph_update.specs.Pending.{Pending, graph_after}
+use Rattle.graph_update.specs.PendingChanges.{Pending, graph_after}
 use Rattle.quotient_draft.specs.Drafts.{Drafted, shown_blocks, shown_support, with_supports}
 use Rattle.node_moves.proofs.Alone.{alone, unsupported}
 use Rattle.node_moves.proofs.tests.check_move.Goals as goal

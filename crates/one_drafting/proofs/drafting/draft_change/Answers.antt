@@ -1,8 +1,8 @@
 use Rattle.std.proofs.Common.{subst}
-use Rattle.graph_update.specs.Judging.{change_of}
-use Rattle.graph_update.specs.Pending.{Pending}
-use Rattle.one_drafting.specs.Drafting.{IsDrafted}
-use Rattle.one_drafting.proofs.Settling.{drafted_fits, drafted_from, drafted_onto}
+use Rattle.graph_update.specs.Verdicts.{change_of}
+use Rattle.graph_update.specs.PendingChanges.{Pending}
+use Rattle.one_drafting.specs.OneDrafts.{IsDrafted}
+use Rattle.one_drafting.proofs.SettledDrafts.{drafted_fits, drafted_from, drafted_onto}
 use Rattle.one_drafting.proofs.drafting.draft_change.Goals as goal
 
 pub returns-clause-drafted : goal.returns-clause-drafted

@@ -1,5 +1,5 @@
 use Rattle.std.proofs.Common.{sym, ◌∙◌, arith}
-use Rattle.graph_update.specs.Pending.{graph_after}
+use Rattle.graph_update.specs.PendingChanges.{graph_after}
 use Rattle.one_drafting.proofs.Pendings.{parent_yes, parent_no, parents_few, lost_most}
 use Rattle.one_drafting.proofs.linking.has_parent_in.Goals as goal
 

@@ -2,7 +2,7 @@ use Rattle.std.proofs.Common.{ℕ, ◌≤◌, ◌^◌, ◌∙◌, ap, sym, subst
 use Rattle.std.specs.FinSet as set
 use Rattle.bisim_spec.specs.Fits.{FitsOne}
 use Rattle.quotient.specs.Quotients.{view_of}
-use Rattle.graph_update.specs.Pending.{Pending}
+use Rattle.graph_update.specs.PendingChanges.{Pending}
 use Rattle.one_drafting.proofs.tests.is_parting.Goals as goal
 
 pub are_parted-requires-clause-before : goal.are_parted-requires-clause-before

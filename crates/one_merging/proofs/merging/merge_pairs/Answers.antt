@@ -3,7 +3,7 @@ use Rattle.px_spec.specs.Members.{at, has}
 use Rattle.px_spec.specs.Shapes.{Shape}
 use Rattle.quotient_draft.specs.Drafts.{shown_labels, shown_blocks}
 use Rattle.block_joining.specs.Mates.{shown_joined}
-use Rattle.one_merging.specs.Merging.{IsShown, AreShownMates, AreShownSuspects}
+use Rattle.one_merging.specs.ShownMerges.{IsShown, AreShownMates, AreShownSuspects}
 use Rattle.one_merging.proofs.Counted.{fewer}
 use Rattle.one_merging.proofs.Laws.{merging_start, merged_more, merging_end, if_some, if_none}
 use Rattle.one_merging.proofs.merging.merge_pairs.Goals as goal

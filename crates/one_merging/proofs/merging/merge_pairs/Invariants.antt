@@ -7,7 +7,7 @@ use Rattle.upkeep_spec.specs.Supported.{AreEdgeCounts}
 use Rattle.quotient_draft.specs.Drafts.{shown_labels, shown_blocks, shown_support}
 use Rattle.quotient_draft.specs.Basis.{IsOver}
 use Rattle.block_joining.specs.Mates.{shown_joined}
-use Rattle.one_merging.specs.Merging.{IsShown, HasShownGraph, AreShownSuspects, IsMerging, inhabited}
+use Rattle.one_merging.specs.ShownMerges.{IsShown, HasShownGraph, AreShownSuspects, IsMerging, inhabited}
 use Rattle.one_merging.proofs.merging.merge_pairs.Given as goal
 
 abbrev pub invariant-pairs : goal.invariant-pairs

@@ -2,7 +2,7 @@ use Rattle.std.proofs.Common.{◌≡◌, ℕ, None, rules}
 use Rattle.px_spec.specs.Members.{at}
 use Rattle.quotient_draft.specs.Drafts.{shown_labels, shown_blocks}
 use Rattle.block_joining.specs.Mates.{shown_joined}
-use Rattle.one_merging.specs.Merging.{AreNoShownMates}
+use Rattle.one_merging.specs.ShownMerges.{AreNoShownMates}
 use Rattle.one_merging.proofs.Laws.{cleared, suspects_or, suspects_none, if_none}
 use Rattle.one_merging.proofs.merging.next_pair.Goals as goal
 

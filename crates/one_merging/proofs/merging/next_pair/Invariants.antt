@@ -1,7 +1,7 @@
 use Rattle.std.proofs.Common.{IsTrue, length}
 use Rattle.px_spec.specs.Members.{has}
 use Rattle.px_spec.specs.Shapes.{Shape}
-use Rattle.one_merging.specs.Merging.{IsShown, AreShownSuspects}
+use Rattle.one_merging.specs.ShownMerges.{IsShown, AreShownSuspects}
 use Rattle.one_merging.proofs.merging.next_pair.Given as goal
 
 abbrev pub invariant-look : goal.invariant-look

@@ -1,4 +1,4 @@
-use Rattle.one_merging.specs.Merging.{AreNoShownMates}
+use Rattle.one_merging.specs.ShownMerges.{AreNoShownMates}
 use Rattle.one_merging.proofs.Laws.{more_hold, take_end}
 use Rattle.one_merging.proofs.partners.find_among.Goals as goal
 

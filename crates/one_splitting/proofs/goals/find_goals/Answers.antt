@@ -3,7 +3,7 @@ use Rattle.px_spec.specs.Members.{at}
 use Rattle.quotient_draft.specs.Drafts.{shown_blocks, shown_labels}
 use Rattle.one_splitting.specs.NodeGoals.{BeginsAt, StaysIf, GoesIf, AreGoing, GoalsAreBlocks, AreAdded, GoalsHaveLabels}
 use Rattle.one_splitting.proofs.Chosen.{AreNoted}
-use Rattle.one_splitting.proofs.Choosing.{IsChosen, choose_step, begins_long, begins_own}
+use Rattle.one_splitting.proofs.ChosenGoals.{IsChosen, choose_step, begins_long, begins_own}
 use Rattle.one_splitting.proofs.Named.{some_kept, labels_more}
 use Rattle.one_splitting.proofs.Present.{live_kept}
 use Rattle.one_splitting.proofs.goals.find_goals.Goals as goal

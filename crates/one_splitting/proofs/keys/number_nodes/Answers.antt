@@ -3,12 +3,12 @@ use Rattle.std.specs.Prelude.{slice_index, Bool}
 use Rattle.px_spec.specs.Graphs.{has_edge}
 use Rattle.px_spec.specs.Members.{at}
 use Rattle.bisim_levels.specs.Keys.{IsKey}
-use Rattle.graph_update.specs.Pending.{graph_after}
+use Rattle.graph_update.specs.PendingChanges.{graph_after}
 use Rattle.quotient_draft.specs.Drafts.{shown_blocks}
 use Rattle.node_moves.specs.Costs.{parents_cost}
 use Rattle.one_splitting.specs.Numbered.{HaveNumbers}
 use Rattle.one_splitting.proofs.ListSums.{sum_next, sum_first}
-use Rattle.one_splitting.proofs.Numbering.{numbered_more}
+use Rattle.one_splitting.proofs.NumberedNodes.{numbered_more}
 use Rattle.one_splitting.proofs.keys.number_nodes.Goals as goal
 
 pub returns-in_err-push-clause-cost : goal.returns-in_err-push-clause-cost

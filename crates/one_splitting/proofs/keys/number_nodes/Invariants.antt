@@ -1,7 +1,7 @@
 use Rattle.std.proofs.Common.{◌≡◌, ◌≤◌, ◌+◌, take, length}
 use Rattle.std.specs.List.{sum_by}
 use Rattle.px_spec.specs.Graphs.{has_edge}
-use Rattle.graph_update.specs.Pending.{graph_after}
+use Rattle.graph_update.specs.PendingChanges.{graph_after}
 use Rattle.quotient_draft.specs.Drafts.{shown_blocks}
 use Rattle.node_moves.specs.Costs.{parents_cost}
 use Rattle.one_splitting.specs.Numbered.{HaveNumbers}

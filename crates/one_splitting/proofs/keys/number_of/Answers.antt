@@ -5,7 +5,7 @@ use Rattle.px_spec.specs.Graphs.{has_edge}
 use Rattle.key_table.specs.NumberedKeys.{Interns}
 use Rattle.bisim_levels.specs.Keys.{IsKey}
 use Rattle.bisim_levels.proofs.Written.{key_of}
-use Rattle.graph_update.specs.Pending.{graph_after}
+use Rattle.graph_update.specs.PendingChanges.{graph_after}
 use Rattle.quotient_draft.specs.Drafts.{shown_blocks}
 use Rattle.one_splitting.proofs.keys.number_of.Goals as goal
 

@@ -1,7 +1,7 @@
 use Rattle.std.proofs.Common.{◌≡◌, ◌<◌, length, arith, subst, ◌∙◌}
 use Rattle.std.specs.Prelude.{slice_index}
 use Rattle.px_spec.specs.Shapes.{shape_of}
-use Rattle.graph_update.specs.Pending.{graph_after}
+use Rattle.graph_update.specs.PendingChanges.{graph_after}
 use Rattle.quotient_draft.specs.Drafts.{shown_blocks}
 use Rattle.one_splitting.specs.Costs.{move_cost}
 use Rattle.one_splitting.specs.NodeGoals.{goal_at, HaveGone}

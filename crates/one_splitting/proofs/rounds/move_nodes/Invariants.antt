@@ -3,7 +3,7 @@ use Rattle.std.specs.List.{sum_by}
 use Rattle.px_spec.specs.Shapes.{shape_of}
 use Rattle.bisim_spec.specs.Partitions.{IsPartition}
 use Rattle.upkeep_spec.specs.Supported.{AreEdgeCounts}
-use Rattle.graph_update.specs.Pending.{graph_after}
+use Rattle.graph_update.specs.PendingChanges.{graph_after}
 use Rattle.quotient_draft.specs.Basis.{IsOver}
 use Rattle.quotient_draft.specs.Drafts.{shown_blocks, shown_support}
 use Rattle.one_splitting.specs.Costs.{move_cost}

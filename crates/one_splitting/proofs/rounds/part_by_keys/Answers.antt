@@ -3,7 +3,7 @@ use Rattle.px_spec.specs.Graphs.{has_edge}
 use Rattle.px_spec.specs.Members.{at}
 use Rattle.px_spec.specs.Shapes.{shape_of}
 use Rattle.upkeep_spec.specs.Named.{AreNamed}
-use Rattle.graph_update.specs.Pending.{graph_after}
+use Rattle.graph_update.specs.PendingChanges.{graph_after}
 use Rattle.quotient_draft.specs.Drafts.{shown_blocks, shown_labels, with_added}
 use Rattle.one_splitting.specs.Counted.{AreCounted}
 use Rattle.one_splitting.specs.NodeGoals.{HaveGone}

@@ -4,7 +4,7 @@ use Rattle.std.specs.Prelude.{nat_eq}
 use Rattle.std.specs.List.{IsDistinct, filter}
 use Rattle.px_spec.specs.Shapes.{shape_of}
 use Rattle.upkeep_spec.specs.Splits.{IsClosed, IsSplitInside}
-use Rattle.graph_update.specs.Pending.{graph_after}
+use Rattle.graph_update.specs.PendingChanges.{graph_after}
 use Rattle.quotient_draft.specs.Drafts.{shown_blocks}
 use Rattle.one_splitting.specs.Costs.{round_cost}
 use Rattle.one_splitting.specs.Counted.{has_company}

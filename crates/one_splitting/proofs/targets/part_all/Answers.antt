@@ -3,7 +3,7 @@ use Rattle.std.specs.Prelude.{slice_index}
 use Rattle.px_spec.specs.Members.{at, has}
 use Rattle.px_spec.specs.Shapes.{shape_of}
 use Rattle.label_graph.specs.Views.{label_number}
-use Rattle.graph_update.specs.Pending.{graph_after}
+use Rattle.graph_update.specs.PendingChanges.{graph_after}
 use Rattle.quotient_draft.specs.Drafts.{shown_blocks, shown_labels}
 use Rattle.one_splitting.specs.Costs.{move_cost}
 use Rattle.one_splitting.proofs.Apart.{blocks_none}

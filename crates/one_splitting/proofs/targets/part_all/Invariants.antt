@@ -7,7 +7,7 @@ use Rattle.label_graph.specs.Views.{label_number}
 use Rattle.upkeep_spec.specs.Named.{AreNamedOff}
 use Rattle.upkeep_spec.specs.Splits.{IsClosed}
 use Rattle.upkeep_spec.specs.Supported.{AreEdgeCounts}
-use Rattle.graph_update.specs.Pending.{graph_after}
+use Rattle.graph_update.specs.PendingChanges.{graph_after}
 use Rattle.quotient_draft.specs.Basis.{IsOver}
 use Rattle.quotient_draft.specs.Drafts.{shown_blocks, shown_labels, shown_support}
 use Rattle.one_splitting.specs.Costs.{move_cost}

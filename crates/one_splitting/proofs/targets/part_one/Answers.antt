@@ -3,7 +3,7 @@ use Rattle.px_spec.specs.Members.{at}
 use Rattle.px_spec.specs.Shapes.{shape_of}
 use Rattle.bisim_spec.proofs.Bisimilar.{some_of, is_some_at}
 use Rattle.label_graph.specs.Views.{label_number}
-use Rattle.graph_update.specs.Pending.{graph_after}
+use Rattle.graph_update.specs.PendingChanges.{graph_after}
 use Rattle.quotient_draft.specs.Drafts.{shown_blocks, shown_labels, with_added}
 use Rattle.upkeep_spec.specs.Named.{AreNamedOff}
 use Rattle.one_splitting.specs.NodeGoals.{AreBlocks}

@@ -7,7 +7,7 @@ use Rattle.px_spec.proofs.GraphLaws.{is_shape}
 use Rattle.label_graph.specs.Views.{label_number}
 use Rattle.bisim_spec.specs.Weights.{weight, size_of}
 use Rattle.upkeep_spec.specs.Splits.{IsSplitInside}
-use Rattle.graph_update.specs.Pending.{graph_after}
+use Rattle.graph_update.specs.PendingChanges.{graph_after}
 use Rattle.quotient_draft.specs.Drafts.{shown_blocks}
 use Rattle.one_splitting.specs.Costs.{round_cost}
 use Rattle.one_splitting.proofs.Bounds.{size_most}

@@ -8,7 +8,7 @@ use Rattle.bisim_spec.specs.Weights.{weight}
 use Rattle.upkeep_spec.specs.Named.{AreNamed}
 use Rattle.upkeep_spec.specs.Splits.{IsClosed, IsSplitInside}
 use Rattle.upkeep_spec.specs.Supported.{AreEdgeCounts}
-use Rattle.graph_update.specs.Pending.{graph_after}
+use Rattle.graph_update.specs.PendingChanges.{graph_after}
 use Rattle.quotient_draft.specs.Basis.{IsOver}
 use Rattle.quotient_draft.specs.Drafts.{shown_blocks, shown_labels, shown_support}
 use Rattle.one_splitting.specs.Costs.{HasCost}

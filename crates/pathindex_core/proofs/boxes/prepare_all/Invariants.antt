@@ -1,5 +1,5 @@
 use Rattle.std.proofs.Common.{map}
-use Rattle.graph_update.specs.Judging.{change_of}
+use Rattle.graph_update.specs.Verdicts.{change_of}
 use Rattle.index_api.specs.Meanings.{IsPrepared}
 use Rattle.pathindex_core.specs.Boxes.{BecomeBelow}
 use Rattle.pathindex_core.proofs.boxes.prepare_all.Given as goal

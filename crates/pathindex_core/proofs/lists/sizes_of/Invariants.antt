@@ -3,7 +3,7 @@ use Rattle.label_graph.specs.Views.{live_count, edge_count}
 use Rattle.index_api.specs.Places.{all_indexes}
 use Rattle.index_api.specs.Kept.{kept_of}
 use Rattle.extent_report.specs.Listing.{head_line}
-use Rattle.pathindex_core.proofs.Showing.{AreFirstSizes}
+use Rattle.pathindex_core.proofs.ShownViews.{AreFirstSizes}
 use Rattle.pathindex_core.proofs.lists.sizes_of.Given as goal
 
 abbrev pub invariant-loop-via : goal.invariant-loop-via

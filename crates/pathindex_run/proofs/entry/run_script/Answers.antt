@@ -5,7 +5,7 @@ use Rattle.pathindex_core.specs.Engines.{engine_seen, graph_in}
 use Rattle.script_run.specs.States.{left_out}
 use Rattle.pathindex_run.specs.ToldFiles.{BeginsTold}
 use Rattle.pathindex_run.proofs.RunLemmas.{stopped}
-use Rattle.pathindex_run.proofs.Openings.{opened_for}
+use Rattle.pathindex_run.proofs.OpeningStates.{opened_for}
 use Rattle.pathindex_run.proofs.entry.run_script.Goals as goal
 
 pub run_open-requires-clause-begins : goal.run_open-requires-clause-begins

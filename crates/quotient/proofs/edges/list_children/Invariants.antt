@@ -1,5 +1,5 @@
 use Rattle.std.proofs.Common.{◌≡◌, ◌++◌, take}
-use Rattle.bisim_spec.specs.Touching.{edges_from}
+use Rattle.bisim_spec.specs.NodeEdges.{edges_from}
 use Rattle.quotient.proofs.edges.list_children.Given as goal
 
 abbrev pub invariant-loop-child : goal.invariant-loop-child

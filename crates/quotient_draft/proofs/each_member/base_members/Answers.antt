@@ -1,5 +1,5 @@
 use Rattle.std.proofs.Common.{sym, ◌∙◌}
-use Rattle.quotient_draft.proofs.Remaining.{lists_no_members}
+use Rattle.quotient_draft.proofs.ShownMembers.{lists_no_members}
 use Rattle.quotient_draft.proofs.each_member.base_members.Goals as goal
 
 pub returns : goal.returns

@@ -1,5 +1,5 @@
 use Rattle.std.proofs.Common.{◌≡◌, length, filter}
-use Rattle.quotient_draft.specs.Remaining.{is_unmoved}
+use Rattle.quotient_draft.specs.ShownMembers.{is_unmoved}
 use Rattle.quotient_draft.proofs.each_member.next_unmoved.Given as goal
 
 abbrev pub invariant-members : goal.invariant-members

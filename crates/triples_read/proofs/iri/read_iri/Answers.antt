@@ -1,5 +1,5 @@
 use Rattle.std.proofs.Common.{◌∙◌, sym}
-use Rattle.triples_read.proofs.Opening.{iri-found, iri-whole}
+use Rattle.triples_read.proofs.OpeningQuotes.{iri-found, iri-whole}
 use Rattle.triples_read.proofs.iri.read_iri.Goals as goal
 
 pub returns-in_default-clause-whole : goal.returns-in_default-clause-whole

@@ -3,7 +3,7 @@ use Rattle.std.specs.Prelude.{IsUtf8}
 use Rattle.triples_read.specs.Lines.{IsIriFront}
 use Rattle.triples_read.specs.Quotes.{IsQuoted}
 use Rattle.triples_read.specs.declared.quoted.Quote.TheVariants.{Angle}
-use Rattle.triples_read.proofs.Opening.{quoted-within}
+use Rattle.triples_read.proofs.OpeningQuotes.{quoted-within}
 use Rattle.triples_read.proofs.IriFronts.{front-cut}
 use Rattle.triples_read.proofs.iri.read_iri_front.Goals as goal
 

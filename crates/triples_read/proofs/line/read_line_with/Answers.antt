@@ -1,5 +1,5 @@
 use Rattle.std.proofs.Common.{◌≡◌, ◌∙◌, sym, ap, inl, Ok, Some, List, ℕ}
-use Rattle.triples_read.specs.Reading.{past_blanks}
+use Rattle.triples_read.specs.ByteReaders.{past_blanks}
 use Rattle.triples_read.proofs.Basics.{no_both}
 use Rattle.triples_read.proofs.LineLaws.{line-stands, line-empty, empty-found, line-found}
 use Rattle.triples_read.proofs.line.read_line_with.Goals as goal

@@ -1,5 +1,5 @@
 use Rattle.std.proofs.Common.{◌≡◌, ◌∙◌, sym, ap, subst, List, ℕ, ◌++◌, arith, inl, inr, Bool, Some, true, false}
-use Rattle.triples_read.specs.Reading.{past_blanks, starts_with}
+use Rattle.triples_read.specs.ByteReaders.{past_blanks, starts_with}
 use Rattle.triples_read.specs.Lines.{Suffix}
 use Rattle.triples_read.specs.Fronts.{Front, IsText}
 use Rattle.triples_read.proofs.Basics.{no_both, cons-tail}

@@ -1,6 +1,6 @@
 use Rattle.triples_read.specs.Quotes.{Escape, escape_at}
 use Rattle.triples_read.proofs.Pieces.{escape-within}
-use Rattle.triples_read.proofs.Quoting.{quote_escapes}
+use Rattle.triples_read.proofs.QuotedPieces.{quote_escapes}
 use Rattle.triples_read.proofs.quoted.escape.Goals as goal
 
 pub returns-clause-within : goal.returns-clause-within

@@ -1,11 +1,11 @@
 use Rattle.std.proofs.Common.{◌≡◌, ◌∙◌, ap, sym, subst, false, List, ℕ, ◌∷◌}
 use Rattle.std.specs.Prelude.{string_bytes}
 use Rattle.triples_read.specs.Bodies.{Adds, Body}
-use Rattle.triples_read.specs.Reading.{starts_with}
+use Rattle.triples_read.specs.ByteReaders.{starts_with}
 use Rattle.triples_read.specs.Quotes.{inner, Escape, escape_at, closing, PieceIn}
 use Rattle.triples_read.proofs.FrontLaws.{behind-utf8}
 use Rattle.triples_read.proofs.Pieces.{adds-then, adds-none, stop-none}
-use Rattle.triples_read.proofs.Quoting.{quote_kind, quote_escapes}
+use Rattle.triples_read.proofs.QuotedPieces.{quote_kind, quote_escapes}
 use Rattle.triples_read.proofs.quoted.take_piece.Goals as goal
 
 pub returns-in-Some-clause-end : goal.returns-in-Some-clause-end

@@ -4,7 +4,7 @@ use Rattle.std.specs.Prelude.{string_bytes, IsUtf8}
 use Rattle.std.proofs.lemmas.Str.{IsUtf8-drop}
 use Rattle.triples_read.specs.Quotes.{inner, Escape, escape_at, closing}
 use Rattle.triples_read.proofs.Pieces.{run-added, run-boundary, run-stops}
-use Rattle.triples_read.proofs.Quoting.{quote_kind, quote_escapes}
+use Rattle.triples_read.proofs.QuotedPieces.{quote_kind, quote_escapes}
 use Rattle.triples_read.proofs.quoted.take_run.Goals as goal
 
 pub split_at-requires : goal.split_at-requires

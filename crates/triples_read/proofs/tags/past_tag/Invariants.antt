@@ -1,5 +1,5 @@
 use Rattle.std.proofs.Common.{◌≡◌, length, true}
-use Rattle.triples_read.specs.Reading.{past_tag}
+use Rattle.triples_read.specs.ByteReaders.{past_tag}
 use Rattle.triples_read.proofs.tags.past_tag.Given as goal
 
 abbrev pub invariant-bytes : goal.invariant-bytes

@@ -1,5 +1,5 @@
 use Rattle.std.proofs.Common.{◌≡◌, ◌∙◌, sym, ap, true, List, ℕ, Option}
-use Rattle.triples_read.specs.Reading.{past_tag}
+use Rattle.triples_read.specs.ByteReaders.{past_tag}
 use Rattle.triples_read.proofs.TagLaws.{tag-none, tag-within, tag-boundary, tag-found, tag-only}
 use Rattle.triples_read.proofs.tags.read_tag.Goals as goal
 

@@ -1,4 +1,4 @@
-use Rattle.ak_family.specs.Drafting.{labels_shown, key_shown}
+use Rattle.ak_family.specs.LevelDrafts.{labels_shown, key_shown}
 use Rattle.ak_family.proofs.KeyedBlocks.{made_block}
 use Rattle.ak_family.proofs.family.AkFamily.further_block.Goals as goal
 

@@ -1,4 +1,4 @@
-use Rattle.ak_family.specs.Drafting.{labels_shown, key_shown}
+use Rattle.ak_family.specs.LevelDrafts.{labels_shown, key_shown}
 use Rattle.ak_family.proofs.KeyedBlocks.{found_block}
 use Rattle.ak_family.proofs.family.AkFamily.keyed_block.Goals as goal
 

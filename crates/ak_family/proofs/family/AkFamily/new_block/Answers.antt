@@ -2,7 +2,7 @@ use Rattle.std.proofs.Common.{List, ◌∙◌, ap, sym, subst}
 use Rattle.keyed_quotient.specs.Levels.{KeyedQuotient}
 use Rattle.keyed_quotient.specs.Changes.{IsKeyedOver}
 use Rattle.ak_family.specs.Families.{level_at}
-use Rattle.ak_family.specs.Drafting.{AreOver}
+use Rattle.ak_family.specs.LevelDrafts.{AreOver}
 use Rattle.ak_family.proofs.Drafted.{over_set}
 use Rattle.ak_family.proofs.family.AkFamily.new_block.Goals as goal
 

@@ -2,7 +2,7 @@ use Rattle.std.proofs.Common.{List, length, ◌≡◌, ◌<◌, ◌∙◌, ap, s
 use Rattle.keyed_quotient.specs.Levels.{KeyedQuotient}
 use Rattle.keyed_quotient.specs.Changes.{KeyedChanges}
 use Rattle.ak_family.specs.Families.{IsKeyedFamily}
-use Rattle.ak_family.specs.Drafting.{AreSettled}
+use Rattle.ak_family.specs.LevelDrafts.{AreSettled}
 use Rattle.ak_family.proofs.FamilyKept.{settled_family}
 use Rattle.ak_family.proofs.Drafted.{empty_over}
 use Rattle.ak_family.proofs.family.AkFamily.settle.Goals as goal

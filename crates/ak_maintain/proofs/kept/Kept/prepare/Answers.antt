@@ -1,5 +1,5 @@
 use Rattle.std.proofs.Common.{length, sym, ◌∙◌, ap, subst}
-use Rattle.ak_drafting.specs.Drafting.{FamilyFits}
+use Rattle.ak_drafting.specs.FamilyDrafts.{FamilyFits}
 use Rattle.ak_maintain.specs.KeptFamilies.{KeptFamily}
 use Rattle.ak_maintain.proofs.kept.Kept.prepare.Goals as goal
 

@@ -2,8 +2,8 @@ use Rattle.std.proofs.Common.{◌+◌, ◌-◌, ◌∙◌, arith, sym, ap, subst
 use Rattle.px_spec.specs.Changes.{after}
 use Rattle.label_graph.specs.Views.{edge_count}
 use Rattle.graph_update.specs.NewChanges.{IsNew, IsNewLink, IsNewUnlink}
-use Rattle.graph_update.specs.Judging.{change_of}
-use Rattle.graph_update.specs.Pending.{Pending, graph_after}
+use Rattle.graph_update.specs.Verdicts.{change_of}
+use Rattle.graph_update.specs.PendingChanges.{Pending, graph_after}
 use Rattle.graph_update.proofs.EdgeCounts.{more_edges, some_edges, fewer_edges}
 use Rattle.graph_update.proofs.pending.After.edge_count.Goals as goal
 

@@ -2,8 +2,8 @@ use Rattle.std.proofs.Common.{◌≡◌, ◌∙◌, ap, sym, subst, length}
 use Rattle.std.specs.Prelude.{IsTrue, slice_get, bytes_eq, position, option_and_then}
 use Rattle.px_spec.specs.Graphs.{is_live}
 use Rattle.px_spec.specs.Changes.{with_label, after}
-use Rattle.graph_update.specs.Judging.{change_of}
-use Rattle.graph_update.specs.Pending.{graph_after}
+use Rattle.graph_update.specs.Verdicts.{change_of}
+use Rattle.graph_update.specs.PendingChanges.{graph_after}
 use Rattle.graph_update.proofs.ChangedLabels.{live-old, live-kept, text-old, text-kept, number-old, number-kept, label-new}
 use Rattle.graph_update.proofs.pending.After.label.Goals.{in_default-via-in-Node+else-n-created, in_default-via-in_default}
 use Rattle.graph_update.proofs.pending.After.label.Goals as goal

@@ -1,5 +1,5 @@
 use Rattle.graph_update.proofs.ChangedGraphs.{graph_changed}
-use Rattle.graph_update.specs.Judging.{change_of}
+use Rattle.graph_update.specs.Verdicts.{change_of}
 use Rattle.graph_update.proofs.pending.After.new.Goals as goal
 
 pub returns-clause-after : goal.returns-clause-after

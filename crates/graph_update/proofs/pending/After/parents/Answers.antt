@@ -3,7 +3,7 @@ use Rattle.px_spec.specs.Graphs.{has_edge}
 use Rattle.px_spec.specs.Changes.{after}
 use Rattle.std.proofs.lemmas.Bool.{ne_eqb}
 use Rattle.graph_update.specs.NewChanges.{IsNew, IsNewLink}
-use Rattle.graph_update.specs.Judging.{change_of}
+use Rattle.graph_update.specs.Verdicts.{change_of}
 use Rattle.graph_update.proofs.ChangedEdges.{relist, edges-kept, link-parents, link-parents_other, unlink-parents, unlink-parents_other}
 use Rattle.graph_update.proofs.pending.After.parents.Goals.{in_default-via-in-Link+else-n-to, in_default-via-in-Unlink+else-n-to-2, in_default-via-in_default}
 use Rattle.graph_update.proofs.pending.After.parents.Goals as goal

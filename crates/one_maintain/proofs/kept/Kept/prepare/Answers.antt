@@ -1,6 +1,6 @@
 use Rattle.std.proofs.Common.{◌≡◌, false, sym, subst, ap, ◌∙◌}
 use Rattle.quotient.specs.Quotients.{view_of}
-use Rattle.one_drafting.specs.Drafting.{IsSupported}
+use Rattle.one_drafting.specs.OneDrafts.{IsSupported}
 use Rattle.one_maintain.specs.KeptQuotients.{KeptQuotient, IsKeptDraft}
 use Rattle.one_maintain.proofs.Staged.{covers_cleared}
 use Rattle.one_maintain.proofs.kept.Kept.prepare.Goals as goal

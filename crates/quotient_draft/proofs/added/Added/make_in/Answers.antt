@@ -2,7 +2,7 @@ use Rattle.std.proofs.Common.{◌∙◌, ℕ, List, arith, sym, subst, ap, lengt
 use Rattle.std.specs.Prelude.{slice_get}
 use Rattle.quotient.specs.Quotients.{Quotient, PairRoom}
 use Rattle.quotient_draft.specs.Basis.{AreLeastFree}
-use Rattle.quotient_draft.proofs.Making.{same_number_given, added_next}
+use Rattle.quotient_draft.proofs.AppliedDrafts.{same_number_given, added_next}
 use Rattle.quotient_draft.proofs.added.Added.make_in.Goals as goal
 
 pub new_block-requires-clause-span : goal.new_block-requires-clause-span

@@ -4,8 +4,8 @@ use Rattle.std.specs.Map.{lookup, keys_of}
 use Rattle.px_spec.specs.Members.{at}
 use Rattle.block_partition.specs.Partitions.{Partition}
 use Rattle.quotient_draft.specs.Drafts.{is_pair}
-use Rattle.quotient_draft.proofs.Making.{supports_next}
-use Rattle.quotient_draft.proofs.Counting.{key_at, room_here, room_used}
+use Rattle.quotient_draft.proofs.AppliedDrafts.{supports_next}
+use Rattle.quotient_draft.proofs.PairCounts.{key_at, room_here, room_used}
 use Rattle.quotient_draft.proofs.changed.Changed.make_in.Goals as goal
 
 pub set_support-requires-clause-from : goal.set_support-requires-clause-from

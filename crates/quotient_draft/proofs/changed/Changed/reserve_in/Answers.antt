@@ -4,7 +4,7 @@ use Rattle.std.specs.Map.{lookup, keys_of}
 use Rattle.quotient.specs.Kept.{GivesMore}
 use Rattle.quotient_draft.specs.Drafts.{is_pair}
 use Rattle.quotient_draft.specs.Rooms.{from_count}
-use Rattle.quotient_draft.proofs.Counting.{key_at, room_met}
+use Rattle.quotient_draft.proofs.PairCounts.{key_at, room_met}
 use Rattle.quotient_draft.proofs.Noted.{ends_count}
 use Rattle.quotient_draft.proofs.changed.Changed.reserve_in.Goals as goal
 

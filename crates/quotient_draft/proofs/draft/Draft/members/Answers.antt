@@ -1,8 +1,8 @@
 use Rattle.std.proofs.Common.{[], subst, unwrap_or}
 use Rattle.px_spec.specs.Members.{Lists, at, is_this}
 use Rattle.quotient_draft.specs.Drafts.{Drafted, with_moves}
-use Rattle.quotient_draft.specs.Remaining.{members_left}
-use Rattle.quotient_draft.proofs.Remaining.{members_listed}
+use Rattle.quotient_draft.specs.ShownMembers.{members_left}
+use Rattle.quotient_draft.proofs.ShownMembers.{members_listed}
 use Rattle.quotient_draft.proofs.draft.Draft.members.Goals as goal
 
 pub returns : goal.returns

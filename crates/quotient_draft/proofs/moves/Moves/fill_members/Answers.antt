@@ -1,7 +1,7 @@
 use Rattle.std.proofs.Common.{◌||◌, ◌∙◌, ℕ, List, ap}
 use Rattle.px_spec.specs.Members.{has}
 use Rattle.quotient_draft.specs.PutLogs.{is_kept, is_moved_to}
-use Rattle.quotient_draft.proofs.Listing.{shown_members}
+use Rattle.quotient_draft.proofs.ListedMembers.{shown_members}
 use Rattle.quotient_draft.proofs.moves.Moves.fill_members.Goals as goal
 
 pub returns : goal.returns

@@ -3,7 +3,7 @@ use Rattle.std.specs.Prelude.{IsSome, nat_eq}
 use Rattle.std.specs.Map.{lookup}
 use Rattle.px_spec.specs.Members.{at}
 use Rattle.quotient_draft.specs.Kept.{KeptMoves}
-use Rattle.quotient_draft.proofs.Making.{moves_next, if_block, for_block}
+use Rattle.quotient_draft.proofs.AppliedDrafts.{moves_next, if_block, for_block}
 use Rattle.quotient_draft.proofs.moves.Moves.make_in.Goals as goal
 
 pub put-requires-clause-block : goal.put-requires-clause-block

@@ -2,7 +2,7 @@ use Rattle.std.proofs.Common.{◌<◌, ◌^◌, ◌∙◌, ℕ, Option, Some, ar
 use Rattle.std.specs.Prelude.{nat_eq}
 use Rattle.std.specs.Map.{lookup}
 use Rattle.quotient_draft.specs.Kept.{KeptMoves}
-use Rattle.quotient_draft.proofs.Making.{before_none, before_next, before_all, for_block}
+use Rattle.quotient_draft.proofs.AppliedDrafts.{before_none, before_next, before_all, for_block}
 use Rattle.quotient_draft.proofs.moves.Moves.past.Goals as goal
 
 pub loop-i-init : goal.loop-i-init

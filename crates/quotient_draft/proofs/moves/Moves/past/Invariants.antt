@@ -1,5 +1,5 @@
 use Rattle.std.proofs.Common.{◌≤◌, ◌^◌}
-use Rattle.quotient_draft.proofs.Making.{AreBefore}
+use Rattle.quotient_draft.proofs.AppliedDrafts.{AreBefore}
 use Rattle.quotient_draft.proofs.moves.Moves.past.Given as goal
 
 abbrev pub invariant-loop-i : goal.invariant-loop-i

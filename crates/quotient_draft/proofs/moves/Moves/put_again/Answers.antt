@@ -1,7 +1,7 @@
 use Rattle.std.proofs.Common.{◌∙◌, ℕ, List, Option, Some, sym, subst, ap, cond, ◌<◌, ◌≤◌, length, arith}
 use Rattle.std.specs.Prelude.{nat_eq}
 use Rattle.std.specs.Map.{lookup}
-use Rattle.quotient_draft.proofs.Making.{if_block}
+use Rattle.quotient_draft.proofs.AppliedDrafts.{if_block}
 use Rattle.px_spec.specs.Members.{at, is_this}
 use Rattle.quotient_draft.specs.Drafts.{with_moves}
 use Rattle.quotient_draft.specs.Kept.{KeptMoves, counted, into_count, taken_count, AreTaken}

@@ -9,7 +9,7 @@ use Rattle.label_graph.proofs.Viewed.{viewed_shape}
 use Rattle.block_partition.specs.Partitions.{Partition}
 use Rattle.block_splitting.specs.Splits.{AreLabelled, AreInhabited}
 use Rattle.bisim_spec.specs.Partitions.{IsPartition}
-use Rattle.coarsest_partition.specs.Fitting.{FitsWithSupports}
+use Rattle.coarsest_partition.specs.IndexBlocks.{FitsWithSupports}
 use Rattle.bisim_spec.proofs.Bisimilar.{some_of, is_some_at}
 
 found : (o : Option ℕ) (seen : List (List ℕ)) (t : List ℕ) → option_and_then (slice_get seen) o ≡ Some t → (l : ℕ) × (o ≡ Some l) × (slice_get seen l ≡ Some t)

@@ -12,7 +12,7 @@ use Rattle.quotient_draft.specs.Drafts.{settled_view}
 use Rattle.keyed_quotient.specs.Levels.{KeyedQuotient}
 use Rattle.keyed_quotient.specs.Changes.{KeyedChanges}
 use Rattle.ak_family.specs.Families.{level_at}
-use Rattle.ak_family.specs.Drafting.{changes_at}
+use Rattle.ak_family.specs.LevelDrafts.{changes_at}
 
 -- each level is that of the graph
 abbrev pub FamilyFits : Graph → List KeyedQuotient → Type 0

@@ -14,11 +14,11 @@ pub record Pending : Type 0 where
 abbrev Parts : Type 0
 Parts = List ℕ ⊎ ((ℕ × ℕ) ⊎ ((ℕ × ℕ) ⊎ ℕ))
 
-abbrev parts_of : Change → Parts
-parts_of (node t) = inl t
-parts_of (link u v) = inr (inl (u, v))
-parts_of (unlink u v) = inr (inr (inl (u, v)))
-parts_of (drop u) = inr (inr (inr u))
+abbrev change_parts : Change → Parts
+change_parts (node t) = inl t
+change_parts (link u v) = inr (inl (u, v))
+change_parts (unlink u v) = inr (inr (inl (u, v)))
+change_parts (drop u) = inr (inr (inr u))
 
 abbrev with_parts : Parts → Change
 with_parts (inl t) = node t
@@ -26,7 +26,7 @@ with_parts (inr (inl e)) = link e.0 e.1
 with_parts (inr (inr (inl e))) = unlink e.0 e.1
 with_parts (inr (inr (inr u))) = drop u
 
-pub whole_again : (c : Change) → with_parts (parts_of c) ≡ c
+pub whole_again : (c : Change) → with_parts (change_parts c) ≡ c
 whole_again (node t) = refl
 whole_again (link u v) = refl
 whole_again (unlink u v) = refl
@@ -34,7 +34,7 @@ whole_again (drop u) = refl
 
 abbrev pub change_code : Coded Change
 change_code =
-    code_by Parts (coded⊎ (coded_list coded_ℕ) (coded⊎ (coded× coded_ℕ coded_ℕ) (coded⊎ (coded× coded_ℕ coded_ℕ) coded_ℕ))) parts_of with_parts
+    code_by Parts (coded⊎ (coded_list coded_ℕ) (coded⊎ (coded× coded_ℕ coded_ℕ) (coded⊎ (coded× coded_ℕ coded_ℕ) coded_ℕ))) change_parts with_parts
     whole_again
 
 abbrev pub pending_code : Coded Pending

@@ -8,7 +8,7 @@ use Rattle.graph_load.specs.Loads.{IsWithinFile, Loads, LoadsFrom, Place, at_sta
 use Rattle.graph_load.specs.TripleGraphs.{LoadState, nothing_loaded}
 use Rattle.made_texts.specs.MadeTexts.{after_line, graph_line, graph_lines, lines_text, made_graph_text}
 use Rattle.made_lines.proofs.ProperGraph.{fed, graph_cut, line_proper}
-use Rattle.made_lines.proofs.Taking.{HasAtMost, Takes, new_taken, nothing_has, triple_taken}
+use Rattle.made_lines.proofs.TakenTriples.{HasAtMost, Takes, new_taken, nothing_has, triple_taken}
 
 -- what may have come of that many lines
 abbrev HasLoaded : ℕ → ℕ → LoadState → Type 0

@@ -13,7 +13,7 @@ use Rattle.bisim_spec.specs.Reach.{near}
 use Rattle.bisim_spec.specs.Weights.{weight_at, weight}
 use Rattle.bisim_spec.proofs.BelowLaws.{bit_of}
 use Rattle.bisim_spec.proofs.Reached.{near_cases, near_more}
-use Rattle.graph_update.specs.Pending.{Pending, graph_after, lost_edge, lost_from}
+use Rattle.graph_update.specs.PendingChanges.{Pending, graph_after, lost_edge, lost_from}
 use Rattle.near_nodes.specs.Costs.{children_cost}
 use Rattle.upkeep_spec.proofs.Sums.{where_in, sum_listed, sum_most, sum_plus}
 use Rattle.near_nodes.proofs.Distances.{IsSearched}

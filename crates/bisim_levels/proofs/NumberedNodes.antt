@@ -8,7 +8,7 @@ use Rattle.px_spec.specs.Members.{at}
 use Rattle.bisim_spec.proofs.Bisimilar.{some_of, none_or_some, is_some_at}
 use Rattle.bisim_spec.proofs.Together.{block_below}
 use Rattle.bisim_levels.specs.Keys.{IsKey}
-use Rattle.bisim_levels.specs.Refining.{Refines, AreNumbered, AreBlocksBelow, Numbers}
+use Rattle.bisim_levels.specs.Refinement.{Refines, AreNumbered, AreBlocksBelow, Numbers}
 use Rattle.bisim_levels.proofs.Written.{together_from_key, key_from_together}
 
 -- the nodes below n are numbered

@@ -9,7 +9,7 @@ use Rattle.path_spec.specs.Matches.{Word, joined, AnyWord, Then, Pieces, Matches
 use Rattle.path_spec.specs.Tests.{splits, cuts, pieces, is_nothing, is_one, matches, seq_matches, item_matches, atom_matches}
 
 -- the test says whether the word is of the kind
-pub record Says (p : Word → Bool) (P : Word → Type 0) : Type 0 where
+pub record Decides (p : Word → Bool) (P : Word → Type 0) : Type 0 where
   pub yes_is : (w : Word) → p w ≡ true → P w
   pub is_yes : (w : Word) → P w → p w ≡ true
 
@@ -25,13 +25,13 @@ split_finds p q [] [] h k = and_from (p []) (q []) h k
 split_finds p q [] (t ∷ b) h k = or_left (p [] && q (t ∷ b)) (splits (λ a. p (t ∷ a)) q b) (and_from (p []) (q (t ∷ b)) h k)
 split_finds p q (t ∷ a) b h k = or_right (p [] && q (t ∷ (a ++ b))) (splits (λ a. p (t ∷ a)) q (a ++ b)) (split_finds (λ a. p (t ∷ a)) q a b h k)
 
-says_then : (p q : Word → Bool) (P Q : Word → Type 0) → Says p P → Says q Q → Says (splits p q) (Then P Q)
+says_then : (p q : Word → Bool) (P Q : Word → Type 0) → Decides p P → Decides q Q → Decides (splits p q) (Then P Q)
 says_then p q P Q h k = record {
   yes_is = λ w e. let s = split_found p q w e in (s.0, s.1, h.yes_is s.0 s.2, k.yes_is s.1 s.3, s.4);
   is_yes = λ w t. subst (λ x. splits p q x ≡ true) (sym t.4) (split_finds p q t.0 t.1 (h.is_yes t.0 t.2) (k.is_yes t.1 t.3));
 }
 
-cut_found : (p : Word → Bool) (P : Word → Type 0) → Says p P → (n : ℕ) (w : Word) → cuts n p w ≡ true → Pieces P w
+cut_found : (p : Word → Bool) (P : Word → Type 0) → Decides p P → (n : ℕ) (w : Word) → cuts n p w ≡ true → Pieces P w
 cut_found p P h n [] e = ([], tt, refl)
 cut_found p P h zero (t ∷ w) e = absurd (true≢false (sym e))
 cut_found p P h (suc n) (t ∷ w) e =
@@ -39,7 +39,7 @@ cut_found p P h (suc n) (t ∷ w) e =
     let r = cut_found p P h n s.1 s.3 in
     ((t ∷ s.0) ∷ r.0, (h.yes_is (t ∷ s.0) s.2, r.1), ap (λ x. t ∷ x) s.4 ∙ ap (λ x. t ∷ (s.0 ++ x)) r.2)
 
-cut_finds : (p : Word → Bool) (P : Word → Type 0) → Says p P → (ps : List Word) (n : ℕ) → AllByRecursion P ps → length (joined ps) ≤ n → cuts n p (joined ps) ≡ true
+cut_finds : (p : Word → Bool) (P : Word → Type 0) → Decides p P → (ps : List Word) (n : ℕ) → AllByRecursion P ps → length (joined ps) ≤ n → cuts n p (joined ps) ≡ true
 cut_finds p P h [] zero all l = refl
 cut_finds p P h [] (suc n) all l = refl
 cut_finds p P h ([] ∷ ps) n all l = cut_finds p P h ps n all.1 l
@@ -48,13 +48,13 @@ cut_finds p P h ((t ∷ a) ∷ ps) (suc n) all l =
     split_finds (λ a. p (t ∷ a)) (λ b. cuts n p b) a (joined ps) (h.is_yes (t ∷ a) all.0)
     (cut_finds p P h ps n all.1 (omega (arith, length-append a (joined ps))))
 
-says_pieces : (p : Word → Bool) (P : Word → Type 0) → Says p P → Says (pieces p) (Pieces P)
+says_pieces : (p : Word → Bool) (P : Word → Type 0) → Decides p P → Decides (pieces p) (Pieces P)
 says_pieces p P h = record {
   yes_is = λ w e. cut_found p P h (length w) w e;
   is_yes = λ w k. subst (λ x. pieces p x ≡ true) (sym k.2) (cut_finds p P h k.0 (length (joined k.0)) k.1 (omega arith));
 }
 
-says_any_word : Says (λ v. true) AnyWord
+says_any_word : Decides (λ v. true) AnyWord
 says_any_word = record { yes_is = λ w e. tt; is_yes = λ w k. refl }
 
 nothing_is : (w : Word) → is_nothing w ≡ true → w ≡ []
@@ -71,25 +71,25 @@ any_is [] e = absurd (true≢false (sym e))
 any_is (r ∷ []) e = (r, refl)
 any_is (r ∷ q ∷ w) e = absurd (true≢false (sym e))
 
-says_either : (p q : Word → Bool) (P Q : Word → Type 0) → Says p P → Says q Q → Says (λ w. p w || q w) (λ w. P w ⊎ Q w)
+says_either : (p q : Word → Bool) (P Q : Word → Type 0) → Decides p P → Decides q Q → Decides (λ w. p w || q w) (λ w. P w ⊎ Q w)
 says_either p q P Q h k = record {
   yes_is = λ w e. elim (or_cases (p w) (q w) e) [ inl a ↦ inl (h.yes_is w a) | inr b ↦ inr (k.yes_is w b) ];
   is_yes = λ w t. elim t [ inl a ↦ or_left (p w) (q w) (h.is_yes w a) | inr b ↦ or_right (p w) (q w) (k.is_yes w b) ];
 }
 
 mutual
-  pub says : (e : Expr) → Says (matches e) (Matches e)
+  pub says : (e : Expr) → Decides (matches e) (Matches e)
   says (only s) = says_seq s
   says (or s e) = says_either (seq_matches s) (matches e) (MatchesSeq s) (Matches e) (says_seq s) (says e)
 
-  pub says_seq : (s : Seq) → Says (seq_matches s) (MatchesSeq s)
+  pub says_seq : (s : Seq) → Decides (seq_matches s) (MatchesSeq s)
   says_seq (last i) = says_item i
   says_seq (then i child s) = says_then (item_matches i) (seq_matches s) (MatchesItem i) (MatchesSeq s) (says_item i) (says_seq s)
   says_seq (then i below s) =
       says_then (item_matches i) (splits (λ v. true) (seq_matches s)) (MatchesItem i) (Then AnyWord (MatchesSeq s)) (says_item i)
       (says_then (λ v. true) (seq_matches s) AnyWord (MatchesSeq s) says_any_word (says_seq s))
 
-  pub says_item : (i : Item) → Says (item_matches i) (MatchesItem i)
+  pub says_item : (i : Item) → Decides (item_matches i) (MatchesItem i)
   says_item (once a) = says_atom a
   says_item (signed a star) = says_pieces (atom_matches a) (MatchesAtom a) (says_atom a)
   says_item (signed a plus) =
@@ -99,7 +99,7 @@ mutual
       says_either is_nothing (atom_matches a) (λ w. w ≡ []) (MatchesAtom a)
       (record { yes_is = nothing_is; is_yes = λ w e. ap is_nothing e }) (says_atom a)
 
-  says_atom : (a : Atom) → Says (atom_matches a) (MatchesAtom a)
+  says_atom : (a : Atom) → Decides (atom_matches a) (MatchesAtom a)
   says_atom (label t) = record { yes_is = label_is t; is_yes = λ w e. ap (is_one (bytes_eq t)) e ∙ (bytes_eq-Decides t t).1 refl }
   says_atom any = record { yes_is = any_is; is_yes = λ w k. ap (is_one (λ t. true)) k.1 }
   says_atom (group e) = says e

@@ -16,7 +16,7 @@ use Rattle.bisim_spec.specs.OneStep.{OneStep}
 use Rattle.bisim_spec.specs.Views.{View, support_at}
 use Rattle.bisim_spec.specs.Fits.{FitsOne}
 use Rattle.graph_update.specs.NewChanges.{IsNew}
-use Rattle.graph_update.specs.Pending.{Pending}
+use Rattle.graph_update.specs.PendingChanges.{Pending}
 use Rattle.quotient.specs.Quotients.{Quotient, view_of}
 use Rattle.quotient_draft.specs.Drafts.{Drafted, shown_blocks, shown_labels, shown_support}
 use Rattle.quotient_draft.specs.Basis.{IsOver}

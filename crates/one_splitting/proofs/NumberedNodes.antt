@@ -6,7 +6,7 @@ use Rattle.std.proofs.lemmas.List.{get_or_push, get_or_append_left, length-appen
 use Rattle.key_table.specs.NumberedKeys.{Interns}
 use Rattle.px_spec.specs.Members.{at}
 use Rattle.bisim_levels.specs.Keys.{IsKey}
-use Rattle.bisim_levels.proofs.Numbering.{get_append, get_last}
+use Rattle.bisim_levels.proofs.NumberedNodes.{get_append, get_last}
 use Rattle.one_splitting.specs.Numbered.{HasNumber, HaveNumbers}
 
 interned_stay : (old new : List (List ℕ)) (key : List ℕ) (i k : ℕ) (x : List ℕ) → Interns old new key i → slice_get old k ≡ Some x → slice_get new k ≡ Some x

@@ -6,7 +6,7 @@ use Rattle.bisim_spec.specs.Reach.{near}
 use Rattle.keyed_quotient.specs.Levels.{KeyedQuotient, key_at}
 use Rattle.keyed_quotient.specs.Changes.{KeyedChanges}
 use Rattle.ak_family.specs.Families.{level_at, blocks_at}
-use Rattle.ak_family.specs.Drafting.{blocks_shown, labels_shown, support_shown, key_shown, AreOver}
+use Rattle.ak_family.specs.LevelDrafts.{blocks_shown, labels_shown, support_shown, key_shown, AreOver}
 use Rattle.level_spec.specs.Keyed.{IsKeyed, KeysStay, SameFar, AreLabelled, IsLevelOf, LabelsGoUp}
 
 -- The draft shows the graph after the change at each level: a partition with the labels of members and the numbers of edges. The keys of blocks

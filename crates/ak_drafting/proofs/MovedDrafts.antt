@@ -20,9 +20,9 @@ use Rattle.level_spec.proofs.Moved.{keyed_level, keyed_after}
 use Rattle.level_spec.proofs.Lowest.{lowest_agrees}
 use Rattle.level_spec.proofs.Upheld.{around_each, around_every, none_from, none_onto}
 use Rattle.ak_family.specs.Families.{level_at, blocks_at, AreKeyedBySupports}
-use Rattle.ak_family.specs.Drafting.{changes_at, blocks_shown, labels_shown, support_shown, key_shown, ShowsFamily}
-use Rattle.ak_moving.specs.Moving.{IsMoving, AreKeyedNear}
-use Rattle.ak_drafting.specs.Drafting.{ShownFit}
+use Rattle.ak_family.specs.LevelDrafts.{changes_at, blocks_shown, labels_shown, support_shown, key_shown, ShowsFamily}
+use Rattle.ak_moving.specs.MovedLevels.{IsMoving, AreKeyedNear}
+use Rattle.ak_drafting.specs.FamilyDrafts.{ShownFit}
 use Rattle.ak_drafting.proofs.Bases.{next_is, AreBases}
 
 -- What is known once all nodes near the target have moved.

@@ -10,8 +10,8 @@ use Rattle.std.proofs.lemmas.Map.Views.{any-filter_same}
 use Rattle.px_spec.specs.Members.{Lists, at, has, is_this}
 use Rattle.quotient_draft.specs.Drafts.{with_moves}
 use Rattle.quotient_draft.specs.PutLogs.{is_goal, is_moved_to, is_kept}
-use Rattle.quotient_draft.specs.Remaining.{is_unmoved}
-use Rattle.quotient_draft.proofs.Listing.{shown_members}
+use Rattle.quotient_draft.specs.ShownMembers.{is_unmoved}
+use Rattle.quotient_draft.proofs.ListedMembers.{shown_members}
 use Rattle.quotient_draft.proofs.Supported.{lists_none}
 use Rattle.quotient_draft.proofs.Touched.{unkeyed}
 use Rattle.quotient_draft.proofs.Written.{number_is}

@@ -11,7 +11,7 @@ use Rattle.triples_read.specs.declared.quoted.Quote.{Quote}
 use Rattle.triples_read.specs.declared.quoted.Quote.TheVariants.{Angle, Double}
 use Rattle.triples_read.proofs.Basics.{cons-tail, take-past, scalars-right, split-encodes}
 use Rattle.triples_read.proofs.Pieces.{body-unique}
-use Rattle.triples_read.proofs.Quoting.{quote_kind, quote_escapes}
+use Rattle.triples_read.proofs.QuotedPieces.{quote_kind, quote_escapes}
 
 -- what follows a front of a text is a text
 pub text-rest : (b s r : List ℕ) → IsText b (s ++ r) → IsText (encodes r) r

@@ -3,7 +3,7 @@ use Rattle.std.proofs.Common.{◌≡◌, ℕ, zero, suc, ◌+◌, ◌<◌, Bool,
 use Rattle.std.specs.Prelude.{◌&&◌, ◌||◌, not, nat_eq}
 use Rattle.std.proofs.lemmas.List.Folds.{list_any_at}
 use Rattle.px_spec.specs.Members.{has}
-use Rattle.data_validate.specs.Leading.{IsNoted}
+use Rattle.data_validate.specs.Ancestors.{IsNoted}
 
 meets_as : (m p q r : Bool) → r ≡ (q || p) → ((m || p) || q) ≡ (m || r)
 meets_as true p q r e = refl

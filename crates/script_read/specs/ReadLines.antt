@@ -22,9 +22,9 @@ command_of (Forget kind) = forget kind
 
 -- The line is quiet; it spells this command, and passes no limit on queries; it passes one; or it spells nothing. Where memory
 -- runs out nothing is said.
-abbrev pub Reads : Limits → List ℕ → Result (Option Asked) ScriptError → Type 0
-Reads limits line (Ok None) = IsQuiet line
-Reads limits line (Ok (Some c)) = IsSpelled line (command_of c) × (¬ PassesLimit limits line)
-Reads limits line (Err Limit) = PassesLimit limits line
-Reads limits line (Err Bad) = SpellsNothing limits line
-Reads limits line (Err Memory) = ⊤
+abbrev pub ReadsCommand : Limits → List ℕ → Result (Option Asked) ScriptError → Type 0
+ReadsCommand limits line (Ok None) = IsQuiet line
+ReadsCommand limits line (Ok (Some c)) = IsSpelled line (command_of c) × (¬ PassesLimit limits line)
+ReadsCommand limits line (Err Limit) = PassesLimit limits line
+ReadsCommand limits line (Err Bad) = SpellsNothing limits line
+ReadsCommand limits line (Err Memory) = ⊤

@@ -12,7 +12,7 @@ use Rattle.bisim_spec.proofs.Supported.{support_joined}
 use Rattle.quotient.specs.Quotients.{Quotient}
 use Rattle.quotient_draft.specs.Drafts.{Drafted, has_member, inhabited_from, shown_blocks, shown_labels, shown_support, settled_view}
 use Rattle.quotient_draft.proofs.Gone.{member_at, member_there}
-use Rattle.one_drafting.specs.Drafting.{IsDrafted}
+use Rattle.one_drafting.specs.OneDrafts.{IsDrafted}
 
 abbrev none_label : Option ℕ
 none_label = None

@@ -1,7 +1,7 @@
 use Rattle.std.proofs.Common.{◌≡◌, ◌<◌, ℕ, false, map, slice_index_or}
 use Rattle.index_api.specs.Meanings.{Meaning}
 use Rattle.index_api.specs.Kept.{is_kind}
-use Rattle.pathindex_core.proofs.boxes.place_of.Given as goal
+use Rattle.pathindex_core.proofs.boxes.box_place.Given as goal
 
 abbrev pub invariant-loop-i : goal.invariant-loop-i
 invariant-loop-i g l =

@@ -9,7 +9,7 @@ use Rattle.std.proofs.lemmas.List.Sums.{sum_by-append}
 use Rattle.std.proofs.lemmas.Option.{slice_get-map}
 use Rattle.quotient.specs.Joined.{one_if}
 use Rattle.quotient.specs.Kept.{UsesOne, GivesMore}
-use Rattle.quotient_draft.proofs.Making.{take_next}
+use Rattle.quotient_draft.proofs.AppliedDrafts.{take_next}
 
 -- the key of an entry
 pub key_at : (es : List ((ℕ × ℕ) × ℕ)) (i : ℕ) (p : ℕ × ℕ) (n : ℕ) → slice_get es i ≡ Some (p, n) → slice_get (keys_of es) i ≡ Some p

@@ -11,8 +11,8 @@ use Rattle.bisim_spec.specs.Below.{sum_below}
 use Rattle.bisim_spec.specs.Reach.{near}
 use Rattle.bisim_spec.specs.Weights.{weight_at, weight}
 use Rattle.bisim_spec.proofs.Reached.{near_more}
-use Rattle.graph_update.specs.Pending.{Pending, graph_after, lost_edge, lost_from, lost_onto}
-use Rattle.near_nodes.proofs.Costing.{near_below, once_most, zeros, lost_most, sum_next}
+use Rattle.graph_update.specs.PendingChanges.{Pending, graph_after, lost_edge, lost_from, lost_onto}
+use Rattle.near_nodes.proofs.SearchCosts.{near_below, once_most, zeros, lost_most, sum_next}
 use Rattle.level_spec.proofs.Weighed.{weight_near}
 use Rattle.upkeep_spec.proofs.Sums.{where_in, sum_listed, sum_without, first_has}
 use Rattle.ak_moving.specs.Costs.{place_cost}
