@@ -1,5 +1,5 @@
-//! What every layer uses: texts, sets of small numbers, counts of steps, files and streams as traits
-//! with one version of each in memory, and the lines of a file.
+//! What every layer uses: texts, sets of small numbers, numbers that came lately, counts of steps, files and
+//! streams as traits with one version of each in memory, and the lines of a file.
 #![tactic(auto)]
 
 mod allocation;
@@ -8,6 +8,7 @@ mod in_memory;
 mod line_end;
 mod lines;
 mod planned_faults;
+mod recent;
 mod steps;
 mod streams;
 #[cfg(test)]
@@ -20,6 +21,7 @@ pub use bits::Bits;
 pub use in_memory::{MemShelf, MemSink};
 pub use lines::{GRAPH_BYTES, LINE_BYTES, LineFault, LineReader, SCRIPT_BYTES};
 pub use px_spec::{Limits, Refusal};
+pub use recent::Recent;
 pub use steps::Steps;
 pub use streams::{Failed, Shelf, Sink, put_all};
 pub use text::{Text, TextError};

@@ -70,6 +70,25 @@ fn sets_of_numbers(rt: HostRuntime) -> Result<(), Fail> {
     Ok(())
 }
 
+#[test]
+fn the_last_number_is_at_hand(rt: HostRuntime) -> Result<(), Fail> {
+    let mut recent = Recent::new(rt.alloc())?;
+    assert!(rt; recent.get(1, 2) == 0);
+    recent.put(1, 2, 7);
+    recent.put(1, 2, 8);
+    // a slot of its own
+    recent.put(2, 1, 9);
+    assert_eq!(rt; (recent.get(1, 2), recent.get(2, 1)), (8, 9));
+    recent.put(u32::MAX, u32::MAX, u32::MAX);
+    assert!(rt; recent.get(u32::MAX, u32::MAX) == u32::MAX);
+    // for all pairs together there are fewer slots than this
+    for n in 0..5000u32 {
+        recent.put(n, n, n);
+    }
+    assert!(rt; recent.get(4999, 4999) == 4999);
+    Ok(())
+}
+
 /// A shelf with one file, `t`.
 fn one_file(alloc: Global, bytes: &[u8], piece: u32, failing: &[u32]) -> Result<MemShelf, Fail>
     requires { 1 ≤ piece }

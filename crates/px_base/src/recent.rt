@@ -1,0 +1,56 @@
+// Numbers that came lately.
+use crate::Memory;
+use std::alloc::Global;
+use std::marker::Model;
+
+/// How many bits the number of a slot has.
+const BITS: u32 = 12;
+
+/// Numbers that were put lately, each in a slot by some bits of the two numbers that it belongs to. Others have
+/// the same slot, and the last one that was put there is in it: whoever gets a number looks at what it leads
+/// to before it is taken. Nothing is promised of them.
+///
+/// It takes 16 KiB.
+#[derive(Drop)]
+pub struct Recent {
+    slots: Vec<u32>,
+}
+
+impl Model for Recent {
+    ghost use Rattle.std.specs.Prelude.{⊤};
+
+    ghost Value = { ⊤ };
+
+    ghost view = { λ _. tt };
+}
+
+impl Recent {
+    /// The number 0 in each slot. O(1), and 16 KiB of memory.
+    pub fn new(alloc: Global) -> Result<Recent, Memory> {
+        let slots = vec![in alloc; 0; 1 << BITS]?;
+        Ok(Recent { slots })
+    }
+
+    /// The number that was put last in the slot of these two, and 0 where none was. O(1), no memory.
+    #[inline(always)]
+    pub fn get(&self, a: u32, b: u32) -> u32 {
+        match self.slots.get(slot_of(a, b)) {
+            Some(number) => *number,
+            None => 0,
+        }
+    }
+
+    /// Puts a number in the slot of these two, in place of the one that was there. O(1), no memory.
+    #[inline(always)]
+    pub fn put(&mut self, a: u32, b: u32, number: u32) {
+        if let Some(slot) = self.slots.get_mut(slot_of(a, b)) {
+            *slot = number;
+        }
+    }
+}
+
+// Both numbers, mixed.
+#[inline(always)]
+fn slot_of(a: u32, b: u32) -> usize {
+    ((a.wrapping_mul(0x9E37_79B9) ^ b.wrapping_mul(0x85EB_CA6B)) >> (32 - BITS)) as usize
+}
