@@ -2,5 +2,5 @@ pub mod WordTests
 pub mod Longest
 pub mod OneReading
 pub mod CanonicalTexts
-pub mod Trimming
+pub mod TrimmedLaws
 pub mod Examples

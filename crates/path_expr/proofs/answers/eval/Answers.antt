@@ -7,7 +7,7 @@ use Rattle.path_search.specs.Searches.{AreEnds}
 use Rattle.path_search.specs.declared.state.State.TheVariants.{End}
 use Rattle.path_spec.specs.Trimmed.{trimmed}
 use Rattle.px_spec.specs.Shapes.{shape_by}
-use Rattle.path_spec.proofs.Trimming.{answers_trimmed}
+use Rattle.path_spec.proofs.TrimmedLaws.{answers_trimmed}
 use Rattle.path_expr.proofs.ProductSearch.{ends_answers}
 use Rattle.path_expr.proofs.answers.eval.Goals as goal
 

@@ -8,7 +8,7 @@ use Rattle.path_search.specs.declared.state.State.TheVariants.{End}
 use Rattle.path_spec.specs.Trimmed.{trimmed}
 use Rattle.path_spec.specs.Parts.{part_of}
 use Rattle.px_spec.specs.Shapes.{shape_by}
-use Rattle.path_spec.proofs.Trimming.{answers_trimmed}
+use Rattle.path_spec.proofs.TrimmedLaws.{answers_trimmed}
 use Rattle.path_expr.proofs.ProductSearch.{IsTabled, ends_answers}
 use Rattle.path_expr.proofs.Within.{answers_of_part, tabled_in}
 use Rattle.path_expr.proofs.answers.eval_within.Goals as goal
