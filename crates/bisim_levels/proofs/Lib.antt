@@ -3,4 +3,3 @@ pub mod Written
 pub mod NumberedNodes
 pub mod Views
 pub mod LevelLaws
-pub mod Recalled

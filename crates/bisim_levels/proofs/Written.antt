@@ -1,5 +1,5 @@
 -- What a key that was written says of its node.
-use Rattle.std.proofs.Common.{◌≡◌, ℕ, ◌+◌, ◌<◌, List, [], ◌∷◌, ◌++◌, length, Option, Some, None, IsTrue, refl, sym, ◌∙◌, ap, subst, Bool, get_or, filter_map, option_to_list, take, append_assoc}
+use Rattle.std.proofs.Common.{◌≡◌, ℕ, ◌+◌, ◌<◌, List, [], ◌∷◌, ◌++◌, length, Option, Some, None, IsTrue, refl, sym, ◌∙◌, ap, subst, Bool, get_or, filter_map, option_to_list, take, append_assoc, arith}
 use Rattle.std.specs.List.{cons_option, insert}
 use Rattle.std.proofs.lemmas.List.{take_more}
 use Rattle.std.proofs.lemmas.List.Elements.{filter_map-append}
@@ -79,3 +79,16 @@ key_from_together own base near u v ku kv same k l =
     (λ b h. let p = l.each b h in let q = same.neighbours.back p.0 p.1 in k.every q.0 b q.1 (moved b p.0 q.0 p.2 q.2))
     in
     k.is ∙ ap (λ xs. k.number ∷ xs) around ∙ ap (λ x. x ∷ l.around) number ∙ sym l.is
+
+-- one node with a block
+pub written_one : (f : ℕ → Option ℕ) (nodes : List ℕ) (p b number : ℕ) → nodes ≡ p ∷ [] → f p ≡ Some b → IsWritten f nodes number (number ∷ b ∷ [])
+written_one f nodes p b number only block = record {
+  around = b ∷ [];
+  is = refl;
+  images = images_set f nodes (b ∷ []) (
+      let image : filter_map f nodes ≡ b ∷ [] = ap (filter_map f) only ∙ ap (λ o. cons_option o []) block in
+      record {
+        rising = λ k h. absurd (omega (arith, h));
+        same = λ x. ap (λ xs. has xs x) (sym image);
+      });
+}

@@ -1,4 +1,3 @@
 pub mod Sides
 pub mod Keys
 pub mod Refinement
-pub mod Recent

@@ -9,32 +9,27 @@ ghost use Rattle.bisim_spec.specs.Partitions.{IsPartition, Agrees};
 ghost use Rattle.bisim_levels.specs.declared.sides.Side.TheVariants.{Parents, Children};
 ghost use Rattle.bisim_levels.specs.Sides.{is_near, no_neighbours};
 ghost use Rattle.bisim_levels.specs.Refinement.{AreNumbered, AreNumberedTwice, AreBlocksBelow, Numbers};
-ghost use Rattle.bisim_levels.specs.Recent.{own_number, AreRecent};
 
-use crate::recent::{Recent, intern_recent, none_recent};
+use crate::recent::RecentKeys;
 use crate::refining::{Level, refine};
 use crate::sides::Side;
-use key_table::KeyTable;
 use label_graph::{Digraph, GraphView};
 use px_base::{Memory, NodeId};
 use std::alloc::Global;
 
 // The number of the key of a node's label alone, and `None` where the number is no node.
 fn number_label(
-    keys: &mut KeyTable,
-    recent: &mut Vec<Recent>,
+    keys: &mut RecentKeys,
     view: &GraphView<'_>,
     n: NodeId,
 ) -> Result<Option<u32>, Memory>
     requires distinct { AreDistinct keys.old }
-    requires recent { AreRecent own_number keys.old recent.old.items }
     ensures ok { IfOk result (λ number. Numbers (label_number view.now) [] no_neighbours n keys.old keys.new number) }
-    ensures recent { IfOk result (λ number. AreRecent own_number keys.new recent.new.items) }
     ensures distinct { IfOk result (λ number. AreDistinct keys.new) }
 {
     if view.is_node(n) {
         let label = view.label(n);
-        let k = intern_recent(keys, recent, 0, label, &[label])?;
+        let k = keys.intern(0, label, &[label])?;
         Ok(Some(k))
     } else {
         Ok(None)
@@ -42,21 +37,23 @@ fn number_label(
 }
 
 /// Level 0: nodes of one label together. The key of a block is the number of its label. Expected O(n) for n
-/// node numbers; it takes 8 bytes a number, the table of keys, and 64 KiB while it runs.
+/// node numbers; it takes 8 bytes a number, the table of keys, and 16 KiB while it runs.
 pub fn label_level(alloc: Global, view: &GraphView<'_>) -> Result<Level, Memory>
     ensures agrees { IfOk result (λ l. Agrees (shape_of view.now) l.block.items (SameLabel (shape_of view.now))) }
     ensures numbered { IfOk result (λ l. AreNumbered (label_number view.now) [] no_neighbours l.block.items (slice_get l.keys)) }
     ensures span { IfOk result (λ l. AreBlocksBelow l.block.items (length l.keys)) }
     ensures distinct { IfOk result (λ l. AreDistinct l.keys) }
 {
-    let mut keys = KeyTable::new(alloc)?;
-    let mut recent = none_recent(alloc)?;
+    let mut keys = RecentKeys::new(alloc)?;
     let mut block = Vec::with_capacity(alloc, view.size() as usize)?;
     for n in 0..view.size() {
-        let number = number_label(&mut keys, &mut recent, view, n)?;
+        let number = number_label(&mut keys, view, n)?;
         block.push(number)?;
     }
-    Ok(Level { block, keys })
+    Ok(Level {
+        block,
+        keys: keys.into_table(),
+    })
 }
 
 /// The level above a level of bisimilarity. The key of a block is its members' own block, and then the

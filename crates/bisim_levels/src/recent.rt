@@ -1,91 +1,86 @@
-// Keys that came lately, found without a walk along a chain.
-ghost use Rattle.std.specs.Prelude.{◌≡◌, ℕ, List, Some, IfOk, IfSome, slice_get};
+// A table of keys in which keys that came lately are found without a walk along a chain.
+ghost use Rattle.std.specs.Prelude.{◌≡◌, [], ℕ, List, IfOk, IsTrue, Some, slice_get};
+ghost use Rattle.px_spec.specs.Members.{at};
 ghost use Rattle.key_table.specs.NumberedKeys.{AreDistinct, Interns};
-ghost use Rattle.bisim_levels.specs.Recent.{AreRecent};
+ghost use Rattle.bisim_levels.specs.Keys.{IsWritten};
 
+use crate::keys::{block_of, write_key};
 use key_table::KeyTable;
-use px_base::Memory;
+use px_base::{Memory, NodeId, Recent};
 use std::alloc::Global;
+use std::marker::Model;
 
-/// How many keys are at hand at most.
-const SLOTS: usize = 1 << BITS;
-
-// How many bits the number of a slot has.
-const BITS: u32 = 12;
-
-/// The numbers that a key is spelled by, and its number in the table of keys, where it has one. 16 bytes.
-#[derive(Clone, Copy)]
-pub(crate) struct Recent {
-    pub(crate) around: u32,
-    pub(crate) own: u32,
-    pub(crate) number: Option<u32>,
+/// A table of keys, which it is seen as, with the numbers of those that came lately at hand.
+#[derive(Drop)]
+pub(crate) struct RecentKeys {
+    table: KeyTable,
+    recent: Recent,
+    // Where a key is written before it is looked for.
+    written: Vec<u32>,
 }
 
-/// No keys.
-pub(crate) fn none_recent(alloc: Global) -> Result<Vec<Recent>, Memory>
-    ensures { IfOk result (λ r. (spell : ℕ → ℕ → List ℕ) (keys : List (List ℕ)) → AreRecent spell keys r.items) }
-{
-    let none = Recent {
-        around: 0,
-        own: 0,
-        number: None,
-    };
-    let recent = vec![in alloc; none; SLOTS]?;
-    Ok(recent)
+impl Model for RecentKeys {
+    ghost use Rattle.std.specs.Prelude.{ℕ, List};
+
+    ghost Value = { List (List ℕ) };
+
+    ghost view = { λ k. k.table };
 }
 
-// The slot in which a key stands, if it is at hand: some bits of both numbers.
-#[inline(always)]
-fn slot_of(around: u32, own: u32) -> usize {
-    ((around.wrapping_mul(0x9E37_79B9) ^ own.wrapping_mul(0x85EB_CA6B)) >> (32 - BITS)) as usize
-}
+impl RecentKeys {
+    /// No keys.
+    pub(crate) fn new(alloc: Global) -> Result<RecentKeys, Memory>
+        ensures { IfOk result (λ k. k ≡ []) }
+    {
+        Ok(RecentKeys {
+            table: KeyTable::new(alloc)?,
+            recent: Recent::new(alloc)?,
+            written: Vec::new(alloc),
+        })
+    }
 
-// The number of the key that these spell.
-#[inline(always)]
-fn recall(recent: &[Recent], around: u32, own: u32) -> Option<u32>
-    ensures { (spell : ℕ → ℕ → List ℕ) (keys : List (List ℕ)) → AreRecent spell keys recent.now → IfSome result (λ k. slice_get keys k ≡ Some (spell around own)) }
-{
-    let r = recent.get(slot_of(around, own))?;
-    if r.around == around && r.own == own {
-        r.number
-    } else {
-        None
+    /// The table.
+    pub(crate) fn into_table(self) -> KeyTable
+        ensures { result ≡ self }
+    {
+        self.table
+    }
+
+    /// The number of a key, which is at hand by these two numbers where the key came lately.
+    #[inline(always)]
+    pub(crate) fn intern(&mut self, a: u32, b: u32, key: &[u32]) -> Result<u32, Memory>
+        ensures ok { IfOk result (Interns self.old self.new key.now) }
+        ensures distinct { IfOk result (λ k. AreDistinct self.new) }
+    {
+        let near = self.recent.get(a, b);
+        if is_at(&self.table, near, key) {
+            return Ok(near);
+        }
+        let k = self.table.intern(key)?;
+        self.recent.put(a, b, k);
+        Ok(k)
+    }
+
+    /// The number of the key of a node with these neighbours, whose own block has this number.
+    pub(crate) fn intern_written(
+        &mut self,
+        base: &[Option<u32>],
+        nodes: &[NodeId],
+        number: u32,
+    ) -> Result<u32, Memory>
+        ensures ok { IfOk result (λ k. (key : List ℕ) × IsWritten (at base.now) nodes.now number key × Interns self.old self.new key k) }
+        ensures distinct { IfOk result (λ k. AreDistinct self.new) }
+    {
+        write_key(&mut self.written, nodes, number, |n| block_of(base, n))?;
+        self.table.intern(&self.written)
     }
 }
 
-// Keeps the number of a key, in place of another one.
+// Whether the key has this number.
 #[inline(always)]
-fn note(recent: &mut Vec<Recent>, around: u32, own: u32, number: u32)
-    ensures { (spell : ℕ → ℕ → List ℕ) (keys : List (List ℕ)) → AreRecent spell keys recent.old.items → slice_get keys number ≡ Some (spell around own) → AreRecent spell keys recent.new.items }
+fn is_at(keys: &KeyTable, k: u32, key: &[u32]) -> bool
+    ensures at { IsTrue result → slice_get keys.now k ≡ Some key.now }
+    ensures distinct { AreDistinct keys.now }
 {
-    let slot = slot_of(around, own);
-    if slot < recent.len() {
-        recent[slot] = Recent {
-            around,
-            own,
-            number: Some(number),
-        };
-    }
-}
-
-/// The number of a key, which is taken from those at hand, if it is one of them.
-#[inline(always)]
-pub(crate) fn intern_recent(
-    keys: &mut KeyTable,
-    recent: &mut Vec<Recent>,
-    around: u32,
-    own: u32,
-    key: &[u32],
-) -> Result<u32, Memory>
-    requires distinct { AreDistinct keys.old }
-    ensures ok { (spell : ℕ → ℕ → List ℕ) → AreRecent spell keys.old recent.old.items → key.now ≡ spell around own → IfOk result (Interns keys.old keys.new key.now) }
-    ensures recent { (spell : ℕ → ℕ → List ℕ) → AreRecent spell keys.old recent.old.items → key.now ≡ spell around own → IfOk result (λ k. AreRecent spell keys.new recent.new.items) }
-    ensures distinct { IfOk result (λ k. AreDistinct keys.new) }
-{
-    if let Some(k) = recall(recent, around, own) {
-        return Ok(k);
-    }
-    let k = keys.intern(key)?;
-    note(recent, around, own, k);
-    Ok(k)
+    k < keys.len() && keys.key(k) == key
 }

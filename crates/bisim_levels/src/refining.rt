@@ -9,10 +9,9 @@ ghost use Rattle.bisim_spec.specs.Partitions.{IsPartition};
 ghost use Rattle.bisim_levels.specs.Sides.{is_near};
 ghost use Rattle.bisim_levels.specs.Keys.{IsWritten};
 ghost use Rattle.bisim_levels.specs.Refinement.{Refines, AreNumbered, AreBlocksBelow, Numbers};
-ghost use Rattle.bisim_levels.specs.Recent.{two_numbers, AreRecent};
 
-use crate::keys::{block_of, only_block, write_key};
-use crate::recent::{Recent, intern_recent, none_recent};
+use crate::keys::{block_of, only_block};
+use crate::recent::RecentKeys;
 use crate::sides::Side;
 use key_table::KeyTable;
 use label_graph::{Digraph, GraphView};
@@ -28,50 +27,29 @@ pub struct Level {
     pub keys: KeyTable,
 }
 
-// The number of the key of a node with these neighbours, whose own block has this number.
-fn intern_key(
-    keys: &mut KeyTable,
-    key: &mut Vec<u32>,
-    base: &[Option<u32>],
-    nodes: &[NodeId],
-    number: u32,
-) -> Result<u32, Memory>
-    ensures ok { IfOk result (λ k. (key : List ℕ) × IsWritten (at base.now) nodes.now number key × Interns keys.old keys.new key k) }
-    ensures distinct { IfOk result (λ k. AreDistinct keys.new) }
-{
-    write_key(key, nodes, number, |n| block_of(base, n))?;
-    keys.intern(key)
-}
-
-// The same. In a graph of triples the node of each triple has one parent and one child, and there are
-// few distinct keys, so that such a key is mostly at hand.
+// The number of the key of a node with these neighbours, whose own block has this number. In a graph of
+// triples the node of each triple has one parent and one child, and there are few distinct keys, so that such
+// a key is mostly at hand.
 #[inline(always)]
 fn find_key(
-    keys: &mut KeyTable,
-    recent: &mut Vec<Recent>,
-    key: &mut Vec<u32>,
+    keys: &mut RecentKeys,
     base: &[Option<u32>],
     nodes: &[NodeId],
     number: u32,
 ) -> Result<u32, Memory>
-    requires distinct { AreDistinct keys.old }
-    requires recent { AreRecent two_numbers keys.old recent.old.items }
     ensures ok { IfOk result (λ k. (key : List ℕ) × IsWritten (at base.now) nodes.now number key × Interns keys.old keys.new key k) }
-    ensures recent { IfOk result (λ k. AreRecent two_numbers keys.new recent.new.items) }
     ensures distinct { IfOk result (λ k. AreDistinct keys.new) }
 {
     match only_block(base, nodes) {
-        Some(around) => intern_recent(keys, recent, around, number, &[number, around]),
-        None => intern_key(keys, key, base, nodes, number),
+        Some(around) => keys.intern(around, number, &[number, around]),
+        None => keys.intern_written(base, nodes, number),
     }
 }
 
 // The number of the key of a node, and `None` where it has no block.
 #[inline(always)]
 fn number_of(
-    keys: &mut KeyTable,
-    recent: &mut Vec<Recent>,
-    key: &mut Vec<u32>,
+    keys: &mut RecentKeys,
     view: &GraphView<'_>,
     side: Side,
     own: &[Option<u32>],
@@ -79,16 +57,14 @@ fn number_of(
     n: NodeId,
 ) -> Result<Option<u32>, Memory>
     requires distinct { AreDistinct keys.old }
-    requires recent { AreRecent two_numbers keys.old recent.old.items }
     requires graph { IsGraph view.now }
     requires nodes { IsSome (at own.now n) → IsSome (label_number view.now n) }
     ensures ok { IfOk result (λ number. Numbers (at own.now) base.now (is_near side view.now) n keys.old keys.new number) }
-    ensures recent { IfOk result (λ number. AreRecent two_numbers keys.new recent.new.items) }
     ensures distinct { IfOk result (λ number. AreDistinct keys.new) }
 {
     match block_of(own, n) {
         Some(number) => {
-            let k = find_key(keys, recent, key, base, side.neighbours(view, n), number)?;
+            let k = find_key(keys, base, side.neighbours(view, n), number)?;
             Ok(Some(k))
         }
         None => Ok(None),
@@ -98,7 +74,7 @@ fn number_of(
 /// The partition `own`, refined by the blocks in `base` of the neighbours on one side: nodes stay
 /// together where those are the same. Its blocks are numbered in the order of their first members.
 /// Expected O(n + m log m) for n node numbers and m edges, since each node's list of neighbours is sorted; it
-/// takes 8 bytes a number, the table of keys, and 64 KiB while it runs.
+/// takes 8 bytes a number, the table of keys, and 16 KiB while it runs.
 pub fn refine(
     alloc: Global,
     view: &GraphView<'_>,
@@ -113,13 +89,14 @@ pub fn refine(
     ensures span { IfOk result (λ l. AreBlocksBelow l.block.items (length l.keys)) }
     ensures distinct { IfOk result (λ l. AreDistinct l.keys) }
 {
-    let mut keys = KeyTable::new(alloc)?;
-    let mut recent = none_recent(alloc)?;
-    let mut key = Vec::new(alloc);
+    let mut keys = RecentKeys::new(alloc)?;
     let mut block = Vec::with_capacity(alloc, view.size() as usize)?;
     for n in 0..view.size() {
-        let number = number_of(&mut keys, &mut recent, &mut key, view, side, own, base, n)?;
+        let number = number_of(&mut keys, view, side, own, base, n)?;
         block.push(number)?;
     }
-    Ok(Level { block, keys })
+    Ok(Level {
+        block,
+        keys: keys.into_table(),
+    })
 }

@@ -7,7 +7,6 @@ use Rattle.bisim_levels.proofs.levels.label_level.Goals as goal
 pub loop-n-preserved : goal.loop-n-preserved
 loop-n-preserved c = record {
   numbered = rw c.in_ok-push.ensures.items (numbered_more _ _ _ _ _ _ _ _ c.loop-n.invariant.numbered c.in_ok-number.ensures.ok);
-  recent = c.in_ok-number.ensures.recent;
   distinct = c.in_ok-number.ensures.distinct;
 }
 
@@ -22,11 +21,11 @@ returns-clause-agrees c =
 
 pub returns-clause-numbered : goal.returns-clause-numbered
 returns-clause-numbered c =
-    numbered_all _ _ _ _ _ _ c.loop-n.invariant.numbered (λ m h.
+    rw c.into_table.ensures (numbered_all _ _ _ _ _ _ c.loop-n.invariant.numbered (λ m h.
     let below = below_span c.args.view.now m h in
     let end = c.loop-n-test.false in
     let size = c.size-n-end.ensures.size in
-    omega (arith, below, end, size))
+    omega (arith, below, end, size)))
 
 pub returns-clause-span : goal.returns-clause-span
 returns-clause-span c = numbered_below _ _ _ _ _ (returns-clause-numbered c)

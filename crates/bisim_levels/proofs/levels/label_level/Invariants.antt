@@ -2,13 +2,11 @@ use Rattle.std.proofs.Common.{[]}
 use Rattle.label_graph.specs.Views.{label_number}
 use Rattle.key_table.specs.NumberedKeys.{AreDistinct}
 use Rattle.bisim_levels.specs.Sides.{no_neighbours}
-use Rattle.bisim_levels.specs.Recent.{own_number, AreRecent}
 use Rattle.bisim_levels.proofs.NumberedNodes.{NumberedBelow}
 use Rattle.bisim_levels.proofs.levels.label_level.Given as goal
 
 abbrev pub invariant-loop-n : goal.invariant-loop-n
 invariant-loop-n l = record {
   numbered : NumberedBelow (label_number l.view) [] no_neighbours l.n l.keys l.block.items;
-  recent : AreRecent own_number l.keys l.recent.items;
   distinct : AreDistinct l.keys;
 }
