@@ -11,7 +11,7 @@ use Rattle.label_graph.specs.Held.{graph_by}
 use Rattle.label_graph.specs.LabelTable.{LabelTable}
 use Rattle.label_graph.specs.Soundness.{IsSoundGraph, HaveLabelNumbers, IsLive}
 use Rattle.label_graph.proofs.EdgeLists.{edges-pushed}
-use Rattle.label_graph.proofs.Readings.{label_of-number}
+use Rattle.label_graph.proofs.SoundNodes.{label_of-number}
 use Rattle.label_graph.proofs.KeepsSound.{edges-same, lists-pushed}
 
 pub on-err : {X E P : Type 0} (r : Result X E) → P → OnErr r P

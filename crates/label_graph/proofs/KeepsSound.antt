@@ -18,7 +18,7 @@ use Rattle.label_graph.specs.declared.node.Reserved.TheVariants.{Nothing, Label,
 use Rattle.label_graph.specs.LabelTable.{LabelTable, entries, with_ahead}
 use Rattle.label_graph.specs.Soundness.{IsSoundGraph, AreSound, HaveLabelNumbers, EndsLive, IsLive, IsNext, ReservedFits}
 use Rattle.label_graph.proofs.EdgeLists.{has_edge-children, edges-pushed, mirrors-pushed, one}
-use Rattle.label_graph.proofs.Readings.{texts-once}
+use Rattle.label_graph.proofs.SoundNodes.{texts-once}
 use Rattle.label_graph.proofs.Tables.{bytes_laws}
 
 pub edges-same : (old new : List Node) → ((w : ℕ) → children_of new w ≡ children_of old w) → edges_of new ≡ edges_of old

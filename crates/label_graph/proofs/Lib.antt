@@ -2,7 +2,7 @@ pub mod Positions
 pub mod Pieces
 pub mod Tables
 pub mod EdgeLists
-pub mod Takings
+pub mod ListWithout
 pub mod SetNodes
 pub mod GetNodes
 pub mod NodeRooms
@@ -11,7 +11,7 @@ pub mod RowLemmas
 pub mod RowEdges
 pub mod Removals
 pub mod Viewed
-pub mod Readings
+pub mod SoundNodes
 pub mod KeepsSound
 pub mod GoneEdges
 pub mod Uses

@@ -8,7 +8,7 @@ use Rattle.std.proofs.lemmas.Bool.Decides.{nat_tests}
 use Rattle.label_graph.specs.declared.segment.Segment.{Segment}
 use Rattle.label_graph.specs.Nodes.{IsWithout}
 use Rattle.label_graph.specs.Segments.{items_in, LiesWithin, IsApart, Begins, Writes, IsMoved}
-use Rattle.label_graph.proofs.Takings.{taken}
+use Rattle.label_graph.proofs.ListWithout.{taken}
 
 -- cells behind others
 take-more : (n : ℕ) (xs more : List ℕ) → n ≤ length xs → take n (xs ++ more) ≡ take n xs

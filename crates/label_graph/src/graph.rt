@@ -205,12 +205,13 @@ impl Graph {
 
 // Room for one addition, and the additions.
 impl Graph {
-    /// A graph with no nodes. O(1), no memory until something is added.
+    /// A graph with no nodes. O(1); it takes 16 KiB.
     pub fn new(alloc: Global) -> Result<Graph, Memory>
         ensures { IfOk result (λ g. g ≡ record { graph = empty_graph; room = no_room }) }
     {
+        let labels = Labels::new(alloc)?;
         Ok(Graph {
-            labels: Labels::new(alloc),
+            labels,
             nodes: Nodes::new(alloc),
             node_count: 0,
             edge_count: 0,

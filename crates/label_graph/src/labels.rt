@@ -1,29 +1,22 @@
 // The table of labels.
-ghost use Rattle.std.specs.Prelude.{◌≡◌, ◌<◌, ◌≤◌, ◌+◌, ◌^◌, ◌++◌, ◌∷◌, [], ℕ, List, length, slice_get, Some, bytes_eq, position, None, false, IfOk, IfSome, OnOk, OnErr};
+ghost use Rattle.std.specs.Prelude.{◌≡◌, ◌<◌, ◌≤◌, ◌+◌, ◌^◌, ◌++◌, ◌∷◌, [], ℕ, List, length, slice_get, Some, bytes_eq, position, None, false, IfOk, IsTrue, OnOk, OnErr};
 ghost use Rattle.std.specs.List.{IsDistinct};
 ghost use Rattle.px_spec.specs.Graphs.{is_seen};
 ghost use Rattle.label_graph.specs.LabelTable.{entries, with_ahead, with_ahead_shown};
 ghost use Rattle.label_graph.specs.Soundness.{IsNext};
 
 use indexmap::IndexSet;
-use px_base::{Memory, Text};
+use px_base::{Memory, Recent, Text};
 use std::alloc::Global;
 use std::marker::Model;
 
-/// By how many bits of its last bytes a label has its place at hand.
-const HAND_BITS: u32 = 6;
-
-/// How many labels are at hand.
-const AT_HAND: usize = 1 << HAND_BITS;
-
 /// The labels that were seen, in the order in which they came. A text may lie ahead of them that is
-/// no label yet: room for one more. Numbers of labels that were asked for lately are at hand, each at one place by
-/// its text.
+/// no label yet: room for one more. Numbers of labels that were asked for lately are at hand by their texts.
 #[derive(Drop)]
 pub struct Labels {
     table: IndexSet<Text>,
     shown: usize,
-    at_hand: [u32; AT_HAND],
+    recent: Recent,
 }
 
 impl Model for Labels {
@@ -39,14 +32,14 @@ impl Model for Labels {
 }
 
 impl Labels {
-    pub(crate) fn new(alloc: Global) -> Labels
-        ensures { result ≡ record { texts = []; ahead = None } }
+    pub(crate) fn new(alloc: Global) -> Result<Labels, Memory>
+        ensures { IfOk result (λ l. l ≡ record { texts = []; ahead = None }) }
     {
-        Labels {
+        Ok(Labels {
             table: IndexSet::new(alloc),
             shown: 0,
-            at_hand: [0; AT_HAND],
-        }
+            recent: Recent::new(alloc)?,
+        })
     }
 
     /// How many labels were seen. O(1), no memory.
@@ -79,17 +72,12 @@ impl Labels {
         }
     }
 
-    // The number at hand, where it is that of the label.
-    fn near(&self, t: &Text) -> Option<u32>
-        ensures { IfSome result (λ l. position (bytes_eq t.now) self.now.texts ≡ Some l) }
+    // Whether the number is that of the label.
+    #[inline(always)]
+    fn is_at(&self, l: u32, t: &Text) -> bool
+        ensures { IsTrue result → position (bytes_eq t.now) self.now.texts ≡ Some l }
     {
-        let hand = self.at_hand.get(hand_place(t))?;
-        let l = *hand;
-        if (l as usize) < self.shown && self.table.as_slice()[l as usize] == *t {
-            Some(l)
-        } else {
-            None
-        }
+        (l as usize) < self.shown && self.table.as_slice()[l as usize] == *t
     }
 
     // The number of the label, as `find` gives it. It is looked for at hand first, and is at hand then.
@@ -97,13 +85,13 @@ impl Labels {
         ensures same { self.new ≡ self.old }
         ensures place { result ≡ position (bytes_eq t.now) self.old.texts }
     {
-        if let Some(l) = self.near(t) {
-            return Some(l);
+        let (a, b) = last_bytes(t);
+        let near = self.recent.get(a, b);
+        if self.is_at(near, t) {
+            return Some(near);
         }
         let l = self.find(t)?;
-        if let Some(hand) = self.at_hand.get_mut(hand_place(t)) {
-            *hand = l;
-        }
+        self.recent.put(a, b, l);
         Some(l)
     }
 
@@ -158,15 +146,11 @@ impl Labels {
     }
 }
 
-// The place of a label at hand, by some of its last bytes. The last one of an IRI is its bracket, so it isn't read.
-fn hand_place(t: &Text) -> usize {
+// The bytes by which a label is at hand: the last two before the bracket of an IRI.
+fn last_bytes(t: &Text) -> (u32, u32) {
     match t.as_bytes() {
-        [.., a, b, _] => {
-            let mixed = u32::from(*a).wrapping_mul(0x9E37_79B9)
-                ^ u32::from(*b).wrapping_mul(0x85EB_CA6B);
-            (mixed >> (32 - HAND_BITS)) as usize
-        }
-        _ => 0,
+        [.., a, b, _] => (u32::from(*a), u32::from(*b)),
+        _ => (0, 0),
     }
 }
 

@@ -12,6 +12,3 @@ pub use digraph::Digraph;
 pub use graph::Graph;
 pub use labels::Labels;
 pub use view::GraphView;
-
-#[cfg(test)]
-mod tests;

@@ -1,4 +1,4 @@
-//! Small graphs for the tests of other crates.
+//! Small graphs for the tests of other crates, and the tests of `label_graph` on such graphs.
 #![tactic(auto)]
 
 ghost use Rattle.std.specs.Prelude.{◌<◌};
@@ -8,6 +8,9 @@ use px_base::{NodeId, Steps, Text};
 use std::alloc::Global;
 use std::sync::ledger::Ledger;
 use std::test::Fail;
+
+#[cfg(test)]
+mod tests;
 
 /// How many nodes and how many edges a graph has at most.
 const MOST: u32 = 1 << 30;

@@ -1,7 +1,7 @@
 use Rattle.std.proofs.Common.{◌+◌, ◌-◌, sym, ◌∙◌, ap, arith, refl}
 use Rattle.std.specs.Prelude.{position, nat_eq}
 use Rattle.label_graph.specs.Segments.{items_in}
-use Rattle.label_graph.proofs.Takings.{untaken}
+use Rattle.label_graph.proofs.ListWithout.{untaken}
 use Rattle.label_graph.proofs.SegmentLemmas.{writes-set, place-within, items-without, short-without, short-is, long-is}
 use Rattle.label_graph.proofs.segment.take_out.Goals as goal
 

@@ -1,4 +1,4 @@
-use Rattle.label_graph.proofs.Readings.{child-list, child-links}
+use Rattle.label_graph.proofs.SoundNodes.{child-list, child-links}
 use Rattle.label_graph.proofs.graph.Graph.child_list.Goals as goal
 
 pub returns-clause-edges : goal.returns-clause-edges

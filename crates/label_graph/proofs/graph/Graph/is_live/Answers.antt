@@ -1,6 +1,6 @@
 use Rattle.std.proofs.Common.{◌∙◌, ap, sym}
 use Rattle.std.specs.Prelude.{is_some}
-use Rattle.label_graph.proofs.Readings.{number-is, is_graph}
+use Rattle.label_graph.proofs.SoundNodes.{number-is, is_graph}
 use Rattle.label_graph.proofs.graph.Graph.is_live.Goals as goal
 
 pub returns-clause-number : goal.returns-clause-number

@@ -1,5 +1,5 @@
 use Rattle.std.proofs.Common.{◌∙◌, sym}
-use Rattle.label_graph.proofs.Readings.{number-is}
+use Rattle.label_graph.proofs.SoundNodes.{number-is}
 use Rattle.label_graph.proofs.graph.Graph.label.Goals as goal
 
 pub returns-clause-number : goal.returns-clause-number

@@ -1,4 +1,4 @@
-use Rattle.label_graph.proofs.Readings.{parent-list, parent-links}
+use Rattle.label_graph.proofs.SoundNodes.{parent-list, parent-links}
 use Rattle.label_graph.proofs.graph.Graph.parent_list.Goals as goal
 
 pub returns-clause-edges : goal.returns-clause-edges

@@ -1,4 +1,4 @@
-use Rattle.label_graph.proofs.Readings.{is_graph}
+use Rattle.label_graph.proofs.SoundNodes.{is_graph}
 use Rattle.label_graph.proofs.Viewed.{viewed_shape}
 use Rattle.label_graph.proofs.graph.Graph.view.Goals as goal
 

@@ -1,4 +1,4 @@
-use Rattle.label_graph.proofs.tests.small_graph.Given as goal
+use Rattle.test_graphs.proofs.tests.small_graph.Given as goal
 
 -- the count of steps that was just opened
 abbrev pub ghosts-read_small_graph : goal.ghosts-read_small_graph

@@ -1,7 +1,8 @@
-// Each public call once, on a small graph.
+// Each public call of `label_graph` once, on a small graph.
 ghost use Rattle.std.specs.Prelude.{◌≡◌, ◌<◌};
 
 use super::*;
+use label_graph::Digraph;
 use px_base::{NodeId, Steps, Text};
 use std::alloc::Global;
 use std::marker::Brand;
@@ -9,37 +10,10 @@ use std::process::Abort;
 use std::sync::ledger::{Blank, Ledger};
 use std::test::Fail;
 
-const MOST: u32 = 1 << 30;
-
 // The labels of six nodes, a byte each, and their edges.
 const LABELS: &[u8] = b"abacaa";
 
 const EDGES: &[(NodeId, NodeId)] = &[(0, 1), (0, 2), (0, 3), (0, 4), (0, 5), (2, 1), (3, 3)];
-
-// Adds a node with that label.
-fn put_node(rt: &impl Abort, alloc: Global, graph: &mut Graph, label: u8) -> Result<(), Fail> {
-    assert!(rt; graph.created() < MOST);
-    graph.reserve_node(alloc, &Text::from_bytes(alloc, &[label])?)?;
-    graph.add_node();
-    Ok(())
-}
-
-// Adds an edge between live nodes that isn't there yet.
-fn put_edge<L: Ledger>(
-    rt: &impl Abort,
-    graph: &mut Graph,
-    u: NodeId,
-    v: NodeId,
-    steps: &mut Steps<L>,
-) -> Result<(), Fail> {
-    assert!(rt; graph.is_live(u));
-    assert!(rt; graph.is_live(v));
-    assert!(rt; graph.edge_count() < MOST);
-    assert!(rt; !graph.has_edge(u, v, steps));
-    graph.reserve_edge(u, v)?;
-    graph.add_edge(u, v);
-    Ok(())
-}
 
 // How many ends of edges, and how many labels of nodes with that number, a reader of any graph sees.
 fn totals<G: Digraph>(graph: &G, label: u32) -> (usize, usize, u32) {
@@ -56,17 +30,6 @@ fn totals<G: Digraph>(graph: &G, label: u32) -> (usize, usize, u32) {
         }
     }
     (children, parents, labelled)
-}
-
-fn small<L: Ledger>(rt: &impl Abort, alloc: Global, steps: &mut Steps<L>) -> Result<Graph, Fail> {
-    let mut graph = Graph::new(alloc)?;
-    for label in LABELS {
-        put_node(rt, alloc, &mut graph, *label)?;
-    }
-    for (u, v) in EDGES {
-        put_edge(rt, &mut graph, *u, *v, steps)?;
-    }
-    Ok(graph)
 }
 
 // Pairs of numbers, and whether an edge leads from the first to the second.
@@ -113,7 +76,7 @@ fn read_small_graph<L: Ledger>(rt: &impl Abort, alloc: Global, blank: Blank) -> 
     requires some { 0 < blank.parts }
 {
     let mut steps = Steps::<L>::new(blank);
-    let graph = small(rt, alloc, &mut steps)?;
+    let graph = drawn(alloc, LABELS, EDGES, &mut steps)?;
     check_small(rt, &graph, &mut steps);
     assert!(rt; graph.is_live(3));
     assert!(rt; graph.label(3) == 2);
@@ -182,10 +145,10 @@ fn put_again<L: Ledger>(
     steps: &mut Steps<L>,
 ) -> Result<(), Fail> {
     assert!(rt; graph.labels().len() == 3);
-    put_node(rt, alloc, graph, b'c')?;
+    put_node(alloc, graph, b'c')?;
     assert!(rt; graph.is_live(6) && !graph.is_live(3));
     assert!(rt; graph.label(6) == 2);
-    put_edge(rt, graph, 6, 6, steps)?;
+    put_edge(graph, 6, 6, steps)?;
     assert!(rt; graph.edge_count() == 2);
     Ok(())
 }
@@ -196,7 +159,7 @@ fn take_apart<L: Ledger>(rt: &impl Abort, alloc: Global, blank: Blank) -> Result
     requires some { 0 < blank.parts }
 {
     let mut steps = Steps::<L>::new(blank);
-    let mut graph = small(rt, alloc, &mut steps)?;
+    let mut graph = drawn(alloc, LABELS, EDGES, &mut steps)?;
     take_loop(rt, &mut graph, &mut steps);
     check_any(rt, &graph, &mut steps);
     take_hub(rt, &mut graph, &mut steps);

@@ -1,4 +1,4 @@
-use Rattle.label_graph.proofs.tests.removals.Given as goal
+use Rattle.test_graphs.proofs.tests.removals.Given as goal
 
 -- the count of steps that was just opened
 abbrev pub ghosts-take_apart : goal.ghosts-take_apart
