@@ -1,3 +1,3 @@
 mod Columns
 mod Joined
-mod Mating
+mod MateLaws

@@ -1,6 +1,6 @@
 use Rattle.std.proofs.Common.{sym, ◌∙◌}
 use Rattle.block_joining.specs.Mates.{shown_joined}
-use Rattle.block_joining.proofs.Mating.{unmet_get}
+use Rattle.block_joining.proofs.MateLaws.{unmet_get}
 use Rattle.block_joining.proofs.mates.has_unmet_parent.Goals as goal
 
 pub returns : goal.returns
