@@ -1,5 +1,5 @@
 // Nodes that are numbered by their keys once all their parents are.
-ghost use Rattle.std.specs.Prelude.{◌≡◌, ◌<◌, ◌++◌, ◌∷◌, [], ℕ, List, Some, IsSome, IsTrue, IfOk, IfSome, OnOk, is_some, filter_map, option_to_list, length, vec_len};
+ghost use Rattle.std.specs.Prelude.{◌≡◌, ◌<◌, ℕ, List, Some, IsSome, IsTrue, IfOk, OnOk, is_some, length, vec_len};
 ghost use Rattle.std.specs.List.{list_all};
 ghost use Rattle.px_spec.specs.Graphs.{IsGraph};
 ghost use Rattle.px_spec.specs.Members.{at};
