@@ -2,6 +2,6 @@ pub mod Bases
 pub mod SettledDrafts
 pub mod NodeChanges
 pub mod EdgeChanges
-pub mod Stepping
-pub mod Pendings
+pub mod PhaseLaws
+pub mod PendingChanges
 pub mod Unreached

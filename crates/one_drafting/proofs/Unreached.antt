@@ -32,7 +32,7 @@ use Rattle.upkeep_spec.proofs.OneSteps.{reach_closed}
 use Rattle.upkeep_spec.proofs.Sums.{sum_without}
 use Rattle.upkeep_spec.proofs.Suspects.{unmarked_suspects}
 use Rattle.one_drafting.specs.OneDrafts.{IsOnlyTarget, IsSplitOf, reached, rounds_cost}
-use Rattle.one_drafting.proofs.Stepping.{HasMerge, HasSplit, more_times, own_has, same_test, target_reached}
+use Rattle.one_drafting.proofs.PhaseLaws.{HasMerge, HasSplit, more_times, own_has, same_test, target_reached}
 
 -- what the split clause says of the nodes that are reached
 pub split_reached : (g : Graph) (c : Change) (t : ℕ) (p p2 : List (Option ℕ)) (made : List ℕ) → IsGraph (after c g) → IsOnlyTarget g c t → HasSplit g c t p p2 made

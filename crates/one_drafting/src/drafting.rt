@@ -10,6 +10,7 @@ ghost use Rattle.quotient_draft.specs.Drafts.{no_changes, has_member, settled_vi
 ghost use Rattle.one_merging.specs.Roots.{CoversBase};
 ghost use Rattle.one_drafting.specs.OneDrafts.{IsBefore, IsDrafted, IsNodeChange, IsSupported, most_steps};
 
+use crate::index_tables::IndexTables;
 use crate::linking::{draft_link, draft_unlink};
 use crate::nodes::{draft_drop, draft_node};
 use crate::resettling::resettle;
@@ -25,116 +26,111 @@ use std::sync::ledger::Ledger;
 // A node comes.
 fn add_node<L: Ledger>(
     alloc: Global,
-    base: &Summary,
+    index: &IndexTables<'_>,
     draft: &mut Draft,
-    roots: &Roots,
     after: &After<'_>,
     steps: &mut Steps<L>,
 ) -> Result<(), Memory>
-    requires before { IsBefore after.now base.now }
-    requires covers { CoversBase base.now roots.now }
+    requires before { IsBefore after.now index.now.base.now }
+    requires covers { CoversBase index.now.base.now index.now.roots.now }
     requires empty { draft.old ≡ no_changes }
     requires node { IsNodeChange after.now.change }
-    ensures drafted { OnOk result (IsDrafted after.now.before after.now.change base.now draft.new) }
+    ensures drafted { OnOk result (IsDrafted after.now.before after.now.change index.now.base.now draft.new) }
     ensures cost { steps.new ≤ steps.old + most_steps after.now.before after.now.change }
 {
-    let n = draft_node(base, draft, after)?;
-    resettle(alloc, base, draft, roots, after, n, steps)
+    let n = draft_node(index.base, draft, after)?;
+    resettle(alloc, index, draft, after, n, steps)
 }
 
 // A node goes.
 fn drop_node<L: Ledger>(
     alloc: Global,
-    base: &Summary,
+    index: &IndexTables<'_>,
     draft: &mut Draft,
-    roots: &Roots,
     after: &After<'_>,
     u: NodeId,
     steps: &mut Steps<L>,
 ) -> Result<(), Memory>
-    requires before { IsBefore after.now base.now }
-    requires covers { CoversBase base.now roots.now }
+    requires before { IsBefore after.now index.now.base.now }
+    requires covers { CoversBase index.now.base.now index.now.roots.now }
     requires empty { draft.old ≡ no_changes }
     requires drops { after.now.change ≡ drop u }
-    ensures drafted { OnOk result (IsDrafted after.now.before after.now.change base.now draft.new) }
+    ensures drafted { OnOk result (IsDrafted after.now.before after.now.change index.now.base.now draft.new) }
     ensures cost { steps.new ≤ steps.old + most_steps after.now.before after.now.change }
 {
-    draft_drop(base, draft, after, u)?;
-    resettle(alloc, base, draft, roots, after, u, steps)
+    draft_drop(index.base, draft, after, u)?;
+    resettle(alloc, index, draft, after, u, steps)
 }
 
 // An edge comes.
 fn add_edge<L: Ledger>(
     alloc: Global,
-    base: &Summary,
+    index: &IndexTables<'_>,
     draft: &mut Draft,
-    roots: &Roots,
     after: &After<'_>,
     u: NodeId,
     v: NodeId,
     steps: &mut Steps<L>,
 ) -> Result<(), Memory>
-    requires before { IsBefore after.now base.now }
-    requires covers { CoversBase base.now roots.now }
+    requires before { IsBefore after.now index.now.base.now }
+    requires covers { CoversBase index.now.base.now index.now.roots.now }
     requires empty { draft.old ≡ no_changes }
     requires links { after.now.change ≡ link u v }
-    ensures drafted { OnOk result (IsDrafted after.now.before after.now.change base.now draft.new) }
+    ensures drafted { OnOk result (IsDrafted after.now.before after.now.change index.now.base.now draft.new) }
     ensures cost { steps.new ≤ steps.old + most_steps after.now.before after.now.change }
-    ensures free { IsSupported (view_of base.now) u v → steps.new ≡ steps.old }
+    ensures free { IsSupported (view_of index.now.base.now) u v → steps.new ≡ steps.old }
 {
-    if draft_link(base, draft, after, u, v)? {
+    if draft_link(index.base, draft, after, u, v)? {
         return Ok(());
     }
-    resettle(alloc, base, draft, roots, after, v, steps)
+    resettle(alloc, index, draft, after, v, steps)
 }
 
 // An edge goes.
 fn drop_edge<L: Ledger>(
     alloc: Global,
-    base: &Summary,
+    index: &IndexTables<'_>,
     draft: &mut Draft,
-    roots: &Roots,
     after: &After<'_>,
     u: NodeId,
     v: NodeId,
     steps: &mut Steps<L>,
 ) -> Result<(), Memory>
-    requires before { IsBefore after.now base.now }
-    requires covers { CoversBase base.now roots.now }
+    requires before { IsBefore after.now index.now.base.now }
+    requires covers { CoversBase index.now.base.now index.now.roots.now }
     requires empty { draft.old ≡ no_changes }
     requires unlinks { after.now.change ≡ unlink u v }
-    ensures drafted { OnOk result (IsDrafted after.now.before after.now.change base.now draft.new) }
+    ensures drafted { OnOk result (IsDrafted after.now.before after.now.change index.now.base.now draft.new) }
     ensures cost { steps.new ≤ steps.old + most_steps after.now.before after.now.change }
 {
-    if draft_unlink(base, draft, after, u, v, steps)? {
+    if draft_unlink(index.base, draft, after, u, v, steps)? {
         return Ok(());
     }
-    resettle(alloc, base, draft, roots, after, v, steps)
+    resettle(alloc, index, draft, after, v, steps)
 }
 
 // What the change makes.
 fn draft_pending<L: Ledger>(
     alloc: Global,
-    base: &Summary,
+    index: &IndexTables<'_>,
     draft: &mut Draft,
-    roots: &Roots,
     after: &After<'_>,
     change: &Change,
     steps: &mut Steps<L>,
 ) -> Result<(), Memory>
-    requires before { IsBefore after.now base.now }
-    requires covers { CoversBase base.now roots.now }
+    requires before { IsBefore after.now index.now.base.now }
+    requires covers { CoversBase index.now.base.now index.now.roots.now }
     requires empty { draft.old ≡ no_changes }
     requires same { after.now.change ≡ change_of change.now }
-    ensures drafted { OnOk result (IsDrafted after.now.before after.now.change base.now draft.new) }
+    ensures drafted { OnOk result (IsDrafted after.now.before after.now.change index.now.base.now draft.new) }
     ensures cost { steps.new ≤ steps.old + most_steps after.now.before after.now.change }
-    ensures free { (u v : ℕ) → change_of change.now ≡ link u v → IsSupported (view_of base.now) u v → steps.new ≡ steps.old }
+    ensures free { (u v : ℕ) → change_of change.now ≡ link u v → IsSupported (view_of index.now.base.now) u v → steps.new ≡ steps.old }
 {
     match change {
-        Change::Node(_) => add_node(alloc, base, draft, roots, after, steps),
-        Change::Link(u, v) => add_edge(alloc, base, draft, roots, after, *u, *v, steps),
-        Change::Unlink(u, v) => drop_edge(alloc, base, draft, roots, after, *u, *v, steps),
-        Change::Drop(u) => drop_node(alloc, base, draft, roots, after, *u, steps),
+        Change::Node(_) => add_node(alloc, index, draft, after, steps),
+        Change::Link(u, v) => add_edge(alloc, index, draft, after, *u, *v, steps),
+        Change::Unlink(u, v) => drop_edge(alloc, index, draft, after, *u, *v, steps),
+        Change::Drop(u) => drop_node(alloc, index, draft, after, *u, steps),
     }
 }
 
@@ -170,6 +166,7 @@ pub fn draft_change<L: Ledger>(
     // Called for its contract: edges are few.
     let _edges = graph.edge_count();
     let after = After::new(graph, change);
-    draft_pending(alloc, base, draft, roots, &after, change, steps)?;
+    let index = IndexTables { base, roots };
+    draft_pending(alloc, &index, draft, &after, change, steps)?;
     Ok(())
 }

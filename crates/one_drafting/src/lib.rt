@@ -2,6 +2,7 @@
 #![tactic(auto)]
 
 mod drafting;
+mod index_tables;
 mod linking;
 mod nodes;
 mod phases;

@@ -9,8 +9,9 @@ ghost use Rattle.quotient_draft.specs.Basis.{IsOver};
 ghost use Rattle.one_merging.specs.Roots.{CoversBase};
 ghost use Rattle.one_drafting.specs.OneDrafts.{IsBefore, ShowsChange, IsDrafted, IsOnlyTarget, reached, rounds_cost};
 
+use crate::index_tables::IndexTables;
 use graph_update::After;
-use one_merging::{Roots, merge};
+use one_merging::merge;
 use one_splitting::split;
 use px_base::{Memory, NodeId, Steps};
 use quotient::Summary;
@@ -39,24 +40,31 @@ pub(crate) fn add_block(
 /// two can be merged.
 pub(crate) fn resettle<L: Ledger>(
     alloc: Global,
-    base: &Summary,
+    index: &IndexTables<'_>,
     draft: &mut Draft,
-    roots: &Roots,
     after: &After<'_>,
     target: NodeId,
     steps: &mut Steps<L>,
 ) -> Result<(), Memory>
-    requires before { IsBefore after.now base.now }
-    requires covers { CoversBase base.now roots.now }
-    requires changed { ShowsChange after.now.before after.now.change base.now draft.old }
+    requires before { IsBefore after.now index.now.base.now }
+    requires covers { CoversBase index.now.base.now index.now.roots.now }
+    requires changed { ShowsChange after.now.before after.now.change index.now.base.now draft.old }
     requires target { IsOnlyTarget after.now.before after.now.change target }
-    requires moves { KeepsParents after.now.change (graph_after after.now) base.now.blocks.block_of → ⊥ }
-    ensures drafted { OnOk result (IsDrafted after.now.before after.now.change base.now draft.new) }
+    requires moves { KeepsParents after.now.change (graph_after after.now) index.now.base.now.blocks.block_of → ⊥ }
+    ensures drafted { OnOk result (IsDrafted after.now.before after.now.change index.now.base.now draft.new) }
     ensures cost { steps.new ≤ steps.old + 4 * rounds_cost (shape_of (graph_after after.now)) (reached after.now.before after.now.change) }
 {
     let mut blocks = Vec::new(alloc);
-    split(alloc, base, draft, after, &[target], &mut blocks, steps)?;
-    add_block(base, draft, target, &mut blocks)?;
-    merge(alloc, base, draft, roots, &blocks)?;
+    split(
+        alloc,
+        index.base,
+        draft,
+        after,
+        &[target],
+        &mut blocks,
+        steps,
+    )?;
+    add_block(index.base, draft, target, &mut blocks)?;
+    merge(alloc, index.base, draft, index.roots, &blocks)?;
     Ok(())
 }

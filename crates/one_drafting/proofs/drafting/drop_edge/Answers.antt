@@ -1,6 +1,6 @@
 use Rattle.std.proofs.Common.{arith}
-use Rattle.one_drafting.proofs.Pendings.{unlink_still}
-use Rattle.one_drafting.proofs.Stepping.{read_light}
+use Rattle.one_drafting.proofs.PendingChanges.{unlink_still}
+use Rattle.one_drafting.proofs.PhaseLaws.{read_light}
 use Rattle.one_drafting.proofs.drafting.drop_edge.Goals as goal
 
 pub returns-in_err-draft_unlink-clause-cost : goal.returns-in_err-draft_unlink-clause-cost
@@ -11,7 +11,7 @@ returns-in_err-draft_unlink-clause-cost g c =
 
 pub returns-then-branch-clause-drafted : goal.returns-then-branch-clause-drafted
 returns-then-branch-clause-drafted g c =
-    unlink_still c.args.after.now c.args.base.now c.draft_unlink.new.draft c.args.u c.args.v c.requires.before c.requires.unlinks c.in_ok-draft_unlink.ensures.alone
+    unlink_still c.args.after.now c.args.index.now.base.now c.draft_unlink.new.draft c.args.u c.args.v c.requires.before c.requires.unlinks c.in_ok-draft_unlink.ensures.alone
     (c.in_ok-draft_unlink.ensures.yes c.if-branch.true) c.in_ok-draft_unlink.ensures.changed
 
 pub returns-then-branch-clause-cost : goal.returns-then-branch-clause-cost

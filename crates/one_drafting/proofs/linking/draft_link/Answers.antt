@@ -1,4 +1,4 @@
-use Rattle.one_drafting.proofs.Pendings.{alone_from, few_base, link_changed, link_target, link_yes, link_no}
+use Rattle.one_drafting.proofs.PendingChanges.{alone_from, few_base, link_changed, link_target, link_yes, link_no}
 use Rattle.one_drafting.proofs.linking.draft_link.Goals as goal
 
 pub raise-requires-clause-few : goal.raise-requires-clause-few

@@ -1,4 +1,4 @@
-use Rattle.one_drafting.proofs.Pendings.{alone_from, unlink_counts, unlink_changed, unlink_target, unlink_yes, unlink_no}
+use Rattle.one_drafting.proofs.PendingChanges.{alone_from, unlink_counts, unlink_changed, unlink_target, unlink_yes, unlink_no}
 use Rattle.one_drafting.proofs.linking.draft_unlink.Goals as goal
 
 pub lower-requires-clause-some : goal.lower-requires-clause-some

@@ -1,6 +1,6 @@
 use Rattle.std.proofs.Common.{sym, ◌∙◌, arith}
 use Rattle.graph_update.specs.PendingChanges.{graph_after}
-use Rattle.one_drafting.proofs.Pendings.{parent_yes, parent_no, parents_few, lost_most}
+use Rattle.one_drafting.proofs.PendingChanges.{parent_yes, parent_no, parents_few, lost_most}
 use Rattle.one_drafting.proofs.linking.has_parent_in.Goals as goal
 
 pub returns-clause-yes : goal.returns-clause-yes

@@ -1,4 +1,4 @@
-use Rattle.one_drafting.proofs.Pendings.{drop_target, drop_changed}
+use Rattle.one_drafting.proofs.PendingChanges.{drop_target, drop_changed}
 use Rattle.one_drafting.proofs.nodes.draft_drop.Goals as goal
 
 pub returns-clause-changed : goal.returns-clause-changed

@@ -4,7 +4,7 @@ use Rattle.px_spec.specs.Members.{at, Lists}
 use Rattle.graph_update.specs.PendingChanges.{graph_after}
 use Rattle.quotient_draft.specs.Drafts.{shown_blocks, shown_labels, shown_support}
 use Rattle.one_drafting.specs.OneDrafts.{reached}
-use Rattle.one_drafting.proofs.Stepping.{has_graph}
+use Rattle.one_drafting.proofs.PhaseLaws.{has_graph}
 use Rattle.one_drafting.proofs.Unreached.{HaveBlocks, merged_whole, one_given, reached_listed, search_light}
 use Rattle.one_drafting.proofs.phases.merge.Goals as goal
 

@@ -4,7 +4,7 @@ use Rattle.px_spec.specs.Shapes.{shape_of}
 use Rattle.graph_update.specs.PendingChanges.{graph_after}
 use Rattle.quotient_draft.specs.Drafts.{shown_blocks}
 use Rattle.upkeep_spec.proofs.SplitRounds.{stable_at_end}
-use Rattle.one_drafting.proofs.Stepping.{one_once, reach_cost}
+use Rattle.one_drafting.proofs.PhaseLaws.{one_once, reach_cost}
 use Rattle.one_drafting.proofs.Unreached.{split_reached, split_of}
 use Rattle.one_drafting.proofs.phases.split.Goals as goal
 

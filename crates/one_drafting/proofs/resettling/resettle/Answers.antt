@@ -3,7 +3,7 @@ use Rattle.px_spec.specs.Members.{at}
 use Rattle.label_graph.specs.Views.{label_number}
 use Rattle.graph_update.specs.PendingChanges.{graph_after}
 use Rattle.quotient_draft.specs.Drafts.{shown_blocks, shown_labels, shown_support}
-use Rattle.one_drafting.proofs.Stepping.{one_once, stable_there, few_after, has_graph, reach_cost, stepped, AreAdded}
+use Rattle.one_drafting.proofs.PhaseLaws.{one_once, stable_there, few_after, has_graph, reach_cost, stepped, AreAdded}
 use Rattle.one_drafting.proofs.resettling.resettle.Goals as goal
 
 pub split-requires-clause-once : goal.split-requires-clause-once
@@ -11,7 +11,7 @@ split-requires-clause-once g c = one_once c.args.target
 
 pub split-requires-clause-stable : goal.split-requires-clause-stable
 split-requires-clause-stable g c =
-    stable_there c.args.after.now.before c.args.after.now.change c.args.target c.args.base.now c.args.draft.now c.requires.before.graph c.requires.before.graph_after
+    stable_there c.args.after.now.before c.args.after.now.change c.args.target c.args.index.now.base.now c.args.draft.now c.requires.before.graph c.requires.before.graph_after
     c.requires.before.fits c.requires.target c.requires.changed
 
 pub returns-in_err-split-clause-cost : goal.returns-in_err-split-clause-cost
@@ -32,14 +32,14 @@ returns-clause-cost g c =
 
 pub merge-requires-clause-graph : goal.merge-requires-clause-graph
 merge-requires-clause-graph g c =
-    has_graph (graph_after c.args.after.now) (shown_blocks c.args.base.now c.split.new.draft) (at (shown_labels c.args.base.now c.split.new.draft))
-    (shown_support c.args.base.now c.split.new.draft) c.in_ok-split.ensures.supports (few_after c.args.after.now.change c.args.after.now.before c.requires.before.new c.requires.before.few)
+    has_graph (graph_after c.args.after.now) (shown_blocks c.args.index.now.base.now c.split.new.draft) (at (shown_labels c.args.index.now.base.now c.split.new.draft))
+    (shown_support c.args.index.now.base.now c.split.new.draft) c.in_ok-split.ensures.supports (few_after c.args.after.now.change c.args.after.now.before c.requires.before.new c.requires.before.few)
     c.in_ok-split.ensures.named
 
 pub returns-clause-drafted : goal.returns-clause-drafted
 returns-clause-drafted g c =
     let a = c.args.after.now in
-    let q = c.args.base.now in
+    let q = c.args.index.now.base.now in
     let added = subst (AreAdded c.args.target (shown_blocks q c.split.new.draft) c.split.new.made.items) (sym c.deref.ensures.value)
     (record { made_there = c.in_ok-add_block.ensures.kept; target_there = c.in_ok-add_block.ensures.there }) in
     record {

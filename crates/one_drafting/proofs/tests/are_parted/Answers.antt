@@ -3,7 +3,7 @@ use Rattle.std.proofs.Common.{[], ◌∷◌}
 use Rattle.label_graph.specs.Views.{label_number}
 use Rattle.graph_update.specs.PendingChanges.{graph_after}
 use Rattle.quotient_draft.specs.Drafts.{shown_blocks, shown_labels}
-use Rattle.one_drafting.proofs.Stepping.{named_off, stable_there}
+use Rattle.one_drafting.proofs.PhaseLaws.{named_off, stable_there}
 use Rattle.one_drafting.proofs.tests.are_parted.Goals as goal
 
 pub split-requires-clause-stable : goal.split-requires-clause-stable
