@@ -1,7 +1,6 @@
 -- A table of supports as its entries, which a hash finds.
-use Rattle.std.proofs.Common.{◌≡◌, ◌≢◌, ℕ, zero, suc, ◌+◌, ◌⊎◌, List, [], ◌∷◌, Option, Some, None, refl, sym, ◌∙◌, ap, arith, inl, inr, true, false, Bool, cond, ◌&&◌, unwrap_or, length, slice_get, map as map_list}
-use Rattle.std.specs.Prelude.{nat_eq, nat_lt, is_some, option_map}
-use Rattle.std.proofs.lemmas.Option.{slice_get-map}
+use Rattle.std.proofs.Common.{◌≡◌, ◌≢◌, ℕ, zero, suc, ◌+◌, ◌⊎◌, List, [], ◌∷◌, Option, Some, None, refl, sym, ◌∙◌, ap, arith, inl, inr, true, false, Bool, cond, ◌&&◌, unwrap_or, length, slice_get}
+use Rattle.std.specs.Prelude.{nat_eq, nat_lt, is_some}
 use Rattle.std.specs.List.{IsDistinct, AllByRecursion, position_or_len}
 use Rattle.std.proofs.lemmas.Map.Keys.{IsDistinct-head, IsDistinct-tail}
 use Rattle.std.specs.Ordering.{nat_cmp, eq_by_cmp, is_eq}
@@ -77,13 +76,6 @@ entries_len (e ∷ es) d =
     let absent : is_some (map.get {R = edge_cmp} (map.from_entries es) e.0) ≡ false = ap is_some (found es e.0) ∙ absent_key e.0 es (IsDistinct-head same e.0 (keys_of es) d) in
     let rest = entries_len es (IsDistinct-tail same e.0 (keys_of es) d) in
     map.len-insert edge_cmp_total (map.from_entries es) e.0 e.1 ∙ rw absent (omega (arith, rest))
-
-value_at : (es : List ((ℕ × ℕ) × ℕ)) (i : ℕ) (q : ℕ × ℕ) (x : ℕ) → slice_get es i ≡ Some (q, x) → slice_get (map_list (λ (e : (ℕ × ℕ) × ℕ). e.1) es) i ≡ Some x
-value_at es i q x e = slice_get-map (λ (p : (ℕ × ℕ) × ℕ). p.1) es i ∙ ap (option_map (λ (p : (ℕ × ℕ) × ℕ). p.1)) e
-
--- the value at a pair's index is that of the pair
-pub value_is : (es : List ((ℕ × ℕ) × ℕ)) (i : ℕ) (q : ℕ × ℕ) (x n : ℕ) → slice_get es i ≡ Some (q, x) → Some n ≡ slice_get (map_list (λ (e : (ℕ × ℕ) × ℕ). e.1) es) i → x ≡ n
-value_is es i q x n at value = let same_value : Some n ≡ Some x = value ∙ value_at es i q x at in cc
 
 -- a pair that is put in stands at the index that it had, or behind the others
 put_at : (es : List ((ℕ × ℕ) × ℕ)) (q : ℕ × ℕ) (v : ℕ) → slice_get (insert_entry same es q v) (position_or_len (same q) (keys_of es)) ≡ Some (q, v)

@@ -6,7 +6,6 @@ ghost use Rattle.bisim_spec.specs.Views.{support_at};
 ghost use Rattle.quotient.specs.Joined.{AreNear, AreLive, AreBelow, AreFew, one_if, pairs_with};
 
 use crate::joins::Joins;
-use crate::supports::{Held, empty_hand};
 use block_partition::Blocks;
 use px_base::{Memory, NodeId};
 use std::alloc::Global;
@@ -51,7 +50,7 @@ fn gather_edge(
 }
 
 // Counts the pairs of blocks.
-fn count_pairs(joins: &mut Joins, hand: &mut Vec<Held>, pairs: &[(u32, u32)]) -> Result<(), Memory>
+fn count_pairs(joins: &mut Joins, pairs: &[(u32, u32)]) -> Result<(), Memory>
     requires few { (x y : ℕ) → support_at joins.old.supports.pairs x y + pairs_with pairs.now x y ≤ 2 ^ 30 }
     requires below { AreBelow (length joins.old.children.lists) pairs.now }
     requires near { AreNear joins.old.supports.pairs joins.old.children.lists joins.old.parents.lists }
@@ -62,18 +61,14 @@ fn count_pairs(joins: &mut Joins, hand: &mut Vec<Held>, pairs: &[(u32, u32)]) ->
     ensures parents { OnOk result (length joins.new.parents.lists ≡ length joins.old.parents.lists) }
 {
     for (a, b) in pairs {
-        joins.count(hand, *a, *b)?;
+        joins.count(*a, *b)?;
     }
     Ok(())
 }
 
 // Counts the pairs of blocks that were gathered, once they are many.
 #[inline(always)]
-fn count_batch(
-    joins: &mut Joins,
-    hand: &mut Vec<Held>,
-    pairs: &mut Vec<(u32, u32)>,
-) -> Result<(), Memory>
+fn count_batch(joins: &mut Joins, pairs: &mut Vec<(u32, u32)>) -> Result<(), Memory>
     requires few { (x y : ℕ) → support_at joins.old.supports.pairs x y + pairs_with pairs.old.items x y ≤ 2 ^ 30 }
     requires below { AreBelow (length joins.old.children.lists) pairs.old.items }
     requires near { AreNear joins.old.supports.pairs joins.old.children.lists joins.old.parents.lists }
@@ -87,7 +82,7 @@ fn count_batch(
     if pairs.len() < BATCH {
         return Ok(());
     }
-    count_pairs(joins, hand, pairs)?;
+    count_pairs(joins, pairs)?;
     pairs.clear();
     Ok(())
 }
@@ -109,12 +104,11 @@ pub(crate) fn count_edges(
 {
     let span = blocks.span() as usize;
     let mut joins = Joins::new(alloc, span, edges.len().min(2 * span))?;
-    let mut hand = empty_hand(alloc)?;
     let mut pairs = Vec::with_capacity(alloc, BATCH)?;
     for (from, onto) in edges {
         gather_edge(&mut pairs, blocks, *from, *onto)?;
-        count_batch(&mut joins, &mut hand, &mut pairs)?;
+        count_batch(&mut joins, &mut pairs)?;
     }
-    count_pairs(&mut joins, &mut hand, &pairs)?;
+    count_pairs(&mut joins, &pairs)?;
     Ok(joins)
 }

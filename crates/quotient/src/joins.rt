@@ -7,7 +7,7 @@ ghost use Rattle.quotient.specs.Kept.{IsWritten};
 
 use crate::block_neighbours::BlockNeighbours;
 use crate::places::Place;
-use crate::supports::{Held, Supports};
+use crate::supports::Supports;
 use px_base::Memory;
 use std::alloc::Global;
 
@@ -34,9 +34,9 @@ impl Joins {
         })
     }
 
-    /// Counts an edge from one block to another, with pairs at hand.
+    /// Counts an edge from one block to another.
     #[inline(always)]
-    pub(crate) fn count(&mut self, hand: &mut Vec<Held>, a: u32, b: u32) -> Result<(), Memory>
+    pub(crate) fn count(&mut self, a: u32, b: u32) -> Result<(), Memory>
         requires from { a < length self.old.children.lists }
         requires onto { b < length self.old.parents.lists }
         requires few { support_at self.old.supports.pairs a b < 2 ^ 32 - 1 }
@@ -46,7 +46,7 @@ impl Joins {
         ensures children { OnOk result (length self.new.children.lists ≡ length self.old.children.lists) }
         ensures parents { OnOk result (length self.new.parents.lists ≡ length self.old.parents.lists) }
     {
-        if self.supports.raise(hand, a, b)? {
+        if self.supports.raise(a, b)? {
             let place = Place::new(self.children.count(a), self.parents.count(b));
             self.supports.push_place(place)?;
             self.children.push(a, b)?;

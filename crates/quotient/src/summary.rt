@@ -61,7 +61,7 @@ impl Summary {
     /// The quotient by a partition, from a list of edges: the support of a pair of blocks is the number of
     /// edges of the list from a member of the first to a member of the second. Where memory runs out, the blocks
     /// are dropped. Expected O(`span` + m) for m edges; it takes memory for each pair with support, for the list of
-    /// neighbours of each block number, and 80 KiB while it runs.
+    /// neighbours of each block number, and 32 KiB while it runs.
     pub fn of_edges(alloc: Global, blocks: Blocks, edges: &EdgeList) -> Result<Summary, Memory>
         ensures blocks { IfOk result (λ s. s.blocks ≡ blocks) }
         ensures supports { IfOk result (λ s. (a b : ℕ) → support_at s.supports a b ≡ support edges.now blocks.block_of a b) }

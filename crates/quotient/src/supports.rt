@@ -1,7 +1,6 @@
 // How many edges lead from one block to another.
-ghost use Rattle.std.specs.Prelude.{◌≡◌, ◌+◌, ◌-◌, ◌<◌, ◌≤◌, ◌^◌, ◌&&◌, ℕ, false, Some, None, IsTrue, IsFalse, IfOk, OnOk, IfSome, IfNone, nat_eq, slice_get};
+ghost use Rattle.std.specs.Prelude.{◌≡◌, ◌+◌, ◌-◌, ◌<◌, ◌≤◌, ◌^◌, IfOk, OnOk, nat_eq};
 ghost use Rattle.std.specs.FinMap as map;
-ghost use Rattle.indexmap.specs.IndexMap.{get};
 ghost use Rattle.bisim_spec.specs.Views.{support_at};
 ghost use Rattle.quotient.specs.Quotients.{pair_count, with_support};
 ghost use Rattle.quotient.specs.Joined.{with_one_more};
@@ -149,54 +148,14 @@ impl Supports {
         }
     }
 
-    /// Counts one more edge, and answers whether it is the first of its pair. Where the pair stands is
-    /// taken from those at hand, if it is one of them.
+    /// Counts one more edge, and answers whether it is the first of its pair.
     #[inline(always)]
-    pub(crate) fn raise(&mut self, hand: &mut Vec<Held>, a: u32, b: u32) -> Result<bool, Memory>
-        requires few { support_at self.old.pairs a b < 2 ^ 32 - 1 }
-        ensures raised { OnOk result (self.new.pairs ≡ with_one_more self.old.pairs a b) }
-        ensures first { IfOk result (λ first. first ≡ nat_eq (support_at self.old.pairs a b) 0) }
-    {
-        let slot = slot_of(a, b);
-        if !self.raise_at(read_hand(hand, slot, a, b), a, b) {
-            return self.raise_found(hand, slot, a, b);
-        }
-        Ok(false)
-    }
-
-    // Counts one more edge, if the pair stands at this index.
-    #[inline(always)]
-    fn raise_at(&mut self, i: usize, a: u32, b: u32) -> bool
-        requires few { support_at self.old.pairs a b < 2 ^ 32 - 1 }
-        ensures raised { IsTrue result → self.new.pairs ≡ with_one_more self.old.pairs a b }
-        ensures some { IsTrue result → false ≡ nat_eq (support_at self.old.pairs a b) 0 }
-        ensures left { IsFalse result → self.new ≡ self.old }
-    {
-        if !is_at(&self.table, i, a, b) {
-            return false;
-        }
-        if let Some(count) = self.table.get_index_mut(i) {
-            *count += 1;
-            return true;
-        }
-        false
-    }
-
-    // Counts one more edge of a pair that is found by hash, and has its index at hand, in place of
-    // another one.
-    fn raise_found(
-        &mut self,
-        hand: &mut Vec<Held>,
-        slot: usize,
-        a: u32,
-        b: u32,
-    ) -> Result<bool, Memory>
+    pub(crate) fn raise(&mut self, a: u32, b: u32) -> Result<bool, Memory>
         requires few { support_at self.old.pairs a b < 2 ^ 32 - 1 }
         ensures raised { OnOk result (self.new.pairs ≡ with_one_more self.old.pairs a b) }
         ensures first { IfOk result (λ first. first ≡ nat_eq (support_at self.old.pairs a b) 0) }
     {
         let (i, before) = self.table.insert_full((a, b), 1)?;
-        write_hand(hand, slot, a, b, i);
         let Some(n) = before else {
             return Ok(true);
         };
@@ -205,64 +164,5 @@ impl Supports {
         };
         *count = n + 1;
         Ok(false)
-    }
-}
-
-/// How many pairs are at hand at most.
-const HAND: usize = 1 << BITS;
-
-// How many bits the number of a slot has.
-const BITS: u32 = 12;
-
-/// A pair of blocks at hand, and its index in the table, which is looked at before it is taken.
-#[derive(Clone, Copy)]
-pub(crate) struct Held {
-    a: u32,
-    b: u32,
-    i: u32,
-}
-
-/// No pairs at hand.
-pub(crate) fn empty_hand(alloc: Global) -> Result<Vec<Held>, Memory> {
-    let none = Held {
-        a: 0,
-        b: 0,
-        i: u32::MAX,
-    };
-    let hand = vec![in alloc; none; HAND]?;
-    Ok(hand)
-}
-
-// The slot in which a pair is at hand, if it is: some bits of both numbers.
-#[inline(always)]
-fn slot_of(a: u32, b: u32) -> usize {
-    ((a.wrapping_mul(0x9E37_79B9) ^ b.wrapping_mul(0x85EB_CA6B)) >> (32 - BITS)) as usize
-}
-
-// The index that is at hand for a pair, and one past all where none is.
-#[inline(always)]
-fn read_hand(hand: &[Held], slot: usize, a: u32, b: u32) -> usize {
-    match hand.get(slot) {
-        Some(held) if held.a == a && held.b == b => held.i as usize,
-        _ => usize::MAX,
-    }
-}
-
-#[inline(always)]
-fn write_hand(hand: &mut Vec<Held>, slot: usize, a: u32, b: u32, i: usize) {
-    if slot < hand.len() {
-        let i = u32::try_from(i).unwrap_or(u32::MAX);
-        hand[slot] = Held { a, b, i };
-    }
-}
-
-// Whether the pair stands at this index.
-#[inline(always)]
-fn is_at(table: &IndexMap<(u32, u32), u32>, i: usize, a: u32, b: u32) -> bool
-    ensures { IsTrue result → (n : ℕ) × (slice_get table.now.entries i ≡ Some ((a, b), n)) × (get (λ x y. nat_eq x.0 y.0 && nat_eq x.1 y.1) table.now (a, b) ≡ Some n) }
-{
-    match table.get_index(i) {
-        Some((pair, _)) => pair.0 == a && pair.1 == b,
-        None => false,
     }
 }

@@ -7,7 +7,7 @@ use Rattle.indexmap.proofs.CallerLemmas.{updates-with_value_at}
 use Rattle.quotient.specs.Joined.{IsPositive}
 use Rattle.quotient.proofs.Looked.{same_laws, written, twice, stands_put, positive_with, found_in, supported_not_zero}
 use Rattle.quotient.specs.Kept.{KeptPairs}
-use Rattle.quotient.proofs.supports.Supports.raise_found.Goals as goal
+use Rattle.quotient.proofs.supports.Supports.raise.Goals as goal
 
 pub overflow_add-count : goal.overflow_add-count
 overflow_add-count c =
