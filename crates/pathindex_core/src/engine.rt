@@ -17,7 +17,7 @@ ghost use Rattle.pathindex_core.specs.Engines.{engine_seen, opened_of, graph_in,
 ghost use Rattle.pathindex_core.specs.Updates.{outcome_in, opened_after, IsUpdated};
 
 use crate::asking::ask;
-use crate::boxes::{build_all, box_place, take_out};
+use crate::boxes::{box_place, build_all, take_out};
 use crate::errors::{AskError, UpdateError};
 use crate::lists::{list, measure};
 use crate::state::Open;
