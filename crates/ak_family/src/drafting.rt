@@ -110,7 +110,7 @@ impl AkFamily {
 // Drafting.
 impl AkFamily {
     /// Drafts a block of a level, without members, with a key that no block has there as shown. Its number is the least that is no block
-    /// there as shown. Expected O(l) for a key of l numbers, spread over all that are drafted; it takes the memory of a block and of the key.
+    /// there as shown. Expected O(l) for a key of l numbers, amortized; it takes the memory of a block and of the key.
     pub fn new_block(&self, d: &mut AkDraft, i: u32, label: u32, key: &[u32]) -> Result<u32, Memory>
         requires over { AreOver self.now d.old }
         requires level { i < length self.now }
@@ -174,8 +174,8 @@ impl AkFamily {
         }
     }
 
-    /// Drafts the move of a node, which is below 2^31, to a block of a level as shown, or out of its block there. Expected O(1), spread over
-    /// all that are drafted; it takes the memory of one move.
+    /// Drafts the move of a node, which is below 2^31, to a block of a level as shown, or out of its block there. Expected O(1), amortized;
+    /// it takes the memory of one move.
     pub fn put(&self, d: &mut AkDraft, i: u32, n: NodeId, b: Option<u32>) -> Result<(), Memory>
         requires over { AreOver self.now d.old }
         requires level { i < length self.now }
@@ -194,7 +194,7 @@ impl AkFamily {
         Ok(())
     }
 
-    /// Drafts that one more edge leads from `a` to `b`, both blocks of a level as shown. Expected O(1), spread over all that are drafted; it
+    /// Drafts that one more edge leads from `a` to `b`, both blocks of a level as shown. Expected O(1), amortized; it
     /// takes the memory of one pair.
     pub fn raise(&self, d: &mut AkDraft, i: u32, a: u32, b: u32) -> Result<(), Memory>
         requires over { AreOver self.now d.old }
@@ -215,8 +215,8 @@ impl AkFamily {
         Ok(())
     }
 
-    /// Drafts that one edge fewer leads from `a` to `b`, both blocks of a level as shown, which have support. Expected O(1), spread over all
-    /// that are drafted; it takes the memory of one pair.
+    /// Drafts that one edge fewer leads from `a` to `b`, both blocks of a level as shown, which have support. Expected O(1), amortized; it
+    /// takes the memory of one pair.
     pub fn lower(&self, d: &mut AkDraft, i: u32, a: u32, b: u32) -> Result<(), Memory>
         requires over { AreOver self.now d.old }
         requires level { i < length self.now }

@@ -20,6 +20,13 @@ use std::sync::ledger::{Blank, Ledger};
 /// The A(0)- to A(k)-indexes of a graph, kept while it changes. A change is drafted over the family in force: at each level the
 /// nodes near the change's target move to the blocks of their keys. How much of the graph is read depends on what is near the
 /// change, and not on the size of the graph.
+///
+/// An index of its own, without an engine:
+///
+///     let mut index = AkIndex::new(alloc)?;
+///     index.build(&graph.view(&mut steps), 2)?;
+///     index.prepare(&graph, &change)?;
+///     index.commit();
 #[derive(Drop)]
 pub struct AkIndex {
     alloc: Global,

@@ -28,6 +28,20 @@ pub get_last : (xs : List (List ℕ)) (x : List ℕ) → slice_get (xs ++ x ∷ 
 get_last [] x = refl
 get_last (z ∷ xs) x = get_last xs x
 
+-- the number of a key leads to it
+pub interned_at : (old new : List (List ℕ)) (key : List ℕ) (k : ℕ) → Interns old new key k → slice_get new k ≡ Some key
+interned_at old new key k interned = elim interned [
+  | inl (there, same) ↦ ap (λ ks. slice_get ks k) same ∙ there
+  | inr (absent, found, added) ↦ ap (λ ks. slice_get ks k) added ∙ ap (λ j. slice_get (old ++ key ∷ []) j) found ∙ get_last old key
+]
+
+-- and keys that were there stay
+pub interned_stays : (old new : List (List ℕ)) (key : List ℕ) (k : ℕ) → Interns old new key k → (j : ℕ) (x : List ℕ) → slice_get old j ≡ Some x → slice_get new j ≡ Some x
+interned_stays old new key k interned j x e = elim interned [
+  | inl (there, same) ↦ ap (λ ks. slice_get ks j) same ∙ e
+  | inr (absent, found, added) ↦ ap (λ ks. slice_get ks j) added ∙ get_append old (key ∷ []) j x e
+]
+
 pub distinct_none : AreDistinct []
 distinct_none = record { apart = λ i j key e f. absurd (cc) }
 

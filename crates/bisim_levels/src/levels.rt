@@ -10,7 +10,7 @@ ghost use Rattle.bisim_levels.specs.declared.sides.Side.TheVariants.{Parents, Ch
 ghost use Rattle.bisim_levels.specs.Sides.{is_near, no_neighbours};
 ghost use Rattle.bisim_levels.specs.Refinement.{AreNumbered, AreNumberedTwice, AreBlocksBelow, Numbers};
 
-use crate::recent::RecentKeys;
+use crate::recent_keys::RecentKeys;
 use crate::refining::{Level, refine};
 use crate::sides::Side;
 use label_graph::{Digraph, GraphView};

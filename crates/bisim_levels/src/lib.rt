@@ -3,7 +3,7 @@
 
 mod keys;
 mod levels;
-mod recent;
+mod recent_keys;
 mod refining;
 mod sides;
 #[cfg(test)]

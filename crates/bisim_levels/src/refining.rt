@@ -11,7 +11,7 @@ ghost use Rattle.bisim_levels.specs.Keys.{IsWritten};
 ghost use Rattle.bisim_levels.specs.Refinement.{Refines, AreNumbered, AreBlocksBelow, Numbers};
 
 use crate::keys::{block_of, only_block};
-use crate::recent::RecentKeys;
+use crate::recent_keys::RecentKeys;
 use crate::sides::Side;
 use key_table::KeyTable;
 use label_graph::{Digraph, GraphView};

@@ -18,6 +18,14 @@ use std::marker::Model;
 ///
 /// It takes 12 bytes for each node number, and little more than 24 for each block number. A call that takes
 /// 'no memory' asks the allocator for none.
+///
+/// Two nodes in one block. Only the call that makes room can fail:
+///
+///     let mut blocks = Blocks::new(alloc)?;
+///     blocks.reserve(2, 1)?;
+///     let block = blocks.new_block(label);
+///     blocks.place(0, block);
+///     blocks.place(1, block);
 #[derive(Drop)]
 pub struct Blocks {
     block: Slots,

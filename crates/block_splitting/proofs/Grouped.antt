@@ -5,8 +5,7 @@ use Rattle.std.proofs.lemmas.Bool.{or_cases, or_left, or_right, both_ways}
 use Rattle.std.proofs.lemmas.Bool.Decides.{Decides-eqb, eqb_tells}
 use Rattle.std.proofs.lemmas.List.{get_or-set_same, get_or-set_other}
 use Rattle.key_table.specs.NumberedKeys.{AreDistinct, Interns}
-use Rattle.bisim_levels.proofs.NumberedNodes.{distinct_none}
-use Rattle.bisim_levels.proofs.Recalled.{interned_at, interned_stays}
+use Rattle.bisim_levels.proofs.NumberedNodes.{distinct_none, interned_at, interned_stays}
 use Rattle.block_splitting.specs.Groups.{AreGrouped}
 use Rattle.block_splitting.proofs.Lists.{get_push_cases}
 

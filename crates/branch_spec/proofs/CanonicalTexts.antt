@@ -6,7 +6,7 @@ use Rattle.path_spec.specs.Spelling.{EndsName, EndsSlash}
 use Rattle.branch_spec.specs.Trees.{Axis, child, below, parent, above, Test, label, any, Step, step, Preds, none, pred, Or, one, or, And, lone, and, Cond, fails, group, rel, always, Chain, end, go, Branch, branch}
 use Rattle.branch_spec.specs.Tokens.{Token, lab, underscore, axis, left, right, opening, closing, not_word, and_word, or_word, nothing, test_onto, step_onto, preds_onto, or_onto, and_onto, cond_onto, chain_onto, tokens, EndsOr, EndsAnd, EndsChain, EndsStep}
 use Rattle.branch_spec.specs.Spelling.{EndsBackslash, EndsToken, axis_text, token_text, canonical, SpellsTokens, Spells}
-use Rattle.branch_spec.proofs.OneReading.{ends_or_and, ends_and_chain, chain_ends}
+use Rattle.branch_spec.proofs.OneQuery.{ends_or_and, ends_and_chain, chain_ends}
 
 -- what may follow a name at once
 abbrev pub NoName : List Token → Type 0

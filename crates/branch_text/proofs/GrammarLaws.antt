@@ -2,7 +2,7 @@
 use Rattle.std.proofs.Common.{◌≡◌, ℕ, List, [], ◌∷◌, ◌++◌, length, refl, sym, ap, ◌∙◌, subst}
 use Rattle.branch_spec.specs.Trees as tree
 use Rattle.branch_spec.specs.Tokens.{Token, lab, underscore, axis, left, right, opening, closing, not_word, and_word, or_word, nothing, test_onto, step_onto, preds_onto, or_onto, and_onto, cond_onto, chain_onto, tokens, EndsOr, EndsAnd, EndsChain, EndsStep}
-use Rattle.branch_spec.proofs.OneReading.{ends_or_and, ends_and_chain, chain_ends, one_test, one_step, one_or, one_and, one_cond, one_chain}
+use Rattle.branch_spec.proofs.OneQuery.{ends_or_and, ends_and_chain, chain_ends, one_test, one_step, one_or, one_and, one_cond, one_chain}
 use Rattle.branch_sets.specs.Axes.{axis_of}
 use Rattle.branch_expr.specs.declared.tree.Cond.{Cond}
 use Rattle.branch_expr.specs.declared.tree.And.{And}

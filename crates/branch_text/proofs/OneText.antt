@@ -3,7 +3,7 @@ use Rattle.std.proofs.Common.{◌≡◌, ℕ, List, [], ◌∷◌, refl, sym, ap
 use Rattle.branch_spec.specs.Trees.{Branch}
 use Rattle.branch_spec.specs.Tokens.{Token, lab, tokens}
 use Rattle.branch_spec.specs.Spelling.{SpellsTokens}
-use Rattle.branch_spec.proofs.OneReading.{one_reading}
+use Rattle.branch_spec.proofs.OneQuery.{one_reading}
 use Rattle.path_query.specs.Labels.{SpellsLabel}
 use Rattle.branch_text.specs.Fronts.{IsTokenFront, mark_front, label_len}
 use Rattle.branch_text.specs.Parsed.{Spells}

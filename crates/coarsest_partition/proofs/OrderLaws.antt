@@ -19,8 +19,7 @@ use Rattle.bisim_levels.specs.declared.sides.Side.TheVariants.{Parents, Children
 use Rattle.bisim_levels.specs.Sides.{is_near}
 use Rattle.bisim_levels.specs.Keys.{IsKey, IsWritten}
 use Rattle.bisim_levels.specs.Refinement.{Share, StayTogether, AreBlocksBelow}
-use Rattle.bisim_levels.proofs.NumberedNodes.{distinct_none}
-use Rattle.bisim_levels.proofs.Recalled.{interned_at, interned_stays}
+use Rattle.bisim_levels.proofs.NumberedNodes.{distinct_none, interned_at, interned_stays}
 use Rattle.bisim_levels.proofs.Views.{label_at, node_number, number_node}
 use Rattle.bisim_levels.proofs.Written.{key_of, key_from_together, together_from_key}
 use Rattle.block_partition.specs.Partitions.{Partition}

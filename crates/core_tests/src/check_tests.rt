@@ -71,7 +71,7 @@ struct Checks {
 impl EngineTask for Checks {
     ghost use Rattle.std.specs.Prelude.{⊤};
 
-    type Answer = bool;
+    type Output = bool;
 
     ghost gives = { λ _ _. ⊤ };
 

@@ -59,7 +59,7 @@ impl PathIndex for FailingIndex {
 pub(crate) fn with_failing_engine<T: EngineTask>(
     alloc: Global,
     task: T,
-) -> Result<T::Answer, Memory>
+) -> Result<T::Output, Memory>
     ensures { IfOk result (T.gives task) }
 {
     let failing = FailingIndex {

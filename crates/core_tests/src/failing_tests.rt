@@ -55,7 +55,7 @@ fn front_of(written: &[u8]) -> Option<usize> {
 
 impl EngineTask for Failing {
     // how many bytes are written, where the run ends with this status and they are the first of the lists
-    type Answer = Option<usize>;
+    type Output = Option<usize>;
 
     ghost gives = { λ _ _. ⊤ };
 

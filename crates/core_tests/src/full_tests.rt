@@ -288,7 +288,7 @@ struct Asks {}
 impl EngineTask for Asks {
     ghost use Rattle.std.specs.Prelude.{⊤};
 
-    type Answer = bool;
+    type Output = bool;
 
     ghost gives = { λ _ _. ⊤ };
 

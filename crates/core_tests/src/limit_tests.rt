@@ -49,7 +49,7 @@ struct Overfills {}
 impl EngineTask for Overfills {
     ghost use Rattle.std.specs.Prelude.{⊤};
 
-    type Answer = bool;
+    type Output = bool;
 
     ghost gives = { λ _ _. ⊤ };
 

@@ -89,7 +89,7 @@ struct Changes {
 }
 
 impl EngineTask for Changes {
-    type Answer = bool;
+    type Output = bool;
 
     ghost gives = { λ _ _. ⊤ };
 
@@ -162,7 +162,7 @@ struct Lists {
 }
 
 impl EngineTask for Lists {
-    type Answer = bool;
+    type Output = bool;
 
     ghost gives = { λ _ _. ⊤ };
 
@@ -213,7 +213,7 @@ fn words(alloc: Global) -> Option<Vec<String>> {
 
 impl EngineTask for Run {
     // whether it ends so; none where there is no memory for its files
-    type Answer = Option<bool>;
+    type Output = Option<bool>;
 
     ghost gives = { λ _ _. ⊤ };
 

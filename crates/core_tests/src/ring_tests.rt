@@ -77,7 +77,7 @@ struct Rings {
 impl EngineTask for Rings {
     ghost use Rattle.std.specs.Prelude.{⊤};
 
-    type Answer = bool;
+    type Output = bool;
 
     ghost gives = { λ _ _. ⊤ };
 
@@ -142,7 +142,7 @@ struct NewRings {}
 impl EngineTask for NewRings {
     ghost use Rattle.std.specs.Prelude.{⊤};
 
-    type Answer = bool;
+    type Output = bool;
 
     ghost gives = { λ _ _. ⊤ };
 

@@ -4,7 +4,7 @@ use Rattle.std.specs.Prelude.{◌&&◌, ◌||◌, not, nat_eq, is_some, IsSome}
 use Rattle.std.proofs.lemmas.Bool.{or_cases, or_left, or_right}
 use Rattle.std.proofs.Common.{eqb-true}
 use Rattle.px_spec.specs.Members.{has}
-use Rattle.data_validate.specs.Ancestors.{Leading, IsFew, IsLeading, IsNoted, IsSpread}
+use Rattle.data_validate.specs.Ancestors.{HasWalk, IsFew, AreAncestors, IsNoted, IsSpread}
 use Rattle.data_validate.proofs.NotedNodes.{has_more}
 
 both : (a b : Bool) → (a && b) ≡ true → (a ≡ true) × (b ≡ true)
@@ -75,7 +75,7 @@ module _ (label_at : ℕ → Option ℕ) (edge : ℕ → ℕ → Bool) (set : Li
   pub record IsMet (edges : ℕ) (current met : List ℕ) : Type 0 where
     pub nodes : (v : ℕ) → IsTrue (has current v) → IsSome (label_at v)
     pub done : (u v : ℕ) → IsTrue (edge u v) → IsTrue (has met v) → IsTrue (has current v) ⊎ IsTrue (has met u)
-    pub far : (k u v : ℕ) → k ≤ edges → IsTrue (has set v) → IsSome (label_at v) → Leading edge k u v → IsTrue (has met u)
+    pub far : (k u v : ℕ) → k ≤ edges → IsTrue (has set v) → IsSome (label_at v) → HasWalk edge k u v → IsTrue (has met u)
 
   pub met_begins : (met current : List ℕ) → IsNoted (λ c. has set c && is_some (label_at c)) [] [] met current → IsMet 0 current met
   met_begins met current n =
@@ -86,7 +86,7 @@ module _ (label_at : ℕ → Option ℕ) (edge : ℕ → ℕ → Bool) (set : Li
         far = λ k u v le s l h. at_once k u v le s l h;
       }
     where
-      at_once : (k u v : ℕ) → k ≤ 0 → IsTrue (has set v) → IsSome (label_at v) → Leading edge k u v → IsTrue (has met u)
+      at_once : (k u v : ℕ) → k ≤ 0 → IsTrue (has set v) → IsSome (label_at v) → HasWalk edge k u v → IsTrue (has met u)
       at_once zero u v le s l h =
           let passes : ℕ → Bool = λ c. has set c && is_some (label_at c) in
           noted_meets passes [] [] met current n u (subst (λ x. IsTrue (passes x)) (sym h) (ap (λ b. b && is_some (label_at v)) s ∙ l))
@@ -106,17 +106,17 @@ module _ (label_at : ℕ → Option ℕ) (edge : ℕ → ℕ → Bool) (set : Li
       onto : (u w : ℕ) → IsTrue (edge u w) → IsTrue (has met w) → IsTrue (has met2 u)
       onto u w e h = elim (a.done u w e h) [ inl here ↦ s.parents u w here e | inr there ↦ s.stays u there ]
 
-      further : (k u v : ℕ) → k ≤ edges + 1 → IsTrue (has set v) → IsSome (label_at v) → Leading edge k u v → IsTrue (has met2 u)
+      further : (k u v : ℕ) → k ≤ edges + 1 → IsTrue (has set v) → IsSome (label_at v) → HasWalk edge k u v → IsTrue (has met2 u)
       further zero u v le h l leads = s.stays u (a.far zero u v (omega arith) h l leads)
       further (suc k) u v le h l leads = onto u leads.0 leads.1 (a.far k leads.0 v (omega arith) h l leads.2)
 
   -- where no node is left, or there are enough edges
-  pub met_closed : (edges : ℕ) (met : List ℕ) (most : Option ℕ) → IsMet edges [] met → IsLeading label_at edge most set met
+  pub met_closed : (edges : ℕ) (met : List ℕ) (most : Option ℕ) → IsMet edges [] met → AreAncestors label_at edge most set met
   met_closed edges met most a = record { has_all = λ k u v few h l leads. back k u v h l leads }
     where
-      back : (k u v : ℕ) → IsTrue (has set v) → IsSome (label_at v) → Leading edge k u v → IsTrue (has met u)
+      back : (k u v : ℕ) → IsTrue (has set v) → IsSome (label_at v) → HasWalk edge k u v → IsTrue (has met u)
       back zero u v h l leads = a.far zero u v (omega arith) h l leads
       back (suc k) u v h l leads = elim (a.done u leads.0 leads.1 (back k leads.0 v h l leads.2)) [ inl none ↦ absurd (true≢false (sym none)) | inr there ↦ there ]
 
-  pub met_enough : (edges : ℕ) (current met : List ℕ) (most : Option ℕ) → ((k : ℕ) → IsFew most k → k ≤ edges) → IsMet edges current met → IsLeading label_at edge most set met
+  pub met_enough : (edges : ℕ) (current met : List ℕ) (most : Option ℕ) → ((k : ℕ) → IsFew most k → k ≤ edges) → IsMet edges current met → AreAncestors label_at edge most set met
   met_enough edges current met most few a = record { has_all = λ k u v f h l leads. a.far k u v (few k f) h l leads }

@@ -10,7 +10,7 @@ use Rattle.path_spec.specs.Longest.{IsLongest, longest}
 use Rattle.path_spec.specs.Answers.{IsAnswer, AreAnswers}
 use Rattle.path_spec.specs.Parts.{part_of}
 use Rattle.path_spec.proofs.Longest.{longest_is}
-use Rattle.data_validate.specs.Ancestors.{Leading, IsFew, IsLeading}
+use Rattle.data_validate.specs.Ancestors.{HasWalk, IsFew, AreAncestors}
 
 both_true : (a b : Bool) → (a && b) ≡ true → (a ≡ true) × (b ≡ true)
 both_true true b h = (refl, h)
@@ -41,11 +41,11 @@ module _ (s : Shape) (keeps : ℕ → Bool) where
   walk_out (t ∷ r ∷ ts) u v (lab, w, e, more) = (text_out u t lab, w, edge_out u w e, walk_out (r ∷ ts) w v more)
 
   -- a walk with one node more than edges
-  leading_of : (t : List ℕ) (ts : Word) (u v : ℕ) → Leads s u (t ∷ ts) v → Leading s.edge (length ts) u v
+  leading_of : (t : List ℕ) (ts : Word) (u v : ℕ) → Leads s u (t ∷ ts) v → HasWalk s.edge (length ts) u v
   leading_of t [] u v h = h.1
   leading_of t (r ∷ ts) u v (lab, w, e, more) = (w, e, leading_of r ts w v more)
 
-  pub walk_in : (ts : Word) (u v : ℕ) → Leads s u ts v → ((k x : ℕ) → k + 1 ≤ length ts → Leading s.edge k x v → keeps x ≡ true) → Leads part u ts v
+  pub walk_in : (ts : Word) (u v : ℕ) → Leads s u ts v → ((k x : ℕ) → k + 1 ≤ length ts → HasWalk s.edge k x v → keeps x ≡ true) → Leads part u ts v
   walk_in [] u v h near = absurd h
   walk_in (t ∷ []) u v h near = (text_in u t (near 0 u (omega arith) h.1) h.0, h.1)
   walk_in (t ∷ r ∷ ts) u v (lab, w, e, more) near =
@@ -75,7 +75,7 @@ module _ (texts : List (List ℕ)) (size : ℕ) (label_at : ℕ → Option ℕ) 
   pub near_sound : AreAnswers (part_of (has near) whole) e nodes → (v : ℕ) → IsTrue (has nodes v) → IsAnswer whole e v
   near_sound a v h = let f = a.sound v h in (f.0, f.1, f.2, walk_out whole (has near) f.0 f.2 v f.3)
 
-  pub near_complete : AreAnswers (part_of (has near) whole) e nodes → ((k : ℕ) → IsFew (longest e) (k + 1) → IsFew most k) → IsLeading label_at edge most set near
+  pub near_complete : AreAnswers (part_of (has near) whole) e nodes → ((k : ℕ) → IsFew (longest e) (k + 1) → IsFew most k) → AreAncestors label_at edge most set near
       → (v : ℕ) → IsTrue (has set v) → IsAnswer whole e v → IsTrue (has nodes v)
   near_complete a few lead v there (w, matches, u, walk) =
       let t = end_text whole (has near) w u v walk in

@@ -3,9 +3,9 @@ use Rattle.std.specs.Prelude.{◌≡◌, ℕ, zero, suc, ◌≤◌, ◌⊎◌, �
 use Rattle.px_spec.specs.Members.{has}
 
 -- so many edges lead from u to v
-abbrev pub Leading : (ℕ → ℕ → Bool) → ℕ → ℕ → ℕ → Type 0
-Leading edge zero u v = u ≡ v
-Leading edge (suc k) u v = (w : ℕ) × IsTrue (edge u w) × Leading edge k w v
+abbrev pub HasWalk : (ℕ → ℕ → Bool) → ℕ → ℕ → ℕ → Type 0
+HasWalk edge zero u v = u ≡ v
+HasWalk edge (suc k) u v = (w : ℕ) × IsTrue (edge u w) × HasWalk edge k w v
 
 -- not more edges than the bound, where there is one
 abbrev pub IsFew : Option ℕ → ℕ → Type 0
@@ -13,8 +13,8 @@ IsFew None k = Unit {0}
 IsFew (Some most) k = k ≤ most
 
 -- the members have each node from which few edges lead to a node of the set
-pub record IsLeading (label_at : ℕ → Option ℕ) (edge : ℕ → ℕ → Bool) (most : Option ℕ) (set members : List ℕ) : Type 0 where
-  pub has_all : (k u v : ℕ) → IsFew most k → IsTrue (has set v) → IsSome (label_at v) → Leading edge k u v → IsTrue (has members u)
+pub record AreAncestors (label_at : ℕ → Option ℕ) (edge : ℕ → ℕ → Bool) (most : Option ℕ) (set members : List ℕ) : Type 0 where
+  pub has_all : (k u v : ℕ) → IsFew most k → IsTrue (has set v) → IsSome (label_at v) → HasWalk edge k u v → IsTrue (has members u)
 
 -- the numbers that pass are met, and those that weren't met before are found
 pub record IsNoted (passes : ℕ → Bool) (met found met2 found2 : List ℕ) : Type 0 where

@@ -9,7 +9,7 @@ ghost use Rattle.branch_query.specs.Queries.{query_of, IsQueryAnswer, AreQueryAn
 ghost use Rattle.data_validate.specs.Checks.{AreAnswersAmong};
 ghost use Rattle.data_validate.specs.Ancestors.{IsFew};
 
-use crate::leading::ancestors;
+use crate::ancestors::ancestors;
 use branch_query::Query;
 use label_graph::{Digraph, Graph, Labels};
 use path_query::{PathExpr, eval, eval_within};

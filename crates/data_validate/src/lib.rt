@@ -1,7 +1,7 @@
 //! Candidates checked against the graph.
 #![tactic(auto)]
 
+mod ancestors;
 mod checks;
-mod leading;
 
 pub use checks::check;

@@ -12,15 +12,28 @@ use px_base::Memory;
 use std::alloc::Global;
 
 /// What is done with an engine that keeps all indexes: the A(k)-indexes, the 1-index, and the forward and backward index.
+///
+/// A task that counts the blocks of a graph's indexes. It is carried out by `with_full_engine(alloc, Sizes(graph))`:
+///
+///     struct Sizes(Graph);
+///
+///     impl EngineTask for Sizes {
+///         type Output = Option<Text>;
+///
+///         fn carry_out(self, alloc: Global, engine: &mut Engine) -> Option<Text> {
+///             engine.open(self.0, Limits::program(), 2).ok()?;
+///             sizes_of(alloc, engine)
+///         }
+///     }
 pub trait EngineTask: Drop {
     /// What the task answers.
-    type Answer: Drop;
+    type Output: Drop;
 
     /// What holds of the answer.
-    ghost gives: { Self → Self.Answer → Type 0 };
+    ghost gives: { Self → Self.Output → Type 0 };
 
     /// Does it, with memory from this allocator. The engine isn't open yet.
-    fn carry_out(self, alloc: Global, engine: &mut Engine) -> Self::Answer
+    fn carry_out(self, alloc: Global, engine: &mut Engine) -> Self::Output
         requires kinds { kinds_of (map (λ b. meaning (b.vtable, b.value)) engine.old.boxes.items) ≡ Kind.A ∷ Kind.One ∷ Kind.Fb ∷ [] }
         requires closed { opened_of engine.old.state ≡ None }
         requires sound { IsSound (engine_seen (map (λ b. meaning (b.vtable, b.value)) engine.old.boxes.items) engine.old.state) }
@@ -31,7 +44,7 @@ pub trait EngineTask: Drop {
 /// three boxes, and then the task isn't begun. Beside the task it costs O(1), and what it takes to drop the engine.
 ///
 /// The engine is lent, and not handed out: what its boxes mean is known only where they are made.
-pub fn with_full_engine<T: EngineTask>(alloc: Global, task: T) -> Result<T::Answer, Memory>
+pub fn with_full_engine<T: EngineTask>(alloc: Global, task: T) -> Result<T::Output, Memory>
     ensures { IfOk result (T.gives task) }
 {
     let mut boxes: Vec<Box<dyn PathIndex>> = Vec::new(alloc);

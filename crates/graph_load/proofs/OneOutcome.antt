@@ -4,7 +4,7 @@ use Rattle.px_spec.specs.declared.limits.Limits.{Limits}
 use Rattle.px_spec.specs.Lines.{Line, cut}
 use Rattle.triples_read.specs.declared.term.Triple.{Triple}
 use Rattle.triples_read.specs.Lines.{Spells}
-use Rattle.triples_read.proofs.OneReading.{one_reading, spelled_not_empty}
+use Rattle.triples_read.proofs.OneTriple.{one_reading, spelled_not_empty}
 use Rattle.graph_load.specs.TripleGraphs.{with_triple}
 use Rattle.graph_load.specs.Loads.{Outcome, Place, past, LoadsLine, empty, takes, refuses, neither, LoadsFrom, Loads, at_start}
 use Rattle.graph_load.proofs.ChangeLaws.{ok_is, not_both}

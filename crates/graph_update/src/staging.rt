@@ -39,7 +39,7 @@ impl Model for Staged {
 
 /// Takes all the memory that a change needs, which `judge` accepts as new within some limits. The graph stays
 /// as it is seen, and where memory runs out so does its room. For a node expected O(b) where its label has b
-/// bytes, and for an edge O(1), each spread over all that are added, with the memory that `Graph` takes for
+/// bytes, and for an edge O(1), each amortized, with the memory that `Graph` takes for
 /// them; else O(1), no memory.
 pub fn stage(alloc: Global, graph: &mut Graph, change: &Change) -> Result<Staged, Memory>
     requires new { IsNew (change_of change.now) graph.old.graph }

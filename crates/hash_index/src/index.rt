@@ -16,6 +16,16 @@ const FIRST_BUCKETS: usize = 16;
 /// Items, numbered from 0 on in the order in which they came, each with the hash of its key.
 ///
 /// An item takes 8 bytes beside its own, and 4 to 8 for its bucket. There are fewer than 2^31 of them.
+///
+/// Items of one hash, the newest first:
+///
+///     let mut index = HashIndex::new(alloc)?;
+///     index.push(7, item)?;
+///     let mut next = index.newest(7);
+///     while let Some(n) = next {
+///         take(index.item(n));
+///         next = index.older(n);
+///     }
 #[derive(Drop)]
 pub struct HashIndex<T: Copy> {
     slots: Vec<Slot<T>>,

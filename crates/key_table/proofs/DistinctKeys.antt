@@ -5,25 +5,25 @@ use Rattle.std.proofs.lemmas.Option.{slice_get-map, slice_get-get_or, slice_get_
 use Rattle.std.proofs.lemmas.List.{length-map, length-append, map-append, take-append-le, drop-append-le, get_or_append_left, length-drop}
 use Rattle.std.proofs.Math.Seq.{get_or-append_seam, drop-append_seam, take-length}
 use Rattle.hash_index.specs.Items.{Items, with_item, hash_at, count_to, IsNewest}
-use Rattle.key_table.specs.declared.spans.Span.{Span}
+use Rattle.key_table.specs.declared.spans.KeyRange.{KeyRange}
 use Rattle.key_table.specs.Hashes.{hash_of}
 use Rattle.key_table.specs.Spans.{span_at, key_in, keys_of, IsKeyTable}
 use Rattle.key_table.specs.NumberedKeys.{IsAbsent, AreDistinct}
 
 -- the key of a number
-pub key_got : (arena : List ℕ) (spans : List Span) (i : ℕ) → i < length spans → slice_get (keys_of arena spans) i ≡ Some (key_in arena (span_at spans i))
+pub key_got : (arena : List ℕ) (spans : List KeyRange) (i : ℕ) → i < length spans → slice_get (keys_of arena spans) i ≡ Some (key_in arena (span_at spans i))
 key_got arena spans i h = rw (slice_get-map (key_in arena) spans i, slice_get-get_or spans i (record { from = 0; to = 0 }) h) refl
 
-pub found_at : (arena : List ℕ) (spans : List Span) (i : ℕ) (key : List ℕ) → i < length spans → key_in arena (span_at spans i) ≡ key → slice_get (keys_of arena spans) i ≡ Some key
+pub found_at : (arena : List ℕ) (spans : List KeyRange) (i : ℕ) (key : List ℕ) → i < length spans → key_in arena (span_at spans i) ≡ key → slice_get (keys_of arena spans) i ≡ Some key
 found_at arena spans i key h e = rw (key_got arena spans i h, e) refl
 
-is_at : (arena : List ℕ) (spans : List Span) (i : ℕ) (key : List ℕ) → slice_get (keys_of arena spans) i ≡ Some key → (i < length spans) × (key_in arena (span_at spans i) ≡ key)
+is_at : (arena : List ℕ) (spans : List KeyRange) (i : ℕ) (key : List ℕ) → slice_get (keys_of arena spans) i ≡ Some key → (i < length spans) × (key_in arena (span_at spans i) ≡ key)
 is_at arena spans i key g =
     let w : i < length spans = rw (← length-map spans (key_in arena)) (slice_get_within (keys_of arena spans) i key g) in
     let k = key_got arena spans i w in
     (w, cc)
 
-pub distinct_keys : (arena : List ℕ) (index : Items Span) → IsKeyTable arena index → AreDistinct (keys_of arena index.items)
+pub distinct_keys : (arena : List ℕ) (index : Items KeyRange) → IsKeyTable arena index → AreDistinct (keys_of arena index.items)
 distinct_keys arena index k = record {
   apart = λ i j key g h.
       let a = is_at arena index.items i key g in
@@ -33,22 +33,22 @@ distinct_keys arena index k = record {
 
 -- ---- a search: the key isn't among the numbers that were met
 
-pub record IsKeySearch (arena : List ℕ) (index : Items Span) (key : List ℕ) (at : Option ℕ) : Type 0 where
+pub record IsKeySearch (arena : List ℕ) (index : Items KeyRange) (key : List ℕ) (at : Option ℕ) : Type 0 where
   pub below : count_to at ≤ length index.items
   pub has : IfSome at (λ i. hash_at index.hashes i ≡ hash_of key)
   pub rest : (j : ℕ) → j < length index.items → key_in arena (span_at index.items j) ≡ key → j < count_to at
 
-key_hash : (arena : List ℕ) (index : Items Span) (key : List ℕ) → IsKeyTable arena index → (j : ℕ) → j < length index.items → key_in arena (span_at index.items j) ≡ key → hash_at index.hashes j ≡ hash_of key
+key_hash : (arena : List ℕ) (index : Items KeyRange) (key : List ℕ) → IsKeyTable arena index → (j : ℕ) → j < length index.items → key_in arena (span_at index.items j) ≡ key → hash_at index.hashes j ≡ hash_of key
 key_hash arena index key t j h e = t.hashed j h ∙ ap hash_of e
 
-pub search_start : (arena : List ℕ) (index : Items Span) (key : List ℕ) (at : Option ℕ) → IsKeyTable arena index → IsNewest index.hashes (hash_of key) (length index.hashes) at → IsKeySearch arena index key at
+pub search_start : (arena : List ℕ) (index : Items KeyRange) (key : List ℕ) (at : Option ℕ) → IsKeyTable arena index → IsNewest index.hashes (hash_of key) (length index.hashes) at → IsKeySearch arena index key at
 search_start arena index key at t w = record {
   below = rw (← t.even) w.below;
   has = w.has;
   rest = λ j h e. w.covers j (rw t.even h) (key_hash arena index key t j h e);
 }
 
-pub search_on : (arena : List ℕ) (index : Items Span) (key : List ℕ) (n : ℕ) (at : Option ℕ) → IsKeyTable arena index → IsKeySearch arena index key (Some n) → key_in arena (span_at index.items n) ≢ key
+pub search_on : (arena : List ℕ) (index : Items KeyRange) (key : List ℕ) (n : ℕ) (at : Option ℕ) → IsKeyTable arena index → IsKeySearch arena index key (Some n) → key_in arena (span_at index.items n) ≢ key
     → IsNewest index.hashes (hash_at index.hashes n) n at → IsKeySearch arena index key at
 search_on arena index key n at t w other next =
     let own : hash_at index.hashes n ≡ hash_of key = w.has in
@@ -61,7 +61,7 @@ search_on arena index key n at t w other next =
           next.covers j less (key_hash arena index key t j h e ∙ sym own);
     }
 
-pub search_end : (arena : List ℕ) (index : Items Span) (key : List ℕ) → IsKeySearch arena index key None → IsAbsent (keys_of arena index.items) key
+pub search_end : (arena : List ℕ) (index : Items KeyRange) (key : List ℕ) → IsKeySearch arena index key None → IsAbsent (keys_of arena index.items) key
 search_end arena index key w i g =
     let a = is_at arena index.items i key g in
     let r = w.rest i a.0 a.1 in
@@ -69,28 +69,28 @@ search_end arena index key w i g =
 
 -- ---- a key in front of further numbers
 
-key_kept : (arena more : List ℕ) (s : Span) → s.from ≤ s.to → s.to ≤ length arena → key_in (arena ++ more) s ≡ key_in arena s
+key_kept : (arena more : List ℕ) (s : KeyRange) → s.from ≤ s.to → s.to ≤ length arena → key_in (arena ++ more) s ≡ key_in arena s
 key_kept arena more s o w =
     let a : s.from ≤ length arena = omega (arith, o, w) in
     let d = length-drop s.from arena in
     let b : s.to - s.from ≤ length (drop s.from arena) = omega (arith, o, w, d) in
     rw (drop-append-le s.from arena more a, take-append-le (s.to - s.from) (drop s.from arena) more b) refl
 
-key_new : (arena key : List ℕ) (s : Span) → s.from ≡ length arena → s.to ≡ length arena + length key → key_in (arena ++ key) s ≡ key
+key_new : (arena key : List ℕ) (s : KeyRange) → s.from ≡ length arena → s.to ≡ length arena + length key → key_in (arena ++ key) s ≡ key
 key_new arena key s f t =
     let n : s.to - s.from ≡ length key = omega (arith, f, t) in
     rw (n, f, drop-append_seam arena key, take-length key) refl
 
-more_keys : (arena more : List ℕ) (spans : List Span) → ((i : ℕ) → i < length spans → (span_at spans i).from ≤ (span_at spans i).to) → ((i : ℕ) → i < length spans → (span_at spans i).to ≤ length arena)
+more_keys : (arena more : List ℕ) (spans : List KeyRange) → ((i : ℕ) → i < length spans → (span_at spans i).from ≤ (span_at spans i).to) → ((i : ℕ) → i < length spans → (span_at spans i).to ≤ length arena)
     → keys_of (arena ++ more) spans ≡ keys_of arena spans
 more_keys arena more [] o w = refl
 more_keys arena more (s ∷ spans) o w =
     rw (key_kept arena more s (o 0 (omega arith)) (w 0 (omega arith)), more_keys arena more spans (λ i h. o (suc i) (omega (arith, h))) (λ i h. w (suc i) (omega (arith, h)))) refl
 
-pub keys_kept : (arena more : List ℕ) (index : Items Span) → IsKeyTable arena index → keys_of (arena ++ more) index.items ≡ keys_of arena index.items
+pub keys_kept : (arena more : List ℕ) (index : Items KeyRange) → IsKeyTable arena index → keys_of (arena ++ more) index.items ≡ keys_of arena index.items
 keys_kept arena more index t = more_keys arena more index.items t.order t.within
 
-pub table_kept : (arena more : List ℕ) (index : Items Span) → IsKeyTable arena index → length (arena ++ more) < 2 ^ 32 → IsKeyTable (arena ++ more) index
+pub table_kept : (arena more : List ℕ) (index : Items KeyRange) → IsKeyTable arena index → length (arena ++ more) < 2 ^ 32 → IsKeyTable (arena ++ more) index
 table_kept arena more index t short =
     let m = length-append arena more in
     let old = λ (i : ℕ) (h : i < length index.items). key_kept arena more (span_at index.items i) (t.order i h) (t.within i h) in
@@ -105,14 +105,14 @@ table_kept arena more index t short =
 
 -- ---- a new key
 
-pub record IsNewKey (arena : List ℕ) (index : Items Span) (span : Span) (key : List ℕ) (hash : ℕ) : Type 0 where
+pub record IsNewKey (arena : List ℕ) (index : Items KeyRange) (span : KeyRange) (key : List ℕ) (hash : ℕ) : Type 0 where
   pub order : span.from ≤ span.to
   pub within : span.to ≤ length arena
   pub is : key_in arena span ≡ key
   pub hashed : hash ≡ hash_of key
   pub absent : IsAbsent (keys_of arena index.items) key
 
-pub new_key : (arena key : List ℕ) (index : Items Span) (span : Span) (hash : ℕ) → IsKeyTable arena index → IsAbsent (keys_of arena index.items) key → span.from ≡ length arena
+pub new_key : (arena key : List ℕ) (index : Items KeyRange) (span : KeyRange) (hash : ℕ) → IsKeyTable arena index → IsAbsent (keys_of arena index.items) key → span.from ≡ length arena
     → span.to ≡ length arena + length key → hash ≡ hash_of key → IsNewKey (arena ++ key) index span key hash
 new_key arena key index span hash t none from to hashed = record {
   order = omega (arith, from, to);
@@ -122,7 +122,7 @@ new_key arena key index span hash t none from to hashed = record {
   absent = subst (λ ks. IsAbsent ks key) (sym (keys_kept arena key index t)) none;
 }
 
-last_or_before : (spans : List Span) (s : Span) (i : ℕ) → i < length (spans ++ s ∷ []) → ((i < length spans) × (span_at (spans ++ s ∷ []) i ≡ span_at spans i)) ⊎ ((i ≡ length spans) × (span_at (spans ++ s ∷ []) i ≡ s))
+last_or_before : (spans : List KeyRange) (s : KeyRange) (i : ℕ) → i < length (spans ++ s ∷ []) → ((i < length spans) × (span_at (spans ++ s ∷ []) i ≡ span_at spans i)) ⊎ ((i ≡ length spans) × (span_at (spans ++ s ∷ []) i ≡ s))
 last_or_before spans s i h =
     let l = length-append spans (s ∷ []) in
     let split : (i < length spans) ⊎ (i ≡ length spans) = grind (arith, l, h) in
@@ -131,7 +131,7 @@ last_or_before spans s i h =
       | inr e ↦ inr (e, rw e (get_or-append_seam spans s [] (record { from = 0; to = 0 })))
     ]
 
-pub table_added : (arena : List ℕ) (index : Items Span) (span : Span) (key : List ℕ) (hash : ℕ) → IsKeyTable arena index → IsNewKey arena index span key hash → IsKeyTable arena (with_item index hash span)
+pub table_added : (arena : List ℕ) (index : Items KeyRange) (span : KeyRange) (key : List ℕ) (hash : ℕ) → IsKeyTable arena index → IsNewKey arena index span key hash → IsKeyTable arena (with_item index hash span)
 table_added arena index span key hash t new =
     let n = length-append index.items (span ∷ []) in
     let m = length-append index.hashes (hash ∷ []) in
@@ -159,22 +159,22 @@ table_added arena index span key hash t new =
       ];
     }
 
-pub keys_added : (arena key : List ℕ) (index : Items Span) (span : Span) → IsKeyTable arena index → span.from ≡ length arena → span.to ≡ length arena + length key
+pub keys_added : (arena key : List ℕ) (index : Items KeyRange) (span : KeyRange) → IsKeyTable arena index → span.from ≡ length arena → span.to ≡ length arena + length key
     → keys_of (arena ++ key) (index.items ++ span ∷ []) ≡ keys_of arena index.items ++ key ∷ []
 keys_added arena key index span t from to =
     rw (map-append (key_in (arena ++ key)) index.items (span ∷ []), keys_kept arena key index t, key_new arena key span from to) refl
 
 -- the table after an item was put in, or wasn't
-pub table_pushed : {E : Type 0} (r : Result ℕ E) (arena : List ℕ) (old new : Items Span) (span : Span) (key : List ℕ) (hash : ℕ) → IsKeyTable arena old → IsNewKey arena old span key hash
+pub table_pushed : {E : Type 0} (r : Result ℕ E) (arena : List ℕ) (old new : Items KeyRange) (span : KeyRange) (key : List ℕ) (hash : ℕ) → IsKeyTable arena old → IsNewKey arena old span key hash
     → OnOk r (new ≡ with_item old hash span) → OnErr r (new ≡ old) → IsKeyTable arena new
 table_pushed (Ok n) arena old new span key hash t is ok err = subst (IsKeyTable arena) (sym ok) (table_added arena old span key hash t is)
 table_pushed (Err e) arena old new span key hash t is ok err = subst (IsKeyTable arena) (sym err) t
 
-pub keys_pushed : {E : Type 0} (r : Result ℕ E) (arena key : List ℕ) (old new : Items Span) (span : Span) (hash : ℕ) → IsKeyTable arena old → span.from ≡ length arena → span.to ≡ length arena + length key
+pub keys_pushed : {E : Type 0} (r : Result ℕ E) (arena key : List ℕ) (old new : Items KeyRange) (span : KeyRange) (hash : ℕ) → IsKeyTable arena old → span.from ≡ length arena → span.to ≡ length arena + length key
     → OnOk r (new ≡ with_item old hash span) → OnOk r (keys_of (arena ++ key) new.items ≡ keys_of arena old.items ++ key ∷ [])
 keys_pushed (Ok n) arena key old new span hash t from to ok = ap (λ x. keys_of (arena ++ key) x.items) ok ∙ keys_added arena key old span t from to
 keys_pushed (Err e) arena key old new span hash t from to ok = tt
 
-pub keys_left : {E : Type 0} (r : Result ℕ E) (arena key : List ℕ) (old new : Items Span) → IsKeyTable arena old → OnErr r (new ≡ old) → OnErr r (keys_of (arena ++ key) new.items ≡ keys_of arena old.items)
+pub keys_left : {E : Type 0} (r : Result ℕ E) (arena key : List ℕ) (old new : Items KeyRange) → IsKeyTable arena old → OnErr r (new ≡ old) → OnErr r (keys_of (arena ++ key) new.items ≡ keys_of arena old.items)
 keys_left (Ok n) arena key old new t err = tt
 keys_left (Err e) arena key old new t err = ap (λ x. keys_of (arena ++ key) x.items) err ∙ keys_kept arena key old t

@@ -1,21 +1,21 @@
 -- Keys in an arena.
 use Rattle.std.specs.Prelude.{◌≡◌, ℕ, ◌^◌, ◌<◌, ◌≤◌, List, map, length, slice_index_or, slice_range}
 use Rattle.hash_index.specs.Items.{Items, hash_at}
-use Rattle.key_table.specs.declared.spans.Span.{Span}
+use Rattle.key_table.specs.declared.spans.KeyRange.{KeyRange}
 use Rattle.key_table.specs.Hashes.{hash_of}
 
-abbrev pub span_at : List Span → ℕ → Span
+abbrev pub span_at : List KeyRange → ℕ → KeyRange
 span_at spans i = slice_index_or spans i (record { from = 0; to = 0 })
 
 -- the key that lies there
-abbrev pub key_in : List ℕ → Span → List ℕ
+abbrev pub key_in : List ℕ → KeyRange → List ℕ
 key_in arena s = slice_range arena s.from s.to
 
-abbrev pub keys_of : List ℕ → List Span → List (List ℕ)
+abbrev pub keys_of : List ℕ → List KeyRange → List (List ℕ)
 keys_of arena spans = map (key_in arena) spans
 
 -- what every table keeps: distinct keys, with their hashes
-pub record IsKeyTable (arena : List ℕ) (index : Items Span) : Type 0 where
+pub record IsKeyTable (arena : List ℕ) (index : Items KeyRange) : Type 0 where
   pub even : length index.hashes ≡ length index.items
   pub short : length arena < 2 ^ 32
   pub order : (i : ℕ) → i < length index.items → (span_at index.items i).from ≤ (span_at index.items i).to

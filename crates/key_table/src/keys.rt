@@ -5,7 +5,7 @@ ghost use Rattle.key_table.specs.Spans.{keys_of, IsKeyTable};
 ghost use Rattle.key_table.specs.NumberedKeys.{IsAbsent, AreDistinct, Interns};
 
 use crate::hashing::hash_key;
-use crate::spans::{Span, read_span, search};
+use crate::spans::{KeyRange, read_span, search};
 use hash_index::HashIndex;
 use px_base::Memory;
 use std::alloc::Global;
@@ -25,7 +25,7 @@ use std::marker::Model;
 #[derive(Drop)]
 pub struct KeyTable {
     arena: Vec<u32>,
-    index: HashIndex<Span>,
+    index: HashIndex<KeyRange>,
 }
 
 impl Model for KeyTable {
@@ -41,7 +41,7 @@ impl Model for KeyTable {
 }
 
 impl KeyTable {
-    /// A table without keys. O(1), and 64 bytes of memory.
+    /// A table without keys. O(1); it takes 64 bytes.
     pub fn new(alloc: Global) -> Result<KeyTable, Memory>
         ensures { IfOk result (λ k. k ≡ []) }
     {
@@ -107,7 +107,7 @@ impl KeyTable {
 // Adds a key that is absent.
 fn add(
     arena: &mut Vec<u32>,
-    index: &mut HashIndex<Span>,
+    index: &mut HashIndex<KeyRange>,
     key: &[u32],
     hash: u32,
 ) -> Result<u32, Memory>
@@ -125,7 +125,7 @@ fn add(
     }
     arena.extend_from_slice(key)?;
     let to = arena.len();
-    let span = Span {
+    let span = KeyRange {
         from: from as u32,
         to: to as u32,
     };

@@ -8,13 +8,13 @@ use hash_index::HashIndex;
 
 /// Where a key lies in the arena.
 #[derive(Clone, Copy)]
-pub(crate) struct Span {
+pub(crate) struct KeyRange {
     pub(crate) from: u32,
     pub(crate) to: u32,
 }
 
 #[inline(always)]
-pub(crate) fn read_span(index: &HashIndex<Span>, n: u32) -> Span
+pub(crate) fn read_span(index: &HashIndex<KeyRange>, n: u32) -> KeyRange
     requires { n < length index.now.items }
     ensures { result ≡ span_at index.now.items n }
 {
@@ -23,7 +23,7 @@ pub(crate) fn read_span(index: &HashIndex<Span>, n: u32) -> Span
 
 // Whether this key lies there.
 #[inline(always)]
-fn is_key(arena: &[u32], span: Span, key: &[u32]) -> bool
+fn is_key(arena: &[u32], span: KeyRange, key: &[u32]) -> bool
     requires order { span.from ≤ span.to }
     requires within { span.to ≤ length arena.now }
     ensures same { IsTrue result → key_in arena.now span ≡ key.now }
@@ -33,7 +33,12 @@ fn is_key(arena: &[u32], span: Span, key: &[u32]) -> bool
 }
 
 /// The number of the key.
-pub(crate) fn search(arena: &[u32], index: &HashIndex<Span>, key: &[u32], hash: u32) -> Option<u32>
+pub(crate) fn search(
+    arena: &[u32],
+    index: &HashIndex<KeyRange>,
+    key: &[u32],
+    hash: u32,
+) -> Option<u32>
     requires table { IsKeyTable arena.now index.now }
     requires hash { hash ≡ hash_of key.now }
     ensures found { IfSome result (λ i. slice_get (keys_of arena.now index.now.items) i ≡ Some key.now) }

@@ -134,7 +134,7 @@ fn note(blocks: &mut Vec<u32>, keys: &mut KeyTable, b: u32, key: &[u32]) -> Resu
 // Drafting.
 impl KeyedDraft {
     /// Drafts a block without members, with a key that no block has as shown, and gives its number, the least that is no block as shown.
-    /// Expected O(l) for a key of l numbers, spread over all that are drafted; it takes the memory of a block and of the key.
+    /// Expected O(l) for a key of l numbers, amortized; it takes the memory of a block and of the key.
     pub fn new_block(&mut self, base: &KeyedSummary, label: u32, key: &[u32]) -> Result<u32, Memory>
         requires over { IsKeyedOver base.now self.old }
         requires few { count_by is_some (labels_as_shown base.now self.old) < 2 ^ 31 }
@@ -156,8 +156,8 @@ impl KeyedDraft {
         }
     }
 
-    /// Drafts the move of a node, which is below 2^31, to a block as shown, or out of its block. Expected O(1), spread over all that are
-    /// drafted; it takes the memory of one move.
+    /// Drafts the move of a node, which is below 2^31, to a block as shown, or out of its block. Expected O(1), amortized; it takes the
+    /// memory of one move.
     pub fn put(&mut self, base: &KeyedSummary, n: NodeId, b: Option<u32>) -> Result<(), Memory>
         requires over { IsKeyedOver base.now self.old }
         requires small { n < 2 ^ 31 }
@@ -173,7 +173,7 @@ impl KeyedDraft {
         Ok(())
     }
 
-    /// Drafts that one more edge leads from `a` to `b`, both blocks as shown. Expected O(1), spread over all that are drafted; it takes the
+    /// Drafts that one more edge leads from `a` to `b`, both blocks as shown. Expected O(1), amortized; it takes the
     /// memory of one pair.
     pub fn raise(&mut self, base: &KeyedSummary, a: u32, b: u32) -> Result<(), Memory>
         requires over { IsKeyedOver base.now self.old }
@@ -191,8 +191,8 @@ impl KeyedDraft {
         Ok(())
     }
 
-    /// Drafts that one edge fewer leads from `a` to `b`, both blocks as shown, which have support. Expected O(1), spread over all that are
-    /// drafted; it takes the memory of one pair.
+    /// Drafts that one edge fewer leads from `a` to `b`, both blocks as shown, which have support. Expected O(1), amortized; it takes the
+    /// memory of one pair.
     pub fn lower(&mut self, base: &KeyedSummary, a: u32, b: u32) -> Result<(), Memory>
         requires over { IsKeyedOver base.now self.old }
         requires from { IsSome (at (labels_as_shown base.now self.old) a) }

@@ -220,7 +220,7 @@ impl Graph {
     }
 
     /// Makes room for a node with that label, in place of the room that there was. Where memory runs out that
-    /// room stays. Expected O(b) for a label of b bytes, spread over all nodes. A node takes 32 bytes, and a
+    /// room stays. Expected O(b) for a label of b bytes, amortized. A node takes 32 bytes, and a
     /// label that is new its text and its entry in the table.
     pub fn reserve_node(&mut self, alloc: Global, label: &Text) -> Result<(), Memory>
         ensures graph { self.new.graph ≡ self.old.graph }
@@ -234,7 +234,7 @@ impl Graph {
     }
 
     /// Makes room for an edge between live nodes, in place of the room that there was. Where memory runs out
-    /// that room stays. O(1), spread over all edges. An edge takes none to 32 bytes: a node's first child and
+    /// that room stays. O(1), amortized. An edge takes none to 32 bytes: a node's first child and
     /// its first parent lie in the node, and each other takes 4 to 16.
     pub fn reserve_edge(&mut self, u: NodeId, v: NodeId) -> Result<(), Memory>
         requires from { IsTrue (is_live self.old.graph u) }

@@ -75,7 +75,7 @@ impl EngineTask for Question<'_> {
     ghost use Rattle.std.specs.Prelude.{IfSome};
     ghost use Rattle.library_use.specs.Questions.{AreAnswersOfTexts};
 
-    type Answer = Option<Bits>;
+    type Output = Option<Bits>;
 
     ghost gives = { λ q answer. IfSome answer (λ nodes. AreAnswersOfTexts q.0.now q.1.now nodes.members) };
 

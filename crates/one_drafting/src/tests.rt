@@ -93,20 +93,19 @@ fn are_parted<L: Ledger>(
     base: &Summary,
     draft: &mut Draft,
     after: &After<'_>,
-    u: NodeId,
-    v: NodeId,
+    edge: (NodeId, NodeId),
     firsts: &Firsts<'_>,
     steps: &mut Steps<L>,
 ) -> Result<bool, Memory>
     requires before { IsBefore after.now base.now }
     requires empty { draft.old ≡ no_changes }
-    requires links { after.now.change ≡ link u v }
+    requires links { after.now.change ≡ link edge.0 edge.1 }
 {
-    draft_link(base, draft, after, u, v)?;
+    draft_link(base, draft, after, edge.0, edge.1)?;
     let before = is_shown(base, draft, firsts[0]);
-    split(alloc, base, draft, after, v, steps)?;
+    split(alloc, base, draft, after, edge.1, steps)?;
     let parted = is_shown(base, draft, firsts[1]);
-    merge(alloc, base, draft, after, v, steps)?;
+    merge(alloc, base, draft, after, edge.1, steps)?;
     let merged = is_shown(base, draft, firsts[2]);
     Ok(before && parted && merged && is_chain(base, draft))
 }
@@ -128,7 +127,7 @@ fn is_parting<L: Ledger>(
     let _edges = graph.edge_count();
     let after = After::new(graph, change);
     let mut draft = Draft::new(alloc)?;
-    are_parted(alloc, base, &mut draft, &after, 6, 3, firsts, steps)
+    are_parted(alloc, base, &mut draft, &after, (6, 3), firsts, steps)
 }
 
 fn check_link<L: Ledger>(

@@ -25,6 +25,13 @@ use std::sync::ledger::{Blank, Ledger};
 /// merged. How much of the graph is read depends on what the change reaches, and not on the size of the graph. The blocks of the index are
 /// looked through for those without other parents where as many of these came since they were last looked for as there were then, and
 /// 64 more.
+///
+/// The change is staged before the graph changes:
+///
+///     let mut index = OneKept::new(alloc)?;
+///     index.build(&graph.view(&mut steps), 0)?;
+///     index.prepare(&graph, &change)?;
+///     index.commit();
 #[derive(Drop)]
 pub struct OneKept {
     alloc: Global,

@@ -6,20 +6,8 @@ use Rattle.std.proofs.lemmas.List.{get_or_push, get_or_append_left, length-appen
 use Rattle.key_table.specs.NumberedKeys.{Interns}
 use Rattle.px_spec.specs.Members.{at}
 use Rattle.bisim_levels.specs.Keys.{IsKey}
-use Rattle.bisim_levels.proofs.NumberedNodes.{get_append, get_last}
+use Rattle.bisim_levels.proofs.NumberedNodes.{interned_at, interned_stays}
 use Rattle.one_splitting.specs.Numbered.{HasNumber, HaveNumbers}
-
-interned_stay : (old new : List (List ℕ)) (key : List ℕ) (i k : ℕ) (x : List ℕ) → Interns old new key i → slice_get old k ≡ Some x → slice_get new k ≡ Some x
-interned_stay old new key i k x interned e = elim interned [
-  | inl (there, same) ↦ ap (λ ks. slice_get ks k) same ∙ e
-  | inr (absent, found, added) ↦ ap (λ ks. slice_get ks k) added ∙ get_append old (key ∷ []) k x e
-]
-
-interned_at : (old new : List (List ℕ)) (key : List ℕ) (i : ℕ) → Interns old new key i → slice_get new i ≡ Some key
-interned_at old new key i interned = elim interned [
-  | inl (there, same) ↦ ap (λ ks. slice_get ks i) same ∙ there
-  | inr (absent, found, added) ↦ ap (λ ks. slice_get ks i) added ∙ ap (slice_get (old ++ key ∷ [])) found ∙ get_last old key
-]
 
 pub numbered_none : (p : List (Option ℕ)) (near : ℕ → ℕ → Bool) (keys : List (List ℕ)) (nodes numbers : List ℕ) → keys ≡ [] → numbers ≡ [] → HaveNumbers p near keys nodes numbers
 numbered_none p near keys nodes numbers nk nn = record {
@@ -39,7 +27,7 @@ numbered_more p near keys keys2 nodes numbers k key w is interned =
             let same : slice_index (numbers ++ k ∷ []) i ≡ slice_index numbers i = get_or_append_left numbers (k ∷ []) 0 i before in
             subst (HasNumber p near keys2 (slice_index nodes i)) (sym same) (record {
               key = m.key;
-              found = interned_stay keys keys2 key k (slice_index numbers i) m.key interned m.found;
+              found = interned_stays keys keys2 key k interned (slice_index numbers i) m.key m.found;
               is = m.is;
             }))
         | inr past ↦ (

@@ -11,7 +11,7 @@ use Rattle.path_expr.proofs.MovedParts.{moved, moved_seq, moved_item, moved_atom
 use Rattle.path_search.proofs.Inside.{get_push, get_last, get_set, get_set_other}
 use Rattle.path_expr.specs.declared.tree.Sep.{Sep}
 use Rattle.path_expr.specs.declared.tree.Sep.TheVariants.{Child, Below}
-use Rattle.path_expr.specs.declared.tree.Step.{Step}
+use Rattle.path_expr.specs.declared.tree.Following.{Following}
 use Rattle.path_expr.specs.declared.tree.Seq.{Seq}
 use Rattle.path_expr.specs.Views.{sep_of, item_of, seq_of, seq_from, expr_from}
 use Rattle.path_spec.specs.Trimmed.{trimmed_seq, trimmed}
@@ -53,7 +53,7 @@ module _ (texts : List (List ℕ)) where
   pub item_on : (a : tree.Item) (p q : List State) (low low2 i next : ℕ) → low2 ≤ low → Grows p q → StandsItem texts (λ k. slice_get p k) a low i next → StandsItem texts (λ k. slice_get q k) a low2 i next
   item_on a p q low low2 i next le g h = moved_item texts (λ k. slice_get p k) (λ k. slice_get q k) a low low2 i next le (λ k s l e. g.kept k s e) h
 
-  pub rest_on : (ss : List Step) (p q : List State) (low next after : ℕ) → Grows p q → StandRest texts p low ss next after → StandRest texts q low ss next after
+  pub rest_on : (ss : List Following) (p q : List State) (low next after : ℕ) → Grows p q → StandRest texts p low ss next after → StandRest texts q low ss next after
   rest_on [] p q low next after g h = h
   rest_on (s ∷ ss) p q low next after g h = by s.sep h
     where
@@ -68,7 +68,7 @@ module _ (texts : List (List ℕ)) where
       (i, e, omega arith, expr_on (expr_by f (seq_of s) ss) p q low low i next (omega arith) g h)
 
   -- an item in front of steps
-  pub item_then : (a : tree.Item) (ss : List Step) (p : List State) (low first next after : ℕ) → StandsItem texts (λ k. slice_get p k) a low first after → StandRest texts p low ss next after
+  pub item_then : (a : tree.Item) (ss : List Following) (p : List State) (low first next after : ℕ) → StandsItem texts (λ k. slice_get p k) a low first after → StandRest texts p low ss next after
       → StandsSeq texts (λ k. slice_get p k) (seq_from a ss) low first next
   item_then a [] p low first next after h e = subst (λ x. StandsItem texts (λ k. slice_get p k) a low first x) e h
   item_then a (s ∷ ss) p low first next after h k = by s.sep k
@@ -78,7 +78,7 @@ module _ (texts : List (List ℕ)) where
       by Below (x, y, fork, more, la, lx, hs) = (after, x, y, fork, more, la, lx, h, hs)
 
   -- a separator in front of what stands
-  pub sep_then : (s : Step) (ss : List Step) (p q : List State) (low first next after : ℕ) → low ≤ length p → Grows p q → HasSep s.sep p q first after
+  pub sep_then : (s : Following) (ss : List Following) (p q : List State) (low first next after : ℕ) → low ≤ length p → Grows p q → HasSep s.sep p q first after
       → StandsSeq texts (λ k. slice_get p k) (seq_from (item_of s.item) ss) low first next → StandRest texts q low (s ∷ ss) next after
   sep_then s ss p q low first next after le g has h = by s.sep has
     where
@@ -146,7 +146,7 @@ module _ (texts : List (List ℕ)) where
   more_then f xs s ss p0 p q low first next behind i e le g g2 has l h k =
       subst (λ x. StandMore texts q low f x next (Some i)) (sym e) (i, refl, l, alternatives f (seq_of s) ss p0 p q low first next behind i le g g2 has h k)
 
-  pub rest_then : (xs : List Step) (s : Step) (ss : List Step) (p0 p q : List State) (low first after next after2 : ℕ) → xs ≡ s ∷ ss → low ≤ length p0 → Grows p0 p → Grows p q
+  pub rest_then : (xs : List Following) (s : Following) (ss : List Following) (p0 p q : List State) (low first after next after2 : ℕ) → xs ≡ s ∷ ss → low ≤ length p0 → Grows p0 p → Grows p q
       → HasSep s.sep p q first after2 → StandsItem texts (λ k. slice_get p k) (item_of s.item) (length p0) first after → StandRest texts p0 low ss next after
       → StandRest texts q low xs next after2
   rest_then xs s ss p0 p q low first after next after2 e le g g2 has h k =
@@ -155,7 +155,7 @@ module _ (texts : List (List ℕ)) where
       (sep_then s ss p q low first next after2 (omega arith) g2 has
       (item_then (item_of s.item) ss p low first next after (item_on (item_of s.item) p p (length p0) low first after le (grows_same p) h) (rest_on ss p0 p low next after g k)))
 
-  pub whole_seq : (a : tree.Item) (ss : List Step) (p0 p : List State) (low first after next : ℕ) → low ≤ length p0 → Grows p0 p
+  pub whole_seq : (a : tree.Item) (ss : List Following) (p0 p : List State) (low first after next : ℕ) → low ≤ length p0 → Grows p0 p
       → StandsItem texts (λ k. slice_get p k) a (length p0) first after → StandRest texts p0 low ss next after → StandsSeq texts (λ k. slice_get p k) (seq_from a ss) low first next
   whole_seq a ss p0 p low first after next le g h k =
       item_then a ss p low first next after (item_on a p p (length p0) low first after le (grows_same p) h) (rest_on ss p0 p low next after g k)

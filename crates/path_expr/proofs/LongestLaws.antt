@@ -5,7 +5,7 @@ use Rattle.path_spec.specs.Trees as tree
 use Rattle.path_spec.specs.Longest.{longest, seq_longest, item_longest, greater, together}
 use Rattle.path_expr.specs.declared.tree.Sep.{Sep}
 use Rattle.path_expr.specs.declared.tree.Sep.TheVariants.{Child, Below}
-use Rattle.path_expr.specs.declared.tree.Step.{Step}
+use Rattle.path_expr.specs.declared.tree.Following.{Following}
 use Rattle.path_expr.specs.declared.tree.Seq.{Seq}
 use Rattle.path_expr.specs.Capped.{capped, greatest_length}
 use Rattle.path_expr.specs.Views.{sep_of, item_of, seq_of, seq_from, expr_from}
@@ -31,7 +31,7 @@ abbrev pub with_step : Option ℕ → Sep → tree.Item → Option ℕ
 with_step len Child i = together len (item_longest i)
 with_step len Below i = None
 
-seq_more : (i : tree.Item) (ss : List Step) (s : Step) → seq_longest (seq_from i (ss ++ s ∷ [])) ≡ with_step (seq_longest (seq_from i ss)) s.sep (item_of s.item)
+seq_more : (i : tree.Item) (ss : List Following) (s : Following) → seq_longest (seq_from i (ss ++ s ∷ [])) ≡ with_step (seq_longest (seq_from i ss)) s.sep (item_of s.item)
 seq_more i [] s = by s.sep
   where
     by : (o : Sep) → seq_longest (tree.then i (sep_of o) (tree.last (item_of s.item))) ≡ with_step (item_longest i) o (item_of s.item)
@@ -50,7 +50,7 @@ expr_more : (s : tree.Seq) (rs : List Seq) (r : Seq) → longest (expr_from s (r
 expr_more s [] r = refl
 expr_more s (t ∷ rs) r = ap (greater (seq_longest s)) (expr_more (seq_of t) rs r) ∙ greater_assoc (seq_longest s) (longest (expr_from (seq_of t) rs)) (seq_longest (seq_of r))
 
-pub seq_step : (i : tree.Item) (xs : List Step) (j : ℕ) (x : Step) → j < length xs → x ≡ get_or xs j x
+pub seq_step : (i : tree.Item) (xs : List Following) (j : ℕ) (x : Following) → j < length xs → x ≡ get_or xs j x
     → with_step (seq_longest (seq_from i (take j xs))) x.sep (item_of x.item) ≡ seq_longest (seq_from i (take (j + 1) xs))
 seq_step i xs j x within e = sym (seq_more i (take j xs) x) ∙ ap (λ y. seq_longest (seq_from i y)) (ap (λ y. take j xs ++ y ∷ []) e ∙ sym (take_more xs j x within))
 

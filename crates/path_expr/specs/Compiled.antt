@@ -6,7 +6,7 @@ use Rattle.path_spec.specs.Trees as tree
 use Rattle.path_expr.specs.Automata.{Stands, StandsSeq}
 use Rattle.path_expr.specs.declared.tree.Sep.{Sep}
 use Rattle.path_expr.specs.declared.tree.Sep.TheVariants.{Child, Below}
-use Rattle.path_expr.specs.declared.tree.Step.{Step}
+use Rattle.path_expr.specs.declared.tree.Following.{Following}
 use Rattle.path_expr.specs.declared.tree.Seq.{Seq}
 use Rattle.path_expr.specs.Views.{item_of, seq_of, seq_from}
 
@@ -45,6 +45,6 @@ module _ (texts : List (List ℕ)) (states : List State) (low : ℕ) where
       × StandsSeq texts (λ k. slice_get states k) r low y next
 
   -- the steps stand, and this state comes first
-  abbrev pub StandRest : List Step → (next after : ℕ) → Type 0
+  abbrev pub StandRest : List Following → (next after : ℕ) → Type 0
   StandRest [] next after = after ≡ next
   StandRest (s ∷ ss) next after = StandSep s.sep (seq_from (item_of s.item) ss) next after

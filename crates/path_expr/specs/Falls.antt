@@ -7,9 +7,9 @@ use Rattle.path_expr.specs.declared.tree.Sign.{Sign}
 use Rattle.path_expr.specs.declared.tree.Atom.{Atom}
 use Rattle.path_expr.specs.declared.tree.Atom.TheVariants.{Label, Any, Group}
 use Rattle.path_expr.specs.declared.tree.Item.{Item}
-use Rattle.path_expr.specs.declared.tree.Step.{Step}
+use Rattle.path_expr.specs.declared.tree.Following.{Following}
 use Rattle.path_expr.specs.declared.tree.Seq.{Seq}
-use Rattle.path_expr.specs.declared.tree.Expr.TheDeep.{deep-Atom, deep-Item, deep-Step, deep-Seq}
+use Rattle.path_expr.specs.declared.tree.Expr.TheDeep.{deep-Atom, deep-Item, deep-Following, deep-Seq}
 use Rattle.path_expr.specs.Sizes.{nodes, seq_nodes, item_nodes, atom_nodes}
 use Rattle.path_expr.specs.Views.{atom_of, signed_by, item_of, seq_from, seq_of, expr_from}
 
@@ -25,14 +25,14 @@ signed_nodes a (Some s) = omega arith
 deep_item : (i : Item) → deep-Item i ≤ item_nodes (item_of i)
 deep_item i = let a = deep_atom i.atom in let b = signed_nodes (atom_of i.atom) i.sign in omega (arith, a, b)
 
-deep_step : (s : Step) → deep-Step s ≤ item_nodes (item_of s.item)
+deep_step : (s : Following) → deep-Following s ≤ item_nodes (item_of s.item)
 deep_step s = let a = deep_item s.item in omega (arith, a)
 
-first_item : (i : tree.Item) (ss : List Step) → item_nodes i + 1 ≤ seq_nodes (seq_from i ss)
+first_item : (i : tree.Item) (ss : List Following) → item_nodes i + 1 ≤ seq_nodes (seq_from i ss)
 first_item i [] = omega arith
 first_item i (s ∷ ss) = omega arith
 
-deep_steps : (i : tree.Item) (ss : List Step) → most (λ x. deep-Step x) ss ≤ seq_nodes (seq_from i ss)
+deep_steps : (i : tree.Item) (ss : List Following) → most (λ x. deep-Following x) ss ≤ seq_nodes (seq_from i ss)
 deep_steps i [] = omega arith
 deep_steps i (s ∷ ss) =
     let a = deep_step s in

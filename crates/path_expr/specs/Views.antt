@@ -8,7 +8,7 @@ use Rattle.path_expr.specs.declared.tree.Sep.TheVariants.{Child, Below}
 use Rattle.path_expr.specs.declared.tree.Atom.{Atom}
 use Rattle.path_expr.specs.declared.tree.Atom.TheVariants.{Label, Any, Group}
 use Rattle.path_expr.specs.declared.tree.Item.{Item}
-use Rattle.path_expr.specs.declared.tree.Step.{Step}
+use Rattle.path_expr.specs.declared.tree.Following.{Following}
 use Rattle.path_expr.specs.declared.tree.Seq.{Seq}
 
 abbrev pub sign_of : Sign → tree.Sign
@@ -32,7 +32,7 @@ signed_by a (Some s) = tree.signed a (sign_of s)
 abbrev pub item_of : Item → tree.Item
 item_of i = signed_by (atom_of i.atom) i.sign
 
-abbrev pub seq_from : tree.Item → List Step → tree.Seq
+abbrev pub seq_from : tree.Item → List Following → tree.Seq
 seq_from i [] = tree.last i
 seq_from i (s ∷ ss) = tree.then i (sep_of s.sep) (seq_from (item_of s.item) ss)
 

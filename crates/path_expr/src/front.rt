@@ -1,7 +1,7 @@
 // The automaton of an expression whose words begin wherever a walk does.
 ghost use Rattle.std.specs.Prelude.{◌≡◌, ◌<◌, ◌≤◌, length, slice_get, Some, IfOk, OnOk};
 ghost use Rattle.path_spec.specs.Trees.{Atom as TreeAtom};
-ghost use Rattle.path_spec.specs.Trimmed.{trimmed_item, first_trimmed, reading, trimmed_seq, trimmed};
+ghost use Rattle.path_spec.specs.Trimmed.{trimmed_item, first_trimmed, from_required, trimmed_seq, trimmed};
 ghost use Rattle.path_expr.specs.Automata.{Stands, StandsSeq};
 ghost use Rattle.path_expr.specs.Views.{signed_by, item_of, seq_of};
 ghost use Rattle.path_expr.specs.TreeParts.{items, separators, without_first};
@@ -39,9 +39,9 @@ fn item_at(seq: &Seq, number: usize) -> &Item
 }
 
 /// The number of the first item that the empty word doesn't match, or of the last one.
-fn first_reading(seq: &Seq) -> usize
+fn first_required(seq: &Seq) -> usize
     ensures inside { result ≤ length (separators (seq_of seq.now)) }
-    ensures reading { reading (seq_of seq.now) ≡ without_first result (seq_of seq.now) }
+    ensures required { from_required (seq_of seq.now) ≡ without_first result (seq_of seq.now) }
 {
     for number in 0..seq.rest.len() {
         if !item_is_nullable(item_at(seq, number)) {
@@ -59,7 +59,7 @@ fn lead_len(seq: &Seq) -> usize
     if seq_is_nullable(seq) {
         0
     } else {
-        first_reading(seq)
+        first_required(seq)
     }
 }
 

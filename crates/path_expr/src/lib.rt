@@ -12,4 +12,4 @@ mod tree;
 
 pub use answers::{eval, eval_within};
 pub use lengths::longest;
-pub use tree::{Atom, Expr, Item, Sep, Seq, Sign, Step};
+pub use tree::{Atom, Expr, Following, Item, Sep, Seq, Sign};

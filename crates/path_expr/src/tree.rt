@@ -49,7 +49,7 @@ pub struct Item {
 /// An item after its separator.
 #[cycle(tree)]
 #[derive(Drop)]
-pub struct Step {
+pub struct Following {
     /// What stands in front of the item.
     pub sep: Sep,
     /// The item.
@@ -63,7 +63,7 @@ pub struct Seq {
     /// The first item.
     pub first: Item,
     /// The others.
-    pub rest: Vec<Step>,
+    pub rest: Vec<Following>,
 }
 
 /// One sequence or more, with `|` between them, seen as its tree.

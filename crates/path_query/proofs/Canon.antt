@@ -6,7 +6,7 @@ use Rattle.path_spec.specs.Tokens.{Token, bar, closing, sign, sep_token, onto, s
 use Rattle.path_spec.specs.Spelling.{sign_byte, token_text, canonical}
 use Rattle.std.proofs.lemmas.List.{take_more}
 use Rattle.path_expr.specs.declared.tree.Seq as code
-use Rattle.path_expr.specs.declared.tree.Step.{Step}
+use Rattle.path_expr.specs.declared.tree.Following.{Following}
 use Rattle.path_expr.specs.Views.{sep_of, item_of, seq_of, seq_from, expr_from}
 use Rattle.path_query.specs.Written.{expr_text, seq_text, item_text, atom_text}
 
@@ -45,7 +45,7 @@ expr_text_more s [] r = refl
 expr_text_more s (t ∷ rs) r =
     ap (λ x. seq_text s ++ 124 ∷ x) (expr_text_more (seq_of t) rs r) ∙ sym (append_assoc (seq_text s) (124 ∷ expr_text (expr_from (seq_of t) rs)) (124 ∷ seq_text (seq_of r)))
 
-pub seq_text_more : (i : Item) (ss : List Step) (s : Step)
+pub seq_text_more : (i : Item) (ss : List Following) (s : Following)
     → seq_text (seq_from i (ss ++ s ∷ [])) ≡ seq_text (seq_from i ss) ++ (token_text (sep_token (sep_of s.sep)) ++ item_text (item_of s.item))
 seq_text_more i [] s = refl
 seq_text_more i (t ∷ ss) s =
@@ -63,7 +63,7 @@ expr_step out old a out2 s xs j x within e h k l =
     ∙ append_assoc old (expr_text (expr_from s (take j xs))) (124 ∷ seq_text (seq_of x))
     ∙ ap (λ y. old ++ y) (sym (expr_text_more s (take j xs) x) ∙ ap (λ y. expr_text (expr_from s y)) (ap (λ y. take j xs ++ y ∷ []) e ∙ sym (take_more xs j x within)))
 
-pub seq_step : (out old : List ℕ) (a out2 : List ℕ) (i : Item) (xs : List Step) (j : ℕ) (x : Step) → j < length xs → x ≡ get_or xs j x
+pub seq_step : (out old : List ℕ) (a out2 : List ℕ) (i : Item) (xs : List Following) (j : ℕ) (x : Following) → j < length xs → x ≡ get_or xs j x
     → out ≡ old ++ seq_text (seq_from i (take j xs)) → a ≡ out ++ token_text (sep_token (sep_of x.sep)) → out2 ≡ a ++ item_text (item_of x.item)
     → out2 ≡ old ++ seq_text (seq_from i (take (j + 1) xs))
 seq_step out old a out2 i xs j x within e h k l =

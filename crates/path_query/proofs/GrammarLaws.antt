@@ -2,8 +2,8 @@
 use Rattle.std.proofs.Common.{◌≡◌, ℕ, List, [], ◌∷◌, ◌++◌, length, refl, sym, ap, ◌∙◌, subst, map, Option, None, Some}
 use Rattle.path_spec.specs.Trees as tree
 use Rattle.path_spec.specs.Tokens.{Token, lab, underscore, slash, slashes, bar, opening, closing, sign, sep_token, onto, seq_onto, item_onto, atom_onto, tokens, EndsExpr, EndsSeq, EndsItem}
-use Rattle.path_spec.proofs.OneReading.{ends_expr_seq, ends_seq_item, sep_ends, sep_goes_on, sep_one, one_expr, one_seq, one_item, one_atom}
-use Rattle.path_expr.specs.declared.tree.Step.{Step}
+use Rattle.path_spec.proofs.OneTree.{ends_expr_seq, ends_seq_item, sep_ends, sep_goes_on, sep_one, one_expr, one_seq, one_item, one_atom}
+use Rattle.path_expr.specs.declared.tree.Following.{Following}
 use Rattle.path_expr.specs.declared.tree.Seq.{Seq}
 use Rattle.path_expr.specs.Views.{sign_of, sep_of, signed_by, item_of, seq_from, seq_of, expr_from}
 use Rattle.path_expr.specs.declared.tree.Sep.TheVariants.{Child, Below}
@@ -17,7 +17,7 @@ expr_more s [] r q = refl
 expr_more s (t ∷ rs) r q = ap (λ x. seq_onto s (bar ∷ x)) (expr_more (seq_of t) rs r q)
 
 -- one step more
-pub seq_more : (i : tree.Item) (ss : List Step) (s : Step) (q : List Token) → seq_onto (seq_from i (ss ++ s ∷ [])) q ≡ seq_onto (seq_from i ss) (sep_token (sep_of s.sep) ∷ item_onto (item_of s.item) q)
+pub seq_more : (i : tree.Item) (ss : List Following) (s : Following) (q : List Token) → seq_onto (seq_from i (ss ++ s ∷ [])) q ≡ seq_onto (seq_from i ss) (sep_token (sep_of s.sep) ∷ item_onto (item_of s.item) q)
 seq_more i [] s q = refl
 seq_more i (t ∷ ss) s q = ap (λ x. item_onto i (sep_token (sep_of t.sep) ∷ x)) (seq_more (item_of t.item) ss s q)
 
@@ -37,7 +37,7 @@ pub expr_begins : (e : tree.Expr) (r : List Token) → EndsExpr r → (s : tree.
 expr_begins (tree.only s) r h = (s, r, ends_expr_seq r h, refl)
 expr_begins (tree.or s e) r h = (s, bar ∷ onto e r, tt, refl)
 
-pub seq_peel : (i : tree.Item) (ss : List Step) (p : tree.Sep) (x : List Token) (s : tree.Seq) (r : List Token) → EndsSeq r
+pub seq_peel : (i : tree.Item) (ss : List Following) (p : tree.Sep) (x : List Token) (s : tree.Seq) (r : List Token) → EndsSeq r
     → seq_onto (seq_from i ss) (sep_token p ∷ x) ≡ seq_onto s r → (t : tree.Seq) × (x ≡ seq_onto t r)
 seq_peel i [] p x (tree.last j) r h k =
     let a = one_item i j (sep_token p ∷ x) r k (sep_ends p x) (ends_seq_item r h) in absurd (sep_goes_on p x (subst EndsSeq (sym a.1) h))

@@ -13,7 +13,7 @@ use Rattle.triples_read.specs.Fronts.{IsText}
 use Rattle.triples_read.specs.ByteReaders.{starts_with}
 use Rattle.triples_read.proofs.OpeningQuotes.{front-quoted}
 use Rattle.triples_read.proofs.IriFronts.{front-cut, end-found, cut-there}
-use Rattle.triples_read.proofs.OneReading.{iri-unique}
+use Rattle.triples_read.proofs.OneTriple.{iri-unique}
 use Rattle.path_spec.specs.Spelling.{EndsName}
 use Rattle.path_query.specs.Labels.{IsPlainLabel, SpellsLabel, IsNameFront}
 use Rattle.path_query.proofs.LabelBytes.{named, name_bytes, letter_is_no_blank}

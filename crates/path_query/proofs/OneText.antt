@@ -3,7 +3,7 @@ use Rattle.std.proofs.Common.{◌≡◌, ℕ, List, [], ◌∷◌, refl, sym, ap
 use Rattle.path_spec.specs.Trees.{Expr}
 use Rattle.path_spec.specs.Tokens.{Token, lab, tokens}
 use Rattle.path_spec.specs.Spelling.{SpellsTokens}
-use Rattle.path_spec.proofs.OneReading.{one_reading}
+use Rattle.path_spec.proofs.OneTree.{one_reading}
 use Rattle.path_query.specs.Labels.{SpellsLabel}
 use Rattle.path_query.specs.Fronts.{IsTokenFront, mark_front}
 use Rattle.path_query.specs.Parsed.{Spells}

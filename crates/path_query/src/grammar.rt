@@ -6,7 +6,7 @@ ghost use Rattle.path_expr.specs.Views.{atom_of, signed_by, item_of, seq_of};
 ghost use Rattle.path_query.specs.Seen.{seen};
 
 use crate::token::{Token, after_bar, after_close, ends_item, first_sep, first_sign, first_token};
-use path_expr::{Atom, Expr, Item, Seq, Sign, Step};
+use path_expr::{Atom, Expr, Following, Item, Seq, Sign};
 use px_base::Memory;
 use std::alloc::{AllocFailed, Global};
 
@@ -106,7 +106,7 @@ fn read_seq<'t>(alloc: Global, left: &'t [Token]) -> Result<(Seq, &'t [Token]), 
     let mut rest = Vec::new(alloc);
     'steps: while let Some((sep, after)) = first_sep(behind) {
         let (item, next) = read_item(alloc, after)?;
-        rest.push(Step { sep, item })?;
+        rest.push(Following { sep, item })?;
         behind = next;
     }
     Ok((Seq { first, rest }, behind))

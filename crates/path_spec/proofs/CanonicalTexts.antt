@@ -4,7 +4,7 @@ use Rattle.std.specs.List.{flat_map}
 use Rattle.path_spec.specs.Trees.{star, plus, opt, Sep, child, below, Expr, only, or, Seq, last, then, Item, once, signed, Atom, label, any, group}
 use Rattle.path_spec.specs.Tokens.{Token, lab, underscore, slash, slashes, bar, opening, closing, sign, sep_token, onto, seq_onto, item_onto, atom_onto, tokens, EndsExpr, EndsSeq, EndsItem}
 use Rattle.path_spec.specs.Spelling.{EndsName, EndsSlash, sign_byte, token_text, canonical, SpellsTokens, Spells}
-use Rattle.path_spec.proofs.OneReading.{ends_expr_seq, ends_seq_item, sep_ends}
+use Rattle.path_spec.proofs.OneTree.{ends_expr_seq, ends_seq_item, sep_ends}
 
 -- no token is taken for a part of a longer one where another follows it at once
 abbrev pub Apart : Token → List Token → Type 0

@@ -1,6 +1,6 @@
 pub mod WordTests
 pub mod Longest
-pub mod OneReading
+pub mod OneTree
 pub mod CanonicalTexts
 pub mod TrimmedLaws
 pub mod Examples

@@ -7,7 +7,7 @@ use Rattle.px_spec.specs.Walks.{Leads}
 use Rattle.path_spec.specs.Trees.{star, plus, opt, child, below, Sep, Expr, only, or, Seq, last, then, Item, once, signed}
 use Rattle.path_spec.specs.Matches.{Word, joined, AnyWord, Then, Pieces, Matches, MatchesSeq, MatchesItem, MatchesAtom}
 use Rattle.path_spec.specs.Tests.{seq_matches, item_matches}
-use Rattle.path_spec.specs.Trimmed.{trimmed_item, first_trimmed, reading, trimmed_seq, trimmed}
+use Rattle.path_spec.specs.Trimmed.{trimmed_item, first_trimmed, from_required, trimmed_seq, trimmed}
 use Rattle.path_spec.specs.Answers.{IsAnswer, AreAnswers}
 use Rattle.path_spec.proofs.WordTests.{says_seq, says_item}
 
@@ -134,20 +134,20 @@ rest_some : (i : Item) (p : Sep) (s : Seq) → item_matches i [] ≡ true → se
 rest_some i child s h k = sym (ap (λ b. b && seq_matches s []) h) ∙ k
 rest_some i below s h k = sym (ap (λ b. b && seq_matches s []) h) ∙ k
 
-cut_reading : (s : Seq) → seq_matches s [] ≡ false → IsCut (MatchesSeq s) (MatchesSeq (reading s))
-cut_reading (last i) some = cut_same (MatchesItem i)
-cut_reading (then i p s) some = by (item_matches i []) refl (λ h. cut_reading s h)
+cut_required : (s : Seq) → seq_matches s [] ≡ false → IsCut (MatchesSeq s) (MatchesSeq (from_required s))
+cut_required (last i) some = cut_same (MatchesItem i)
+cut_required (then i p s) some = by (item_matches i []) refl (λ h. cut_required s h)
   where
-    by : (b : Bool) → item_matches i [] ≡ b → (seq_matches s [] ≡ false → IsCut (MatchesSeq s) (MatchesSeq (reading s))) → IsCut (MatchesSeq (then i p s)) (MatchesSeq (cond b (reading s) (then i p s)))
-    by true h more = let k = rest_some i p s h some in cut_past i p s (MatchesSeq (reading s)) h k (more k)
+    by : (b : Bool) → item_matches i [] ≡ b → (seq_matches s [] ≡ false → IsCut (MatchesSeq s) (MatchesSeq (from_required s))) → IsCut (MatchesSeq (then i p s)) (MatchesSeq (cond b (from_required s) (then i p s)))
+    by true h more = let k = rest_some i p s h some in cut_past i p s (MatchesSeq (from_required s)) h k (more k)
     by false h more = cut_same (MatchesSeq (then i p s))
 
 cut_seq : (s : Seq) → IsCut (MatchesSeq s) (MatchesSeq (trimmed_seq s))
 cut_seq s = by (seq_matches s []) refl
   where
-    by : (b : Bool) → seq_matches s [] ≡ b → IsCut (MatchesSeq s) (MatchesSeq (first_trimmed (cond b s (reading s))))
+    by : (b : Bool) → seq_matches s [] ≡ b → IsCut (MatchesSeq s) (MatchesSeq (first_trimmed (cond b s (from_required s))))
     by true h = cut_first s
-    by false h = cut_twice (MatchesSeq s) (MatchesSeq (reading s)) (MatchesSeq (first_trimmed (reading s))) (cut_reading s h) (cut_first (reading s))
+    by false h = cut_twice (MatchesSeq s) (MatchesSeq (from_required s)) (MatchesSeq (first_trimmed (from_required s))) (cut_required s h) (cut_first (from_required s))
 
 cut : (e : Expr) → IsCut (Matches e) (Matches (trimmed e))
 cut (only s) = cut_seq s

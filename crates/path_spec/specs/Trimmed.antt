@@ -15,13 +15,13 @@ first_trimmed (last i) = last (trimmed_item i)
 first_trimmed (then i p s) = then (trimmed_item i) p s
 
 -- the sequence from the first item on that the empty word doesn't match
-abbrev pub reading : Seq → Seq
-reading (last i) = last i
-reading (then i p s) = cond (item_matches i []) (reading s) (then i p s)
+abbrev pub from_required : Seq → Seq
+from_required (last i) = last i
+from_required (then i p s) = cond (item_matches i []) (from_required s) (then i p s)
 
 -- where there is such an item, those in front of it are left out
 abbrev pub trimmed_seq : Seq → Seq
-trimmed_seq s = first_trimmed (cond (seq_matches s []) s (reading s))
+trimmed_seq s = first_trimmed (cond (seq_matches s []) s (from_required s))
 
 -- each alternative by itself; what stands in parentheses stays
 abbrev pub trimmed : Expr → Expr

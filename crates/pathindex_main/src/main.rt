@@ -35,7 +35,7 @@ struct Run<'a, R: Files + Print + AllocGlobal> {
 impl<'a, R: Files + Print + AllocGlobal> EngineTask for Run<'a, R> {
     ghost use Rattle.std.specs.Prelude.{⊤};
 
-    type Answer = u8;
+    type Output = u8;
 
     // `run` says what the status is by what files and output tell of themselves, and real ones tell nothing.
     ghost gives = { λ _ _. ⊤ };

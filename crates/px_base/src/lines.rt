@@ -196,7 +196,7 @@ impl Model for LineReader {
 
 impl LineReader {
     /// A reader that has taken nothing. A line has at most `line_limit` bytes without its end, and the lines
-    /// with their ends at most `text_limit`; both are at most 2^30. O(1), and 64 KiB of memory, in which it
+    /// with their ends at most `text_limit`; both are at most 2^30. O(1); it takes 64 KiB, in which it
     /// reads ahead.
     pub fn new(alloc: Global, line_limit: u32, text_limit: u32) -> Result<LineReader, Memory>
         requires line { line_limit ≤ 2 ^ 30 }

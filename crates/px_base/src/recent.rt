@@ -25,7 +25,7 @@ impl Model for Recent {
 }
 
 impl Recent {
-    /// The number 0 in each slot. O(1), and 16 KiB of memory.
+    /// The number 0 in each slot. O(1); it takes 16 KiB.
     pub fn new(alloc: Global) -> Result<Recent, Memory> {
         let slots = vec![in alloc; 0; 1 << BITS]?;
         Ok(Recent { slots })

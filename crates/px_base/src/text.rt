@@ -78,7 +78,7 @@ impl Text {
         self.content.as_str()
     }
 
-    /// A text of its own with the same bytes. O(b) for b bytes, and b bytes of memory.
+    /// A text of its own with the same bytes. O(b) for b bytes; it takes b bytes.
     pub fn copy(&self, alloc: Global) -> Result<Text, Memory>
         ensures { IfOk result (λ t. t ≡ self.now) }
     {

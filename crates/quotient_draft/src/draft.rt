@@ -91,7 +91,7 @@ impl Draft {
 // Drafting.
 impl Draft {
     /// Drafts a block without members, and gives its number, the least that is no block as shown. On `Memory` the
-    /// draft stays. Expected O(1), spread over all that are drafted; it takes the memory of one block.
+    /// draft stays. Expected O(1), amortized; it takes the memory of one block.
     pub fn new_block(&mut self, base: &Summary, label: u32) -> Result<u32, Memory>
         requires over { IsOver base.now.blocks.block_of base.now.blocks.labels self.old }
         requires few { count_by is_some (shown_labels base.now self.old) < 2 ^ 31 }
@@ -114,7 +114,7 @@ impl Draft {
     }
 
     /// Drafts the move of a node, which is below 2^31, to a block as shown, or out of its block. On `Memory` the draft
-    /// stays. Expected O(1), spread over all that are drafted; it takes the memory of one move.
+    /// stays. Expected O(1), amortized; it takes the memory of one move.
     pub fn put(&mut self, base: &Summary, n: NodeId, b: Option<u32>) -> Result<(), Memory>
         requires over { IsOver base.now.blocks.block_of base.now.blocks.labels self.old }
         requires small { n < 2 ^ 31 }
@@ -131,7 +131,7 @@ impl Draft {
     }
 
     /// Drafts that one more edge leads from `a` to `b`, both blocks as shown. On `Memory` the draft stays. Expected
-    /// O(1), spread over all that are drafted; it takes the memory of one pair.
+    /// O(1), amortized; it takes the memory of one pair.
     pub fn raise(&mut self, base: &Summary, a: u32, b: u32) -> Result<(), Memory>
         requires over { IsOver base.now.blocks.block_of base.now.blocks.labels self.old }
         requires from { IsSome (at (shown_labels base.now self.old) a) }
@@ -150,7 +150,7 @@ impl Draft {
     }
 
     /// Drafts that one edge fewer leads from `a` to `b`, both blocks as shown, which have support. On `Memory` the
-    /// draft stays. Expected O(1), spread over all that are drafted; it takes the memory of one pair.
+    /// draft stays. Expected O(1), amortized; it takes the memory of one pair.
     pub fn lower(&mut self, base: &Summary, a: u32, b: u32) -> Result<(), Memory>
         requires over { IsOver base.now.blocks.block_of base.now.blocks.labels self.old }
         requires from { IsSome (at (shown_labels base.now self.old) a) }

@@ -9,8 +9,7 @@ use px_base::{Memory, NodeId};
 use quotient::Summary;
 
 impl Draft {
-    /// Drafts the support of a pair, both blocks as shown. On `Memory` the draft stays. Expected O(1), spread over all that
-    /// are drafted; it takes the memory of one pair.
+    /// Drafts the support of a pair, both blocks as shown. On `Memory` the draft stays. Expected O(1), amortized; it takes the memory of one pair.
     pub fn set_support(&mut self, base: &Summary, a: u32, b: u32, n: u32) -> Result<(), Memory>
         requires over { IsOver base.now.blocks.block_of base.now.blocks.labels self.old }
         requires from { IsSome (at (shown_labels base.now self.old) a) }
@@ -27,7 +26,7 @@ impl Draft {
     }
 
     /// Drafts the move of a node that has a block as shown to a block as shown. On `Memory` the draft stays. Expected O(1),
-    /// spread over all that are drafted; it takes the memory of one move.
+    /// amortized; it takes the memory of one move.
     pub fn move_to(&mut self, base: &Summary, n: NodeId, b: u32) -> Result<(), Memory>
         requires over { IsOver base.now.blocks.block_of base.now.blocks.labels self.old }
         requires node { IsSome (at (shown_blocks base.now self.old) n) }

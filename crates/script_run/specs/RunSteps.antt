@@ -23,9 +23,9 @@ pub record Extends (old new : List ℕ) : Type 0 where
   pub new_is : new ≡ old ++ rest
 
 -- the command that asks a query through this
-abbrev pub asking : Via → Query → Command
-asking via (query.path e) = path via e
-asking via (query.branch q) = branch via q
+abbrev pub query_command : Via → Query → Command
+query_command via (query.path e) = path via e
+query_command via (query.branch q) = branch via q
 
 -- A command was carried out, and what it prints is gathered; whether that is a refusal.
 pub record Obeyed (rules : Rules) (s : State) (c : Command) (out : List ℕ) (refuses : Bool) (t : State) (gathered : List ℕ) : Type 0 where

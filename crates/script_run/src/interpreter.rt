@@ -10,7 +10,7 @@ ghost use Rattle.pathindex_core.specs.QueryAnswers.{IsAnswered, IsUnkept};
 ghost use Rattle.script_run.specs.Rules.{rules_for, if_whole};
 ghost use Rattle.script_run.specs.Texts.{applied_line, ok_line, refused_line};
 ghost use Rattle.script_run.specs.EngineStates.{state_in, IsAsked, IsOpen};
-ghost use Rattle.script_run.specs.RunSteps.{asking, Obeyed, LineComes};
+ghost use Rattle.script_run.specs.RunSteps.{query_command, Obeyed, LineComes};
 
 use crate::output::{push_line, push_number};
 use crate::printing::Printing;
@@ -133,7 +133,7 @@ fn ask<L: Ledger>(
 ) -> Result<bool, Memory>
     requires ready { IsOpen (engine_seen (map (λ b. meaning (b.vtable, b.value)) engine.old.boxes.items) engine.old.state) }
     ensures ready { IsOpen (engine_seen (map (λ b. meaning (b.vtable, b.value)) engine.new.boxes.items) engine.new.state) }
-    ensures ok { IfOk result (λ refuses. Obeyed (rules_for printing) (state_in (engine_seen (map (λ b. meaning (b.vtable, b.value)) engine.old.boxes.items) engine.old.state)) (asking via (query_of query.now)) out.old.items refuses (state_in (engine_seen (map (λ b. meaning (b.vtable, b.value)) engine.new.boxes.items) engine.new.state)) out.new.items) }
+    ensures ok { IfOk result (λ refuses. Obeyed (rules_for printing) (state_in (engine_seen (map (λ b. meaning (b.vtable, b.value)) engine.old.boxes.items) engine.old.state)) (query_command via (query_of query.now)) out.old.items refuses (state_in (engine_seen (map (λ b. meaning (b.vtable, b.value)) engine.new.boxes.items) engine.new.state)) out.new.items) }
     ensures err { OnErr result (out.new.items ≡ out.old.items) }
 {
     match answer_of(alloc, engine, via, query, steps) {

@@ -6,7 +6,7 @@ use Rattle.std.proofs.Math.Seq.{get_or-append_seam}
 use Rattle.hash_index.specs.Items.{Items, with_item, hash_at, count_to, IsNewest}
 use Rattle.triples_read.specs.declared.term.Term.{Term}
 use Rattle.term_table.specs.declared.entries.Entry.{Entry}
-use Rattle.term_table.specs.declared.entries.Span.{Span}
+use Rattle.term_table.specs.declared.entries.TermRange.{TermRange}
 use Rattle.term_table.specs.Parts.{Parts, parts_of, term_of, hash_of}
 use Rattle.term_table.specs.Entries.{no_entry, entry_at, AreWithin, HasTexts, parts_in, terms_of, IsTermTable, LackParts}
 use Rattle.term_table.proofs.Stored.{range_kept}
@@ -62,7 +62,7 @@ entries_kept arena more (e ∷ es) w =
 pub terms_kept : (arena more arena2 : List ℕ) (index : Items Entry) → arena2 ≡ arena ++ more → IsTermTable arena index → terms_of arena2 index.items ≡ terms_of arena index.items
 terms_kept arena more arena2 index grown t = ap (λ a. terms_of a index.items) grown ∙ entries_kept arena more index.items t.within
 
-wider : (m n : ℕ) (s : Span) → m ≤ n → AreWithin m s → AreWithin n s
+wider : (m n : ℕ) (s : TermRange) → m ≤ n → AreWithin m s → AreWithin n s
 wider m n s h w = record { text = w.text; datatype = w.datatype; tag = w.tag; end = (let e = w.end in omega (arith, h, e)) }
 
 -- more is stored, and no entry says so

@@ -3,7 +3,7 @@ use Rattle.std.proofs.Common.{◌≡◌, ℕ, ◌+◌, ◌-◌, ◌≤◌, List,
 use Rattle.std.specs.Prelude.{slice_range}
 use Rattle.std.proofs.lemmas.List.{length-append, take-append-le, drop-append-le, length-drop}
 use Rattle.std.proofs.Math.Seq.{drop-append_seam, take-length}
-use Rattle.term_table.specs.declared.entries.Span.{Span}
+use Rattle.term_table.specs.declared.entries.TermRange.{TermRange}
 use Rattle.term_table.specs.Parts.{Parts}
 use Rattle.term_table.specs.Entries.{AreWithin, HasTexts, Begins}
 
@@ -20,11 +20,11 @@ range_new xs t a b at end =
     rw (n, at, drop-append_seam xs t, take-length t) refl
 
 -- the three texts of a term
-pub record IsStored (new : List ℕ) (s : Span) (p : Parts) : Type 0 where
+pub record IsStored (new : List ℕ) (s : TermRange) (p : Parts) : Type 0 where
   pub within : AreWithin (length new) s
   pub texts : HasTexts new s p
 
-pub stored : (a : List ℕ) (s : Span) (p : Parts) → s.from ≡ length a → s.text_end ≡ length (a ++ p.text) → s.datatype_end ≡ length ((a ++ p.text) ++ p.datatype)
+pub stored : (a : List ℕ) (s : TermRange) (p : Parts) → s.from ≡ length a → s.text_end ≡ length (a ++ p.text) → s.datatype_end ≡ length ((a ++ p.text) ++ p.datatype)
     → s.to ≡ length (((a ++ p.text) ++ p.datatype) ++ p.tag) → IsStored (((a ++ p.text) ++ p.datatype) ++ p.tag) s p
 stored a s p from text datatype to =
     let m = length-append a p.text in

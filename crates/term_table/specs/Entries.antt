@@ -3,7 +3,7 @@ use Rattle.std.specs.Prelude.{◌≡◌, ℕ, ◌^◌, ◌<◌, ◌≤◌, Bool,
 use Rattle.triples_read.specs.declared.term.Term.{Term}
 use Rattle.hash_index.specs.Items.{Items, hash_at}
 use Rattle.term_table.specs.declared.entries.Entry.{Entry}
-use Rattle.term_table.specs.declared.entries.Span.{Span}
+use Rattle.term_table.specs.declared.entries.TermRange.{TermRange}
 use Rattle.term_table.specs.declared.parts.Sort.TheVariants.{Iri}
 use Rattle.term_table.specs.Parts.{Parts, parts_of, term_of, hash_of}
 
@@ -14,28 +14,28 @@ abbrev pub entry_at : List Entry → ℕ → Entry
 entry_at entries i = slice_index_or entries i no_entry
 
 -- the texts lie in order, below the bound
-pub record AreWithin (bound : ℕ) (s : Span) : Type 0 where
+pub record AreWithin (bound : ℕ) (s : TermRange) : Type 0 where
   pub text : s.from ≤ s.text_end
   pub datatype : s.text_end ≤ s.datatype_end
   pub tag : s.datatype_end ≤ s.to
   pub end : s.to ≤ bound
 
-abbrev pub text_in : List ℕ → Span → List ℕ
+abbrev pub text_in : List ℕ → TermRange → List ℕ
 text_in arena s = slice_range arena s.from s.text_end
 
-abbrev pub datatype_in : List ℕ → Span → List ℕ
+abbrev pub datatype_in : List ℕ → TermRange → List ℕ
 datatype_in arena s = slice_range arena s.text_end s.datatype_end
 
-abbrev pub tag_in : List ℕ → Span → List ℕ
+abbrev pub tag_in : List ℕ → TermRange → List ℕ
 tag_in arena s = slice_range arena s.datatype_end s.to
 
 -- the texts that lie there are those of the parts
-pub record HasTexts (arena : List ℕ) (s : Span) (p : Parts) : Type 0 where
+pub record HasTexts (arena : List ℕ) (s : TermRange) (p : Parts) : Type 0 where
   pub text : text_in arena s ≡ p.text
   pub datatype : datatype_in arena s ≡ p.datatype
   pub tag : tag_in arena s ≡ p.tag
 
-abbrev pub has_texts : List ℕ → Span → Parts → Bool
+abbrev pub has_texts : List ℕ → TermRange → Parts → Bool
 has_texts arena s p = bytes_eq (text_in arena s) p.text && (bytes_eq (datatype_in arena s) p.datatype && bytes_eq (tag_in arena s) p.tag)
 
 -- the parts of the entry's term

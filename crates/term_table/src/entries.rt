@@ -9,7 +9,7 @@ use px_base::NodeId;
 
 /// Where the parts of a term lie, one behind the other, in the arena.
 #[derive(Clone, Copy)]
-pub(crate) struct Span {
+pub(crate) struct TermRange {
     pub(crate) from: u32,
     pub(crate) text_end: u32,
     pub(crate) datatype_end: u32,
@@ -19,7 +19,7 @@ pub(crate) struct Span {
 /// A term and its number.
 #[derive(Clone, Copy)]
 pub(crate) struct Entry {
-    pub(crate) span: Span,
+    pub(crate) span: TermRange,
     pub(crate) sort: Sort,
     pub(crate) number: NodeId,
 }
@@ -33,7 +33,7 @@ pub(crate) fn read_entry(index: &HashIndex<Entry>, n: u32) -> Entry
 }
 
 #[inline(always)]
-fn same_texts(arena: &[u8], s: &Span, parts: &Parts<'_>) -> bool
+fn same_texts(arena: &[u8], s: &TermRange, parts: &Parts<'_>) -> bool
     requires within { AreWithin (length arena.now) s.now }
     ensures { result ≡ has_texts arena.now s.now (shown_parts parts.now) }
 {

@@ -4,7 +4,7 @@ ghost use Rattle.term_table.specs.Parts.{shown_parts};
 ghost use Rattle.term_table.specs.Entries.{AreWithin, HasTexts};
 ghost use Rattle.term_table.specs.Entries.{Begins};
 
-use crate::entries::Span;
+use crate::entries::TermRange;
 use crate::parts::Parts;
 use px_base::Memory;
 
@@ -24,7 +24,7 @@ fn store_text(arena: &mut Vec<u8>, text: &[u8]) -> Result<u32, Memory>
 }
 
 /// Puts the texts of a term behind what is stored.
-pub(crate) fn store(arena: &mut Vec<u8>, parts: &Parts<'_>) -> Result<Span, Memory>
+pub(crate) fn store(arena: &mut Vec<u8>, parts: &Parts<'_>) -> Result<TermRange, Memory>
     requires short { length arena.old.items < 2 ^ 32 }
     ensures begins { Begins arena.old.items arena.new.items }
     ensures short { length arena.new.items < 2 ^ 32 }
@@ -35,7 +35,7 @@ pub(crate) fn store(arena: &mut Vec<u8>, parts: &Parts<'_>) -> Result<Span, Memo
     let text_end = store_text(arena, parts.text)?;
     let datatype_end = store_text(arena, parts.datatype)?;
     let to = store_text(arena, parts.tag)?;
-    Ok(Span {
+    Ok(TermRange {
         from,
         text_end,
         datatype_end,

@@ -78,7 +78,7 @@ impl Model for TermTable {
 }
 
 impl TermTable {
-    /// No terms. O(1), and 64 bytes of memory.
+    /// No terms. O(1); it takes 64 bytes.
     pub fn new(alloc: Global) -> Result<TermTable, Memory>
         ensures { IfOk result (λ t. t ≡ []) }
     {
@@ -133,8 +133,7 @@ impl TermTable {
     }
 
     /// Puts a term that isn't there behind the others, and gives its place. `Memory` comes where memory runs
-    /// out or the table is full, and leaves the terms. O(b) for texts of b bytes, spread over all that are put
-    /// in; it takes the memory that is said of the table.
+    /// out or the table is full, and leaves the terms. O(b) for texts of b bytes, amortized; it takes the memory that is said of the table.
     pub fn insert(&mut self, term: &HashedTerm, number: NodeId) -> Result<u32, Memory>
         requires absent { number_of self.old term.now ≡ None }
         ensures added { OnOk result (self.new ≡ self.old ++ (term.now, number) ∷ []) }

@@ -16,6 +16,6 @@ pub mod Follow
 pub mod FrontLaws
 pub mod LiteralLaws
 pub mod LineLaws
-pub mod OneReading
+pub mod OneTriple
 pub mod Written
 pub mod CanonicalLaws

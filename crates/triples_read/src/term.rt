@@ -29,6 +29,10 @@ pub enum Term {
 
 /// A triple of RDF 1.1. A value of this type may also be no triple that a line can spell, as one whose
 /// subject is a literal: `is_triple` is the test.
+///
+/// The triple of a line:
+///
+///     let triple = read_line(alloc, b"<x:ana> <x:knows> <x:bo> .")?;
 #[derive(Debug, Drop, PartialEq, Eq)]
 pub struct Triple {
     /// What the triple is about.

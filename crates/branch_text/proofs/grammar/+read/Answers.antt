@@ -1,7 +1,7 @@
 use Rattle.std.proofs.Common.{◌≡◌, ◌∷◌, ◌∙◌, sym, ap, subst, Err, arith, true≢false}
 use Rattle.std.proofs.lemmas.Result.{err_from_is_err_and}
 use Rattle.branch_spec.specs.Tokens.{axis, left, right, opening, closing, and_word, or_word, test_onto, preds_onto, or_onto, and_onto, chain_onto, EndsStep}
-use Rattle.branch_spec.proofs.OneReading.{chain_ends, one_chain}
+use Rattle.branch_spec.proofs.OneQuery.{chain_ends, one_chain}
 use Rattle.branch_spec.specs.Trees.{go}
 use Rattle.branch_sets.specs.Axes.{axis_of}
 use Rattle.branch_expr.specs.Views.{test_of, preds_of, step_of, chain_of, cond_of, and_from, and_of, or_from}

@@ -5,7 +5,7 @@ use Rattle.px_spec.specs.Members.{has}
 use Rattle.px_spec.specs.Shapes.{shape_by}
 use Rattle.path_spec.specs.Answers.{AreAnswers}
 use Rattle.path_spec.specs.Parts.{part_of}
-use Rattle.data_validate.specs.Ancestors.{IsLeading}
+use Rattle.data_validate.specs.Ancestors.{AreAncestors}
 use Rattle.data_validate.proofs.Walks.{near_sound, near_complete}
 use Rattle.data_validate.proofs.checks.path_answers.Goals as goal
 
@@ -28,6 +28,6 @@ returns-in-Some-clause-complete g c =
     let set = c.args.set.now.members in
     let near = c.in-Some.near.members in
     let most = c.most_edges.result in
-    let lead : IsLeading label_at edge most set near = subst (λ o. IfSome o (λ (b : BitSet). IsLeading label_at edge most set b.members)) c.in-Some.is c.in_ok-near.ensures.leading in
+    let lead : AreAncestors label_at edge most set near = subst (λ o. IfSome o (λ (b : BitSet). AreAncestors label_at edge most set b.members)) c.in-Some.is c.in_ok-near.ensures.leading in
     IfOk-weaker c.eval_within.result (λ b. AreAnswers (part_of (has near) (shape_by texts span label_at edge)) c.args.expr.now b.members) _
     (λ b h. near_complete texts span label_at edge c.args.expr.now most set near b.members h c.most_edges.ensures lead) c.eval_within.ensures.answers

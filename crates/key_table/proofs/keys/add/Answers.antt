@@ -1,6 +1,6 @@
 use Rattle.std.proofs.Common.{◌≡◌, ◌+◌, ◌<◌, ◌^◌, ◌++◌, rules, length, arith}
 use Rattle.std.proofs.lemmas.List.{length-append}
-use Rattle.key_table.specs.declared.spans.Span.{Span}
+use Rattle.key_table.specs.declared.spans.KeyRange.{KeyRange}
 use Rattle.key_table.proofs.DistinctKeys.{new_key, table_kept, table_pushed, keys_pushed, keys_left}
 use Rattle.key_table.proofs.keys.add.Goals as goal
 
@@ -9,7 +9,7 @@ returns-clause-table c =
     let arena = c.args.arena.now.items in
     let key = c.args.key.now in
     let grown = c.in_ok-extend_from_slice.ensures.items in
-    let span : Span = record { from = c.len-from.result; to = c.len-to.result } in
+    let span : KeyRange = record { from = c.len-from.result; to = c.len-to.result } in
     let from : span.from ≡ length arena = search rules in
     let to : span.to ≡ length arena + length key = search (rules, length-append) in
     let m = length-append arena key in
@@ -22,7 +22,7 @@ returns-clause-added c =
     let arena = c.args.arena.now.items in
     let key = c.args.key.now in
     let grown = c.in_ok-extend_from_slice.ensures.items in
-    let span : Span = record { from = c.len-from.result; to = c.len-to.result } in
+    let span : KeyRange = record { from = c.len-from.result; to = c.len-to.result } in
     let from : span.from ≡ length arena = search rules in
     let to : span.to ≡ length arena + length key = search (rules, length-append) in
     rw grown (keys_pushed c.push.result arena key c.args.index.now c.push.new.self span c.args.hash c.requires.table from to c.push.ensures.ok)

@@ -8,12 +8,12 @@ use Rattle.one_drafting.proofs.tests.are_parted.Goals as goal
 
 pub split-requires-clause-stable : goal.split-requires-clause-stable
 split-requires-clause-stable g c =
-    stable_there c.args.after.now.before c.args.after.now.change c.args.v c.args.base.now c.draft_link.new.draft c.requires.before.graph c.requires.before.graph_after
+    stable_there c.args.after.now.before c.args.after.now.change c.args.edge.1 c.args.base.now c.draft_link.new.draft c.requires.before.graph c.requires.before.graph_after
     c.requires.before.fits c.draft_link.ensures.target c.in_ok-draft_link.ensures.changed
 
 pub split-requires-clause-named : goal.split-requires-clause-named
 split-requires-clause-named g c =
-    named_off (has (c.args.v ∷ [])) (shown_blocks c.args.base.now c.draft_link.new.draft) (at (shown_labels c.args.base.now c.draft_link.new.draft))
+    named_off (has (c.args.edge.1 ∷ [])) (shown_blocks c.args.base.now c.draft_link.new.draft) (at (shown_labels c.args.base.now c.draft_link.new.draft))
     (label_number (graph_after c.args.after.now)) c.in_ok-draft_link.ensures.changed.named
 
 pub merge-requires-clause-split : goal.merge-requires-clause-split

@@ -1,6 +1,6 @@
 use Rattle.std.proofs.Common.{◌≡◌, ◌+◌, ◌≤◌, take}
 use Rattle.data_validate.specs.Ancestors.{IsSpread}
-use Rattle.data_validate.proofs.leading.meet_parents.Given as goal
+use Rattle.data_validate.proofs.ancestors.meet_parents.Given as goal
 
 abbrev pub invariant-loop-i : goal.invariant-loop-i
 invariant-loop-i g l = record {

@@ -1,7 +1,7 @@
 // What leads to the members of a set by few edges.
 ghost use Rattle.std.specs.Prelude.{◌≡◌, ◌<◌, ◌≤◌, ◌+◌, ◌&&◌, ◌⊎◌, [], ℕ, nat_eq, is_some, length, IsTrue, IsFalse, IsSome, IfOk, IfSome, OnOk};
 ghost use Rattle.px_spec.specs.Members.{has};
-ghost use Rattle.data_validate.specs.Ancestors.{IsFew, IsLeading, IsNoted, IsSpread};
+ghost use Rattle.data_validate.specs.Ancestors.{IsFew, AreAncestors, IsNoted, IsSpread};
 
 use label_graph::Digraph;
 use px_base::{Bits, Memory, NodeId};
@@ -134,7 +134,7 @@ pub(crate) fn ancestors<G: Digraph>(
     most: Option<u32>,
 ) -> Result<Option<Bits>, Memory>
     ensures size { IfOk result (λ o. IfSome o (λ b. b.size ≡ G.span g.now)) }
-    ensures leading { IfOk result (λ o. IfSome o (λ b. IsLeading (G.label_at g.now) (G.edge g.now) most set.now.members b.members)) }
+    ensures leading { IfOk result (λ o. IfSome o (λ b. AreAncestors (G.label_at g.now) (G.edge g.now) most set.now.members b.members)) }
 {
     let mut left = g.size() / 64;
     if set.count() > left / 2 / reckoned_rounds(most) {

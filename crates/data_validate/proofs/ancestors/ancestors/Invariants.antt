@@ -1,6 +1,6 @@
 use Rattle.std.proofs.Common.{◌≡◌, ◌+◌, ◌≤◌, ◌/◌}
 use Rattle.data_validate.proofs.Rounds.{IsMet}
-use Rattle.data_validate.proofs.leading.ancestors.Given as goal
+use Rattle.data_validate.proofs.ancestors.ancestors.Given as goal
 
 abbrev pub invariant-rounds : goal.invariant-rounds
 invariant-rounds g l = record {

@@ -1,7 +1,7 @@
 use Rattle.std.proofs.Common.{◌≡◌, take}
 use Rattle.px_spec.specs.Members.{has}
 use Rattle.data_validate.specs.Ancestors.{IsNoted}
-use Rattle.data_validate.proofs.leading.note_each.Given as goal
+use Rattle.data_validate.proofs.ancestors.note_each.Given as goal
 
 abbrev pub invariant-loop-i : goal.invariant-loop-i
 invariant-loop-i l = record {

@@ -2,7 +2,7 @@ use Rattle.std.proofs.Common.{◌<◌, ◌+◌, ◌∙◌, ◌&&◌, ◌||◌, �
 use Rattle.std.specs.Prelude.{nat_eq, is_some}
 use Rattle.data_validate.proofs.Kept.{is_kept, kept_step}
 use Rattle.data_validate.proofs.NotedNodes.{noted_then}
-use Rattle.data_validate.proofs.leading.note_nodes.Goals as goal
+use Rattle.data_validate.proofs.ancestors.note_nodes.Goals as goal
 
 pub overflow_add-from : goal.overflow_add-from
 overflow_add-from g c =

@@ -2,7 +2,7 @@ use Rattle.std.proofs.Common.{get_or, take, sym, subst, ◌<◌, ◌+◌, ◌∙
 use Rattle.std.specs.Prelude.{nat_eq}
 use Rattle.px_spec.specs.Members.{has}
 use Rattle.data_validate.proofs.NotedNodes.{noted_then, has_there, has_more}
-use Rattle.data_validate.proofs.leading.note_each.Goals as goal
+use Rattle.data_validate.proofs.ancestors.note_each.Goals as goal
 
 pub note-requires : goal.note-requires
 note-requires c =
