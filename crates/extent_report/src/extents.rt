@@ -126,9 +126,8 @@ fn text_of(alloc: Global, summary: &Summary, labels: &Labels) -> Result<Text, Me
 ///
 /// Where half of the node numbers that were given are those of members, or more, there is no sort: it is O(m + s + t) for m members,
 /// block numbers below s and t bytes of text, and it takes 8 bytes for each of these node numbers and block numbers. Else the members
-/// are sorted, and it is O(b + m log m + t) for b blocks, whatever there was before. Where each block has a member, as those of
-/// an index have, that is O(m log m + t). It takes 4 to 8 bytes for each block and for each member of the largest one. The text comes
-/// to that memory.
+/// are sorted, and it is O(b + m log m + t) for b blocks, however many blocks there once were. Where each block has a member, as those of
+/// an index have, that is O(m log m + t). It takes 4 to 8 bytes for each block and for each member of the largest one, plus the text.
 pub fn extents_text(alloc: Global, summary: &Summary, labels: &Labels) -> Result<Text, Memory>
     requires labelled { LabelsHaveTexts labels.now.texts summary.now.blocks }
     ensures text { IfOk result (λ t. t ≡ printed.extents_text (shape_of_blocks labels.now.texts summary.now.blocks) (together summary.now.blocks.block_of)) }

@@ -28,8 +28,8 @@ pub trait PathIndex: Drop {
         ensures { result ≡ (meaning self.now).kind };
 
     /// Builds the index of the graph, in place of the views that there are, with nothing staged. The A(k)-family has a view for each
-    /// level up to `k`, each other index has one. That of the 1-index is full bisimilarity. `AkFamily::build`,
-    /// `OneIndex::build` and `FbIndex` have the time and the memory.
+    /// level up to `k`, each other index has one. That of the 1-index is full bisimilarity. See
+    /// `AkFamily::build`, `OneIndex::build` and `FbIndex` for time and memory.
     fn build(&mut self, view: &GraphView<'_>, k: u32) -> Result<(), Memory>
         requires few { k ≤ 8 }
         ensures built { OnOk result (IsBuilt (meaning self.old) (meaning self.new) view.now k) }
@@ -37,8 +37,8 @@ pub trait PathIndex: Drop {
 
     /// Stages what a change will make of the index. The graph is as it was, and `judge` accepts the change as new within some limits. The
     /// partition of the 1-index moves by one step (Yi, He, Stanoi and Yang 2004): nodes that the change doesn't reach stay together or apart.
-    /// Time and memory grow with what is near the change: `AkIndex::prepare_counted` and `OneKept::prepare_counted` have them; O(1), no
-    /// memory, for the forward and backward index.
+    /// Time and memory grow with what is near the change. See `AkIndex::prepare_counted` and `OneKept::prepare_counted`; the forward and
+    /// backward index takes O(1), no memory.
     fn prepare(&mut self, graph: &Graph, change: &Change) -> Result<(), Memory>
         requires ready { IsReady (meaning self.old) graph.now.graph }
         requires new { IsNew (change_of change.now) graph.now.graph }

@@ -76,7 +76,7 @@ fn fill<L: Ledger>(
 }
 
 // Empties a draft. Emptying a table takes time for the largest size that it had, so one large change would slow each later one
-// and hold its memory: a new draft takes its place, where there is memory for that.
+// and hold its memory: a new draft takes its place, and `Draft::new` takes no memory.
 fn empty(alloc: Global, draft: &mut Draft)
     ensures { draft.new ≡ no_changes }
 {

@@ -14,7 +14,8 @@ use std::alloc::Global;
 
 /// The nodes in which a walk ends whose labels, in order, match the expression: a set of numbers below
 /// the graph's size. `Memory` comes only where memory runs out. O(m (n + e)) for m tokens, n node numbers and e
-/// edges, and each label is looked up once, in expected O(1) for each of its bytes; it takes memory as `path_search::search` does.
+/// edges, and each label is looked up at most once for each place where it stands, in expected O(1) for each of its bytes; it takes
+/// memory as `path_search::search` does, and O(m) for the automaton.
 pub fn eval<G: Digraph>(alloc: Global, g: &G, labels: &Labels, expr: &Expr) -> Result<Bits, Memory>
     requires labelled { (n l : ℕ) → G.label_at g.now n ≡ Some l → l < length labels.now.texts }
     ensures size { IfOk result (λ b. b.size ≡ G.span g.now) }

@@ -1,4 +1,4 @@
-// The automaton of an expression whose words begin wherever a walk does.
+// The automaton of what is left of an expression at its front.
 ghost use Rattle.std.specs.Prelude.{◌≡◌, ◌<◌, ◌≤◌, length, slice_get, Some, IfOk, OnOk};
 ghost use Rattle.path_spec.specs.Trees.{Atom as TreeAtom};
 ghost use Rattle.path_spec.specs.Trimmed.{trimmed_item, first_trimmed, from_required, trimmed_seq, trimmed};
@@ -14,7 +14,7 @@ use label_graph::Labels;
 use path_search::Program;
 use px_base::Memory;
 
-/// What the sign of a first item comes to.
+/// The sign that a first item keeps.
 fn front_sign(sign: Option<Sign>) -> Option<Sign>
     ensures { (a : TreeAtom) → signed_by a result ≡ trimmed_item (signed_by a sign) }
 {
@@ -63,6 +63,7 @@ fn lead_len(seq: &Seq) -> usize
     }
 }
 
+/// The state from which a sequence is read without the items in front that change no answer.
 fn compile_front(
     labels: &Labels,
     program: &mut Program,

@@ -12,8 +12,9 @@ use std::alloc::Global;
 
 /// The nodes in which a walk ends whose labels, in order, match the expression: a set of numbers below
 /// the graph's size. `Memory` comes only where memory runs out. O(m (n + e)) for m tokens, n node numbers and e
-/// edges, and each label is looked up once, in expected O(1) for each of its bytes. At most 2 m states are entered: it takes a bit for
-/// each of these and each number, at most 20 bytes for each place at which a state waits, and a few bytes for each number.
+/// edges, and each label is looked up at most once for each place where it stands, in expected O(1) for each of its bytes. At most 2 m
+/// states are entered: it takes a bit for each of these and each number, at most 20 bytes for each place at which a state waits, a few
+/// bytes for each number, and O(m) for the automaton and the heads of rows.
 pub fn eval<G: Digraph>(
     alloc: Global,
     g: &G,

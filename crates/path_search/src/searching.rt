@@ -48,7 +48,7 @@ fn advance<G: Digraph, S: Scope>(
     Ok(())
 }
 
-/// Marks the state at each of the places, unless it is an end: these are noted before.
+/// Marks the state at each of the places. An end isn't marked: its places were noted when the fork was visited.
 fn enter(
     program: &Program,
     frontier: &mut Frontier,
@@ -219,7 +219,8 @@ fn search_in<G: Digraph, S: Scope>(
 /// The nodes at which a word can end that is read from the state `start` on behind one of the places, where
 /// the graph's size is the place in front of all nodes: a set of numbers below that size. `Memory` comes only
 /// where memory runs out. O(m (n + e)) for m states, n node numbers and e edges; it takes a bit for each state that is entered and each
-/// number, 4 bytes for each place at which a state waits and 16 for each run of such places, and a few bytes for each number.
+/// number, 4 bytes for each place at which a state waits and 16 for each run of such places, a few bytes for each number, and O(m) for the
+/// heads of rows.
 pub fn search<G: Digraph>(
     alloc: Global,
     g: &G,

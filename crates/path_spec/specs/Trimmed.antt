@@ -3,7 +3,7 @@ use Rattle.std.specs.Prelude.{[], cond}
 use Rattle.path_spec.specs.Trees.{star, plus, opt, Expr, only, or, Seq, last, then, Item, once, signed}
 use Rattle.path_spec.specs.Tests.{seq_matches, item_matches}
 
--- a first item comes once at most: what it matches again is left to what lies in front of the walk
+-- a first item comes once at most: of several matches all but the last are left out, since a walk may begin behind them
 abbrev pub trimmed_item : Item → Item
 trimmed_item (once a) = once a
 trimmed_item (signed a star) = signed a opt
@@ -23,7 +23,7 @@ from_required (then i p s) = cond (item_matches i []) (from_required s) (then i 
 abbrev pub trimmed_seq : Seq → Seq
 trimmed_seq s = first_trimmed (cond (seq_matches s []) s (from_required s))
 
--- each alternative by itself; what stands in parentheses stays
+-- each alternative by itself; nothing is left out inside parentheses
 abbrev pub trimmed : Expr → Expr
 trimmed (only s) = only (trimmed_seq s)
 trimmed (or s e) = or (trimmed_seq s) (trimmed e)

@@ -89,7 +89,7 @@ impl Engine {
     }
 
     /// Opens the engine with a graph, limits on what changes may make of it, and the highest level of the A(k)-family, and builds each index. Where memory runs
-    /// out, the graph is dropped, and the engine isn't open.
+    /// out, the graph is dropped, the engine isn't open, and boxes that are already built keep their views.
     ///
     /// O(n + m) for n node numbers and m edges, and what the build of each box takes. With all indexes of this library that is
     /// expected O((k + r) (n + m log d)) in all, where a node has at most d neighbours on a side, and the 1-index and the forward and
@@ -126,8 +126,9 @@ impl Engine {
     /// moves by one step (Yi, He, Stanoi and Yang 2004).
     ///
     /// O(i) for i indexes, and what the change takes in the graph and `prepare` and `commit` in each index. How much that is depends on
-    /// what the change reaches, and not on the size of the graph, but where a table moves as it grows, keys are dropped, or a view of the forward and
-    /// backward index goes: `AkIndex`, `OneKept` and `FbIndex` say it. The memory is theirs too.
+    /// what the change reaches, and not on the size of the graph, but where a table moves as it grows, keys are dropped, a view of the forward and
+    /// backward index goes, or the blocks without other parents are looked for anew, which passes over the blocks of the 1-index: `AkIndex`,
+    /// `OneKept` and `FbIndex` say how much time and memory that takes.
     pub fn update(&mut self, alloc: Global, change: Change) -> Result<Applied, UpdateError>
         requires open { IsSome (opened_of self.old.state) }
         requires sound { IsSound (engine_seen (map meaning self.old.boxes.items) self.old.state) }
@@ -174,8 +175,9 @@ impl Engine {
 
     /// The nodes in which a walk ends whose labels match the expression, asked of the graph itself or through an index, and how they
     /// were found. `NoIndex` comes exactly where the index isn't kept, memory or not. The view of the forward and backward index
-    /// is first computed, where it isn't. Of the graph itself a query costs one view of the graph; through an index that is exact
-    /// for it and computed, it reads nothing of the graph. An error leaves the graph and each view that is computed.
+    /// is first computed, where it isn't: that takes what `FbIndex` takes; of the graph it reads one view. Of the graph itself a query costs
+    /// one view of the graph; through an index that is exact for it and computed, it reads nothing of the graph. An error leaves the graph and
+    /// each view that is computed.
     ///
     /// An expression of m tokens takes O(m (n + e)) of a graph with n node numbers and e edges, and O(m n) memory. Through an index
     /// n and e are the numbers of its blocks and of the pairs with support, O(s) comes to both for s node numbers, and where it isn't exact,
@@ -208,7 +210,8 @@ impl Engine {
     }
 
     /// The answers of a branching query, asked of the graph itself or through an index, and how they were found, as in `path`. The
-    /// forward and backward index alone is exact for it; through another one the candidates of its relaxed form are looked up in the graph.
+    /// forward and backward index alone is exact for it, and is first computed, as there; through another one the candidates of its relaxed
+    /// form are looked up in the graph.
     ///
     /// O(m (n + e)) for m tokens, as for `path`. It takes O(d n + s) memory where brackets nest d - 1 deep, parentheses
     /// counted; through an index that isn't exact, O(d s).
@@ -241,10 +244,11 @@ impl Engine {
     }
 
     /// The list of the blocks of an index that isn't the graph itself, each with its nodes. `NoIndex` comes exactly where the index
-    /// isn't kept, memory or not. That of the forward and backward index is first computed, where it isn't, at the cost of a view of the
-    /// graph; else nothing of the graph is read. An error leaves the graph and each view that is computed.
+    /// isn't kept, memory or not. That of the forward and backward index is first computed, where it isn't: that takes what
+    /// `FbIndex` takes; of the graph it reads one view. Else nothing of the graph is read. An error leaves the graph and each view that is
+    /// computed.
     ///
-    /// Where fewer than half of the numbers that nodes were ever given are those of nodes now, the list takes O(m log m + t) for m nodes and t bytes
+    /// Where fewer than half of the node numbers ever given are still live, the list takes O(m log m + t) for m nodes and t bytes
     /// of text, and O(m) memory beside the text. Else it takes O(m + s + t), and O(m + s) memory, for block numbers of the index below s.
     pub fn extents<L: Ledger>(
         &mut self,
@@ -273,9 +277,10 @@ impl Engine {
         }
     }
 
-    /// The size of the graph and of each index that is kept, in the order of `Via::nth`. The forward and backward index is first
-    /// computed, where it is kept and isn't, at the cost of a view of the graph; else nothing of the graph is read. `Memory` leaves the
-    /// graph and each view that is computed. O(k) for levels up to k where nothing is computed; it takes the memory of the text.
+    /// The size of the graph and of each index that is kept, in the order of `Via::nth`. The view of the forward and backward index
+    /// is first computed, where the index is kept and it isn't: that takes what `FbIndex` takes; of the graph it reads one view. Else nothing of
+    /// the graph is read. `Memory` leaves the graph and each view that is computed. O(k) for levels up to k where nothing is computed; it
+    /// takes the memory of the text.
     pub fn sizes<L: Ledger>(&mut self, alloc: Global, steps: &mut Steps<L>) -> Result<Text, Memory>
         requires open { IsSome (opened_of self.old.state) }
         requires sound { IsSound (engine_seen (map meaning self.old.boxes.items) self.old.state) }

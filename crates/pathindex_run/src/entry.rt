@@ -33,7 +33,7 @@ use std::alloc::Global;
 /// all its indexes, k is 2, and the shelf isn't called. Changes that are accepted and indexes that are forgotten print nothing
 /// then, and an answer prints its first line only.
 ///
-/// | Status | Comes |
+/// | Status | When |
 /// |---|---|
 /// | 0, 1 | the script was read to its end; 1 where a line printed `refused` |
 /// | 2 | the words are of no form, and the usage line is written |
