@@ -6,8 +6,8 @@ what that takes above the load, and what a change takes while they are kept. The
     bench_load.py [PROGRAM]
 
 PROGRAM is run in place of bin/pathindex. No 1-index and no forward and backward index is kept; bench_indexes.py measures them. A
-load is a run of an empty script that keeps the index of level 0 alone. Times are the best of some turns, and of
-whole processes.
+load is a run of an empty script that keeps the index of level 0 alone. Times are processor times, user and system, the best of some
+turns, and of whole processes.
 """
 import os
 import pathlib
@@ -15,7 +15,6 @@ import shutil
 import subprocess
 import sys
 import tempfile
-import time
 
 ROOT = pathlib.Path(__file__).resolve().parent.parent
 MAKE = ROOT / "tools" / "make_triples.py"
@@ -33,15 +32,23 @@ SIZES_MARKS = {200_000: 0.55, 1_600_000: 0.8}
 
 
 def run(command):
-    """The seconds that the command takes, and its peak megabytes of memory."""
-    start = time.monotonic()
+    """The processor seconds that the command takes, and its peak megabytes of memory; below 20 they may be this tool's own."""
     child = subprocess.Popen(command, stdout=subprocess.DEVNULL)
     _, status, usage = os.wait4(child.pid, 0)
-    seconds = time.monotonic() - start
     child.returncode = os.waitstatus_to_exitcode(status)
     if child.returncode != 0:
         sys.exit(f"bench_load.py: {command} ended with the status {child.returncode}")
-    return seconds, usage.ru_maxrss * 1024 / 1e6
+    return usage.ru_utime + usage.ru_stime, usage.ru_maxrss * 1024 / 1e6
+
+
+def held(command):
+    """The peak megabytes of memory of a command that holds less than this tool, as its status says while it runs."""
+    child = subprocess.Popen(command, stdout=subprocess.DEVNULL)
+    peak = 0
+    while child.poll() is None:
+        with open(f"/proc/{child.pid}/status") as status:
+            peak = max([peak] + [int(line.split()[1]) for line in status if line.startswith("VmHWM:")])
+    return peak * 1024 / 1e6
 
 
 def best_of(commands, turns):
@@ -57,12 +64,13 @@ def measure(program, folder, count):
     text = os.path.join(folder, f"graph{count}.nt")
     with open(text, "wb") as out:
         subprocess.run([sys.executable, MAKE, str(count)], stdout=out, check=True)
-    return os.path.getsize(text) / 1e6, best_of({
+    taken = best_of({
         "load": [program, os.path.join(folder, "empty"), "--graph", text, "--k", "0", *ALONE],
         "sizes": [program, os.path.join(folder, "sizes"), "--graph", text, "--k", "2", *ALONE],
         "changes": [program, os.path.join(folder, "changes"), "--graph", text, "--k", "2", *ALONE],
         "serdi": ["serdi", "-b", text],
     }, TURNS[count])
+    return os.path.getsize(text) / 1e6, taken, held(["serdi", "-b", text])
 
 
 def write_script(folder, name, text):
@@ -70,10 +78,10 @@ def write_script(folder, name, text):
         out.write(text)
 
 
-def show(count, size, taken):
+def show(count, size, taken, serdi_peak):
     (load, peak), (sizes, sizes_peak), (serdi, _) = taken["load"], taken["sizes"], taken["serdi"]
     change = (taken["changes"][0] - sizes) / CHANGES
-    print(f"{count:>9,} triples, {size:.1f} MB; serdi -b {serdi:.3f} s, {size / serdi:.0f} MB/s")
+    print(f"{count:>9,} triples, {size:.1f} MB; serdi -b {serdi:.3f} s, {size / serdi:.0f} MB/s, peak {serdi_peak:.0f} MB")
     print(f"    load   {load:>7.3f} s, {count / load:>9,.0f} triples/s, {size / load:>5.1f} MB/s, peak {peak:.0f} MB")
     print(f"           {load / serdi:.2f} times as long as serdi -b; the mark is {LOAD_MARK}")
     if count == max(TURNS):

@@ -1,14 +1,15 @@
 #!/usr/bin/env python3
 """Counts the triples of a generated file with the proved triples_count, and has serdi read and write the
-same file, in turns, and prints how fast each is. The gate doesn't run this.
+same file, in turns, and prints how fast each is. Times are processor times, user and system, the best of some turns. The gate
+doesn't run this.
 """
 import os
 import pathlib
+import resource
 import shutil
 import subprocess
 import sys
 import tempfile
-import time
 
 ROOT = pathlib.Path(__file__).resolve().parent.parent
 PROGRAM = ROOT / "crates" / "triples_count" / "out" / "triples_count"
@@ -17,12 +18,18 @@ COUNT = 200_000
 TURNS = 5
 
 
+def processor_seconds():
+    """The processor time of the commands that have ended."""
+    usage = resource.getrusage(resource.RUSAGE_CHILDREN)
+    return usage.ru_utime + usage.ru_stime
+
+
 def run(command, text, output):
-    """The seconds that the command takes, and what it writes where that goes to a pipe."""
+    """The processor seconds that the command takes, and what it writes where that goes to a pipe."""
     with open(text, "rb") as source:
-        start = time.monotonic()
+        start = processor_seconds()
         done = subprocess.run(command, stdin=source, stdout=output, check=True)
-        return time.monotonic() - start, done.stdout
+        return processor_seconds() - start, done.stdout
 
 
 def main():

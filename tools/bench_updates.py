@@ -7,7 +7,7 @@ takes, with its 2,000 changes and 12 queries over all indexes. The gate doesn't 
 
 PROGRAM is run in place of bin/pathindex. PARENTS says how many parents that node has, 20,000 where it isn't given. The other updates are
 a node, two links from it and an unlink, in turn. Times are processor times, the best of some turns. That of the updates is less that
-of the same run without them, and that of a build less that of a run without the index; of the A(k)-indexes it is A(1) and A(2).
+of the same run without them, and that of a build less that of a run without the index; of the A(k)-indexes it is A(1) and A(2), since A(0) is kept in each run.
 """
 import os
 import pathlib
@@ -30,10 +30,10 @@ HUB_TURNS = 3
 HUB_LABELS = 8
 # the program keeps A(0) in each run, where the script doesn't forget it
 LEAST = ["--k", "0", "--without-one", "--without-fb"]
-# the indexes that are kept, by the flags that the program is given and the first line of the script
+# the indexes that are kept, by the flags that the program is given, the first line of the script, and what a build is of
 KEPT = {
-    "A(0) to A(2)": (["--k", "2", "--without-one", "--without-fb"], ""),
-    "1-index": (["--k", "0", "--without-fb"], "forget a\n"),
+    "A(0) to A(2)": (["--k", "2", "--without-one", "--without-fb"], "", "a build of A(1) and A(2)"),
+    "1-index": (["--k", "0", "--without-fb"], "forget a\n", "a build"),
 }
 SEED = "1"
 
@@ -63,7 +63,7 @@ def write(folder, name, text):
 def measure(program, folder, graph, lines, turns, what):
     """Prints what each of these lines takes, which change the graph."""
     text = "".join(line + "\n" for line in lines)
-    for name, (flags, first) in KEPT.items():
+    for name, (flags, first, built) in KEPT.items():
         without, changed = write(folder, "without", first), write(folder, "with", first + text)
         taken = best_of({
             "load": [program, without, "--graph", graph, *LEAST],
@@ -72,7 +72,7 @@ def measure(program, folder, graph, lines, turns, what):
         }, turns)
         each = (taken["with"][0] - taken["without"][0]) / len(lines)
         build = taken["without"][0] - taken["load"][0]
-        print(f"{what}, {name:<12} {each * 1e6:>9.1f} microseconds an update of {len(lines):,}; a build {build * 1e3:,.0f} ms", flush=True)
+        print(f"{what}, {name:<12} {each * 1e6:>9.1f} microseconds an update of {len(lines):,}; {built} {build * 1e3:,.0f} ms", flush=True)
 
 
 def measure_made(program, folder, count, updates, turns):
