@@ -1,6 +1,6 @@
 #!/usr/bin/env python3
 """Has bin/pathindex load generated graph files, and serdi read and write the same files, in turns, and prints how fast
-each is and how much memory the load holds. Then it has the indexes of levels 0 to 2 kept and their sizes printed, and prints
+each is and how much memory the load and serdi hold. Then it has the indexes of levels 0 to 2 kept and their sizes printed, and prints
 what that takes above the load, and what a change takes while they are kept. The gate doesn't run this.
 
     bench_load.py [PROGRAM]
