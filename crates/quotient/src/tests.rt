@@ -225,7 +225,11 @@ fn check_hub(rt: &impl Abort, summary: &Summary, children: &[u32], parents: &[u3
     assert!(rt; summary.is_node(0));
     assert!(rt; has_just(summary.children(0), children), "{children:?}");
     assert!(rt; has_just(summary.parents(0), parents), "{parents:?}");
-    assert_eq!(rt; summary.pairs(), (children.len() + parents.len()) as u64, "{children:?} {parents:?}");
+    assert_eq!(rt;
+        summary.pairs(),
+        (children.len() + parents.len()) as u64,
+        "{children:?} {parents:?}"
+    );
 }
 
 fn check_write(rt: &impl Abort, summary: &mut Summary, row: &Write) -> Result<(), Fail> {

@@ -332,7 +332,10 @@ fn with_graph<'a>(script: Option<&'a str>, graph: Option<&'a str>) -> Given<'a> 
 fn graph_files_are_loaded(rt: HostRuntime) {
     for (script, graph, output, status) in GRAPHS {
         let given = with_graph(*script, *graph);
-        assert!(rt; ends(rt.alloc(), given, output, *status), "{script:?} {graph:?}");
+        assert!(rt;
+            ends(rt.alloc(), given, output, *status),
+            "{script:?} {graph:?}"
+        );
     }
     let unnamed = Given {
         words: &["s"],
