@@ -1,16 +1,11 @@
-// Triples are read in batches, looked up ahead together, and loaded.
-ghost use Rattle.std.specs.Prelude.{◌≡◌, ◌≢◌, ◌++◌, ◌∷◌, [], IfOk, IfErr, OnOk, Err};
-ghost use Rattle.graph_load.specs.Hashed.{triple_of, hashed};
-ghost use Rattle.graph_load.specs.Loaders.{IsSoundLoader, IsTaken};
-ghost use Rattle.graph_load.specs.LoadSteps.{TellsOutcome, CanRead, AddsLine, ReadsOn, AreLoaded, Stops, OneStops};
+// Triples are read in batches.
+ghost use Rattle.std.specs.Prelude.{◌≡◌, ◌++◌, ◌∷◌, [], IfOk, IfErr, OnOk};
+ghost use Rattle.graph_load.specs.Hashed.{hashed};
+ghost use Rattle.graph_load.specs.LoadSteps.{CanRead, AddsLine, ReadsOn};
 
 use crate::files::LoadError;
 use crate::hashed::HashedTriple;
-use crate::limited_changes::Stop;
-use crate::loader::Loader;
-use crate::loader::ahead::{Hints, Lookahead};
-use px_base::{Limits, LineFault, LineReader, Memory, Shelf};
-use std::alloc::Global;
+use px_base::{LineFault, LineReader, Memory, Shelf};
 use triples_read::{LineError, SpareTexts, Triple, read_line_with};
 
 /// How many triples are read before they are loaded: so few that there is room for all their texts among the spare ones.
@@ -99,48 +94,6 @@ pub(crate) fn read_batch<H: Shelf>(
             result => return result,
         }
     }
-}
-
-// Loads a triple.
-fn load_next(
-    alloc: Global,
-    limits: &Limits,
-    loader: &mut Loader,
-    waiting: &Waiting,
-    hints: Option<Hints>,
-) -> Result<(), LoadError>
-    requires { IsSoundLoader loader.old }
-    ensures taken { OnOk result (IsTaken limits.now (triple_of waiting.now.triple) loader.old loader.new) }
-    ensures stopped { IfErr result (TellsOutcome (Stops limits.now waiting.now loader.old)) }
-    ensures found { result ≢ Err LoadError.Missing }
-    ensures no_fault { result ≢ Err LoadError.Fault }
-{
-    match loader.add(alloc, limits, &waiting.triple, hints) {
-        Ok(()) => Ok(()),
-        Err(Stop::Limit) => Err(LoadError::Limit(waiting.line)),
-        Err(Stop::Memory) => Err(LoadError::Memory),
-    }
-}
-
-/// Loads a batch of triples, one after the other.
-pub(crate) fn load_batch(
-    alloc: Global,
-    limits: &Limits,
-    loader: &mut Loader,
-    lookahead: &mut Lookahead,
-    waiting: &[Waiting],
-) -> Result<(), LoadError>
-    requires { IsSoundLoader loader.old }
-    ensures loaded { OnOk result (AreLoaded limits.now waiting.now loader.old loader.new) }
-    ensures stopped { IfErr result (TellsOutcome (OneStops limits.now waiting.now loader.old)) }
-    ensures found { result ≢ Err LoadError.Missing }
-    ensures no_fault { result ≢ Err LoadError.Fault }
-{
-    lookahead.look_up(loader, waiting)?;
-    for n in 0..waiting.len() {
-        load_next(alloc, limits, loader, &waiting[n], lookahead.hints(n))?;
-    }
-    Ok(())
 }
 
 /// Gives the texts of a batch back.

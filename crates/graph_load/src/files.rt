@@ -6,9 +6,8 @@ ghost use Rattle.graph_load.specs.Loads.{Outcome, Loads, loaded, at_start};
 ghost use Rattle.graph_load.specs.LoadSteps.{LoadsTold, LacksFile, TellsOutcome, LoadsAhead};
 ghost use Rattle.graph_load.specs.declared.files.LoadError.TheVariants.{Memory as NoMemory};
 
-use crate::batch::{Next, give_back, load_batch, read_batch};
-use crate::loader::Loader;
-use crate::loader::ahead::Lookahead;
+use crate::batch::{Next, give_back, read_batch};
+use crate::batch_loader::BatchLoader;
 use label_graph::Graph;
 use px_base::{GRAPH_BYTES, LINE_BYTES, Limits, LineReader, Memory, Shelf};
 use std::alloc::Global;
@@ -58,14 +57,13 @@ fn load_lines<H: Shelf>(alloc: Global, limits: &Limits, shelf: &mut H) -> Result
     let mut reader = LineReader::new(alloc, LINE_BYTES, GRAPH_BYTES)?;
     let mut spare = SpareTexts::new(alloc);
     let mut waiting = Vec::new(alloc);
-    let mut lookahead = Lookahead::new(alloc);
-    let mut loader = Loader::new(alloc)?;
+    let mut loader = BatchLoader::new(alloc)?;
     'batches: loop {
         let next = match read_batch(&mut reader, &mut spare, &mut waiting, shelf) {
             Ok(next) => next,
             Err(error) => return Err(error),
         };
-        if let Err(error) = load_batch(alloc, limits, &mut loader, &mut lookahead, &waiting) {
+        if let Err(error) = loader.add_all(alloc, limits, &waiting) {
             return Err(error);
         }
         give_back(&mut spare, &mut waiting);

@@ -2,6 +2,7 @@
 #![tactic(auto)]
 
 mod batch;
+mod batch_loader;
 mod files;
 mod hashed;
 mod known;

@@ -25,7 +25,7 @@ batches-init g c =
 pub batches-preserved : goal.batches-preserved
 batches-preserved g c =
     let inv = c.batches.invariant in
-    let loaded : AreLoaded c.args.limits.now c.deref.result.now c.batches.loader c.load_batch.new.loader = search rules in
+    let loaded : AreLoaded c.args.limits.now c.deref.result.now c.batches.loader c.add_all.new.self = search rules in
     let d = loaded.does inv.triples inv.holds in
     let all = ap (λ ws. with_all c.args.limits.now ws (load_state c.batches.loader inv.triples)) (sym c.deref.ensures.value) ∙ d.2 in
     record {
@@ -33,7 +33,7 @@ batches-preserved g c =
       triples = d.0;
       holds = d.1;
       leads = batch_leads c.args.limits.now c.batches.reader c.read_batch.new.reader (stream c.batches.reader (g.H.Shelf.left c.batches.shelf)) (stream c.read_batch.new.reader (g.H.Shelf.left c.read_batch.new.shelf))
-          c.batches.waiting.items c.read_batch.new.waiting.items Lines (load_state c.batches.loader inv.triples) (Ok (load_state c.load_batch.new.loader d.0)) _
+          c.batches.waiting.items c.read_batch.new.waiting.items Lines (load_state c.batches.loader inv.triples) (Ok (load_state c.add_all.new.self d.0)) _
           inv.none (rw (c.in-Ok.is, c.in-Lines.is) at c.read_batch.ensures.reads) all inv.leads;
       sound = loaded.sound;
       can = rw (c.in-Ok.is, c.in-Lines.is) at c.read_batch.ensures.can;
@@ -44,40 +44,40 @@ batches-preserved g c =
 pub returns-in-End-clause-loaded : goal.returns-in-End-clause-loaded
 returns-in-End-clause-loaded g c =
     let inv = c.batches.invariant in
-    let loaded : AreLoaded c.args.limits.now c.deref.result.now c.batches.loader c.load_batch.new.loader = search rules in
+    let loaded : AreLoaded c.args.limits.now c.deref.result.now c.batches.loader c.add_all.new.self = search rules in
     let d = loaded.does inv.triples inv.holds in
     let all = ap (λ ws. with_all c.args.limits.now ws (load_state c.batches.loader inv.triples)) (sym c.deref.ensures.value) ∙ d.2 in
     rw c.into_graph.ensures (
     batch_leads c.args.limits.now c.batches.reader c.read_batch.new.reader (stream c.batches.reader (g.H.Shelf.left c.batches.shelf)) (stream c.read_batch.new.reader (g.H.Shelf.left c.read_batch.new.shelf))
-    c.batches.waiting.items c.read_batch.new.waiting.items End (load_state c.batches.loader inv.triples) (Ok (load_state c.load_batch.new.loader d.0)) _
-    inv.none (rw (c.in-Ok.is, c.in-End.is) at c.read_batch.ensures.reads) all inv.leads (outcome.loaded c.load_batch.new.loader.graph.graph) refl)
+    c.batches.waiting.items c.read_batch.new.waiting.items End (load_state c.batches.loader inv.triples) (Ok (load_state c.add_all.new.self d.0)) _
+    inv.none (rw (c.in-Ok.is, c.in-End.is) at c.read_batch.ensures.reads) all inv.leads (outcome.loaded c.add_all.new.self.graph.graph) refl)
 
 pub returns-in-Syntax-clause-refused : goal.returns-in-Syntax-clause-refused
 returns-in-Syntax-clause-refused g c =
     let inv = c.batches.invariant in
-    let loaded : AreLoaded c.args.limits.now c.deref.result.now c.batches.loader c.load_batch.new.loader = search rules in
+    let loaded : AreLoaded c.args.limits.now c.deref.result.now c.batches.loader c.add_all.new.self = search rules in
     let d = loaded.does inv.triples inv.holds in
     let all = ap (λ ws. with_all c.args.limits.now ws (load_state c.batches.loader inv.triples)) (sym c.deref.ensures.value) ∙ d.2 in
     batch_leads c.args.limits.now c.batches.reader c.read_batch.new.reader (stream c.batches.reader (g.H.Shelf.left c.batches.shelf)) (stream c.read_batch.new.reader (g.H.Shelf.left c.read_batch.new.shelf))
-    c.batches.waiting.items c.read_batch.new.waiting.items (Syntax c.in-Syntax.line) (load_state c.batches.loader inv.triples) (Ok (load_state c.load_batch.new.loader d.0)) _
+    c.batches.waiting.items c.read_batch.new.waiting.items (Syntax c.in-Syntax.line) (load_state c.batches.loader inv.triples) (Ok (load_state c.add_all.new.self d.0)) _
     inv.none (rw (c.in-Ok.is, c.in-Syntax.is) at c.read_batch.ensures.reads) all inv.leads (outcome.syntax c.in-Syntax.line) refl
 
 pub returns-in-Limit-clause-refused : goal.returns-in-Limit-clause-refused
 returns-in-Limit-clause-refused g c =
     let inv = c.batches.invariant in
-    let loaded : AreLoaded c.args.limits.now c.deref.result.now c.batches.loader c.load_batch.new.loader = search rules in
+    let loaded : AreLoaded c.args.limits.now c.deref.result.now c.batches.loader c.add_all.new.self = search rules in
     let d = loaded.does inv.triples inv.holds in
     let all = ap (λ ws. with_all c.args.limits.now ws (load_state c.batches.loader inv.triples)) (sym c.deref.ensures.value) ∙ d.2 in
     batch_leads c.args.limits.now c.batches.reader c.read_batch.new.reader (stream c.batches.reader (g.H.Shelf.left c.batches.shelf)) (stream c.read_batch.new.reader (g.H.Shelf.left c.read_batch.new.shelf))
-    c.batches.waiting.items c.read_batch.new.waiting.items (Limit c.in-Limit.line) (load_state c.batches.loader inv.triples) (Ok (load_state c.load_batch.new.loader d.0)) _
+    c.batches.waiting.items c.read_batch.new.waiting.items (Limit c.in-Limit.line) (load_state c.batches.loader inv.triples) (Ok (load_state c.add_all.new.self d.0)) _
     inv.none (rw (c.in-Ok.is, c.in-Limit.is) at c.read_batch.ensures.reads) all inv.leads (outcome.limit c.in-Limit.line) refl
 
-pub returns-in-Err-load_batch-clause-refused : goal.returns-in-Err-load_batch-clause-refused
-returns-in-Err-load_batch-clause-refused g c =
+pub returns-in-Err-add_all-clause-refused : goal.returns-in-Err-add_all-clause-refused
+returns-in-Err-add_all-clause-refused g c =
     let inv = c.batches.invariant in
     tells_map (OneStops c.args.limits.now c.deref.result.now c.batches.loader) _ (λ o stops.
     let s = stops inv.triples inv.holds in
     batch_leads c.args.limits.now c.batches.reader c.read_batch.new.reader (stream c.batches.reader (g.H.Shelf.left c.batches.shelf)) (stream c.read_batch.new.reader (g.H.Shelf.left c.read_batch.new.shelf))
     c.batches.waiting.items c.read_batch.new.waiting.items c.in-Ok.next (load_state c.batches.loader inv.triples) (Err s.0) _
     inv.none (rw c.in-Ok.is at c.read_batch.ensures.reads) (ap (λ ws. with_all c.args.limits.now ws (load_state c.batches.loader inv.triples)) (sym c.deref.ensures.value) ∙ s.2) inv.leads o s.1)
-    c.in-Err-load_batch.error c.in-Err-load_batch.ensures.stopped
+    c.in-Err-add_all.error c.in-Err-add_all.ensures.stopped
