@@ -106,7 +106,7 @@ fn is_sparse(summary: &Summary) -> bool {
     for b in summary.live() {
         members = members.saturating_add(u64::from(summary.member_count(*b)));
     }
-    members < u64::from(summary.numbers() / 2)
+    members.saturating_mul(2) < u64::from(summary.numbers())
 }
 
 // The members of the blocks, as they are printed.
