@@ -6,8 +6,8 @@ SHELL := /bin/bash
 
 PROGRAM := crates/pathindex_main
 COUNTER := crates/triples_count
-# How many crates `make run` proves at a time. Each takes up to 2 GB of memory.
-JOBS ?= $(shell nproc)
+# How many crates `make run` takes in hand at a time. Most of them wait for crates below them; each that is proved takes up to 2 GB.
+JOBS ?= 14
 NEEDS_RT = command -v rt >/dev/null || { echo "make $@: the command rt of the Rattle kit isn't on the path" >&2; exit 1; }
 
 help:
@@ -18,9 +18,9 @@ help:
 
 run:
 	@$(NEEDS_RT)
-	@echo 'Proving and building the program, $(JOBS) crates at a time. The first time takes about half an hour on four cores.'
+	@echo 'Proving and building the program. The first time takes about XX minutes on four cores; bin/run.log says what is proved.'
 	@mkdir -p bin
-	@(cd crates && rt all check --jobs $(JOBS)) >bin/run.log 2>&1 || { status=$$?; cat bin/run.log; exit $$status; }
+	@(cd $(PROGRAM) && rt all check --jobs $(JOBS)) >bin/run.log 2>&1 || { status=$$?; cat bin/run.log; exit $$status; }
 	@cd $(PROGRAM) && rt run -- ../../examples/foaf.script --graph ../../examples/foaf.nt >../../bin/foaf.out 2>>../../bin/run.log \
 		|| { status=$$?; cat ../../bin/run.log ../../bin/foaf.out; exit $$status; }
 	@cp $(PROGRAM)/out/pathindex_main bin/pathindex

@@ -1,4 +1,4 @@
-// A table of keys in which keys that came lately are found without a walk along a chain.
+// A table of keys in which recent keys are found without a walk along a chain.
 ghost use Rattle.std.specs.Prelude.{◌≡◌, [], ℕ, List, IfOk, IsTrue, Some, slice_get};
 ghost use Rattle.px_spec.specs.Members.{at};
 ghost use Rattle.key_table.specs.NumberedKeys.{AreDistinct, Interns};
@@ -10,7 +10,7 @@ use px_base::{Memory, NodeId, Recent};
 use std::alloc::Global;
 use std::marker::Model;
 
-/// A table of keys, which it is seen as, with the numbers of those that came lately at hand.
+/// A table of keys, which it is seen as, with a cache of the numbers of recent ones.
 #[derive(Drop)]
 pub(crate) struct RecentKeys {
     table: KeyTable,
@@ -46,7 +46,7 @@ impl RecentKeys {
         self.table
     }
 
-    /// The number of a key, which is at hand by these two numbers where the key came lately.
+    /// The number of a key, which is looked up in the cache by these two numbers first.
     #[inline(always)]
     pub(crate) fn intern(&mut self, a: u32, b: u32, key: &[u32]) -> Result<u32, Memory>
         ensures ok { IfOk result (Interns self.old self.new key.now) }

@@ -1,4 +1,4 @@
--- The forms of worked words, and laws on words that are of no form.
+-- The forms of worked words, and laws on malformed words.
 use Rattle.std.proofs.Common.{◌≡◌, ◌∙◌, ℕ, List, [], ◌∷◌, Option, Some, None, true, false, codes, refl, ap}
 use Rattle.clap.proofs.OnLiterals.{clap_on_literals}
 use Rattle.command_line.specs.Forms.{Form, makes, neither, runs}
@@ -65,7 +65,7 @@ empty_name : form_of ([] ∷ []) ≡ runs (record { script = []; graph = None; k
 unfolding clap_on_literals
 empty_name = refl
 
--- ---- words of no form
+-- ---- malformed words
 
 no_words : form_of [] ≡ neither
 unfolding clap_on_literals
@@ -143,7 +143,7 @@ lone_hyphens : form_of (codes "--" ∷ []) ≡ neither
 unfolding clap_on_literals
 lone_hyphens = refl
 
--- ---- words of no form, for all plain texts
+-- ---- malformed words, for all plain texts
 
 second_script : (s t : List ℕ) → IsPlainText s → IsPlainText t → form_of (s ∷ t ∷ []) ≡ neither
 unfolding clap_on_literals

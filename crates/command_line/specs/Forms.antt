@@ -18,7 +18,7 @@ pub data Form : Type 0 where
   runs : Settings → Form
   -- the texts that are made from this seed are run
   makes : ℕ → Form
-  -- the words are of no form
+  -- the words are malformed
   neither : Form
 
 -- a level, where there is one, is at most 8

@@ -35,7 +35,7 @@ pub enum Form<'a> {
     Run(Settings<'a>),
     /// The texts that are made from this seed are run.
     Make(u64),
-    /// The words are of no form.
+    /// The words are malformed.
     Neither,
 }
 
@@ -146,8 +146,8 @@ fn judge<'a>(given: Option<Given<'a>>) -> Form<'a>
 
 /// What the words after the program's name ask for: `SCRIPT [--graph FILE] [--k N] [--without-one] [--without-fb]`,
 /// where N is one of the words `0` to `8`, and 2 where the option isn't there; or `--make SEED`, where SEED is 1 to 20
-/// decimal digits of a number below 2^64. The words are those that `clap` reads for this command. All that it refuses
-/// are of no form, a call for help too. O(b) for words of b bytes; it takes memory for `clap`'s table of the options and
+/// decimal digits of a number below 2^64. The words are those that `clap` reads for this command. Whatever it refuses
+/// is malformed, and so is a call for help. O(b) for words of b bytes; it takes memory for `clap`'s table of the options and
 /// for what it reads into it.
 pub fn read_words<'a>(alloc: Global, words: &'a [String]) -> Result<Form<'a>, Memory>
     ensures exact { IfOk result (λ f. shown_form f ≡ form_said (map string_bytes words.entry.now)) }

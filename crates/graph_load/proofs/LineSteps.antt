@@ -6,7 +6,7 @@ use Rattle.std.proofs.Math.ListN.{drop_of_length-le}
 use Rattle.std.proofs.lemmas.List.{drop_more}
 use Rattle.px_base.specs.declared.lines.TheConstants.{LINE_BYTES, GRAPH_BYTES}
 use Rattle.px_base.specs.Files.{File, Finds}
-use Rattle.px_base.specs.ReaderStates.{Reading, ReadsLine, IsFirst, IsOver, IsPast, stream, IsReadable as MayTake}
+use Rattle.px_base.specs.ReaderStates.{ReaderState, ReadsLine, IsFirst, IsOver, IsPast, stream, IsReadable as MayTake}
 use Rattle.px_spec.specs.Lines.{Line, cut}
 use Rattle.px_spec.specs.declared.limits.Limits.{Limits}
 use Rattle.triples_read.specs.Lines.{Spells, Empty}
@@ -38,7 +38,7 @@ stops limits p l (Some text) None o first within step = absurd first
 stops limits p l (Some text) (Some rest) o first within step = subst (λ ls. LoadsFrom limits ls p o) (sym first) (inr (within, step (cut rest)))
 
 -- a line within the reader's limits is within those of a graph file
-fits : (r : Reading) (p : Place) (l : Line) → r.line_limit ≡ LINE_BYTES → r.text_limit ≡ GRAPH_BYTES → r.taken ≡ p.bytes → MayTake r l → IsWithinFile p l
+fits : (r : ReaderState) (p : Place) (l : Line) → r.line_limit ≡ LINE_BYTES → r.text_limit ≡ GRAPH_BYTES → r.taken ≡ p.bytes → MayTake r l → IsWithinFile p l
 fits r p l line text taken w = (
   subst (λ n. length l.text ≤ n) line w.0,
   subst (λ n. n + length l.text + length l.end ≤ GRAPH_BYTES) taken (subst (λ n. r.taken + length l.text + length l.end ≤ n) text w.1),
@@ -63,14 +63,14 @@ with_last limits (v ∷ ws) w l = behind (with_one limits v l) (with_last limits
     behind (Err n) rest = refl
 
 -- what holds of all that may be loaded holds of what the triples load to
-each : (limits : Limits) (r : Reading) (before : Option (List ℕ)) (next : Next) (q : Reading) (after : Option (List ℕ))
+each : (limits : Limits) (r : ReaderState) (before : Option (List ℕ)) (next : Next) (q : ReaderState) (after : Option (List ℕ))
     → ((m : LoadState) (o : Outcome) → LoadsBehind limits next q after m o → LoadsAhead limits before (place r m) o)
     → (x : Result LoadState ℕ) (o : Outcome) → LoadsThen limits next q after x o → LoadsThen limits Lines r before x o
 each limits r before next q after f (Ok m) o h = f m o h
 each limits r before next q after f (Err n) o h = h
 
 -- and of one more
-each_last : (limits : Limits) (w : Waiting) (r : Reading) (before : Option (List ℕ)) (q : Reading) (after : Option (List ℕ))
+each_last : (limits : Limits) (w : Waiting) (r : ReaderState) (before : Option (List ℕ)) (q : ReaderState) (after : Option (List ℕ))
     → ((m : LoadState) (o : Outcome) → LoadsThen limits Lines q after (with_one limits w m) o → LoadsAhead limits before (place r m) o)
     → (x : Result LoadState ℕ) (o : Outcome) → LoadsThen limits Lines q after (then_load x (with_one limits w)) o → LoadsThen limits Lines r before x o
 each_last limits w r before q after f (Ok m) o h = f m o h
@@ -82,16 +82,16 @@ on_lines End p = tt
 on_lines (Syntax n) p = tt
 on_lines (Limit n) p = tt
 
-module _ (r q : Reading) (before after : Option (List ℕ)) (reads : ReadsLine r q before after)
+module _ (r q : ReaderState) (before after : Option (List ℕ)) (reads : ReadsLine r q before after)
     (line_limit : r.line_limit ≡ LINE_BYTES) (text_limit : r.text_limit ≡ GRAPH_BYTES) where
   text_is : q.line ≡ reads.first.text
-  text_is = ap (λ (x : Reading). x.line) reads.passed
+  text_is = ap (λ (x : ReaderState). x.line) reads.passed
 
   number_is : q.number ≡ r.number + 1
-  number_is = ap (λ (x : Reading). x.number) reads.passed
+  number_is = ap (λ (x : ReaderState). x.number) reads.passed
 
   behind : (l m : LoadState) → past (place r l) reads.first m ≡ place q m
-  behind l m = place_same _ _ refl (sym number_is) (sym (ap (λ (x : Reading). x.taken) reads.passed))
+  behind l m = place_same _ _ refl (sym number_is) (sym (ap (λ (x : ReaderState). x.taken) reads.passed))
 
   within : (l : LoadState) → IsWithinFile (place r l) reads.first
   within l = fits r (place r l) reads.first line_limit text_limit refl reads.within
@@ -100,7 +100,7 @@ module _ (r q : Reading) (before after : Option (List ℕ)) (reads : ReadsLine r
   nearer =
       let size = reads.some in
       let most = reads.within.1 in
-      let taken = ap (λ (x : Reading). x.taken) reads.passed in
+      let taken = ap (λ (x : ReaderState). x.taken) reads.passed in
       (omega (arith, size, taken), omega (arith, most, taken, text_limit))
 
   module _ (limits : Limits) where
@@ -152,14 +152,14 @@ module _ (r q : Reading) (before after : Option (List ℕ)) (reads : ReadsLine r
   nearer_result (Err e) = tt
 
 -- the text taken grows
-pub further : (next : Next) (r q p : Reading) → r.taken ≤ q.taken → OnLines next (IsNearer q p) → OnLines next (IsNearer r p)
+pub further : (next : Next) (r q p : ReaderState) → r.taken ≤ q.taken → OnLines next (IsNearer q p) → OnLines next (IsNearer r p)
 further Lines r q p before (less, most) = (omega (arith, before, less), most)
 further End r q p before h = tt
 further (Syntax n) r q p before h = tt
 further (Limit n) r q p before h = tt
 
 -- a line passes a limit
-pub reads_past : (r q : Reading) (before after : Option (List ℕ)) → IsPast r before → r.line_limit ≡ LINE_BYTES → r.text_limit ≡ GRAPH_BYTES
+pub reads_past : (r q : ReaderState) (before after : Option (List ℕ)) → IsPast r before → r.line_limit ≡ LINE_BYTES → r.text_limit ≡ GRAPH_BYTES
     → (n : ℕ) → n ≡ r.number + 1 → (waited : List Waiting) → ReadsLines r waited before (Limit n) q waited after
 reads_past r q before after is_past line text n number waited limits l o h =
     each limits r before (Limit n) q after (λ m o is. subst (LoadsAhead limits before (place r m)) (sym is) (past_there limits m before is_past)) (with_all limits waited l) o h
@@ -173,7 +173,7 @@ reads_past r q before after is_past line text n number waited limits l o h =
         ))
 
 -- the text is over
-pub reads_over : (r q : Reading) (before after : Option (List ℕ)) → IsOver before → (waited : List Waiting) → ReadsLines r waited before End q waited after
+pub reads_over : (r q : ReaderState) (before after : Option (List ℕ)) → IsOver before → (waited : List Waiting) → ReadsLines r waited before End q waited after
 reads_over r q before after over waited limits l o h =
     each limits r before End q after (λ m o is. subst (LoadsAhead limits before (place r m)) (sym is) (over_there limits m before over)) (with_all limits waited l) o h
   where
@@ -223,7 +223,7 @@ module _ (limits : Limits) (ws : List Waiting) (n : ℕ) (old r : Loader) (left 
         )
 
 -- the outcome of a batch is one of what lay ahead
-pub batch_leads : (limits : Limits) (r q : Reading) (before after : Option (List ℕ)) (waited waits : List Waiting) (next : Next) (l : LoadState) (x : Result LoadState ℕ) (Q : Outcome → Type 0)
+pub batch_leads : (limits : Limits) (r q : ReaderState) (before after : Option (List ℕ)) (waited waits : List Waiting) (next : Next) (l : LoadState) (x : Result LoadState ℕ) (Q : Outcome → Type 0)
     → waited ≡ [] → ReadsLines r waited before next q waits after → with_all limits waits l ≡ x → ((o : Outcome) → LoadsAhead limits before (place r l) o → Q o)
     → (o : Outcome) → LoadsThen limits next q after x o → Q o
 batch_leads limits r q before after waited waits next l x Q none reads does leads o h =
@@ -233,7 +233,7 @@ pub ahead_start : (limits : Limits) (left : Option (List ℕ)) (p : Place) (o : 
 ahead_start limits None p o h = tt
 ahead_start limits (Some text) p o h = h
 
-pub start_leads : (limits : Limits) (r : Reading) (l : Loader) (left : Option (List ℕ)) → r.ahead ≡ [] → r.number ≡ 0 → r.taken ≡ 0 → load_state l [] ≡ nothing_loaded
+pub start_leads : (limits : Limits) (r : ReaderState) (l : Loader) (left : Option (List ℕ)) → r.ahead ≡ [] → r.number ≡ 0 → r.taken ≡ 0 → load_state l [] ≡ nothing_loaded
     → (o : Outcome) → LoadsAhead limits (stream r left) (place r (load_state l [])) o → LoadsAhead limits left at_start o
 start_leads limits r l left ahead number taken nothing o h =
     ahead_start limits left at_start o (subst (λ (x : List ℕ). LoadsAhead limits (prepend_known x left) at_start o) ahead

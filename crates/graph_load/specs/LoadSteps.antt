@@ -3,7 +3,7 @@ use Rattle.std.specs.Prelude.{◌≡◌, ◌≢◌, ℕ, ◌<◌, ◌≤◌, ⊤
 use Rattle.px_base.specs.Causes.{Rose}
 use Rattle.px_base.specs.declared.lines.TheConstants.{LINE_BYTES, GRAPH_BYTES}
 use Rattle.px_base.specs.Files.{File, content_of}
-use Rattle.px_base.specs.ReaderStates.{Reading, stream}
+use Rattle.px_base.specs.ReaderStates.{ReaderState, stream}
 use Rattle.px_spec.specs.Lines.{cut}
 use Rattle.px_spec.specs.declared.limits.Limits.{Limits}
 use Rattle.px_spec.specs.declared.refusal.Refusal.{Refusal}
@@ -44,11 +44,11 @@ LoadsAhead limits None p o = ⊤
 LoadsAhead limits (Some text) p o = LoadsFrom limits (cut text) p o
 
 -- how far a load has come, where this is loaded
-abbrev pub place : Reading → LoadState → Place
+abbrev pub place : ReaderState → LoadState → Place
 place r l = record { state = l; lines = r.number; bytes = r.taken }
 
 -- the reader has the limits of a graph file, and can read on
-pub record CanRead (r : Reading) (is_open : Bool) : Type 0 where
+pub record CanRead (r : ReaderState) (is_open : Bool) : Type 0 where
   pub ready : r.failed ≡ false
   pub line_limit : r.line_limit ≡ LINE_BYTES
   pub text_limit : r.text_limit ≡ GRAPH_BYTES
@@ -81,14 +81,14 @@ with_all limits [] l = Ok l
 with_all limits (w ∷ ws) l = then_load (with_one limits w l) (with_all limits ws)
 
 -- what is loaded gives this outcome, by what comes behind the lines that were read
-abbrev pub LoadsBehind : Limits → Next → Reading → Option (List ℕ) → LoadState → Outcome → Type 0
+abbrev pub LoadsBehind : Limits → Next → ReaderState → Option (List ℕ) → LoadState → Outcome → Type 0
 LoadsBehind limits Lines r text l o = LoadsAhead limits text (place r l) o
 LoadsBehind limits End r text l o = o ≡ loaded l.graph
 LoadsBehind limits (Syntax n) r text l o = o ≡ syntax n
 LoadsBehind limits (Limit n) r text l o = o ≡ limit n
 
 -- and so does this, where one of the triples that waited may be refused
-abbrev pub LoadsThen : Limits → Next → Reading → Option (List ℕ) → Result LoadState ℕ → Outcome → Type 0
+abbrev pub LoadsThen : Limits → Next → ReaderState → Option (List ℕ) → Result LoadState ℕ → Outcome → Type 0
 LoadsThen limits next r text (Ok l) o = LoadsBehind limits next r text l o
 LoadsThen limits next r text (Err n) o = o ≡ limit n
 
@@ -101,18 +101,18 @@ AddsLine text n old new (Limit m) = ⊥
 
 -- Lines were read: whatever outcome follows from the triples that wait afterwards and the text that is left then, follows
 -- from those that waited before and the text that was left before.
-abbrev pub ReadsLines : Reading → List Waiting → Option (List ℕ) → Next → Reading → List Waiting → Option (List ℕ) → Type 0
+abbrev pub ReadsLines : ReaderState → List Waiting → Option (List ℕ) → Next → ReaderState → List Waiting → Option (List ℕ) → Type 0
 ReadsLines r waited before next q waits after =
     (limits : Limits) (l : LoadState) (o : Outcome) → LoadsThen limits next q after (with_all limits waits l) o → LoadsThen limits Lines r before (with_all limits waited l) o
 
 -- more of the text is taken
-abbrev pub IsNearer : Reading → Reading → Type 0
+abbrev pub IsNearer : ReaderState → ReaderState → Type 0
 IsNearer r q = (r.taken < q.taken) × (q.taken ≤ GRAPH_BYTES)
 
 -- What a call that reads on does to the reader, to the triples that wait and to the shelf. Of a shelf the functions give what is left
 -- of the open file, whether one is open, the files, and the count of faults.
 pub record ReadsOn {S : Type 0} (left : S → Option (List ℕ)) (is_open : S → Bool) (files : S → Option (List File)) (faults : S → ℕ)
-    (r q : Reading) (waited waits : List Waiting) (old new : S) (result : Result Next LoadError) : Type 0 where
+    (r q : ReaderState) (waited waits : List Waiting) (old new : S) (result : Result Next LoadError) : Type 0 where
   pub reads : IfOk result (λ next. ReadsLines r waited (stream r (left old)) next q waits (stream q (left new)))
   pub can : IfOk result (λ next. OnLines next (CanRead q (is_open new)))
   pub nearer : IfOk result (λ next. OnLines next (IsNearer r q))

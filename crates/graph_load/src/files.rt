@@ -1,12 +1,14 @@
 // A graph file, in batches of triples.
-ghost use Rattle.std.specs.Prelude.{◌≡◌, ◌≢◌, ℕ, List, IfOk, IfErr, IsErrOf, IsTrue, Err};
+ghost use Rattle.std.specs.Prelude.{◌≡◌, ◌≢◌, ℕ, List, [], IfOk, OnOk, IfErr, IsErrOf, IsTrue, Err};
+ghost use Rattle.px_base.specs.ReaderStates.{stream};
 ghost use Rattle.px_base.specs.Causes.{Rose};
 ghost use Rattle.label_graph.specs.Held.{no_room};
 ghost use Rattle.graph_load.specs.Loads.{Outcome, Loads, loaded, at_start};
-ghost use Rattle.graph_load.specs.LoadSteps.{LoadsTold, LacksFile, TellsOutcome, LoadsAhead};
+ghost use Rattle.graph_load.specs.Loaders.{load_state, Holds, IsSoundLoader};
+ghost use Rattle.graph_load.specs.LoadSteps.{LoadsTold, LacksFile, TellsOutcome, LoadsAhead, CanRead, place};
 ghost use Rattle.graph_load.specs.declared.files.LoadError.TheVariants.{Memory as NoMemory};
 
-use crate::batch::{Next, give_back, read_batch};
+use crate::batch::{Next, Waiting, give_back, read_batch};
 use crate::batch_loader::BatchLoader;
 use label_graph::Graph;
 use px_base::{GRAPH_BYTES, LINE_BYTES, Limits, LineReader, Memory, Shelf};
@@ -43,6 +45,46 @@ impl From<Memory> for LoadError {
     }
 }
 
+// Loads what is left of the open file, where nothing is loaded yet.
+fn load_batches<H: Shelf>(
+    alloc: Global,
+    limits: &Limits,
+    reader: &mut LineReader,
+    spare: &mut SpareTexts,
+    waiting: &mut Vec<Waiting>,
+    loader: &mut BatchLoader,
+    shelf: &mut H,
+) -> Result<(), LoadError>
+    requires none { waiting.old.items ≡ [] }
+    requires nothing { Holds loader.old [] }
+    requires sound { IsSoundLoader loader.old }
+    requires can { CanRead reader.old (H.is_open shelf.old) }
+    ensures loaded { OnOk result (LoadsAhead limits.now (stream reader.old (H.left shelf.old)) (place reader.old (load_state loader.old [])) (loaded loader.new.graph.graph)) }
+    ensures sound { OnOk result (IsSoundLoader loader.new) }
+    ensures refused { IfErr result (TellsOutcome (LoadsAhead limits.now (stream reader.old (H.left shelf.old)) (place reader.old (load_state loader.old [])))) }
+    ensures found { result ≢ Err LoadError.Missing }
+    ensures files { H.files shelf.new ≡ H.files shelf.old }
+    ensures fault { IsErrOf result LoadError.Fault → Rose (H.faults shelf.old) (H.faults shelf.new) }
+    ensures no_fault { result ≢ Err LoadError.Fault → H.faults shelf.new ≡ H.faults shelf.old }
+{
+    'batches: loop {
+        let next = match read_batch(reader, spare, waiting, shelf) {
+            Ok(next) => next,
+            Err(error) => return Err(error),
+        };
+        if let Err(error) = loader.add_all(alloc, limits, waiting.as_slice()) {
+            return Err(error);
+        }
+        give_back(spare, waiting);
+        match next {
+            Next::Lines => (),
+            Next::End => return Ok(()),
+            Next::Syntax(line) => return Err(LoadError::Syntax(line)),
+            Next::Limit(line) => return Err(LoadError::Limit(line)),
+        }
+    }
+}
+
 // Loads the file that is open.
 fn load_lines<H: Shelf>(alloc: Global, limits: &Limits, shelf: &mut H) -> Result<Graph, LoadError>
     requires { IsTrue (H.is_open shelf.old) }
@@ -55,24 +97,20 @@ fn load_lines<H: Shelf>(alloc: Global, limits: &Limits, shelf: &mut H) -> Result
     ensures no_fault { result ≢ Err LoadError.Fault → H.faults shelf.new ≡ H.faults shelf.old }
 {
     let mut reader = LineReader::new(alloc, LINE_BYTES, GRAPH_BYTES)?;
+    let mut loader = BatchLoader::new(alloc)?;
     let mut spare = SpareTexts::new(alloc);
     let mut waiting = Vec::new(alloc);
-    let mut loader = BatchLoader::new(alloc)?;
-    'batches: loop {
-        let next = match read_batch(&mut reader, &mut spare, &mut waiting, shelf) {
-            Ok(next) => next,
-            Err(error) => return Err(error),
-        };
-        if let Err(error) = loader.add_all(alloc, limits, &waiting) {
-            return Err(error);
-        }
-        give_back(&mut spare, &mut waiting);
-        match next {
-            Next::Lines => (),
-            Next::End => return Ok(loader.into_graph()),
-            Next::Syntax(line) => return Err(LoadError::Syntax(line)),
-            Next::Limit(line) => return Err(LoadError::Limit(line)),
-        }
+    match load_batches(
+        alloc,
+        limits,
+        &mut reader,
+        &mut spare,
+        &mut waiting,
+        &mut loader,
+        shelf,
+    ) {
+        Ok(()) => Ok(loader.into_graph()),
+        Err(error) => Err(error),
     }
 }
 

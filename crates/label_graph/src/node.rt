@@ -87,8 +87,8 @@ impl Nodes {
         }
     }
 
-    /// Whether an edge leads from one node to the other. It reads the ends of the two lists that tell, where an edge
-    /// that came lately stands and a new one is put, and then the shorter list.
+    /// Whether an edge leads from one node to the other. It reads the ends of the two lists that tell, where a new
+    /// edge is put, and then the shorter list.
     pub(crate) fn is_edge(&self, u: NodeId, v: NodeId) -> bool
         requires { Mirrors self.now.nodes }
         ensures { result ≡ has (children_of self.now.nodes u) v }

@@ -108,20 +108,30 @@ fn renew_roots(alloc: Global, base: &Summary, roots: &mut Roots)
     }
 }
 
+// A quotient with its roots and an empty draft.
+fn unstaged(base: Summary, roots: Roots, draft: Draft) -> Kept
+    requires covers { CoversBase base roots }
+    requires empty { draft ≡ no_changes }
+    ensures base { result.base ≡ base }
+    ensures unstaged { result.staged ≡ false }
+{
+    Kept {
+        base,
+        roots,
+        draft,
+        staged: false,
+    }
+}
+
 impl Kept {
     /// The quotient, with nothing staged.
     pub(crate) fn of(alloc: Global, base: Summary) -> Result<Kept, Memory>
         ensures base { IfOk result (λ k. k.base ≡ base) }
         ensures unstaged { IfOk result (λ k. k.staged ≡ false) }
     {
-        let draft = Draft::new(alloc)?;
         let roots = Roots::of(alloc, &base)?;
-        Ok(Kept {
-            base,
-            roots,
-            draft,
-            staged: false,
-        })
+        let draft = Draft::new(alloc)?;
+        Ok(unstaged(base, roots, draft))
     }
 
     /// The quotient in force.

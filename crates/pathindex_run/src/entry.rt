@@ -36,12 +36,12 @@ use std::alloc::Global;
 /// | Status | When |
 /// |---|---|
 /// | 0, 1 | the script was read to its end; 1 where a line printed `refused` |
-/// | 2 | the words are of no form, and the usage line is written |
+/// | 2 | the words are malformed, and the usage line is written |
 /// | 3 | a line of the graph file is refused, and `graph` with its number and the reason is written |
 /// | 4 | a line is no command or passes a limit, and `bad` with its number is written |
 /// | 5 | a call of the shelf failed, or a file isn't there; never with a seed |
 /// | 6 | a call of the sink failed |
-/// | 7 | there is no memory |
+/// | 7 | memory runs out |
 ///
 /// Where the shelf tells its files, a graph file that loads and a script with no line that is bad give 0, 1 or 7 where no call
 /// fails and no count of faults stands at its last value. So does every seed, where no call of the sink fails and its count

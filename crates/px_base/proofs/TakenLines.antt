@@ -9,7 +9,7 @@ use Rattle.px_base.specs.declared.line_end.LineEnd.{LineEnd}
 use Rattle.px_base.specs.declared.line_end.LineEnd.TheVariants.{Feed, Return, ReturnFeed, Over}
 use Rattle.px_base.specs.LineEnds.{end_bytes, IsWhole, TakesEnd, EndPasses}
 use Rattle.px_base.specs.GatheredLines.{Gathers, IsTooLong, GathersLine, IsLong}
-use Rattle.px_base.specs.ReaderStates.{Reading, IsFirst, IsPast, IsOver}
+use Rattle.px_base.specs.ReaderStates.{ReaderState, IsFirst, IsPast, IsOver}
 
 -- a text up to its first end is its first line
 cut-first : (text : List ℕ) (end : LineEnd) (rest : List ℕ) → IsUncut text → IsWhole end (Some rest) → 0 < length text + length (end_bytes end)
@@ -103,6 +103,6 @@ long-end line_limit room line a b g t =
     long-told line_limit room g.part t.end a t.rest g.plain (omega arith) (omega (arith, t.long)) (Consumes-trans a b t.rest g.part (end_bytes t.end) g.told t.told)
 
 -- limits that are what the reader has left
-pub past-long : (r : Reading) (room : ℕ) (before : Option (List ℕ)) → r.taken + room ≡ r.text_limit → IsLong r.line_limit room before → IsPast r before
+pub past-long : (r : ReaderState) (room : ℕ) (before : Option (List ℕ)) → r.taken + room ≡ r.text_limit → IsLong r.line_limit room before → IsPast r before
 past-long r room None e t = tt
 past-long r room (Some x) e t = (t.0, t.1, t.2, λ w. t.3 (w.0, omega (arith, w.1)))

@@ -3,7 +3,7 @@ use Rattle.std.specs.Prelude.{◌≡◌, ℕ, ◌+◌, ◌<◌, ◌≤◌, ⊤, 
 use Rattle.std.specs.Io.KnownBytes.{prepend_known}
 use Rattle.px_spec.specs.Lines.{Line, cut}
 
-pub record Reading : Type 0 where
+pub record ReaderState : Type 0 where
   -- the bytes that were read and belong to no line yet
   pub ahead : List ℕ
   -- the line, without its end, and its number from 1 on; 0 before the first
@@ -18,11 +18,11 @@ pub record Reading : Type 0 where
   pub failed : Bool
 
 -- ahead of the reader lies what it read ahead, and then what the shelf has left
-abbrev pub stream : Reading → Option (List ℕ) → Option (List ℕ)
+abbrev pub stream : ReaderState → Option (List ℕ) → Option (List ℕ)
 stream r left = prepend_known r.ahead left
 
 -- the reader may take the line
-abbrev pub IsReadable : Reading → Line → Type 0
+abbrev pub IsReadable : ReaderState → Line → Type 0
 IsReadable r l = (length l.text ≤ r.line_limit) × (r.taken + length l.text + length l.end ≤ r.text_limit)
 
 -- the line is the first of a told text, and the others are those of what is ahead after it
@@ -32,7 +32,7 @@ IsFirst l (Some text) None = ⊥
 IsFirst l (Some text) (Some rest) = cut text ≡ l ∷ cut rest
 
 -- A line was taken from the text ahead: its first, if the text is told.
-pub record ReadsLine (old new : Reading) (before after : Option (List ℕ)) : Type 0 where
+pub record ReadsLine (old new : ReaderState) (before after : Option (List ℕ)) : Type 0 where
   pub first : Line
   pub some : 0 < length first.text + length first.end
   pub within : IsReadable old first
@@ -50,12 +50,12 @@ IsOver None = ⊤
 IsOver (Some text) = text ≡ []
 
 -- the text is over, and nothing was taken
-pub record Finishes (old new : Reading) (before after : Option (List ℕ)) : Type 0 where
+pub record Finishes (old new : ReaderState) (before after : Option (List ℕ)) : Type 0 where
   pub over_before : IsOver before
   pub over_after : IsOver after
   pub kept : new ≡ record old { ahead = []; line = [] }
 
 -- a line passes a limit, the first of the text where that is told
-abbrev pub IsPast : Reading → Option (List ℕ) → Type 0
+abbrev pub IsPast : ReaderState → Option (List ℕ) → Type 0
 IsPast r None = ⊤
 IsPast r (Some text) = (l : Line) × (rest : List Line) × (cut text ≡ l ∷ rest) × ¬ IsReadable r l

@@ -1,4 +1,4 @@
-//! What every layer uses: texts, sets of small numbers, numbers that came lately, counts of steps, files and
+//! What every layer uses: texts, sets of small numbers, a cache of numbers, counts of steps, files and
 //! streams as traits with one version of each in memory, and the lines of a file.
 #![tactic(auto)]
 

@@ -5,7 +5,7 @@ ghost use Rattle.px_base.specs.Causes.{Rose};
 ghost use Rattle.px_base.specs.declared.lines.LineFault.TheVariants.{Fault, Memory as NoMemory};
 ghost use Rattle.px_base.specs.LineEnds.{has_end, IsAtStop};
 ghost use Rattle.px_base.specs.GatheredLines.{TakesPart, Overfills, Gathers, IsTooLong, GathersLine, IsLong};
-ghost use Rattle.px_base.specs.ReaderStates.{Reading, stream, ReadsLine, Finishes, IsPast};
+ghost use Rattle.px_base.specs.ReaderStates.{ReaderState, stream, ReadsLine, Finishes, IsPast};
 
 use crate::line_end::{LineEnd, take_end};
 use crate::window::{self, Window, plain_len};
@@ -177,9 +177,9 @@ pub struct LineReader {
 
 impl Model for LineReader {
     ghost use Rattle.std.specs.Prelude.{◌≡◌, ◌≤◌, ◌+◌, ◌^◌, false};
-    ghost use Rattle.px_base.specs.ReaderStates.{Reading};
+    ghost use Rattle.px_base.specs.ReaderStates.{ReaderState};
 
-    ghost Value = { Reading };
+    ghost Value = { ReaderState };
 
     ghost view = { λ r. record {
       ahead = r.window;

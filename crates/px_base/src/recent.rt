@@ -1,4 +1,4 @@
-// Numbers that came lately.
+// A direct-mapped cache of numbers.
 use crate::Memory;
 use std::alloc::Global;
 use std::marker::Model;
@@ -6,9 +6,9 @@ use std::marker::Model;
 /// How many bits the number of a slot has.
 const BITS: u32 = 12;
 
-/// Numbers that were put lately, each in a slot by some bits of the two numbers that it belongs to. Others have
-/// the same slot, and the last one that was put there is in it: whoever gets a number looks at what it leads
-/// to before it is taken. Nothing is promised of them.
+/// A direct-mapped cache: a number for each pair of numbers that was used last. Some bits of the pair give its slot, other pairs share
+/// the slot, and it holds the number that was put last. Nothing is promised of a number that is found, so the caller checks what it leads
+/// to before taking it.
 ///
 /// It takes 16 KiB.
 #[derive(Drop)]
