@@ -1,7 +1,7 @@
 // Rounds by parents and by children in turn.
-ghost use Rattle.std.specs.Prelude.{◌≡◌, ◌<◌, ◌≤◌, ◌^◌, ◌⊎◌, ◌&&◌, ℕ, [], true, nat_eq, IsSome, IfOk, OnOk, length, vec_len};
+ghost use Rattle.std.specs.Prelude.{◌≡◌, ◌<◌, ◌≤◌, ◌^◌, ◌⊎◌, ◌&&◌, ℕ, [], nat_eq, IfOk, OnOk, length, vec_len};
 ghost use Rattle.px_spec.specs.Graphs.{IsGraph};
-ghost use Rattle.px_spec.specs.Members.{has, at};
+ghost use Rattle.px_spec.specs.Members.{has};
 ghost use Rattle.bisim_spec.specs.Bisimilarity.{SameLabel, FB};
 ghost use Rattle.bisim_spec.specs.Partitions.{IsPartition, Agrees};
 ghost use Rattle.px_spec.specs.Shapes.{shape_of};
@@ -9,8 +9,8 @@ ghost use Rattle.block_partition.specs.Partitions.{block_count};
 ghost use Rattle.block_splitting.specs.Nodes.{AreNodes};
 ghost use Rattle.block_splitting.specs.Splits.{AreLabelled, AreInhabited};
 ghost use Rattle.coarsest_partition.specs.IndexBlocks.{FitsWithSupports};
-ghost use Rattle.coarsest_partition.specs.Refined.{both_sides, IsRefined, IsStep};
-ghost use Rattle.coarsest_partition.specs.Sides.{two, by_side, other_of};
+ghost use Rattle.coarsest_partition.specs.Refined.{both_sides, IsStep};
+ghost use Rattle.coarsest_partition.specs.Sides.{by_side, other_of, AllWait};
 
 use crate::labels::by_labels;
 use crate::rounds::all_waiting;
@@ -76,42 +76,72 @@ fn round_on(
     Ok(())
 }
 
-// The partition into classes of bisimilarity both ways, from the one by labels.
-fn settle_both_ways(
+// Rounds by parents and rounds by children take turns until no node waits, from the partition by labels on.
+fn take_turns(
     alloc: Global,
     view: &GraphView<'_>,
-    mut blocks: Blocks,
-) -> Result<Blocks, Memory>
-    requires labels { Agrees (shape_of view.now) blocks.block_of (SameLabel (shape_of view.now)) }
-    ensures graph { IfOk result (λ _. IsGraph view.now) }
-    ensures labelled { IfOk result (λ p. AreLabelled view.now blocks → AreLabelled view.now p) }
-    ensures inhabited { IfOk result (λ p. AreInhabited blocks → AreInhabited p) }
-    ensures agrees { IfOk result (λ p. Agrees (shape_of view.now) p.block_of (FB (shape_of view.now))) }
+    blocks: &mut Blocks,
+    parents: &mut NodeSet,
+    children: &mut NodeSet,
+    tables: &mut Tables,
+) -> Result<(), Memory>
+    requires start { AllWait view.now blocks.old.block_of parents.old children.old }
+    requires room { length view.now.given ≤ vec_len tables.old.group }
+    ensures labelled { OnOk result (AreLabelled view.now blocks.old → AreLabelled view.now blocks.new) }
+    ensures inhabited { OnOk result (AreInhabited blocks.old → AreInhabited blocks.new) }
+    ensures agrees { OnOk result (Agrees (shape_of view.now) blocks.new.block_of (FB (shape_of view.now))) }
 {
-    let mut parents = all_waiting(alloc, view, &blocks)?;
-    let mut children = all_waiting(alloc, view, &blocks)?;
-    let mut tables = Tables::new(alloc, view.size())?;
-    'rounds: while !are_empty(&parents, &children) {
+    'rounds: while !are_empty(parents, children) {
         round_on(
             alloc,
             view,
             Side::Parents,
-            &mut blocks,
-            &mut parents,
-            &mut children,
-            &mut tables,
+            blocks,
+            parents,
+            children,
+            tables,
         )?;
         round_on(
             alloc,
             view,
             Side::Children,
-            &mut blocks,
-            &mut children,
-            &mut parents,
-            &mut tables,
+            blocks,
+            children,
+            parents,
+            tables,
         )?;
     }
-    Ok(blocks)
+    Ok(())
+}
+
+// The same, with tables of its own.
+fn settle_waiting(
+    alloc: Global,
+    view: &GraphView<'_>,
+    blocks: &mut Blocks,
+    parents: &mut NodeSet,
+    children: &mut NodeSet,
+) -> Result<(), Memory>
+    requires start { AllWait view.now blocks.old.block_of parents.old children.old }
+    ensures labelled { OnOk result (AreLabelled view.now blocks.old → AreLabelled view.now blocks.new) }
+    ensures inhabited { OnOk result (AreInhabited blocks.old → AreInhabited blocks.new) }
+    ensures agrees { OnOk result (Agrees (shape_of view.now) blocks.new.block_of (FB (shape_of view.now))) }
+{
+    let mut tables = Tables::new(alloc, view.size())?;
+    take_turns(alloc, view, blocks, parents, children, &mut tables)
+}
+
+// The partition into classes of bisimilarity both ways, from the one by labels.
+fn settle_both_ways(alloc: Global, view: &GraphView<'_>, blocks: &mut Blocks) -> Result<(), Memory>
+    requires labels { Agrees (shape_of view.now) blocks.old.block_of (SameLabel (shape_of view.now)) }
+    ensures graph { OnOk result (IsGraph view.now) }
+    ensures labelled { OnOk result (AreLabelled view.now blocks.old → AreLabelled view.now blocks.new) }
+    ensures inhabited { OnOk result (AreInhabited blocks.old → AreInhabited blocks.new) }
+    ensures agrees { OnOk result (Agrees (shape_of view.now) blocks.new.block_of (FB (shape_of view.now))) }
+{
+    let mut parents = all_waiting(alloc, view, blocks)?;
+    let mut children = all_waiting(alloc, view, blocks)?;
+    settle_waiting(alloc, view, blocks, &mut parents, &mut children)
 }
 
 /// The coarsest partition that is stable under parents and under children: its blocks are the classes of full
@@ -125,7 +155,7 @@ pub fn full_bisimulation_both_ways(alloc: Global, view: &GraphView<'_>) -> Resul
     ensures agrees { IfOk result (λ p. Agrees (shape_of view.now) p.block_of (FB (shape_of view.now))) }
     ensures fits { IfOk result (FitsWithSupports view.now) }
 {
-    let labels = by_labels(alloc, view)?;
-    let blocks = settle_both_ways(alloc, view, labels)?;
+    let mut blocks = by_labels(alloc, view)?;
+    settle_both_ways(alloc, view, &mut blocks)?;
     Ok(blocks)
 }

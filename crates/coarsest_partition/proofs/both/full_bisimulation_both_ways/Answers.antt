@@ -3,5 +3,5 @@ use Rattle.coarsest_partition.proofs.both.full_bisimulation_both_ways.Goals as g
 
 pub returns-clause-fits : goal.returns-clause-fits
 returns-clause-fits c =
-    fits_with _ _ c.in_ok-blocks.ensures.graph c.in_ok-blocks.ensures.agrees.partition (c.in_ok-blocks.ensures.labelled c.in_ok-labels.ensures.labelled)
-    (c.in_ok-blocks.ensures.inhabited c.in_ok-labels.ensures.inhabited)
+    let settled = c.in_ok-settle_both_ways.ensures in
+    fits_with _ _ settled.graph settled.agrees.partition (settled.labelled c.in_ok-blocks.ensures.labelled) (settled.inhabited c.in_ok-blocks.ensures.inhabited)

@@ -1,50 +1,15 @@
-use Rattle.std.proofs.Common.{arith, ◌∙◌, sym, inl, inr, length, nat_eq}
-use Rattle.std.specs.Prelude.{◌&&◌}
-use Rattle.std.proofs.lemmas.Bool.{and_parts}
-use Rattle.block_partition.specs.Partitions.{block_count}
-use Rattle.coarsest_partition.proofs.StepLaws.{start, step, fb_target, fb_part, fb_end}
-use Rattle.coarsest_partition.proofs.BothLaws.{two_all, two_none, turned}
-use Rattle.coarsest_partition.proofs.RoundLaws.{falls, length_empty}
 use Rattle.coarsest_partition.proofs.both.settle_both_ways.Goals as goal
 
-pub rounds-init : goal.rounds-init
-rounds-init c = record {
-  refined = start _ _ _ _ _ (fb_target _ c.size.ensures.graph) c.requires.labels (λ t k n h. two_all _ _ t n (c.in_ok-parents.ensures.all n h) (c.in_ok-children.ensures.all n h));
-  parents_are = c.in_ok-parents.ensures.nodes;
-  children_are = c.in_ok-children.ensures.nodes;
-  parents_size = c.in_ok-parents.ensures.size;
-  children_size = c.in_ok-children.ensures.size;
-  labelled = λ h. h;
-  inhabited = λ h. h;
-  room = (let a = c.in_ok-tables.ensures in let b = c.size.ensures.size in omega (arith, a, b));
+pub settle_waiting-requires : goal.settle_waiting-requires
+settle_waiting-requires c = record {
+  start = record {
+    graph = c.in_ok-parents.ensures.graph;
+    labels = c.requires.labels;
+    parents_are = c.in_ok-parents.ensures.nodes;
+    children_are = c.in_ok-children.ensures.nodes;
+    parents_size = c.in_ok-parents.ensures.size;
+    children_size = c.in_ok-children.ensures.size;
+    by_parents = c.in_ok-parents.ensures.all;
+    by_children = c.in_ok-children.ensures.all;
+  };
 }
-
-pub round_on-requires-clause-partition : goal.round_on-requires-clause-partition
-round_on-requires-clause-partition c = fb_part _ c.size.ensures.graph _ _ c.rounds.invariant.refined
-
-pub round_on-requires-in-rounds-clause-partition : goal.round_on-requires-in-rounds-clause-partition
-round_on-requires-in-rounds-clause-partition c = fb_part _ c.size.ensures.graph _ _ (step _ _ _ _ _ _ _ (fb_target _ c.size.ensures.graph) c.rounds.invariant.refined c.in_ok-round_on.ensures.step)
-
-pub rounds-smaller : goal.rounds-smaller
-rounds-smaller c =
-    falls (block_count c.rounds.blocks) (block_count c.round_on-in-rounds.new.blocks) _
-    (nat_eq (length c.round_on-in-rounds.new.other.nodes) 0 && nat_eq (length c.round_on-in-rounds.new.own.nodes) 0) (sym c.rounds-test.ensures) c.in_ok-round_on-2.ensures.few
-    (turned (block_count c.rounds.blocks) (block_count c.round_on.new.blocks) (block_count c.round_on-in-rounds.new.blocks) c.round_on.new.own.nodes c.round_on-in-rounds.new.own.nodes
-    c.round_on-in-rounds.new.other.nodes (elim c.in_ok-round_on.ensures.more [ inl (none, same, le) ↦ inl (none, le) | inr more ↦ inr more ]) c.in_ok-round_on-2.ensures.more)
-
-pub rounds-preserved : goal.rounds-preserved
-rounds-preserved c = record {
-  refined = step _ _ _ _ _ _ _ (fb_target _ c.size.ensures.graph) (step _ _ _ _ _ _ _ (fb_target _ c.size.ensures.graph) c.rounds.invariant.refined c.in_ok-round_on.ensures.step) c.in_ok-round_on-2.ensures.step;
-  parents_are = c.in_ok-round_on-2.ensures.other;
-  children_are = c.in_ok-round_on-2.ensures.own;
-  parents_size = c.in_ok-round_on-2.ensures.other_size ∙ c.in_ok-round_on.ensures.own_size ∙ c.rounds.invariant.parents_size;
-  children_size = c.in_ok-round_on-2.ensures.own_size ∙ c.in_ok-round_on.ensures.other_size ∙ c.rounds.invariant.children_size;
-  labelled = λ h. c.in_ok-round_on-2.ensures.labelled (c.in_ok-round_on.ensures.labelled (c.rounds.invariant.labelled h));
-  inhabited = λ h. c.in_ok-round_on-2.ensures.inhabited (c.in_ok-round_on.ensures.inhabited (c.rounds.invariant.inhabited h));
-  room = (let a = c.rounds.invariant.room in let b = c.in_ok-round_on.ensures.room in let d = c.in_ok-round_on-2.ensures.room in omega (arith, a, b, d));
-}
-
-pub returns-clause-agrees : goal.returns-clause-agrees
-returns-clause-agrees c =
-    let both = and_parts (nat_eq (length c.rounds.parents.nodes) 0) (nat_eq (length c.rounds.children.nodes) 0) (sym c.rounds-test.ensures) in
-    fb_end _ c.size.ensures.graph _ _ c.rounds.invariant.refined (two_none _ _ (length_empty c.rounds.parents.nodes both.0) (length_empty c.rounds.children.nodes both.1))

@@ -8,7 +8,7 @@ use Rattle.block_partition.specs.Partitions.{block_count}
 use Rattle.block_splitting.specs.Splits.{AreLabelled, AreInhabited}
 use Rattle.coarsest_partition.specs.Refined.{both_sides, IsRefined}
 use Rattle.coarsest_partition.specs.Sides.{two}
-use Rattle.coarsest_partition.proofs.both.settle_both_ways.Given as goal
+use Rattle.coarsest_partition.proofs.both.take_turns.Given as goal
 
 abbrev pub invariant-rounds : goal.invariant-rounds
 invariant-rounds l = record {
