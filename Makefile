@@ -6,7 +6,8 @@ SHELL := /bin/bash
 
 PROGRAM := crates/pathindex_main
 COUNTER := crates/triples_count
-# How many crates `make run` takes in hand at a time. Most of them wait for crates below them; each that is proved takes up to 2 GB.
+# How many crates `make run` takes in hand at a time: far more than there are cores, since most of them wait for a crate below. Each that is
+# proved takes up to 2 GB, and about six are at once.
 JOBS ?= 14
 NEEDS_RT = command -v rt >/dev/null || { echo "make $@: the command rt of the Rattle kit isn't on the path" >&2; exit 1; }
 
@@ -18,7 +19,7 @@ help:
 
 run:
 	@$(NEEDS_RT)
-	@echo 'Proving and building the program. The first time takes about XX minutes on four cores; bin/run.log says what is proved.'
+	@echo 'Proving and building the program. The first time takes about 25 minutes on four cores; bin/run.log lists the crates that are proved.'
 	@mkdir -p bin
 	@(cd $(PROGRAM) && rt all check --jobs $(JOBS)) >bin/run.log 2>&1 || { status=$$?; cat bin/run.log; exit $$status; }
 	@cd $(PROGRAM) && rt run -- ../../examples/foaf.script --graph ../../examples/foaf.nt >../../bin/foaf.out 2>>../../bin/run.log \

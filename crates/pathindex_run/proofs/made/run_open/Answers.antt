@@ -1,7 +1,7 @@
 use Rattle.std.proofs.Common.{arith, map}
 use Rattle.pathindex_core.specs.Engines.{engine_seen}
 use Rattle.script_run.specs.EngineStates.{state_in}
-use Rattle.pathindex_run.proofs.MadeLemmas.{text_ran, text_part, no_rise}
+use Rattle.pathindex_run.proofs.MadeLemmas.{text_ran, text_part}
 use Rattle.pathindex_run.proofs.made.run_open.Goals as goal
 
 pub returns-in-Ok-clause-runs : goal.returns-in-Ok-clause-runs

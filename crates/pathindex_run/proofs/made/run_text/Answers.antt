@@ -1,7 +1,6 @@
 use Rattle.std.proofs.Common.{inl, inr, refl, map}
 use Rattle.std.proofs.KnownBytes.{Keeps-refl}
 use Rattle.pathindex_core.specs.Engines.{engine_seen}
-use Rattle.script_run.specs.EngineStates.{state_in}
 use Rattle.pathindex_run.proofs.MadeLemmas.{opened_with}
 use Rattle.pathindex_run.proofs.made.run_text.Goals as goal
 
