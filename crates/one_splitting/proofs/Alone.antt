@@ -6,11 +6,15 @@ use Rattle.std.proofs.lemmas.Bool.{cases_Bool, and_parts}
 use Rattle.std.proofs.lemmas.Bool.Decides.{Decides-eqb}
 use Rattle.std.proofs.lemmas.List.Filters.{sum_by-filter_both}
 use Rattle.px_spec.specs.Members.{at, has, is_this}
-use Rattle.px_spec.specs.Shapes.{Shape, IsParent, IsShape}
+use Rattle.px_spec.specs.Shapes.{shape_of, Shape, IsParent, IsShape}
 use Rattle.bisim_spec.specs.Bisimilarity.{Covers}
 use Rattle.bisim_spec.specs.Partitions.{Together, IsPartition}
 use Rattle.bisim_spec.proofs.Bisimilar.{some_of}
 use Rattle.upkeep_spec.specs.Splits.{IsSplitInside}
+use Rattle.graph_update.specs.PendingChanges.{Pending, graph_after}
+use Rattle.quotient.specs.Quotients.{Quotient}
+use Rattle.quotient_draft.specs.Drafts.{Drafted, shown_blocks}
+use Rattle.one_splitting.specs.RoundStates.{IsRound}
 use Rattle.one_splitting.specs.Counted.{is_shared, has_company}
 use Rattle.one_splitting.proofs.Apart.{alone_from}
 use Rattle.one_splitting.proofs.Present.{has_filter}
@@ -78,6 +82,20 @@ split_kept s inside first p nodes kept made shape is a = record {
   where
     same : (u v : ℕ) → v ≡ u → Covers (IsParent s) (Together p) u v
     same u v e = subst (Covers (IsParent s) (Together p) u) (sym e) (self_covered s p u shape a.stable.partition)
+
+-- and so does a round
+pub round_kept : (a : Pending) (base : Quotient) (d d2 : Drafted) (nodes kept made made2 next : List ℕ) → IsShape (shape_of (graph_after a)) → kept ≡ filter (has_company (shown_blocks base d)) nodes
+    → IsRound a base d d2 kept made made2 next → IsRound a base d d2 nodes made made2 next
+round_kept a base d d2 nodes kept made made2 next shape is r = record {
+  over = r.over;
+  split = λ inside first closed split. r.split inside first closed (split_kept (shape_of (graph_after a)) inside first (shown_blocks base d) nodes kept made shape is split);
+  once = r.once;
+  named = r.named;
+  blocks = r.blocks;
+  supports = r.supports;
+  least = r.least;
+  more = r.more;
+}
 
 -- what is kept sums up to no more
 pub kept_sum : (f : ℕ → ℕ) (q : ℕ → Bool) (nodes kept : List ℕ) → kept ≡ filter q nodes → sum_by f kept ≤ sum_by f nodes

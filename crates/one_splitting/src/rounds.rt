@@ -1,18 +1,17 @@
 // Splitting in rounds.
-ghost use Rattle.std.specs.Prelude.{◌≡◌, ◌⊎◌, ◌+◌, ◌≤◌, ◌<◌, [], ℕ, Bool, List, Option, IfOk, OnOk, IsSome, IfSome, IsTrue, is_some, ◌&&◌, ◌||◌, length, nat_eq, slice_index, sum_by, if◌then◌else◌};
+ghost use Rattle.std.specs.Prelude.{◌≡◌, ◌+◌, ◌≤◌, ◌<◌, ℕ, List, Option, IfOk, OnOk, IsSome, IfSome, IsTrue, is_some, ◌&&◌, ◌||◌, length, nat_eq, slice_index, sum_by, if◌then◌else◌};
 ghost use Rattle.std.specs.List.{IsDistinct};
 ghost use Rattle.px_spec.specs.Members.{has, at};
 ghost use Rattle.px_spec.specs.Graphs.{is_live, has_edge};
-ghost use Rattle.px_spec.specs.Shapes.{shape_of, IsShape};
+ghost use Rattle.px_spec.specs.Shapes.{shape_of};
 ghost use Rattle.bisim_spec.specs.Partitions.{IsPartition};
-ghost use Rattle.upkeep_spec.specs.Named.{AreNamed};
-ghost use Rattle.upkeep_spec.specs.Splits.{IsClosed, IsSplitInside};
 ghost use Rattle.upkeep_spec.specs.Supported.{AreEdgeCounts};
 ghost use Rattle.graph_update.specs.PendingChanges.{graph_after};
 ghost use Rattle.quotient_draft.specs.Drafts.{shown_blocks, shown_labels, shown_support};
 ghost use Rattle.quotient_draft.specs.Basis.{IsOver};
 ghost use Rattle.one_splitting.specs.Costs.{move_cost, round_cost};
-ghost use Rattle.one_splitting.specs.NodeGoals.{goal_at, AreBlocks, GoalsAreBlocks, MembersHaveLabels, HaveGone, ListsChildrenOf};
+ghost use Rattle.one_splitting.specs.NodeGoals.{goal_at, GoalsAreBlocks, HaveGone, ListsChildrenOf};
+ghost use Rattle.one_splitting.specs.RoundStates.{CanRound, IsRound};
 
 use crate::company::with_company;
 use crate::goals::find_goals;
@@ -114,22 +113,8 @@ fn part_by_keys<L: Ledger>(
     made: &mut Vec<u32>,
     steps: &mut Steps<L>,
 ) -> Result<Vec<NodeId>, Memory>
-    requires over { IsOver base.now.blocks.block_of base.now.blocks.labels draft.old }
-    requires live { MembersHaveLabels (shown_blocks base.now draft.old) (at (shown_labels base.now draft.old)) }
-    requires nodes { (n : ℕ) → IsTrue (has nodes.now n) → IsTrue (is_live (graph_after after.now) n) }
-    requires shape { IsShape (shape_of (graph_after after.now)) }
-    requires partition { IsPartition (shape_of (graph_after after.now)) (shown_blocks base.now draft.old) }
-    requires once { IsDistinct nat_eq nodes.now }
-    requires made { AreBlocks (at (shown_labels base.now draft.old)) made.old.items }
-    requires supports { AreEdgeCounts (graph_after after.now) (shown_blocks base.now draft.old) (shown_support base.now draft.old) }
-    ensures over { OnOk result (IsOver base.now.blocks.block_of base.now.blocks.labels draft.new) }
-    ensures split { IfOk result (λ next. (inside : ℕ → Bool) (first : List (Option ℕ)) → IsClosed (shape_of (graph_after after.now)) inside → IsSplitInside (shape_of (graph_after after.now)) inside first (shown_blocks base.now draft.old) nodes.now made.old.items → IsSplitInside (shape_of (graph_after after.now)) inside first (shown_blocks base.now draft.new) next.items made.new.items) }
-    ensures once { IfOk result (λ next. IsDistinct nat_eq next.items) }
-    ensures named { OnOk result ((names : ℕ → Option ℕ) → AreNamed (shown_blocks base.now draft.old) (at (shown_labels base.now draft.old)) names → AreNamed (shown_blocks base.now draft.new) (at (shown_labels base.now draft.new)) names) }
-    ensures made { OnOk result (AreBlocks (at (shown_labels base.now draft.new)) made.new.items) }
-    ensures supports { OnOk result (AreEdgeCounts (graph_after after.now) (shown_blocks base.now draft.new) (shown_support base.now draft.new)) }
-    ensures least { OnOk result (length made.old.items ≤ length made.new.items) }
-    ensures more { IfOk result (λ next. (length made.old.items < length made.new.items) ⊎ (next.items ≡ [])) }
+    requires { CanRound after.now base.now draft.old nodes.now made.old.items }
+    ensures round { IfOk result (λ next. IsRound after.now base.now draft.old draft.new nodes.now made.old.items made.new.items next.items) }
     ensures cost { steps.new ≤ steps.old + sum_by (round_cost after.now) nodes.now }
 {
     let mut keys = KeyTable::new(alloc)?;
@@ -153,22 +138,8 @@ pub(crate) fn round<L: Ledger>(
     made: &mut Vec<u32>,
     steps: &mut Steps<L>,
 ) -> Result<Vec<NodeId>, Memory>
-    requires over { IsOver base.now.blocks.block_of base.now.blocks.labels draft.old }
-    requires live { MembersHaveLabels (shown_blocks base.now draft.old) (at (shown_labels base.now draft.old)) }
-    requires nodes { (n : ℕ) → IsTrue (has nodes.now n) → IsTrue (is_live (graph_after after.now) n) }
-    requires shape { IsShape (shape_of (graph_after after.now)) }
-    requires partition { IsPartition (shape_of (graph_after after.now)) (shown_blocks base.now draft.old) }
-    requires once { IsDistinct nat_eq nodes.now }
-    requires made { AreBlocks (at (shown_labels base.now draft.old)) made.old.items }
-    requires supports { AreEdgeCounts (graph_after after.now) (shown_blocks base.now draft.old) (shown_support base.now draft.old) }
-    ensures over { OnOk result (IsOver base.now.blocks.block_of base.now.blocks.labels draft.new) }
-    ensures split { IfOk result (λ next. (inside : ℕ → Bool) (first : List (Option ℕ)) → IsClosed (shape_of (graph_after after.now)) inside → IsSplitInside (shape_of (graph_after after.now)) inside first (shown_blocks base.now draft.old) nodes.now made.old.items → IsSplitInside (shape_of (graph_after after.now)) inside first (shown_blocks base.now draft.new) next.items made.new.items) }
-    ensures once { IfOk result (λ next. IsDistinct nat_eq next.items) }
-    ensures named { OnOk result ((names : ℕ → Option ℕ) → AreNamed (shown_blocks base.now draft.old) (at (shown_labels base.now draft.old)) names → AreNamed (shown_blocks base.now draft.new) (at (shown_labels base.now draft.new)) names) }
-    ensures made { OnOk result (AreBlocks (at (shown_labels base.now draft.new)) made.new.items) }
-    ensures supports { OnOk result (AreEdgeCounts (graph_after after.now) (shown_blocks base.now draft.new) (shown_support base.now draft.new)) }
-    ensures least { OnOk result (length made.old.items ≤ length made.new.items) }
-    ensures more { IfOk result (λ next. (length made.old.items < length made.new.items) ⊎ (next.items ≡ [])) }
+    requires { CanRound after.now base.now draft.old nodes.now made.old.items }
+    ensures round { IfOk result (λ next. IsRound after.now base.now draft.old draft.new nodes.now made.old.items made.new.items next.items) }
     ensures cost { steps.new ≤ steps.old + sum_by (round_cost after.now) nodes.now }
 {
     let kept = with_company(alloc, base, draft, nodes)?;

@@ -1,4 +1,4 @@
-use Rattle.std.proofs.Common.{◌≡◌, ℕ, List, Option, length, arith, sym, ap, subst}
+use Rattle.std.proofs.Common.{◌≡◌, ℕ, List, Option, length, arith, sym, ap, subst, rules}
 use Rattle.px_spec.specs.Graphs.{has_edge}
 use Rattle.px_spec.specs.Members.{at}
 use Rattle.px_spec.specs.Shapes.{shape_of}
@@ -50,48 +50,48 @@ returns-clause-cost g c =
     let moves = c.move_nodes.ensures.cost in
     omega (arith, parts, cost, moves)
 
-pub returns-clause-once : goal.returns-clause-once
-returns-clause-once g c = set_distinct c.in_ok-next.next.items c.sort_once.new.numbers.items (record { rising = c.sort_once.ensures.rising; same = c.sort_once.ensures.same })
-
-pub returns-clause-more : goal.returns-clause-more
-returns-clause-more g c =
-    let s = shape_of (graph_after c.args.after.now) in
-    let nodes = c.args.nodes.now in
-    more_or_none s nodes c.in_ok-numbers.numbers.items c.in_ok-goals.goals.items (length nodes) c.sort_once.new.numbers.items c.args.made.now.items c.find_goals.new.made.items
-    (next_set s nodes c.in_ok-numbers.numbers.items c.in_ok-goals.goals.items (length nodes) c.in_ok-next.next.items c.sort_once.new.numbers.items
-    (record { rising = c.sort_once.ensures.rising; same = c.sort_once.ensures.same }) c.in_ok-next.ensures.next)
-    c.in_ok-goals.ensures.from
-
-pub returns-clause-split : goal.returns-clause-split
-returns-clause-split g c = λ inside first closed split.
-    let s = shape_of (graph_after c.args.after.now) in
-    let nodes = c.args.nodes.now in
-    let p = shown_blocks c.args.base.now c.args.draft.now in
-    let p2 = shown_blocks c.args.base.now c.move_nodes.new.draft in
-    let keys = c.number_nodes.new.keys in
-    let numbers = c.in_ok-numbers.numbers.items in
-    let goals = c.in_ok-goals.goals.items in
-    let counts = c.in_ok-counts.counts.entries in
-    let counted : AreCounted p nodes counts = record { once = c.requires.once; each = c.in_ok-counts.ensures } in
-    let numbered = c.in_ok-numbers.ensures.numbered in
-    split_step s inside first p p2 keys nodes numbers c.args.made.now.items c.sort_once.new.numbers.items c.find_goals.new.made.items goals counts c.requires.shape closed split c.requires.once
-    c.in_ok-numbers.ensures.count numbered c.in_ok-goals.ensures.count counted c.in_ok-goals.ensures.going
-    (subst (λ x. HaveGone x p2 nodes numbers goals (length nodes)) c.in_ok-goals.ensures.stay c.in_ok-next.ensures.gone)
-    (next_set s nodes numbers goals (length nodes) c.in_ok-next.next.items c.sort_once.new.numbers.items (record { rising = c.sort_once.ensures.rising; same = c.sort_once.ensures.same })
-    c.in_ok-next.ensures.next)
-    c.in_ok-goals.ensures.from c.in_ok-goals.ensures.made.once
-    (λ k h. let o = owns p (has_edge (graph_after c.args.after.now)) keys nodes numbers numbered k h in (o.0, o.1))
-
-pub returns-clause-named : goal.returns-clause-named
-returns-clause-named g c = λ names named.
-    let s = shape_of (graph_after c.args.after.now) in
-    let nodes = c.args.nodes.now in
-    let p = shown_blocks c.args.base.now c.args.draft.now in
-    let p2 = shown_blocks c.args.base.now c.move_nodes.new.draft in
-    let numbers = c.in_ok-numbers.numbers.items in
-    let goals = c.in_ok-goals.goals.items in
-    let gone = subst (λ x. HaveGone x p2 nodes numbers goals (length nodes)) c.in_ok-goals.ensures.stay c.in_ok-next.ensures.gone in
-    let labels : shown_labels c.args.base.now c.move_nodes.new.draft ≡ shown_labels c.args.base.now c.find_goals.new.draft = ap (with_added c.args.base.now.blocks.labels) c.in_ok-next.ensures.added in
-    subst (λ (ls : List (Option ℕ)). AreNamed p2 (at ls) names) (sym labels)
-    (named_step s p p2 c.number_nodes.new.keys nodes numbers goals (at (shown_labels c.args.base.now c.args.draft.now)) (at (shown_labels c.args.base.now c.find_goals.new.draft)) names
-    c.in_ok-numbers.ensures.count c.requires.once c.in_ok-numbers.ensures.numbered gone c.in_ok-goals.ensures.labels c.in_ok-goals.ensures.kept named)
+pub returns-clause-round : goal.returns-clause-round
+returns-clause-round g c = record {
+  over = c.in_ok-next.ensures.over;
+  split = λ inside first closed split.
+      let s = shape_of (graph_after c.args.after.now) in
+      let nodes = c.args.nodes.now in
+      let p = shown_blocks c.args.base.now c.args.draft.now in
+      let p2 = shown_blocks c.args.base.now c.move_nodes.new.draft in
+      let keys = c.number_nodes.new.keys in
+      let numbers = c.in_ok-numbers.numbers.items in
+      let goals = c.in_ok-goals.goals.items in
+      let counts = c.in_ok-counts.counts.entries in
+      let counted : AreCounted p nodes counts = record { once = c.requires.once; each = c.in_ok-counts.ensures } in
+      let numbered = c.in_ok-numbers.ensures.numbered in
+      split_step s inside first p p2 keys nodes numbers c.args.made.now.items c.sort_once.new.numbers.items c.find_goals.new.made.items goals counts c.requires.shape closed split c.requires.once
+      c.in_ok-numbers.ensures.count numbered c.in_ok-goals.ensures.count counted c.in_ok-goals.ensures.going
+      (subst (λ x. HaveGone x p2 nodes numbers goals (length nodes)) c.in_ok-goals.ensures.stay c.in_ok-next.ensures.gone)
+      (next_set s nodes numbers goals (length nodes) c.in_ok-next.next.items c.sort_once.new.numbers.items (record { rising = c.sort_once.ensures.rising; same = c.sort_once.ensures.same })
+      c.in_ok-next.ensures.next)
+      c.in_ok-goals.ensures.from c.in_ok-goals.ensures.made.once
+      (λ k h. let o = owns p (has_edge (graph_after c.args.after.now)) keys nodes numbers numbered k h in (o.0, o.1));
+  once = set_distinct c.in_ok-next.next.items c.sort_once.new.numbers.items (record { rising = c.sort_once.ensures.rising; same = c.sort_once.ensures.same });
+  named = λ names named.
+      let s = shape_of (graph_after c.args.after.now) in
+      let nodes = c.args.nodes.now in
+      let p = shown_blocks c.args.base.now c.args.draft.now in
+      let p2 = shown_blocks c.args.base.now c.move_nodes.new.draft in
+      let numbers = c.in_ok-numbers.numbers.items in
+      let goals = c.in_ok-goals.goals.items in
+      let gone = subst (λ x. HaveGone x p2 nodes numbers goals (length nodes)) c.in_ok-goals.ensures.stay c.in_ok-next.ensures.gone in
+      let labels : shown_labels c.args.base.now c.move_nodes.new.draft ≡ shown_labels c.args.base.now c.find_goals.new.draft = ap (with_added c.args.base.now.blocks.labels) c.in_ok-next.ensures.added in
+      subst (λ (ls : List (Option ℕ)). AreNamed p2 (at ls) names) (sym labels)
+      (named_step s p p2 c.number_nodes.new.keys nodes numbers goals (at (shown_labels c.args.base.now c.args.draft.now)) (at (shown_labels c.args.base.now c.find_goals.new.draft)) names
+      c.in_ok-numbers.ensures.count c.requires.once c.in_ok-numbers.ensures.numbered gone c.in_ok-goals.ensures.labels c.in_ok-goals.ensures.kept named);
+  blocks = search rules;
+  supports = c.in_ok-next.ensures.supports;
+  least = c.in_ok-goals.ensures.from.least;
+  more =
+      let s = shape_of (graph_after c.args.after.now) in
+      let nodes = c.args.nodes.now in
+      more_or_none s nodes c.in_ok-numbers.numbers.items c.in_ok-goals.goals.items (length nodes) c.sort_once.new.numbers.items c.args.made.now.items c.find_goals.new.made.items
+      (next_set s nodes c.in_ok-numbers.numbers.items c.in_ok-goals.goals.items (length nodes) c.in_ok-next.next.items c.sort_once.new.numbers.items
+      (record { rising = c.sort_once.ensures.rising; same = c.sort_once.ensures.same }) c.in_ok-next.ensures.next)
+      c.in_ok-goals.ensures.from;
+}

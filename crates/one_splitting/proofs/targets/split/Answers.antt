@@ -53,16 +53,20 @@ rounds-init g c =
           cost_charged (weight s inside) (length c.part_all.new.made.items) (c.part_all.new.steps - c.args.steps.now) c.in_ok-next.next.items (omega (arith, spent));
     }
 
-pub round-requires-clause-shape : goal.round-requires-clause-shape
-round-requires-clause-shape g c = is_shape (graph_after c.args.after.now) c.created.ensures.after
-
-pub round-requires-clause-nodes : goal.round-requires-clause-nodes
-round-requires-clause-nodes g c = λ n h.
+pub round-requires : goal.round-requires
+round-requires g c =
     let next_is : c.deref-in-rounds-2.result.now ≡ c.rounds.next.items = c.deref-in-rounds-2.ensures.value in
-    (c.rounds.invariant.split (λ m. true) (closed_all (shape_of (graph_after c.args.after.now))) (λ n h. refl)).next_nodes n (sym (ap (λ xs. has xs n) next_is) ∙ h)
-
-pub round-requires-clause-partition : goal.round-requires-clause-partition
-round-requires-clause-partition g c = (c.rounds.invariant.split (λ m. true) (closed_all (shape_of (graph_after c.args.after.now))) (λ n h. refl)).stable.partition
+    let every = c.rounds.invariant.split (λ m. true) (closed_all (shape_of (graph_after c.args.after.now))) (λ n h. refl) in
+    record {
+      over = c.rounds.invariant.over;
+      live = search rules;
+      there = λ n h. every.next_nodes n (sym (ap (λ xs. has xs n) next_is) ∙ h);
+      shape = is_shape (graph_after c.args.after.now) c.created.ensures.after;
+      partition = every.stable.partition;
+      once = subst (IsDistinct nat_eq) (sym next_is) c.rounds.invariant.once;
+      blocks = c.rounds.invariant.made;
+      supports = c.rounds.invariant.supports;
+    }
 
 pub returns-in_err-next-2-clause-cost : goal.returns-in_err-next-2-clause-cost
 returns-in_err-next-2-clause-cost g c = λ inside closed within.
@@ -102,18 +106,18 @@ rounds-preserved g c =
     let cost = c.round.ensures.cost in
     let alike = ap (sum_by (round_cost a)) next_is in
     record {
-      over = c.in_ok-next-2.ensures.over;
+      over = c.in_ok-next-2.ensures.round.over;
       split = λ inside closed within.
-          c.in_ok-next-2.ensures.split inside first closed (subst (λ xs. IsSplitInside s inside first p xs made) (sym next_is) (inv.split inside closed within));
-      once = c.in_ok-next-2.ensures.once;
-      named = c.in_ok-next-2.ensures.named (label_number (graph_after c.args.after.now)) inv.named;
-      supports = c.in_ok-next-2.ensures.supports;
-      made = c.in_ok-next-2.ensures.made;
+          c.in_ok-next-2.ensures.round.split inside first closed (subst (λ xs. IsSplitInside s inside first p xs made) (sym next_is) (inv.split inside closed within));
+      once = c.in_ok-next-2.ensures.round.once;
+      named = c.in_ok-next-2.ensures.round.named (label_number (graph_after c.args.after.now)) inv.named;
+      supports = c.in_ok-next-2.ensures.round.supports;
+      made = c.in_ok-next-2.ensures.round.blocks;
       cost = λ inside closed within.
           let split : IsSplitInside s inside first p next made = inv.split inside closed within in
           cost_more (weight s inside) (length made) (length c.round.new.made.items) (c.rounds.steps - c.args.steps.now) (c.round.new.steps - c.args.steps.now) (sum_by (round_cost a) next)
           next c.in_ok-next-2.next.items (inv.cost inside closed within) some (next_heavy s inside first p next made shape split some)
-          (round_within a inside first p next made shape inv.once split) (omega (arith, cost, alike)) c.in_ok-next-2.ensures.least c.in_ok-next-2.ensures.more;
+          (round_within a inside first p next made shape inv.once split) (omega (arith, cost, alike)) c.in_ok-next-2.ensures.round.least c.in_ok-next-2.ensures.round.more;
     }
 
 pub rounds-smaller : goal.rounds-smaller
@@ -127,14 +131,14 @@ rounds-smaller g c =
     let test : c.is_done.result ≡ false = search rules in
     let some = not_done c.is_done.result c.deref-in-rounds.result.now c.rounds.next.items c.is_done.ensures test c.deref-in-rounds.ensures.value in
     let every : ℕ → Bool = λ m. true in
-    let split = c.in_ok-next-2.ensures.split every first (closed_all s)
+    let split = c.in_ok-next-2.ensures.round.split every first (closed_all s)
     (subst (λ xs. IsSplitInside s every first p xs c.rounds.made.items) (sym next_is) (inv.split every (closed_all s) (λ n h. refl))) in
     let few = made_few s every first (shown_blocks c.args.base.now c.round.new.draft) c.in_ok-next-2.next.items c.round.new.made.items shape split in
     let nodes = few_nodes s every in
     let more : (length c.rounds.made.items < length c.round.new.made.items) ⊎ (length c.in_ok-next-2.next.items ≡ 0) =
-    elim c.in_ok-next-2.ensures.more [ inl grew ↦ inl grew | inr none ↦ inr (ap length none) ] in
+    elim c.in_ok-next-2.ensures.round.more [ inl grew ↦ inl grew | inr none ↦ inr (ap length none) ] in
     left_falls (length (graph_after c.args.after.now).given) (length c.rounds.made.items) (length c.round.new.made.items) (length c.rounds.next.items) (length c.in_ok-next-2.next.items)
-    (omega (arith, few, nodes)) c.in_ok-next-2.ensures.least some more
+    (omega (arith, few, nodes)) c.in_ok-next-2.ensures.round.least some more
 
 pub returns-clause-cost : goal.returns-clause-cost
 returns-clause-cost g c = λ inside closed within.
