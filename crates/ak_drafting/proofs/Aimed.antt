@@ -14,7 +14,7 @@ use Rattle.graph_update.specs.PendingChanges.{Pending, graph_after}
 use Rattle.keyed_quotient.specs.Levels.{KeyedQuotient}
 use Rattle.keyed_quotient.specs.Changes.{KeyedChanges}
 use Rattle.ak_family.specs.Families.{IsKeyedFamily}
-use Rattle.ak_moving.specs.MovedLevels.{IsMoving, AreKeyedNear}
+use Rattle.ak_moving.specs.MovedLevels.{HasMovedNear, AreKeyedNear}
 use Rattle.ak_drafting.specs.FamilyDrafts.{FamilyFits, most_steps}
 use Rattle.ak_drafting.specs.Stages.{AreMoved}
 use Rattle.ak_drafting.proofs.Bases.{bases}
@@ -33,10 +33,10 @@ link_aimed a u v is = record { same = subst (λ (c : Change). has (v ∷ []) ≡
 pub unlink_aimed : (a : Pending) (u v : ℕ) → a.change ≡ unlink u v → IsAimedAt a v
 unlink_aimed a u v is = record { same = subst (λ (c : Change). has (v ∷ []) ≡ target c a.before) (sym is) (has_one v) }
 
-pub aimed_moved : (a : Pending) (f : List KeyedQuotient) (d : List KeyedChanges) (v : ℕ) → IsAimedAt a v → IsMoving (has (v ∷ [])) (graph_after a) f d
+pub aimed_moved : (a : Pending) (f : List KeyedQuotient) (d : List KeyedChanges) (v : ℕ) → IsAimedAt a v → HasMovedNear (has (v ∷ [])) (graph_after a) f d
     → AreKeyedNear (has (v ∷ [])) (graph_after a) f d → AreMoved a f d
 aimed_moved a f d v aimed moving keyed = record {
-  moving = subst (λ (t : ℕ → Bool). IsMoving t (graph_after a) f d) aimed.same moving;
+  moving = subst (λ (t : ℕ → Bool). HasMovedNear t (graph_after a) f d) aimed.same moving;
   keyed = subst (λ (t : ℕ → Bool). AreKeyedNear t (graph_after a) f d) aimed.same keyed;
 }
 

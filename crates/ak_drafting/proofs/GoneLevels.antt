@@ -22,7 +22,7 @@ use Rattle.level_spec.specs.Keyed.{IsLevelOf, SameFar}
 use Rattle.level_spec.proofs.Lone.{IsPut, put_same, put_other, IsLone, counts_lone, near_lone}
 use Rattle.ak_family.specs.Families.{level_at, blocks_at}
 use Rattle.ak_family.specs.LevelDrafts.{changes_at, blocks_shown, AreOver}
-use Rattle.ak_moving.specs.MovedLevels.{IsMoving, AreKeyedNear}
+use Rattle.ak_moving.specs.MovedLevels.{HasMovedNear, AreKeyedNear}
 use Rattle.ak_drafting.specs.Stages.{IsBefore, AreMoved, IsGone}
 use Rattle.ak_drafting.proofs.Bases.{AreBases, bases}
 use Rattle.ak_drafting.proofs.Unchanged.{lowest_kept, up_kept, keys_kept}
@@ -83,7 +83,7 @@ gone_level g u q d unused base w = record {
     member m x e s = (let both : None ≡ Some x = sym here ∙ ap (at (blocks_as_shown q d)) (sym s) ∙ e in cc)
 
 gone_moving : (g : Graph) (u : ℕ) (f : List KeyedQuotient) (d : List KeyedChanges) → is_used g u ≡ false → AreBases g f → 0 < length f → AreOver f d
-    → ((i : ℕ) → i < length f → IsGone u (level_at f i) (changes_at d i)) → IsMoving (λ x. nat_eq x u) (without_node g u) f d
+    → ((i : ℕ) → i < length f → IsGone u (level_at f i) (changes_at d i)) → HasMovedNear (λ x. nat_eq x u) (without_node g u) f d
 gone_moving g u f d unused base some over w = record {
   over = over;
   levels = λ i h. gone_level g u (level_at f i) (changes_at d i) unused (base.levels i h) (w i h);
@@ -112,7 +112,7 @@ pub drop_moved : (a : Pending) (f : List KeyedQuotient) (d : List KeyedChanges) 
 drop_moved a f d u before is over w =
     let unused = (drop_new a f u before is).unused in
     record {
-      moving = subst (λ (c : Change). IsMoving (target c a.before) (after c a.before) f d) (sym is)
+      moving = subst (λ (c : Change). HasMovedNear (target c a.before) (after c a.before) f d) (sym is)
           (gone_moving a.before u f d unused (bases a.before f before.graph before.fits before.family) before.some over w);
       keyed = subst (λ (c : Change). AreKeyedNear (target c a.before) (after c a.before) f d) (sym is) (gone_near a.before u f d unused w);
     }

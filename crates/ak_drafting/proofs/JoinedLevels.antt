@@ -21,7 +21,7 @@ use Rattle.level_spec.specs.Keyed.{IsLevelOf, IsKeyed, AreLabelled, LabelsGoUp, 
 use Rattle.level_spec.proofs.Lone.{IsPut, put_same, put_other, IsLone, counts_lone, near_lone}
 use Rattle.ak_family.specs.Families.{level_at, blocks_at, IsKeyedFamily}
 use Rattle.ak_family.specs.LevelDrafts.{changes_at, blocks_shown, labels_shown, key_shown, AreOver, AreSameBut}
-use Rattle.ak_moving.specs.MovedLevels.{IsMoving, AreKeyedNear}
+use Rattle.ak_moving.specs.MovedLevels.{HasMovedNear, AreKeyedNear}
 use Rattle.ak_drafting.specs.Stages.{IsBefore, AreMoved, IsJoined, IsNodeChange, own_number}
 use Rattle.ak_drafting.proofs.Bases.{next_is, number_of, AreBases, bases}
 use Rattle.ak_drafting.proofs.GoneLevels.{far_put}
@@ -154,7 +154,7 @@ above : (n label : ℕ) (f : List KeyedQuotient) (d : List KeyedChanges) → Are
 above n label f d w i h = subst (λ j. IsJoined n label (own_number f d label n j) (level_at f (i + 1)) (changes_at d (i + 1))) (next_is i) (w.each (i + 1) h)
 
 joined_moving : (g : Graph) (t : List ℕ) (n label : ℕ) (f : List KeyedQuotient) (d : List KeyedChanges) → IsNext g t n label → AreBases g f → 0 < length f → AreOver f d
-    → AreJoined n label f d → IsMoving (λ x. nat_eq x n) (with_node g t) f d
+    → AreJoined n label f d → HasMovedNear (λ x. nat_eq x n) (with_node g t) f d
 joined_moving g t n label f d is base some over w = record {
   over = over;
   levels = λ i h. joined_level g t n label (own_number f d label n i) (level_at f i) (changes_at d i) is (base.levels i h) (w.each i h);
@@ -225,8 +225,8 @@ node_moved a f d n label before kind next number over w =
     let is = next_of a f n label before kind next number in
     let g2 = with_node a.before kind.label in
     record {
-      moving = subst (λ (c : Change). IsMoving (target c a.before) (after c a.before) f d) (sym kind.is)
-          (subst (λ (m : ℕ). IsMoving (λ x. nat_eq x m) g2 f d) next
+      moving = subst (λ (c : Change). HasMovedNear (target c a.before) (after c a.before) f d) (sym kind.is)
+          (subst (λ (m : ℕ). HasMovedNear (λ x. nat_eq x m) g2 f d) next
           (joined_moving a.before kind.label n label f d is (bases a.before f before.graph before.fits before.family) before.some over w));
       keyed = subst (λ (c : Change). AreKeyedNear (target c a.before) (after c a.before) f d) (sym kind.is)
           (subst (λ (m : ℕ). AreKeyedNear (λ x. nat_eq x m) g2 f d) next (joined_near a.before kind.label n label f d is w));

@@ -17,7 +17,7 @@ use Rattle.level_spec.specs.Keyed.{IsLevelOf}
 use Rattle.level_spec.proofs.Linked.{counts_linked, counts_unlinked, count_few, count_some}
 use Rattle.ak_family.specs.Families.{level_at, blocks_at}
 use Rattle.ak_family.specs.LevelDrafts.{changes_at, support_shown, AreOver}
-use Rattle.ak_moving.specs.MovedLevels.{IsMoving}
+use Rattle.ak_moving.specs.MovedLevels.{HasMovedNear}
 use Rattle.ak_drafting.specs.Stages.{IsBefore, HasSameKeys, IsLinked, IsUnlinked}
 use Rattle.ak_drafting.proofs.Bases.{AreBases, bases}
 use Rattle.ak_drafting.proofs.Unchanged.{lowest_kept, up_kept, keys_kept, none_blocks, none_labels, none_support, none_key}
@@ -49,7 +49,7 @@ kept_level g g2 q d same base w =
     }
 
 kept_moving : (target : ℕ → Bool) (g g2 : Graph) (f : List KeyedQuotient) (d : List KeyedChanges) → HaveSameLabels g g2 → AreBases g f → 0 < length f → AreOver f d
-    → ((i : ℕ) → i < length f → IsKept g2 (level_at f i) (changes_at d i)) → IsMoving target g2 f d
+    → ((i : ℕ) → i < length f → IsKept g2 (level_at f i) (changes_at d i)) → HasMovedNear target g2 f d
 kept_moving target g g2 f d same base some over w = record {
   over = over;
   levels = λ i h. kept_level g g2 (level_at f i) (changes_at d i) same (base.levels i h) (w i h);
@@ -60,7 +60,7 @@ kept_moving target g g2 f d same base some over w = record {
 }
 
 linked_moving : (g : Graph) (u v : ℕ) (f : List KeyedQuotient) (d : List KeyedChanges) → has_edge g u v ≡ false → AreBases g f → 0 < length f → AreOver f d
-    → ((i : ℕ) → i < length f → IsLinked u v (level_at f i) (changes_at d i)) → IsMoving (has (v ∷ [])) (with_edge g u v) f d
+    → ((i : ℕ) → i < length f → IsLinked u v (level_at f i) (changes_at d i)) → HasMovedNear (has (v ∷ [])) (with_edge g u v) f d
 linked_moving g u v f d absent base some over w = kept_moving (has (v ∷ [])) g (with_edge g u v) f d (record { label = λ n. refl; number = λ n. refl }) base some over (λ i h.
     let l = w i h in
     record {
@@ -71,7 +71,7 @@ linked_moving g u v f d absent base some over w = kept_moving (has (v ∷ [])) g
     })
 
 unlinked_moving : (g : Graph) (u v : ℕ) (f : List KeyedQuotient) (d : List KeyedChanges) → has_edge g u v ≡ true → AreBases g f → 0 < length f → AreOver f d
-    → ((i : ℕ) → i < length f → IsUnlinked u v (level_at f i) (changes_at d i)) → IsMoving (has (v ∷ [])) (without_edge g u v) f d
+    → ((i : ℕ) → i < length f → IsUnlinked u v (level_at f i) (changes_at d i)) → HasMovedNear (has (v ∷ [])) (without_edge g u v) f d
 unlinked_moving g u v f d present base some over w = kept_moving (has (v ∷ [])) g (without_edge g u v) f d (record { label = λ n. refl; number = λ n. refl }) base some over (λ i h.
     let l = w i h in
     record {
@@ -109,15 +109,15 @@ pub unlink_given : (a : Pending) (f : List KeyedQuotient) (u v : ℕ) → IsBefo
 unlink_given a f u v before is = subst (λ (c : Change). v < length (after c a.before).given) (sym is) ((is_shape a.before before.graph).below v (new_unlink a f u v before is).onto)
 
 pub link_moving : (a : Pending) (f : List KeyedQuotient) (d : List KeyedChanges) (u v : ℕ) → IsBefore a f → a.change ≡ link u v → AreOver f d
-    → ((i : ℕ) → i < length f → IsLinked u v (level_at f i) (changes_at d i)) → IsMoving (has (v ∷ [])) (graph_after a) f d
+    → ((i : ℕ) → i < length f → IsLinked u v (level_at f i) (changes_at d i)) → HasMovedNear (has (v ∷ [])) (graph_after a) f d
 link_moving a f d u v before is over w =
-    subst (λ (c : Change). IsMoving (has (v ∷ [])) (after c a.before) f d) (sym is)
+    subst (λ (c : Change). HasMovedNear (has (v ∷ [])) (after c a.before) f d) (sym is)
     (linked_moving a.before u v f d (new_link a f u v before is).absent (bases_before a f before) before.some over w)
 
 pub unlink_moving : (a : Pending) (f : List KeyedQuotient) (d : List KeyedChanges) (u v : ℕ) → IsBefore a f → a.change ≡ unlink u v → AreOver f d
-    → ((i : ℕ) → i < length f → IsUnlinked u v (level_at f i) (changes_at d i)) → IsMoving (has (v ∷ [])) (graph_after a) f d
+    → ((i : ℕ) → i < length f → IsUnlinked u v (level_at f i) (changes_at d i)) → HasMovedNear (has (v ∷ [])) (graph_after a) f d
 unlink_moving a f d u v before is over w =
-    subst (λ (c : Change). IsMoving (has (v ∷ [])) (after c a.before) f d) (sym is)
+    subst (λ (c : Change). HasMovedNear (has (v ∷ [])) (after c a.before) f d) (sym is)
     (unlinked_moving a.before u v f d (new_unlink a f u v before is).present (bases_before a f before) before.some over w)
 
 -- ---- one level

@@ -21,7 +21,7 @@ use Rattle.level_spec.proofs.Lowest.{lowest_agrees}
 use Rattle.level_spec.proofs.Upheld.{around_each, around_every, none_from, none_onto}
 use Rattle.ak_family.specs.Families.{level_at, blocks_at, AreKeyedBySupports}
 use Rattle.ak_family.specs.LevelDrafts.{changes_at, blocks_shown, labels_shown, support_shown, key_shown, ShowsFamily}
-use Rattle.ak_moving.specs.MovedLevels.{IsMoving, AreKeyedNear}
+use Rattle.ak_moving.specs.MovedLevels.{HasMovedNear, AreKeyedNear}
 use Rattle.ak_drafting.specs.FamilyDrafts.{ShownFit}
 use Rattle.ak_drafting.proofs.Bases.{next_is, AreBases}
 
@@ -30,7 +30,7 @@ pub record HaveMoved (target : ℕ → Bool) (g g2 : Graph) (f : List KeyedQuoti
   pub graph : IsGraph g2
   pub differs : DiffersAt target (shape_of g) (shape_of g2)
   pub bases : AreBases g f
-  pub moving : IsMoving target g2 f d
+  pub moving : HasMovedNear target g2 f d
   pub near_keyed : AreKeyedNear target g2 f d
   pub some : 0 < length f
 

@@ -13,7 +13,7 @@ use Rattle.keyed_quotient.specs.Levels.{KeyedQuotient, key_at}
 use Rattle.keyed_quotient.specs.Changes.{KeyedChanges, blocks_as_shown, labels_as_shown, support_as_shown, shown_key}
 use Rattle.ak_family.specs.Families.{IsKeyedFamily}
 use Rattle.ak_family.specs.LevelDrafts.{blocks_shown, HasBlock}
-use Rattle.ak_moving.specs.MovedLevels.{IsMoving, AreKeyedNear}
+use Rattle.ak_moving.specs.MovedLevels.{HasMovedNear, AreKeyedNear}
 use Rattle.ak_drafting.specs.FamilyDrafts.{FamilyFits}
 
 -- the family is that of the graph before the change, and the change is new
@@ -28,7 +28,7 @@ pub record IsBefore (a : Pending) (f : List KeyedQuotient) : Type 0 where
 
 -- each level shows the graph after the change, and nodes near the target are in the blocks of their keys
 pub record AreMoved (a : Pending) (f : List KeyedQuotient) (d : List KeyedChanges) : Type 0 where
-  pub moving : IsMoving (target a.change a.before) (graph_after a) f d
+  pub moving : HasMovedNear (target a.change a.before) (graph_after a) f d
   pub keyed : AreKeyedNear (target a.change a.before) (graph_after a) f d
 
 -- blocks keep their labels and their keys

@@ -7,7 +7,7 @@ ghost use Rattle.graph_update.specs.PendingChanges.{graph_after};
 ghost use Rattle.keyed_quotient.specs.Changes.{no_keyed_changes};
 ghost use Rattle.ak_family.specs.Families.{level_at, blocks_at};
 ghost use Rattle.ak_family.specs.LevelDrafts.{changes_at, blocks_shown, labels_shown, AreOver, AreSameBut, AreEmpty};
-ghost use Rattle.ak_moving.specs.MovedLevels.{IsMoving};
+ghost use Rattle.ak_moving.specs.MovedLevels.{HasMovedNear};
 ghost use Rattle.ak_drafting.specs.Stages.{IsBefore, IsLinked, IsUnlinked};
 
 use ak_family::{AkDraft, AkFamily};
@@ -86,7 +86,7 @@ pub(crate) fn draft_link(
     requires empty { AreEmpty draft.old }
     requires links { after.now.change ≡ link u v }
     ensures given { v < length (graph_after after.now).given }
-    ensures moving { OnOk result (IsMoving (has (v ∷ [])) (graph_after after.now) family.now draft.new) }
+    ensures moving { OnOk result (HasMovedNear (has (v ∷ [])) (graph_after after.now) family.now draft.new) }
 {
     'links: for i in 0..family.k() + 1 {
         link_level(family, draft, i, u, v)?;
@@ -107,7 +107,7 @@ pub(crate) fn draft_unlink(
     requires empty { AreEmpty draft.old }
     requires unlinks { after.now.change ≡ unlink u v }
     ensures given { v < length (graph_after after.now).given }
-    ensures moving { OnOk result (IsMoving (has (v ∷ [])) (graph_after after.now) family.now draft.new) }
+    ensures moving { OnOk result (HasMovedNear (has (v ∷ [])) (graph_after after.now) family.now draft.new) }
 {
     'unlinks: for i in 0..family.k() + 1 {
         unlink_level(family, draft, i, u, v)?;

@@ -11,11 +11,11 @@ use Rattle.keyed_quotient.specs.Changes.{KeyedChanges, blocks_as_shown, labels_a
 use Rattle.ak_family.specs.Families.{level_at, blocks_at}
 use Rattle.ak_family.specs.LevelDrafts.{blocks_shown, labels_shown, support_shown, key_shown}
 use Rattle.level_spec.specs.Keyed.{IsKeyed, KeysStay, SameFar, AreLabelled, IsLevelOf, LabelsGoUp, first_number}
-use Rattle.ak_moving.specs.MovedLevels.{IsMoving, AreKeyedNear}
+use Rattle.ak_moving.specs.MovedLevels.{HasMovedNear, AreKeyedNear}
 use Rattle.ak_moving.specs.Placed.{AreTwoLevels, ArePlaced}
 
 -- a level and the one above it
-pub two_levels : (target : ℕ → Bool) (g : Graph) (f : List KeyedQuotient) (d : List KeyedChanges) (i : ℕ) → IsMoving target g f d → i + 1 < length f → AreTwoLevels g f d i
+pub two_levels : (target : ℕ → Bool) (g : Graph) (f : List KeyedQuotient) (d : List KeyedChanges) (i : ℕ) → HasMovedNear target g f d → i + 1 < length f → AreTwoLevels g f d i
 two_levels target g f d i m h = record {
   over = m.over;
   within = h;
@@ -25,8 +25,8 @@ two_levels target g f d i m h = record {
 }
 
 -- Once the nodes that are near by one edge more are placed, all holds still.
-pub moving_placed : (target : ℕ → Bool) (g : Graph) (f : List KeyedQuotient) (d d2 : List KeyedChanges) (i : ℕ) (nodes : List ℕ) → IsMoving target g f d
-    → ArePlaced g f d d2 i nodes → Lists (near (shape_of g) target (i + 1)) nodes → IsMoving target g f d2
+pub moving_placed : (target : ℕ → Bool) (g : Graph) (f : List KeyedQuotient) (d d2 : List KeyedChanges) (i : ℕ) (nodes : List ℕ) → HasMovedNear target g f d
+    → ArePlaced g f d d2 i nodes → Lists (near (shape_of g) target (i + 1)) nodes → HasMovedNear target g f d2
 moving_placed target g f d d2 i nodes m p l = record {
   over = p.levels.over;
   levels = λ j h. elim (eqb_tells j (i + 1)) [

@@ -11,7 +11,7 @@ use Rattle.level_spec.specs.Keyed.{IsKeyed, KeysStay, SameFar, AreLabelled, IsLe
 
 -- The draft shows the graph after the change at each level: a partition with the labels of members and the numbers of edges. The keys of blocks
 -- begin as they must, blocks of the base keep theirs, and at level i only nodes within i edges of the targets have moved.
-pub record IsMoving (target : ℕ → Bool) (g : Graph) (f : List KeyedQuotient) (d : List KeyedChanges) : Type 0 where
+pub record HasMovedNear (target : ℕ → Bool) (g : Graph) (f : List KeyedQuotient) (d : List KeyedChanges) : Type 0 where
   pub over : AreOver f d
   pub levels : (i : ℕ) → i < length f → IsLevelOf g (blocks_shown f d i) (labels_shown f d i) (support_shown f d i)
   pub lowest : AreLabelled (labels_shown f d 0) (key_shown f d 0)

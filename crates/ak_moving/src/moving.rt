@@ -6,7 +6,7 @@ ghost use Rattle.bisim_spec.specs.Reach.{near};
 ghost use Rattle.bisim_spec.specs.Weights.{weight};
 ghost use Rattle.graph_update.specs.PendingChanges.{graph_after};
 ghost use Rattle.ak_family.specs.LevelDrafts.{blocks_shown};
-ghost use Rattle.ak_moving.specs.MovedLevels.{IsMoving, AreKeyedNear};
+ghost use Rattle.ak_moving.specs.MovedLevels.{HasMovedNear, AreKeyedNear};
 
 use crate::buffers::Buffers;
 use crate::level::place_all;
@@ -33,8 +33,8 @@ pub fn move_near<L: Ledger>(
     steps: &mut Steps<L>,
 ) -> Result<(), Memory>
     requires given { target < length (graph_after after.now).given }
-    requires moving { IsMoving (has (target ∷ [])) (graph_after after.now) family.now draft.old }
-    ensures moving { OnOk result (IsMoving (has (target ∷ [])) (graph_after after.now) family.now draft.new) }
+    requires moving { HasMovedNear (has (target ∷ [])) (graph_after after.now) family.now draft.old }
+    ensures moving { OnOk result (HasMovedNear (has (target ∷ [])) (graph_after after.now) family.now draft.new) }
     ensures keyed { OnOk result (AreKeyedNear (has (target ∷ [])) (graph_after after.now) family.now draft.new) }
     ensures lowest { OnOk result (blocks_shown family.now draft.new 0 ≡ blocks_shown family.now draft.old 0) }
     ensures cost { (k : ℕ) → length family.now ≡ k + 1 → steps.new ≤ steps.old + 8 * k * weight (shape_of (graph_after after.now)) (near (shape_of (graph_after after.now)) (has (target ∷ [])) k) }

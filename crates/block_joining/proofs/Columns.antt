@@ -8,7 +8,7 @@ use Rattle.std.proofs.lemmas.List.Folds.{list_any-append}
 use Rattle.px_spec.specs.Members.{has, Lists}
 use Rattle.block_joining.specs.Merged.{with_column, with_row}
 
-abbrev flipped : (ℕ → ℕ → ℕ) → ℕ → ℕ → ℕ
+abbrev pub flipped : (ℕ → ℕ → ℕ) → ℕ → ℕ → ℕ
 flipped s x y = s y x
 
 -- a row is a column of the supports the other way round

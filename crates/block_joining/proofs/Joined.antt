@@ -21,10 +21,7 @@ use Rattle.upkeep_spec.proofs.MergedPairs.{merged_stable, unmerged}
 use Rattle.upkeep_spec.proofs.SetLists.{between_onto, between_from, between_within, between_gone_from, between_gone_onto, between_other, between_most}
 use Rattle.block_joining.specs.Mates.{renamed, AreMates}
 use Rattle.block_joining.specs.Merged.{with_column, with_row, merged_support, HasGraph}
-use Rattle.block_joining.proofs.Columns.{Which, goes, stays, else_, which, column_gone, column_here, column_there}
-
-abbrev flipped : (ℕ → ℕ → ℕ) → ℕ → ℕ → ℕ
-flipped s x y = s y x
+use Rattle.block_joining.proofs.Columns.{flipped, Which, goes, stays, else_, which, column_gone, column_here, column_there}
 
 row_gone : (a b : ℕ) (s : ℕ → ℕ → ℕ) (y : ℕ) → with_row a b s b y ≡ 0
 row_gone a b s y = column_gone a b (flipped s) y

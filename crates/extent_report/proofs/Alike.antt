@@ -6,7 +6,7 @@ use Rattle.px_spec.specs.Words.{node_word}
 use Rattle.px_spec.specs.Shapes.{Shape, IsNode}
 use Rattle.bisim_spec.specs.Below.{any_below}
 use Rattle.bisim_spec.proofs.BelowLaws.{count_same}
-use Rattle.extent_report.specs.Listing.{texts_below, is_related, is_first, block_total, block_line, extents_text}
+use Rattle.extent_report.specs.ListedBlocks.{texts_below, is_related, is_first, block_total, block_line, extents_text}
 use Rattle.extent_report.proofs.Texts.{texts_same, texts_sized, count_sized, any_same}
 
 pub record AreAlike (s z : Shape) (r q : ℕ → ℕ → Bool) : Type 0 where

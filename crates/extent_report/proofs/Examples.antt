@@ -6,7 +6,7 @@ use Rattle.px_spec.specs.Shapes.{Shape}
 use Rattle.bisim_spec.specs.Tests.{bis, bisim, fb}
 use Rattle.bisim_spec.proofs.Drawn.{drawn}
 use Rattle.index_api.specs.declared.kinds.Via.TheVariants.{A, One}
-use Rattle.extent_report.specs.Listing.{is_first, block_total, joined_total, extents_text, head_line, size_line}
+use Rattle.extent_report.specs.ListedBlocks.{is_first, block_total, joined_total, extents_text, head_line, size_line}
 
 -- a -> b, and an a by itself
 

@@ -11,7 +11,7 @@ use Rattle.bisim_spec.specs.Below.{any_below}
 use Rattle.bisim_spec.specs.Tests.{together}
 use Rattle.bisim_spec.proofs.BelowLaws.{any_get, any_from}
 use Rattle.bisim_spec.proofs.Together.{block_below}
-use Rattle.extent_report.specs.Listing.{texts_below}
+use Rattle.extent_report.specs.ListedBlocks.{texts_below}
 use Rattle.extent_report.specs.Chains.{leads, word_with}
 use Rattle.extent_report.specs.Leads.{is_head, leads_block}
 use Rattle.extent_report.proofs.Chained.{with_is_of}

@@ -13,7 +13,7 @@ use Rattle.bisim_spec.proofs.Bisimilar.{none_or_some, is_some_at}
 use Rattle.bisim_spec.proofs.Together.{block_below}
 use Rattle.bisim_spec.proofs.StabilityTests.{together_decides}
 use Rattle.quotient.specs.Quotients.{Quotient, view_of}
-use Rattle.extent_report.specs.Listing.{extents_text}
+use Rattle.extent_report.specs.ListedBlocks.{extents_text}
 use Rattle.extent_report.specs.Summaries.{shape_of_blocks, IsSummaryOf}
 use Rattle.extent_report.proofs.Alike.{AreAlike, extents_alike}
 

@@ -12,7 +12,7 @@ use Rattle.bisim_spec.proofs.BelowLaws.{none_get}
 use Rattle.bisim_spec.proofs.Bisimilar.{some_of, is_some_at, none_or_some}
 use Rattle.bisim_spec.proofs.Together.{block_below}
 use Rattle.bisim_spec.proofs.StabilityTests.{together_decides}
-use Rattle.extent_report.specs.Listing.{texts_below}
+use Rattle.extent_report.specs.ListedBlocks.{texts_below}
 use Rattle.extent_report.specs.Summaries.{label_at}
 use Rattle.extent_report.specs.Chains.{IsLeastFrom, leads, word_with}
 use Rattle.extent_report.proofs.Texts.{texts_past, texts_more}

@@ -14,7 +14,7 @@ use Rattle.px_spec.specs.Members.{at}
 use Rattle.bisim_spec.specs.Below.{count_below}
 use Rattle.bisim_spec.specs.Views.{SupportTable, support_at}
 use Rattle.bisim_spec.proofs.BelowLaws.{bit_of, count_same}
-use Rattle.extent_report.specs.Listing.{pairs_below}
+use Rattle.extent_report.specs.ListedBlocks.{pairs_below}
 
 -- a number that passes is counted once
 

@@ -14,7 +14,7 @@ use Rattle.std.proofs.lemmas.Map.Keys.{sorted_from_strictly_increasing}
 use Rattle.px_spec.specs.Members.{has}
 use Rattle.bisim_spec.specs.Below.{count_below}
 use Rattle.bisim_spec.proofs.BelowLaws.{bit_of}
-use Rattle.extent_report.specs.Listing.{texts_below}
+use Rattle.extent_report.specs.ListedBlocks.{texts_below}
 use Rattle.extent_report.proofs.Texts.{texts_past, texts_more, count_past, count_more}
 
 pub or_none : (b : Bool) → (b || false) ≡ b

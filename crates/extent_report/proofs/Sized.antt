@@ -18,7 +18,7 @@ use Rattle.bisim_spec.proofs.Together.{block_below}
 use Rattle.bisim_spec.proofs.Moves.{block_get, block_from}
 use Rattle.bisim_spec.proofs.Supported.{support_joined, joined_support}
 use Rattle.quotient.specs.Quotients.{Quotient, view_of, pair_count}
-use Rattle.extent_report.specs.Listing.{is_related, is_first, are_joined, block_total, joined_total, size_line}
+use Rattle.extent_report.specs.ListedBlocks.{is_related, is_first, are_joined, block_total, joined_total, size_line}
 use Rattle.extent_report.specs.Summaries.{IsSummaryOf}
 use Rattle.extent_report.specs.Chains.{is_of}
 use Rattle.extent_report.proofs.Listed.{given_below}

@@ -8,7 +8,7 @@ use Rattle.block_partition.specs.Partitions.{Partition}
 use Rattle.bisim_spec.specs.Below.{any_below, count_below}
 use Rattle.bisim_spec.specs.Tests.{together}
 use Rattle.bisim_spec.proofs.BelowLaws.{count_same}
-use Rattle.extent_report.specs.Listing.{texts_below, is_related, is_first, block_line, block_total, extents_text}
+use Rattle.extent_report.specs.ListedBlocks.{texts_below, is_related, is_first, block_line, block_total, extents_text}
 use Rattle.extent_report.specs.Summaries.{label_at, shape_of_blocks, LabelsHaveTexts, line_at}
 use Rattle.extent_report.specs.Chains.{leads, word_with}
 use Rattle.extent_report.proofs.Texts.{texts_same, any_same}

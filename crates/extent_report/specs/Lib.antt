@@ -1,4 +1,4 @@
-pub mod Listing
+pub mod ListedBlocks
 pub mod Answers
 pub mod NodeTexts
 pub mod Summaries

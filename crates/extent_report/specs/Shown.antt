@@ -6,7 +6,7 @@ use Rattle.label_graph.specs.Views.{live_count, edge_count}
 use Rattle.index_api.specs.declared.kinds.Via.{Via}
 use Rattle.index_api.specs.Places.{all_indexes}
 use Rattle.index_api.specs.Kept.{KeptIndexes, is_kept, Relates}
-use Rattle.extent_report.specs.Listing.{DecidesEach, extents_text, block_total, joined_total, head_line, size_line}
+use Rattle.extent_report.specs.ListedBlocks.{DecidesEach, extents_text, block_total, joined_total, head_line, size_line}
 
 -- What an index shows: it is kept, and the test decides its relation.
 pub record ShowsIndex (g : Graph) (kept : KeptIndexes) (via : Via) (r : ℕ → ℕ → Bool) : Type 0 where

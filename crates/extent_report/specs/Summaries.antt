@@ -8,7 +8,7 @@ use Rattle.bisim_spec.specs.Partitions.{Agrees}
 use Rattle.bisim_spec.specs.Tests.{together}
 use Rattle.bisim_spec.specs.Views.{ViewFits}
 use Rattle.quotient.specs.Quotients.{Quotient, view_of}
-use Rattle.extent_report.specs.Listing.{is_first, block_line}
+use Rattle.extent_report.specs.ListedBlocks.{is_first, block_line}
 
 -- the number of the label of a node's block
 abbrev pub label_at : Partition → ℕ → Option ℕ

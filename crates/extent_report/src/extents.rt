@@ -5,8 +5,8 @@ ghost use Rattle.px_spec.specs.Shapes.{shape_of};
 ghost use Rattle.px_spec.specs.Members.{at};
 ghost use Rattle.bisim_spec.specs.Tests.{together};
 ghost use Rattle.bisim_spec.specs.Below.{count_below};
-ghost use Rattle.extent_report.specs.Listing as printed;
-ghost use Rattle.extent_report.specs.Listing.{texts_below, block_line};
+ghost use Rattle.extent_report.specs.ListedBlocks as printed;
+ghost use Rattle.extent_report.specs.ListedBlocks.{texts_below, block_line};
 ghost use Rattle.extent_report.specs.Summaries.{shape_of_blocks, LabelsHaveTexts, IsSummaryOf, line_at};
 ghost use Rattle.extent_report.specs.Chains.{leads, word_with};
 

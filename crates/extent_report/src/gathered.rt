@@ -4,7 +4,7 @@ ghost use Rattle.std.specs.List.{flat_map};
 ghost use Rattle.px_spec.specs.Members.{has};
 ghost use Rattle.px_spec.specs.Words.{node_word};
 ghost use Rattle.bisim_spec.specs.Tests.{together};
-ghost use Rattle.extent_report.specs.Listing as printed;
+ghost use Rattle.extent_report.specs.ListedBlocks as printed;
 ghost use Rattle.extent_report.specs.Summaries.{shape_of_blocks, LabelsHaveTexts, line_at};
 ghost use Rattle.extent_report.specs.Chains.{leads};
 

@@ -6,7 +6,7 @@ ghost use Rattle.px_spec.specs.Graphs.{Graph};
 ghost use Rattle.px_spec.specs.Shapes.{shape_of};
 ghost use Rattle.block_partition.specs.Partitions.{block_count};
 ghost use Rattle.quotient.specs.Quotients.{pair_count};
-ghost use Rattle.extent_report.specs.Listing.{head_line, size_line, block_total, joined_total};
+ghost use Rattle.extent_report.specs.ListedBlocks.{head_line, size_line, block_total, joined_total};
 ghost use Rattle.extent_report.specs.Summaries.{IsSummaryOf};
 
 use crate::output::{end_line, push_number};

@@ -5,7 +5,7 @@ use Rattle.std.proofs.lemmas.Bool.{cases_lt, both_ways, or_cases, or_left, or_ri
 use Rattle.std.proofs.lemmas.Bool.Decides.{Decides-eqb}
 use Rattle.std.proofs.lemmas.List.{get_or_push, get_or_append_left, get_or_past, length-append}
 use Rattle.px_spec.specs.Members.{has}
-use Rattle.one_splitting.specs.NodeGoals.{BeginsAt, goal_at, IsCountedWhole, AreGoing, StaysIf, GoesIf, GoalsAreBlocks}
+use Rattle.one_splitting.specs.NodeGoals.{BeginsAt, goal_at, IsCountedWhole, AreGroupGoals, StaysIf, GoesIf, GoalsAreBlocks}
 
 -- the blocks in which groups stay, of those that were looked at
 pub record AreNoted (keys : List (List ℕ)) (goals : List (Option ℕ)) (stays : List ℕ) : Type 0 where
@@ -62,7 +62,7 @@ below_cases goals o k h = elim (cases_lt k (length goals)) [
   | inr past ↦ inr (let l : length (goals ++ o ∷ []) ≡ length goals + 1 = length-append goals (o ∷ []) in omega (arith, h, past, l))
 ]
 
-pub going_none : (p : List (Option ℕ)) (counts : List (ℕ × ℕ)) (keys : List (List ℕ)) (goals : List (Option ℕ)) → goals ≡ [] → AreGoing p counts keys goals
+pub going_none : (p : List (Option ℕ)) (counts : List (ℕ × ℕ)) (keys : List (List ℕ)) (goals : List (Option ℕ)) → goals ≡ [] → AreGroupGoals p counts keys goals
 going_none p counts keys goals e =
     let none : (k b : ℕ) → goal_at goals k ≡ Some b → ⊥ = λ k b h. (let f : goal_at goals k ≡ None = ap (λ gs. goal_at gs k) e in let clash : Some b ≡ None = sym h ∙ f in cc) in
     let zero_len : length goals ≡ 0 = ap length e in
@@ -76,8 +76,8 @@ going_none p counts keys goals e =
 
 -- a group that stays
 pub going_stays : (p : List (Option ℕ)) (counts : List (ℕ × ℕ)) (keys : List (List ℕ)) (goals : List (Option ℕ)) (own : ℕ) (stays stays2 : List ℕ)
-    → AreGoing p counts keys goals → AreNoted keys goals stays → BeginsAt keys (length goals) own → StaysIf p counts own stays stays2 None
-    → AreGoing p counts keys (goals ++ None ∷ [])
+    → AreGroupGoals p counts keys goals → AreNoted keys goals stays → BeginsAt keys (length goals) own → StaysIf p counts own stays stays2 None
+    → AreGroupGoals p counts keys (goals ++ None ∷ [])
 going_stays p counts keys goals own stays stays2 g noted ends (free, added, only) = record {
   whole = λ k o l none e. elim (below_cases goals None k l) [
     | inl before ↦ g.whole k o before (sym (goal_before goals None k before) ∙ none) e
@@ -144,8 +144,8 @@ noted_stays keys goals own stays stays2 noted ends added = record {
 
 -- a group that goes
 pub going_goes : (p : List (Option ℕ)) (counts : List (ℕ × ℕ)) (keys : List (List ℕ)) (goals : List (Option ℕ)) (labels labels2 : ℕ → Option ℕ) (own b : ℕ) (stays stays2 : List ℕ)
-    → AreGoing p counts keys goals → AreNoted keys goals stays → GoalsAreBlocks goals labels → BeginsAt keys (length goals) own
-    → GoesIf p labels labels2 counts own stays stays2 (Some b) → AreGoing p counts keys (goals ++ Some b ∷ [])
+    → AreGroupGoals p counts keys goals → AreNoted keys goals stays → GoalsAreBlocks goals labels → BeginsAt keys (length goals) own
+    → GoesIf p labels labels2 counts own stays stays2 (Some b) → AreGroupGoals p counts keys (goals ++ Some b ∷ [])
 going_goes p counts keys goals labels labels2 own b stays stays2 g noted blocks ends (same_stays, empty, free, some, leaves) = record {
   whole = λ k o l none e. elim (below_cases goals (Some b) k l) [
     | inl before ↦ g.whole k o before (sym (goal_before goals (Some b) k before) ∙ none) e

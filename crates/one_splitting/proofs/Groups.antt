@@ -14,7 +14,7 @@ use Rattle.upkeep_spec.specs.Rounds.{AreGoals}
 use Rattle.one_splitting.specs.Counted.{AreCounted}
 use Rattle.one_splitting.proofs.Wholes.{whole_counted, part_counted}
 use Rattle.one_splitting.specs.Numbered.{HasNumber, HaveNumbers}
-use Rattle.one_splitting.specs.NodeGoals.{BeginsAt, goal_at, AreGoing, HaveGone}
+use Rattle.one_splitting.specs.NodeGoals.{BeginsAt, goal_at, AreGroupGoals, HaveGone}
 use Rattle.one_splitting.proofs.Places.{place_in, place_found, has_place, place_is}
 
 -- the group of a node that is looked at
@@ -69,7 +69,7 @@ module _ (s : Shape) (p : List (Option ℕ)) (keys : List (List ℕ)) (nodes num
       (n, here, group, f.1 ∙ ap (λ x. Some x) same)
 
   pub groups_go : (p2 : List (Option ℕ)) (goals : List (Option ℕ)) (counts : List (ℕ × ℕ)) → IsShape s → IsPartition s p → ((u v : ℕ) → Together p u v → s.label u ≡ s.label v)
-      → length goals ≡ length keys → AreCounted p nodes counts → AreGoing p counts keys goals → HaveGone p p2 nodes numbers goals (length nodes)
+      → length goals ≡ length keys → AreCounted p nodes counts → AreGroupGoals p counts keys goals → HaveGone p p2 nodes numbers goals (length nodes)
       → AreGoals s p p2 (has nodes) (group_of nodes numbers) (goal_of nodes numbers goals)
   groups_go p2 goals counts shape partition labels many counted going gone = record {
     only = λ n b h. (goal_looked nodes numbers goals n b h).0;

@@ -9,7 +9,7 @@ pub mod Ends
 pub mod ListSums
 pub mod Bounds
 pub mod Total
-pub mod Steps
+pub mod NextRound
 pub mod Apart
 pub mod Parted
 pub mod Light

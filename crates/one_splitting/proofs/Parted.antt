@@ -23,7 +23,7 @@ use Rattle.one_splitting.proofs.Named.{some_kept}
 use Rattle.upkeep_spec.specs.Splits.{IsClosed, IsSplitInside}
 use Rattle.one_splitting.proofs.Apart.{IsApart}
 use Rattle.one_splitting.proofs.Chosen.{has_push}
-use Rattle.one_splitting.specs.SplitStates.{either, IsParting, IsFirst}
+use Rattle.one_splitting.specs.SplitStates.{either, IsSplitBut, IsFirst}
 
 both_off : (x y : Bool) → x ≡ false → y ≡ false → (x || y) ≡ false
 both_off x y a b = rw (a, b) refl
@@ -39,7 +39,7 @@ other_than n t ne = elim (eqb_tells n t) [ inl s ↦ absurd (ne s.1) | inr d ↦
 
 -- the target is alone: nothing moves
 pub part_stays : (s : Shape) (inside : ℕ → Bool) (first p : List (Option ℕ)) (next : List ℕ) (rest rest2 : ℕ → Bool) (made : List ℕ) (t : ℕ) → IsShape s
-    → ((n : ℕ) → Together p n t → n ≡ t) → IsFirst rest rest2 t → IsParting s inside first p next rest made → IsParting s inside first p next rest2 made
+    → ((n : ℕ) → Together p n t → n ≡ t) → IsFirst rest rest2 t → IsSplitBut s inside first p next rest made → IsSplitBut s inside first p next rest2 made
 part_stays s inside first p next rest rest2 made t shape alone is_first a = record {
   stable = record {
     partition = a.stable.partition;
@@ -88,7 +88,7 @@ part_stays s inside first p next rest rest2 made t shape alone is_first a = reco
 -- the target moves
 pub part_moves : (s : Shape) (inside : ℕ → Bool) (first p p2 : List (Option ℕ)) (next next2 : List ℕ) (rest rest2 : ℕ → Bool) (made made2 : List ℕ) (t b : ℕ) → IsShape s
     → IsClosed s inside → IsTrue (inside t) → IsNode s t → IsApart p p2 t b → ((m : ℕ) → has next2 m ≡ (has next m || s.edge t m)) → made2 ≡ made ++ b ∷ [] → IsDistinct nat_eq made2
-    → IsFirst rest rest2 t → IsParting s inside first p next rest made → IsParting s inside first p2 next2 rest2 made2
+    → IsFirst rest rest2 t → IsSplitBut s inside first p next rest made → IsSplitBut s inside first p2 next2 rest2 made2
 part_moves s inside first p p2 next next2 rest rest2 made made2 t b shape closed within node apart children added once is_first a = record {
   stable = record {
     partition = partition;
@@ -215,7 +215,7 @@ unfolding IsDistinct
 no_numbers = tt
 
 -- at the start
-pub parting_none : (s : Shape) (inside : ℕ → Bool) (p : List (Option ℕ)) (rest : ℕ → Bool) → StableBut s p rest → IsParting s inside p p [] rest []
+pub parting_none : (s : Shape) (inside : ℕ → Bool) (p : List (Option ℕ)) (rest : ℕ → Bool) → StableBut s p rest → IsSplitBut s inside p p [] rest []
 parting_none s inside p rest st = record {
   stable = record {
     partition = st.partition;
@@ -237,7 +237,7 @@ parting_none s inside p rest st = record {
 
 -- at the end, with what is looked at next in any order
 pub parting_done : (s : Shape) (inside : ℕ → Bool) (first p : List (Option ℕ)) (next next2 : List ℕ) (rest : ℕ → Bool) (made : List ℕ) → ((n : ℕ) → IsFalse (rest n))
-    → ((n : ℕ) → has next2 n ≡ has next n) → IsParting s inside first p next rest made → IsSplitInside s inside first p next2 made
+    → ((n : ℕ) → has next2 n ≡ has next n) → IsSplitBut s inside first p next rest made → IsSplitInside s inside first p next2 made
 parting_done s inside first p next next2 rest made none same a = record {
   stable = record {
     partition = a.stable.partition;
@@ -358,6 +358,6 @@ charged_more w made made2 old now new cost (inr (same, spent)) before after litt
     omega (arith, k, spent, before)
 
 pub parting_first : (s : Shape) (inside : ℕ → Bool) (p : List (Option ℕ)) (next made : List ℕ) (rest : ℕ → Bool) → next ≡ [] → made ≡ [] → StableBut s p rest
-    → IsParting s inside p p next rest made
+    → IsSplitBut s inside p p next rest made
 parting_first s inside p next made rest e f st =
-    subst (λ xs. IsParting s inside p p xs rest made) (sym e) (subst (λ ys. IsParting s inside p p [] rest ys) (sym f) (parting_none s inside p rest st))
+    subst (λ xs. IsSplitBut s inside p p xs rest made) (sym e) (subst (λ ys. IsSplitBut s inside p p [] rest ys) (sym f) (parting_none s inside p rest st))

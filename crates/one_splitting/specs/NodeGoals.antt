@@ -19,7 +19,7 @@ IsCountedWhole p counts own = count_at counts own ≡ count_by (is_this own) p
 
 -- The groups with numbers below the length of the goals: one stays where all members of its block are counted, and no other
 -- group of that block stays; any other goes to a block that had no members, and leaves a group behind, or a node that isn't counted.
-pub record AreGoing (p : List (Option ℕ)) (counts : List (ℕ × ℕ)) (keys : List (List ℕ)) (goals : List (Option ℕ)) : Type 0 where
+pub record AreGroupGoals (p : List (Option ℕ)) (counts : List (ℕ × ℕ)) (keys : List (List ℕ)) (goals : List (Option ℕ)) : Type 0 where
   pub whole : (k own : ℕ) → k < length goals → goal_at goals k ≡ None → BeginsAt keys k own → IsCountedWhole p counts own
   pub one : (j k own : ℕ) → j < length goals → k < length goals → goal_at goals j ≡ None → goal_at goals k ≡ None → BeginsAt keys j own → BeginsAt keys k own → j ≡ k
   pub left : (k own b : ℕ) → goal_at goals k ≡ Some b → BeginsAt keys k own

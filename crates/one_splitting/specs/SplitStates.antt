@@ -13,7 +13,7 @@ either f g n = f n || g n
 
 -- After some targets: the partition is stable but maybe at the targets that are left and the nodes that are looked at next, and for
 -- the rest as for `IsSplitInside`.
-pub record IsParting (s : Shape) (inside : ℕ → Bool) (first p : List (Option ℕ)) (next : List ℕ) (rest : ℕ → Bool) (made : List ℕ) : Type 0 where
+pub record IsSplitBut (s : Shape) (inside : ℕ → Bool) (first p : List (Option ℕ)) (next : List ℕ) (rest : ℕ → Bool) (made : List ℕ) : Type 0 where
   pub stable : StableBut s p (either (has next) rest)
   pub within : IsRefinement first p
   pub same : SameBut first p inside

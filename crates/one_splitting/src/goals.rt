@@ -3,7 +3,7 @@ ghost use Rattle.std.specs.Prelude.{◌≡◌, ◌≢◌, ◌⊎◌, ◌++◌, �
 ghost use Rattle.px_spec.specs.Members.{has, at, is_this};
 ghost use Rattle.quotient_draft.specs.Drafts.{shown_blocks, shown_labels, shown_support};
 ghost use Rattle.quotient_draft.specs.Basis.{IsOver};
-ghost use Rattle.one_splitting.specs.NodeGoals.{AreGoing, BeginsAt, IsCountedWhole, StaysIf, GoesIf, AreBlocks, GoalsAreBlocks, AreAdded, MembersHaveLabels, GoalsHaveLabels, LabelsStay};
+ghost use Rattle.one_splitting.specs.NodeGoals.{AreGroupGoals, BeginsAt, IsCountedWhole, StaysIf, GoesIf, AreBlocks, GoalsAreBlocks, AreAdded, MembersHaveLabels, GoalsHaveLabels, LabelsStay};
 
 use crate::owners::is_whole;
 use indexmap::{IndexMap, IndexSet};
@@ -105,7 +105,7 @@ pub(crate) fn find_goals(
     ensures stay { OnOk result (shown_blocks base.now draft.new ≡ shown_blocks base.now draft.old) }
     ensures supports { OnOk result ((x y : ℕ) → shown_support base.now draft.new x y ≡ shown_support base.now draft.old x y) }
     ensures count { IfOk result (λ goals. length goals.items ≡ length keys.now) }
-    ensures going { IfOk result (λ goals. AreGoing (shown_blocks base.now draft.old) counts.now.entries keys.now goals.items) }
+    ensures going { IfOk result (λ goals. AreGroupGoals (shown_blocks base.now draft.old) counts.now.entries keys.now goals.items) }
     ensures blocks { IfOk result (λ goals. GoalsAreBlocks goals.items (at (shown_labels base.now draft.new))) }
     ensures labels { IfOk result (λ goals. GoalsHaveLabels keys.now goals.items (at (shown_labels base.now draft.old)) (at (shown_labels base.now draft.new))) }
     ensures kept { OnOk result (LabelsStay (at (shown_labels base.now draft.old)) (at (shown_labels base.now draft.new))) }

@@ -16,7 +16,7 @@ ghost use Rattle.quotient_draft.specs.Drafts.{shown_blocks, shown_labels, shown_
 ghost use Rattle.quotient_draft.specs.Basis.{IsOver};
 ghost use Rattle.one_splitting.specs.Costs.{move_cost};
 ghost use Rattle.one_splitting.specs.NodeGoals.{AreBlocks, MembersHaveLabels};
-ghost use Rattle.one_splitting.specs.SplitStates.{IsParting, IsFirst};
+ghost use Rattle.one_splitting.specs.SplitStates.{IsSplitBut, IsFirst};
 
 use crate::company::push_if;
 use crate::goals::draft_block;
@@ -87,7 +87,7 @@ fn part_one<L: Ledger>(
     requires supports { AreEdgeCounts (graph_after after.now) (shown_blocks base.now draft.old) (shown_support base.now draft.old) }
     ensures over { OnOk result (IsOver base.now.blocks.block_of base.now.blocks.labels draft.new) }
     ensures live { OnOk result (MembersHaveLabels (shown_blocks base.now draft.new) (at (shown_labels base.now draft.new))) }
-    ensures parting { OnOk result ((inside : ℕ → Bool) (first : List (Option ℕ)) (rest rest2 : ℕ → Bool) → IsClosed (shape_of (graph_after after.now)) inside → IsTrue (inside target) → IsFirst rest rest2 target → IsParting (shape_of (graph_after after.now)) inside first (shown_blocks base.now draft.old) next.old.list.items rest made.old.items → IsParting (shape_of (graph_after after.now)) inside first (shown_blocks base.now draft.new) next.new.list.items rest2 made.new.items) }
+    ensures parting { OnOk result ((inside : ℕ → Bool) (first : List (Option ℕ)) (rest rest2 : ℕ → Bool) → IsClosed (shape_of (graph_after after.now)) inside → IsTrue (inside target) → IsFirst rest rest2 target → IsSplitBut (shape_of (graph_after after.now)) inside first (shown_blocks base.now draft.old) next.old.list.items rest made.old.items → IsSplitBut (shape_of (graph_after after.now)) inside first (shown_blocks base.now draft.new) next.new.list.items rest2 made.new.items) }
     ensures named { OnOk result ((rest rest2 : ℕ → Bool) → IsFirst rest rest2 target → AreNamedOff rest (shown_blocks base.now draft.old) (at (shown_labels base.now draft.old)) (label_number (graph_after after.now)) → AreNamedOff rest2 (shown_blocks base.now draft.new) (at (shown_labels base.now draft.new)) (label_number (graph_after after.now))) }
     ensures made { OnOk result (AreBlocks (at (shown_labels base.now draft.new)) made.new.items) }
     ensures supports { OnOk result (AreEdgeCounts (graph_after after.now) (shown_blocks base.now draft.new) (shown_support base.now draft.new)) }

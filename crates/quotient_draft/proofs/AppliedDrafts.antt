@@ -15,7 +15,7 @@ use Rattle.quotient_draft.specs.Drafts.{with_added, with_moves, with_supports}
 use Rattle.quotient_draft.specs.Basis.{AreLeastFree}
 use Rattle.quotient_draft.specs.Scans.{from_after}
 use Rattle.quotient_draft.proofs.Scanned.{added_more, from_below}
-use Rattle.quotient_draft.proofs.Puts.{some_put, put_some}
+use Rattle.quotient_draft.proofs.PutLists.{some_put, put_some}
 
 -- one more of a list is taken
 pub take_next : {X : Type 0} (xs : List X) (i : ℕ) (x : X) → slice_get xs i ≡ Some x → take (i + 1) xs ≡ take i xs ++ x ∷ []

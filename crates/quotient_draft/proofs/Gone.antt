@@ -11,7 +11,7 @@ use Rattle.block_partition.specs.Partitions.{without_block}
 use Rattle.quotient_draft.specs.Drafts.{has_member}
 use Rattle.quotient_draft.specs.Retired.{IsRetired}
 use Rattle.quotient_draft.proofs.AppliedDrafts.{take_next}
-use Rattle.quotient_draft.proofs.Puts.{at_with_put}
+use Rattle.quotient_draft.proofs.PutLists.{at_with_put}
 use Rattle.quotient_draft.proofs.Written.{test_is}
 
 -- whether a block has members is told by their number

@@ -1,4 +1,4 @@
-pub mod Puts
+pub mod PutLists
 pub mod Scanned
 mod Spans
 pub mod Written

@@ -10,7 +10,7 @@ use Rattle.block_partition.specs.Partitions.{put, IsLeastFree}
 use Rattle.quotient_draft.specs.Drafts.{with_added}
 use Rattle.quotient_draft.specs.Basis.{AreLeastFree}
 use Rattle.quotient_draft.specs.Scans.{from_after}
-use Rattle.quotient_draft.proofs.Puts.{at_put, some_put, put_some}
+use Rattle.quotient_draft.proofs.PutLists.{at_put, some_put, put_some}
 
 -- blocks stay blocks
 pub added_some : (labels : List (Option ℕ)) (es : List (ℕ × ℕ)) (b : ℕ) → IsSome (at labels b) → IsSome (at (with_added labels es) b)

@@ -15,7 +15,7 @@ use Rattle.quotient.specs.Quotients.{with_put}
 use Rattle.quotient_draft.specs.Drafts.{with_moves}
 use Rattle.quotient_draft.specs.Kept.{into_count, taken_count}
 use Rattle.quotient_draft.specs.PutLogs.{has_put}
-use Rattle.quotient_draft.proofs.Puts.{at_with_put}
+use Rattle.quotient_draft.proofs.PutLists.{at_with_put}
 use Rattle.quotient_draft.proofs.AppliedDrafts.{put_length}
 use Rattle.quotient_draft.proofs.Written.{test_is, absent_key, number_is, number_turned}
 use Rattle.quotient_draft.proofs.Gone.{some_counted, member_at}

@@ -13,7 +13,7 @@ use Rattle.px_spec.specs.Members.{at}
 use Rattle.bisim_spec.specs.Views.{SupportTable, support_at}
 use Rattle.quotient_draft.specs.Drafts.{with_moves, with_supports, is_pair}
 use Rattle.quotient.specs.Quotients.{with_put, with_support}
-use Rattle.quotient_draft.proofs.Puts.{at_with_put}
+use Rattle.quotient_draft.proofs.PutLists.{at_with_put}
 
 pub test_is : (b : Bool) → (b ≡ true) ⊎ (b ≡ false)
 test_is true = inl refl

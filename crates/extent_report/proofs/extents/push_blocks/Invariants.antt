@@ -1,6 +1,6 @@
 use Rattle.std.proofs.Common.{◌≡◌, ◌++◌}
 use Rattle.std.specs.Prelude.{string_bytes}
-use Rattle.extent_report.specs.Listing.{texts_below}
+use Rattle.extent_report.specs.ListedBlocks.{texts_below}
 use Rattle.extent_report.specs.Summaries.{line_at}
 use Rattle.extent_report.proofs.extents.push_blocks.Given as goal
 

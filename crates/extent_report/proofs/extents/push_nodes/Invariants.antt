@@ -1,7 +1,7 @@
 use Rattle.std.proofs.Common.{◌≡◌, ◌+◌, ◌-◌, ◌++◌, true, length}
 use Rattle.std.specs.Prelude.{string_bytes}
 use Rattle.bisim_spec.specs.Tests.{together}
-use Rattle.extent_report.specs.Listing.{texts_below}
+use Rattle.extent_report.specs.ListedBlocks.{texts_below}
 use Rattle.extent_report.specs.Chains.{word_with}
 use Rattle.extent_report.proofs.extents.push_nodes.Given as goal
 

@@ -1,6 +1,6 @@
 use Rattle.std.proofs.Common.{◌∙◌, ap, sym, subst}
 use Rattle.bisim_spec.specs.Tests.{together}
-use Rattle.extent_report.specs.Listing.{extents_text}
+use Rattle.extent_report.specs.ListedBlocks.{extents_text}
 use Rattle.extent_report.specs.Summaries.{shape_of_blocks, LabelsHaveTexts}
 use Rattle.extent_report.proofs.Summed.{gathered}
 use Rattle.extent_report.proofs.extents.text_by_chains.Goals as goal

@@ -1,7 +1,7 @@
 use Rattle.std.proofs.Common.{ℕ, List, Option, sym, subst}
 use Rattle.std.specs.Prelude.{IsSome}
 use Rattle.px_spec.specs.Members.{at}
-use Rattle.quotient_draft.proofs.Puts.{put_some}
+use Rattle.quotient_draft.proofs.PutLists.{put_some}
 use Rattle.one_drafting.proofs.PendingChanges.{node_changed, node_count}
 use Rattle.one_drafting.proofs.nodes.draft_node.Goals as goal
 

@@ -1,7 +1,7 @@
 use Rattle.std.proofs.Common.{◌≡◌, ◌<◌, ◌++◌, ◌∷◌, [], ℕ, Option, length, IsSome, arith, sym, ap, subst, ◌∙◌, length-append}
 use Rattle.px_spec.specs.Members.{at}
 use Rattle.quotient_draft.specs.Drafts.{shown_blocks, shown_labels}
-use Rattle.one_splitting.specs.NodeGoals.{BeginsAt, StaysIf, GoesIf, AreGoing, GoalsAreBlocks, AreAdded, GoalsHaveLabels}
+use Rattle.one_splitting.specs.NodeGoals.{BeginsAt, StaysIf, GoesIf, AreGroupGoals, GoalsAreBlocks, AreAdded, GoalsHaveLabels}
 use Rattle.one_splitting.proofs.Chosen.{AreNoted}
 use Rattle.one_splitting.proofs.ChosenGoals.{IsChosen, choose_step, begins_long, begins_own}
 use Rattle.one_splitting.proofs.Named.{some_kept, labels_more}
@@ -59,7 +59,7 @@ loop-k-preserved c =
       stay = ok.stay ∙ inv.stay;
       supports = λ x y. ok.supports x y ∙ inv.supports x y;
       count = omega (arith, long, longer, count);
-      going = subst (AreGoing p counts keys) (sym added) next.going;
+      going = subst (AreGroupGoals p counts keys) (sym added) next.going;
       noted = subst (λ gs. AreNoted keys gs c.find_goal.new.stays.keys) (sym added) next.noted;
       blocks = subst (λ gs. GoalsAreBlocks gs labels2) (sym added) next.blocks;
       kept = record { kept = λ x d h. ok.kept.kept x d (inv.kept.kept x d h) };

@@ -9,7 +9,7 @@ use Rattle.one_splitting.specs.Counted.{AreCounted}
 use Rattle.one_splitting.specs.NodeGoals.{HaveGone}
 use Rattle.one_splitting.proofs.Ends.{set_distinct, next_set, more_or_none, owns, round_parts}
 use Rattle.one_splitting.proofs.Named.{named_step}
-use Rattle.one_splitting.proofs.Steps.{split_step}
+use Rattle.one_splitting.proofs.NextRound.{split_step}
 use Rattle.one_splitting.proofs.rounds.part_by_keys.Goals as goal
 
 pub returns-in_err-numbers-clause-cost : goal.returns-in_err-numbers-clause-cost

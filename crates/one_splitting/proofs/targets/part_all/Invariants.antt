@@ -12,7 +12,7 @@ use Rattle.quotient_draft.specs.Basis.{IsOver}
 use Rattle.quotient_draft.specs.Drafts.{shown_blocks, shown_labels, shown_support}
 use Rattle.one_splitting.specs.Costs.{move_cost}
 use Rattle.one_splitting.specs.NodeGoals.{AreBlocks, MembersHaveLabels}
-use Rattle.one_splitting.specs.SplitStates.{IsParting}
+use Rattle.one_splitting.specs.SplitStates.{IsSplitBut}
 use Rattle.one_splitting.proofs.targets.part_all.Given as goal
 
 abbrev pub invariant-loop-t : goal.invariant-loop-t
@@ -20,7 +20,7 @@ invariant-loop-t g l = record {
   over : IsOver l.base.blocks.block_of l.base.blocks.labels l.draft;
   live : MembersHaveLabels (shown_blocks l.base l.draft) (at (shown_labels l.base l.draft));
   parting : (inside : ℕ → Bool) → IsClosed (shape_of (graph_after l.after)) inside → ((n : ℕ) → IsTrue (has l.targets n) → IsTrue (inside n))
-      → IsParting (shape_of (graph_after l.after)) inside (shown_blocks l.base l.initial.draft) (shown_blocks l.base l.draft) l.next.list.items (λ n. has (drop l.t-index l.targets) n) l.made.items;
+      → IsSplitBut (shape_of (graph_after l.after)) inside (shown_blocks l.base l.initial.draft) (shown_blocks l.base l.draft) l.next.list.items (λ n. has (drop l.t-index l.targets) n) l.made.items;
   named : AreNamedOff (λ n. has (drop l.t-index l.targets) n) (shown_blocks l.base l.draft) (at (shown_labels l.base l.draft)) (label_number (graph_after l.after));
   supports : AreEdgeCounts (graph_after l.after) (shown_blocks l.base l.draft) (shown_support l.base l.draft);
   made : AreBlocks (at (shown_labels l.base l.draft)) l.made.items;

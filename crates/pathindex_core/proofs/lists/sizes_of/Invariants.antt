@@ -2,7 +2,7 @@ use Rattle.std.proofs.Common.{◌+◌, ◌-◌, map, string_bytes}
 use Rattle.label_graph.specs.Views.{live_count, edge_count}
 use Rattle.index_api.specs.Places.{all_indexes}
 use Rattle.index_api.specs.Kept.{kept_of}
-use Rattle.extent_report.specs.Listing.{head_line}
+use Rattle.extent_report.specs.ListedBlocks.{head_line}
 use Rattle.pathindex_core.proofs.ShownViews.{AreFirstSizes}
 use Rattle.pathindex_core.proofs.lists.sizes_of.Given as goal
 

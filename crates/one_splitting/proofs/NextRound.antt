@@ -11,14 +11,14 @@ use Rattle.upkeep_spec.proofs.SplitRounds.{round_stable, same_but_moved, same_bu
 use Rattle.upkeep_spec.proofs.Goals.{is_moved, goals_within, goals_round, goals_partition, goals_left}
 use Rattle.one_splitting.specs.Counted.{AreCounted}
 use Rattle.one_splitting.specs.Numbered.{HaveNumbers}
-use Rattle.one_splitting.specs.NodeGoals.{BeginsAt, goal_at, AreGoing, HaveGone, ListsChildrenOf, AreAdded}
+use Rattle.one_splitting.specs.NodeGoals.{BeginsAt, goal_at, AreGroupGoals, HaveGone, ListsChildrenOf, AreAdded}
 use Rattle.upkeep_spec.specs.Splits.{IsClosed, IsSplitInside}
 use Rattle.one_splitting.proofs.Places.{place_in, place_found, has_place}
 use Rattle.one_splitting.proofs.Groups.{group_of, goal_of, goal_looked, goal_there, groups_go, node_of}
 
 pub split_step : (s : Shape) (inside : ℕ → Bool) (first p p2 : List (Option ℕ)) (keys : List (List ℕ)) (nodes numbers made next2 made2 : List ℕ) (goals : List (Option ℕ)) (counts : List (ℕ × ℕ))
     → IsShape s → IsClosed s inside → IsSplitInside s inside first p nodes made → IsDistinct nat_eq nodes → length numbers ≡ length nodes
-    → HaveNumbers p s.edge keys nodes numbers → length goals ≡ length keys → AreCounted p nodes counts → AreGoing p counts keys goals → HaveGone p p2 nodes numbers goals (length nodes)
+    → HaveNumbers p s.edge keys nodes numbers → length goals ≡ length keys → AreCounted p nodes counts → AreGroupGoals p counts keys goals → HaveGone p p2 nodes numbers goals (length nodes)
     → ListsChildrenOf s nodes numbers goals (length nodes) next2 → AreAdded goals made made2 → IsDistinct nat_eq made2 → ((k : ℕ) → k < length keys → (own : ℕ) × BeginsAt keys k own) → IsSplitInside s inside first p2 next2 made2
 split_step s inside first p p2 keys nodes numbers made next2 made2 goals counts shape closed split once count numbered many counted going gone next added once2 owns = record {
   stable =
