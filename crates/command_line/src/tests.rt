@@ -53,7 +53,7 @@ fn plain_words_name_a_script(rt: HostRuntime) -> Result<(), Fail> {
 }
 
 #[test]
-fn other_words_are_of_no_form(rt: HostRuntime) -> Result<(), Fail> {
+fn other_words_are_malformed(rt: HostRuntime) -> Result<(), Fail> {
     for line in [
         "--k 2",
         "s --k 9",

@@ -135,11 +135,11 @@ fn check_texts(
     labels: &Labels,
     row: &Row,
 ) -> Result<(), Fail> {
-    assert!(rt; are_labelled(summary, labels), "{}", row.extents);
+    assert!(rt; are_labelled(summary, labels), "{:?}", row.members);
     let extents = extents_text(alloc, summary, labels)?;
-    assert!(rt; extents.as_str() == row.extents, "{}", row.extents);
+    assert!(rt; extents.as_str() == row.extents, "{:?}", row.members);
     let size = sizes_line(alloc, Via::A(2), summary)?;
-    assert!(rt; size.as_str() == row.size, "{}", row.extents);
+    assert!(rt; size.as_str() == row.size, "{:?}", row.members);
     Ok(())
 }
 

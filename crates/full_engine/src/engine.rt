@@ -32,7 +32,7 @@ pub trait EngineTask: Drop {
     /// What holds of the answer.
     ghost gives: { Self → Self.Output → Type 0 };
 
-    /// Does it, with memory from this allocator. The engine isn't open yet.
+    /// Does it, with memory from this allocator. The engine isn't open yet. The cost and the memory are the task's.
     fn carry_out(self, alloc: Global, engine: &mut Engine) -> Self::Output
         requires kinds { kinds_of (map (λ b. meaning (b.vtable, b.value)) engine.old.boxes.items) ≡ Kind.A ∷ Kind.One ∷ Kind.Fb ∷ [] }
         requires closed { opened_of engine.old.state ≡ None }
@@ -41,7 +41,7 @@ pub trait EngineTask: Drop {
 }
 
 /// Makes an engine that keeps all indexes, has the task done with it, and drops it. `Memory` comes only where there is none for the
-/// three boxes, and then the task isn't begun. Beside the task it costs O(1), and what it takes to drop the engine.
+/// three boxes, and then the task isn't begun. O(1) beside the task and the drop of the engine; it takes memory for three boxes.
 ///
 /// The engine is lent, and not handed out: what its boxes mean is known only where they are made.
 pub fn with_full_engine<T: EngineTask>(alloc: Global, task: T) -> Result<T::Output, Memory>

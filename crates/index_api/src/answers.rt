@@ -14,6 +14,13 @@ pub enum How {
 }
 
 /// The answer of a query: the nodes, and how they were found.
+///
+/// How many candidates the index of level 1 gives, and how many of them are answers:
+///
+///     let answer = engine.path(alloc, Via::A(1), &expr, &mut steps)?;
+///     if let How::Checked(candidates) = answer.how {
+///         take(candidates, answer.nodes.count());
+///     }
 #[derive(Drop)]
 pub struct Answer {
     /// The nodes, as a set of numbers below the count of the node numbers given.

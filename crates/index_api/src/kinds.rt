@@ -5,6 +5,14 @@ ghost use Rattle.index_api.specs.Places.{place_of, all_indexes};
 use bisim_spec::Kind;
 
 /// Through what a query is answered.
+///
+/// All indexes with levels up to 2, one after another:
+///
+///     let mut n = 0;
+///     while let Some(via) = Via::nth(n, 2) {
+///         take(via);
+///         n += 1;
+///     }
 #[derive(Clone, Copy, Debug, PartialEq, Eq)]
 pub enum Via {
     /// The graph itself.

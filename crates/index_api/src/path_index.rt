@@ -28,8 +28,8 @@ pub trait PathIndex: Drop {
         ensures { result ≡ (meaning self.now).kind };
 
     /// Builds the index of the graph, in place of the views that there are, with nothing staged. The A(k)-family has a view for each
-    /// level up to `k`, each other index has one. That of the 1-index is full bisimilarity. See
-    /// `AkFamily::build`, `OneIndex::build` and `FbIndex` for time and memory.
+    /// level up to `k`, each other index has one. That of the 1-index is full bisimilarity. The cost and the memory are the index's:
+    /// `AkFamily::build` says those of `AkIndex`, `OneIndex::build` those of `OneKept`, and `FbIndex` its own.
     fn build(&mut self, view: &GraphView<'_>, k: u32) -> Result<(), Memory>
         requires few { k ≤ 8 }
         ensures built { OnOk result (IsBuilt (meaning self.old) (meaning self.new) view.now k) }
@@ -37,24 +37,26 @@ pub trait PathIndex: Drop {
 
     /// Stages what a change will make of the index. The graph is as it was, and `judge` accepts the change as new within some limits. The
     /// partition of the 1-index moves by one step (Yi, He, Stanoi and Yang 2004): nodes that the change doesn't reach stay together or apart.
-    /// Time and memory grow with what is near the change. See `AkIndex::prepare_counted` and `OneKept::prepare_counted`; the forward and
-    /// backward index takes O(1), no memory.
+    /// The cost and the memory are the index's, and grow with what is near the change: `AkIndex::prepare_counted` and
+    /// `OneKept::prepare_counted` say theirs, and `FbIndex` takes O(1), no memory.
     fn prepare(&mut self, graph: &Graph, change: &Change) -> Result<(), Memory>
         requires ready { IsReady (meaning self.old) graph.now.graph }
         requires new { IsNew (change_of change.now) graph.now.graph }
         ensures staged { OnOk result (IsPrepared (meaning self.old) (meaning self.new) (change_of change.now) graph.now.graph) }
         ensures err { OnErr result (meaning self.new ≡ meaning self.old) };
 
-    /// Puts what is staged in force. O(d) for what the draft moves, and the time to drop a view that isn't computed any more; no memory.
+    /// Puts what is staged in force. Expected O(d) for d drafted entries and numbers in their keys, and for `FbIndex` the time to drop
+    /// its view; no memory.
     fn commit(&mut self)
         requires staged { IsSome (meaning self.old).staged }
         ensures { IsCommitted (meaning self.old) (meaning self.new) };
 
-    /// Lets go of what is staged, if anything is. O(d) for what was drafted, no memory.
+    /// Drops what is staged, if anything is. O(d) for d drafted entries and numbers in their keys, no memory.
     fn cancel(&mut self)
         ensures { meaning self.new ≡ unstaged (meaning self.old) };
 
-    /// Computes each view of the graph that isn't computed. O(1), no memory, where each is; else what `build` takes.
+    /// Computes each view of the graph that isn't computed. O(1), no memory, where each is computed; else the cost
+    /// and the memory are those of `build`.
     fn refresh(&mut self, view: &GraphView<'_>) -> Result<(), Memory>
         requires ready { IsReady (meaning self.old) view.now }
         ensures refreshed { OnOk result (IsRefreshed (meaning self.old) (meaning self.new) view.now) }

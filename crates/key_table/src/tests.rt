@@ -20,9 +20,9 @@ fn keys_are_numbered_as_they_come(rt: HostRuntime) -> Result<(), Fail> {
         (&one[..], 0, 4),
     ];
     for (key, number, count) in rows {
-        assert_eq!(rt; table.intern(key)?, number, "at key {number}");
-        assert_eq!(rt; table.len(), count, "at key {number}");
-        assert_eq!(rt; table.find(key), Some(number), "at key {number}");
+        assert_eq!(rt; table.intern(key)?, number, "at key {number} of {count}");
+        assert_eq!(rt; table.len(), count, "at key {number} of {count}");
+        assert_eq!(rt; table.find(key), Some(number), "at key {number} of {count}");
     }
     assert_eq!(rt; table.find(&[9]), None);
     assert_eq!(rt; table.find(&[7, 9, 0]), None);

@@ -53,7 +53,7 @@ impl Model for KeyedDraft {
 
 // Reading.
 impl KeyedDraft {
-    /// Nothing is drafted. O(1), and the memory of an empty table of keys.
+    /// Nothing is drafted. O(1); it takes the memory of an empty table of keys.
     pub fn new(alloc: Global) -> Result<KeyedDraft, Memory>
         ensures empty { IfOk result (λ d. d ≡ no_keyed_changes) }
     {
@@ -210,8 +210,8 @@ impl KeyedDraft {
     }
 
     /// Drafts the move of a node to a block as shown, with the supports of its edges. Its parents and its children are read once, and its
-    /// children stay in `near`. After `Memory` the draft is only good to be cleared. Expected O(p + c) for p parents and c children; it
-    /// takes the memory of one move and of two pairs for each.
+    /// children stay in `near`. After `Memory` the draft must be cleared before it is used again. Expected O(p + c) for p parents and c
+    /// children; it takes the memory of one move and of two pairs for each.
     pub fn move_node<L: Ledger>(
         &mut self,
         base: &KeyedSummary,

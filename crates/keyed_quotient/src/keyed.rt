@@ -13,6 +13,14 @@ use std::alloc::Global;
 use std::marker::Model;
 
 /// A quotient, and the key of each of its blocks: a list of numbers, by which the block is found.
+///
+/// A quotient with two blocks, whose keys are lists of one number and of two:
+///
+///     let mut keys = KeyTable::new(alloc)?;
+///     keys.intern(&[7])?;     // the key of block 0
+///     keys.intern(&[8, 0])?;  // the key of block 1
+///     let level = KeyedSummary::new(alloc, summary, keys)?;
+///     let edges = level.summary().support(0, 1);
 #[derive(Drop)]
 pub struct KeyedSummary {
     pub(crate) alloc: Global,

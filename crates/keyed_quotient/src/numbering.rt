@@ -10,7 +10,7 @@ use std::alloc::Global;
 use std::marker::Model;
 
 /// Keys with a number each, the block of each number, and the number of each block. A key stays when its block goes; then its
-/// number and its block don't lead to each other any more.
+/// number and its block no longer lead to each other.
 #[derive(Drop)]
 pub(crate) struct KeyNumbers {
     table: KeyTable,

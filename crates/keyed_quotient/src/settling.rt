@@ -33,9 +33,8 @@ impl KeyedDraft {
     }
 
     /// Makes the base what the draft shows, without blocks that have no members, and drops what was drafted.
-    /// It can't fail and takes no memory. Each block of the base has a member, and a block that has none as shown
-    /// has no support as shown. Expected O(d + l) for d entries that are drafted, with keys of l numbers together, and what
-    /// `clear` takes.
+    /// It can't fail. Each block of the base has a member, and a block that has none as shown has no support as shown.
+    /// Expected O(d + l) for d entries that are drafted, with keys of l numbers together, and what `clear` takes; no memory.
     pub fn settle(&mut self, base: &mut KeyedSummary)
         requires over { IsKeyedOver base.old self.old }
         requires room { HasKeyRoom base.old self.old }

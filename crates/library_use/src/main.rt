@@ -26,7 +26,7 @@ use std::sync::ledger::{Blank, Ledger};
 /// Ana is n0 and knows Bo, n2, who knows Cy, n4. The triples are n1 and n3.
 const TRIPLES: &str = "<x:ana> <x:knows> <x:bo> .\n<x:bo> <x:knows> <x:cy> .\n";
 
-/// Whom those know whom somebody knows.
+/// Those who are known by somebody whom somebody knows.
 const PATH: &str = "<x:knows>/iri/<x:knows>/iri";
 
 /// The graph of the triples, from a shelf in memory with one file. None where it isn't loaded.

@@ -130,7 +130,10 @@ fn texts_load_to_graphs(rt: HostRuntime) -> Result<(), Fail> {
     for (content, limits, size) in rows {
         assert!(rt;
             size_of(rt.alloc(), content, &limits)? == size,
-            "{content:?}"
+            "{content:?}, at most {} nodes, {} edges, {} labels",
+            limits.nodes,
+            limits.edges,
+            limits.labels
         );
     }
     Ok(())

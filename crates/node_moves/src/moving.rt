@@ -20,8 +20,8 @@ use quotient_draft::Draft;
 use std::sync::ledger::Ledger;
 
 /// Drafts the move of a node to a block as shown, with the supports of its edges. Its parents and its children
-/// are read once, and its children stay in `near`. After `Memory` the draft is only good to be cleared. Expected
-/// O(p + c) for p parents and c children; it takes the memory of one move and of two pairs for each.
+/// are read once, and its children stay in `near`. After `Memory` the draft must be cleared before it is used again.
+/// Expected O(p + c) for p parents and c children; it takes the memory of one move and of two pairs for each.
 pub fn move_node<L: Ledger>(
     base: &Summary,
     draft: &mut Draft,

@@ -29,9 +29,10 @@ use std::sync::ledger::Ledger;
 /// the nodes were in its blocks, it leaves what `merge` asks.
 ///
 /// It takes at most `4 * (r + 1) * w` steps, where the target reaches `r` nodes, and `w` is one for each of them, one for each of its
-/// parents and one for each of its children. After `Memory`, which also comes past 2^31 blocks, the draft is only good to be cleared.
+/// parents and one for each of its children. After `Memory`, which also comes past 2^31 blocks, the draft must be cleared before it
+/// is used again.
 ///
-/// Expected O((r + 1) w log w) at most, and O(w) memory.
+/// Expected O((r + 1) w log w) at most; it takes O(w) memory.
 pub fn split<L: Ledger>(
     alloc: Global,
     base: &Summary,
@@ -83,7 +84,7 @@ fn add_blocks(
 /// through once for the blocks to which no other has support.
 ///
 /// It takes at most `3 * (r + 1) * w` steps, where the target reaches `r` nodes, and `w` is one for each of them, one for each of its
-/// parents and one for each of its children. After `Memory` the draft is only good to be cleared.
+/// parents and one for each of its children. After `Memory` the draft must be cleared before it is used again.
 ///
 /// Expected O(w + b) to find the blocks, with b numbers of blocks, and then what `one_merging::merge` takes from these on. It takes O(w)
 /// memory, and what is merged.

@@ -59,7 +59,7 @@ fn agree_as_one(summary: &Summary, a: u32, b: u32) -> bool
 /// labels and their parent blocks alone decide it, for each graph of which the summary is a stable one. A
 /// block without members can be merged with any.
 ///
-/// Expected O(p) for p parent blocks of the two: a look-up or two for each at most. No memory.
+/// Expected O(p) for p parent blocks of the two: a look-up or two for each at most; no memory.
 pub fn mergeable(summary: &Summary, a: u32, b: u32) -> bool
     requires first { IsSome (at summary.now.blocks.labels a) }
     requires second { IsSome (at summary.now.blocks.labels b) }
@@ -119,7 +119,7 @@ fn has_mergeable(summary: &Summary, a: u32) -> bool
 /// stable one.
 ///
 /// It compares each block with each other one, as `mergeable` does: expected O(b (b + q)) for b block numbers and q pairs of
-/// blocks with support. No memory.
+/// blocks with support; no memory.
 pub fn is_minimal(summary: &Summary) -> bool
     ensures { (g : Graph) → IsGraph g → IsStableView g (view_of summary.now) → IsTrue result ↔ Minimal (shape_of g) summary.now.blocks.block_of }
 {

@@ -122,7 +122,7 @@ fn is_partition(summary: &Summary, view: &GraphView<'_>) -> bool
 /// have one label, and parents in the same blocks. What the summary counts makes no difference.
 ///
 /// Each node is compared with one member of its block, in time of the product of the numbers of parents of the two at most:
-/// O(n + b + m d) for n node numbers, b block numbers, m edges and at most d parents of a node. No memory.
+/// O(n + b + m d) for n node numbers, b block numbers, m edges and at most d parents of a node; no memory.
 pub fn is_stable(summary: &Summary, view: &GraphView<'_>) -> bool
     ensures { IsTrue result ↔ Stable (shape_of view.now) summary.now.blocks.block_of }
 {

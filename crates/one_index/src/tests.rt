@@ -193,8 +193,20 @@ fn check_row<L: Ledger>(
     let graph = drawn(alloc, row.nodes, row.edges, &mut steps)?;
     let view = graph.view(&mut steps);
     let summary = Summary::of(alloc, parted(rt, alloc, row.labels, row.members)?, &view)?;
-    assert!(rt; is_right(&summary, &view, row), "{:?}", row.members);
-    assert!(rt; builds(alloc, &view, row.built)?, "{:?}", row.edges);
+    assert!(rt;
+        is_right(&summary, &view, row),
+        "{:?} {:?} {:?}",
+        row.edges,
+        row.labels,
+        row.members
+    );
+    assert!(rt;
+        builds(alloc, &view, row.built)?,
+        "{:?} {:?} {:?}",
+        row.edges,
+        row.labels,
+        row.members
+    );
     Ok(())
 }
 

@@ -23,8 +23,7 @@ use std::sync::ledger::{Blank, Ledger};
 /// The 1-index of a graph, kept while it changes (K. Yi, H. He, I. Stanoi and J. Yang, "Incremental Maintenance of XML Structural
 /// Indexes", SIGMOD 2004). A change is drafted over the index in force: blocks are split from the change's target on, and then
 /// merged. How much of the graph is read depends on what the change reaches, and not on the size of the graph. The blocks of the index are
-/// looked through for those without other parents where as many of these came since they were last looked for as there were then, and
-/// 64 more.
+/// searched for those without other parents once as many of these have come since the last search as there were then, and 64 more.
 ///
 /// The change is staged before the graph changes:
 ///

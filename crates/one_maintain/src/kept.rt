@@ -94,8 +94,8 @@ fn renew(alloc: Global, draft: &mut Draft)
     }
 }
 
-// Makes the roots anew from the base where far more were noted since than then, so that blocks which are none any more go. It looks
-// through all blocks then; without memory for it the roots stay.
+// Makes the roots anew from the base where far more were noted since they were made than there were then, so that numbers which are
+// no longer blocks go. It looks through all blocks then; where memory for it runs out, the roots stay.
 fn renew_roots(alloc: Global, base: &Summary, roots: &mut Roots)
     requires covers { CoversBase base.now roots.old }
     ensures covers { CoversBase base.now roots.new }
@@ -192,7 +192,7 @@ impl Kept {
         self.staged = false;
     }
 
-    /// Lets go of what is staged, if anything is.
+    /// Drops what is staged, if anything is.
     pub(crate) fn cancel(&mut self, alloc: Global)
         ensures base { self.new.base ≡ self.old.base }
         ensures unstaged { self.new.staged ≡ false }

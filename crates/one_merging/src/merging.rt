@@ -84,9 +84,8 @@ fn merge_pairs(
 }
 
 /// Merges blocks as shown until no two can be merged, where of each two that can one is among the suspects.
-/// Numbers of no block, and of blocks without members, are passed by. The supports must be those of a graph
-/// with at most 2^30 edges, and blocks with members have labels. Where memory runs out, the draft may have a
-/// part of it.
+/// It skips numbers of no block, and blocks without members. The supports must be those of a graph with at most
+/// 2^30 edges, and blocks with members have labels. Where memory runs out, the draft may have a part of it.
 ///
 /// Of two blocks that are merged the one with fewer members and children is moved, and each block next to it is written
 /// once. A suspect is compared with another parent of it and the children of that one: of its parents one with few children is
@@ -95,7 +94,7 @@ fn merge_pairs(
 ///
 /// Expected O(u k p log p), where u blocks are looked at, which are the suspects, and after each merge the merged block and the
 /// children of the smaller one, each is compared with k blocks, and has p parents, at most; and what `join` takes for each merge.
-/// Most comparisons end at another label or at the first parent that differs. The memory is that of `join`, and O(u + k + p).
+/// Most comparisons end at another label or at the first parent that differs. It takes the memory of `join`, and O(u + k + p).
 pub fn merge(
     alloc: Global,
     base: &Summary,

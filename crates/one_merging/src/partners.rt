@@ -71,8 +71,8 @@ fn is_long(own: &[u32], drafted: &[u32]) -> bool {
     own.len().max(drafted.len()) > FEW_PARENTS
 }
 
-// Whether a parent of b is none of a, where b has the parents that it has in the base. Where a has few parents, nothing but lists
-// is looked at, so it is the cheapest test of the parents.
+// Whether some parent of b isn't a parent of a, where b has the parents that it has in the base. Where a has few parents, nothing
+// but lists is looked at, so it is the cheapest test of the parents.
 fn has_stranger(base: &Summary, draft: &Draft, a: u32, b: u32) -> bool
     ensures { IsTrue result → AreNoShownMates base.now draft.now a b }
 {

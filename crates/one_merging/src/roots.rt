@@ -53,7 +53,7 @@ impl Roots {
         Ok(roots)
     }
 
-    /// Whether far more blocks were noted since these were made than then. O(1), no memory.
+    /// Whether far more blocks were noted since these were made than there were then. O(1), no memory.
     pub fn are_many(&self) -> bool {
         self.further > self.made.saturating_add(64)
     }

@@ -23,7 +23,7 @@ fn count_of(counts: &IndexMap<u32, usize>, b: u32) -> usize
     }
 }
 
-// Counts one more node for a block, of which no more than that many were counted.
+// Counts one more node for a block, whose count is at most `most` before.
 fn count_one(counts: &mut IndexMap<u32, usize>, b: u32, most: usize) -> Result<(), Memory>
     requires counted { count_at counts.old.entries b ≤ most }
     requires few { most < 2 ^ 63 }

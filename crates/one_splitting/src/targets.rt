@@ -32,7 +32,7 @@ use quotient_draft::Draft;
 use std::alloc::Global;
 use std::sync::ledger::Ledger;
 
-// Lists those of the targets that have a block. The others are no nodes any more.
+// Lists those of the targets that have a block. The others are no longer nodes.
 fn with_blocks(
     alloc: Global,
     base: &Summary,
@@ -142,13 +142,14 @@ fn part_all<L: Ledger>(
 }
 
 /// Splits blocks in the draft until the partition shown is stable on the graph after the change, where before
-/// it was so but maybe at the targets. Targets without a block are passed by. The blocks that are made are put
+/// it was so but maybe at the targets. Targets without a block are skipped. The blocks that are made are put
 /// into `made`. Whatever set is closed under children and holds the targets, only its nodes are read and moved.
 ///
 /// It takes at most `4 * ((r + 1) * w)` steps, where the set has `r` nodes and weighs `w`: one for each of them, one
-/// for each parent and one for each child. After `Memory`, also past 2^31 blocks, the draft is good for `clear` alone.
+/// for each parent and one for each child. After `Memory`, which also comes past 2^31 blocks, the draft must be
+/// cleared before it is used again.
 ///
-/// Expected O((r + 1) w log w) at most. The draft grows by what moves: O(w) memory.
+/// Expected O((r + 1) w log w) at most; it takes O(w) memory, by which the draft grows.
 pub fn split<L: Ledger>(
     alloc: Global,
     base: &Summary,

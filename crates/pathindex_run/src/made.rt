@@ -52,7 +52,7 @@ fn load_made(alloc: Global, seed: u64) -> Result<Graph, LoadError>
     }
 }
 
-/// Makes the texts of the seed, loads the graph file, and runs the script. The graph file's text is let go before the script is made.
+/// Makes the texts of the seed, loads the graph file, and runs the script. The graph file's text is dropped before the script is made.
 pub(crate) fn run_made<K: Sink>(alloc: Global, seed: u64, engine: &mut Engine, sink: &mut K) -> u8
     requires closed { opened_of engine.old.state ≡ None }
     requires sound { IsSound (engine_seen (map (λ b. meaning (b.vtable, b.value)) engine.old.boxes.items) engine.old.state) }

@@ -182,8 +182,8 @@ impl MemSink {
     /// A sink to which nothing was written, with room for so many bytes in all.
     ///
     /// One call writes at most `piece` bytes, which is 1 or more. Calls are numbered from 1 on, and exactly
-    /// those fail whose numbers are listed in `failing`, or that find no room left. O(1), and `room` bytes of
-    /// memory. All the memory is taken here: a write takes none.
+    /// those fail whose numbers are listed in `failing`, or that find no room left. O(1); it takes `room`
+    /// bytes, and a write takes no memory.
     pub fn new(alloc: Global, piece: u32, failing: Vec<u32>, room: u32) -> Result<MemSink, Memory>
         requires { 1 ≤ piece }
         ensures { IfOk result (λ s. s ≡ record { written = []; room = room; piece = piece; failing = failing.items; calls = 0; faults = 0 }) }

@@ -239,7 +239,7 @@ impl LineReader {
     }
 
     /// Takes the next line. `Ok(false)`: the text is over. `Limit` only where the line passes a
-    /// limit, and `Fault` only where a read failed. After an error the reader is of no more use.
+    /// limit, and `Fault` only where a read failed. After an error the reader can only be dropped.
     ///
     /// O(b) for the b bytes of the line and its end, beside the shelf's reads. It takes memory only where the
     /// line is longer than each before it.

@@ -12,6 +12,16 @@ pub struct Failed;
 /// Files that are read, one at a time, from the first byte on.
 ///
 /// What the files hold is told by files in memory, and not by those of a system.
+///
+/// The bytes of a file, where it is there:
+///
+///     if shelf.open("name")? {
+///         let mut count = shelf.read(&mut block)?;
+///         while count > 0 {
+///             take(&block[..count]);
+///             count = shelf.read(&mut block)?;
+///         }
+///     }
 pub trait Shelf {
     /// The files, where they are told. Of several of one name the first counts.
     ghost files: { Self → Option (List File) };
@@ -57,7 +67,7 @@ pub trait Sink {
     ghost faults: { Self → ℕ };
 
     /// Writes some of the bytes, from the first on, and answers how many. Where it fails, none are
-    /// written, and the count of faults rises. O(w) for w bytes written; a sink in memory grows by as many.
+    /// written, and the count of faults rises. O(w) for w bytes written, no memory.
     fn write(&mut self, piece: &[u8]) -> Result<usize, Failed>
         requires { 0 < length piece.now }
         ensures taken { IfOk result (λ n. (0 < n) × (n ≤ length piece.now)) }

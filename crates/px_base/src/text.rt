@@ -17,6 +17,12 @@ pub enum TextError {
 }
 
 /// A text, seen as the list of its bytes, which are UTF-8. Texts are compared byte by byte.
+///
+/// A text, and another one with the same bytes:
+///
+///     let text = Text::from_bytes(alloc, "né".as_bytes())?;
+///     let again = text.copy(alloc)?;
+///     take(again.as_str());
 #[derive(Debug, Drop)]
 pub struct Text {
     content: String,
@@ -33,8 +39,7 @@ impl Model for Text {
 }
 
 impl Text {
-    /// The text of these bytes. `NotUtf8` exactly where they aren't UTF-8. O(b) for b bytes, and b bytes of
-    /// memory.
+    /// The text of these bytes. `NotUtf8` exactly where they aren't UTF-8. O(b) for b bytes; it takes b bytes.
     pub fn from_bytes(alloc: Global, bytes: &[u8]) -> Result<Text, TextError>
         ensures ok { IfOk result (λ t. t ≡ bytes.now) }
         ensures utf8 { OnOk result (IsUtf8 bytes.now) }

@@ -2,6 +2,17 @@
 ghost use Rattle.std.specs.Prelude.{◌≡◌, ◌≤◌, ◌^◌};
 
 /// How much a run keeps. Each field is at most 2^30.
+///
+/// A load of a small graph, whose queries are short:
+///
+///     let few = Limits {
+///         nodes: 1_000,
+///         edges: 2_000,
+///         labels: 100,
+///         expr_bytes: 64,
+///         expr_depth: 4,
+///     };
+///     let graph = load(alloc, &mut shelf, "name", &few)?;
 #[derive(Clone, Copy)]
 pub struct Limits {
     /// Node numbers ever given.

@@ -245,7 +245,10 @@ fn words_and_what_they_ask_for(rt: HostRuntime) {
             words,
             ..script(text)
         };
-        assert!(rt; ends(rt.alloc(), given, output, *status), "{text}");
+        assert!(rt;
+            ends(rt.alloc(), given, output, *status),
+            "{words:?} {text}"
+        );
     }
     let missing = Given {
         script: None,
