@@ -54,7 +54,7 @@ past_lone g graph = record {
     dead : IsTrue (is_live g (length g.given)) → ⊥
     dead h = true≢false (sym h ∙ ap is_some (past_none g.given))
 
-text_of : (o : Option (List ℕ)) (seen : List (List ℕ)) (d : ℕ) → option_and_then (λ t. position (bytes_eq t) seen) o ≡ Some d
+pub text_of : (o : Option (List ℕ)) (seen : List (List ℕ)) (d : ℕ) → option_and_then (λ t. position (bytes_eq t) seen) o ≡ Some d
     → (t : List ℕ) × (slice_get seen d ≡ Some t) × (o ≡ Some t)
 text_of None seen d h = absurd (cc)
 text_of (Some t) seen d h = (t, text-at t seen d h, refl)

@@ -24,6 +24,7 @@ use Rattle.ak_family.specs.LevelDrafts.{changes_at, blocks_shown, labels_shown, 
 use Rattle.ak_moving.specs.MovedLevels.{HasMovedNear, AreKeyedNear}
 use Rattle.ak_drafting.specs.FamilyDrafts.{ShownFit}
 use Rattle.ak_drafting.proofs.Bases.{next_is, AreBases}
+use Rattle.ak_drafting.proofs.JoinedLevels.{text_of}
 
 -- What is known once all nodes near the target have moved.
 pub record HaveMoved (target : ℕ → Bool) (g g2 : Graph) (f : List KeyedQuotient) (d : List KeyedChanges) : Type 0 where
@@ -80,11 +81,6 @@ inhabited_whole block labels b = (let same : 0 + b ≡ b = omega arith in inhabi
 member_from_label : (t : Bool) (o : Option ℕ) → IsSome (cond t o none_label) → t ≡ true
 member_from_label true o h = refl
 member_from_label false o h = absurd (true≢false (sym h))
-
-text_of : (o : Option (List ℕ)) (seen : List (List ℕ)) (d : ℕ) → option_and_then (λ t. position (bytes_eq t) seen) o ≡ Some d
-    → (t : List ℕ) × (slice_get seen d ≡ Some t) × (o ≡ Some t)
-text_of None seen d h = absurd (cc)
-text_of (Some t) seen d h = (t, text-at t seen d h, refl)
 
 shown_inhabited : (block labels : List (Option ℕ)) (b : ℕ) → IsSome (at (inhabited_from block 0 labels) b) → (n : ℕ) × (at block n ≡ Some b)
 shown_inhabited block labels b h = member_at block b (member_from_label (has_member block b) (at labels b) (sym (ap is_some (inhabited_whole block labels b)) ∙ h))

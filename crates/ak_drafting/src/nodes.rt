@@ -36,7 +36,7 @@ fn lone_block(
     Ok(b)
 }
 
-// A node without parents comes, at a level. It tells the node's block there.
+// A node without parents comes, at a level. The answer is its block there.
 fn join_level(
     family: &AkFamily,
     draft: &mut AkDraft,

@@ -1,15 +1,15 @@
 -- Levels of a draft, one of which is written.
-use Rattle.std.proofs.Common.{◌≡◌, ℕ, ◌+◌, ◌<◌, ◌≤◌, List, [], ◌∷◌, ◌++◌, length, Option, is_some, true≢false, refl, sym, ◌∙◌, ap, subst, arith, inl, inr, slice_set}
+use Rattle.std.proofs.Common.{◌≡◌, ℕ, ◌+◌, ◌<◌, ◌≤◌, List, [], ◌∷◌, ◌++◌, length, Option, is_some, true≢false, refl, sym, ◌∙◌, ap, subst, arith, inl, inr, slice_set, get_or}
 use Rattle.std.proofs.lemmas.Bool.{cases_lt}
 use Rattle.std.proofs.lemmas.Bool.Decides.{eqb_tells}
-use Rattle.std.proofs.lemmas.List.{get_or-set_same, get_or-set_other, get_or_past, get_or_push, get_or_append_left, length-set, length-append}
+use Rattle.std.proofs.lemmas.List.{get_or_default, get_or-set_same, get_or-set_other, get_or_past, get_or_push, get_or_append_left, length-set, length-append}
 use Rattle.quotient_draft.specs.Drafts.{no_changes}
 use Rattle.quotient_draft.specs.Basis.{IsOver}
 use Rattle.keyed_quotient.specs.Levels.{KeyedQuotient}
 use Rattle.keyed_quotient.specs.Changes.{KeyedChanges, no_keyed_changes, IsKeyedOver}
 use Rattle.keyed_quotient.proofs.Shown.{over_none}
 use Rattle.ak_family.specs.Families.{level_at, IsKeyedFamily}
-use Rattle.ak_family.specs.LevelDrafts.{changes_at, AreOver, AreEmpty}
+use Rattle.ak_family.specs.LevelDrafts.{changes_at, AreOver, KeepsAllButSupports, AreEmpty}
 
 pub over_set : (f : List KeyedQuotient) (d : List KeyedChanges) (i : ℕ) (y : KeyedChanges) → AreOver f d → i < length f → IsKeyedOver (level_at f i) y → AreOver f (slice_set d i y)
 over_set f d i y o h is = record {
@@ -22,6 +22,22 @@ over_set f d i y o h is = record {
     | inr t ↦ subst (IsKeyedOver (level_at f j)) (sym (get_or-set_other d i j y no_keyed_changes t.1)) (o.each j w)
   ];
 }
+
+-- A level is written, by an entry with the moves, further blocks and keys that were there: only supports can differ.
+pub kept_set : (f : List KeyedQuotient) (d : List KeyedChanges) (i : ℕ) (x y : KeyedChanges) → AreOver f d → i < length f → IsKeyedOver (level_at f i) y
+    → x ≡ get_or d i x → y.drafted.moves ≡ x.drafted.moves → y.drafted.added ≡ x.drafted.added → y.keys ≡ x.keys → KeepsAllButSupports f i d (slice_set d i y)
+kept_set f d i x y o h is was moves added keys =
+    let count = o.count in
+    let within : i < length d = omega (arith, h, count) in
+    let here : changes_at (slice_set d i y) i ≡ y = get_or-set_same d i y no_keyed_changes within in
+    let before : x ≡ changes_at d i = was ∙ get_or_default d i x no_keyed_changes within in
+    record {
+      blocks = rw (here, moves, before) refl;
+      labels = rw (here, added, before) refl;
+      keys = λ b. rw (here, keys, before) refl;
+      others = λ j w. get_or-set_other d i j y no_keyed_changes w;
+      over = over_set f d i y o h is;
+    }
 
 none_over : (block labels : List (Option ℕ)) → IsOver block labels no_changes
 none_over block labels = record {

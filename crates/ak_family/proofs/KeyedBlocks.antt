@@ -4,7 +4,7 @@ use Rattle.std.specs.Prelude.{nat_eq}
 use Rattle.std.proofs.lemmas.Bool.Decides.{eqb_tells}
 use Rattle.px_spec.specs.Members.{at}
 use Rattle.block_partition.specs.Partitions.{put}
-use Rattle.quotient_draft.proofs.PutLists.{at_put, same_number}
+use Rattle.block_partition.proofs.PutNumbers.{at_put, same_number}
 use Rattle.keyed_quotient.specs.Levels.{AreKeyed}
 use Rattle.ak_family.specs.LevelDrafts.{HasBlock}
 

@@ -7,7 +7,7 @@ use Rattle.bisim_spec.specs.Views.{SupportTable, support_at}
 use Rattle.bisim_spec.proofs.Supported.{support_joined, joined_support}
 use Rattle.bisim_spec.proofs.Bisimilar.{none_or_some}
 use Rattle.label_graph.specs.Views.{label_number}
-use Rattle.quotient_draft.proofs.PutLists.{same_number}
+use Rattle.block_partition.proofs.PutNumbers.{same_number}
 use Rattle.bisim_levels.specs.Sides.{no_neighbours}
 use Rattle.bisim_levels.specs.Keys.{IsKey}
 use Rattle.bisim_levels.specs.Refinement.{AreNumbered}

@@ -36,11 +36,28 @@ pub record AreOver (f : List KeyedQuotient) (d : List KeyedChanges) : Type 0 whe
 abbrev pub AreSameBut : ℕ → List KeyedChanges → List KeyedChanges → Type 0
 AreSameBut i old new = (j : ℕ) → j ≢ i → changes_at new j ≡ changes_at old j
 
+-- a and b are blocks of a level, as the draft over this family shows it
+pub record AreBlocksThere (f : List KeyedQuotient) (d : List KeyedChanges) (i a b : ℕ) : Type 0 where
+  pub over : AreOver f d
+  pub level : i < length f
+  pub from : IsSome (at (labels_shown f d i) a)
+  pub onto : IsSome (at (labels_shown f d i) b)
+
+-- Nothing but supports of level i has changed: its nodes have the same blocks, with the same labels and keys, and the other levels are the same.
+-- The draft is still over this family.
+pub record KeepsAllButSupports (f : List KeyedQuotient) (i : ℕ) (old new : List KeyedChanges) : Type 0 where
+  pub blocks : blocks_shown f new i ≡ blocks_shown f old i
+  pub labels : labels_shown f new i ≡ labels_shown f old i
+  pub keys : (b : ℕ) → key_shown f new i b ≡ key_shown f old i b
+  pub others : AreSameBut i old new
+  pub over : AreOver f new
+
 -- nothing is drafted at any level
 abbrev pub AreEmpty : List KeyedChanges → Type 0
 AreEmpty d = (i : ℕ) → changes_at d i ≡ no_keyed_changes
 
--- Block b has the key. Where it hadn't, it was made with this label. The others are as they were, and it is so too if it was a block.
+-- Block b has the key. Where it didn't have it before, it was made with this label. The others are as they were, and so is b if it
+-- was a block.
 pub record HasBlock (label : ℕ) (key : List ℕ) (b : ℕ) (labels labels2 : List (Option ℕ)) (keys keys2 : ℕ → Option (List ℕ)) : Type 0 where
   pub live : IsSome (at labels2 b)
   pub key_is : keys2 b ≡ Some key

@@ -12,7 +12,7 @@ ghost use Rattle.node_moves.specs.Costs.{parents_cost, children_cost};
 ghost use Rattle.keyed_quotient.specs.Levels.{KeyedQuotient};
 ghost use Rattle.keyed_quotient.specs.Changes.{KeyedChanges};
 ghost use Rattle.ak_family.specs.Families.{level_at, IsKeyedFamily};
-ghost use Rattle.ak_family.specs.LevelDrafts.{changes_at, blocks_shown, labels_shown, support_shown, key_shown, AreOver, AreSameBut, AreEmpty, HasBlock};
+ghost use Rattle.ak_family.specs.LevelDrafts.{changes_at, blocks_shown, labels_shown, support_shown, key_shown, AreOver, AreSameBut, AreBlocksThere, KeepsAllButSupports, AreEmpty, HasBlock};
 
 use crate::family::AkFamily;
 use graph_update::After;
@@ -34,6 +34,12 @@ pub struct LevelBlock {
 
 /// What is drafted over a family, level by level: further blocks with their keys, moves of nodes, and supports. Reads show the family as
 /// it will be once the draft is settled. Each call is given the family; its blocks, labels and keys must stay while something is drafted.
+///
+/// A node moves to the block of a key at level 1, which is a further one where no block has the key:
+///
+///     let mut draft = AkDraft::new(alloc, family.k())?;
+///     let block = family.keyed_block(&mut draft, 1, label, &key)?;
+///     family.put(&mut draft, 1, node, Some(block))?;
 #[derive(Drop)]
 pub struct AkDraft {
     pub(crate) levels: Vec<KeyedDraft>,
@@ -49,7 +55,7 @@ impl Model for AkDraft {
 }
 
 impl AkDraft {
-    /// Nothing is drafted, at levels up to `k`. O(k), and the memory of an empty draft for each level.
+    /// Nothing is drafted, at levels up to `k`. O(k); it takes the memory of an empty draft for each level.
     pub fn new(alloc: Global, k: u32) -> Result<AkDraft, Memory>
         ensures count { IfOk result (λ d. length d ≡ k + 1) }
         ensures empty { IfOk result AreEmpty }
@@ -197,17 +203,10 @@ impl AkFamily {
     /// Drafts that one more edge leads from `a` to `b`, both blocks of a level as shown. Expected O(1), amortized; it
     /// takes the memory of one pair.
     pub fn raise(&self, d: &mut AkDraft, i: u32, a: u32, b: u32) -> Result<(), Memory>
-        requires over { AreOver self.now d.old }
-        requires level { i < length self.now }
-        requires from { IsSome (at (labels_shown self.now d.old i) a) }
-        requires onto { IsSome (at (labels_shown self.now d.old i) b) }
+        requires there { AreBlocksThere self.now d.old i a b }
         requires few { support_shown self.now d.old i a b < 2 ^ 31 }
         ensures raised { OnOk result ((x y : ℕ) → support_shown self.now d.new i x y ≡ support_shown self.now d.old i x y + one_if (nat_eq x a && nat_eq y b)) }
-        ensures blocks { blocks_shown self.now d.new i ≡ blocks_shown self.now d.old i }
-        ensures labels { labels_shown self.now d.new i ≡ labels_shown self.now d.old i }
-        ensures keys { (b : ℕ) → key_shown self.now d.new i b ≡ key_shown self.now d.old i b }
-        ensures others { AreSameBut i d.old d.new }
-        ensures over { AreOver self.now d.new }
+        ensures kept { KeepsAllButSupports self.now i d.old d.new }
         ensures err { OnErr result (d.new ≡ d.old) }
     {
         let level = level_of(&self.levels, i);
@@ -218,17 +217,10 @@ impl AkFamily {
     /// Drafts that one edge fewer leads from `a` to `b`, both blocks of a level as shown, which have support. Expected O(1), amortized; it
     /// takes the memory of one pair.
     pub fn lower(&self, d: &mut AkDraft, i: u32, a: u32, b: u32) -> Result<(), Memory>
-        requires over { AreOver self.now d.old }
-        requires level { i < length self.now }
-        requires from { IsSome (at (labels_shown self.now d.old i) a) }
-        requires onto { IsSome (at (labels_shown self.now d.old i) b) }
+        requires there { AreBlocksThere self.now d.old i a b }
         requires some { 0 < support_shown self.now d.old i a b }
         ensures lowered { OnOk result ((x y : ℕ) → support_shown self.now d.new i x y + one_if (nat_eq x a && nat_eq y b) ≡ support_shown self.now d.old i x y) }
-        ensures blocks { blocks_shown self.now d.new i ≡ blocks_shown self.now d.old i }
-        ensures labels { labels_shown self.now d.new i ≡ labels_shown self.now d.old i }
-        ensures keys { (b : ℕ) → key_shown self.now d.new i b ≡ key_shown self.now d.old i b }
-        ensures others { AreSameBut i d.old d.new }
-        ensures over { AreOver self.now d.new }
+        ensures kept { KeepsAllButSupports self.now i d.old d.new }
         ensures err { OnErr result (d.new ≡ d.old) }
     {
         let level = level_of(&self.levels, i);
@@ -237,8 +229,8 @@ impl AkFamily {
     }
 
     /// Drafts the move of a node to a block of a level as shown, with the supports of its edges there. Its parents and its children are
-    /// read once, and its children stay in `near`. After `Memory` the draft is only good to be cleared. Expected O(p + c) for p parents and
-    /// c children; it takes the memory of one move and of two pairs for each.
+    /// read once, and its children stay in `near`. After `Memory` the draft must be cleared before it is used again. Expected O(p + c) for
+    /// p parents and c children; it takes the memory of one move and of two pairs for each.
     pub fn move_node<L: Ledger>(
         &self,
         d: &mut AkDraft,

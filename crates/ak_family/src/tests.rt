@@ -12,7 +12,7 @@ use std::marker::Brand;
 use std::process::Abort;
 use std::sync::ledger::{Blank, Ledger};
 use std::test::Fail;
-use test_graphs::drawn;
+use test_graphs::{drawn, two_chains};
 
 // Whether two nodes are bisimilar to a level, by a family that is built for it.
 fn is_bisimilar(
@@ -50,12 +50,7 @@ fn are_blocks(alloc: Global, view: &GraphView<'_>, blocks: &[u32]) -> Result<boo
     Ok(has_blocks(&AkFamily::build(alloc, view, 2)?, blocks))
 }
 
-// Two chains a, b, c, and the same with an x in front of the second one.
-const CHAINS: &[(NodeId, NodeId)] = &[(0, 1), (1, 2), (3, 4), (4, 5)];
-
-const LINKED_CHAINS: &[(NodeId, NodeId)] = &[(0, 1), (1, 2), (3, 4), (4, 5), (6, 3)];
-
-// The blocks of the nodes where the x stands alone, and where an edge leads from it to the second chain.
+// The blocks of the nodes of two chains where the x stands alone, and where an edge leads from it to the second one.
 const APART: &[u32] = &[0, 1, 2, 0, 1, 2, 3];
 
 const LINKED: &[u32] = &[0, 1, 2, 3, 4, 2, 5];
@@ -66,9 +61,9 @@ fn check_chains<L: Ledger>(rt: &impl Abort, alloc: Global, blank: Blank) -> Resu
     requires some { 0 < blank.parts }
 {
     let mut steps = Steps::<L>::new(blank);
-    let chains = drawn(alloc, b"abcabcx", CHAINS, &mut steps)?;
+    let chains = two_chains(alloc, &[], &mut steps)?;
     let apart = are_blocks(alloc, &chains.view(&mut steps), APART)?;
-    let chains = drawn(alloc, b"abcabcx", LINKED_CHAINS, &mut steps)?;
+    let chains = two_chains(alloc, &[(6, 3)], &mut steps)?;
     let linked = are_blocks(alloc, &chains.view(&mut steps), LINKED)?;
     assert!(rt; apart && linked);
     Ok(())

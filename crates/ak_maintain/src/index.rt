@@ -66,7 +66,7 @@ impl AkIndex {
     }
 }
 
-// Stages what a change will make of the index, and forgets what it costs.
+// Stages what a change will make of the index, without a count of its steps.
 fn prepare_uncounted<L: Ledger>(
     index: &mut AkIndex,
     graph: &Graph,

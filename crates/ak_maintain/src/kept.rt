@@ -126,7 +126,7 @@ impl Kept {
         }
     }
 
-    /// Lets go of what is staged, if anything is.
+    /// Drops what is staged, if anything is.
     pub(crate) fn cancel(&mut self)
         ensures base { self.new.base ≡ self.old.base }
         ensures unstaged { self.new.staged ≡ None }

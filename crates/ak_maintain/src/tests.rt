@@ -15,7 +15,7 @@ use std::marker::Brand;
 use std::process::Abort;
 use std::sync::ledger::{Blank, Ledger};
 use std::test::Fail;
-use test_graphs::drawn;
+use test_graphs::two_chains;
 
 // Whether the level has so many blocks.
 fn has_blocks(index: &AkIndex, level: u32, blocks: u32) -> bool {
@@ -159,15 +159,10 @@ fn check_index(rt: &impl Abort, alloc: Global, graph: &Graph) -> Result<(), Fail
     check_kept(rt, &mut index, graph)
 }
 
-// Two chains of an a, a b and a c, and an x, which becomes a parent of the second a.
-const CHAINS: &[(NodeId, NodeId)] = &[(0, 1), (1, 2), (3, 4), (4, 5)];
-
-const LINKED: &[(NodeId, NodeId)] = &[(0, 1), (1, 2), (3, 4), (4, 5), (6, 3)];
-
-// The graph with these edges, a letter a node.
+// Two chains and an x, with these further edges.
 fn graph_of<L: Ledger>(
     alloc: Global,
-    edges: &[(NodeId, NodeId)],
+    further: &[(NodeId, NodeId)],
     blank: Blank,
 ) -> Result<Graph, Fail>
     requires name { blank.name ≡ L.name }
@@ -175,7 +170,7 @@ fn graph_of<L: Ledger>(
     requires some { 0 < blank.parts }
 {
     let mut steps = Steps::<L>::new(blank);
-    drawn(alloc, b"abcabcx", edges, &mut steps)
+    two_chains(alloc, further, &mut steps)
 }
 
 // A build of the graph after the change comes to the same.
@@ -187,8 +182,8 @@ fn check_fresh(rt: &impl Abort, alloc: Global, graph: &Graph) -> Result<(), Fail
 
 #[test]
 fn a_link_moves_nodes(rt: HostRuntime) -> Result<(), Fail> {
-    let graph = graph_of::<Brand>(rt.alloc(), CHAINS, Blank::new(1))?;
+    let graph = graph_of::<Brand>(rt.alloc(), &[], Blank::new(1))?;
     check_index(&rt, rt.alloc(), &graph)?;
-    let linked = graph_of::<Brand>(rt.alloc(), LINKED, Blank::new(1))?;
+    let linked = graph_of::<Brand>(rt.alloc(), &[(6, 3)], Blank::new(1))?;
     check_fresh(&rt, rt.alloc(), &linked)
 }

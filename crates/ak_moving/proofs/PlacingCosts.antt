@@ -12,9 +12,9 @@ use Rattle.bisim_spec.specs.Reach.{near}
 use Rattle.bisim_spec.specs.Weights.{weight_at, weight}
 use Rattle.bisim_spec.proofs.Reached.{near_more}
 use Rattle.graph_update.specs.PendingChanges.{Pending, graph_after, lost_edge, lost_from, lost_onto}
-use Rattle.near_nodes.proofs.SearchCosts.{near_below, once_most, zeros, lost_most, sum_next}
+use Rattle.near_nodes.proofs.SearchCosts.{near_below, lost_most}
 use Rattle.level_spec.proofs.Weighed.{weight_near}
-use Rattle.upkeep_spec.proofs.Sums.{where_in, sum_listed, sum_without, first_has}
+use Rattle.upkeep_spec.proofs.Sums.{where_in, sum_listed, sum_without, first_has, once_most, zeros, sum_three}
 use Rattle.ak_moving.specs.Costs.{place_cost}
 use Rattle.ak_moving.proofs.Nodes.{only_one}
 
@@ -22,11 +22,6 @@ use Rattle.ak_moving.proofs.Nodes.{only_one}
 lost_onto_most : (n : ℕ) (lost : Option (ℕ × ℕ)) → sum_below n (lost_onto lost) ≤ 1
 lost_onto_most n None = (let z = zeros n in omega (arith, z))
 lost_onto_most n (Some e) = once_most n e.1
-
--- three times one sum, and two others
-sum_three : (n : ℕ) (f g h i : ℕ → ℕ) → ((k : ℕ) → f k ≤ 3 * g k + 2 * h k + i k) → sum_below n f ≤ 3 * sum_below n g + 2 * sum_below n h + sum_below n i
-sum_three zero f g h i e = omega arith
-sum_three (suc n) f g h i e = (let a = e n in let r = sum_three n f g h i e in omega (arith, a, r))
 
 -- distinct nodes in the set
 nodes_most : (a : Pending) (inside : ℕ → Bool) (nodes : List ℕ) → IsDistinct nat_eq nodes
@@ -92,10 +87,3 @@ spent_most s target k i before now given within none cost len m count e =
           let still = none zero_is in
           omega (arith, still))
     ])
-
--- the first elements are at most all
-pub sum_first : (f : ℕ → ℕ) (xs : List ℕ) (i d : ℕ) → i < length xs → sum_by f (take i xs) + f (get_or xs i d) ≤ sum_by f xs
-sum_first f xs i d h =
-    let a = sum_next f xs i d h in
-    let b = sum_by-take-le f xs (i + 1) in
-    omega (arith, a, b)

@@ -21,9 +21,9 @@ use std::sync::ledger::Ledger;
 /// within `i` edges of the target, each to the block of its key there, which is a further block where no block has the key.
 /// The edges of the change are drafted at each level already, and level 0 is done.
 ///
-/// It takes at most `8 * k * w` steps, where `k` is the highest level, and `w` is one for each node within `k` edges of the
-/// target, one for each of its parents and one for each of its children. Expected O(k (1 + w log w)), since the parents' blocks in a key
-/// are sorted; it takes the memory of the near nodes and of what is drafted. After `Memory` the draft is only good to be dropped.
+/// It takes at most `8 * k * w` steps, where `k` is the highest level, and `w` is one for each node within `k` edges of the target, one
+/// for each of its parents and one for each of its children. Expected O(k (1 + w log w)), since the parents' blocks in a key are sorted;
+/// it takes the memory of the near nodes and of what is drafted. After `Memory` the draft must be dropped.
 pub fn move_near<L: Ledger>(
     alloc: Global,
     family: &AkFamily,

@@ -1,35 +1,13 @@
 -- Lists of rising numbers.
-use Rattle.std.proofs.Common.{◌≡◌, ℕ, zero, suc, ◌<◌, ◌⊎◌, List, [], ◌∷◌, length, Option, Some, None, refl, sym, ◌∙◌, ap, subst, arith, inl, inr, true, false, Bool, Contains, get_or, filter_map, true≢false}
-use Rattle.std.specs.Prelude.{nat_eq}
+use Rattle.std.proofs.Common.{◌≡◌, ℕ, ◌⊎◌, List, [], ◌∷◌, Option, Some, None, refl, sym, ◌∙◌, ap, subst, arith, inl, inr, true, filter_map, true≢false}
 use Rattle.std.specs.Ordering.{nat_cmp}
-use Rattle.std.specs.Cmp.{ranked}
-use Rattle.std.specs.List.{dedup, cons_option, AllByRecursion}
-use Rattle.std.specs.List.Sorted.{IsSorted, IsPermutation, IsStrictlySortedBy, IsStrictlyIncreasing}
-use Rattle.std.specs.declared.cmp.Ordering.TheVariants.{Less}
-use Rattle.std.proofs.lemmas.Bool.{or_cases, or_left, or_right}
-use Rattle.std.proofs.lemmas.Bool.Decides.{Decides-eqb}
-use Rattle.std.proofs.lemmas.List.Sorted.{list_any-IsPermutation}
-use Rattle.std.proofs.lemmas.List.Kept.{Contains-dedup_nat, Contains-from_dedup}
-use Rattle.std.proofs.lemmas.Map.Keys.{IsStrictlyIncreasing-dedup, sorted_from_strictly_increasing}
+use Rattle.std.specs.List.{cons_option}
+use Rattle.std.specs.List.Sorted.{IsStrictlySortedBy, IsStrictlyIncreasing}
+use Rattle.std.proofs.lemmas.Map.Keys.{sorted_from_strictly_increasing}
 use Rattle.px_spec.specs.Members.{has}
+use Rattle.px_spec.proofs.MemberLaws.{has_cases, has_head, has_tail}
+use Rattle.key_table.proofs.RisingSets.{below_rest}
 use Rattle.bisim_levels.specs.Keys.{IsSetOf, AreImages}
-
-pub has_cases : (y : ℕ) (ys : List ℕ) (n : ℕ) → has (y ∷ ys) n ≡ true → (n ≡ y) ⊎ (has ys n ≡ true)
-has_cases y ys n h = elim (or_cases (nat_eq n y) (has ys n) h) [ inl e ↦ inl ((Decides-eqb n y).0 e) | inr t ↦ inr t ]
-
-pub has_head : (y : ℕ) (ys : List ℕ) → has (y ∷ ys) y ≡ true
-has_head y ys = or_left (nat_eq y y) (has ys y) ((Decides-eqb y y).1 refl)
-
-pub has_tail : (y : ℕ) (ys : List ℕ) (n : ℕ) → has ys n ≡ true → has (y ∷ ys) n ≡ true
-has_tail y ys n h = or_right (nat_eq n y) (has ys n) h
-
-all_at : (P : ℕ → Type 0) (xs : List ℕ) (n : ℕ) → AllByRecursion P xs → has xs n ≡ true → P n
-all_at P [] n a h = absurd (true≢false (sym h))
-all_at P (x ∷ xs) n a h = elim (has_cases x xs n h) [ inl e ↦ subst P (sym e) a.0 | inr t ↦ all_at P xs n a.1 t ]
-
--- the first is below the others
-below_rest : (x : ℕ) (xs : List ℕ) (n : ℕ) → AllByRecursion (λ y. nat_cmp x y ≡ Less) xs → has xs n ≡ true → x < n
-below_rest x xs n a h = let less = all_at (λ y. nat_cmp x y ≡ Less) xs n a h in ranked x n Less (sym less)
 
 sorted_unique : (xs ys : List ℕ) → IsStrictlySortedBy nat_cmp xs → IsStrictlySortedBy nat_cmp ys → ((b : ℕ) → has xs b ≡ true → has ys b ≡ true)
     → ((b : ℕ) → has ys b ≡ true → has xs b ≡ true) → xs ≡ ys
@@ -54,36 +32,6 @@ sorted_unique (x ∷ xs) (y ∷ ys) rx ry there back =
 pub rising_unique : (xs ys : List ℕ) → IsStrictlyIncreasing xs → IsStrictlyIncreasing ys → ((b : ℕ) → has xs b ≡ true → has ys b ≡ true)
     → ((b : ℕ) → has ys b ≡ true → has xs b ≡ true) → xs ≡ ys
 rising_unique xs ys rx ry = sorted_unique xs ys (sorted_from_strictly_increasing xs rx) (sorted_from_strictly_increasing ys ry)
-
-has_at : (xs : List ℕ) (k x : ℕ) → k < length xs → get_or xs k x ≡ x → has xs x ≡ true
-has_at [] k x h e = absurd (omega (arith, h))
-has_at (y ∷ ys) zero x h e = subst (λ n. has (y ∷ ys) n ≡ true) e (has_head y ys)
-has_at (y ∷ ys) (suc k) x h e = has_tail y ys x (has_at ys k x (omega (arith, h)) e)
-
-has_from : (xs : List ℕ) (x : ℕ) → Contains xs x → has xs x ≡ true
-has_from xs x h = has_at xs h.0 x h.1 h.2
-
-contains_from : (xs : List ℕ) (x : ℕ) → has xs x ≡ true → Contains xs x
-contains_from [] x h = absurd (true≢false (sym h))
-contains_from (y ∷ ys) x h = elim (has_cases y ys x h) [
-  | inl e ↦ (0, omega arith, sym e)
-  | inr t ↦ let r = contains_from ys x t in (suc r.0, (let l = r.1 in omega arith), r.2)
-]
-
-same_answer : (a b : Bool) → (a ≡ true → b ≡ true) → (b ≡ true → a ≡ true) → a ≡ b
-same_answer true b h k = sym (h refl)
-same_answer false true h k = k refl
-same_answer false false h k = refl
-
--- what a sort and a dedup leave
-pub set_of : (raw sorted kept : List ℕ) → IsPermutation raw sorted → IsSorted nat_cmp sorted → kept ≡ dedup nat_eq sorted → IsSetOf raw kept
-set_of raw sorted kept perm is_sorted kept_is = record {
-  rising = subst IsStrictlyIncreasing (sym kept_is) (IsStrictlyIncreasing-dedup sorted is_sorted);
-  same = λ b. ap (λ xs. has xs b) kept_is ∙ same_answer (has (dedup nat_eq sorted) b) (has sorted b)
-      (λ h. has_from sorted b (Contains-from_dedup nat_eq sorted b (contains_from (dedup nat_eq sorted) b h)))
-      (λ h. has_from (dedup nat_eq sorted) b (Contains-dedup_nat sorted b (contains_from sorted b h)))
-      ∙ sym (list_any-IsPermutation (nat_eq b) raw sorted perm);
-}
 
 mapped : (f : ℕ → Option ℕ) (ps : List ℕ) (b : ℕ) → has (filter_map f ps) b ≡ true → (p : ℕ) × (has ps p ≡ true) × (f p ≡ Some b)
 mapped f [] b h = absurd (true≢false (sym h))

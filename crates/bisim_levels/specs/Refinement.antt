@@ -15,7 +15,7 @@ pub record StayTogether (own : ℕ → Option ℕ) (base : List (Option ℕ)) (n
   pub one_number : Share own u v
   pub neighbours : Matched (λ p n. IsTrue (near p n)) (Together base) u v
 
--- those have a block that have a number, and two are together exactly where they stay together
+-- exactly those that have a number have a block, and two are together exactly where they stay together
 pub record Refines (own : ℕ → Option ℕ) (base : List (Option ℕ)) (near : ℕ → ℕ → Bool) (next : List (Option ℕ)) : Type 0 where
   pub kept : (n : ℕ) → IsSome (own n) → IsSome (at next n)
   pub only : (n : ℕ) → IsSome (at next n) → IsSome (own n)

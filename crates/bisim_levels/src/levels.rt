@@ -56,9 +56,9 @@ pub fn label_level(alloc: Global, view: &GraphView<'_>) -> Result<Level, Memory>
     })
 }
 
-/// The level above a level of bisimilarity. The key of a block is its members' own block, and then the
-/// blocks of their parents, rising, each once, all of the level below. Expected O(n + m log m) for n node
-/// numbers and m edges, as `refine`, which says what memory it takes.
+/// The level above a level of bisimilarity. The key of a block is its members' own block, and then the blocks of their
+/// parents, rising, each once, all of the level below. Expected O(n + m log m) for n node numbers and m edges; it takes
+/// the memory of `refine`.
 pub fn next_level(
     alloc: Global,
     view: &GraphView<'_>,

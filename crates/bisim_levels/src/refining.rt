@@ -19,6 +19,11 @@ use px_base::{Memory, NodeId};
 use std::alloc::Global;
 
 /// A partition of the nodes, whose blocks are numbered by the keys of their members.
+///
+/// Level 0, and the level above it:
+///
+///     let lowest = label_level(alloc, &view)?;
+///     let next = next_level(alloc, &view, &lowest.block)?;
 #[derive(Drop)]
 pub struct Level {
     /// The block of each node, and `None` where the number is no node.

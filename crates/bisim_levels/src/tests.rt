@@ -3,21 +3,18 @@ ghost use Rattle.std.specs.Prelude.{◌≡◌, ◌<◌};
 
 use super::*;
 use label_graph::GraphView;
-use px_base::{Memory, NodeId, Steps};
+use px_base::{Memory, Steps};
 use std::alloc::Global;
 use std::marker::Brand;
 use std::process::Abort;
 use std::sync::ledger::{Blank, Ledger};
 use std::test::Fail;
-use test_graphs::drawn;
+use test_graphs::{drawn, two_chains};
 
 // Whether each node has the block of the same place.
 fn is_parted(block: &[Option<u32>], numbers: &[u32]) -> bool {
     block.len() == numbers.len() && block.iter().zip(numbers).all(|(b, n)| *b == Some(*n))
 }
-
-// Two chains a, b, c, and an x in front of the second one: each level parts one more pair.
-const CHAINS: &[(NodeId, NodeId)] = &[(0, 1), (1, 2), (3, 4), (4, 5), (6, 3)];
 
 // The level of labels, and the two above it.
 fn three_levels(alloc: Global, view: &GraphView<'_>) -> Result<(Level, Level, Level), Memory> {
@@ -33,13 +30,14 @@ fn check_levels(rt: &impl Abort, labels: &Level, first: &Level, second: &Level) 
     assert!(rt; is_parted(&second.block, &[0, 1, 2, 3, 4, 2, 5]));
 }
 
+// With an x in front of the second of two chains, each level parts one more pair.
 fn check_chains<L: Ledger>(rt: &impl Abort, alloc: Global, blank: Blank) -> Result<(), Fail>
     requires name { blank.name ≡ L.name }
     requires parts { blank.parts ≡ L.parts }
     requires some { 0 < blank.parts }
 {
     let mut steps = Steps::<L>::new(blank);
-    let chains = drawn(alloc, b"abcabcx", CHAINS, &mut steps)?;
+    let chains = two_chains(alloc, &[(6, 3)], &mut steps)?;
     let (labels, first, second) = three_levels(alloc, &chains.view(&mut steps))?;
     check_levels(rt, &labels, &first, &second);
     Ok(())

@@ -24,7 +24,7 @@ pub record Matched (Near : ℕ → ℕ → Type 0) (R : ℕ → ℕ → Type 0) 
   pub back : Covers Near R v u
 
 -- Nodes that are bisimilar to this level: at level 0 they have one label; one level up they are bisimilar to the level
--- below, and each parent of the one is so to some parent of the other.
+-- below, and each parent of the one is bisimilar to some parent of the other, to the level below.
 abbrev pub Bis : Shape → ℕ → ℕ → ℕ → Type 0
 Bis s zero u v = SameLabel s u v
 Bis s (suc i) u v = Bis s i u v × Matched (IsParent s) (Bis s i) u v

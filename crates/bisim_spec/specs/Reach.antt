@@ -8,8 +8,8 @@ use Rattle.bisim_spec.specs.Below.{any_below}
 pub record Acyclic (s : Shape) : Type 0 where
   pub alone : (u : ℕ) (word : List (List ℕ)) → Leads s u word u → length word ≤ 1
 
--- The numbers from which one starts, and the nodes to which at most so many edges lead from there. A number from which one
--- starts is near also where it is no node.
+-- The starting numbers, and the nodes to which at most so many edges lead from them. A starting number is near even where
+-- it is no node.
 abbrev pub near : Shape → (ℕ → Bool) → ℕ → ℕ → Bool
 near s from zero n = from n
 near s from (suc j) n = near s from j n || any_below s.size (λ p. near s from j p && s.edge p n)

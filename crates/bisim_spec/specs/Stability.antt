@@ -1,4 +1,4 @@
--- Stable partitions, and those of which no two blocks can be merged. Source: T. Milo and D. Suciu, ICDT 1999 (the 1-index),
+-- Stable partitions, and those with no two blocks that can be merged. Source: T. Milo and D. Suciu, ICDT 1999 (the 1-index),
 -- and K. Yi, H. He, I. Stanoi and J. Yang, "Incremental Maintenance of XML Structural Indexes", SIGMOD 2004 (minimal
 -- 1-indexes, kept by splitting and merging blocks).
 use Rattle.std.specs.Prelude.{ℕ, ◌≡◌, ◌≢◌, Bool, false, List, Option, None, Some, IsFalse, map, nat_eq, if◌then◌else◌}
@@ -7,8 +7,8 @@ use Rattle.bisim_spec.specs.Bisimilarity.{Covers}
 use Rattle.px_spec.specs.Members.{at}
 use Rattle.bisim_spec.specs.Partitions.{Together, IsPartition}
 
--- Stable, but maybe at some nodes: exactly the nodes have a block, and of any two others in one block the labels are
--- equal, and each parent of the one is in one block with some parent of the other.
+-- Stable except perhaps at some nodes: exactly the nodes have a block, and of any two others in one block the labels
+-- are equal, and each parent of the one is in one block with some parent of the other.
 pub record StableBut (s : Shape) (block : List (Option ℕ)) (but : ℕ → Bool) : Type 0 where
   pub partition : IsPartition s block
   pub label : (u v : ℕ) → IsFalse (but u) → IsFalse (but v) → Together block u v → s.label u ≡ s.label v

@@ -7,7 +7,7 @@ use Rattle.px_spec.specs.Members.{at}
 abbrev pub HaveLabels : Partition → List ℕ → Type 0
 HaveLabels p labels = (b : ℕ) → at p.labels b ≡ slice_get labels b
 
--- each node's block is that which the list gives
+-- each node's block is the one that the list gives
 abbrev pub SameBlocks : List (Option ℕ) → List (Option ℕ) → Type 0
 SameBlocks xs ys = (n : ℕ) → at xs n ≡ at ys n
 

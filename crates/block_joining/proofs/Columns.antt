@@ -6,6 +6,7 @@ use Rattle.std.proofs.lemmas.Bool.Decides.{eqb_tells, Decides-ltb, Decides-eqb}
 use Rattle.std.proofs.lemmas.List.{take_more}
 use Rattle.std.proofs.lemmas.List.Folds.{list_any-append}
 use Rattle.px_spec.specs.Members.{has, Lists}
+use Rattle.px_spec.proofs.MemberLaws.{has_more}
 use Rattle.block_joining.specs.Merged.{with_column, with_row}
 
 abbrev pub flipped : (ℕ → ℕ → ℕ) → ℕ → ℕ → ℕ
@@ -65,13 +66,6 @@ column_none a b s x y ne none = by (which a b y)
     by (goes e) = rw (e) (column_gone a b s x ∙ sym none)
     by (stays e) = rw (e) (let h = column_here a b s x ne in omega (arith, h, none))
     by (else_ na nb) = column_there a b s x y na nb
-
-has_more : (xs : List ℕ) (i d m : ℕ) → i < length xs → has (take (i + 1) xs) m ≡ (has (take i xs) m || nat_eq m (get_or xs i d))
-has_more xs i d m h = ap (λ ys. has ys m) (take_more xs i d h) ∙ list_any-append (nat_eq m) (take i xs) (get_or xs i d ∷ []) ∙ ap (λ t. has (take i xs) m || t) (or_no (nat_eq m (get_or xs i d)))
-  where
-    or_no : (t : Bool) → (t || false) ≡ t
-    or_no true = refl
-    or_no false = refl
 
 -- one parent more
 pub column_more : (a b i d : ℕ) (xs : List ℕ) (s now after : ℕ → ℕ → ℕ) → a ≢ b → i < length xs

@@ -55,14 +55,14 @@ fn is_unmet(base: &Summary, draft: &Draft, a: u32, b: u32, x: u32) -> bool
     joins(base, draft, x, b) && !is_met(base, draft, a, b, a, x)
 }
 
-// Whether one of the blocks is so. It stops at the first that is.
+// Whether this holds of one of the blocks. It stops at the first of which it does.
 fn is_any_unmet(base: &Summary, draft: &Draft, a: u32, b: u32, blocks: &[u32]) -> bool
     ensures { result ≡ list_any (λ x. shown_joined base.now draft.now x b && not (met (shown_joined base.now draft.now) a b a x)) blocks.now }
 {
     blocks.iter().any(|x| is_unmet(base, draft, a, b, *x))
 }
 
-// Whether a parent of b in the base rules out that the two can be merged. No list is made, so it is a cheap test to put
+// Whether a parent of b in the base rules out that the two can be merged. No list is made, so it is cheap to test
 // first; parents that the draft adds are not seen.
 fn has_unmet_parent(base: &Summary, draft: &Draft, a: u32, b: u32) -> bool
     ensures { IsTrue result → (x : ℕ) × IsTrue (shown_joined base.now draft.now x b) × (met (shown_joined base.now draft.now) a b a x ≡ false) }
@@ -71,10 +71,10 @@ fn has_unmet_parent(base: &Summary, draft: &Draft, a: u32, b: u32) -> bool
 }
 
 /// Whether two blocks with members can be merged: they have one label, and the same parent blocks once the two count as
-/// one. Their parents are listed only where the base has none that rules it out. `list` is room that is used again.
+/// one. Their parents are listed only where the base has none that rules it out. `list` is memory to be reused.
 ///
-/// Expected O(p log p) for p parents of the two in the base and as drafted; the list takes 4 to 8 bytes for each.
-pub fn mergeable(
+/// Expected O(p log p) for p parents of the two in the base and as drafted; it takes 4 to 8 bytes for each, in the list.
+pub fn can_join(
     base: &Summary,
     draft: &Draft,
     a: u32,

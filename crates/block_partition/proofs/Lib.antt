@@ -2,6 +2,7 @@ mod Links
 mod Mirrors
 mod Chains
 mod Counts
+pub mod PutNumbers
 mod Growth
 mod FreedNumbers
 mod NumberSets

@@ -6,7 +6,8 @@ use Rattle.std.proofs.lemmas.List.{length-append, get_or-set_same, get_or-set_ot
 use Rattle.px_spec.specs.Members.{at, has}
 use Rattle.block_partition.specs.Tables.{NumberSet}
 use Rattle.block_partition.proofs.Counts.{some_within}
-use Rattle.block_partition.proofs.NumberSets.{has_pushed, or_none, and_none, and_true}
+use Rattle.px_spec.proofs.MemberLaws.{has_push, or_false}
+use Rattle.block_partition.proofs.NumberSets.{and_none, and_true}
 
 -- one number is taken out
 pub record IsWithout (old new : NumberSet) (b : ℕ) : Type 0 where
@@ -35,10 +36,10 @@ or_true false = refl
 
 -- the number that comes is listed, and each other one as before
 here : (xs : List ℕ) (b m : ℕ) → nat_eq m b ≡ true → has (xs ++ b ∷ []) m ≡ true
-here xs b m e = has_pushed xs b m ∙ ap (λ t. has xs m || t) e ∙ or_true (has xs m)
+here xs b m e = has_push xs b m ∙ ap (λ t. has xs m || t) e ∙ or_true (has xs m)
 
 there : (xs : List ℕ) (b m : ℕ) → nat_eq m b ≡ false → has (xs ++ b ∷ []) m ≡ has xs m
-there xs b m e = has_pushed xs b m ∙ ap (λ t. has xs m || t) e ∙ or_none (has xs m)
+there xs b m e = has_push xs b m ∙ ap (λ t. has xs m || t) e ∙ or_false (has xs m)
 
 pub listed_again : (lb : List (Option ℕ)) (xs : List ℕ) (b l : ℕ) → ((m : ℕ) → has xs m ≡ is_some (at lb m)) → b < length lb
     → (m : ℕ) → has (xs ++ b ∷ []) m ≡ is_some (at (slice_set lb b (Some l)) m)

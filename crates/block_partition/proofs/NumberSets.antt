@@ -7,11 +7,11 @@ use Rattle.std.proofs.lemmas.Bool.Decides.{eqb_tells}
 use Rattle.std.proofs.lemmas.Cmp.{nat_eq_equiv}
 use Rattle.std.proofs.lemmas.Grind.{get_or_default_zero}
 use Rattle.std.proofs.lemmas.List.{length-set, length-append, get_or-set_same, get_or-set_other, get_or_append_left, get_or_at, get_or-take}
-use Rattle.std.proofs.lemmas.List.Folds.{list_any_at, list_any-append}
 use Rattle.std.proofs.lemmas.List.Sorted.{IsPermutation-swap_remove, list_any-IsPermutation}
 use Rattle.std.proofs.lemmas.Map.Keys.{IsDistinct-head, IsDistinct-tail, IsDistinct-push, IsDistinct-IsPermutation}
 use Rattle.px_spec.specs.Members.{has}
 use Rattle.px_spec.proofs.ListLemmas.{none-has}
+use Rattle.px_spec.proofs.MemberLaws.{has_at}
 use Rattle.block_partition.specs.Soundness.{HavePlaces}
 
 none_once : IsDistinct nat_eq []
@@ -26,9 +26,6 @@ no_places numbers places e =
       within = λ i h. absurd (omega (arith, h, none));
       back = λ i h. absurd (omega (arith, h, none));
     }
-
-same_number : (n : ℕ) → nat_eq n n ≡ true
-same_number n = elim (eqb_tells n n) [ inl s ↦ s.0 | inr d ↦ absurd (d.1 refl) ]
 
 -- where a number of the list stands
 pub record Stands (xs : List ℕ) (n : ℕ) : Type 0 where
@@ -46,14 +43,6 @@ stands (x ∷ xs) n h = elim (eqb_tells n x) [
       record { place = suc r.place; within = omega (arith, l); is = r.is })
 ]
 
--- a number that stands somewhere is one of the list
-has_at : (xs : List ℕ) (i : ℕ) → i < length xs → has xs (slice_index xs i) ≡ true
-has_at xs i l = list_any_at (nat_eq (slice_index xs i)) xs i 0 l (same_number (slice_index xs i))
-
-pub or_none : (b : Bool) → (b || false) ≡ b
-or_none true = refl
-or_none false = refl
-
 pub and_none : (b : Bool) → (b && false) ≡ false
 and_none true = refl
 and_none false = refl
@@ -61,10 +50,6 @@ and_none false = refl
 pub and_true : (b : Bool) → (b && true) ≡ b
 and_true true = refl
 and_true false = refl
-
--- one number more
-pub has_pushed : (xs : List ℕ) (n m : ℕ) → has (xs ++ n ∷ []) m ≡ (has xs m || nat_eq m n)
-has_pushed xs n m = list_any-append (nat_eq m) xs (n ∷ []) ∙ ap (λ b. has xs m || b) (or_none (nat_eq m n))
 
 pub places_pushed : (xs ps : List ℕ) (n : ℕ) → HavePlaces xs ps → n < length ps → has xs n ≡ false → HavePlaces (xs ++ n ∷ []) (slice_set ps n (length xs))
 places_pushed xs ps n k in_ps absent =
@@ -80,7 +65,7 @@ places_pushed xs ps n k in_ps absent =
       ];
       back = λ i h. elim (cases_lt i (length xs)) [
         | inl l ↦ (
-            let apart : slice_index xs i ≢ n = λ e. true≢false (sym (has_at xs i l) ∙ ap (has xs) e ∙ absent) in
+            let apart : slice_index xs i ≢ n = λ e. true≢false (sym (has_at xs i 0 l) ∙ ap (has xs) e ∙ absent) in
             ap (slice_index (slice_set ps n (length xs))) (front i l) ∙ get_or-set_other ps n (slice_index xs i) (length xs) 0 apart ∙ k.back i l)
         | inr past ↦ (
             let end : i ≡ length xs = omega (arith, len, h, past) in

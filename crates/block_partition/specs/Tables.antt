@@ -59,7 +59,7 @@ pub record Keeps (old new : Table) : Type 0 where
   pub places : new.places ≡ old.places
   pub capacity : old.capacity ≤ new.capacity
 
--- the block whose first member a node of the block b is, after this one
+-- the block b where no member stands before this one, and none where one does
 abbrev pub head_where : ℕ → Option ℕ → Option ℕ
 head_where b None = Some b
 head_where b (Some p) = None

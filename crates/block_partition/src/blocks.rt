@@ -265,7 +265,7 @@ impl Blocks {
         }
     }
 
-    /// Moves a node to a block, from that which it has. O(1), no memory.
+    /// Moves a node from its block to this one. O(1), no memory.
     pub fn move_node(&mut self, n: NodeId, b: u32)
         requires has { IsSome (at self.old.block_of n) }
         requires block { IsBlock self.old b }
@@ -317,7 +317,7 @@ impl Blocks {
         self.node_room -= (self.block.len() - old) as u32;
     }
 
-    // Puts the node with the next number in front of the members of a block.
+    // Puts the node with the next number before the members of a block.
     #[inline(always)]
     fn append_member(&mut self, b: u32)
         requires block { IsBlock self.old b }
@@ -335,7 +335,7 @@ impl Blocks {
         self.node_room -= 1;
     }
 
-    // Puts a node of the list that has no block in front of the members of one.
+    // Puts a node of the list that has no block before the members of one.
     fn link(&mut self, n: NodeId, b: u32)
         requires block { IsBlock self.old b }
         requires free { at self.old.block_of n ≡ None }
@@ -359,7 +359,7 @@ fn label_at(labels: &[Option<u32>], b: u32) -> Option<u32>
     *label
 }
 
-// The block whose first member a node of this block is, after this one.
+// The block where no member stands before this one, and none where one does.
 fn head_of(block: u32, before: Option<u32>) -> Option<u32>
     ensures { result ≡ head_where block before }
 {

@@ -70,8 +70,8 @@ impl Freed {
         self.low = self.low.min(n);
     }
 
-    /// Notes that no number up to this one is free. O(1), no memory: it looks at the others of its run, and where
-    /// that run is full from now on, at some hundred entries at most.
+    /// Notes that no number up to this one is free. O(1), no memory: it looks at the others of its run, and if that run
+    /// is now full, at some hundred entries at most.
     pub(crate) fn pass(&mut self, labels: &[Option<u32>], n: u32)
         requires gaps { AreGaps labels.now self.old }
         requires passed { (c : ℕ) → c ≤ n → IsSome (at labels.now c) }
@@ -90,8 +90,8 @@ impl Freed {
         }
     }
 
-    /// The least number from this one on that is free, or is none of the list. O(1), no memory: it looks at the
-    /// numbers of two runs, and at some hundred entries at most.
+    /// The least number from this one on that is free or past the list. O(1), no memory: it looks at the numbers of two
+    /// runs, and at some hundred entries at most.
     pub(crate) fn next_from(&self, labels: &[Option<u32>], from: u32) -> u32
         requires gaps { AreGaps labels.now self.now }
         requires few { length labels.now ≤ 2 ^ 31 }
@@ -159,7 +159,7 @@ fn first_open(full: &Vec<u32>, run: usize) -> usize
     end
 }
 
-// Lets no entry go past this run, which may have a free number from now on.
+// Lets no entry go past this run, which may now have a free number.
 fn stop_at(full: &mut Vec<u32>, run: usize)
     requires { run < vec_len full.old }
     ensures before { (level : ℕ) → level < 7 → full_at full.new.items (group level run) ≤ run - group level run }

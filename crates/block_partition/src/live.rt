@@ -12,7 +12,7 @@ use std::marker::Model;
 #[derive(Drop)]
 pub(crate) struct Live {
     numbers: Vec<u32>,
-    // What stands here for a number that isn't listed has no meaning.
+    // The entry of a number that isn't listed has no meaning.
     places: Vec<u32>,
 }
 

@@ -8,7 +8,7 @@ use crate::slots::Slots;
 use px_base::NodeId;
 use std::marker::Model;
 
-/// The members of a block that are left, each once, in no stated order.
+/// The members of a block that are left, each once, in no stated order. The next one is O(1), no memory.
 #[derive(Drop)]
 pub struct Members<'a> {
     next: &'a Slots,

@@ -7,7 +7,7 @@ use px_base::Memory;
 use std::alloc::Global;
 use std::marker::Model;
 
-// Stands for none.
+// The value that stands for none.
 const NONE: u32 = u32::MAX;
 
 /// For each place a number below 2^32 - 1, or none. It takes 4 bytes a place.

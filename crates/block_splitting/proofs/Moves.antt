@@ -8,7 +8,7 @@ use Rattle.px_spec.specs.Members.{has, at}
 use Rattle.bisim_spec.proofs.Bisimilar.{is_some_at}
 use Rattle.bisim_spec.proofs.Together.{block_below}
 use Rattle.block_splitting.specs.Moved.{AreMoved}
-use Rattle.block_splitting.proofs.Lists.{has_push}
+use Rattle.px_spec.proofs.MemberLaws.{has_push}
 
 -- one place is written
 pub written_at : (block : List (Option ℕ)) (n m : ℕ) (v : Option ℕ) → IsSome (at block n) → at (slice_set block n v) m ≡ (if nat_eq m n then v else at block m)

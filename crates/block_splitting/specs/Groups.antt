@@ -8,14 +8,14 @@ use Rattle.bisim_levels.specs.declared.sides.Side.{Side}
 use Rattle.bisim_levels.specs.Sides.{is_near}
 use Rattle.bisim_levels.specs.Keys.{IsKey}
 
--- those that are seen are nodes with blocks, below a size
+-- the numbers that are seen are nodes with blocks, below a size
 pub record AreReady (g : Graph) (block : List (Option ℕ)) (seen : ℕ → Bool) (size : ℕ) : Type 0 where
   pub node : (n : ℕ) → seen n ≡ true → IsSome (label_number g n)
   pub has_block : (n : ℕ) → seen n ≡ true → IsSome (at block n)
   pub below : (n : ℕ) → seen n ≡ true → n < size
 
--- each that is seen has the number of its key, keys are distinct, and each is that of one that is seen; K says which keys a
--- node has
+-- each node that is seen has the number of its key, keys are distinct, and each key is that of a node that is seen; K says
+-- which keys a node has
 pub record AreGrouped (K : ℕ → List ℕ → Type 0) (seen : ℕ → Bool) (keys : List (List ℕ)) (group : List ℕ) : Type 0 where
   pub distinct : AreDistinct keys
   pub each : (n : ℕ) → seen n ≡ true → (key : List ℕ) × (slice_get keys (slice_index group n) ≡ Some key) × K n key

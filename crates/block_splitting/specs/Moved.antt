@@ -4,28 +4,28 @@ use Rattle.px_spec.specs.Members.{at}
 use Rattle.block_partition.specs.Partitions.{Partition, IsBlock}
 use Rattle.block_splitting.specs.Chosen.{HasFirst, AreChosen, KeepersBelow}
 
--- those that are seen have a block, and one is chosen for their group
+-- the nodes that are seen have a block, and one is chosen for their group
 pub record CanMove (p : Partition) (seen : ℕ → Bool) (group chosen : List ℕ) : Type 0 where
   pub has_block : (n : ℕ) → seen n ≡ true → IsSome (at p.block_of n)
   pub below : (n : ℕ) → seen n ≡ true → n < length group
   pub grouped : (n : ℕ) → seen n ≡ true → slice_index group n < length chosen
   pub live : (k : ℕ) → k < length chosen → IsBlock p (slice_index chosen k)
 
--- those that are seen are where they go, and the others stay; and which of them moved
+-- the nodes that are seen are where they go, and the others stay; and which nodes moved
 pub record AreMoved (seen : ℕ → Bool) (target : ℕ → ℕ) (old new : List (Option ℕ)) (moved : ℕ → Bool) : Type 0 where
   pub there : (n : ℕ) → seen n ≡ true → at new n ≡ Some (target n)
   pub others : (n : ℕ) → seen n ≡ false → at new n ≡ at old n
   pub still : (n : ℕ) → moved n ≡ false → at new n ≡ at old n
   pub went : (n : ℕ) → moved n ≡ true → at new n ≡ at old n → ⊥
 
--- those that are seen have a block and the number of a key; keys begin with the number of a block
+-- the nodes that are seen have a block and the number of a key; keys begin with the number of a block
 pub record CanPart (p : Partition) (seen : ℕ → Bool) (keys : List (List ℕ)) (group : List ℕ) : Type 0 where
   pub has_block : (n : ℕ) → seen n ≡ true → IsSome (at p.block_of n)
   pub below : (n : ℕ) → seen n ≡ true → n < length group
   pub grouped : (n : ℕ) → seen n ≡ true → slice_index group n < length keys
   pub keyed : (k : ℕ) (key : List ℕ) → slice_get keys k ≡ Some key → (own : ℕ) × HasFirst key own × IsBlock p own
 
--- those that are seen went to the blocks that were chosen for the numbers of their keys
+-- the nodes that are seen went to the blocks that were chosen for the numbers of their keys
 pub record AreParted (old new : Partition) (seen : ℕ → Bool) (keys : List (List ℕ)) (group : List ℕ) (moved : ℕ → Bool) : Type 0 where
   -- the partition with the new blocks, before nodes move
   pub middle : Partition

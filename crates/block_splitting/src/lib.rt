@@ -3,7 +3,7 @@
 
 mod choosing;
 mod grouping;
-mod keeping;
+mod keepers;
 mod keys;
 mod moving;
 mod nodes;

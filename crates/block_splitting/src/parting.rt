@@ -4,7 +4,7 @@ ghost use Rattle.px_spec.specs.Members.{has};
 ghost use Rattle.block_splitting.specs.Moved.{CanPart, AreParted};
 
 use crate::choosing::choose;
-use crate::keeping::{note_keepers, sizes_of};
+use crate::keepers::{note_keepers, sizes_of};
 use crate::moving::move_nodes;
 use crate::nodes::NodeSet;
 use block_partition::Blocks;
@@ -12,10 +12,10 @@ use key_table::KeyTable;
 use px_base::{Memory, NodeId};
 use std::alloc::Global;
 
-/// Splits the blocks of the waiting nodes by their groups, and gives those that went to another block.
-/// A group is the number of a key, which begins with the block of the nodes that have it. The largest
-/// group of a block keeps the block's number, where all members of the block wait. `keeper` is used
-/// again. Where memory runs out, the partition stays.
+/// Splits the blocks of the waiting nodes by their groups, and answers which nodes went to another block. A group is
+/// the number of a key, which begins with the block of the nodes that have it. The largest group of a block keeps the
+/// block's number, where all members of the block wait. `keeper` is memory to be reused. Where memory runs out, the
+/// partition stays.
 pub(crate) fn part(
     alloc: Global,
     blocks: &mut Blocks,

@@ -17,8 +17,13 @@ use label_graph::GraphView;
 use px_base::{Memory, NodeId};
 use std::alloc::Global;
 
-/// Memory that each round uses again: one key, the group of each node, and for each block the group that
-/// may keep the block's number. It takes 4 bytes for each node number, and 4 to 8 for each block number.
+/// Memory that each round reuses: one key, the group of each node, and for each block the group that may keep the
+/// block's number. It takes 4 bytes for each node number, and 4 to 8 for each block number.
+///
+/// One round by parents, over the nodes that wait:
+///
+///     let mut tables = Tables::new(alloc, view.created())?;
+///     let moved = split(alloc, &view, Side::Parents, &mut blocks, &waiting, &mut tables)?;
 #[derive(Drop)]
 pub struct Tables {
     pub(crate) key: Vec<u32>,
@@ -39,12 +44,12 @@ impl Tables {
     }
 }
 
-/// Parts the nodes that wait by the blocks of their neighbours on a side, and from the others of their
-/// block. It gives those that went to another block. Where memory runs out, the partition stays.
+/// Parts the waiting nodes from one another by the blocks of their neighbours on a side, and from the other members of their
+/// block. It answers which nodes went to another block. Where memory runs out, the partition stays. The largest part of a block
+/// keeps its number, where all members waited.
 ///
-/// The neighbours' blocks of each node that waits are sorted: expected O(w + m log d) for w nodes that wait, with m neighbours,
-/// at most d each, and O(b) more where these tables have not been used yet and there are b block numbers. It takes O(w + m)
-/// memory. The largest part of a block keeps its number, where all members waited.
+/// Expected O(w + m log d) for w nodes that wait, with m neighbours, at most d each, whose blocks are sorted, and O(b) more
+/// where these tables have not been used yet and there are b block numbers; it takes O(w + m) memory.
 pub fn split(
     alloc: Global,
     view: &GraphView<'_>,

@@ -14,7 +14,7 @@ use label_graph::{Digraph, Labels};
 use px_base::{Bits, Memory};
 use std::alloc::Global;
 
-/// The nodes that meet the step. Its label is looked at last, where the fewest nodes are left.
+/// The nodes that meet the step. Its label is tested last, when the fewest nodes are left.
 #[cycle(holds)]
 pub(crate) fn step_set<G: Digraph>(
     alloc: Global,
@@ -37,7 +37,7 @@ pub(crate) fn step_set<G: Digraph>(
     Ok(set)
 }
 
-/// From where the hop leads to a member.
+/// The nodes from which the hop leads to a member.
 #[cycle(holds)]
 fn hop_set<G: Digraph>(
     alloc: Global,
@@ -55,7 +55,7 @@ fn hop_set<G: Digraph>(
     along(alloc, g, hop.axis.turned(), &ends)
 }
 
-/// From where the hop leads to any node that meets its step.
+/// The nodes from which the hop leads to any node that meets its step.
 #[cycle(holds)]
 fn last_set<G: Digraph>(alloc: Global, g: &G, labels: &Labels, hop: &Hop) -> Result<Bits, Memory>
     requires labelled { (n l : ℕ) → G.label_at g.now n ≡ Some l → l < length labels.now.texts }
@@ -69,7 +69,7 @@ fn last_set<G: Digraph>(alloc: Global, g: &G, labels: &Labels, hop: &Hop) -> Res
     along(alloc, g, hop.axis.turned(), &met)
 }
 
-/// From where the hops lead on.
+/// The nodes from which the hops lead on.
 #[cycle(holds)]
 fn rel_set<G: Digraph>(alloc: Global, g: &G, labels: &Labels, rel: &Rel) -> Result<Bits, Memory>
     requires labelled { (n l : ℕ) → G.label_at g.now n ≡ Some l → l < length labels.now.texts }
@@ -207,7 +207,7 @@ fn or_set<G: Digraph>(alloc: Global, g: &G, labels: &Labels, or: &Or) -> Result<
     Ok(set)
 }
 
-/// Takes out the members from where the hop leads to any node that meets its step.
+/// Takes out the members from which the hop leads to any node that meets its step.
 #[cycle(holds)]
 fn deny_last<G: Digraph>(
     alloc: Global,
@@ -230,7 +230,7 @@ fn deny_last<G: Digraph>(
     Ok(())
 }
 
-/// Takes out the members from where the hops lead on.
+/// Takes out the members from which the hops lead on.
 #[cycle(holds)]
 fn deny_rel<G: Digraph>(
     alloc: Global,

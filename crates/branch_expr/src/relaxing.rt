@@ -99,9 +99,9 @@ fn relax_or(alloc: Global, or: &Or) -> Result<Or, Memory>
     Ok(Or { first, more })
 }
 
-/// The query with `True` in the place of each `not` that stands in no other one, also in the steps of a predicate. Each
-/// answer of the query is one of it, also where more edges are seen than there are. `Memory` comes only where memory runs
-/// out. O(m) for a query with m tokens and the bytes of its labels; it takes the memory of such a query.
+/// The query with `True` in place of each outermost `not`, also in the steps of a predicate. Each answer of the query is
+/// an answer of this one, even where more edges are seen than there are. `Memory` comes only where memory runs out. O(m)
+/// for a query with m tokens and the bytes of its labels; it takes the memory of such a query.
 pub fn relax(alloc: Global, query: &BranchTree) -> Result<BranchTree, Memory>
     ensures { IfOk result (λ q. q ≡ relax query.now) }
 {

@@ -34,7 +34,7 @@ pub struct Hop {
     pub step: Step,
 }
 
-/// One step or more, each after its axis: nodes lead on along them from the node at which it holds.
+/// One or more steps, each after its axis: nodes lead on along them from the node at which it holds.
 #[cycle(tree)]
 #[derive(Drop)]
 pub struct Rel {
@@ -50,7 +50,7 @@ pub struct Rel {
 pub enum Cond {
     /// `not`, and what is denied in parentheses.
     Not(Box<Or>),
-    /// In parentheses.
+    /// What stands in parentheses.
     Group(Box<Or>),
     /// Steps, each after its axis.
     Rel(Rel),
@@ -58,7 +58,7 @@ pub enum Cond {
     True,
 }
 
-/// One condition or more, with `and` between them.
+/// One or more conditions, with `and` between them.
 #[cycle(tree)]
 #[derive(Drop)]
 pub struct And {
@@ -68,7 +68,7 @@ pub struct And {
     pub more: Vec<Cond>,
 }
 
-/// One or more, with `or` between them, seen as its tree.
+/// One or more alternatives, with `or` between them, seen as its tree.
 #[cycle(tree)]
 #[derive(Drop)]
 pub struct Or {

@@ -1,4 +1,4 @@
-//! Queries of every language: what they answer over any graph, and their relaxed forms. Those of branching queries are passed on.
+//! Queries of every language: what they answer over any graph, and their relaxed forms. `Branch` and its `eval` are passed on.
 #![tactic(auto)]
 
 mod queries;

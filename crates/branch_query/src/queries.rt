@@ -10,18 +10,23 @@ use px_base::{Bits, Memory};
 use std::alloc::Global;
 
 /// A query, by its language.
+///
+/// The answers of a path expression over a graph:
+///
+///     let query = Query::Path(&expr);
+///     let nodes = query.answers(alloc, &graph.view(&mut steps), graph.labels())?;
 #[derive(Clone, Copy)]
 pub enum Query<'a> {
-    /// The nodes in which the walks end that the path expression matches.
+    /// The last nodes of the walks that the path expression matches.
     Path(&'a PathExpr),
-    /// The nodes in which lists of nodes end that lead along the axes of the branching query, each node meeting its step.
+    /// The last nodes of the lists of nodes that lead along the axes of the branching query, each node meeting its step.
     Branch(&'a Branch),
 }
 
 impl Query<'_> {
     /// The nodes of a graph that answer the query: a set of numbers below the graph's size. `Memory` comes only where memory
-    /// runs out. O(m (n + e)) for m tokens, n node numbers and e edges, beside the look-ups of
-    /// the labels. For a path expression it takes O(m n) memory, and for a branching query O(d n) where brackets nest d deep.
+    /// runs out. O(m (n + e)) for m tokens, n node numbers and e edges, beside the look-ups of the labels; it takes O(m n)
+    /// memory for a path expression, and O((d + 1) n) for a branching query where brackets nest d deep.
     pub fn answers<G: Digraph>(&self, alloc: Global, g: &G, labels: &Labels) -> Result<Bits, Memory>
         requires labelled { (n l : ℕ) → G.label_at g.now n ≡ Some l → l < length labels.now.texts }
         ensures size { IfOk result (λ b. b.size ≡ G.span g.now) }
@@ -34,7 +39,8 @@ impl Query<'_> {
     }
 
     /// The nodes of a graph that answer the query's relaxed form, likewise. A path expression is its own relaxed form; that
-    /// of a branching query is made first. O(m (n + e)), and memory, as `answers` takes for that form.
+    /// of a branching query is made first. O(m (n + e)), beside the look-ups of the labels; it takes the memory that
+    /// `answers` takes for that form.
     pub fn relaxed_answers<G: Digraph>(
         &self,
         alloc: Global,

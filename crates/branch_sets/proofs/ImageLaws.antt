@@ -71,12 +71,12 @@ module _ (size : ℕ) (label_at : ℕ → Option ℕ) (edge : ℕ → ℕ → Bo
     λ n. a.complete 0 c refl (below c (last_node n.0 c n.2)) (onward 2 c 0 c (far_reached n.0 c n.1 n.2) (inl refl, refl)),
   )
 
--- turned round
+-- what is reached against the edges reaches back along them
 
 in_front : (edge : ℕ → ℕ → Bool) (u w v : ℕ) → IsTrue (edge u w) → Reaches edge w v → Reaches edge u v
 in_front edge u w v e (direct a b d) = further u w v (direct u w e) d
 in_front edge u w v e (further a x b r d) = further u x v (in_front edge u w x e r) d
 
-pub turned : (edge : ℕ → ℕ → Bool) (u v : ℕ) → Reaches (λ x y. edge y x) u v → Reaches edge v u
-turned edge u v (direct a b e) = direct v u e
-turned edge u v (further a w b r e) = in_front edge v w u e (turned edge u w r)
+pub reaches_back : (edge : ℕ → ℕ → Bool) (u v : ℕ) → Reaches (λ x y. edge y x) u v → Reaches edge v u
+reaches_back edge u v (direct a b e) = direct v u e
+reaches_back edge u v (further a w b r e) = in_front edge v w u e (reaches_back edge u w r)

@@ -3,6 +3,6 @@ use Rattle.std.specs.Prelude.{List, [], ◌∷◌}
 use Rattle.path_search.specs.declared.state.State.{State}
 use Rattle.path_search.specs.declared.state.State.TheVariants.{End, Any, Fork}
 
--- one edge or more
+-- one or more edges
 abbrev pub far_states : List State
 far_states = End ∷ Any 2 ∷ Fork 0 1 ∷ []

@@ -6,11 +6,11 @@ ghost use Rattle.std.specs.Prelude.{◌≡◌};
 pub enum Axis {
     /// `/`, a child.
     Child,
-    /// `//`, a node below: one edge or more leads to it.
+    /// `//`, a node below: one or more edges lead to it.
     Below,
     /// `\`, a parent.
     Parent,
-    /// `\\`, a node above: one edge or more leads from it.
+    /// `\\`, a node above: one or more edges lead from it.
     Above,
 }
 

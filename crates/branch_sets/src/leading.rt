@@ -15,7 +15,7 @@ use path_search::{Program, State, search};
 use px_base::{Bits, Memory};
 use std::alloc::Global;
 
-/// The automaton that reads one label or more from state 1 on.
+/// The automaton that reads one or more labels from state 1 on.
 fn far_program(alloc: Global) -> Result<Program, Memory>
     ensures { IfOk result (λ p. p ≡ far_states) }
 {
@@ -127,7 +127,7 @@ fn remove_led<G: Digraph>(g: &G, nodes: &[u32], set: &mut Bits)
     }
 }
 
-/// Takes the children of the nodes whose label passes out of a set of numbers below the graph's size: any label, or the one with
+/// Takes out of a set of numbers below the graph's size the children of the nodes whose label passes: any label, or the one with
 /// the number. `Memory` comes only where memory runs out. O(n + e) for n node numbers and the e edges that lead from those nodes;
 /// each node is read once. It takes 4 KiB.
 pub fn remove_passing_children<G: Digraph>(
@@ -151,7 +151,7 @@ pub fn remove_passing_children<G: Digraph>(
     Ok(())
 }
 
-/// What is reached from a member by one edge or more.
+/// What is reached from a member by one or more edges.
 fn far<G: Digraph>(alloc: Global, g: &G, set: &Bits) -> Result<Bits, Memory>
     requires { (v : ℕ) → IsTrue (has set.now.members v) → IsSome (G.label_at g.now v) }
     ensures size { IfOk result (λ b. b.size ≡ G.span g.now) }

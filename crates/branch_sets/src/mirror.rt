@@ -1,10 +1,15 @@
-// A graph with its edges turned round.
+// A graph with its edges reversed.
 use label_graph::Digraph;
 
-/// The graph with each edge turned round.
+/// The graph with each edge reversed. Each read is O(1) where that of the graph is, no memory.
+///
+/// The nodes from which an edge leads to a member of a set:
+///
+///     let mirror = Mirror { graph: &view };
+///     let parents = along(alloc, &mirror, Axis::Child, &set)?;
 #[derive(Drop)]
 pub struct Mirror<'g, G> {
-    /// The graph whose edges are turned.
+    /// The graph whose edges are reversed.
     pub graph: &'g G,
 }
 

@@ -27,10 +27,11 @@ pub(crate) fn is_passing<G: Digraph>(g: &G, test: Option<u32>, n: NodeId) -> boo
     g.is_node(n) && passes(g, test, n)
 }
 
-/// How many nodes are looked at before those that pass are used. So few numbers stay in the nearest memory.
+/// How many nodes are tested before those that pass are used: few enough for their numbers to stay in the nearest
+/// memory.
 pub(crate) const RUN: u32 = 1024;
 
-/// Puts a number behind the first `count` of a list, and tells how many they are then: one more where it is wanted.
+/// Puts a number behind the first `count` of a list, and answers how many there are then: one more if it is wanted.
 #[inline(always)]
 fn note_if(noted: &mut Vec<u32>, count: usize, n: NodeId, wanted: bool) -> usize
     requires { count < length noted.old.items }

@@ -20,7 +20,7 @@ fn remove_unless(set: &mut Bits, n: NodeId, stays: bool)
     }
 }
 
-/// Takes the numbers out of a set that aren't in another one. O(n) for the first set's size n, no memory.
+/// Takes out of a set the numbers that aren't in another one. O(n) for the first set's size n, no memory.
 pub fn intersect(set: &mut Bits, other: &Bits)
     ensures size { set.new.size ≡ set.old.size }
     ensures members { (n : ℕ) → IsTrue (has set.new.members n) ↔ (IsTrue (has set.old.members n) × IsTrue (has other.now.members n)) }
@@ -92,7 +92,7 @@ pub fn passing<G: Digraph>(alloc: Global, g: &G, test: Option<u32>) -> Result<Bi
     Ok(set)
 }
 
-/// Takes those of the listed numbers out of a set that aren't those of nodes whose label has the number.
+/// Takes out of a set the listed numbers that aren't nodes whose label has the number.
 fn keep_listed<G: Digraph>(g: &G, label: u32, list: &[u32], set: &mut Bits)
     requires { (n : ℕ) → IsTrue (has list.now n) → n < set.old.size }
     ensures size { set.new.size ≡ set.old.size }
@@ -103,8 +103,8 @@ fn keep_listed<G: Digraph>(g: &G, label: u32, list: &[u32], set: &mut Bits)
     }
 }
 
-/// Takes the numbers out of a set that aren't those of nodes whose label has the number. `Memory` comes only where memory runs
-/// out. O(n) for a set of numbers below n, and each member's label is read once; it takes 4 KiB.
+/// Keeps the members of a set that are nodes whose label has the number. `Memory` comes only where memory runs out. O(n) for a
+/// set of numbers below n, and each member's label is read once; it takes 4 KiB.
 pub fn keep_labelled<G: Digraph>(
     alloc: Global,
     g: &G,

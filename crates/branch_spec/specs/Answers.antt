@@ -5,7 +5,7 @@ use Rattle.px_spec.specs.Members.{has}
 use Rattle.px_spec.specs.Shapes.{Shape, IsNode}
 use Rattle.branch_spec.specs.Trees.{Axis, child, below, parent, above, Test, label, any, Step, step, Preds, none, pred, Or, one, or, And, lone, and, Cond, fails, group, rel, always, Chain, end, go, Branch, branch}
 
--- one edge or more leads from u to v
+-- one or more edges lead from u to v
 pub data Reaches (edge : ℕ → ℕ → Bool) : ℕ → ℕ → Type 0 where
   direct : (u v : ℕ) → IsTrue (edge u v) → Reaches edge u v
   further : (u w v : ℕ) → Reaches edge u w → IsTrue (edge w v) → Reaches edge u v

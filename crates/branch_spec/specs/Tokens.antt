@@ -22,7 +22,7 @@ pub data Token : Type 0 where
   -- what has no text
   nothing : Token
 
--- the tokens of a part, in front of those that follow
+-- the tokens of a part, before those that follow
 abbrev pub test_onto : Test → List Token → List Token
 test_onto (label t) r = lab t ∷ r
 test_onto any r = underscore ∷ r

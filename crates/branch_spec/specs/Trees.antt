@@ -35,7 +35,7 @@ mutual
     one : And → Or
     or : And → Or → Or
 
-  -- one condition or more, with 'and' between them
+  -- one or more conditions, with 'and' between them
   pub data And : Type 0 where
     lone : Cond → And
     and : Cond → And → And

@@ -1,4 +1,4 @@
--- The token in front of a text.
+-- The token at the front of a text.
 use Rattle.std.specs.Prelude.{ℕ, ◌≡◌, ◌+◌, ◌==◌, List, [], ◌∷◌, ◌++◌, length, take, drop, codes, nat_eq, nat_lt, bytes_eq, Option, None, Some, option_map, if◌then◌else◌}
 use Rattle.std.specs.List.{prefix_len, position_or_len}
 use Rattle.px_spec.specs.Words.{is_name_byte}
@@ -8,7 +8,7 @@ use Rattle.branch_spec.specs.Spelling.{EndsToken, SpellsToken}
 use Rattle.triples_read.specs.ByteReaders.{starts_with}
 use Rattle.path_query.specs.Labels.{SpellsLabel}
 
--- a token stands in front, as long as can be
+-- a token stands at the front, as long as it can be
 abbrev pub IsTokenFront : List ℕ → Token → List ℕ → Type 0
 IsTokenFront text t rest = (word : List ℕ) × SpellsToken SpellsLabel word t × EndsToken t rest × (text ≡ word ++ rest)
 
@@ -18,12 +18,12 @@ mark_at b =
     if b == 95 then Some underscore else (if b == 91 then Some left else (if b == 93 then Some right
     else (if b == 40 then Some opening else (if b == 41 then Some closing else None))))
 
--- behind the first byte of an axis: the further one where it stands there again
+-- behind the first byte of an axis: the far axis where that byte comes twice
 abbrev pub axis_front : ℕ → Axis → Axis → List ℕ → Token × List ℕ
 axis_front k near far [] = (axis near, [])
 axis_front k near far (b ∷ bs) = if b == k then (axis far, bs) else (axis near, b ∷ bs)
 
--- the token in front that is no word
+-- the token at the front that is no word
 abbrev pub sign_front : List ℕ → Option (Token × List ℕ)
 sign_front [] = None
 sign_front (b ∷ bs) =
@@ -36,7 +36,7 @@ word_token w =
     if bytes_eq w (codes "not") then Some not_word else (if bytes_eq w (codes "and") then Some and_word
     else (if bytes_eq w (codes "or") then Some or_word else None))
 
--- the word in front that is no label
+-- the word at the front that is no label
 abbrev pub word_front : List ℕ → Option (Token × List ℕ)
 word_front text = option_map (λ t. (t, drop (prefix_len is_name_byte text) text)) (word_token (take (prefix_len is_name_byte text) text))
 
@@ -44,7 +44,7 @@ abbrev pub or_else : Option (Token × List ℕ) → Option (Token × List ℕ) �
 or_else None o = o
 or_else (Some p) o = Some p
 
--- the token in front that is no label
+-- the token at the front that is no label
 abbrev pub mark_front : List ℕ → Option (Token × List ℕ)
 mark_front text = or_else (sign_front text) (word_front text)
 
@@ -54,6 +54,6 @@ iri_len text =
     if nat_lt (position_or_len (λ b. nat_eq b 62) text) (length text) then position_or_len (λ b. nat_eq b 62) text + 1
     else position_or_len (λ b. nat_eq b 62) text
 
--- how many bytes a label in front has, where one stands there
+-- how many bytes a label at the front has, where one stands there
 abbrev pub label_len : List ℕ → ℕ
 label_len text = if starts_with 60 text then iri_len text else prefix_len is_name_byte text

@@ -8,8 +8,9 @@ use label_graph::{Digraph, Labels};
 use px_base::{Bits, Memory};
 use std::alloc::Global;
 
-/// The nodes in which a list of nodes ends whose first node meets the first step and that leads along the axes, each node
-/// meeting its step: a set of numbers below the graph's size. `Memory` comes only where memory runs out. O(m (n + e)) for m tokens, n node numbers and e edges, beside the look-ups of the labels; it takes O(d n) memory where brackets nest d deep.
+/// The last nodes of the lists of nodes that lead along the axes, each node meeting its step: a set of numbers below the graph's size.
+/// `Memory` comes only where memory runs out. O(m (n + e)) for m tokens, n node numbers and e edges, beside the look-ups of the labels; it
+/// takes O((d + 1) n) memory where brackets nest d deep.
 pub fn eval<G: Digraph>(
     alloc: Global,
     g: &G,

@@ -47,7 +47,7 @@ impl Branch {
     /// The one query that the text spells, as `a//b[/c and not(\<http://e/d>)]/_`, where spaces and tabs may stand between
     /// tokens and at both ends. `Limit` comes exactly where the text has more bytes than `expr_bytes` or its brackets nest
     /// deeper than `expr_depth`, else `Syntax` only where it spells none, and `Memory` where memory runs out. O(n) for n
-    /// bytes, in time and memory.
+    /// bytes; it takes O(n) memory.
     pub fn parse(alloc: Global, text: &[u8], limits: &Limits) -> Result<Branch, ExprError>
         ensures ok { IfOk result (λ q. Spells text.now q) }
         ensures only { IfOk result (λ q. (other : tree.Branch) → Spells text.now other → other ≡ q) }
@@ -80,9 +80,9 @@ impl Branch {
         Ok(Text::from_string(out))
     }
 
-    /// The relaxed form: what is denied by a `not` that stands in no other one is left out, also in the steps of a
-    /// predicate, and what holds everywhere stands in its place. `Memory` comes only where memory runs out. O(m) for a query with m
-    /// tokens and the bytes of its labels; it takes the memory of such a query.
+    /// The relaxed form: each outermost `not`, with what it denies, is replaced by what holds everywhere, also in the steps of a
+    /// predicate. `Memory` comes only where memory runs out. O(m) for a query with m tokens and the bytes of its labels; it takes
+    /// the memory of such a query.
     pub fn relax(&self, alloc: Global) -> Result<Branch, Memory>
         ensures { IfOk result (λ q. q ≡ relax self.now) }
     {

@@ -44,7 +44,7 @@ impl From<Memory> for ReadError {
     }
 }
 
-/// The test in front, and what follows it.
+/// The test at the front, and what follows it.
 fn read_test<'t>(alloc: Global, left: &'t [Token]) -> Result<(Test, &'t [Token]), ReadError>
     ensures ok { IfOk result (λ r. seen left.now ≡ tokens.test_onto (test_of r.0) (seen r.1.now)) }
     ensures shorter { IfOk result (λ r. length r.1.now < length left.now) }
@@ -60,7 +60,7 @@ fn read_test<'t>(alloc: Global, left: &'t [Token]) -> Result<(Test, &'t [Token])
     }
 }
 
-/// What stands in brackets in front, and what follows these.
+/// What stands in brackets at the front, and what follows them.
 #[cycle(read)]
 fn read_pred<'t>(alloc: Global, left: &'t [Token]) -> Result<(Or, &'t [Token]), ReadError>
     ensures ok { IfOk result (λ r. seen left.now ≡ tokens.or_onto r.0 (tokens.right ∷ seen r.1.now)) }
@@ -74,7 +74,7 @@ fn read_pred<'t>(alloc: Global, left: &'t [Token]) -> Result<(Or, &'t [Token]), 
     Ok((or, after))
 }
 
-/// The step in front, and what follows it.
+/// The step at the front, and what follows it.
 #[cycle(read)]
 fn read_step<'t>(alloc: Global, left: &'t [Token]) -> Result<(Step, &'t [Token]), ReadError>
     ensures ok { IfOk result (λ r. seen left.now ≡ tokens.step_onto (step_of r.0) (seen r.1.now)) }
@@ -96,7 +96,7 @@ fn read_step<'t>(alloc: Global, left: &'t [Token]) -> Result<(Step, &'t [Token])
     }
 }
 
-/// The steps after their axes in front, none or more, and what follows them.
+/// The steps at the front, each after its axis, none or more, and what follows them.
 #[cycle(read)]
 fn read_hops<'t>(alloc: Global, left: &'t [Token]) -> Result<(Vec<Hop>, &'t [Token]), ReadError>
     requires { tokens.EndsStep (seen left.now) }
@@ -115,7 +115,7 @@ fn read_hops<'t>(alloc: Global, left: &'t [Token]) -> Result<(Vec<Hop>, &'t [Tok
     Ok((hops, behind))
 }
 
-/// The step after its axis in front, with more, and what follows them.
+/// One or more steps at the front, each after its axis, and what follows them.
 #[cycle(read)]
 fn read_rel<'t>(alloc: Global, left: &'t [Token]) -> Result<(Rel, &'t [Token]), ReadError>
     ensures ok { IfOk result (λ r. seen left.now ≡ tokens.chain_onto (chain_of (r.0.first ∷ r.0.rest.items)) (seen r.1.now)) }
@@ -132,7 +132,7 @@ fn read_rel<'t>(alloc: Global, left: &'t [Token]) -> Result<(Rel, &'t [Token]), 
     Ok((Rel { first, rest }, next))
 }
 
-/// What stands in parentheses in front, and what follows these.
+/// What stands in parentheses at the front, and what follows them.
 #[cycle(read)]
 fn read_group<'t>(alloc: Global, left: &'t [Token]) -> Result<(Or, &'t [Token]), ReadError>
     ensures ok { IfOk result (λ r. seen left.now ≡ tokens.opening ∷ tokens.or_onto r.0 (tokens.closing ∷ seen r.1.now)) }
@@ -149,7 +149,7 @@ fn read_group<'t>(alloc: Global, left: &'t [Token]) -> Result<(Or, &'t [Token]),
     Ok((or, after))
 }
 
-/// What is denied in front, behind its `not`, and what follows it.
+/// What is denied at the front, after its `not`, and what follows it.
 #[cycle(read)]
 fn read_not<'t>(alloc: Global, left: &'t [Token]) -> Result<(Cond, &'t [Token]), ReadError>
     ensures ok { IfOk result (λ r. tokens.not_word ∷ seen left.now ≡ tokens.cond_onto (cond_of r.0) (seen r.1.now)) }
@@ -161,7 +161,7 @@ fn read_not<'t>(alloc: Global, left: &'t [Token]) -> Result<(Cond, &'t [Token]),
     Ok((Cond::Not(Box::new(alloc, or)?), after))
 }
 
-/// The condition in parentheses in front, and what follows it.
+/// The condition in parentheses at the front, and what follows it.
 #[cycle(read)]
 fn read_parentheses<'t>(alloc: Global, left: &'t [Token]) -> Result<(Cond, &'t [Token]), ReadError>
     requires { (q : List tokens.Token) × (seen left.now ≡ tokens.opening ∷ q) }
@@ -174,7 +174,7 @@ fn read_parentheses<'t>(alloc: Global, left: &'t [Token]) -> Result<(Cond, &'t [
     Ok((Cond::Group(Box::new(alloc, or)?), after))
 }
 
-/// The steps in front as a condition, and what follows it.
+/// The steps at the front, as a condition, and what follows them.
 #[cycle(read)]
 fn read_steps<'t>(alloc: Global, left: &'t [Token]) -> Result<(Cond, &'t [Token]), ReadError>
     requires { (a : tree.Axis) × (q : List tokens.Token) × (seen left.now ≡ tokens.axis a ∷ q) }
@@ -187,7 +187,7 @@ fn read_steps<'t>(alloc: Global, left: &'t [Token]) -> Result<(Cond, &'t [Token]
     Ok((Cond::Rel(rel), after))
 }
 
-/// The condition in front, whatever follows it, and that.
+/// The condition at the front, and what follows it, whatever that is.
 #[cycle(read)]
 fn read_unit<'t>(alloc: Global, left: &'t [Token]) -> Result<(Cond, &'t [Token]), ReadError>
     ensures ok { IfOk result (λ r. seen left.now ≡ tokens.cond_onto (cond_of r.0) (seen r.1.now)) }
@@ -206,7 +206,7 @@ fn read_unit<'t>(alloc: Global, left: &'t [Token]) -> Result<(Cond, &'t [Token])
     }
 }
 
-/// The condition in front, and what follows it.
+/// The condition at the front, and what follows it.
 #[cycle(read)]
 fn read_cond<'t>(alloc: Global, left: &'t [Token]) -> Result<(Cond, &'t [Token]), ReadError>
     ensures ok { IfOk result (λ r. seen left.now ≡ tokens.cond_onto (cond_of r.0) (seen r.1.now)) }
@@ -222,7 +222,7 @@ fn read_cond<'t>(alloc: Global, left: &'t [Token]) -> Result<(Cond, &'t [Token])
     }
 }
 
-/// The conditions with `and` between them in front, and what follows them.
+/// The conditions at the front, with `and` between them, and what follows them.
 #[cycle(read)]
 fn read_and<'t>(alloc: Global, left: &'t [Token]) -> Result<(And, &'t [Token]), ReadError>
     ensures ok { IfOk result (λ r. seen left.now ≡ tokens.and_onto (and_of r.0) (seen r.1.now)) }
@@ -240,7 +240,7 @@ fn read_and<'t>(alloc: Global, left: &'t [Token]) -> Result<(And, &'t [Token]), 
     Ok((And { first, more }, behind))
 }
 
-/// The alternatives with `or` between them in front, and what follows them.
+/// The alternatives at the front, with `or` between them, and what follows them.
 #[cycle(read)]
 fn read_or<'t>(alloc: Global, left: &'t [Token]) -> Result<(Or, &'t [Token]), ReadError>
     ensures ok { IfOk result (λ r. seen left.now ≡ tokens.or_onto r.0 (seen r.1.now)) }

@@ -29,7 +29,7 @@ fn mark_at(byte: u8) -> Option<Token>
     }
 }
 
-/// The token of an axis whose first byte is this one, with what follows it: the further one where the byte comes again.
+/// The token of an axis whose first byte is this one, with what follows it: the far axis where the byte comes twice.
 fn axis_front(byte: u8, near: Axis, far: Axis, rest: &[u8]) -> (Token, &[u8])
     ensures { (token_of result.0, result.1.now) ≡ axis_front byte (axis_of near) (axis_of far) rest.now }
 {
@@ -39,7 +39,7 @@ fn axis_front(byte: u8, near: Axis, far: Axis, rest: &[u8]) -> (Token, &[u8])
     }
 }
 
-/// The token in front that is no word, and what follows it.
+/// The token at the front that is no word, and what follows it.
 fn sign_front(text: &[u8]) -> Option<(Token, &[u8])>
     ensures { option_map (λ r. (token_of r.0, r.1.now)) result ≡ sign_front text.now }
 {
@@ -69,7 +69,7 @@ fn word_token(word: &[u8]) -> Option<Token>
     }
 }
 
-/// The word in front that is no label, and what follows it.
+/// The word at the front that is no label, and what follows it.
 fn word_front(text: &[u8]) -> Option<(Token, &[u8])>
     ensures { option_map (λ r. (token_of r.0, r.1.now)) result ≡ word_front text.now }
 {
@@ -78,7 +78,7 @@ fn word_front(text: &[u8]) -> Option<(Token, &[u8])>
     Some((token, rest))
 }
 
-/// The token in front that is no label, and what follows it.
+/// The token at the front that is no label, and what follows it.
 pub(crate) fn mark_front(text: &[u8]) -> Option<(Token, &[u8])>
     ensures { option_map (λ r. (token_of r.0, r.1.now)) result ≡ mark_front text.now }
 {
@@ -116,7 +116,7 @@ fn opens_iri(text: &[u8]) -> bool
     matches!(text, [b'<', ..])
 }
 
-/// How many bytes a label in front has, where one stands there. Linear in that number.
+/// How many bytes a label at the front has, where one stands there. Linear in that number.
 pub(crate) fn label_len(text: &[u8]) -> usize
     ensures count { result ≡ label_len text.now }
     ensures within { result ≤ length text.now }

@@ -33,7 +33,7 @@ pub(crate) enum Token {
     Or,
 }
 
-/// The token in front, and what follows it.
+/// The token at the front, and what follows it.
 pub(crate) fn first_token(left: &[Token]) -> Option<(&Token, &[Token])>
     ensures some { IfSome result (λ p. seen left.now ≡ token_of p.0.now ∷ seen p.1.now) }
     ensures shorter { IfSome result (λ p. length p.1.now < length left.now) }
@@ -42,7 +42,7 @@ pub(crate) fn first_token(left: &[Token]) -> Option<(&Token, &[Token])>
     left.split_first()
 }
 
-/// The axis in front, and what follows it.
+/// The axis at the front, and what follows it.
 pub(crate) fn first_axis(left: &[Token]) -> Option<(Axis, &[Token])>
     ensures some { IfSome result (λ p. seen left.now ≡ tokens.axis (axis_of p.0) ∷ seen p.1.now) }
     ensures shorter { IfSome result (λ p. length p.1.now < length left.now) }
@@ -54,7 +54,7 @@ pub(crate) fn first_axis(left: &[Token]) -> Option<(Axis, &[Token])>
     }
 }
 
-/// What follows a `[` in front.
+/// What follows a `[` at the front.
 pub(crate) fn after_left(left: &[Token]) -> Option<&[Token]>
     ensures some { IfSome result (λ r. seen left.now ≡ tokens.left ∷ seen r.now) }
     ensures shorter { IfSome result (λ r. length r.now < length left.now) }
@@ -66,7 +66,7 @@ pub(crate) fn after_left(left: &[Token]) -> Option<&[Token]>
     }
 }
 
-/// What follows a `]` in front.
+/// What follows a `]` at the front.
 pub(crate) fn after_right(left: &[Token]) -> Option<&[Token]>
     ensures some { IfSome result (λ r. seen left.now ≡ tokens.right ∷ seen r.now) }
     ensures shorter { IfSome result (λ r. length r.now < length left.now) }
@@ -78,7 +78,7 @@ pub(crate) fn after_right(left: &[Token]) -> Option<&[Token]>
     }
 }
 
-/// What follows a `(` in front.
+/// What follows a `(` at the front.
 pub(crate) fn after_open(left: &[Token]) -> Option<&[Token]>
     ensures some { IfSome result (λ r. seen left.now ≡ tokens.opening ∷ seen r.now) }
     ensures shorter { IfSome result (λ r. length r.now < length left.now) }
@@ -90,7 +90,7 @@ pub(crate) fn after_open(left: &[Token]) -> Option<&[Token]>
     }
 }
 
-/// What follows a `)` in front.
+/// What follows a `)` at the front.
 pub(crate) fn after_close(left: &[Token]) -> Option<&[Token]>
     ensures some { IfSome result (λ r. seen left.now ≡ tokens.closing ∷ seen r.now) }
     ensures shorter { IfSome result (λ r. length r.now < length left.now) }
@@ -102,7 +102,7 @@ pub(crate) fn after_close(left: &[Token]) -> Option<&[Token]>
     }
 }
 
-/// What follows an `and` in front.
+/// What follows an `and` at the front.
 pub(crate) fn after_and(left: &[Token]) -> Option<&[Token]>
     ensures some { IfSome result (λ r. seen left.now ≡ tokens.and_word ∷ seen r.now) }
     ensures shorter { IfSome result (λ r. length r.now < length left.now) }
@@ -114,7 +114,7 @@ pub(crate) fn after_and(left: &[Token]) -> Option<&[Token]>
     }
 }
 
-/// What follows an `or` in front.
+/// What follows an `or` at the front.
 pub(crate) fn after_or(left: &[Token]) -> Option<&[Token]>
     ensures some { IfSome result (λ r. seen left.now ≡ tokens.or_word ∷ seen r.now) }
     ensures shorter { IfSome result (λ r. length r.now < length left.now) }

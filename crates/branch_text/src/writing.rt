@@ -134,7 +134,7 @@ fn write_or(out: &mut String, or: &Or) -> Result<(), Memory>
     Ok(())
 }
 
-/// Writes the canonical text behind what stands there.
+/// Appends the canonical text.
 pub(crate) fn write_branch(out: &mut String, query: &BranchTree) -> Result<(), Memory>
     ensures { OnOk result (string_bytes out.new ≡ string_bytes out.old ++ branch_text query.now) }
 {

@@ -4,7 +4,8 @@ use Rattle.std.specs.Prelude.{◌||◌, ◌&&◌, not}
 use Rattle.std.specs.List.{list_any}
 use Rattle.std.proofs.lemmas.Bool.{or_cases, and_parts, and_from}
 use Rattle.label_graph.specs.Views.{label_number}
-use Rattle.block_splitting.proofs.Lists.{or_false, none_empty}
+use Rattle.px_spec.proofs.MemberLaws.{or_false}
+use Rattle.block_splitting.proofs.Lists.{none_empty}
 use Rattle.px_spec.specs.Graphs.{Graph, IsGraph}
 use Rattle.px_spec.specs.Members.{has}
 use Rattle.bisim_levels.specs.declared.sides.Side.{Side}

@@ -25,7 +25,7 @@ other_of Parents = Children
 other_of Children = Parents
 
 -- The blocks of a graph are by labels, and each node of a block waits on both sides.
-pub record AllWait (g : Graph) (block : List (Option ℕ)) (parents children : NodeList) : Type 0 where
+pub record BothSidesWait (g : Graph) (block : List (Option ℕ)) (parents children : NodeList) : Type 0 where
   pub graph : IsGraph g
   pub labels : Agrees (shape_of g) block (SameLabel (shape_of g))
   pub parents_are : AreNodes g parents.nodes

@@ -10,7 +10,7 @@ ghost use Rattle.block_splitting.specs.Nodes.{AreNodes};
 ghost use Rattle.block_splitting.specs.Splits.{AreLabelled, AreInhabited};
 ghost use Rattle.coarsest_partition.specs.IndexBlocks.{FitsWithSupports};
 ghost use Rattle.coarsest_partition.specs.Refined.{both_sides, IsStep};
-ghost use Rattle.coarsest_partition.specs.Sides.{by_side, other_of, AllWait};
+ghost use Rattle.coarsest_partition.specs.Sides.{by_side, other_of, BothSidesWait};
 
 use crate::labels::by_labels;
 use crate::rounds::all_waiting;
@@ -85,7 +85,7 @@ fn take_turns(
     children: &mut NodeSet,
     tables: &mut Tables,
 ) -> Result<(), Memory>
-    requires start { AllWait view.now blocks.old.block_of parents.old children.old }
+    requires start { BothSidesWait view.now blocks.old.block_of parents.old children.old }
     requires room { length view.now.given ≤ vec_len tables.old.group }
     ensures labelled { OnOk result (AreLabelled view.now blocks.old → AreLabelled view.now blocks.new) }
     ensures inhabited { OnOk result (AreInhabited blocks.old → AreInhabited blocks.new) }
@@ -122,7 +122,7 @@ fn settle_waiting(
     parents: &mut NodeSet,
     children: &mut NodeSet,
 ) -> Result<(), Memory>
-    requires start { AllWait view.now blocks.old.block_of parents.old children.old }
+    requires start { BothSidesWait view.now blocks.old.block_of parents.old children.old }
     ensures labelled { OnOk result (AreLabelled view.now blocks.old → AreLabelled view.now blocks.new) }
     ensures inhabited { OnOk result (AreInhabited blocks.old → AreInhabited blocks.new) }
     ensures agrees { OnOk result (Agrees (shape_of view.now) blocks.new.block_of (FB (shape_of view.now))) }
@@ -149,8 +149,8 @@ fn settle_both_ways(alloc: Global, view: &GraphView<'_>, blocks: &mut Blocks) ->
 ///
 /// Rounds by parents and rounds by children take turns, each over the nodes that wait on its side: at first all, and then
 /// those of which a neighbour there went to another block, unless they are alone in their own. There are at most twice as
-/// many rounds as blocks. n numbers of nodes, m edges and at most d neighbours of a node on a side take O(r (n + m log d))
-/// expected for r rounds, and O(n + m) memory.
+/// many rounds as blocks. Expected O(r (n + m log d)) for r rounds, n node numbers, m edges and at most d neighbours of a
+/// node on a side; it takes O(n + m) memory.
 pub fn full_bisimulation_both_ways(alloc: Global, view: &GraphView<'_>) -> Result<Blocks, Memory>
     ensures agrees { IfOk result (λ p. Agrees (shape_of view.now) p.block_of (FB (shape_of view.now))) }
     ensures fits { IfOk result (FitsWithSupports view.now) }

@@ -25,9 +25,9 @@ struct Numbers {
     keys: KeyTable,
 }
 
-// How many parents of each node are still to come, the place below which nodes were taken as they came, and
-// the nodes below it of which no parent is still to come. It steers the order alone: whether a node's parents
-// have numbers is looked at before it gets one.
+// How many parents of each node are still to come, the place below which nodes were taken as they came, and the nodes
+// below it of which no parent is still to come. It steers the order alone: before a node gets a number, it is checked
+// that its parents have theirs.
 #[derive(Drop)]
 struct Order {
     left: Vec<u32>,
@@ -143,8 +143,8 @@ fn no_numbers(alloc: Global, view: &GraphView<'_>) -> Result<Numbers, Memory>
     Ok(Numbers { block, keys })
 }
 
-// Numbers the nodes to which no cycle leads. They are taken as they stand in the graph, so that its nodes are read
-// one after another, but for those that become ready once they were passed, which come next.
+// Numbers the nodes to which no cycle leads. They are taken in the graph's own order, so that its nodes are read one
+// after another; a node that becomes ready only after it was passed comes next.
 fn number_ordered(alloc: Global, view: &GraphView<'_>) -> Result<Numbers, Memory>
     ensures ordered { IfOk result (λ n. IsOrdered view.now n.keys n.block.items) }
 {

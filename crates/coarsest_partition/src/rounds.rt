@@ -131,13 +131,14 @@ fn classes(alloc: Global, view: &GraphView<'_>) -> Result<Blocks, Memory>
 
 /// The coarsest partition that is stable under parents: its blocks are the classes of full bisimilarity.
 ///
-/// Where the graph has no cycle, nodes are numbered in an order in which parents come first, each by its label
-/// and the blocks of its parents: n numbers of nodes, m edges and at most d parents of a node take O(n + m log d)
-/// expected. Where it has a cycle anywhere, what that pass did is lost, and the whole partition is made by rounds over
-/// nodes that wait: at first nodes of one label are together, and all wait. A round looks at the nodes that wait. Then
-/// those wait of which a parent went to another block, unless they are alone in theirs. In each block the largest group
-/// of them keeps the block's number, where no other member is left. There are at most as many rounds as blocks, and r
-/// rounds take expected O(r (n + m log d)) at most. It takes O(n + m) memory.
+/// Where the graph has no cycle, one pass numbers the nodes in an order in which parents come first, each by its label
+/// and the blocks of its parents. Where it has a cycle anywhere, that pass is lost, and the whole partition is made by
+/// rounds over nodes that wait: at first nodes of one label are together, and all wait. After a round those wait of
+/// which a parent went to another block, unless they are alone in theirs. In each block the largest group of them keeps
+/// the block's number, where no other member is left. There are at most as many rounds as blocks.
+///
+/// Expected O(n + m log d) for n node numbers, m edges and at most d parents of a node where the graph has no cycle,
+/// else O(r (n + m log d)) at most for r rounds; it takes O(n + m) memory.
 pub fn full_bisimulation(alloc: Global, view: &GraphView<'_>) -> Result<Blocks, Memory>
     ensures agrees { IfOk result (λ p. Agrees (shape_of view.now) p.block_of (Bisim (shape_of view.now))) }
     ensures fits { IfOk result (FitsWithSupports view.now) }

@@ -40,7 +40,7 @@ is_numeral text = nat_le 1 (length text) && nat_le (length text) 20 && list_all 
 abbrev pub seed_of : List ℕ → Option ℕ
 seed_of text = if is_numeral text && nat_lt (digits_value 10 text) (2 ^ 64) then Some (digits_value 10 text) else None
 
--- something else is given than a seed
+-- something other than a seed is given
 abbrev pub has_others : Given → Bool
 has_others g = is_some g.script || is_some g.graph || is_some g.k || g.without_one || g.without_fb
 

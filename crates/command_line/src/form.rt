@@ -29,6 +29,12 @@ pub struct Settings<'a> {
 }
 
 /// What the words of the command line ask for.
+///
+/// The name of the script, where one is to be run:
+///
+///     if let Form::Run(settings) = read_words(alloc, words)? {
+///         take(settings.script);
+///     }
 #[derive(Clone, Copy, Debug, PartialEq, Eq)]
 pub enum Form<'a> {
     /// A script is run.
@@ -103,7 +109,7 @@ fn seed_of(text: &str) -> Option<u64>
     }
 }
 
-// Whether something else is given than a seed.
+// Whether anything other than a seed is given.
 fn has_others(given: &Given) -> bool
     ensures { result ≡ others_given (shown_given given.now) }
 {

@@ -21,7 +21,7 @@ pub(crate) struct Given<'a> {
     pub(crate) without_fb: bool,
 }
 
-// What clap makes of the words; none where it refuses them. That memory ran out is no refusal.
+// What clap makes of the words; none where it refuses them. Running out of memory is no refusal.
 fn matches<'a>(alloc: Global, words: &'a [String]) -> Result<Option<ArgMatches<'a>>, Memory>
     ensures { IfOk result (Matches (map string_bytes words.entry.now)) }
 {

@@ -41,7 +41,7 @@ fn text_command<'a>(alloc: Global) -> Result<Command<'a>, AllocError>
         .arg(text_option(alloc, "k"))
 }
 
-// The whole command. Neither its script nor an option is required, and no rule stands between them.
+// The whole command. Neither its script nor an option is required, and no rule ties them together.
 pub(crate) fn make_command<'a>(alloc: Global) -> Result<Command<'a>, AllocError>
     ensures { IfOk result (λ c. app_of c ≡ command) }
 {

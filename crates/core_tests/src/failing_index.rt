@@ -1,4 +1,4 @@
-// An engine of three boxes, of which the last finds no memory once it is built.
+// An engine of three boxes, the last of which finds no memory once it is built.
 ghost use Rattle.std.specs.Prelude.{[], ◌∷◌, Some, None, IfOk, if◌then◌else◌};
 ghost use Rattle.bisim_spec.specs.declared.kind.Kind.TheVariants.{Fb};
 

@@ -1,10 +1,11 @@
-// A run over all indexes of which one call on the shelf or the sink fails.
+// A run over all indexes, in which one call on the shelf or the sink fails.
 ghost use Rattle.std.specs.Prelude.{⊤};
 
+use crate::script_file::{script_file, script_words};
 use full_engine::{EngineTask, with_full_engine};
 use pathindex_core::Engine;
 use pathindex_run::run;
-use px_base::{MemShelf, MemSink, Text};
+use px_base::{MemShelf, MemSink};
 use std::alloc::Global;
 
 /// Two chains, and a node above the second one: their lists before it is linked, then, and after.
@@ -31,18 +32,8 @@ fn alone(alloc: Global, number: u32) -> Option<Vec<u32>> {
 
 /// A shelf with the chains as the file `s`.
 fn shelf_of(alloc: Global, failing: u32) -> Option<MemShelf> {
-    let name = Text::from_bytes(alloc, b"s").ok()?;
-    let bytes = CHAINS.as_bytes().to_vec(alloc).ok()?;
-    let mut files = Vec::new(alloc);
-    files.push((name, bytes)).ok()?;
+    let files = script_file(alloc, CHAINS)?;
     Some(MemShelf::new(files, 1, alone(alloc, failing)?))
-}
-
-/// The words `s` alone.
-fn words(alloc: Global) -> Option<Vec<String>> {
-    let mut words = Vec::new(alloc);
-    words.push(String::from_str(alloc, "s").ok()?).ok()?;
-    Some(words)
 }
 
 /// How many bytes were written, where they are the first of the lists.
@@ -60,7 +51,7 @@ impl EngineTask for Failing {
     ghost gives = { λ _ _. ⊤ };
 
     fn carry_out(self, alloc: Global, engine: &mut Engine) -> Option<usize> {
-        let words = words(alloc)?;
+        let words = script_words(alloc)?;
         let mut shelf = shelf_of(alloc, self.shelf)?;
         let mut sink = MemSink::new(alloc, 1, alone(alloc, self.sink)?, 1000).ok()?;
         let status = run(alloc, &words, engine, &mut shelf, &mut sink);

@@ -60,7 +60,7 @@ fn links(engine: &mut Engine, alloc: Global) -> bool
         && makes(engine, alloc, Change::Link(1, 3))
 }
 
-/// Adds an `a` with two children `b`, of which the first has a child `c`.
+/// Adds an `a` with two children `b`, the first of which has a child `c`.
 fn grows(engine: &mut Engine, alloc: Global) -> bool
     requires open { IsSome (opened_of engine.old.state) }
     requires sound { IsSound (engine_seen (map (λ b. meaning (b.vtable, b.value)) engine.old.boxes.items) engine.old.state) }

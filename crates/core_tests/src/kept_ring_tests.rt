@@ -1,4 +1,4 @@
-// The 1-index of two rings, of which an edge goes or comes: what is kept is stable, and no two of its blocks can be merged.
+// The 1-index of two rings, one of which loses or gains an edge: what is kept is stable, and no two of its blocks can be merged.
 ghost use Rattle.std.specs.Prelude.{◌≡◌, ◌<◌};
 
 use crate::one_tests::{Task, is_built, lend, makes};
@@ -35,7 +35,7 @@ fn is_lawful_in<L: Ledger>(index: &OneKept, graph: &Graph, blocks: u32, blank: B
     is_lawful(index, &view, blocks)
 }
 
-/// The same, where nobody counts what it reads.
+/// The same, without a count of what it reads.
 fn shows(index: &OneKept, graph: &Graph, blocks: u32) -> bool {
     is_lawful_in::<Brand>(index, graph, blocks, Blank::new(1))
 }

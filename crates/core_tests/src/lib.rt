@@ -23,3 +23,5 @@ mod no_memory_tests;
 mod one_tests;
 #[cfg(test)]
 mod ring_tests;
+#[cfg(test)]
+mod script_file;

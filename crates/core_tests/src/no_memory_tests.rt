@@ -1,9 +1,10 @@
-// An engine of which one box finds no memory: what fails leaves all, and what needs no memory there goes on.
+// An engine one of whose boxes finds no memory: what fails leaves all as it was, and what needs no memory there goes on.
 ghost use Rattle.std.specs.Prelude.{◌≡◌, ◌<◌, ⊤, None, IsSome, map};
 ghost use Rattle.pathindex_core.specs.Engines.{engine_seen, opened_of, IsSound};
 
 use crate::calls::{FEW, adds_node, fails_to_add, lists, opens};
 use crate::failing_index::with_failing_engine;
+use crate::script_file::{script_file, script_words};
 use full_engine::EngineTask;
 use index_api::{Answer, Kind, Via};
 use label_graph::Graph;
@@ -197,18 +198,8 @@ struct Run {
 
 /// A shelf with the script as the file `s`.
 fn shelf_of(alloc: Global, script: &str) -> Option<MemShelf> {
-    let name = Text::from_bytes(alloc, b"s").ok()?;
-    let bytes = script.as_bytes().to_vec(alloc).ok()?;
-    let mut files = Vec::new(alloc);
-    files.push((name, bytes)).ok()?;
+    let files = script_file(alloc, script)?;
     Some(MemShelf::new(files, 64, Vec::new(alloc)))
-}
-
-/// The words `s` alone.
-fn words(alloc: Global) -> Option<Vec<String>> {
-    let mut words = Vec::new(alloc);
-    words.push(String::from_str(alloc, "s").ok()?).ok()?;
-    Some(words)
 }
 
 impl EngineTask for Run {
@@ -218,7 +209,7 @@ impl EngineTask for Run {
     ghost gives = { λ _ _. ⊤ };
 
     fn carry_out(self, alloc: Global, engine: &mut Engine) -> Option<bool> {
-        let words = words(alloc)?;
+        let words = script_words(alloc)?;
         let mut shelf = shelf_of(alloc, self.script)?;
         let mut sink = MemSink::new(alloc, 64, Vec::new(alloc), 64).ok()?;
         let status = run(alloc, &words, engine, &mut shelf, &mut sink);

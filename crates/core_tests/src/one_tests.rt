@@ -57,7 +57,7 @@ fn builds<L: Ledger>(index: &mut OneKept, graph: &Graph, blank: Blank) -> bool
     index.build(&view, 0).is_ok()
 }
 
-/// The same, where nobody counts what it reads.
+/// The same, without a count of what it reads.
 pub(crate) fn is_built(index: &mut OneKept, graph: &Graph) -> bool
     ensures { IsTrue result → IsReady (meaning_of index.new.kept) graph.now.graph }
 {
@@ -97,7 +97,7 @@ fn stay_twins(index: &mut OneKept, graph: &Graph) -> bool
     are_twins(index) && makes(index, graph, &Change::Link(1, 3)) && are_twins(index)
 }
 
-/// Two nodes over two others, of which the second one gets an edge to the last.
+/// Two nodes over two others, the second of which gets an edge to the last.
 #[derive(Drop)]
 struct Twins {
     graph: Graph,

@@ -62,8 +62,8 @@ fn note_nodes<G: Digraph>(
     Ok(())
 }
 
-/// Meets the parents of the nodes, and lists those that weren't met before. Of so many looks it says how many are left: it takes one for
-/// each node and one for each parent. `None` where there are too few, or it seems so: most nodes have a parent.
+/// Meets the parents of the nodes, and lists those that weren't met before. It takes a look for each node and one for each parent, and
+/// answers how many of the looks it was given are left: `None` where they are too few, or seem to be, since most nodes have a parent.
 fn meet_parents<G: Digraph>(
     g: &G,
     nodes: &[NodeId],
@@ -92,7 +92,7 @@ fn meet_parents<G: Digraph>(
     Ok(Some(left))
 }
 
-/// Whether more than so many edges may lead on.
+/// Whether the bound, if there is one, allows more edges than this.
 fn is_further(most: Option<u32>, edges: u32) -> bool
     ensures { IsFalse result → (k : ℕ) → IsFew most k → k ≤ edges }
 {
@@ -102,7 +102,7 @@ fn is_further(most: Option<u32>, edges: u32) -> bool
     }
 }
 
-/// Whether nodes are left, and more than so many edges may lead on.
+/// Whether nodes are left, and the bound allows more edges than this.
 fn goes_on(most: Option<u32>, edges: u32, nodes: &[NodeId]) -> bool
     ensures some { IsTrue result → 0 < length nodes.now }
     ensures end { IsFalse result → (nodes.now ≡ []) ⊎ ((k : ℕ) → IsFew most k → k ≤ edges) }
@@ -113,7 +113,7 @@ fn goes_on(most: Option<u32>, edges: u32, nodes: &[NodeId]) -> bool
     is_further(most, edges)
 }
 
-/// How many rounds a search is reckoned to take: one for each edge, and at most four.
+/// An estimate of how many rounds a search takes: one for each edge, and at most four.
 fn reckoned_rounds(most: Option<u32>) -> u32
     ensures { 0 < result }
 {
@@ -123,9 +123,9 @@ fn reckoned_rounds(most: Option<u32>) -> u32
     }
 }
 
-/// The members of the set that are nodes, and the nodes from which at most so many edges lead to one of these, or any number of
-/// edges where no bound is given: a set of numbers below the graph's size. `None` where that seems to take more looks at nodes and edges
-/// than the graph's size over 64, so that little is lost then. `Memory` comes only where memory runs out. O(n + e + s), where n nodes are
+/// The members of the set that are nodes, and the nodes from which at most so many edges lead to one of these, or any number of edges
+/// where no bound is given: a set of numbers below the graph's size. `None` where that seems to take more looks at nodes and edges than a
+/// 64th of the graph's size, so that giving up loses little. `Memory` comes only where memory runs out. O(n + e + s), where n nodes are
 /// found, e edges lead to them, and s is the greater of both sizes.
 pub(crate) fn ancestors<G: Digraph>(
     alloc: Global,

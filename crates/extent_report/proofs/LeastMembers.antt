@@ -17,7 +17,8 @@ use Rattle.extent_report.specs.Leads.{is_head, leads_block}
 use Rattle.extent_report.proofs.Chained.{with_is_of}
 use Rattle.extent_report.proofs.Texts.{any_same}
 use Rattle.extent_report.proofs.NodeWords.{led_block}
-use Rattle.extent_report.proofs.RisingLists.{has_push, texts_listed, flat_same, none_before}
+use Rattle.px_spec.proofs.MemberLaws.{has_push}
+use Rattle.extent_report.proofs.RisingLists.{texts_listed, flat_same, none_before}
 use Rattle.std.specs.List.{flat_map, list_any}
 
 -- the first number of a list, where it is put behind others

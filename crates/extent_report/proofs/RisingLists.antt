@@ -12,23 +12,12 @@ use Rattle.std.proofs.lemmas.List.{take_more}
 use Rattle.std.proofs.lemmas.Grind.{flat_map-append}
 use Rattle.std.proofs.lemmas.Map.Keys.{sorted_from_strictly_increasing}
 use Rattle.px_spec.specs.Members.{has}
+use Rattle.px_spec.proofs.MemberLaws.{or_false, has_cases, has_head, has_tail}
+use Rattle.key_table.proofs.RisingSets.{below_rest}
 use Rattle.bisim_spec.specs.Below.{count_below}
 use Rattle.bisim_spec.proofs.BelowLaws.{bit_of}
 use Rattle.extent_report.specs.ListedBlocks.{texts_below}
 use Rattle.extent_report.proofs.Texts.{texts_past, texts_more, count_past, count_more}
-
-pub or_none : (b : Bool) → (b || false) ≡ b
-or_none true = refl
-or_none false = refl
-
-or_assoc : (a b c : Bool) → (a || (b || c)) ≡ ((a || b) || c)
-or_assoc true b c = refl
-or_assoc false b c = refl
-
--- a number that is put behind the others
-pub has_push : (xs : List ℕ) (n m : ℕ) → has (xs ++ n ∷ []) m ≡ (has xs m || nat_eq m n)
-has_push [] n m = or_none (nat_eq m n)
-has_push (x ∷ xs) n m = ap (λ b. nat_eq m x || b) (has_push xs n m) ∙ or_assoc (nat_eq m x) (has xs m) (nat_eq m n)
 
 -- a number that goes from one list to another
 pub moved_over : (e r s t : Bool) → ((e || r) || s) ≡ t → (r || (s || e)) ≡ t
@@ -36,24 +25,7 @@ moved_over true true s t h = h
 moved_over true false true t h = h
 moved_over true false false t h = h
 moved_over false true s t h = h
-moved_over false false s t h = or_none s ∙ h
-
-has_cases : (y : ℕ) (ys : List ℕ) (n : ℕ) → has (y ∷ ys) n ≡ true → (n ≡ y) ⊎ (has ys n ≡ true)
-has_cases y ys n h = elim (or_cases (nat_eq n y) (has ys n) h) [ inl e ↦ inl ((Decides-eqb n y).0 e) | inr t ↦ inr t ]
-
-pub has_head : (y : ℕ) (ys : List ℕ) → has (y ∷ ys) y ≡ true
-has_head y ys = or_left (nat_eq y y) (has ys y) ((Decides-eqb y y).1 refl)
-
-has_tail : (y : ℕ) (ys : List ℕ) (n : ℕ) → has ys n ≡ true → has (y ∷ ys) n ≡ true
-has_tail y ys n h = or_right (nat_eq n y) (has ys n) h
-
-all_at : (P : ℕ → Type 0) (xs : List ℕ) (n : ℕ) → AllByRecursion P xs → has xs n ≡ true → P n
-all_at P [] n a h = absurd (true≢false (sym h))
-all_at P (x ∷ xs) n a h = elim (has_cases x xs n h) [ inl e ↦ subst P (sym e) a.0 | inr t ↦ all_at P xs n a.1 t ]
-
--- the first is below the others
-below_rest : (x : ℕ) (xs : List ℕ) (n : ℕ) → AllByRecursion (λ y. nat_cmp x y ≡ Less) xs → has xs n ≡ true → x < n
-below_rest x xs n a h = let less = all_at (λ y. nat_cmp x y ≡ Less) xs n a h in ranked x n Less (sym less)
+moved_over false false s t h = or_false s ∙ h
 
 -- no number of the list is below its first
 none_below : (x : ℕ) (xs : List ℕ) (k : ℕ) → AllByRecursion (λ y. nat_cmp x y ≡ Less) xs → k < x → has (x ∷ xs) k ≡ false

@@ -25,7 +25,7 @@ fn push_nodes(out: &mut String, nodes: &[NodeId]) -> Result<(), Memory>
     Ok(())
 }
 
-// Appends the line of the block of which the node is the least member. `members` is room that is used again.
+// Appends the line of the block of which the node is the least member. `members` is memory to be reused.
 fn push_block(
     out: &mut String,
     members: &mut Vec<NodeId>,

@@ -45,7 +45,7 @@ fn push_head(list: &mut Vec<NodeId>, members: &[NodeId]) -> Result<(), Memory>
     Ok(())
 }
 
-// Puts the least member of a block behind the others, where it has members. `members` is room that is used again.
+// Puts the least member of a block behind the others, where it has members. `members` is memory to be reused.
 fn push_least(
     list: &mut Vec<NodeId>,
     members: &mut Vec<NodeId>,
@@ -74,7 +74,7 @@ fn least_members(
     Ok(list)
 }
 
-/// The least member of each block that has members, rising. `members` is room that is used again.
+/// The least member of each block that has members, rising. `members` is memory to be reused.
 pub(crate) fn leading_nodes(
     alloc: Global,
     members: &mut Vec<NodeId>,

@@ -40,7 +40,7 @@ pub trait EngineTask: Drop {
         ensures { gives self result };
 }
 
-/// Makes an engine that keeps all indexes, has the task done with it, and drops it. `Memory` comes only where there is none for the
+/// Makes an engine that keeps all indexes, runs the task with it, and drops it. `Memory` comes only where there is none for the
 /// three boxes, and then the task isn't begun. O(1) beside the task and the drop of the engine; it takes memory for three boxes.
 ///
 /// The engine is lent, and not handed out: what its boxes mean is known only where they are made.

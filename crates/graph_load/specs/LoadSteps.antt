@@ -80,14 +80,14 @@ abbrev pub with_all : Limits → List Waiting → LoadState → Result LoadState
 with_all limits [] l = Ok l
 with_all limits (w ∷ ws) l = then_load (with_one limits w l) (with_all limits ws)
 
--- what is loaded gives this outcome, by what comes behind the lines that were read
+-- what is loaded gives this outcome, by what follows the lines that were read
 abbrev pub LoadsBehind : Limits → Next → ReaderState → Option (List ℕ) → LoadState → Outcome → Type 0
 LoadsBehind limits Lines r text l o = LoadsAhead limits text (place r l) o
 LoadsBehind limits End r text l o = o ≡ loaded l.graph
 LoadsBehind limits (Syntax n) r text l o = o ≡ syntax n
 LoadsBehind limits (Limit n) r text l o = o ≡ limit n
 
--- and so does this, where one of the triples that waited may be refused
+-- the same, where one of the triples that waited may be refused
 abbrev pub LoadsThen : Limits → Next → ReaderState → Option (List ℕ) → Result LoadState ℕ → Outcome → Type 0
 LoadsThen limits next r text (Ok l) o = LoadsBehind limits next r text l o
 LoadsThen limits next r text (Err n) o = o ≡ limit n

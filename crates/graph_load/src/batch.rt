@@ -18,7 +18,7 @@ pub(crate) struct Waiting {
     pub(crate) line: u32,
 }
 
-/// What comes behind the lines that were read.
+/// What follows the lines that were read.
 #[derive(Clone, Copy)]
 pub(crate) enum Next {
     /// There may be more of them.

@@ -103,7 +103,7 @@ impl Loader {
         })
     }
 
-    // Makes a node of a term that is none.
+    // Makes a node of a term that isn't one.
     fn add_term(&mut self, alloc: Global, limits: &Limits, term: &HashedTerm) -> Result<Found, Stop>
         requires sound { IsSoundLoader self.old }
         requires absent { number_of self.old.terms term.now ≡ None }
@@ -122,7 +122,7 @@ impl Loader {
         Ok(Found { place, number })
     }
 
-    // Where the term stands, which becomes a node where it is none. `found` is what a look-up gave.
+    // Where the term stands; it becomes a node if it isn't one. `found` is what a look-up gave.
     fn need(
         &mut self,
         alloc: Global,
@@ -143,7 +143,7 @@ impl Loader {
         self.add_term(alloc, limits, term)
     }
 
-    // Looks a term up that was looked up before more terms came: where it stood then, it still does.
+    // Looks a term up again that was looked up before more terms came: if it was found, it still stands there.
     fn find_again(&self, term: &HashedTerm, found: Option<Found>) -> Option<Found>
         requires found { IfSome found (IsFound self.now.terms term.now) }
         ensures { IsFoundAs self.now.terms term.now result }
@@ -244,8 +244,8 @@ impl Loader {
         Ok(())
     }
 
-    /// Loads a triple: where it is loaded already nothing is added, else its nodes and edges are. It takes
-    /// constant time, beside that of hashing the triple. The hints change nothing but how fast its terms are found.
+    /// Loads a triple: unless it is loaded already, its nodes and edges are added. It takes constant time beside that
+    /// of hashing the triple. The hints change only how fast its terms are found.
     pub(crate) fn add(
         &mut self,
         alloc: Global,

@@ -1,4 +1,4 @@
-// Changes, and what becomes of them.
+// Changes, whether they are new, and what they did.
 use px_base::{NodeId, Text};
 
 /// A change of a graph.

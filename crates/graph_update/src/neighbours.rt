@@ -6,8 +6,8 @@ ghost use Rattle.px_spec.specs.Members.{has, Lists};
 use px_base::NodeId;
 use std::marker::Model;
 
-/// The neighbours of a node, each once, in no stated order; seen as the list of those that are left.
-/// They are read from the graph's own lists.
+/// The neighbours of a node, each once, in no stated order; seen as the list of those that are left. They are read from
+/// the graph's own lists. The next one is O(1), no memory.
 #[derive(Drop)]
 pub struct Neighbours<'a> {
     first: &'a [NodeId],

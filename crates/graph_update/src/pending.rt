@@ -15,8 +15,15 @@ use px_base::{NodeId, Steps, Text};
 use std::marker::Model;
 use std::sync::ledger::Ledger;
 
-/// A graph as a change will leave it. It is read from the graph as it is, and nothing is copied. It is seen as
-/// the graph before and the change; the graph after is a function of the two.
+/// A graph as a change will leave it. It is read from the graph as it is, and nothing is copied. It is seen as the
+/// graph before and the change; the graph after is a function of the two.
+///
+/// The children that node 5 will have once a change is made:
+///
+///     if judge(&graph, &change, &limits) == Ok(Verdict::New) {
+///         let after = After::new(&graph, &change);
+///         take(after.children(5, &mut steps));
+///     }
 #[derive(Drop)]
 pub struct After<'a> {
     graph: &'a Graph,

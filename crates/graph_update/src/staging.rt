@@ -22,8 +22,13 @@ enum Plan {
     Drop(NodeId),
 }
 
-/// A change for which the graph has room. Nothing has happened to the graph yet, and nothing does
-/// where this is dropped.
+/// A change for which the graph has room. Nothing has happened to the graph yet, and nothing does where this is
+/// dropped.
+///
+/// A change that `judge` accepts as new is made in two calls, of which only the first can fail:
+///
+///     let staged = stage(alloc, &mut graph, &change)?;
+///     let applied = commit(&mut graph, staged);
 #[derive(Drop)]
 pub struct Staged {
     plan: Plan,
@@ -37,10 +42,9 @@ impl Model for Staged {
     ghost view = { λ s. s.plan };
 }
 
-/// Takes all the memory that a change needs, which `judge` accepts as new within some limits. The graph stays
-/// as it is seen, and where memory runs out so does its room. For a node expected O(b) where its label has b
-/// bytes, and for an edge O(1), each amortized, with the memory that `Graph` takes for
-/// them; else O(1), no memory.
+/// Takes all the memory that a change needs, which `judge` accepts as new within some limits. The graph stays as it is
+/// seen, and where memory runs out so does its room. Expected O(b), amortized, for a node whose label has b bytes, and
+/// O(1), amortized, for an edge; it takes the memory that `Graph` takes for them. A removal is O(1), no memory.
 pub fn stage(alloc: Global, graph: &mut Graph, change: &Change) -> Result<Staged, Memory>
     requires new { IsNew (change_of change.now) graph.old.graph }
     ensures graph { graph.new.graph ≡ graph.old.graph }

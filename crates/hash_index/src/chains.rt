@@ -52,7 +52,7 @@ pub(crate) fn along<T>(slots: &[Slot<T>], from: u32, hash: u32) -> Option<u32>
     None
 }
 
-// Puts number n in front of its chain.
+// Puts number n at the head of its chain.
 fn link<T>(slots: &mut Vec<Slot<T>>, heads: &mut Vec<u32>, n: usize)
     requires linked { AreChains n (hashes_of slots.old.items) (links_of slots.old.items) heads.old.items }
     requires within { n < length slots.old.items }
@@ -68,7 +68,7 @@ fn link<T>(slots: &mut Vec<Slot<T>>, heads: &mut Vec<u32>, n: usize)
     set_head(heads, b, n as u32 + 1);
 }
 
-// Makes twice as many buckets where there are no more of them than items.
+// Doubles the number of buckets where there are no more of them than items.
 pub(crate) fn make_room<T>(slots: &mut Vec<Slot<T>>, heads: &mut Vec<u32>) -> Result<(), Memory>
     requires linked { AreChains (length slots.old.items) (hashes_of slots.old.items) (links_of slots.old.items) heads.old.items }
     requires few { length slots.old.items < 2 ^ 31 }
@@ -89,7 +89,7 @@ pub(crate) fn make_room<T>(slots: &mut Vec<Slot<T>>, heads: &mut Vec<u32>) -> Re
     Ok(())
 }
 
-// Links all numbers anew.
+// Links all numbers again.
 fn relink<T>(slots: &mut Vec<Slot<T>>, heads: &mut Vec<u32>)
     requires empty { (b : ℕ) → head_at heads.old.items b ≡ 0 }
     requires few { length slots.old.items < 2 ^ 31 }

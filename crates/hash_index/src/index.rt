@@ -97,7 +97,7 @@ impl<T: Copy> HashIndex<T> {
         along(&self.slots, read_link(&self.slots, n as usize), hash)
     }
 
-    /// The number in front of the chain of a hash, whatever its own hash is. Nobody needs it but to read ahead. O(1), no memory.
+    /// The number at the head of a hash's chain, whatever its own hash is. It is needed only to read ahead. O(1), no memory.
     #[inline(always)]
     pub fn front(&self, hash: u32) -> Option<u32>
         ensures { IfSome result (λ n. n < length self.now.items) }
@@ -105,7 +105,7 @@ impl<T: Copy> HashIndex<T> {
         read_head(&self.heads, bucket(&self.heads, hash)).checked_sub(1)
     }
 
-    /// Some number that has the hash, from this one on along its chain. Nobody needs it but to read ahead. Expected O(1), no
+    /// Some number that has the hash, from this one on along its chain. It is needed only to read ahead. Expected O(1), no
     /// memory.
     #[inline(always)]
     pub fn from(&self, n: u32, hash: u32) -> Option<u32>
@@ -116,8 +116,7 @@ impl<T: Copy> HashIndex<T> {
     }
 
     /// Puts an item behind the others, and gives its number. `Memory` comes where memory runs out or there are 2^31 - 1
-    /// items, and leaves the items. O(1), amortized; it
-    /// takes what is said of the index.
+    /// items, and leaves the items. O(1), amortized; it takes the memory that `HashIndex` states for an item.
     pub fn push(&mut self, hash: u32, item: T) -> Result<u32, Memory>
         ensures number { IfOk result (λ n. n ≡ length self.old.items) }
         ensures ok { OnOk result (self.new ≡ with_item self.old hash item) }
@@ -145,7 +144,7 @@ fn keep_one(heads: &mut Vec<u32>)
     heads[0] = 0;
 }
 
-// Puts an item behind the others, and in front of its chain.
+// Puts an item behind the others, and at the head of its chain.
 fn add<T: Copy>(
     slots: &mut Vec<Slot<T>>,
     heads: &mut Vec<u32>,

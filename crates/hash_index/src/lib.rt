@@ -1,5 +1,5 @@
 //! Items by the hashes of their keys. The items are numbered in the order in which they came; a walk goes over those
-//! with a hash, the newest first. The index sees no key: whoever asks compares.
+//! with one hash, the newest first. The index sees no key: the caller compares them.
 #![tactic(auto)]
 
 mod chains;

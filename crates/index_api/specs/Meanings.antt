@@ -47,8 +47,8 @@ pub record IsBuilt (old new : Meaning) (g : Graph) (k : ℕ) : Type 0 where
   pub count : length new.views ≡ view_count old.kind k
   pub whole : BeginsWhole old.kind g (view_at new.views 0)
 
--- How a change leads from one view to the next. The partition of the 1-index moves by one step. The others are told by the
--- graph after the change alone.
+-- How a change leads from one view to the next. The partition of the 1-index moves by one step. The others are determined
+-- by the graph after the change alone.
 abbrev pub IsViewStep : Kind → Graph → Option View → Change → Option View → Type 0
 IsViewStep A g o c next = ⊤
 IsViewStep One g o c next = OneStep g (blocks_in o) c (after c g) (blocks_in next)

@@ -8,7 +8,7 @@ use branch_query::Query;
 use index_api::Via;
 use path_query::PathExpr;
 
-/// Whether no matching word has more labels than one more than the level.
+/// Whether each matching word has at most one label more than the level.
 fn is_short(expr: &PathExpr, level: u32) -> bool
     ensures { IsTrue result ↔ IsWithin (longest expr.now) (level + 1) }
 {
@@ -20,8 +20,8 @@ fn is_short(expr: &PathExpr, level: u32) -> bool
 
 /// Whether the candidates of the query through the index are its answers, whatever the graph: a path expression through
 /// the 1-index, any query through the forward and backward index, and through the A(i)-index a path expression whose
-/// longest matching word has at most i + 1 labels. A branching query is so through the forward and backward index alone.
-/// False for the graph itself, which has no candidates. O(m) for a path expression with m tokens, else O(1); no
+/// longest matching word has at most i + 1 labels. A branching query is exact through the forward and backward index
+/// alone. False for the graph itself, which has no candidates. O(m) for a path expression with m tokens, else O(1); no
 /// memory.
 pub fn is_exact(via: Via, q: &Query<'_>) -> bool
     ensures { IsTrue result ↔ IsExact via (query_of q.now) }

@@ -74,8 +74,8 @@ fn extents(alloc: Global, summary: &Summary, blocks: &Bits) -> Result<Bits, Memo
 
 /// The nodes of the blocks that answer the query over the index graph: the query itself where `whole` is true, else its
 /// relaxed form. They are a set of numbers below `summary.numbers()`. Where `is_exact` says that the index is exact for the
-/// query, and `whole` is true, they are the answers of the graph. Whatever the index, all answers of the graph are among
-/// those that it gives where `whole` is false.
+/// query, and `whole` is true, they are the answers of the graph. Where `whole` is false, all answers of the graph are
+/// among them, whatever the index.
 ///
 /// It sees no graph. `Memory` comes only where memory runs out. O(m (b + p) + n) for m tokens, b
 /// numbers of blocks and p pairs of blocks with support, and n node numbers, beside the look-ups of the labels; it takes a byte for each

@@ -10,7 +10,7 @@ fn mix(h: u64, x: u32) -> u64
     (h ^ (x as u64)).wrapping_mul(0x9E37_79B9_7F4A_7C15)
 }
 
-// Buckets go by the lower bits, and of a product the upper ones depend on most of what was multiplied.
+// Buckets go by the lower bits, while in a product it is the upper ones that depend on most bits of the factors.
 #[inline(always)]
 fn spread(h: u32) -> u32
     ensures { result ≡ spread_of h }

@@ -16,7 +16,7 @@ use std::marker::Model;
 /// A key takes 4 bytes for each of its numbers, 16 for its place in the index and 4 to 8 for its bucket. There are
 /// fewer than 2^31 keys, with fewer than 2^32 numbers together.
 ///
-/// A key that comes again has the number that it has:
+/// A key that comes again keeps its number:
 ///
 ///     let mut keys = KeyTable::new(alloc)?;
 ///     let first = keys.intern(&[7, 1, 4])?;  // 0

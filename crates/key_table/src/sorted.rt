@@ -5,7 +5,7 @@ ghost use Rattle.std.specs.List.Retain.{IsFiltered, DiffersFromLast};
 ghost use Rattle.std.specs.List.Sorted.{IsStrictlyIncreasing};
 ghost use Rattle.px_spec.specs.Members.{has};
 
-// Of numbers that follow one another and are equal only the first stays.
+// Of equal numbers in a row only the first stays.
 fn drop_repeats(numbers: &mut Vec<u32>)
     ensures { IsFiltered (DiffersFromLast nat_eq) [] numbers.old.items numbers.new.items }
 {

@@ -14,7 +14,7 @@ use Rattle.bisim_spec.proofs.Bisimilar.{some_of}
 use Rattle.key_table.specs.NumberedKeys.{IsAbsent}
 use Rattle.quotient_draft.specs.Drafts.{Drafted, with_added}
 use Rattle.quotient_draft.specs.Basis.{IsOver}
-use Rattle.quotient_draft.proofs.PutLists.{at_put}
+use Rattle.block_partition.proofs.PutNumbers.{at_put}
 use Rattle.keyed_quotient.specs.Levels.{KeyedQuotient, key_at, AreKeyed}
 use Rattle.keyed_quotient.specs.Changes.{KeyedChanges, no_keyed_changes, labels_as_shown, shown_key, IsKeyedOver}
 use Rattle.keyed_quotient.proofs.Numbered.{test_is, same_some}

@@ -1,4 +1,4 @@
-// Numbers made anew, without the keys that no block has.
+// Renumbering of keys, without those that no block has.
 ghost use Rattle.std.specs.Prelude.{◌≡◌, ◌<◌, ◌≤◌, ◌+◌, IsTrue, IsFalse, IfOk, OnOk, OnErr, length};
 ghost use Rattle.block_partition.specs.Partitions.{block_count};
 ghost use Rattle.keyed_quotient.specs.Numberings.{block_keys, IsNumbering};
@@ -12,12 +12,12 @@ use px_base::Memory;
 use quotient::Summary;
 use std::alloc::Global;
 
-/// Makes the numbers anew, with the keys of the blocks alone, where keys are many or long. They are many where there are more than one and
-/// a half times as many as blocks, and more than 64 and half the span of the blocks' numbers together. They are long where a key has no
-/// block, and all together have grown, since this was last done, by more than half and 64 numbers, and by more than half the span. On
+/// Renumbers the keys of the blocks and drops the others, where keys are many or long. They are many where there are more than one and a
+/// half times as many as blocks, and more than 64 and half the span of the blocks' numbers together. They are long where a key has no
+/// block, and all together have grown, since the last renumbering, by more than half and 64 numbers, and by more than half the span. On
 /// `Memory` they stay as they were. O(1) where nothing is to be done; else expected O(s + l) for a span s and keys of the blocks of l
 /// numbers together. Where keys are many, those that are dropped pay for it: they are more than a sixth of the span, and each came once.
-/// Where they are long, those that came since this was last done pay.
+/// Where they are long, those that came since the last renumbering pay.
 pub(crate) fn compact(
     alloc: Global,
     summary: &Summary,

@@ -31,6 +31,14 @@ use std::sync::ledger::Ledger;
 /// labels and keys must stay while something is drafted.
 ///
 /// It takes memory for each block, with its key, and for each move and pair that is drafted.
+///
+/// A node moves to the block of a key, which is a further one where no block has the key:
+///
+///     let block = match draft.find(&base, &key) {
+///         Some(block) => block,
+///         None => draft.new_block(&base, label, &key)?,
+///     };
+///     draft.put(&base, node, Some(block))?;
 #[derive(Drop)]
 pub struct KeyedDraft {
     pub(crate) draft: Draft,

@@ -16,7 +16,7 @@ pub(crate) struct KeyNumbers {
     table: KeyTable,
     block_of: Vec<u32>,
     number_of: Vec<u32>,
-    // The lengths of the keys together, now and when the numbers were made anew.
+    // The lengths of the keys together, now and at the last renumbering.
     words: u64,
     words_anew: u64,
 }
@@ -41,7 +41,7 @@ fn count_up(alloc: Global, count: u32) -> Result<Vec<u32>, Memory>
     Ok(numbers)
 }
 
-// Makes a list at least so long.
+// Makes a list at least that long.
 fn grow(list: &mut Vec<u32>, len: usize) -> Result<(), Memory>
     ensures same { (i v : ℕ) → slice_get list.old.items i ≡ Some v → slice_get list.new.items i ≡ Some v }
     ensures longer { length list.old.items ≤ length list.new.items }
@@ -155,14 +155,14 @@ impl KeyNumbers {
         Ok(())
     }
 
-    /// Notes that the numbers were made anew.
+    /// Notes that the keys were renumbered.
     pub(crate) fn mark_anew(&mut self)
         ensures { self.new ≡ self.old }
     {
         self.words_anew = self.words;
     }
 
-    /// Whether the keys are little longer together than when the numbers were made anew, where blocks have numbers below `span`. O(1).
+    /// Whether the keys are little longer together than at the last renumbering, where blocks have numbers below `span`. O(1).
     pub(crate) fn are_short(&self, span: u32) -> bool {
         let more = (self.words_anew / 2 + 64).max(span as u64 / 2);
         self.words <= self.words_anew.saturating_add(more)

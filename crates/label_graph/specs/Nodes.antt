@@ -7,33 +7,33 @@ use Rattle.px_spec.specs.Graphs.{Edges}
 use Rattle.px_spec.specs.Members.{has}
 
 -- a list of neighbours, and how many fit with no more memory
-pub record Neighbours : Type 0 where
+pub record NeighbourList : Type 0 where
   pub items : List ℕ
   pub capacity : ℕ
 
 -- a node: the number of its label, or none where it is gone, and its neighbours
 pub record Node : Type 0 where
   pub label : Option ℕ
-  pub children : Neighbours
-  pub parents : Neighbours
+  pub children : NeighbourList
+  pub parents : NeighbourList
 
 -- nodes, and how many fit with no more memory
-pub record NodeList : Type 0 where
+pub record NodeTable : Type 0 where
   pub nodes : List Node
   pub capacity : ℕ
 
 -- they are stored as their parts
-abbrev pub neighbours_code : Coded Neighbours
-neighbours_code =
+abbrev pub neighbour_list_code : Coded NeighbourList
+neighbour_list_code =
     code_by (List ℕ × ℕ) (coded× (coded_list coded_ℕ) coded_ℕ) (λ l. (l.items, l.capacity)) (λ p. record { items = p.0; capacity = p.1 }) (λ _. refl)
 
 abbrev pub node_code : Coded Node
 node_code =
-    code_by (Option ℕ × (Neighbours × Neighbours)) (coded× (coded_option coded_ℕ) (coded× neighbours_code neighbours_code))
+    code_by (Option ℕ × (NeighbourList × NeighbourList)) (coded× (coded_option coded_ℕ) (coded× neighbour_list_code neighbour_list_code))
     (λ n. (n.label, (n.children, n.parents))) (λ p. record { label = p.0; children = p.1.0; parents = p.1.1 }) (λ _. refl)
 
-abbrev pub node_list_code : Coded NodeList
-node_list_code =
+abbrev pub node_table_code : Coded NodeTable
+node_table_code =
     code_by (List Node × ℕ) (coded× (coded_list node_code) coded_ℕ) (λ l. (l.nodes, l.capacity)) (λ p. record { nodes = p.0; capacity = p.1 }) (λ _. refl)
 
 -- for each node the number of its label, and none where it is gone

@@ -2,7 +2,7 @@
 use Rattle.std.specs.Prelude.{◌≡◌, ◌≢◌, ℕ, List, [], ◌∷◌, Some, length, map, slice_get}
 use Rattle.label_graph.specs.declared.segment.Segment.{Segment}
 use Rattle.label_graph.specs.declared.node.Row.{Row}
-use Rattle.label_graph.specs.Nodes.{Node, Neighbours}
+use Rattle.label_graph.specs.Nodes.{Node, NeighbourList}
 use Rattle.label_graph.specs.Segments.{items_in, LiesWithin, IsApart}
 
 -- all lists, each node's children and then its parents
@@ -15,7 +15,7 @@ pub record AreHeld (cells : List ℕ) (rows : List Row) : Type 0 where
   pub within : (i : ℕ) (s : Segment) → slice_get (segments_of rows) i ≡ Some s → LiesWithin (length cells) s
   pub apart : (i j : ℕ) (s t : Segment) → i ≢ j → slice_get (segments_of rows) i ≡ Some s → slice_get (segments_of rows) j ≡ Some t → IsApart s t
 
-abbrev pub list_in : List ℕ → Segment → Neighbours
+abbrev pub list_in : List ℕ → Segment → NeighbourList
 list_in cells s = record { items = items_in cells s; capacity = s.room }
 
 abbrev pub node_in : List ℕ → Row → Node

@@ -18,7 +18,7 @@ IsApart s t = 2 ≤ s.room → 2 ≤ t.room → (s.first + s.room ≤ t.first) �
 abbrev pub Begins : List ℕ → List ℕ → Type 0
 Begins old new = (more : List ℕ) × (new ≡ old ++ more)
 
--- one list is written anew, from s to t, and each that is apart from it stays as it is
+-- one list is rewritten, from s to t, and each that is apart from it stays as it is
 pub record Writes (old new : List ℕ) (s t : Segment) : Type 0 where
   pub within : LiesWithin (length new) t
   pub longer : length old ≤ length new

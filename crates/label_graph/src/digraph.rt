@@ -2,8 +2,18 @@
 ghost use Rattle.std.specs.Prelude.{◌≡◌, ◌<◌, ℕ, Bool, Option, Some, is_some, IsTrue, IsSome};
 ghost use Rattle.px_spec.specs.Members.{Lists};
 
-/// A directed graph whose nodes are numbers and whose labels are numbers of a table. Each read is
-/// O(1), no memory: a list is lent where it lies.
+/// A directed graph whose nodes are numbers and whose labels are numbers of a table. Each read is O(1), no memory: a
+/// list is lent where it lies.
+///
+/// Each edge of any such graph:
+///
+///     for n in 0..g.size() {
+///         if g.is_node(n) {
+///             for child in g.children(n) {
+///                 take(n, *child);
+///             }
+///         }
+///     }
 pub trait Digraph {
     /// The nodes have numbers below it.
     ghost span: { Self → ℕ };
@@ -14,25 +24,25 @@ pub trait Digraph {
     /// Whether an edge leads from the first node to the second.
     ghost edge: { Self → ℕ → ℕ → Bool };
 
-    /// The nodes have numbers below it.
+    /// The nodes have numbers below it. O(1), no memory.
     fn size(&self) -> u32
         ensures { result ≡ span self.now };
 
-    /// Whether the number is that of a node.
+    /// Whether the number is that of a node. O(1), no memory.
     fn is_node(&self, n: u32) -> bool
         ensures { result ≡ is_some (label_at self.now n) };
 
-    /// The number of the node's label.
+    /// The number of the node's label. O(1), no memory.
     fn label(&self, n: u32) -> u32
         requires { IsSome (label_at self.now n) }
         ensures { label_at self.now n ≡ Some result };
 
-    /// The nodes from which an edge leads to this one, each once, in no stated order.
+    /// The nodes from which an edge leads to this one, each once, in no stated order. O(1), no memory.
     fn parents(&self, n: u32) -> &[u32]
         requires { IsSome (label_at self.now n) }
         ensures { Lists (λ u. edge self.now u n) result.now };
 
-    /// The nodes to which an edge leads from this one, each once, in no stated order.
+    /// The nodes to which an edge leads from this one, each once, in no stated order. O(1), no memory.
     fn children(&self, n: u32) -> &[u32]
         requires { IsSome (label_at self.now n) }
         ensures { Lists (edge self.now n) result.now };

@@ -10,8 +10,13 @@ use px_base::{Memory, Recent, Text};
 use std::alloc::Global;
 use std::marker::Model;
 
-/// The labels that were seen, in the order in which they came. A text may lie ahead of them that is
-/// no label yet: room for one more. Numbers of labels that were asked for lately are at hand by their texts.
+/// The labels that were seen, in the order in which they came. A text may lie ahead of them that is no label yet: room
+/// for one more. Numbers of labels that were used recently are at hand by their texts.
+///
+/// The text of the label of a graph's node:
+///
+///     let labels = graph.labels();
+///     take(labels.text(graph.label(node)));
 #[derive(Drop)]
 pub struct Labels {
     table: IndexSet<Text>,
@@ -80,7 +85,7 @@ impl Labels {
         (l as usize) < self.shown && self.table.as_slice()[l as usize] == *t
     }
 
-    // The number of the label, as `find` gives it. It is looked for at hand first, and is at hand then.
+    // The number of the label, as `find` gives it. It is looked up at hand first, and is at hand afterwards.
     fn recall(&mut self, t: &Text) -> Option<u32>
         ensures same { self.new ≡ self.old }
         ensures place { result ≡ position (bytes_eq t.now) self.old.texts }

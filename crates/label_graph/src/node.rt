@@ -10,7 +10,7 @@ use std::alloc::Global;
 use std::marker::Model;
 
 /// One node: its neighbours, and the number of its label in the table, or none where the node is gone. Whether it is
-/// there stands beside its children, so that to add an edge where it begins touches one line of the cache.
+/// there stands beside its children, so that adding an edge touches one cache line at the node where it begins.
 #[derive(Clone, Copy)]
 pub(crate) struct Row {
     pub(crate) children: Segment,
@@ -38,12 +38,12 @@ pub(crate) struct Nodes {
 
 impl Model for Nodes {
     ghost use Rattle.std.specs.Prelude.{vec_capacity};
-    ghost use Rattle.label_graph.specs.Nodes.{NodeList, node_list_code};
+    ghost use Rattle.label_graph.specs.Nodes.{NodeTable, node_table_code};
     ghost use Rattle.label_graph.specs.Rows.{nodes_in, AreHeld};
 
-    ghost Value = { NodeList };
+    ghost Value = { NodeTable };
 
-    ghost coded = { node_list_code };
+    ghost coded = { node_table_code };
 
     ghost view = { λ n. record { nodes = nodes_in n.cells.items n.rows.items; capacity = vec_capacity n.rows } };
 
@@ -87,8 +87,8 @@ impl Nodes {
         }
     }
 
-    /// Whether an edge leads from one node to the other. It reads the ends of the two lists that tell, where a new
-    /// edge is put, and then the shorter list.
+    /// Whether an edge leads from one node to the other. It reads the last entries of the two lists that tell, where a
+    /// new edge is put, and then the shorter list.
     pub(crate) fn is_edge(&self, u: NodeId, v: NodeId) -> bool
         requires { Mirrors self.now.nodes }
         ensures { result ≡ has (children_of self.now.nodes u) v }

@@ -15,7 +15,7 @@ const PIECE: usize = 256;
 const MOST_CELLS: usize = 0xFFFF_FFFF;
 
 /// A list: how many numbers it has, for how many it has room, and where it begins. `first` is the place of its first cell.
-/// Where there is room for one number alone the list takes no cell, and `first` is that number. So a list takes 12 bytes; by
+/// Where there is room for one number alone the list takes no cell, and `first` is that number. So a list takes 12 bytes; as
 /// an enum it would take 16.
 #[derive(Clone, Copy)]
 pub(crate) struct Segment {

@@ -10,6 +10,13 @@ use px_base::NodeId;
 use std::marker::Model;
 
 /// A graph that doesn't change, for reads that take no memory and no steps.
+///
+/// The nodes that an edge joins to node 3, if it is live, where `steps` counts one read of the whole graph:
+///
+///     let view = graph.view(&mut steps);
+///     if view.is_node(3) {
+///         take(view.parents(3), view.children(3));
+///     }
 #[derive(Drop)]
 pub struct GraphView<'a> {
     graph: &'a Graph,

@@ -91,7 +91,7 @@ fn load_file(
     Ok(load(alloc, &mut shelf, name, limits))
 }
 
-/// How many nodes and edges come of a text, or the error.
+/// How many nodes and edges a text loads to, or the error.
 fn size_of(
     alloc: Global,
     content: &[u8],

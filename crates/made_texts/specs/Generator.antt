@@ -10,7 +10,7 @@ abbrev pub state_after : ℕ → ℕ → ℕ
 state_after zero x = x
 state_after (suc n) x = state_after n (next_state x)
 
--- The number below m at the state x: the rest of the state's upper 31 bits. Where m is 0 it is these bits.
+-- The number below m at the state x: the remainder of the state's upper 31 bits. Where m is 0 it is these bits.
 unfoldable pub number_at : ℕ → ℕ → ℕ
 number_at x m = (x / 2 ^ 33) % m
 

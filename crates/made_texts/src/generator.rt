@@ -9,7 +9,7 @@ pub(crate) struct Generator {
 }
 
 impl Generator {
-    // A rest of the upper 31 bits. The lower bits of such a state repeat soon.
+    // A remainder of the upper 31 bits. The lower bits of such a state soon repeat.
     fn number(self, bound: u64) -> u64
         ensures number { result ≡ number_at self.state bound }
         ensures below { 0 < bound → result < bound }

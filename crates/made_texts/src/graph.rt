@@ -11,7 +11,7 @@ use std::alloc::Global;
 /// How many lines the graph file has.
 pub(crate) const LINES: u32 = 20_000;
 
-// Appends so many lines.
+// Appends that many lines.
 fn push_lines(out: &mut String, generator: &mut Generator, count: u32) -> Result<(), Memory>
     ensures { OnOk result (string_bytes out.new ≡ string_bytes out.old ++ lines_text (graph_lines count generator.old.state)) }
 {

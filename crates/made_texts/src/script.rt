@@ -13,7 +13,7 @@ use std::alloc::Global;
 /// How many nodes the script adds.
 const STEPS: u32 = 500;
 
-// A new node, and two edges from it of which one is taken away.
+// Appends a step: a new node and two edges from it, one of which is taken away again.
 fn push_step(
     out: &mut String,
     generator: &mut Generator,
@@ -33,7 +33,7 @@ fn push_step(
     Ok(())
 }
 
-// So many steps.
+// Appends that many steps.
 fn push_steps(
     out: &mut String,
     generator: &mut Generator,
@@ -53,7 +53,7 @@ fn push_steps(
     Ok(())
 }
 
-// The sizes, and three queries through the graph itself and through one index of each kind.
+// Appends `sizes`, and three queries through the graph itself and through one index of each kind.
 fn push_last(out: &mut String) -> Result<(), Memory>
     ensures { OnOk result (string_bytes out.new ≡ string_bytes out.old ++ lines_text last_lines) }
 {

@@ -1,6 +1,7 @@
 -- The children of nodes that were met are met.
 use Rattle.std.proofs.Common.{◌≡◌, ℕ, zero, suc, ◌+◌, ◌<◌, ◌≤◌, List, [], ◌∷◌, ◌++◌, length, refl, sym, ◌∙◌, ap, subst, arith, inl, inr, true, false, Bool, ◌||◌, true≢false, cond, append_assoc, append-nil, take}
 use Rattle.std.specs.Prelude.{nat_eq, slice_index}
+use Rattle.std.specs.Cmp.{both_ways}
 use Rattle.std.proofs.lemmas.Bool.{or_cases, or_left, or_right, cases_lt}
 use Rattle.std.proofs.lemmas.Bool.Decides.{eqb_tells}
 use Rattle.std.proofs.lemmas.List.{get_or_append_left, length-append, take-append-le, take_all}
@@ -42,11 +43,6 @@ has_place [] i h = absurd (omega (arith, h))
 has_place (x ∷ xs) zero h = elim (eqb_tells x x) [ inl s ↦ rw s.0 refl | inr d ↦ absurd (d.1 refl) ]
 has_place (x ∷ xs) (suc i) h = or_right (nat_eq (slice_index xs i) x) (has xs (slice_index xs i)) (has_place xs i (omega (arith, h)))
 
-pub same_answer : (a b : Bool) → (a ≡ true → b ≡ true) → (b ≡ true → a ≡ true) → a ≡ b
-same_answer true b h k = sym (h refl)
-same_answer false true h k = k refl
-same_answer false false h k = refl
-
 -- the children of one more node
 pub spread_more : (s : Shape) (nodes met met2 : List ℕ) (i x : ℕ) → IsSpread s nodes i met → slice_index nodes i ≡ x → (rest : List ℕ) × (met2 ≡ met ++ rest)
     → ((c : ℕ) → has met2 c ≡ (has met c || s.edge x c)) → IsSpread s nodes (i + 1) met2
@@ -84,7 +80,7 @@ spread_on s nodes met p = record {
 pub spread_near : (s : Shape) (from : ℕ → Bool) (i : ℕ) (nodes met : List ℕ) → IsShape s → ((n : ℕ) → has nodes n ≡ near s from i n) → IsSpread s nodes (length nodes) met
     → (n : ℕ) → has met n ≡ near s from (suc i) n
 spread_near s from i nodes met shape is p n =
-    same_answer (has met n) (near s from (suc i) n)
+    both_ways (has met n) (near s from (suc i) n)
     (λ h. elim (p.only n h) [
       | inl first ↦ near_next s from i n (sym (is n) ∙ first)
       | inr (j, l, e) ↦ near_step s shape from i (slice_index nodes j) n (sym (is (slice_index nodes j)) ∙ has_place nodes j l) e

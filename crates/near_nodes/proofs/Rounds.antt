@@ -14,7 +14,8 @@ use Rattle.upkeep_spec.proofs.Sums.{few_listed}
 use Rattle.near_nodes.specs.Costs.{children_cost}
 use Rattle.near_nodes.specs.Searches.{IsSpread}
 use Rattle.near_nodes.proofs.SearchCosts.{near_below, read_most}
-use Rattle.near_nodes.proofs.MetChildren.{has_front, has_place, place_in, same_answer, spread_on, spread_longer}
+use Rattle.std.specs.Cmp.{both_ways}
+use Rattle.near_nodes.proofs.MetChildren.{has_front, has_place, place_in, spread_on, spread_longer}
 
 -- The targets are met, and only what is reached. The children of those before the place are met.
 pub record IsReaching (s : Shape) (from : ℕ → Bool) (place : ℕ) (met : List ℕ) : Type 0 where
@@ -59,7 +60,7 @@ near_met s from place met p all (suc i) n h = elim (near_cases s from i n h) [
 pub reaching_all : (s : Shape) (from : ℕ → Bool) (place : ℕ) (met : List ℕ) → IsDistinct nat_eq met → IsReaching s from place met → length met ≤ place → Lists (reach s from) met
 reaching_all s from place met once p all = record {
   once = once;
-  members = λ n. same_answer (has met n) (reach s from n) (p.only n) (near_met s from place met p all s.size n);
+  members = λ n. both_ways (has met n) (reach s from n) (p.only n) (near_met s from place met p all s.size n);
 }
 
 -- what is met is below the size

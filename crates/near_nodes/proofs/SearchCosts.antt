@@ -15,7 +15,7 @@ use Rattle.bisim_spec.proofs.BelowLaws.{bit_of}
 use Rattle.bisim_spec.proofs.Reached.{near_cases, near_more}
 use Rattle.graph_update.specs.PendingChanges.{Pending, graph_after, lost_edge, lost_from}
 use Rattle.near_nodes.specs.Costs.{children_cost}
-use Rattle.upkeep_spec.proofs.Sums.{where_in, sum_listed, sum_most, sum_plus}
+use Rattle.upkeep_spec.proofs.Sums.{where_in, sum_listed, sum_most, sum_plus, once_most, zeros}
 use Rattle.near_nodes.proofs.Distances.{IsSearched}
 
 -- what is near is no number past the graph
@@ -25,35 +25,6 @@ near_below s from shape given (suc i) n h = elim (near_cases s from i n h) [
   | inl e ↦ near_below s from shape given i n e
   | inr (p, a, e) ↦ shape.below n (shape.onto p n e)
 ]
-
--- a number is met once
-once_before : (n v : ℕ) → n ≤ v → sum_below n (λ k. cond (nat_eq k v) 1 0) ≡ 0
-once_before zero v h = refl
-once_before (suc n) v h = elim (eqb_tells n v) [
-  | inl s ↦ absurd (let e = s.1 in omega (arith, h, e))
-  | inr d ↦ (
-      let rest = once_before n v (omega (arith, h)) in
-      let here : bit_of (nat_eq n v) ≡ 0 = ap bit_of d.0 in
-      omega (arith, rest, here))
-]
-
-pub once_most : (n v : ℕ) → sum_below n (λ k. cond (nat_eq k v) 1 0) ≤ 1
-once_most zero v = omega arith
-once_most (suc n) v = elim (eqb_tells n v) [
-  | inl s ↦ (
-      let e = s.1 in
-      let rest = once_before n v (omega (arith, e)) in
-      let here : bit_of (nat_eq n v) ≡ 1 = ap bit_of s.0 in
-      omega (arith, rest, here))
-  | inr d ↦ (
-      let rest = once_most n v in
-      let here : bit_of (nat_eq n v) ≡ 0 = ap bit_of d.0 in
-      omega (arith, rest, here))
-]
-
-pub zeros : (n : ℕ) → sum_below n (λ k. 0) ≡ 0
-zeros zero = refl
-zeros (suc n) = (let r = zeros n in omega (arith, r))
 
 -- an edge that is taken away begins at one node
 pub lost_most : (n : ℕ) (lost : Option (ℕ × ℕ)) → sum_below n (lost_from lost) ≤ 1
@@ -94,7 +65,3 @@ first_most a targets met ends i place k shape given p l =
     let all = search_most a targets met ends i place k shape given p l in
     let part = sum_by-take-le (children_cost a) met place in
     omega (arith, all, part)
-
--- one more node is read
-pub sum_next : (f : ℕ → ℕ) (xs : List ℕ) (i d : ℕ) → i < length xs → sum_by f (take (i + 1) xs) ≡ sum_by f (take i xs) + f (get_or xs i d)
-sum_next f xs i d h = ap (sum_by f) (take_more xs i d h) ∙ sum_by_push f (take i xs) (get_or xs i d)

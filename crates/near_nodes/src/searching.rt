@@ -16,7 +16,12 @@ use std::marker::Model;
 use std::sync::ledger::Ledger;
 
 /// The nodes to which few edges lead from the targets of a change, in the order of their distance, each once, and how many
-/// they are up to each distance. The memory is that of these nodes, whatever the size of the graph.
+/// there are up to each distance. The memory is that of these nodes, whatever the size of the graph.
+///
+/// The nodes to which at most one edge leads, of those to which at most two do:
+///
+///     let near = near_nodes(alloc, &after, &targets, 2, &mut steps)?;
+///     take(near.within(1));
 #[derive(Drop)]
 pub struct NearNodes {
     met: IndexSet<NodeId>,

@@ -14,19 +14,9 @@ use Rattle.bisim_spec.specs.NodeEdges.{edges_onto, edges_from, joins_off, touchi
 use Rattle.bisim_spec.proofs.Bisimilar.{is_some_at}
 use Rattle.bisim_spec.proofs.Moves.{block_from, between_most, between_moved, touching_most}
 use Rattle.bisim_spec.proofs.Together.{block_below}
+use Rattle.upkeep_spec.proofs.Sums.{sum_next, sum_first}
 use Rattle.quotient.specs.Joined.{one_if}
 use Rattle.node_moves.specs.Shifts.{onto_count, from_count, MovesNode}
-
--- one more element
-sum_next : (f : ℕ → ℕ) (xs : List ℕ) (i : ℕ) → i < length xs → sum_by f (take (i + 1) xs) ≡ sum_by f (take i xs) + f (get_or xs i 0)
-sum_next f xs i h = ap (sum_by f) (take_more xs i 0 h) ∙ sum_by_push f (take i xs) (get_or xs i 0)
-
--- the first elements and the next one are at most all
-sum_first : (f : ℕ → ℕ) (xs : List ℕ) (i : ℕ) → i < length xs → sum_by f (take i xs) + f (get_or xs i 0) ≤ sum_by f xs
-sum_first f xs i h =
-    let a = sum_next f xs i h in
-    let b = sum_by-take-le f xs (i + 1) in
-    omega (arith, a, b)
 
 -- there is a partition that differs so
 pub moved_set : (n own b : ℕ) (p : List (Option ℕ)) → at p n ≡ Some own → MovesNode n own b p (slice_set p n (Some b))
@@ -62,14 +52,14 @@ one_is t e = ap one_if e
 pub still_some : (f f2 : ℕ → Bool) (xs : List ℕ) (i now init : ℕ) → i < length xs → f (get_or xs i 0) ≡ true
     → now + sum_by (λ q. one_if (f q)) (take i xs) ≡ init + sum_by (λ q. one_if (f2 q)) (take i xs) → sum_by (λ q. one_if (f q)) xs ≤ init → 0 < now
 still_some f f2 xs i now init l e h most =
-    let first = sum_first (λ q. one_if (f q)) xs i l in
+    let first = sum_first (λ q. one_if (f q)) xs i 0 l in
     let one = one_is (f (get_or xs i 0)) e in
     omega (arith, first, one, h, most)
 
 pub still_few : (f f2 : ℕ → Bool) (xs : List ℕ) (i now init top : ℕ) → i < length xs → f2 (get_or xs i 0) ≡ true
     → now + sum_by (λ q. one_if (f q)) (take i xs) ≡ init + sum_by (λ q. one_if (f2 q)) (take i xs) → init + sum_by (λ q. one_if (f2 q)) xs ≤ top → now < top
 still_few f f2 xs i now init top l e h most =
-    let first = sum_first (λ q. one_if (f2 q)) xs i l in
+    let first = sum_first (λ q. one_if (f2 q)) xs i 0 l in
     let one = one_is (f2 (get_or xs i 0)) e in
     omega (arith, first, one, h, most)
 
@@ -78,8 +68,8 @@ pub shifted_next : (f f2 : ℕ → Bool) (xs : List ℕ) (i now now2 init : ℕ)
     → now + sum_by (λ q. one_if (f q)) (take i xs) ≡ init + sum_by (λ q. one_if (f2 q)) (take i xs) → now2 + one_if (f (get_or xs i 0)) ≡ now + one_if (f2 (get_or xs i 0))
     → now2 + sum_by (λ q. one_if (f q)) (take (i + 1) xs) ≡ init + sum_by (λ q. one_if (f2 q)) (take (i + 1) xs)
 shifted_next f f2 xs i now now2 init l h step =
-    let a = sum_next (λ q. one_if (f q)) xs i l in
-    let b = sum_next (λ q. one_if (f2 q)) xs i l in
+    let a = sum_next (λ q. one_if (f q)) xs i 0 l in
+    let b = sum_next (λ q. one_if (f2 q)) xs i 0 l in
     omega (arith, a, b, h, step)
 
 -- the counts along lists of edges

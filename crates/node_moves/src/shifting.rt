@@ -22,7 +22,7 @@ pub(crate) fn block_of(base: &Summary, draft: &Draft, n: NodeId) -> u32
     draft.block_of(base, n).unwrap()
 }
 
-// An edge that led from the first pair of blocks leads from the second pair from now on.
+// An edge that led from one block of the first pair to the other leads between the blocks of the second pair instead.
 fn shift(
     base: &Summary,
     draft: &mut Draft,

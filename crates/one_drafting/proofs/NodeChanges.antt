@@ -20,7 +20,7 @@ use Rattle.bisim_spec.proofs.EdgeSets.{kept, same_len}
 use Rattle.quotient.specs.Quotients.{Quotient, view_of}
 use Rattle.quotient_draft.specs.Drafts.{Drafted, shown_blocks, shown_labels, with_supports, with_added}
 use Rattle.quotient_draft.specs.Basis.{IsOver}
-use Rattle.quotient_draft.proofs.PutLists.{at_put}
+use Rattle.block_partition.proofs.PutNumbers.{at_put}
 use Rattle.one_drafting.specs.OneDrafts.{ShowsChange}
 use Rattle.one_drafting.proofs.Bases.{number_from, named_texts}
 

@@ -142,7 +142,7 @@ fn draft_pending<L: Ledger>(
 /// for each of its parents and one for each of its children. It takes no step for an edge between blocks that have support. Where memory
 /// runs out, the draft must be cleared before it is used again.
 ///
-/// Expected O((r + 1) w log w) to split, and then what `one_merging::merge` takes from the blocks on that were made; expected O(1) for an
+/// Expected O((r + 1) w log w) to split, and then what `one_merging::merge` takes from the blocks that were made; expected O(1) for an
 /// edge between blocks that have support. It takes the memory of the draft: O(w), and what is merged.
 pub fn draft_change<L: Ledger>(
     alloc: Global,

@@ -23,10 +23,10 @@ use quotient_draft::Draft;
 use std::alloc::Global;
 use std::sync::ledger::Ledger;
 
-/// Splits blocks in the draft until the partition shown is stable on the graph after the change, where before it was so but
-/// maybe at the target. The target's block may have another label than the target. Each block that is shown then lies within one
-/// that was shown. Only what the target reaches is read and moved. Where the base was stable and no two of its blocks could be merged, and
-/// the nodes were in its blocks, it leaves what `merge` asks.
+/// Splits blocks in the draft until the partition shown is stable on the graph after the change, where before it was stable except perhaps
+/// at the target. The target's block may have another label than the target. Each block that is shown then lies within one that was shown
+/// before. Only what the target reaches is read and moved. Where the base was stable and no two of its blocks could be merged, and the
+/// nodes were in its blocks, it leaves what `merge` requires.
 ///
 /// It takes at most `4 * (r + 1) * w` steps, where the target reaches `r` nodes, and `w` is one for each of them, one for each of its
 /// parents and one for each of its children. After `Memory`, which also comes past 2^31 blocks, the draft must be cleared before it
@@ -79,7 +79,7 @@ fn add_blocks(
 }
 
 /// Merges blocks in the draft until no two can be merged, where the partition shown is stable on the graph after the change and
-/// came by splitting that of the base, of which no two blocks could be merged. The graph is read only to find what the target
+/// came by splitting that of the base, no two blocks of which could be merged. The graph is read only to find what the target
 /// reaches: of each two blocks that can be merged one has no other members. The rest is done by the tables of blocks, which are looked
 /// through once for the blocks to which no other has support.
 ///

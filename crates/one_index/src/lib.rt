@@ -1,4 +1,4 @@
-//! The 1-index: a stable partition of a graph's nodes of which no two blocks can be merged.
+//! The 1-index: a stable partition of a graph's nodes, no two blocks of which can be merged.
 #![tactic(auto)]
 
 mod building;

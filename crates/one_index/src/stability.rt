@@ -118,11 +118,11 @@ fn is_partition(summary: &Summary, view: &GraphView<'_>) -> bool
     true
 }
 
-/// Whether the partition is stable in the graph: exactly the nodes have a block, and the members of each block
-/// have one label, and parents in the same blocks. What the summary counts makes no difference.
+/// Whether the partition is stable in the graph: exactly the nodes have a block, and the members of each block have one
+/// label, and parents in the same blocks. The supports of the summary don't matter.
 ///
-/// Each node is compared with one member of its block, in time of the product of the numbers of parents of the two at most:
-/// O(n + b + m d) for n node numbers, b block numbers, m edges and at most d parents of a node; no memory.
+/// Each node is compared with one member of its block, by at most as many look-ups as the product of their numbers of
+/// parents: O(n + b + m d) for n node numbers, b block numbers, m edges and at most d parents of a node; no memory.
 pub fn is_stable(summary: &Summary, view: &GraphView<'_>) -> bool
     ensures { IsTrue result ↔ Stable (shape_of view.now) summary.now.blocks.block_of }
 {

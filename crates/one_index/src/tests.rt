@@ -166,14 +166,14 @@ fn can_merge_first(summary: &Summary) -> bool {
     summary.is_node(0) && summary.is_node(1) && mergeable(summary, 0, 1)
 }
 
-// Whether the answers to a row are those that it has.
+// Whether the partition of a row is as the row says.
 fn is_right(summary: &Summary, view: &GraphView<'_>, row: &Row<'_>) -> bool {
     is_stable(summary, view) == row.is_stable
         && is_minimal(summary) == row.is_minimal
         && can_merge_first(summary) == row.can_merge_first
 }
 
-// Whether a build makes so many blocks, of a partition that is stable and of which no two can be merged.
+// Whether a build makes so many blocks, of a partition that is stable and no two blocks of which can be merged.
 fn builds(alloc: Global, view: &GraphView<'_>, built: u32) -> Result<bool, Memory> {
     let summary = OneIndex::build(alloc, view)?;
     Ok(summary.blocks() == built && is_stable(&summary, view) && is_minimal(&summary))

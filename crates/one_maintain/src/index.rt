@@ -49,8 +49,8 @@ impl OneKept {
     /// change reaches `r` nodes, and `w` is one for each of them, one for each of its parents and one for each of its children. A
     /// link takes none where the blocks of its ends have support already, and then expected O(1) time and memory.
     ///
-    /// The time and the memory are those of `one_drafting::draft_change`. Besides, all blocks are looked through in O(b), for b block
-    /// numbers, where blocks without other parents are looked for anew.
+    /// The time and the memory are those of `one_drafting::draft_change`. A new search for the blocks without other parents passes
+    /// over all blocks: O(b) more, for b block numbers.
     pub fn prepare_counted<L: Ledger>(
         &mut self,
         graph: &Graph,
@@ -72,7 +72,7 @@ impl OneKept {
     }
 }
 
-// Stages what a change will make of the index, and forgets what it costs.
+// Stages what a change will make of the index, without a count of its steps.
 fn prepare_uncounted<L: Ledger>(
     index: &mut OneKept,
     graph: &Graph,

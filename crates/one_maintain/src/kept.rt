@@ -94,8 +94,8 @@ fn renew(alloc: Global, draft: &mut Draft)
     }
 }
 
-// Makes the roots anew from the base where far more were noted since they were made than there were then, so that numbers which are
-// no longer blocks go. It looks through all blocks then; where memory for it runs out, the roots stay.
+// Makes the roots again from the base where far more were noted since they were made than there were then, so that numbers that are
+// no longer blocks go. It passes over all blocks; where memory for it runs out, the roots stay.
 fn renew_roots(alloc: Global, base: &Summary, roots: &mut Roots)
     requires covers { CoversBase base.now roots.old }
     ensures covers { CoversBase base.now roots.new }

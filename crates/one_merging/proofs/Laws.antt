@@ -8,6 +8,7 @@ use Rattle.std.proofs.lemmas.List.{take_more, take_all}
 use Rattle.std.proofs.lemmas.List.Folds.{list_any-append}
 use Rattle.px_spec.specs.Members.{has, at, Lists}
 use Rattle.px_spec.specs.Shapes.{Shape}
+use Rattle.px_spec.proofs.MemberLaws.{or_false, has_push, has_more}
 use Rattle.bisim_spec.proofs.MergeableBlocks.{mergeable_blocks}
 use Rattle.upkeep_spec.specs.Merges.{IsMergeablePair, IsMerged, one_more, none, AreSuspects}
 use Rattle.upkeep_spec.specs.Viewed.{IsViewed, IsDone}
@@ -131,16 +132,6 @@ pub take_end : (xs : List ℕ) (i n : ℕ) → length xs ≤ i → IsTrue (has x
 take_end xs i n over h = ap (λ ys. has ys n) (take_all i xs over) ∙ h
 
 -- numbers in lists
-
-or_false : (b : Bool) → (b || false) ≡ b
-or_false true = refl
-or_false false = refl
-
-pub has_push : (xs : List ℕ) (y n : ℕ) → has (xs ++ y ∷ []) n ≡ (has xs n || nat_eq n y)
-has_push xs y n = list_any-append (nat_eq n) xs (y ∷ []) ∙ ap (λ t. has xs n || t) (or_false (nat_eq n y))
-
-pub has_more : (xs : List ℕ) (i d m : ℕ) → i < length xs → has (take (i + 1) xs) m ≡ (has (take i xs) m || nat_eq m (get_or xs i d))
-has_more xs i d m h = ap (λ ys. has ys m) (take_more xs i d h) ∙ has_push (take i xs) (get_or xs i d) m
 
 -- what is inserted is there, and all that was
 pub has_inserted : (xs ys : List ℕ) (y n : ℕ) → ys ≡ cond (has xs y) xs (xs ++ y ∷ []) → has ys n ≡ (has xs n || nat_eq n y)

@@ -23,10 +23,10 @@ IsRoot support b = (a : ℕ) → a ≢ b → support a b ≡ 0
 pub record CoversRoots (labels : ℕ → Option ℕ) (support : ℕ → ℕ → ℕ) (roots : RootLists) : Type 0 where
   pub each : (b label : ℕ) → labels b ≡ Some label → IsRoot support b → IsNoted roots label b
 
--- those of a quotient
+-- the roots of a quotient are noted
 abbrev pub CoversBase : Quotient → RootLists → Type 0
 CoversBase q roots = CoversRoots (at q.blocks.labels) (support_at q.supports) roots
 
--- those that a quotient has once a draft is settled
+-- the roots that a quotient has once a draft is settled are noted
 abbrev pub CoversShown : Quotient → Drafted → RootLists → Type 0
 CoversShown q d roots = CoversRoots (at (settled_view q d).labels) (shown_support q d) roots

@@ -29,7 +29,7 @@ pub(crate) fn children_count(base: &Summary, draft: &Draft, b: u32) -> usize {
         .saturating_add(draft.drafted_children(b).len())
 }
 
-/// The two blocks. That which it costs more to move, by its members and its children, is in front.
+/// The two blocks: first the one that costs more to move, by its members and its children.
 pub(crate) fn larger_first(base: &Summary, draft: &Draft, a: u32, b: u32) -> (u32, u32)
     requires over { IsOver base.now.blocks.block_of base.now.blocks.labels draft.now }
     requires graph { HasShownGraph base.now draft.now }

@@ -24,7 +24,7 @@ use quotient::Summary;
 use quotient_draft::Draft;
 use std::alloc::Global;
 
-// Takes suspects off until one has a partner. Of the pair the larger block is in front.
+// Takes suspects off until one has a partner. The larger block of the pair comes first.
 fn next_pair(
     base: &Summary,
     draft: &Draft,
@@ -47,7 +47,7 @@ fn next_pair(
     Ok(None)
 }
 
-// A block waits too, and these others.
+// This block waits too, and so do these children.
 fn push_near(a: u32, children: &[u32], suspects: &mut Suspects) -> Result<(), Memory>
     ensures own { OnOk result (IsTrue (has suspects.new a)) }
     ensures kept { OnOk result ((b : ℕ) → IsTrue (has suspects.old b) → IsTrue (has suspects.new b)) }
@@ -83,18 +83,19 @@ fn merge_pairs(
     Ok(())
 }
 
-/// Merges blocks as shown until no two can be merged, where of each two that can one is among the suspects.
-/// It skips numbers of no block, and blocks without members. The supports must be those of a graph with at most
-/// 2^30 edges, and blocks with members have labels. Where memory runs out, the draft may have a part of it.
+/// Merges blocks as shown until no two can be merged, where of any two that can be, one is among the suspects. It skips
+/// numbers of no block, and blocks without members. The supports must be those of a graph with at most 2^30 edges, and
+/// blocks with members have labels. Where memory runs out, the draft may hold a part of this.
 ///
-/// Of two blocks that are merged the one with fewer members and children is moved, and each block next to it is written
-/// once. A suspect is compared with another parent of it and the children of that one: of its parents one with few children is
-/// taken, or else the one with the fewest. Where it has no other parent than itself, it is compared with the blocks noted for its
-/// label, with those that the draft touches, and with its children where it is a parent of itself.
+/// Of two blocks that are merged the one with fewer members and children is moved, and each block next to it is written once. A
+/// suspect is compared with another parent of it and that parent's children: a parent with few children is taken, or else the one
+/// with the fewest. Where it has no other parent than itself, it is compared with the blocks noted for its label, with those that
+/// the draft touches, and with its children where it is a parent of itself.
 ///
-/// Expected O(u k p log p), where u blocks are looked at, which are the suspects, and after each merge the merged block and the
-/// children of the smaller one, each is compared with k blocks, and has p parents, at most; and what `join` takes for each merge.
-/// Most comparisons end at another label or at the first parent that differs. It takes the memory of `join`, and O(u + k + p).
+/// Expected O(u k p log p) for u blocks that are examined, which are the suspects, and after each merge the merged block and the
+/// children of the smaller one, each with at most p parents and compared with at most k blocks; and what `join` takes for each
+/// merge. Most comparisons end at another label or at the first parent that differs. It takes the memory of `join`, and O(u + k +
+/// p).
 pub fn merge(
     alloc: Global,
     base: &Summary,

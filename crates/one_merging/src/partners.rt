@@ -11,14 +11,14 @@ ghost use Rattle.one_merging.specs.Roots.{IsNoted, CoversBase};
 
 use crate::members::{children_count, has_members};
 use crate::roots::Roots;
-use block_joining::mergeable;
+use block_joining::can_join;
 use label_graph::Digraph;
 use px_base::Memory;
 use quotient::Summary;
 use quotient_draft::{Draft, base_children, base_parents};
 use std::alloc::Global;
 
-/// Lists of blocks, in memory that is used again.
+/// Lists of blocks, in memory that is reused.
 #[derive(Drop)]
 pub(crate) struct Buffers {
     pub(crate) children: Vec<u32>,
@@ -63,16 +63,16 @@ fn any_unjoined(blocks: &[u32], base: &Summary, draft: &Draft, a: u32, b: u32) -
     blocks.iter().any(|x| (*x != a && *x != b) && draft.support(base, *x, a) == 0)
 }
 
-// How many parents are so few that they are looked through rather than asked for by hash.
+// Up to how many parents are searched in a list rather than looked up by hash.
 const FEW_PARENTS: usize = 16;
 
-// Whether one of the lists is so long that supports are asked for by hash.
+// Whether one of the lists is so long that supports are looked up by hash.
 fn is_long(own: &[u32], drafted: &[u32]) -> bool {
     own.len().max(drafted.len()) > FEW_PARENTS
 }
 
-// Whether some parent of b isn't a parent of a, where b has the parents that it has in the base. Where a has few parents, nothing
-// but lists is looked at, so it is the cheapest test of the parents.
+// Whether some parent of b isn't a parent of a, where b has the parents that it has in the base. Where a has few parents, only
+// lists are read, so it is the cheapest test of the parents.
 fn has_stranger(base: &Summary, draft: &Draft, a: u32, b: u32) -> bool
     ensures { IsTrue result → AreNoShownMates base.now draft.now a b }
 {
@@ -89,7 +89,7 @@ fn has_stranger(base: &Summary, draft: &Draft, a: u32, b: u32) -> bool
 }
 
 // Whether two blocks, of which the first has members and this label, differ and can be merged. Most blocks have another label or
-// another parent, so these are looked at first.
+// another parent, so these are tested first.
 fn is_partner(
     base: &Summary,
     draft: &Draft,
@@ -117,7 +117,7 @@ fn is_partner(
     if !has_members(base, draft, b) {
         return Ok(false);
     }
-    mergeable(base, draft, a, b, others)
+    can_join(base, draft, a, b, others)
 }
 
 // Whether x is other than a and has support to it as shown.
@@ -232,8 +232,8 @@ fn fill_own_children(
     Ok(())
 }
 
-// Lists the blocks among which a partner is of a block that has no other parent than itself: its children where it has itself, the
-// blocks noted for its label, and the blocks that the draft touches.
+// Lists the blocks among which a partner is of a block that has no other parent than itself: its children where it is one of them,
+// the blocks noted for its label, and the blocks that the draft touches.
 fn fill_candidates(
     base: &Summary,
     draft: &Draft,

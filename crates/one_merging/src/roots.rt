@@ -37,8 +37,8 @@ impl Model for Roots {
 }
 
 impl Roots {
-    /// Those of a base. Expected O(b) for b block numbers, where no two blocks can be merged: then a label has two of them at most, one
-    /// of which is its own parent. It takes O(l) memory for l labels with such blocks.
+    /// The roots of a base. Expected O(b) for b block numbers, where no two blocks can be merged: then a label has two of them at most,
+    /// one of which is its own parent. It takes O(l) memory for l labels with such blocks.
     pub fn of(alloc: Global, base: &Summary) -> Result<Roots, Memory>
         ensures covers { IfOk result (CoversBase base.now) }
     {
@@ -53,7 +53,7 @@ impl Roots {
         Ok(roots)
     }
 
-    /// Whether far more blocks were noted since these were made than there were then. O(1), no memory.
+    /// Whether far more blocks were noted since these roots were made than there were then. O(1), no memory.
     pub fn are_many(&self) -> bool {
         self.further > self.made.saturating_add(64)
     }
@@ -66,7 +66,7 @@ impl Roots {
         Ok(())
     }
 
-    /// Notes those that a draft brings, so that those that the base has once it is settled are noted. Expected O(t + p + r) for t blocks
+    /// Notes the roots that a draft brings, so that all roots of the base once it is settled are noted. Expected O(t + p + r) for t blocks
     /// that the draft touches, with p parents in the base and as drafted, and r blocks that are noted for a label of such a block. It takes
     /// 4 to 8 bytes for each touched block, and as much for each that is noted.
     pub fn note_touched(
@@ -86,7 +86,7 @@ impl Roots {
         Ok(())
     }
 
-    // Notes those of a base.
+    // Notes the roots of a base.
     fn note_base(&mut self, base: &Summary) -> Result<(), Memory>
         ensures covers { OnOk result (CoversBase base.now self.new) }
     {
@@ -107,7 +107,7 @@ impl Roots {
         Ok(())
     }
 
-    // Notes those of the blocks that have members, and to which no other has support, as shown.
+    // Notes the blocks among these that have members, and to which no other has support, as shown.
     fn note_roots(&mut self, base: &Summary, draft: &Draft, blocks: &[u32]) -> Result<(), Memory>
         requires over { IsOver base.now.blocks.block_of base.now.blocks.labels draft.now }
         ensures kept { (l c : ℕ) → IsNoted self.old l c → IsNoted self.new l c }

@@ -1,4 +1,4 @@
-// Blocks that wait to be looked at.
+// Blocks that wait to be examined.
 ghost use Rattle.std.specs.Prelude.{◌≡◌, ◌++◌, ◌∷◌, [], ◌||◌, ℕ, IfOk, OnOk, IfSome, IfNone, nat_eq};
 ghost use Rattle.px_spec.specs.Members.{has};
 

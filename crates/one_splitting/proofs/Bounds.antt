@@ -1,47 +1,16 @@
 -- What the rounds cost in all.
-use Rattle.std.proofs.Common.{◌≡◌, ℕ, zero, suc, ◌+◌, ◌*◌, ◌<◌, ◌≤◌, List, Option, Some, None, refl, ap, arith, inl, inr, true, Bool, cond}
+use Rattle.std.proofs.Common.{◌≡◌, ℕ, zero, suc, ◌+◌, ◌*◌, ◌<◌, ◌≤◌, List, Option, Some, None, arith, inl, inr, true, Bool, cond}
 use Rattle.std.specs.Prelude.{nat_eq}
 use Rattle.std.specs.List.{sum_by, IsDistinct}
 use Rattle.std.proofs.lemmas.Bool.{cases_Bool}
-use Rattle.std.proofs.lemmas.Bool.Decides.{eqb_tells}
 use Rattle.px_spec.specs.Members.{has}
 use Rattle.px_spec.specs.Shapes.{Shape, shape_of}
 use Rattle.bisim_spec.specs.Below.{count_below}
-use Rattle.bisim_spec.proofs.BelowLaws.{bit_of}
 use Rattle.graph_update.specs.PendingChanges.{Pending, graph_after, lost_edge, lost_from, lost_onto}
 use Rattle.bisim_spec.specs.Below.{sum_below}
 use Rattle.bisim_spec.specs.Weights.{weight_at, weight, size_of}
-use Rattle.upkeep_spec.proofs.Sums.{where_in, sum_listed}
+use Rattle.upkeep_spec.proofs.Sums.{where_in, sum_listed, once_most, zeros, sum_three}
 use Rattle.one_splitting.specs.Costs.{round_cost}
-
--- a number is met once
-once_before : (n v : ℕ) → n ≤ v → sum_below n (λ k. cond (nat_eq k v) 1 0) ≡ 0
-once_before zero v h = refl
-once_before (suc n) v h = elim (eqb_tells n v) [
-  | inl s ↦ absurd (let e = s.1 in omega (arith, h, e))
-  | inr d ↦ (
-      let rest = once_before n v (omega (arith, h)) in
-      let here : bit_of (nat_eq n v) ≡ 0 = ap bit_of d.0 in
-      omega (arith, rest, here))
-]
-
-pub once_most : (n v : ℕ) → sum_below n (λ k. cond (nat_eq k v) 1 0) ≤ 1
-once_most zero v = omega arith
-once_most (suc n) v = elim (eqb_tells n v) [
-  | inl s ↦ (
-      let e = s.1 in
-      let rest = once_before n v (omega (arith, e)) in
-      let here : bit_of (nat_eq n v) ≡ 1 = ap bit_of s.0 in
-      omega (arith, rest, here))
-  | inr d ↦ (
-      let rest = once_most n v in
-      let here : bit_of (nat_eq n v) ≡ 0 = ap bit_of d.0 in
-      omega (arith, rest, here))
-]
-
-zeros : (n : ℕ) → sum_below n (λ k. 0) ≡ 0
-zeros zero = refl
-zeros (suc n) = (let r = zeros n in omega (arith, r))
 
 pub lost_onto_most : (n : ℕ) (lost : Option (ℕ × ℕ)) → sum_below n (lost_onto lost) ≤ 1
 lost_onto_most n None = (let z = zeros n in omega (arith, z))
@@ -50,11 +19,6 @@ lost_onto_most n (Some e) = once_most n e.1
 pub lost_from_most : (n : ℕ) (lost : Option (ℕ × ℕ)) → sum_below n (lost_from lost) ≤ 1
 lost_from_most n None = (let z = zeros n in omega (arith, z))
 lost_from_most n (Some e) = once_most n e.0
-
--- three times one sum, and two others
-sum_three : (n : ℕ) (f g h i : ℕ → ℕ) → ((k : ℕ) → f k ≤ 3 * g k + 2 * h k + i k) → sum_below n f ≤ 3 * sum_below n g + 2 * sum_below n h + sum_below n i
-sum_three zero f g h i e = omega arith
-sum_three (suc n) f g h i e = (let a = e n in let r = sum_three n f g h i e in omega (arith, a, r))
 
 -- a round over distinct nodes inside
 pub round_most : (a : Pending) (inside : ℕ → Bool) (nodes : List ℕ) → IsDistinct nat_eq nodes

@@ -1,28 +1,17 @@
 -- One more group has its goal.
-use Rattle.std.proofs.Common.{◌≡◌, ℕ, ◌+◌, ◌<◌, ◌⊎◌, List, [], ◌∷◌, ◌++◌, length, Option, Some, None, is_some, refl, sym, ◌∙◌, ap, subst, arith, inl, inr, true, false, Bool, true≢false}
+use Rattle.std.proofs.Common.{◌≡◌, ℕ, ◌+◌, ◌<◌, ◌⊎◌, List, [], ◌∷◌, ◌++◌, length, Option, Some, None, is_some, refl, sym, ◌∙◌, ap, subst, arith, inl, inr, true, true≢false}
 use Rattle.std.specs.Prelude.{nat_eq, ◌||◌}
 use Rattle.std.proofs.lemmas.Bool.{cases_lt, both_ways, or_cases, or_left, or_right}
 use Rattle.std.proofs.lemmas.Bool.Decides.{Decides-eqb}
 use Rattle.std.proofs.lemmas.List.{get_or_push, get_or_append_left, get_or_past, length-append}
 use Rattle.px_spec.specs.Members.{has}
+use Rattle.px_spec.proofs.MemberLaws.{has_push}
 use Rattle.one_splitting.specs.NodeGoals.{BeginsAt, goal_at, IsCountedWhole, AreGroupGoals, StaysIf, GoesIf, GoalsAreBlocks}
 
 -- the blocks in which groups stay, of those that were looked at
 pub record AreNoted (keys : List (List ℕ)) (goals : List (Option ℕ)) (stays : List ℕ) : Type 0 where
   pub into : (j own : ℕ) → j < length goals → goal_at goals j ≡ None → BeginsAt keys j own → has stays own ≡ true
   pub from : (own : ℕ) → has stays own ≡ true → (j : ℕ) × (j < length goals) × (goal_at goals j ≡ None) × BeginsAt keys j own
-
-pub has_push : (xs : List ℕ) (y n : ℕ) → has (xs ++ y ∷ []) n ≡ (has xs n || nat_eq n y)
-has_push [] y n = by (nat_eq n y)
-  where
-    by : (b : Bool) → (b || false) ≡ b
-    by true = refl
-    by false = refl
-has_push (x ∷ xs) y n = ap (λ b. nat_eq n x || b) (has_push xs y n) ∙ assoc (nat_eq n x) (has xs n) (nat_eq n y)
-  where
-    assoc : (a b c : Bool) → (a || (b || c)) ≡ ((a || b) || c)
-    assoc true b c = refl
-    assoc false b c = refl
 
 pub one_own : (keys : List (List ℕ)) (k a b : ℕ) → BeginsAt keys k a → BeginsAt keys k b → a ≡ b
 one_own keys k a b e f =

@@ -8,7 +8,8 @@ use Rattle.std.proofs.lemmas.List.{length-append}
 use Rattle.px_spec.specs.Members.{has}
 use Rattle.graph_update.proofs.NeighbourLists.{and_one}
 use Rattle.one_splitting.specs.NodeGoals.{BeginsAt, goal_at, AreGroupGoals, StaysIf, GoesIf, GoalsAreBlocks, AreBlocks, AreAdded}
-use Rattle.one_splitting.proofs.Chosen.{AreNoted, has_push, goal_cases, goal_last, goal_stays, going_none, going_stays, going_goes, noted_stays, noted_goes}
+use Rattle.px_spec.proofs.MemberLaws.{has_push}
+use Rattle.one_splitting.proofs.Chosen.{AreNoted, goal_cases, goal_last, goal_stays, going_none, going_stays, going_goes, noted_stays, noted_goes}
 
 pub record IsChosen (p : List (Option ℕ)) (counts : List (ℕ × ℕ)) (keys : List (List ℕ)) (labels : ℕ → Option ℕ) (goals : List (Option ℕ)) (stays first made : List ℕ) : Type 0 where
   pub going : AreGroupGoals p counts keys goals

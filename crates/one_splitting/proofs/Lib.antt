@@ -6,7 +6,6 @@ pub mod Groups
 pub mod Gone
 pub mod Named
 pub mod Ends
-pub mod ListSums
 pub mod Bounds
 pub mod Total
 pub mod NextRound

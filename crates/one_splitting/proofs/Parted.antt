@@ -22,7 +22,7 @@ use Rattle.one_splitting.specs.NodeGoals.{LabelsStay, AreBlocks}
 use Rattle.one_splitting.proofs.Named.{some_kept}
 use Rattle.upkeep_spec.specs.Splits.{IsClosed, IsSplitInside}
 use Rattle.one_splitting.proofs.Apart.{IsApart}
-use Rattle.one_splitting.proofs.Chosen.{has_push}
+use Rattle.px_spec.proofs.MemberLaws.{has_push}
 use Rattle.one_splitting.specs.SplitStates.{either, IsSplitBut, IsFirst}
 
 both_off : (x y : Bool) → x ≡ false → y ≡ false → (x || y) ≡ false

@@ -1,5 +1,5 @@
 -- The targets that have a block, and what a move keeps.
-use Rattle.std.proofs.Common.{◌≡◌, ◌≢◌, ◌⊎◌, ℕ, zero, suc, ◌<◌, ◌+◌, List, [], ◌∷◌, ◌++◌, Option, Some, None, IsTrue, IsFalse, IsSome, is_some, refl, sym, ◌∙◌, ap, subst, inl, inr, true, false, Bool, cond, length, take, get_or, true≢false}
+use Rattle.std.proofs.Common.{◌≡◌, ◌⊎◌, ℕ, ◌<◌, ◌+◌, List, [], ◌∷◌, ◌++◌, Option, Some, None, IsTrue, IsFalse, IsSome, is_some, refl, sym, ◌∙◌, ap, subst, inl, inr, true, false, Bool, cond, length, take, get_or, true≢false}
 use Rattle.std.specs.Prelude.{nat_eq, ◌&&◌, IfSome}
 use Rattle.std.specs.List.{IsDistinct, AllByRecursion, filter}
 use Rattle.std.proofs.lemmas.Bool.{cases_Bool, or_cases, or_right, and_parts, and_from, both_ways, false_from_ne_true}
@@ -10,7 +10,6 @@ use Rattle.std.proofs.lemmas.Map.Keys.{IsDistinct-head, IsDistinct-tail, IsDisti
 use Rattle.px_spec.specs.Graphs.{Graph}
 use Rattle.px_spec.specs.Members.{at, has}
 use Rattle.px_spec.specs.Shapes.{Shape, IsNode}
-use Rattle.block_partition.specs.Partitions.{put}
 use Rattle.bisim_spec.specs.Partitions.{IsPartition, Together}
 use Rattle.bisim_spec.specs.Stability.{StableBut}
 use Rattle.bisim_spec.specs.Supports.{edges_between}
@@ -171,29 +170,6 @@ labels_kept labels labels2 b d free told = record {
     | inr k ↦ told c ∙ ap (λ t. cond t (Some d) (labels c)) k.0 ∙ e
   ];
 }
-
-put_here : (xs : List (Option ℕ)) (n v : ℕ) → at (put xs n v) n ≡ Some v
-put_here [] zero v = refl
-put_here [] (suc n) v = put_here [] n v
-put_here (x ∷ xs) zero v = refl
-put_here (x ∷ xs) (suc n) v = put_here xs n v
-
-put_there : (xs : List (Option ℕ)) (n v m : ℕ) → m ≢ n → at (put xs n v) m ≡ at xs m
-put_there [] zero v zero d = absurd (d refl)
-put_there [] zero v (suc m) d = refl
-put_there [] (suc n) v zero d = refl
-put_there [] (suc n) v (suc m) d = put_there [] n v m (λ e. d (ap suc e))
-put_there (x ∷ xs) zero v zero d = absurd (d refl)
-put_there (x ∷ xs) zero v (suc m) d = refl
-put_there (x ∷ xs) (suc n) v zero d = refl
-put_there (x ∷ xs) (suc n) v (suc m) d = put_there xs n v m (λ e. d (ap suc e))
-
--- what each place has, once a number is put
-pub at_put : (xs : List (Option ℕ)) (n v m : ℕ) → at (put xs n v) m ≡ cond (nat_eq m n) (Some v) (at xs m)
-at_put xs n v m = elim (eqb_tells m n) [
-  | inl s ↦ ap (at (put xs n v)) s.1 ∙ put_here xs n v ∙ sym (ap (λ t. cond t (Some v) (at xs m)) s.0)
-  | inr d ↦ put_there xs n v m d.1 ∙ sym (ap (λ t. cond t (Some v) (at xs m)) d.0)
-]
 
 -- a block that was made just now has a label
 pub told_some : (labels labels2 : ℕ → Option ℕ) (b d : ℕ) → ((c : ℕ) → labels2 c ≡ cond (nat_eq c b) (Some d) (labels c)) → labels2 b ≡ Some d

@@ -1,4 +1,4 @@
--- How many of the nodes that are looked at are in each block.
+-- How many of the nodes that are examined are in each block.
 use Rattle.std.specs.Prelude.{◌≡◌, ℕ, Bool, false, List, Option, None, Some, nat_eq, not, unwrap_or, count_by}
 use Rattle.std.specs.List.{IsDistinct}
 use Rattle.std.specs.Map.{lookup}

@@ -1,18 +1,35 @@
--- Targets that are looked at one after another.
-use Rattle.std.specs.Prelude.{◌≡◌, ◌≢◌, ◌⊎◌, ℕ, ◌||◌, Bool, List, Option, Some, IsTrue, IsFalse, nat_eq}
+-- What splitting from some targets asks, and targets that are examined one after another.
+use Rattle.std.specs.Prelude.{◌≡◌, ◌≢◌, ◌⊎◌, ℕ, ◌||◌, Bool, List, [], Option, Some, IsTrue, IsFalse, nat_eq}
 use Rattle.std.specs.List.{IsDistinct}
 use Rattle.px_spec.specs.Members.{at, has}
-use Rattle.px_spec.specs.Shapes.{Shape, IsNode, IsParent}
+use Rattle.px_spec.specs.Shapes.{Shape, IsNode, IsParent, shape_of}
+use Rattle.label_graph.specs.Views.{label_number}
 use Rattle.bisim_spec.specs.Partitions.{Together}
 use Rattle.bisim_spec.specs.Stability.{StableBut}
+use Rattle.upkeep_spec.specs.Named.{AreNamedOff}
 use Rattle.upkeep_spec.specs.Rounds.{IsRefinement, SameBut}
+use Rattle.upkeep_spec.specs.Supported.{AreEdgeCounts}
+use Rattle.graph_update.specs.PendingChanges.{Pending, graph_after}
+use Rattle.quotient.specs.Quotients.{Quotient}
+use Rattle.quotient_draft.specs.Basis.{IsOver}
+use Rattle.quotient_draft.specs.Drafts.{Drafted, shown_blocks, shown_labels, shown_support}
+
+-- The draft shows a partition of the graph after the change, with the numbers of edges; it is stable, and blocks have the labels of their members,
+-- except perhaps at the targets. Each target is given once, and no block was made.
+pub record CanSplit (a : Pending) (base : Quotient) (d : Drafted) (targets made : List ℕ) : Type 0 where
+  pub over : IsOver base.blocks.block_of base.blocks.labels d
+  pub once : IsDistinct nat_eq targets
+  pub stable : StableBut (shape_of (graph_after a)) (shown_blocks base d) (has targets)
+  pub named : AreNamedOff (has targets) (shown_blocks base d) (at (shown_labels base d)) (label_number (graph_after a))
+  pub none : made ≡ []
+  pub supports : AreEdgeCounts (graph_after a) (shown_blocks base d) (shown_support base d)
 
 -- passes one of two tests
 abbrev pub either : (ℕ → Bool) → (ℕ → Bool) → ℕ → Bool
 either f g n = f n || g n
 
--- After some targets: the partition is stable but maybe at the targets that are left and the nodes that are looked at next, and for
--- the rest as for `IsSplitInside`.
+-- After some targets: the partition is stable except perhaps at the targets that are left and the nodes that are examined next, and
+-- for the rest as for `IsSplitInside`.
 pub record IsSplitBut (s : Shape) (inside : ℕ → Bool) (first p : List (Option ℕ)) (next : List ℕ) (rest : ℕ → Bool) (made : List ℕ) : Type 0 where
   pub stable : StableBut s p (either (has next) rest)
   pub within : IsRefinement first p

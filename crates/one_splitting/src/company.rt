@@ -1,4 +1,4 @@
-// Those of the nodes that have company in their blocks.
+// The nodes that have company in their blocks.
 ghost use Rattle.std.specs.Prelude.{◌≡◌, ◌++◌, ◌∷◌, [], ℕ, if◌then◌else◌, IfOk, OnOk, IsSome, IsTrue};
 ghost use Rattle.std.specs.List.{filter};
 ghost use Rattle.px_spec.specs.Members.{has, at};
@@ -34,7 +34,7 @@ pub(crate) fn push_if(list: &mut Vec<NodeId>, n: NodeId, stays: bool) -> Result<
     Ok(())
 }
 
-/// Lists those of the nodes that have company. A node that is alone can't be parted, so its parents needn't be read.
+/// Lists the nodes among these that have company. A node that is alone can't be parted, so its parents needn't be read.
 pub(crate) fn with_company(
     alloc: Global,
     base: &Summary,

@@ -4,7 +4,6 @@
 mod company;
 mod goals;
 mod keys;
-mod moving;
 mod next_nodes;
 mod owners;
 mod rounds;

@@ -1,11 +1,11 @@
 // The nodes of the next round.
-ghost use Rattle.std.specs.Prelude.{◌≡◌, []};
+ghost use Rattle.std.specs.Prelude.{◌≡◌, ◌++◌, [], OnOk};
 
 use node_moves::Near;
-use px_base::NodeId;
+use px_base::{Memory, NodeId};
 use std::alloc::Global;
 
-/// Nodes that are to be looked at next, with a buffer for the neighbours of a node that moves.
+/// Nodes that are to be examined next, with a buffer for the neighbours of a node that moves.
 #[derive(Drop)]
 pub(crate) struct NextNodes {
     pub(crate) list: Vec<NodeId>,
@@ -21,5 +21,14 @@ impl NextNodes {
             list: Vec::new(alloc),
             near: Near::new(alloc),
         }
+    }
+
+    /// Puts the children of the node that moved last behind the nodes in the list.
+    pub(crate) fn add_children(&mut self) -> Result<(), Memory>
+        ensures list { OnOk result (self.new.list.items ≡ self.old.list.items ++ self.old.near) }
+        ensures near { self.new.near ≡ self.old.near }
+    {
+        self.list.extend_from_slice(self.near.children())?;
+        Ok(())
     }
 }

@@ -1,4 +1,4 @@
-// How many of the nodes that are looked at are in each block.
+// How many of the nodes that are examined are in each block.
 ghost use Rattle.std.specs.Prelude.{◌≡◌, ◌≢◌, ◌+◌, ◌≤◌, ◌<◌, ◌^◌, [], ℕ, IfOk, OnOk, IsSome, IsTrue, IsFalse, length, nat_eq, count_by, if◌then◌else◌};
 ghost use Rattle.px_spec.specs.Members.{has, at, is_this};
 ghost use Rattle.quotient_draft.specs.Drafts.{shown_blocks, shown_labels};

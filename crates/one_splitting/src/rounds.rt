@@ -16,11 +16,11 @@ ghost use Rattle.one_splitting.specs.RoundStates.{CanRound, IsRound};
 use crate::company::with_company;
 use crate::goals::find_goals;
 use crate::keys::number_nodes;
-use crate::moving::move_and_list;
 use crate::next_nodes::NextNodes;
 use crate::owners::count_owners;
 use graph_update::After;
 use key_table::{KeyTable, sort_once};
+use node_moves::move_node;
 use px_base::{Memory, NodeId, Steps};
 use quotient::Summary;
 use quotient_draft::Draft;
@@ -49,10 +49,12 @@ fn move_one<L: Ledger>(
     ensures next { OnOk result ((m : ℕ) → has next.new.list.items m ≡ (has next.old.list.items m || (is_some goal && has_edge (graph_after after.now) n m))) }
     ensures cost { steps.new ≤ steps.old + move_cost after.now n }
 {
-    match goal {
-        Some(b) => move_and_list(base, draft, after, n, b, next, steps),
-        None => Ok(()),
-    }
+    let Some(b) = goal else {
+        return Ok(());
+    };
+    move_node(base, draft, after, n, b, &mut next.near, steps)?;
+    next.add_children()?;
+    Ok(())
 }
 
 // The groups of nodes in a round: the number of each node's group, and for each group the block to which it goes, if any.
@@ -103,7 +105,7 @@ fn move_nodes<L: Ledger>(
     Ok(next.list)
 }
 
-// Parts these nodes by their keys, and gives those that are to be looked at next: the children of those that moved.
+// Parts these nodes by their keys, and gives those that are to be examined next: the children of those that moved.
 fn part_by_keys<L: Ledger>(
     alloc: Global,
     base: &Summary,
@@ -127,8 +129,8 @@ fn part_by_keys<L: Ledger>(
     Ok(next)
 }
 
-/// Looks at these nodes, and gives those that are to be looked at next: the children of those that moved.
-/// Of a node that is alone in its block the parents aren't read.
+/// Examines these nodes, and gives those that are to be examined next: the children of those that moved. The parents of
+/// a node that is alone in its block aren't read.
 pub(crate) fn round<L: Ledger>(
     alloc: Global,
     base: &Summary,
@@ -146,7 +148,7 @@ pub(crate) fn round<L: Ledger>(
     part_by_keys(alloc, base, draft, after, &kept, made, steps)
 }
 
-/// Whether nothing is to be looked at.
+/// Whether nothing is left to be examined.
 pub(crate) fn is_done(next: &[NodeId]) -> bool
     ensures { result ≡ nat_eq (length next.now) 0 }
 {

@@ -6,7 +6,6 @@ ghost use Rattle.px_spec.specs.Graphs.{is_live};
 ghost use Rattle.px_spec.specs.Shapes.{shape_of, IsShape};
 ghost use Rattle.label_graph.specs.Views.{label_number};
 ghost use Rattle.bisim_spec.specs.Partitions.{IsPartition};
-ghost use Rattle.bisim_spec.specs.Stability.{StableBut};
 ghost use Rattle.bisim_spec.specs.Weights.{size_of, weight};
 ghost use Rattle.upkeep_spec.specs.Named.{AreNamed, AreNamedOff};
 ghost use Rattle.upkeep_spec.specs.Splits.{IsClosed, IsSplitInside};
@@ -16,16 +15,16 @@ ghost use Rattle.quotient_draft.specs.Drafts.{shown_blocks, shown_labels, shown_
 ghost use Rattle.quotient_draft.specs.Basis.{IsOver};
 ghost use Rattle.one_splitting.specs.Costs.{move_cost};
 ghost use Rattle.one_splitting.specs.NodeGoals.{AreBlocks, MembersHaveLabels};
-ghost use Rattle.one_splitting.specs.SplitStates.{IsSplitBut, IsFirst};
+ghost use Rattle.one_splitting.specs.SplitStates.{CanSplit, IsSplitBut, IsFirst};
 
 use crate::company::push_if;
 use crate::goals::draft_block;
 use crate::keys::own_block;
-use crate::moving::move_and_list;
 use crate::next_nodes::NextNodes;
 use crate::rounds::{is_done, round};
 use graph_update::After;
 use key_table::sort_once;
+use node_moves::move_node;
 use px_base::{Memory, NodeId, Steps};
 use quotient::Summary;
 use quotient_draft::Draft;
@@ -67,8 +66,8 @@ fn is_apart(base: &Summary, draft: &Draft, after: &After<'_>, target: NodeId, ow
     draft.member_count(base, own) == 1
 }
 
-// Puts a target into a block of its own, where it has company or another label, and puts its children behind
-// what is looked at next.
+// Puts a target into a block of its own, where it has company or another label, and puts its children behind the nodes
+// that are examined next.
 fn part_one<L: Ledger>(
     base: &Summary,
     draft: &mut Draft,
@@ -100,12 +99,13 @@ fn part_one<L: Ledger>(
     }
     let b = draft_block(base, draft, after.label(target))?;
     made.push(b)?;
-    move_and_list(base, draft, after, target, b, next, steps)?;
+    move_node(base, draft, after, target, b, &mut next.near, steps)?;
+    next.add_children()?;
     Ok(())
 }
 
 // Puts each target that has company or another label into a block of its own, and gives the nodes that are to be
-// looked at next.
+// examined next.
 fn part_all<L: Ledger>(
     alloc: Global,
     base: &Summary,
@@ -115,15 +115,10 @@ fn part_all<L: Ledger>(
     made: &mut Vec<u32>,
     steps: &mut Steps<L>,
 ) -> Result<Vec<NodeId>, Memory>
-    requires over { IsOver base.now.blocks.block_of base.now.blocks.labels draft.old }
+    requires split { CanSplit after.now base.now draft.old targets.now made.old.items }
     requires live { MembersHaveLabels (shown_blocks base.now draft.old) (at (shown_labels base.now draft.old)) }
     requires shape { IsShape (shape_of (graph_after after.now)) }
-    requires once { IsDistinct nat_eq targets.now }
     requires nodes { (n : ℕ) → IsTrue (has targets.now n) → IsTrue (is_live (graph_after after.now) n) }
-    requires stable { StableBut (shape_of (graph_after after.now)) (shown_blocks base.now draft.old) (has targets.now) }
-    requires named { AreNamedOff (has targets.now) (shown_blocks base.now draft.old) (at (shown_labels base.now draft.old)) (label_number (graph_after after.now)) }
-    requires none { made.old.items ≡ [] }
-    requires supports { AreEdgeCounts (graph_after after.now) (shown_blocks base.now draft.old) (shown_support base.now draft.old) }
     ensures over { OnOk result (IsOver base.now.blocks.block_of base.now.blocks.labels draft.new) }
     ensures split { IfOk result (λ next. (inside : ℕ → Bool) → IsClosed (shape_of (graph_after after.now)) inside → ((n : ℕ) → IsTrue (has targets.now n) → IsTrue (inside n)) → IsSplitInside (shape_of (graph_after after.now)) inside (shown_blocks base.now draft.old) (shown_blocks base.now draft.new) next.items made.new.items) }
     ensures once { IfOk result (λ next. IsDistinct nat_eq next.items) }
@@ -141,9 +136,9 @@ fn part_all<L: Ledger>(
     Ok(next.list)
 }
 
-/// Splits blocks in the draft until the partition shown is stable on the graph after the change, where before
-/// it was so but maybe at the targets. Targets without a block are skipped. The blocks that are made are put
-/// into `made`. Whatever set is closed under children and holds the targets, only its nodes are read and moved.
+/// Splits blocks in the draft until the partition shown is stable on the graph after the change, where before it was
+/// stable except perhaps at the targets. Targets without a block are skipped. The blocks that are made are put into
+/// `made`. Whatever set is closed under children and holds the targets, only its nodes are read and moved.
 ///
 /// It takes at most `4 * ((r + 1) * w)` steps, where the set has `r` nodes and weighs `w`: one for each of them, one
 /// for each parent and one for each child. After `Memory`, which also comes past 2^31 blocks, the draft must be
@@ -159,12 +154,7 @@ pub fn split<L: Ledger>(
     made: &mut Vec<u32>,
     steps: &mut Steps<L>,
 ) -> Result<(), Memory>
-    requires over { IsOver base.now.blocks.block_of base.now.blocks.labels draft.old }
-    requires once { IsDistinct nat_eq targets.now }
-    requires stable { StableBut (shape_of (graph_after after.now)) (shown_blocks base.now draft.old) (has targets.now) }
-    requires named { AreNamedOff (has targets.now) (shown_blocks base.now draft.old) (at (shown_labels base.now draft.old)) (label_number (graph_after after.now)) }
-    requires none { made.old.items ≡ [] }
-    requires supports { AreEdgeCounts (graph_after after.now) (shown_blocks base.now draft.old) (shown_support base.now draft.old) }
+    requires { CanSplit after.now base.now draft.old targets.now made.old.items }
     ensures over { OnOk result (IsOver base.now.blocks.block_of base.now.blocks.labels draft.new) }
     ensures named { OnOk result (AreNamed (shown_blocks base.now draft.new) (at (shown_labels base.now draft.new)) (label_number (graph_after after.now))) }
     ensures split { OnOk result ((inside : ℕ → Bool) → IsClosed (shape_of (graph_after after.now)) inside → ((n : ℕ) → IsTrue (has targets.now n) → IsTrue (inside n)) → IsSplitInside (shape_of (graph_after after.now)) inside (shown_blocks base.now draft.old) (shown_blocks base.now draft.new) [] made.new.items) }

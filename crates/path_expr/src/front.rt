@@ -51,7 +51,7 @@ fn first_required(seq: &Seq) -> usize
     seq.rest.len()
 }
 
-/// How many items in front change no answer: those before the first that the empty word doesn't match, where there is one.
+/// How many leading items change no answer: those before the first that the empty word doesn't match, if there is one.
 fn lead_len(seq: &Seq) -> usize
     ensures inside { result ≤ length (separators (seq_of seq.now)) }
     ensures trimmed { trimmed_seq (seq_of seq.now) ≡ first_trimmed (without_first result (seq_of seq.now)) }
@@ -63,7 +63,7 @@ fn lead_len(seq: &Seq) -> usize
     }
 }
 
-/// The state from which a sequence is read without the items in front that change no answer.
+/// The state from which a sequence is read without the leading items that change no answer.
 fn compile_front(
     labels: &Labels,
     program: &mut Program,

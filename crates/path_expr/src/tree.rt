@@ -50,7 +50,7 @@ pub struct Item {
 #[cycle(tree)]
 #[derive(Drop)]
 pub struct Following {
-    /// What stands in front of the item.
+    /// What stands before the item.
     pub sep: Sep,
     /// The item.
     pub item: Item,
@@ -66,7 +66,7 @@ pub struct Seq {
     pub rest: Vec<Following>,
 }
 
-/// One sequence or more, with `|` between them, seen as its tree.
+/// One or more sequences, with `|` between them, seen as its tree.
 #[cycle(tree)]
 #[derive(Drop)]
 pub struct Expr {

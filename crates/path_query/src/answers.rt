@@ -28,9 +28,9 @@ pub fn eval<G: Digraph>(
     path_expr::eval(alloc, g, labels, expr.tree())
 }
 
-/// The answers over the part of the graph that has the members of a set alone, and the edges between these: a set of numbers below
-/// the graph's size. `Memory` comes only where memory runs out. O(m (n + e + s)) for m tokens, n members, e edges
-/// from them, and the greater s of the graph's size and the set's, beside the look-ups of the labels; it takes memory as `eval` does.
+/// The answers over the part of the graph that has only the members of a set and the edges between them: a set of numbers below the
+/// graph's size. `Memory` comes only where memory runs out. O(m (n + e + s)) for m tokens, n members, e edges from them, and the
+/// greater s of the graph's size and the set's, beside the look-ups of the labels; it takes memory as `eval` does.
 pub fn eval_within<G: Digraph>(
     alloc: Global,
     g: &G,

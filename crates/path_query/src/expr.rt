@@ -28,7 +28,7 @@ pub enum ExprError {
 
 /// A path expression that some text spells, seen as its tree.
 ///
-/// The literals below those who are known, near or far:
+/// The literals at any depth below a node labelled `knows`:
 ///
 ///     let expr = PathExpr::parse(alloc, b"knows//literal", &Limits::program())?;
 ///     let nodes = eval(alloc, &graph.view(&mut steps), graph.labels(), &expr)?;
@@ -55,9 +55,9 @@ impl Model for PathExpr {
 
 impl PathExpr {
     /// The one expression that the text spells, as `a//(b|<http://e/c>)*`, where spaces and tabs may stand between
-    /// tokens and at both ends. `Limit` comes exactly where the text has more bytes than `expr_bytes` or its
-    /// brackets nest deeper than `expr_depth`, else `Syntax` only where it spells none, and `Memory` where memory runs
-    /// out. O(n) for n bytes, in time and memory.
+    /// tokens and at both ends. `Limit` comes exactly where the text has more bytes than `expr_bytes` or its brackets
+    /// nest deeper than `expr_depth`, else `Syntax` only where it spells none, and `Memory` where memory runs out. O(n)
+    /// for n bytes; it takes O(n) memory.
     pub fn parse(alloc: Global, text: &[u8], limits: &Limits) -> Result<PathExpr, ExprError>
         ensures ok { IfOk result (λ e. Spells text.now e) }
         ensures only { IfOk result (λ e. (other : tree.Expr) → Spells text.now other → other ≡ e) }

@@ -41,7 +41,7 @@ impl From<Memory> for ReadError {
     }
 }
 
-/// The atom in front, and what follows it.
+/// The atom at the front, and what follows it.
 #[cycle(read)]
 fn read_atom<'t>(alloc: Global, left: &'t [Token]) -> Result<(Atom, &'t [Token]), ReadError>
     ensures ok { IfOk result (λ r. seen left.now ≡ tokens.atom_onto (atom_of r.0) (seen r.1.now)) }
@@ -65,7 +65,7 @@ fn read_atom<'t>(alloc: Global, left: &'t [Token]) -> Result<(Atom, &'t [Token])
     }
 }
 
-/// The item in front, and what follows it.
+/// The item at the front, and what follows it.
 #[cycle(read)]
 fn read_item<'t>(alloc: Global, left: &'t [Token]) -> Result<(Item, &'t [Token]), ReadError>
     ensures ok { IfOk result (λ r. seen left.now ≡ tokens.item_onto (item_of r.0) (seen r.1.now)) }
@@ -82,7 +82,7 @@ fn read_item<'t>(alloc: Global, left: &'t [Token]) -> Result<(Item, &'t [Token])
     }
 }
 
-/// The sign in front, if there is one, and what follows.
+/// The sign at the front, if there is one, and what follows.
 fn split_sign(left: &[Token]) -> (Option<Sign>, &[Token])
     ensures whole { (a : tree.Atom) → tokens.atom_onto a (seen left.now) ≡ tokens.item_onto (signed_by a result.0) (seen result.1.now) }
     ensures only { (a : tree.Atom) (i : tree.Item) (r : List tokens.Token) → tokens.EndsItem r → tokens.atom_onto a (seen left.now) ≡ tokens.item_onto i r → r ≡ seen result.1.now }
@@ -94,7 +94,7 @@ fn split_sign(left: &[Token]) -> (Option<Sign>, &[Token])
     }
 }
 
-/// The sequence in front, and what follows it.
+/// The sequence at the front, and what follows it.
 #[cycle(read)]
 fn read_seq<'t>(alloc: Global, left: &'t [Token]) -> Result<(Seq, &'t [Token]), ReadError>
     ensures ok { IfOk result (λ r. seen left.now ≡ tokens.seq_onto (seq_of r.0) (seen r.1.now)) }
@@ -112,7 +112,7 @@ fn read_seq<'t>(alloc: Global, left: &'t [Token]) -> Result<(Seq, &'t [Token]), 
     Ok((Seq { first, rest }, behind))
 }
 
-/// The expression in front, and what follows it.
+/// The expression at the front, and what follows it.
 #[cycle(read)]
 fn read_expr<'t>(alloc: Global, left: &'t [Token]) -> Result<(Expr, &'t [Token]), ReadError>
     ensures ok { IfOk result (λ r. seen left.now ≡ tokens.onto r.0 (seen r.1.now)) }

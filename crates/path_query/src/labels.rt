@@ -46,7 +46,7 @@ fn is_plain_label(word: &[u8]) -> bool
         && word != b"not".as_slice()
 }
 
-/// How many bytes of a name stand in front, as many as can be. O(n) for n of them, no memory.
+/// How many bytes of a name stand at the front, up to the first byte that no name has. O(n) for n of them, no memory.
 pub fn name_len(bytes: &[u8]) -> usize
     ensures count { result ≡ prefix_len is_name_byte bytes.now }
     ensures within { result ≤ length bytes.now }
@@ -103,9 +103,9 @@ pub(crate) fn read_front(alloc: Global, text: &[u8]) -> Result<Option<(Text, usi
     }
 }
 
-/// The label that the word spells: a name, which is its own label, or an IRIREF (RDF 1.1 N-Triples,
-/// section 7), whose label is the canonical spelling of its IRI. None exactly where the word spells
-/// none. `Memory` comes only where memory runs out. O(n) for n bytes, in time and memory.
+/// The label that the word spells: a name, which is its own label, or an IRIREF (RDF 1.1 N-Triples, section 7), whose
+/// label is the canonical spelling of its IRI. None exactly where the word spells none. `Memory` comes only where
+/// memory runs out. O(n) for n bytes; it takes O(n) memory.
 pub fn read_label(alloc: Global, word: &[u8]) -> Result<Option<Text>, Memory>
     ensures found { IfOk result (λ r. IfSome r (λ t. SpellsLabel word.now t)) }
     ensures none { IfOk result (λ r. IfNone r ((t : List ℕ) → SpellsLabel word.now t → ⊥)) }

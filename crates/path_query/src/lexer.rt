@@ -13,7 +13,7 @@ use crate::token::Token;
 use crate::words::skip_blanks;
 use std::alloc::Global;
 
-/// The label in front, where no other token stands, and what follows it.
+/// The label at the front, where no other token stands, and what follows it.
 fn read_label(alloc: Global, text: &[u8]) -> Result<(Token, &[u8]), ReadError>
     requires { mark_front text.now ≡ None }
     ensures ok { IfOk result (λ r. IsTokenFront text.now (token_of r.0) r.1.now) }
@@ -31,7 +31,7 @@ fn read_label(alloc: Global, text: &[u8]) -> Result<(Token, &[u8]), ReadError>
     }
 }
 
-/// The token in front, and what follows it.
+/// The token at the front, and what follows it.
 fn read_token(alloc: Global, text: &[u8]) -> Result<(Token, &[u8]), ReadError>
     ensures ok { IfOk result (λ r. IsTokenFront text.now (token_of r.0) r.1.now) }
     ensures only { IfOk result (λ r. (t : tokens.Token) (q : List ℕ) → IsTokenFront text.now t q → (t ≡ token_of r.0) × (q ≡ r.1.now)) }

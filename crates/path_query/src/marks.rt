@@ -41,7 +41,7 @@ fn slash_front(rest: &[u8]) -> (Token, &[u8])
     }
 }
 
-/// The token in front that is no label, and what follows it.
+/// The token at the front that is no label, and what follows it.
 pub(crate) fn mark_front(text: &[u8]) -> Option<(Token, &[u8])>
     ensures { option_map (λ r. (token_of r.0, r.1.now)) result ≡ mark_front text.now }
 {

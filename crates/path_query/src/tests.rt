@@ -368,7 +368,7 @@ fn check_answers(rt: &impl Abort, alloc: Global, graph: &Graph, view: &GraphView
     for (text, nodes, answers) in WITHIN {
         assert!(rt;
             has_answers_within(alloc, graph, view, text, nodes, answers),
-            "at {text}"
+            "at {text} within {nodes:?}"
         );
     }
 }

@@ -27,7 +27,7 @@ pub(crate) enum Token {
     Sign(Sign),
 }
 
-/// The token in front, and what follows it.
+/// The token at the front, and what follows it.
 pub(crate) fn first_token(left: &[Token]) -> Option<(&Token, &[Token])>
     ensures some { IfSome result (λ p. seen left.now ≡ token_of p.0.now ∷ seen p.1.now) }
     ensures shorter { IfSome result (λ p. length p.1.now < length left.now) }
@@ -36,7 +36,7 @@ pub(crate) fn first_token(left: &[Token]) -> Option<(&Token, &[Token])>
     left.split_first()
 }
 
-/// The sign in front, and what follows it.
+/// The sign at the front, and what follows it.
 pub(crate) fn first_sign(left: &[Token]) -> Option<(Sign, &[Token])>
     ensures some { IfSome result (λ p. seen left.now ≡ tokens.sign (sign_of p.0) ∷ seen p.1.now) }
     ensures shorter { IfSome result (λ p. length p.1.now < length left.now) }
@@ -48,7 +48,7 @@ pub(crate) fn first_sign(left: &[Token]) -> Option<(Sign, &[Token])>
     }
 }
 
-/// The separator in front, and what follows it.
+/// The separator at the front, and what follows it.
 pub(crate) fn first_sep(left: &[Token]) -> Option<(Sep, &[Token])>
     ensures some { IfSome result (λ p. seen left.now ≡ tokens.sep_token (sep_of p.0) ∷ seen p.1.now) }
     ensures shorter { IfSome result (λ p. length p.1.now < length left.now) }
@@ -60,7 +60,7 @@ pub(crate) fn first_sep(left: &[Token]) -> Option<(Sep, &[Token])>
     }
 }
 
-/// What follows a `|` in front.
+/// What follows a `|` at the front.
 pub(crate) fn after_bar(left: &[Token]) -> Option<&[Token]>
     ensures some { IfSome result (λ r. seen left.now ≡ tokens.bar ∷ seen r.now) }
     ensures shorter { IfSome result (λ r. length r.now < length left.now) }
@@ -72,7 +72,7 @@ pub(crate) fn after_bar(left: &[Token]) -> Option<&[Token]>
     }
 }
 
-/// What follows a `)` in front.
+/// What follows a `)` at the front.
 pub(crate) fn after_close(left: &[Token]) -> Option<&[Token]>
     ensures some { IfSome result (λ r. seen left.now ≡ tokens.closing ∷ seen r.now) }
     ensures shorter { IfSome result (λ r. length r.now < length left.now) }

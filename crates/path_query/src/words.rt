@@ -37,7 +37,7 @@ fn word_len(bytes: &[u8]) -> usize
     bytes.iter().take_while(|byte| !is_blank(**byte)).count()
 }
 
-/// The bytes from the first that is no blank. O(n) for n blanks in front, no memory.
+/// The bytes from the first that is no blank. O(n) for n leading blanks, no memory.
 pub fn skip_blanks(bytes: &[u8]) -> &[u8]
     ensures { result.now ≡ drop (prefix_len is_blank bytes.now) bytes.now }
 {

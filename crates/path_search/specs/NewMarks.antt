@@ -46,11 +46,11 @@ Next size label_at edge test v c = IsTrue (leads size label_at edge v c) × Pass
 abbrev pub NextOf : ℕ → (ℕ → Option ℕ) → (ℕ → ℕ → Bool) → Option ℕ → List ℕ → ℕ → Type 0
 NextOf size label_at edge test places c = (v : ℕ) × IsTrue (has places v) × Next size label_at edge test v c
 
--- a node, or the place in front of all nodes
+-- a node, or the place before all nodes
 abbrev pub IsPlace : ℕ → (ℕ → Option ℕ) → ℕ → Type 0
 IsPlace size label_at v = (v ≡ size) ⊎ IsSome (label_at v)
 
--- from this state at one of the places one gets to the state s at the place c
+-- this state at one of the places is succeeded by the state s at the place c
 abbrev pub SucceedsOne : ℕ → (ℕ → Option ℕ) → (ℕ → ℕ → Bool) → Option State → List ℕ → ℕ → ℕ → Type 0
 SucceedsOne size label_at edge state places s c = (v : ℕ) × IsTrue (has places v) × Succeeds size label_at edge state v s c
 
@@ -67,6 +67,6 @@ Enters (Some (Fork a b)) s = (s ≡ a) ⊎ (s ≡ b)
 abbrev pub EndsHere : (ℕ → Option State) → ℕ → Type 0
 EndsHere at s = (at s ≡ Some End) ⊎ ((k : ℕ) × Enters (at s) k × (at k ≡ Some End))
 
--- to what one gets, but for an end that is entered
+-- what succeeds it, except an end that is entered
 abbrev pub MarksOne : (ℕ → Option State) → ℕ → (ℕ → Option ℕ) → (ℕ → ℕ → Bool) → ℕ → List ℕ → ℕ → ℕ → Type 0
 MarksOne at size label_at edge state places s c = SucceedsOne size label_at edge (at state) places s c × (Enters (at state) s → at s ≡ Some End → ⊥)

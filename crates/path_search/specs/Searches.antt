@@ -1,5 +1,5 @@
--- The steps of the search of the product of an automaton and a graph. A place is a node, or the number of nodes,
--- which stands for the place in front of all nodes.
+-- The steps of the search of the product of an automaton and a graph. A place is a node, or the number of nodes, which
+-- stands for the place before all nodes.
 use Rattle.std.specs.Prelude.{ℕ, ◌≡◌, ◌<◌, ◌⊎◌, ◌&&◌, Bool, if◌then◌else◌, nat_eq, List, Option, None, Some, is_some, IsTrue}
 use Rattle.std.specs.List.Sorted.{IsStrictlyIncreasing}
 use Rattle.px_spec.specs.Members.{has}
@@ -13,11 +13,11 @@ label_in keeps label_at n = if keeps n then label_at n else None
 abbrev pub edge_in : (ℕ → Bool) → (ℕ → ℕ → Bool) → ℕ → ℕ → Bool
 edge_in keeps edge u v = keeps u && (keeps v && edge u v)
 
--- whether the node comes next: any one in front of all nodes, else a child
+-- whether the node comes next: any one if the place is before all nodes, else a child
 abbrev pub leads : ℕ → (ℕ → Option ℕ) → (ℕ → ℕ → Bool) → ℕ → ℕ → Bool
 leads size label_at edge v c = if nat_eq v size then is_some (label_at c) else edge v c
 
--- from this state at the place v one gets to the state s at the place c
+-- this state at the place v is succeeded by the state s at the place c
 abbrev pub Succeeds : ℕ → (ℕ → Option ℕ) → (ℕ → ℕ → Bool) → Option State → ℕ → ℕ → ℕ → Type 0
 Succeeds size label_at edge None v s c = ⊥
 Succeeds size label_at edge (Some End) v s c = ⊥

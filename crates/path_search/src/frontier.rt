@@ -10,7 +10,7 @@ use px_base::Memory;
 use std::alloc::Global;
 
 /// The marks of pairs of a state and a place, a row for each state, and the pairs that wait to be visited. A place is a
-/// node, or the graph's size, which stands for the place in front of all nodes.
+/// node, or the graph's size, which stands for the place before all nodes.
 #[derive(Drop)]
 pub(crate) struct Frontier {
     pub alloc: Global,

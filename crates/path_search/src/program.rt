@@ -9,6 +9,12 @@ use std::alloc::Global;
 use std::marker::Model;
 
 /// An automaton: its states, by their numbers. State 0 is the end of a word.
+///
+/// An automaton of the words of two labels, the second of which has number 3, read from state `first` on:
+///
+///     let mut program = Program::new(alloc)?;
+///     let last = program.push(State::Label(3, 0))?;
+///     let first = program.push(State::Any(last))?;
 #[derive(Drop)]
 pub struct Program {
     states: Vec<State>,

@@ -23,7 +23,7 @@ abbrev pub sep_token : Sep → Token
 sep_token child = slash
 sep_token below = slashes
 
--- the tokens of a part, in front of those that follow
+-- the tokens of a part, before those that follow
 abbrev mutual
   pub onto : Expr → List Token → List Token
   onto (only s) r = seq_onto s r

@@ -18,7 +18,7 @@ pub data Sep : Type 0 where
   below : Sep
 
 mutual
-  -- one sequence or more, with '|' between them
+  -- one or more sequences, with '|' between them
   pub data Expr : Type 0 where
     only : Seq → Expr
     or : Seq → Expr → Expr

@@ -1,4 +1,4 @@
--- What is left of an expression at its front. A walk may begin at any node, so the same nodes are answers.
+-- An expression whose front is trimmed. A walk may begin at any node, so the answers stay the same.
 use Rattle.std.specs.Prelude.{[], cond}
 use Rattle.path_spec.specs.Trees.{star, plus, opt, Expr, only, or, Seq, last, then, Item, once, signed}
 use Rattle.path_spec.specs.Tests.{seq_matches, item_matches}
@@ -19,7 +19,7 @@ abbrev pub from_required : Seq → Seq
 from_required (last i) = last i
 from_required (then i p s) = cond (item_matches i []) (from_required s) (then i p s)
 
--- where there is such an item, those in front of it are left out
+-- where there is such an item, those before it are left out
 abbrev pub trimmed_seq : Seq → Seq
 trimmed_seq s = first_trimmed (cond (seq_matches s []) s (from_required s))
 

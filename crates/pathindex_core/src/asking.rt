@@ -1,5 +1,5 @@
 // Queries that are asked of an engine.
-ghost use Rattle.std.specs.Prelude.{◌≡◌, ◌≢◌, ◌≤◌, ◌+◌, ◌↔◌, ℕ, Bool, Err, true, false, map, length, All, IfOk, OnOk, IsTrue};
+ghost use Rattle.std.specs.Prelude.{◌≡◌, ◌≢◌, ◌+◌, ◌↔◌, ℕ, Bool, Some, Err, false, map, All, IfOk, IsTrue};
 ghost use Rattle.px_spec.specs.Graphs.{IsGraph};
 ghost use Rattle.px_spec.specs.Shapes.{shape_of};
 ghost use Rattle.label_graph.specs.Views.{live_count, edge_count};
@@ -7,13 +7,12 @@ ghost use Rattle.bisim_spec.specs.Partitions.{Agrees};
 ghost use Rattle.quotient.specs.Quotients.{view_of};
 ghost use Rattle.index_api.specs.declared.kinds.Via.TheVariants.{Data, Fb};
 ghost use Rattle.index_api.specs.declared.answers.How.TheVariants.{Data as InGraph};
-ghost use Rattle.index_api.specs.Meanings.{KeepsViews};
 ghost use Rattle.index_api.specs.Kept.{is_kept, kept_of};
 ghost use Rattle.branch_query.specs.Queries.{query_of, AreQueryAnswers};
 ghost use Rattle.index_eval.specs.Exactness.{FitsVia, IsExact};
 ghost use Rattle.extent_report.specs.Summaries.{LabelsHaveTexts};
-ghost use Rattle.pathindex_core.specs.Engines.{EachBecomes, IsKeptFor, opened};
-ghost use Rattle.pathindex_core.specs.QueryAnswers.{IsFoundBy, IsAnswered, IsUnkept};
+ghost use Rattle.pathindex_core.specs.Engines.{IsKeptFor, engine_seen, opened};
+ghost use Rattle.pathindex_core.specs.QueryAnswers.{IsFoundBy, IsAnswered, IsQueried};
 ghost use Rattle.pathindex_core.specs.Boxes.{IsFbComputed};
 
 use crate::errors::AskError;
@@ -116,14 +115,8 @@ fn ask_kept<L: Ledger>(
 ) -> Result<Answer, AskError>
     requires kept { All (IsKeptFor (opened state.now)) (map meaning boxes.old.items) }
     requires index { via ≢ Data }
-    ensures keeps { EachBecomes KeepsViews (map meaning boxes.old.items) (map meaning boxes.new.items) }
     ensures kept { All (IsKeptFor (opened state.now)) (map meaning boxes.new.items) }
-    ensures answered { IfOk result (λ answer. IsAnswered state.now.graph.graph (kept_of (map meaning boxes.old.items) state.now.k) via (query_of query.now) answer.how answer.nodes.members) }
-    ensures no_index { (result ≡ Err AskError.NoIndex) ↔ (is_kept (kept_of (map meaning boxes.old.items) state.now.k) via ≡ false) }
-    ensures computed { via ≡ Fb → OnOk result (IsFbComputed (map meaning boxes.new.items)) }
-    ensures cost { IsExact via (query_of query.now) → steps.new ≤ steps.old + 1 + live_count state.now.graph.graph + edge_count state.now.graph.graph }
-    ensures free { IsExact via (query_of query.now) → via ≢ Fb → steps.new ≡ steps.old }
-    ensures still { IsExact via (query_of query.now) → IsFbComputed (map meaning boxes.old.items) → steps.new ≡ steps.old }
+    ensures queried { IsQueried (engine_seen (map meaning boxes.old.items) (Some state.now)) (engine_seen (map meaning boxes.new.items) (Some state.now)) via (query_of query.now) result steps.old steps.new }
 {
     match refresh_for(boxes, via, &state.graph, steps) {
         Ok(()) => ask_index(alloc, boxes, state, via, query, steps),
@@ -141,15 +134,8 @@ pub(crate) fn ask<L: Ledger>(
     steps: &mut Steps<L>,
 ) -> Result<Answer, AskError>
     requires kept { All (IsKeptFor (opened state.now)) (map meaning boxes.old.items) }
-    ensures keeps { EachBecomes KeepsViews (map meaning boxes.old.items) (map meaning boxes.new.items) }
     ensures kept { All (IsKeptFor (opened state.now)) (map meaning boxes.new.items) }
-    ensures answered { IfOk result (λ answer. IsAnswered state.now.graph.graph (kept_of (map meaning boxes.old.items) state.now.k) via (query_of query.now) answer.how answer.nodes.members) }
-    ensures no_index { (result ≡ Err AskError.NoIndex) ↔ IsUnkept (kept_of (map meaning boxes.old.items) state.now.k) via }
-    ensures computed { via ≡ Fb → OnOk result (IsFbComputed (map meaning boxes.new.items)) }
-    ensures graph { via ≡ Data → steps.new ≡ steps.old + 1 + live_count state.now.graph.graph + edge_count state.now.graph.graph }
-    ensures cost { IsExact via (query_of query.now) → steps.new ≤ steps.old + 1 + live_count state.now.graph.graph + edge_count state.now.graph.graph }
-    ensures free { IsExact via (query_of query.now) → via ≢ Fb → steps.new ≡ steps.old }
-    ensures still { IsExact via (query_of query.now) → IsFbComputed (map meaning boxes.old.items) → steps.new ≡ steps.old }
+    ensures queried { IsQueried (engine_seen (map meaning boxes.old.items) (Some state.now)) (engine_seen (map meaning boxes.new.items) (Some state.now)) via (query_of query.now) result steps.old steps.new }
 {
     match via {
         Via::Data => match ask_graph(alloc, &state.graph, query, steps) {

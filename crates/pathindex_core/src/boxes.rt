@@ -57,7 +57,7 @@ pub(crate) fn build_all(
     Ok(())
 }
 
-/// Lets go of what each box has staged.
+/// Drops what each box has staged.
 pub(crate) fn cancel_all(boxes: &mut Vec<Box<dyn PathIndex>>)
     ensures { map meaning boxes.new.items ≡ map unstaged (map meaning boxes.old.items) }
 {

@@ -6,8 +6,7 @@ ghost use Rattle.graph_update.specs.NewChanges.{is_same};
 ghost use Rattle.graph_update.specs.Verdicts.{change_of};
 ghost use Rattle.graph_update.specs.StagedChanges.{applied_of};
 ghost use Rattle.branch_query.specs.Queries.{path, branch};
-ghost use Rattle.index_eval.specs.Exactness.{IsExact};
-ghost use Rattle.pathindex_core.specs.QueryAnswers.{IsAnswered, IsUnkept};
+ghost use Rattle.pathindex_core.specs.QueryAnswers.{IsQueried};
 ghost use Rattle.index_api.specs.declared.kinds.Via.TheVariants.{Data as TheGraph, Fb as TheFb};
 ghost use Rattle.index_api.specs.Meanings.{IsBuilt, KeepsViews};
 ghost use Rattle.index_api.specs.Kept.{is_kind, is_kept, kept_of, kinds_of, has_kind};
@@ -79,7 +78,7 @@ fn build_of(boxes: &mut Vec<Box<dyn PathIndex>>, graph: &Graph, k: u32) -> Resul
 }
 
 impl Engine {
-    /// An engine with these boxes, of which no two are of one kind. It isn't open. O(1), no memory.
+    /// An engine with these boxes, no two of which are of one kind. It isn't open. O(1), no memory.
     pub fn new(boxes: Vec<Box<dyn PathIndex>>) -> Engine
         requires apart { AllPairs (λ a b. a.kind ≢ b.kind) (map meaning boxes.items) }
         ensures seen { engine_seen (map meaning result.boxes.items) result.state ≡ record { boxes = map meaning boxes.items; opened = None } }
@@ -88,12 +87,12 @@ impl Engine {
         Engine { boxes, state: None }
     }
 
-    /// Opens the engine with a graph, limits on what changes may make of it, and the highest level of the A(k)-family, and builds each index. Where memory runs
-    /// out, the graph is dropped, the engine isn't open, and boxes that are already built keep their views.
+    /// Opens the engine with a graph, limits on what changes may make of it, and the highest level of the A(k)-family, and builds each
+    /// index. Where memory runs out, the graph is dropped, the engine isn't open, and boxes that are already built keep their views.
     ///
-    /// O(n + m) for n node numbers and m edges, and what the build of each box takes. With all indexes of this library that is
-    /// expected O((k + r) (n + m log d)) in all, where a node has at most d neighbours on a side, and the 1-index and the forward and
-    /// backward index take r rounds; they take O(k (n + m)) memory, for a k of 1 at least.
+    /// O(n + m) for n node numbers and m edges, and what the build of each box takes. With all indexes of this library that is expected
+    /// O((k + r) (n + m log d)) in all, where a node has at most d neighbours on a side, and the 1-index and the forward and backward index
+    /// take r rounds; it takes O(k (n + m)) memory, for a k of at least 1.
     pub fn open(&mut self, graph: Graph, limits: Limits, k: u32) -> Result<(), Memory>
         requires closed { opened_of self.old.state ≡ None }
         requires few { k ≤ 8 }
@@ -120,15 +119,15 @@ impl Engine {
         }
     }
 
-    /// Makes a change in the graph and in each index, and says which number a new node got. `Refused` comes exactly where the change is refused within the
-    /// engine's limits, memory or not. An error leaves all as it was. So does the link of an edge that is there, which takes no
-    /// memory. Each other change takes all its memory before the graph or an index changes, and the partition of the 1-index, where it is kept,
-    /// moves by one step (Yi, He, Stanoi and Yang 2004).
+    /// Makes a change in the graph and in each index, and says which number a new node got. `Refused` comes exactly where the change is
+    /// refused within the engine's limits, memory or not. An error leaves all as it was. So does the link of an edge that is there, which
+    /// takes no memory. Each other change takes all its memory before the graph or an index changes, and the partition of the 1-index,
+    /// where it is kept, moves by one step (Yi, He, Stanoi and Yang 2004).
     ///
     /// O(i) for i indexes, and what the change takes in the graph and `prepare` and `commit` in each index. How much that is depends on
-    /// what the change reaches, and not on the size of the graph, but where a table moves as it grows, keys are dropped, a view of the forward and
-    /// backward index goes, or the blocks without other parents are looked for anew, which passes over the blocks of the 1-index: `AkIndex`,
-    /// `OneKept` and `FbIndex` say how much time and memory that takes.
+    /// what the change reaches, and not on the size of the graph, except where a table moves as it grows, keys are dropped, a view of the
+    /// forward and backward index goes, or the blocks without other parents are searched for again, which passes over the blocks of the
+    /// 1-index: `AkIndex`, `OneKept` and `FbIndex` say how much time and memory that takes.
     pub fn update(&mut self, alloc: Global, change: Change) -> Result<Applied, UpdateError>
         requires open { IsSome (opened_of self.old.state) }
         requires sound { IsSound (engine_seen (map meaning self.old.boxes.items) self.old.state) }
@@ -173,15 +172,15 @@ impl Engine {
         }
     }
 
-    /// The nodes in which a walk ends whose labels match the expression, asked of the graph itself or through an index, and how they
-    /// were found. `NoIndex` comes exactly where the index isn't kept, memory or not. The view of the forward and backward index
-    /// is first computed, where it isn't: that takes what `FbIndex` takes; of the graph it reads one view. Of the graph itself a query costs
-    /// one view of the graph; through an index that is exact for it and computed, it reads nothing of the graph. An error leaves the graph and
-    /// each view that is computed.
+    /// The last nodes of the walks whose labels match the expression, asked of the graph itself or through an index, and how they were
+    /// found. `NoIndex` comes exactly where the index isn't kept, memory or not. The view of the forward and backward index is first
+    /// computed, where it isn't: that takes what `FbIndex` takes; of the graph it reads one view. Of the graph itself a query costs one
+    /// view of the graph; through an index that is exact for it and computed, it reads nothing of the graph. Answered or not, the graph,
+    /// its limits, the levels, which indexes are kept, the blocks of the 1-index and each view that is computed stay.
     ///
-    /// An expression of m tokens takes O(m (n + e)) of a graph with n node numbers and e edges, and O(m n) memory. Through an index
-    /// n and e are the numbers of its blocks and of the pairs with support, O(s) comes to both for s node numbers, and where it isn't exact,
-    /// what `data_validate::check` takes: up to O(m s) memory.
+    /// O(m (n + e)) for an expression of m tokens and a graph with n node numbers and e edges; it takes O(m n) memory. Through an index n
+    /// and e are the numbers of its blocks and of the pairs with support, and O(s) is added to both time and memory for s node numbers;
+    /// where the index isn't exact, what `data_validate::check` takes is added: up to O(m s) memory.
     pub fn path<L: Ledger>(
         &mut self,
         alloc: Global,
@@ -192,16 +191,7 @@ impl Engine {
         requires open { IsSome (opened_of self.old.state) }
         requires sound { IsSound (engine_seen (map meaning self.old.boxes.items) self.old.state) }
         ensures sound { IsSound (engine_seen (map meaning self.new.boxes.items) self.new.state) }
-        ensures opened { opened_of self.new.state ≡ opened_of self.old.state }
-        ensures keeps { EachBecomes KeepsViews (map meaning self.old.boxes.items) (map meaning self.new.boxes.items) }
-        ensures kept { kept_of (map meaning self.new.boxes.items) (level_in (opened_of self.old.state)) ≡ kept_of (map meaning self.old.boxes.items) (level_in (opened_of self.old.state)) }
-        ensures answered { IfOk result (λ answer. IsAnswered (graph_in (opened_of self.old.state)) (kept_of (map meaning self.old.boxes.items) (level_in (opened_of self.old.state))) via (path expr.now) answer.how answer.nodes.members) }
-        ensures no_index { (result ≡ Err AskError.NoIndex) ↔ IsUnkept (kept_of (map meaning self.old.boxes.items) (level_in (opened_of self.old.state))) via }
-        ensures computed { via ≡ TheFb → OnOk result (IsFbComputed (map meaning self.new.boxes.items)) }
-        ensures graph { via ≡ TheGraph → steps.new ≡ steps.old + 1 + live_count (graph_in (opened_of self.old.state)) + edge_count (graph_in (opened_of self.old.state)) }
-        ensures cost { IsExact via (path expr.now) → steps.new ≤ steps.old + 1 + live_count (graph_in (opened_of self.old.state)) + edge_count (graph_in (opened_of self.old.state)) }
-        ensures free { IsExact via (path expr.now) → via ≢ TheFb → steps.new ≡ steps.old }
-        ensures still { IsExact via (path expr.now) → IsFbComputed (map meaning self.old.boxes.items) → steps.new ≡ steps.old }
+        ensures queried { IsQueried (engine_seen (map meaning self.old.boxes.items) self.old.state) (engine_seen (map meaning self.new.boxes.items) self.new.state) via (path expr.now) result steps.old steps.new }
     {
         match &self.state {
             Some(open) => ask(alloc, &mut self.boxes, open, via, &Query::Path(expr), steps),
@@ -209,12 +199,12 @@ impl Engine {
         }
     }
 
-    /// The answers of a branching query, asked of the graph itself or through an index, and how they were found, as in `path`. The
-    /// forward and backward index alone is exact for it, and is first computed, as there; through another one the candidates of its relaxed
-    /// form are looked up in the graph.
+    /// The answers of a branching query, asked of the graph itself or through an index, and how they were found. When `NoIndex` comes, what
+    /// is read of the graph and what stays are as in `path`. The forward and backward index alone is exact for it, and is first computed, as
+    /// there; through another one the candidates of its relaxed form are looked up in the graph.
     ///
-    /// O(m (n + e)) for m tokens, as for `path`. It takes O(d n + s) memory where brackets nest d - 1 deep, parentheses
-    /// counted; through an index that isn't exact, O(d s).
+    /// O(m (n + e)) for m tokens, as for `path`; it takes O((d + 1) n + s) memory where brackets nest d deep, parentheses
+    /// counted; through an index that isn't exact, O((d + 1) s).
     pub fn branch<L: Ledger>(
         &mut self,
         alloc: Global,
@@ -225,16 +215,7 @@ impl Engine {
         requires open { IsSome (opened_of self.old.state) }
         requires sound { IsSound (engine_seen (map meaning self.old.boxes.items) self.old.state) }
         ensures sound { IsSound (engine_seen (map meaning self.new.boxes.items) self.new.state) }
-        ensures opened { opened_of self.new.state ≡ opened_of self.old.state }
-        ensures keeps { EachBecomes KeepsViews (map meaning self.old.boxes.items) (map meaning self.new.boxes.items) }
-        ensures kept { kept_of (map meaning self.new.boxes.items) (level_in (opened_of self.old.state)) ≡ kept_of (map meaning self.old.boxes.items) (level_in (opened_of self.old.state)) }
-        ensures answered { IfOk result (λ answer. IsAnswered (graph_in (opened_of self.old.state)) (kept_of (map meaning self.old.boxes.items) (level_in (opened_of self.old.state))) via (branch query.now) answer.how answer.nodes.members) }
-        ensures no_index { (result ≡ Err AskError.NoIndex) ↔ IsUnkept (kept_of (map meaning self.old.boxes.items) (level_in (opened_of self.old.state))) via }
-        ensures computed { via ≡ TheFb → OnOk result (IsFbComputed (map meaning self.new.boxes.items)) }
-        ensures graph { via ≡ TheGraph → steps.new ≡ steps.old + 1 + live_count (graph_in (opened_of self.old.state)) + edge_count (graph_in (opened_of self.old.state)) }
-        ensures cost { IsExact via (branch query.now) → steps.new ≤ steps.old + 1 + live_count (graph_in (opened_of self.old.state)) + edge_count (graph_in (opened_of self.old.state)) }
-        ensures free { IsExact via (branch query.now) → via ≢ TheFb → steps.new ≡ steps.old }
-        ensures still { IsExact via (branch query.now) → IsFbComputed (map meaning self.old.boxes.items) → steps.new ≡ steps.old }
+        ensures queried { IsQueried (engine_seen (map meaning self.old.boxes.items) self.old.state) (engine_seen (map meaning self.new.boxes.items) self.new.state) via (branch query.now) result steps.old steps.new }
     {
         let asked = Query::Branch(query);
         match &self.state {
@@ -248,8 +229,8 @@ impl Engine {
     /// `FbIndex` takes; of the graph it reads one view. Else nothing of the graph is read. An error leaves the graph and each view that is
     /// computed.
     ///
-    /// Where fewer than half of the node numbers ever given are still live, the list takes O(m log m + t) for m nodes and t bytes
-    /// of text, and O(m) memory beside the text. Else it takes O(m + s + t), and O(m + s) memory, for block numbers of the index below s.
+    /// O(m log m + t) for m nodes and t bytes of text where fewer than half of the node numbers ever given are still live; it takes O(m)
+    /// memory beside the text. Else O(m + s + t) for block numbers of the index below s; it takes O(m + s) memory.
     pub fn extents<L: Ledger>(
         &mut self,
         alloc: Global,

@@ -168,7 +168,7 @@ fn run_script<H: Shelf, K: Sink>(
     }
 }
 
-/// Runs the script from the graph of the engine on.
+/// Runs the script on the graph of the engine.
 fn run_open<H: Shelf, K: Sink>(
     alloc: Global,
     settings: &Settings<'_>,

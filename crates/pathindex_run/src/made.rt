@@ -110,7 +110,7 @@ fn run_text<K: Sink>(
     }
 }
 
-/// Runs the script with this text from the graph of the engine on.
+/// Runs the script with this text on the graph of the engine.
 fn run_open<K: Sink>(alloc: Global, script: &[u8], engine: &mut Engine, sink: &mut K) -> u8
     requires ready { IsOpen (engine_seen (map (λ b. meaning (b.vtable, b.value)) engine.old.boxes.items) engine.old.state) }
     ensures sound { IsSound (engine_seen (map (λ b. meaning (b.vtable, b.value)) engine.new.boxes.items) engine.new.state) }

@@ -1,17 +1,24 @@
 -- Putting a line together, piece by piece.
-use Rattle.std.proofs.Common.{◌≡◌, ℕ, ◌≤◌, List, [], ◌++◌, length, Option, None, Some, sym, ap, ◌∙◌, append_assoc, append-nil, Bool, IsTrue, Result, Ok, Err, OnOk, arith, length-append}
+use Rattle.std.proofs.Common.{◌≡◌, ℕ, ◌≤◌, List, [], ◌++◌, ◌∷◌, ◌-◌, suc, length, Option, None, Some, sym, ap, ◌∙◌, append_assoc, append-nil, Bool, IsTrue, Result, Ok, Err, OnOk, arith, length-append}
 use Rattle.std.specs.Io.KnownBytes.{Consumes, Keeps, prepend_known}
 use Rattle.std.proofs.KnownBytes.{Consumes-nil, Consumes-kept, Consumes-trans}
 use Rattle.px_base.proofs.Windows.{plain-append}
 use Rattle.px_base.specs.GatheredLines.{TakesPart, Overfills, Gathers, IsTooLong}
+use Rattle.px_base.specs.LineEnds.{has_end}
 
--- how far the line has come, where nothing is ahead and no call failed
-pub record SoFar {Files : Type 0} (room : ℕ) (line new window : List ℕ) (before after : Option (List ℕ)) (files_then files_now : Files) (faults_then faults_now : ℕ) (is_open : Bool) : Type 0 where
+-- how far the line has come, where no call failed: a whole end that was ahead at the start is still ahead, and then nothing was read
+pub record SoFar {S Files : Type 0} (room : ℕ) (line new window_then window : List ℕ) (shelf_then shelf : S) (before after : Option (List ℕ)) (files_then files_now : Files) (faults_then faults_now : ℕ) (is_open : Bool) : Type 0 where
   pub gathers : Gathers room line new before after
-  pub empty : window ≡ []
+  pub ahead : IsTrue (has_end window_then) → IsTrue (has_end window)
+  pub unread : IsTrue (has_end window_then) → shelf ≡ shelf_then
   pub files : files_now ≡ files_then
   pub faults : faults_now ≡ faults_then
   pub still_open : IsTrue is_open
+
+-- how many more turns there can be: each but the first takes a byte at least
+abbrev pub steps_left : ℕ → List ℕ → List ℕ → ℕ
+steps_left room line [] = suc (room - length line)
+steps_left room line (b ∷ ahead) = room - length line
 
 -- the front of a window is the front of what is ahead
 pub consumes-part : (left : Option (List ℕ)) (ahead part more : List ℕ) → ahead ≡ part ++ more → Consumes (prepend_known ahead left) (prepend_known more left) part
@@ -24,9 +31,6 @@ keeps-filled None None ahead bytes e p = tt
 keeps-filled None (Some y) ahead bytes e p = tt
 keeps-filled (Some x) None ahead bytes e p = absurd p
 keeps-filled (Some x) (Some y) ahead bytes e p = sym p ∙ ap (λ r. r ++ x) (sym e)
-
-pub gathers-nothing : {room : ℕ} (line : List ℕ) (a : Option (List ℕ)) → length line ≤ room → Gathers room line line a a
-gathers-nothing line a h = record { part = []; plain = tt; line_is = sym (append-nil line); short = h; told = Consumes-nil a }
 
 pub gathers-kept : {room : ℕ} {line new : List ℕ} {a b : Option (List ℕ)} → Gathers room line new a b → (c : Option (List ℕ)) → Keeps b c → Gathers room line new a c
 gathers-kept {a = a} {b = b} g c k = record { part = g.part; plain = g.plain; line_is = g.line_is; short = g.short; told = Consumes-kept a b c g.part g.told k }
@@ -47,11 +51,6 @@ pub gathers-part : {room : ℕ} {line mid new ahead rest : List ℕ} {a : Option
 gathers-part {ahead = ahead} {rest = rest} left g t =
     gathers-on g (record { part = t.part; plain = t.plain; line_is = t.line_is; short = t.short; told = consumes-part left ahead t.part rest t.ahead_is })
 
-pub gathers-after : {E : Type 0} {room : ℕ} {line mid : List ℕ} {a b : Option (List ℕ)} (new : List ℕ) (c : Option (List ℕ)) (r : Result Unit E)
-    → Gathers room line mid a b → OnOk r (Gathers room mid new b c) → OnOk r (Gathers room line new a c)
-gathers-after new c (Ok u) g t = gathers-on g t
-gathers-after new c (Err e) g t = tt
-
 -- what is too long after a front was put together is too long from the start
 pub too-long-on : {room : ℕ} {line mid : List ℕ} {a b : Option (List ℕ)}
     → Gathers room line mid a b → IsTooLong room mid b → IsTooLong room line a
@@ -69,8 +68,3 @@ pub too-long : {room : ℕ} {line mid ahead : List ℕ} {a : Option (List ℕ)} 
     → Gathers room line mid a (prepend_known ahead left) → Overfills room ahead mid → IsTooLong room line a
 too-long {ahead = ahead} left g t =
     too-long-on g (record { front = t.front; rest = prepend_known t.rest left; plain = t.plain; long = t.long; told = consumes-part left ahead t.front t.rest t.ahead_is })
-
--- what holds anyway holds on Ok
-pub on-ok : {T E P : Type 0} (r : Result T E) → P → OnOk r P
-on-ok (Ok x) p = p
-on-ok (Err e) p = tt

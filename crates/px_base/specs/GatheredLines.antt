@@ -15,7 +15,7 @@ pub record TakesPart (room : ℕ) (ahead line rest new : List ℕ) : Type 0 wher
   pub ahead_is : ahead ≡ part ++ rest
   pub stopped : IsStopped rest
 
--- so much of what is ahead stands before the first LF or CR that it passes the line's room
+-- more of what is ahead stands before the first LF or CR than the line has room for
 pub record Overfills (room : ℕ) (ahead line : List ℕ) : Type 0 where
   pub front : List ℕ
   pub rest : List ℕ
@@ -31,7 +31,7 @@ pub record Gathers (room : ℕ) (line new : List ℕ) (before after : Option (Li
   pub short : length new ≤ room
   pub told : Consumes before after part
 
--- so much stands before the first LF or CR that it passes the line's room
+-- more stands before the first LF or CR than the line has room for
 pub record IsTooLong (room : ℕ) (line : List ℕ) (before : Option (List ℕ)) : Type 0 where
   pub front : List ℕ
   pub rest : Option (List ℕ)

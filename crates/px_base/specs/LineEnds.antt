@@ -31,7 +31,7 @@ pub record TakesEnd (room : ℕ) (end : LineEnd) (before after : Option (List �
   pub told : Consumes before after (end_bytes end)
   pub whole : IsWhole end after
 
--- ahead are the bytes of an end that are more than the room
+-- the end ahead has more bytes than the room
 pub record EndPasses (room : ℕ) (before : Option (List ℕ)) : Type 0 where
   pub end : LineEnd
   pub rest : Option (List ℕ)

@@ -16,7 +16,7 @@ use std::marker::Model;
 
 /// Files in memory, seen as what they hold, how far the open one was read, and which calls fail.
 ///
-/// A shelf with one file, of which no call fails:
+/// A shelf with one file, on which no call fails:
 ///
 ///     let mut files = Vec::new(alloc);
 ///     files.push((name, bytes))?;
@@ -24,7 +24,7 @@ use std::marker::Model;
 #[derive(Drop)]
 pub struct MemShelf {
     files: Vec<(Text, Vec<u8>)>,
-    /// The place of the open file in the list, and that of its first byte that is left.
+    /// The place of the open file in the list, and then that of its first byte not yet read.
     current: Option<usize>,
     next: usize,
     piece: u32,
@@ -140,7 +140,7 @@ fn find(files: &[(Text, Vec<u8>)], name: &str) -> Option<usize>
     files.iter().position(|file| file.0.as_str() == name)
 }
 
-/// Copies as many of the bytes as fit, from the first on, and at most `most`. How many.
+/// Copies the first bytes, as many as fit and at most `most`, and answers how many.
 fn copy_front(bytes: &[u8], most: usize, buf: &mut [u8]) -> usize
     ensures count { result ≡ min (min (length bytes.now) (length buf.old)) most }
     ensures len { length buf.new ≡ length buf.old }
@@ -152,6 +152,12 @@ fn copy_front(bytes: &[u8], most: usize, buf: &mut [u8]) -> usize
 }
 
 /// Bytes that are written to memory, seen as all that was written, its room, and which calls fail.
+///
+/// A sink with room for 1,024 bytes, on which no call fails:
+///
+///     let mut sink = MemSink::new(alloc, 64, Vec::new(alloc), 1024)?;
+///     put_all(&mut sink, b"blocks 2\n")?;
+///     take(sink.written());
 #[derive(Drop)]
 pub struct MemSink {
     bytes: Vec<u8>,
@@ -179,7 +185,7 @@ impl Model for MemSink {
 }
 
 impl MemSink {
-    /// A sink to which nothing was written, with room for so many bytes in all.
+    /// An empty sink with room for `room` bytes in all.
     ///
     /// One call writes at most `piece` bytes, which is 1 or more. Calls are numbered from 1 on, and exactly
     /// those fail whose numbers are listed in `failing`, or that find no room left. O(1); it takes `room`

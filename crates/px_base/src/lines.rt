@@ -68,37 +68,6 @@ fn take_ahead(window: &mut Window, line: &mut Vec<u8>, room: usize) -> Result<()
     Ok(())
 }
 
-/// Reads on where nothing is ahead, and puts the bytes up to the next LF or CR or the end behind
-/// the line.
-fn gather_more<H: Shelf>(
-    window: &mut Window,
-    line: &mut Vec<u8>,
-    room: usize,
-    shelf: &mut H,
-) -> Result<(), LineFault>
-    requires empty { window.old ≡ [] }
-    requires short { length line.old.items ≤ room }
-    requires room { room ≤ 2 ^ 30 }
-    requires open { IsTrue (H.is_open shelf.old) }
-    ensures ok { OnOk result (Gathers room line.old.items line.new.items (prepend_known window.old (H.left shelf.old)) (prepend_known window.new (H.left shelf.new))) }
-    ensures stop { OnOk result (IsAtStop window.new (H.left shelf.new)) }
-    ensures limit { IsErrOf result LineFault.Limit → IsTooLong room line.old.items (prepend_known window.old (H.left shelf.old)) }
-    ensures files { H.files shelf.new ≡ H.files shelf.old }
-    ensures open { OnOk result (IsTrue (H.is_open shelf.new)) }
-    ensures fault { IsErrOf result LineFault.Fault → Rose (H.faults shelf.old) (H.faults shelf.new) }
-    ensures no_fault { result ≢ Err LineFault.Fault → H.faults shelf.new ≡ H.faults shelf.old }
-{
-    loop {
-        if !window.fill(shelf)? {
-            return Ok(());
-        }
-        take_ahead(window, line, room)?;
-        if !window.is_empty() {
-            return Ok(());
-        }
-    }
-}
-
 /// Puts the bytes up to the next LF or CR or the end behind the line, which then has at most
 /// `room`. It reads only where no LF or CR is ahead.
 fn gather<H: Shelf>(
@@ -120,11 +89,15 @@ fn gather<H: Shelf>(
     ensures fault { IsErrOf result LineFault.Fault → Rose (H.faults shelf.old) (H.faults shelf.new) }
     ensures no_fault { result ≢ Err LineFault.Fault → H.faults shelf.new ≡ H.faults shelf.old }
 {
-    take_ahead(window, line, room)?;
-    if !window.is_empty() {
-        return Ok(());
+    loop {
+        take_ahead(window, line, room)?;
+        if !window.is_empty() {
+            return Ok(());
+        }
+        if !window.fill(shelf)? {
+            return Ok(());
+        }
     }
-    gather_more(window, line, room, shelf)
 }
 
 /// Puts the next line in place of the old one, and takes its end. `Limit` where the line has more
@@ -153,9 +126,9 @@ fn take_line<H: Shelf>(
 
 /// Takes a text line by line from the file that a shelf has open, seen as how far it has come.
 ///
-/// A line ends at LF, at CR LF, which is one end, or at a CR that no LF follows. The last line needs
-/// no end, and nothing after the last end is no line. All lines are taken into one buffer, and reads
-/// fill one block of 64 KiB.
+/// A line ends at LF, at CR LF, which is one end, or at a CR that no LF follows. The last line needs no end, and an end
+/// that nothing follows begins no further line. All lines are taken into one buffer, and reads fill one block of 64
+/// KiB.
 ///
 /// The lines of a file, in order:
 ///

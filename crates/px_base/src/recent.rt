@@ -6,11 +6,18 @@ use std::marker::Model;
 /// How many bits the number of a slot has.
 const BITS: u32 = 12;
 
-/// A direct-mapped cache: a number for each pair of numbers that was used last. Some bits of the pair give its slot, other pairs share
-/// the slot, and it holds the number that was put last. Nothing is promised of a number that is found, so the caller checks what it leads
-/// to before taking it.
+/// A direct-mapped cache of numbers, each found by a pair of numbers. Some bits of the pair choose its slot, which it shares with other
+/// pairs, and a slot holds the number that was put there last. Nothing is promised of a number that is found: the caller checks what it
+/// leads to before using it.
 ///
 /// It takes 16 KiB.
+///
+/// A number is looked for here first, and put here where it had to be searched for:
+///
+///     let number = recent.get(first, last);
+///     if !is_right(number) {
+///         recent.put(first, last, search());
+///     }
 #[derive(Drop)]
 pub struct Recent {
     slots: Vec<u32>,
@@ -25,7 +32,7 @@ impl Model for Recent {
 }
 
 impl Recent {
-    /// The number 0 in each slot. O(1); it takes 16 KiB.
+    /// A cache with the number 0 in each slot. O(1); it takes 16 KiB.
     pub fn new(alloc: Global) -> Result<Recent, Memory> {
         let slots = vec![in alloc; 0; 1 << BITS]?;
         Ok(Recent { slots })

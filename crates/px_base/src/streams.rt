@@ -75,7 +75,7 @@ pub trait Sink {
         ensures cause { HasCause (faults self.old) (faults self.new) result };
 }
 
-/// Writes all the bytes. Where a write fails, some front of them was written, and no more is tried. O(w) for w
+/// Writes all the bytes. Where a write fails, some front of them was written, and nothing more is tried. O(w) for w
 /// writes, beside what each of them takes; no memory.
 pub fn put_all<K: Sink>(sink: &mut K, bytes: &[u8]) -> Result<(), Failed>
     ensures all { OnOk result (Appends (K.written sink.old) (K.written sink.new) bytes.now) }

@@ -133,7 +133,11 @@ fn lines_are_taken_up_to_the_first_error(rt: HostRuntime) -> Result<(), Fail> {
         let mut reader = LineReader::new(alloc, line_limit, text_limit)?;
         let mut lines = Vec::new(alloc);
         let end = take_lines(&mut reader, &mut shelf, &mut lines);
-        assert_eq!(rt; (lines.as_slice(), reader.number(), end), want);
+        assert_eq!(rt;
+            (lines.as_slice(), reader.number(), end),
+            want,
+            "at {failing}, {line_limit}, {text_limit}"
+        );
     }
     Ok(())
 }
@@ -156,7 +160,7 @@ fn lines_end_at_feeds_and_returns(rt: HostRuntime) -> Result<(), Fail> {
             let mut reader = LineReader::new(alloc, 2, 14)?;
             let mut lines = Vec::new(alloc);
             take_lines(&mut reader, &mut shelf, &mut lines)?;
-            assert_eq!(rt; lines.as_slice(), want);
+            assert_eq!(rt; lines.as_slice(), want, "at {text:?} in pieces of {piece}");
         }
     }
     Ok(())
@@ -179,7 +183,11 @@ fn limits_at_a_return_and_behind_it(rt: HostRuntime) -> Result<(), Fail> {
         let mut reader = LineReader::new(alloc, line_limit, text_limit)?;
         let mut lines = Vec::new(alloc);
         let end = take_lines(&mut reader, &mut shelf, &mut lines);
-        assert_eq!(rt; (lines.as_slice(), reader.number(), end), want);
+        assert_eq!(rt;
+            (lines.as_slice(), reader.number(), end),
+            want,
+            "at {failing}, {line_limit}, {text_limit}"
+        );
     }
     Ok(())
 }
@@ -198,7 +206,11 @@ fn a_line_lies_ahead(rt: HostRuntime) -> Result<(), Fail> {
         let mut reader = LineReader::new(alloc, LINE_BYTES, SCRIPT_BYTES.min(GRAPH_BYTES))?;
         let before = reader.has_line_ahead();
         reader.next(&mut shelf)?;
-        assert_eq!(rt; (before, reader.has_line_ahead()), (false, want));
+        assert_eq!(rt;
+            (before, reader.has_line_ahead()),
+            (false, want),
+            "at {text:?}"
+        );
     }
     Ok(())
 }
@@ -232,7 +244,7 @@ fn all_is_written_in_pieces(rt: HostRuntime) -> Result<(), Fail> {
     ] {
         let mut sink = MemSink::new(alloc, 3, vec![in alloc; failing]?, room)?;
         let end = put_all(&mut sink, b"abcdefg");
-        assert_eq!(rt; (sink.written(), end), want);
+        assert_eq!(rt; (sink.written(), end), want, "at {failing}, {room}");
     }
     Ok(())
 }

@@ -93,8 +93,7 @@ impl Window {
         Ok(count > 0)
     }
 
-    /// Reads on where nothing is ahead, and else does nothing. Where nothing is ahead then, the
-    /// text is over.
+    /// Reads on if nothing is ahead, and otherwise does nothing. If nothing is ahead afterwards, the text is over.
     pub(crate) fn fill_empty<H: Shelf>(&mut self, shelf: &mut H) -> Result<(), Failed>
         requires open { IsTrue (H.is_open shelf.old) }
         ensures keeps { OnOk result (Keeps (prepend_known self.old (H.left shelf.old)) (prepend_known self.new (H.left shelf.new))) }

@@ -1,5 +1,6 @@
 pub mod EdgeOrder
 pub mod ListLemmas
+pub mod MemberLaws
 pub mod LineLemmas
 pub mod WalkLemmas
 pub mod Uses

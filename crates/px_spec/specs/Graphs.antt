@@ -15,7 +15,7 @@ abbrev pub Edges : Type 0
 Edges = set.FinSet edge_cmp
 
 pub record Graph : Type 0 where
-  -- for each number that was given the label of the node, or none where the node is gone
+  -- for each number ever given, the label of its node, or none where the node is gone
   pub given : List (Option (List ℕ))
   pub edges : Edges
   -- each label that was ever seen, once, in the order in which they came

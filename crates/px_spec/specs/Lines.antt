@@ -6,7 +6,7 @@ pub record Line : Type 0 where
   pub text : List ℕ
   pub end : List ℕ
 
--- the lines, with the byte in front of the first
+-- the lines, with the byte put before the first
 abbrev pub onto : ℕ → List Line → List Line
 onto b [] = record { text = b ∷ []; end = [] } ∷ []
 onto b (l ∷ ls) = record { text = b ∷ l.text; end = l.end } ∷ ls
@@ -15,14 +15,14 @@ onto b (l ∷ ls) = record { text = b ∷ l.text; end = l.end } ∷ ls
 abbrev pub ended : List ℕ → Line
 ended end = record { text = []; end = end }
 
--- CR (13) in front of a text that has these lines: it ends a line, and with an LF behind it it is one end
+-- CR (13) put before a text that has these lines: it ends a line, and together with an LF after it is one end
 abbrev pub return_onto : List ℕ → List Line → List Line
 return_onto [] ls = ended (13 ∷ []) ∷ ls
 return_onto (b ∷ bs) [] = ended (13 ∷ []) ∷ []
 return_onto (b ∷ bs) (l ∷ ls) = if b == 10 then (ended (13 ∷ 10 ∷ []) ∷ ls) else (ended (13 ∷ []) ∷ l ∷ ls)
 
--- A line ends at LF (10), at CR followed by LF, which is one end, or at a CR that no LF follows. The last line needs
--- no end, and nothing after the last end is no line.
+-- A line ends at LF (10), at CR followed by LF, which is one end, or at a CR that no LF follows. The last line needs no
+-- end, and an end that nothing follows begins no further line.
 abbrev pub cut : List ℕ → List Line
 cut [] = []
 cut (b ∷ bs) = if b == 10 then (ended (10 ∷ []) ∷ cut bs) else (if b == 13 then return_onto bs (cut bs) else onto b (cut bs))

@@ -2,8 +2,8 @@
 use Rattle.std.specs.Prelude.{ℕ, ◌≡◌, List, [], ◌∷◌, Some}
 use Rattle.px_spec.specs.Shapes.{Shape, IsChild}
 
--- A walk is one node or more, each next one a child of the one before. Its word is the list of their
--- labels. A walk with this word leads from u to v.
+-- A walk is one or more nodes, each a child of the one before. Its word is the list of their labels. A walk with this
+-- word leads from u to v.
 abbrev pub Leads : Shape → ℕ → List (List ℕ) → ℕ → Type 0
 Leads s u [] v = ⊥
 Leads s u (t ∷ []) v = (s.label u ≡ Some t) × (u ≡ v)

@@ -63,7 +63,7 @@ impl BlockNeighbours {
         Ok(())
     }
 
-    /// Lets the lists be that many at least, with empty ones.
+    /// Adds empty lists until there are at least that many.
     pub(crate) fn grow(&mut self, len: usize) -> Result<(), Memory>
         ensures lists { (m : ℕ) → list_at self.new.lists m ≡ list_at self.old.lists m }
         ensures len { length self.old.lists ≤ length self.new.lists }
@@ -108,9 +108,9 @@ impl BlockNeighbours {
         self.lists[n as usize].push_reserved(b);
     }
 
-    /// Takes a neighbour out of the list with this number, and answers at which place, and which neighbour stood
-    /// last: that one stands at the place now. O(1), where the neighbour stands at the place that is given; else
-    /// the list is searched. It takes no memory.
+    /// Takes a neighbour out of the list with this number, and answers its place, and which neighbour stood last: that
+    /// one stands at the place now. O(1), where the neighbour stands at the place that is given; else the list is
+    /// searched. It takes no memory.
     pub(crate) fn remove(&mut self, n: u32, b: u32, place: u32) -> (usize, u32)
         requires within { n < length self.old.lists }
         requires member { IsTrue (has (list_at self.old.lists n) b) }

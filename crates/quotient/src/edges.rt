@@ -9,10 +9,16 @@ use px_base::{Memory, NodeId};
 use std::alloc::Global;
 use std::marker::Model;
 
-/// A list of edges, each a pair of numbers of nodes: those of a graph, where `EdgeList::of` made it. Whoever
-/// makes several quotients of one graph reads its nodes once.
+/// A list of edges, each a pair of node numbers; `EdgeList::of` lists those of a graph. With it, several quotients of
+/// one graph are made while its nodes are read once.
 ///
 /// It takes 8 bytes for each edge.
+///
+/// The quotients by two partitions:
+///
+///     let edges = EdgeList::of(alloc, &graph.view(&mut steps))?;
+///     let fine = Summary::of_edges(alloc, fine_blocks, &edges)?;
+///     let coarse = Summary::of_edges(alloc, coarse_blocks, &edges)?;
 #[derive(Drop)]
 pub struct EdgeList {
     edges: Vec<(NodeId, NodeId)>,

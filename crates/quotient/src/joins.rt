@@ -55,7 +55,7 @@ impl Joins {
         Ok(())
     }
 
-    /// Lets there be lists for that many block numbers at least.
+    /// Adds lists until there are some for at least that many block numbers.
     pub(crate) fn grow(&mut self, blocks: usize) -> Result<(), Memory>
         requires lengths { length self.old.children.lists ≤ length self.old.parents.lists }
         ensures supports { self.new.supports ≡ self.old.supports }
@@ -123,8 +123,8 @@ impl Joins {
         }
     }
 
-    // Takes the support from a pair that has some. In each list the last neighbour comes to the place of the one
-    // that goes, which is noted for it.
+    // Takes the support from a pair that has some. In each list the last neighbour moves to the place of the one
+    // removed, and that place is noted for it.
     fn part(&mut self, a: u32, b: u32)
         requires from { a < length self.old.children.lists }
         requires onto { b < length self.old.parents.lists }

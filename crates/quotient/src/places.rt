@@ -1,5 +1,5 @@
-// Where pairs of blocks stand in the lists of neighbours. Each place is looked at before it is taken, so no contract
-// speaks of it: were it wrong, the list would be searched.
+// Where pairs of blocks stand in the lists of neighbours. Each place is checked before it is used, so no contract
+// mentions it: if it were wrong, the list would be searched.
 use px_base::Memory;
 use std::alloc::Global;
 

@@ -9,7 +9,8 @@ use Rattle.block_partition.specs.Partitions.{put, IsLeastFree}
 use Rattle.quotient_draft.specs.Drafts.{Drafted, with_added, with_left, is_pair}
 use Rattle.quotient_draft.specs.Basis.{AreLeastFree, IsOver}
 use Rattle.quotient_draft.specs.Kept.{AreTaken}
-use Rattle.quotient_draft.proofs.PutLists.{some_put, same_number}
+use Rattle.block_partition.proofs.PutNumbers.{same_number}
+use Rattle.quotient_draft.proofs.PutLists.{some_put}
 use Rattle.quotient_draft.proofs.Scanned.{count_some, count_none, added_some, added_more, least_more}
 use Rattle.quotient_draft.proofs.Written.{test_is, pair_is}
 

@@ -6,33 +6,8 @@ use Rattle.std.proofs.lemmas.Bool.Decides.{eqb_tells}
 use Rattle.std.proofs.lemmas.List.{get_or-set_same, get_or-set_other, get_or_past, set_past}
 use Rattle.px_spec.specs.Members.{at}
 use Rattle.block_partition.specs.Partitions.{put}
+use Rattle.block_partition.proofs.PutNumbers.{same_number, put_here, at_put}
 use Rattle.quotient.specs.Quotients.{with_put}
-
-put_here : (xs : List (Option ℕ)) (n v : ℕ) → at (put xs n v) n ≡ Some v
-put_here [] zero v = refl
-put_here [] (suc n) v = put_here [] n v
-put_here (x ∷ xs) zero v = refl
-put_here (x ∷ xs) (suc n) v = put_here xs n v
-
-put_there : (xs : List (Option ℕ)) (n v m : ℕ) → m ≢ n → at (put xs n v) m ≡ at xs m
-put_there [] zero v zero d = absurd (d refl)
-put_there [] zero v (suc m) d = refl
-put_there [] (suc n) v zero d = refl
-put_there [] (suc n) v (suc m) d = put_there [] n v m (λ e. d (ap suc e))
-put_there (x ∷ xs) zero v zero d = absurd (d refl)
-put_there (x ∷ xs) zero v (suc m) d = refl
-put_there (x ∷ xs) (suc n) v zero d = refl
-put_there (x ∷ xs) (suc n) v (suc m) d = put_there xs n v m (λ e. d (ap suc e))
-
-pub same_number : (n : ℕ) → nat_eq n n ≡ true
-same_number n = elim (eqb_tells n n) [ inl s ↦ s.0 | inr d ↦ absurd (d.1 refl) ]
-
--- what each place has, once a number is put
-pub at_put : (xs : List (Option ℕ)) (n v m : ℕ) → at (put xs n v) m ≡ cond (nat_eq m n) (Some v) (at xs m)
-at_put xs n v m = elim (eqb_tells m n) [
-  | inl s ↦ rw (s.1, same_number n) (put_here xs n v)
-  | inr d ↦ rw d.0 (put_there xs n v m d.1)
-]
 
 taken_here : (xs : List (Option ℕ)) (n : ℕ) → at (slice_set xs n None) n ≡ None
 taken_here xs n = elim (cases_lt n (length xs)) [

@@ -10,7 +10,8 @@ use Rattle.block_partition.specs.Partitions.{put, IsLeastFree}
 use Rattle.quotient_draft.specs.Drafts.{with_added}
 use Rattle.quotient_draft.specs.Basis.{AreLeastFree}
 use Rattle.quotient_draft.specs.Scans.{from_after}
-use Rattle.quotient_draft.proofs.PutLists.{at_put, some_put, put_some}
+use Rattle.block_partition.proofs.PutNumbers.{at_put}
+use Rattle.quotient_draft.proofs.PutLists.{some_put, put_some}
 
 -- blocks stay blocks
 pub added_some : (labels : List (Option ℕ)) (es : List (ℕ × ℕ)) (b : ℕ) → IsSome (at labels b) → IsSome (at (with_added labels es) b)

@@ -1,4 +1,5 @@
--- What is drafted over an index graph. It shows the partition and the supports that come of writing it into the base.
+-- What is drafted over an index graph. It shows the partition and the supports that result from writing it into the
+-- base.
 use Rattle.std.specs.Prelude.{ℕ, ◌+◌, ◌&&◌, Bool, List, [], ◌∷◌, ◌++◌, Option, None, Some, cond, nat_eq, refl}
 use Rattle.std.specs.Coded.{Coded, code_by, coded×, coded_ℕ, coded_list, coded_option}
 use Rattle.std.specs.List.{list_any}

@@ -6,7 +6,7 @@ use Rattle.std.specs.Map.{lookup}
 use Rattle.smallvec.specs.SmallVec.{SmallVec, HasRoomFor}
 use Rattle.quotient_draft.specs.Drafts.{is_pair}
 
--- the blocks at which pairs end that begin at a, and those at which pairs begin that end at b
+-- the ends of the pairs that begin at a, and the beginnings of the pairs that end at b
 abbrev pub ends_from : List (ℕ × ℕ) → ℕ → List ℕ
 ends_from pairs a = filter_map (λ p. cond (nat_eq a p.0) (Some p.1) None) pairs
 

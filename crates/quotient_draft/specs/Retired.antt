@@ -4,7 +4,7 @@ use Rattle.px_spec.specs.Members.{at, has}
 use Rattle.quotient.specs.Quotients.{Quotient}
 use Rattle.quotient_draft.specs.Drafts.{has_member}
 
--- those of the blocks that have no members are taken away, and all else is as it was
+-- the blocks among these that have no members are taken away, and all else is as it was
 pub record IsRetired (among : List ℕ) (old new : Quotient) : Type 0 where
   pub block_of : new.blocks.block_of ≡ old.blocks.block_of
   pub supports : new.supports ≡ old.supports

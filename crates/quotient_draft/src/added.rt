@@ -104,7 +104,7 @@ impl Added {
         }
     }
 
-    /// Takes those of the blocks away that have no members in the base.
+    /// Takes away the blocks among these that have no members in the base.
     pub(crate) fn retire_in(&self, base: &mut Summary)
         requires from { (b c : ℕ) → has_member base.old.blocks.block_of b ≡ false → support_at base.old.supports b c ≡ 0 }
         requires onto { (b c : ℕ) → has_member base.old.blocks.block_of b ≡ false → support_at base.old.supports c b ≡ 0 }

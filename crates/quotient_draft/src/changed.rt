@@ -14,8 +14,8 @@ use quotient::Summary;
 use std::alloc::Global;
 use std::marker::Model;
 
-/// Supports that are drafted over a base: the last of each pair, which may be 0. Beside them it has, for each
-/// block, the blocks at which pairs end that begin there, and those at which pairs begin that end there.
+/// Supports that are drafted over a base: for each pair the last one, which may be 0. Beside them it has, for each
+/// block, the other ends of the pairs that begin there, and of those that end there.
 #[derive(Drop)]
 pub(crate) struct Changed {
     pairs: IndexMap<(u32, u32), u32>,
@@ -63,14 +63,14 @@ impl Changed {
         }
     }
 
-    /// The blocks at which drafted pairs end that begin at this one. To the others it has the support of the base.
+    /// The ends of the drafted pairs that begin at this block. To all others it has the support of the base.
     pub(crate) fn children(&self, a: u32) -> &[u32]
         ensures { (t : SupportTable) (b : ℕ) → has result.now b ≡ false → support_at (with_supports t self.now) a b ≡ support_at t a b }
     {
         ends_of(&self.from, a)
     }
 
-    /// The blocks at which drafted pairs begin that end at this one. From the others it has the support of the base.
+    /// The beginnings of the drafted pairs that end at this block. From all others it has the support of the base.
     pub(crate) fn parents(&self, b: u32) -> &[u32]
         ensures { (t : SupportTable) (a : ℕ) → has result.now a ≡ false → support_at (with_supports t self.now) a b ≡ support_at t a b }
     {

@@ -16,7 +16,7 @@ pub(crate) fn count_of(counts: &IndexMap<u32, usize>, b: u32) -> usize
     }
 }
 
-/// Counts one more for a block, for which no more than that many were counted.
+/// Counts one more for a block, whose count is at most `most` before.
 pub(crate) fn count_one(counts: &mut IndexMap<u32, usize>, b: u32, most: usize)
     requires room { 0 < spare counts.old }
     requires counted { counted counts.old.entries b ≤ most }

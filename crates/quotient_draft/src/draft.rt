@@ -105,8 +105,8 @@ impl Draft {
         Ok(b)
     }
 
-    /// Takes the last block that was drafted out again. The draft is as it was before that block where nothing else
-    /// was drafted since. Expected O(1), no memory.
+    /// Takes out the block that was drafted last. If nothing else was drafted since, the draft is as it was before that
+    /// block. Expected O(1), no memory.
     pub fn forget_block(&mut self)
         ensures { (es : List (ℕ × ℕ)) (e : ℕ × ℕ) → self.old.added ≡ es ++ e ∷ [] → self.new ≡ record self.old { added = es } }
     {

@@ -314,7 +314,7 @@ fn add_put(puts: &mut PutLog, n: NodeId, b: Option<u32>) -> Result<(), Memory>
     Ok(())
 }
 
-// Counts one more node for a block, if there is one, of which no more than that many were counted.
+// Counts one more node for a block, if there is one, whose count is at most `most` before.
 fn count_block(counts: &mut IndexMap<u32, usize>, b: Option<u32>, most: usize)
     requires room { 0 < spare counts.old }
     requires counted { (x : ℕ) → counted counts.old.entries x ≤ most }

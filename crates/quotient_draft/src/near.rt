@@ -80,7 +80,7 @@ pub fn base_children(base: &Summary, a: u32) -> &[u32]
     &[]
 }
 
-// One list and then the other, in place of what there was.
+// Fills the list with one list and then the other, in place of what it held.
 fn join_lists(list: &mut Vec<u32>, first: &[u32], second: &[u32]) -> Result<(), Memory>
     ensures { OnOk result (list.new.items ≡ first.now ++ second.now) }
 {

@@ -1,4 +1,4 @@
-// Taking blocks away that have no members.
+// Taking away blocks without members.
 ghost use Rattle.std.specs.Prelude.{◌≡◌, ◌≢◌, ◌∷◌, [], ℕ, false};
 ghost use Rattle.bisim_spec.specs.Views.{support_at};
 ghost use Rattle.quotient_draft.specs.Drafts.{has_member};
@@ -21,7 +21,7 @@ pub(crate) fn retire_if_empty(base: &mut Summary, b: u32)
     }
 }
 
-/// Takes those of the blocks away that have no members.
+/// Takes away the blocks among these that have no members.
 pub(crate) fn retire_all(base: &mut Summary, left: &[u32])
     requires from { (x c : ℕ) → has_member base.old.blocks.block_of x ≡ false → support_at base.old.supports x c ≡ 0 }
     requires onto { (x c : ℕ) → has_member base.old.blocks.block_of x ≡ false → support_at base.old.supports c x ≡ 0 }

@@ -72,7 +72,7 @@ AsksPath line via = AsksWith (codes "path") line via
 abbrev pub AsksBranch : List ℕ → Via → Type 0
 AsksBranch line via = AsksWith (codes "branch") line via
 
--- so they are, and what follows them, without the blanks at both ends, spells the expression
+-- the same, and what follows them, without the blanks at both ends, spells the expression
 abbrev pub SpellsPath : List ℕ → Via → Expr → Type 0
 SpellsPath line via e = AsksPath line via × Spells (expression_text line) e
 
@@ -83,7 +83,7 @@ SpellsBranch line via q = AsksBranch line via × SpellsQuery (expression_text li
 abbrev pub Asks : List ℕ → Type 0
 Asks line = (via : Via) × (AsksPath line via ⊎ AsksBranch line via)
 
--- so it does, and the text of the expression has more bytes than it may, or nests deeper
+-- the same, and the text of the expression has more bytes than it may, or nests deeper
 abbrev pub PassesLimit : Limits → List ℕ → Type 0
 PassesLimit limits line = Asks line × IsTrue (is_past limits (expression_text line))
 

@@ -3,11 +3,11 @@ use Rattle.std.specs.Prelude.{ℕ, ◌≡◌, ◌≢◌, ◌-◌, List, [], ◌�
 use Rattle.std.specs.List.{position_or_len, prefix_len, suffix_len}
 use Rattle.px_spec.specs.Words.{is_blank, words}
 
--- the line without the blanks in front
+-- the line without its leading blanks
 abbrev pub after_blanks : List ℕ → List ℕ
 after_blanks line = drop (prefix_len is_blank line) line
 
--- the text without the blanks behind
+-- the text without its trailing blanks
 abbrev pub before_blanks : List ℕ → List ℕ
 before_blanks text = take (length text - suffix_len is_blank text) text
 

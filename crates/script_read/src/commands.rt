@@ -17,6 +17,12 @@ use std::alloc::Global;
 use thiserror::Error;
 
 /// A command of a script.
+///
+/// The command of a line:
+///
+///     if let Some(Command::Link(from, to)) = read(alloc, b"link n3 n0", &Limits::program())? {
+///         take(from, to);
+///     }
 #[derive(Drop)]
 pub enum Command {
     /// `node LABEL`: one more node, with this label. An IRI is in its canonical spelling, brackets included.
@@ -100,8 +106,8 @@ fn parse_branch(alloc: Global, text: &[u8], limits: &Limits) -> Result<Branch, S
 
 /// The command that the line spells, which is one; None exactly for a blank or comment line. `Limit` comes exactly
 /// where the line asks with an expression that passes a limit, whether or not that is in the language; else `Bad`
-/// exactly where the line is neither a command nor blank nor a comment. `Memory` comes where memory runs out. The
-/// line is without its end. O(m) for m bytes of the line, and at most O(m) bytes of memory.
+/// exactly where the line is neither a command nor blank nor a comment. `Memory` comes where memory runs out. The line
+/// is without its end. O(m) for m bytes of the line; it takes O(m) memory at most.
 #[tactic(auto, using(crate::proofs::CommandLaws::reading_laws))]
 pub fn read(alloc: Global, line: &[u8], limits: &Limits) -> Result<Option<Command>, ScriptError>
     ensures reads { ReadsCommand limits.now line.now result }

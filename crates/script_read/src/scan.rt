@@ -88,7 +88,7 @@ fn scan_query<'a>(word: &'a [u8], rest: &'a [u8]) -> ScannedLine<'a>
     }
 }
 
-/// What the line says. Takes no memory.
+/// What the line says. It takes no memory.
 pub(crate) fn scan(line: &[u8]) -> ScannedLine<'_>
     ensures { IsScanned line.now result }
 {

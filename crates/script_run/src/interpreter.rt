@@ -36,7 +36,7 @@ pub(crate) enum Outcome {
     Bad,
 }
 
-/// Gathers why something is refused. Answers that it is.
+/// Gathers why something is refused, and answers that it is.
 fn refuse(out: &mut Vec<u8>, refusal: Refusal) -> Result<bool, Memory>
     ensures refuses { IfOk result (λ refuses. refuses ≡ true) }
     ensures ok { OnOk result (out.new.items ≡ out.old.items ++ refused_line refusal) }
@@ -172,7 +172,7 @@ fn list_index<L: Ledger>(
     }
 }
 
-/// Gathers the list of an index. Answers whether it was refused, as it is of the graph itself.
+/// Gathers the list of an index. Answers whether it was refused, as a list of the graph itself is.
 fn list<L: Ledger>(
     alloc: Global,
     engine: &mut Engine,

@@ -5,10 +5,7 @@ ghost use Rattle.term_table.specs.Parts.{parts_of, literal_parts, shown_parts, h
 
 use px_base::Text;
 use std::hash::{FoldHasher, Hasher};
-use triples_read::Term;
-
-// The datatype of strings.
-const XSD_STRING: &str = "http://www.w3.org/2001/XMLSchema#string";
+use triples_read::{Term, is_xsd_string};
 
 /// What a term is.
 #[derive(Clone, Copy, PartialEq, Eq)]
@@ -23,7 +20,7 @@ pub(crate) enum Sort {
     Tagged,
 }
 
-/// A term's sort and its texts. Those that a term of its sort doesn't have are empty.
+/// A term's sort and its texts. Texts that a term of its sort doesn't have are empty.
 #[derive(Clone, Copy)]
 pub(crate) struct Parts<'a> {
     pub(crate) sort: Sort,
@@ -56,12 +53,6 @@ pub(crate) fn parts_of(term: &Term) -> Parts<'_>
             tag: tag.as_bytes(),
         },
     }
-}
-
-fn is_xsd_string(datatype: &str) -> bool
-    ensures { result ≡ bytes_eq datatype.now xsd_string }
-{
-    datatype == XSD_STRING
 }
 
 #[inline(always)]

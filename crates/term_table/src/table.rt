@@ -25,7 +25,8 @@ pub struct Found {
     pub number: NodeId,
 }
 
-/// Where a term may stand: its hash, and a place. Nothing is said of hints: they change only how fast a term is found.
+/// Where a term may stand: its hash, and a place. Nothing is promised of hints: they change only how fast a term is
+/// found.
 #[derive(Clone, Copy)]
 pub struct Hint {
     hash: u32,
@@ -106,16 +107,15 @@ impl TermTable {
         search(&self.arena, &self.index, &parts, hash)
     }
 
-    /// The same, of a term whose hash is at hand: only the terms with that hash are compared with it. Expected
-    /// O(b) for texts of b bytes, no memory.
+    /// The same for a term that is hashed already: only the terms with that hash are compared with it. Expected O(b)
+    /// for texts of b bytes, no memory.
     pub fn find_hashed(&self, term: &HashedTerm) -> Option<Found>
         ensures { IsFoundAs self.now term.now result }
     {
         search(&self.arena, &self.index, &term.parts(), term.hash())
     }
 
-    /// The same. The place to which the hint leads is tried first. Expected O(b) for texts of b bytes, no
-    /// memory.
+    /// The same; the place to which the hint leads is tried first. Expected O(b) for texts of b bytes, no memory.
     pub fn find_near(&self, term: &HashedTerm, hint: Option<Hint>) -> Option<Found>
         ensures { IsFoundAs self.now term.now result }
     {
@@ -132,8 +132,8 @@ impl TermTable {
         at_place(&self.arena, &self.index, place, &term.parts())
     }
 
-    /// Puts a term that isn't there behind the others, and gives its place. `Memory` comes where memory runs
-    /// out or the table is full, and leaves the terms. O(b) for texts of b bytes, amortized; it takes the memory that is said of the table.
+    /// Puts a term that isn't there behind the others, and gives its place. `Memory` comes where memory runs out or the table is full, and
+    /// leaves the terms. O(b) for texts of b bytes, amortized; it takes the memory that `TermTable` states for a term.
     pub fn insert(&mut self, term: &HashedTerm, number: NodeId) -> Result<u32, Memory>
         requires absent { number_of self.old term.now ≡ None }
         ensures added { OnOk result (self.new ≡ self.old ++ (term.now, number) ∷ []) }

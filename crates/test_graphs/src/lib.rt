@@ -44,6 +44,17 @@ fn put_edge<L: Ledger>(
     Ok(())
 }
 
+fn put_edges<L: Ledger>(
+    graph: &mut Graph,
+    edges: &[(NodeId, NodeId)],
+    steps: &mut Steps<L>,
+) -> Result<(), Fail> {
+    for (u, v) in edges {
+        put_edge(graph, *u, *v, steps)?;
+    }
+    Ok(())
+}
+
 /// A graph whose nodes have these labels, a byte each, and these edges. It fails where an edge comes twice or one of its ends is no
 /// node. O(n + e) for n nodes and e edges, but for the reads of `Graph::has_edge`; it takes
 /// the memory of the graph.
@@ -57,8 +68,21 @@ pub fn drawn<L: Ledger>(
     for label in labels {
         put_node(alloc, &mut graph, *label)?;
     }
-    for (u, v) in edges {
-        put_edge(&mut graph, *u, *v, steps)?;
-    }
+    put_edges(&mut graph, edges, steps)?;
+    Ok(graph)
+}
+
+/// The edges of two chains of three nodes.
+const CHAINS: &[(NodeId, NodeId)] = &[(0, 1), (1, 2), (3, 4), (4, 5)];
+
+/// Two chains of an `a`, a `b` and a `c`, the nodes 0 to 2 and 3 to 5, and an `x`, the node 6, which has just these further edges. It fails as
+/// `drawn` does, and costs as much.
+pub fn two_chains<L: Ledger>(
+    alloc: Global,
+    further: &[(NodeId, NodeId)],
+    steps: &mut Steps<L>,
+) -> Result<Graph, Fail> {
+    let mut graph = drawn(alloc, b"abcabcx", CHAINS, steps)?;
+    put_edges(&mut graph, further, steps)?;
     Ok(graph)
 }

@@ -10,7 +10,7 @@ PieceOf class Esc s c = One class s c ⊎ Esc s c
 abbrev pub Body : (List ℕ → ℕ → Type 0) → ℕ → List ℕ → List ℕ → List ℕ → Type 0
 Body P e rest v tail = (s : List ℕ) × (rest ≡ encodes s ++ e ∷ tail) × Many P s v
 
--- from the one rest to the other the characters cs are read
+-- the characters cs are read from the one rest to the other
 pub record Step (P : List ℕ → ℕ → Type 0) (e : ℕ) (rest after cs : List ℕ) : Type 0 where
   pub sound : (v tail : List ℕ) → Body P e after v tail → Body P e rest (cs ++ v) tail
   pub complete : (v tail : List ℕ) → Body P e rest v tail → (w : List ℕ) × (v ≡ cs ++ w) × Body P e after w tail

@@ -23,7 +23,7 @@ abbrev pub uchar_at : List ℕ → Option (ℕ × ℕ)
 uchar_at [] = None
 uchar_at (u ∷ bs) = if u == 117 then with_len 6 (scalar_of (hex_at 4 0 bs)) else if u == 85 then with_len 10 (scalar_of (hex_at 8 0 bs)) else None
 
--- What follows a label of which the rest is left to read, where the tail follows its last character other than a dot.
+-- What follows a label whose rest is still to be read; the tail follows its last character other than a dot.
 abbrev pub past_label : List ℕ → List ℕ → List ℕ
 past_label tail [] = tail
 past_label tail (c ∷ cs) = if pn_chars c then past_label cs cs else if c == 46 then past_label tail cs else tail
@@ -38,7 +38,7 @@ abbrev pub string_escape_at : List ℕ → Option (ℕ × ℕ)
 string_escape_at [] = None
 string_escape_at (x ∷ bs) = escape_or (escape_of x) (uchar_at (x ∷ bs))
 
--- what follows the blanks in front
+-- what follows the leading blanks
 abbrev pub past_blanks : List ℕ → List ℕ
 past_blanks [] = []
 past_blanks (b ∷ bs) = if is_blank b then past_blanks bs else b ∷ bs
@@ -48,8 +48,8 @@ abbrev pub tag_part : Bool → ℕ → Bool
 tag_part true = is_letter
 tag_part false = is_letter_or_digit
 
--- What follows a language tag of which the rest is left to read: in its first part or another one, of which
--- nothing was read yet or something. None where a part is empty.
+-- What follows a language tag whose rest is still to be read: whether that is in its first part, and whether nothing of
+-- the part was read yet. None where a part is empty.
 abbrev pub past_tag : Bool → Bool → List ℕ → Option (List ℕ)
 past_tag main fresh [] = if fresh then None else Some []
 past_tag main fresh (c ∷ cs) = if tag_part main c then past_tag main false cs else if fresh then None else if c == 45 then past_tag false true cs else Some (c ∷ cs)

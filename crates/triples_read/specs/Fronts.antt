@@ -10,7 +10,7 @@ use Rattle.triples_read.specs.ByteReaders.{past_label}
 abbrev pub IsText : List ℕ → List ℕ → Type 0
 IsText bytes cs = (bytes ≡ encode_utf8_all cs) × (all_scalars cs ≡ true)
 
--- some characters with the property stand in front, and the rest is the UTF-8 of what follows them
+-- some characters with the property stand at the front, and the rest is the UTF-8 of what follows them
 abbrev pub Front : (List ℕ → Type 0) → List ℕ → List ℕ → Type 0
 Front P cs rest = (s : List ℕ) × (r : List ℕ) × (cs ≡ s ++ r) × IsText rest r × P s
 

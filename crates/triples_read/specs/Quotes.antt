@@ -37,7 +37,7 @@ escape_at Double = string_escape_at
 abbrev pub PieceIn : Quote → List ℕ → ℕ → Type 0
 PieceIn q = PieceOf (inner q) (Escape q)
 
--- quotes around pieces that spell the text stand in front of the tail
+-- quotes around pieces that spell the text stand before the tail
 abbrev pub IsQuoted : Quote → List ℕ → List ℕ → List ℕ → Type 0
 IsQuoted q bytes v tail = (body : List ℕ) × (bytes ≡ opening q ∷ (encodes body ++ closing q ∷ tail)) × Many (PieceIn q) body v
 

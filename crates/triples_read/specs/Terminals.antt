@@ -53,7 +53,7 @@ STRING_LITERAL_QUOTE s v = (body : List ℕ) × (s ≡ 34 ∷ (body ++ 34 ∷ []
 abbrev pub AllOf : (ℕ → Bool) → List ℕ → Type 0
 AllOf class cs = AllByRecursion (λ c. IsScalar c × IsTrue (class c)) cs
 
--- nothing, or one character of the first class or more of which the last is of the second
+-- nothing, or one or more characters of the first class, the last of which is of the second
 abbrev pub EndsIn : (ℕ → Bool) → (ℕ → Bool) → List ℕ → Type 0
 EndsIn inner final cs = (cs ≡ []) ⊎ ((more : List ℕ) × (c : ℕ) × (cs ≡ more ++ c ∷ []) × AllOf inner more × IsScalar c × IsTrue (final c))
 
@@ -65,7 +65,7 @@ IsLabel v = (first : ℕ) × (more : List ℕ) × (v ≡ first ∷ more) × IsSc
 abbrev pub BLANK_NODE_LABEL : List ℕ → List ℕ → Type 0
 BLANK_NODE_LABEL s v = (s ≡ 95 ∷ 58 ∷ v) × IsLabel v
 
--- one character of the class or more
+-- one or more characters of the class
 abbrev pub OneOrMore : (ℕ → Bool) → List ℕ → Type 0
 OneOrMore class cs = (cs ≢ []) × AllOf class cs
 

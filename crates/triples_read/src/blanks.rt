@@ -16,7 +16,7 @@ fn blanks_len(bytes: &[u8]) -> usize
     bytes.iter().take_while(|b| is_blank(**b)).count()
 }
 
-/// What follows the blanks in front.
+/// What follows the leading blanks.
 pub(crate) fn skip_blanks(text: &str) -> &str
     ensures { result.now ≡ past_blanks text.now }
 {

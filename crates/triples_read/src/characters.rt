@@ -21,7 +21,7 @@ fn is_digit(c: u32) -> bool
     from_to(48, 57, c)
 }
 
-/// Whether the character is such a letter or one of 0 to 9.
+/// Whether the character is one of A to Z, a to z and 0 to 9.
 pub(crate) fn is_letter_or_digit(c: u32) -> bool
     ensures { result ≡ letter_or_digit c }
 {
@@ -75,8 +75,8 @@ pub(crate) fn is_label_first(c: char) -> bool
     is_base_or_sign(c) || is_digit(c)
 }
 
-// For each byte a bar where it doesn't stand for itself in an IRIREF, and else the byte itself, or a dot for DEL and for
-// the bytes from 128 on.
+// For each byte: a bar where it doesn't stand for itself in an IRIREF, otherwise the byte itself, or a dot for DEL and
+// for the bytes from 128 on.
 static IRI_MAP: [u8; 256] = *b"\
     ||||||||||||||||||||||||||||||||\
     |!|#$%&'()*+,-./0123456789:;|=|?\

@@ -21,10 +21,10 @@ fn up_to_end(b: &[u8]) -> Option<&[u8]>
     Some(front)
 }
 
-/// The IRI whose IRIREF is at the front of the bytes, with its escapes read, and the length in bytes of that
-/// IRIREF. None exactly where no front of the bytes is an IRIREF (RDF 1.1 N-Triples, section 7). What lies
-/// behind it may be any bytes. O(b) for the b bytes up to the first `>`, or for all of them where there is
-/// none; the IRI is all the memory that it takes.
+/// The IRI whose IRIREF is at the front of the bytes, with its escapes read, and the length in bytes of that IRIREF.
+/// None exactly where no front of the bytes is an IRIREF (RDF 1.1 N-Triples, section 7). Any bytes may follow it. O(b)
+/// for the b bytes up to the first `>`, or for all of them where there is none; the IRI is all the memory that it
+/// takes.
 pub fn read_iri_front(alloc: Global, b: &[u8]) -> Result<Option<(Text, usize)>, Memory>
     // What is read stands at the front.
     ensures found { IfOk result (λ r. IfSome r (λ f. IsIriFront b.now f.1 f.0)) }

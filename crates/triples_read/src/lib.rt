@@ -18,7 +18,7 @@ mod writing;
 pub use iri::read_iri_front;
 pub use line::{LineError, read_line, read_line_with};
 pub use spare::SpareTexts;
-pub use term::{Term, Triple};
+pub use term::{Term, Triple, is_xsd_string};
 pub use triple_test::is_triple;
 pub use writing::{write_term, write_triple};
 

@@ -85,7 +85,7 @@ fn ends_triple(text: &str) -> bool
     is_over(skip_blanks(behind))
 }
 
-// The object of the triple whose predicate was read, where the rest of the line is as it must be.
+// The object of the triple whose predicate was read, if the rest of the line is well formed.
 fn read_last(spare: &mut SpareTexts, text: &str) -> Result<Option<Term>, Memory>
     ensures found { (cs : List ℕ) → IsText text.now cs → IfOk result (λ r. IfSome r (λ o. AfterPredicate cs o)) }
     ensures whole { (cs : List ℕ) (object : Term) → IsText text.now cs → AfterPredicate cs object → IfOk result (λ r. IsSomeAnd r (λ o. o ≡ object)) }
@@ -131,10 +131,10 @@ fn read_triple(spare: &mut SpareTexts, text: &str) -> Result<Option<Triple>, Mem
     }))
 }
 
-/// The triple that a line spells (RDF 1.1 N-Triples, section 7), with its escapes read; None where the line is
-/// blank or a comment. The line is given without its end, so it holds neither LF nor CR. The whole of it must
-/// be UTF-8, its comment too. `Syntax` exactly where it is none of these. O(b) for a line of b bytes; the texts
-/// of the triple are all the memory that it takes.
+/// The triple that a line spells (RDF 1.1 N-Triples, section 7), with its escapes read; None where the line is blank or
+/// a comment. The line is given without its end, so it holds neither LF nor CR. All of it must be UTF-8, including a
+/// comment. `Syntax` exactly where it is none of these. O(b) for a line of b bytes; the texts of the triple are all the
+/// memory that it takes.
 pub fn read_line(alloc: Global, line: &[u8]) -> Result<Option<Triple>, LineError>
     // A triple comes only where the line spells it.
     ensures triple { IfOk result (λ r. IfSome r (λ t. Spells line.now t)) }
@@ -151,8 +151,8 @@ pub fn read_line(alloc: Global, line: &[u8]) -> Result<Option<Triple>, LineError
     read_line_with(&mut spare, line)
 }
 
-/// What `read_line` reads, in texts that take the memory of the spare ones where there are any. O(b) for a line
-/// of b bytes. It takes memory only for texts that are longer than the spare ones, or more than they are.
+/// Reads as `read_line` does, into the memory of the spare texts where there are any. O(b) for a line of b bytes; it
+/// takes memory only for a text that is longer than its spare one, or for which none is left.
 pub fn read_line_with(spare: &mut SpareTexts, line: &[u8]) -> Result<Option<Triple>, LineError>
     // A triple comes only where the line spells it.
     ensures triple { IfOk result (λ r. IfSome r (λ t. Spells line.now t)) }

@@ -11,7 +11,7 @@ use crate::escapes::{string_escape, uchar};
 use crate::spare::SpareTexts;
 use std::alloc::AllocError;
 
-/// What quotes stand around a part.
+/// Which quotes enclose a part.
 #[derive(Clone, Copy)]
 pub(crate) enum Quote {
     /// `<` and `>`, around an IRI.
@@ -42,7 +42,7 @@ impl Quote {
     }
 }
 
-// Where the first byte stands that doesn't stand for itself in an IRIREF.
+// The place of the first byte that doesn't stand for itself in an IRIREF.
 fn iri_run_end(bytes: &[u8]) -> Option<usize>
     ensures { result ≡ position (λ b. not (inner Quote.Angle b)) bytes.now }
 {
@@ -127,7 +127,7 @@ fn take_escape<'a>(
     }
 }
 
-// Takes a run and what follows it: an escape, or the end, behind which the rest is handed out with true.
+// Takes a run and what follows it: an escape, or the end, after which it hands out the rest, with true.
 fn take_piece<'a>(
     quote: Quote,
     text: &mut String,
@@ -152,7 +152,7 @@ fn take_piece<'a>(
     Ok(Some((false, next)))
 }
 
-// Reads what follows the opening quote, up to the closing one; what lies behind it is handed out.
+// Reads what follows the opening quote, up to the closing one, and hands out what lies behind that.
 fn quoted_body<'a>(
     quote: Quote,
     spare: &mut SpareTexts,

@@ -1,4 +1,4 @@
-// Texts that are of no more use, and whose memory the next ones take.
+// Texts that are no longer used, whose memory the next ones take.
 ghost use Rattle.std.specs.Prelude.{◌≡◌, [], IfOk, string_bytes};
 
 use crate::term::{Term, Triple};
@@ -10,11 +10,19 @@ use std::marker::Model;
 // has five at most.
 const KEPT: usize = 128;
 
-/// A text with more memory isn't kept, so long lines don't hold it for good.
+/// A text with more memory isn't kept, so that a long line doesn't hold its memory until the end.
 const KEPT_BYTES: usize = 4096;
 
-/// The texts of triples that are of no more use, for `read_line_with`: the next texts that are read take
-/// their memory. It keeps at most 128, each with at most 4,096 bytes of memory.
+/// Texts of triples that are no longer used, for `read_line_with`: the next texts that are read take their memory. It
+/// keeps at most 128, each with at most 4,096 bytes of memory.
+///
+/// Two lines, where the texts of the second take the memory of the first one's:
+///
+///     let mut spare = SpareTexts::new(alloc);
+///     if let Some(triple) = read_line_with(&mut spare, first)? {
+///         spare.give_back(triple);
+///     }
+///     let triple = read_line_with(&mut spare, second)?;
 #[derive(Drop)]
 pub struct SpareTexts {
     alloc: Global,
@@ -59,7 +67,7 @@ impl SpareTexts {
         Ok(Text::from_string(text))
     }
 
-    /// Takes the texts of a triple, for the next ones. Where they find no room they are dropped. O(1). It takes
+    /// Takes the texts of a triple back, for the next ones. Those for which there is no room are dropped. O(1); it takes
     /// memory only for the list of the texts.
     pub fn give_back(&mut self, triple: Triple) {
         let Triple {

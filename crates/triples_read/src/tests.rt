@@ -66,7 +66,7 @@ fn worked_lines_are_read(rt: HostRuntime) {
     assert!(rt; is_read_as(rt.alloc(), b"# \xFF", "syntax"));
 }
 
-// Whether an IRIREF with this IRI stands in front, and takes so many bytes.
+// Whether an IRIREF with this IRI stands at the front, and takes that many bytes.
 fn has_front(alloc: Global, text: &[u8], iri: &str, len: usize) -> bool {
     match read_iri_front(alloc, text) {
         Ok(Some((read, n))) => read.as_str() == iri && n == len,

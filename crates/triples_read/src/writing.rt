@@ -10,7 +10,7 @@ ghost use Rattle.triples_read.specs.Canonical.{upper_hex as upper_hex_of, iri_ch
 use crate::characters::stands_in_iri;
 use crate::labels::next_char;
 use crate::quoted::Quote;
-use crate::term::{Term, Triple, XSD_STRING};
+use crate::term::{Term, Triple, is_xsd_string};
 use px_base::{Memory, Text};
 use std::alloc::{AllocError, Global};
 
@@ -89,12 +89,6 @@ fn push_label(out: &mut String, label: &str) -> Result<(), AllocError>
 {
     out.push_str("_:")?;
     out.push_str(label)
-}
-
-fn is_xsd_string(datatype: &str) -> bool
-    ensures { result ≡ bytes_eq datatype.now xsd_string }
-{
-    datatype == XSD_STRING
 }
 
 fn push_datatype(out: &mut String, datatype: &str) -> Result<(), AllocError>

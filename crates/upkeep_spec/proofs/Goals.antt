@@ -8,7 +8,7 @@ use Rattle.bisim_spec.specs.Partitions.{Together, IsPartition}
 use Rattle.bisim_spec.specs.Stability.{StableBut}
 use Rattle.bisim_spec.proofs.Bisimilar.{none_or_some, is_some_at}
 use Rattle.bisim_spec.proofs.Together.{together_sym}
-use Rattle.upkeep_spec.specs.Rounds.{MayStayTogether, IsRound, IsRefinement, AreGoals}
+use Rattle.upkeep_spec.specs.Rounds.{MayStayTogether, IsSplitRound, IsRefinement, AreGoals}
 
 abbrev pub is_moved : (ℕ → Option ℕ) → ℕ → Bool
 is_moved goal n = is_some (goal n)
@@ -54,7 +54,7 @@ goals_within s p p2 looked group goal g = record { within = λ u v t. elim (came
 
 -- a round, where the partition was stable but maybe at the nodes that are looked at
 pub goals_round : (s : Shape) (p p2 : List (Option ℕ)) (looked : ℕ → Bool) (group : ℕ → ℕ) (goal : ℕ → Option ℕ) (next : ℕ → Bool) → StableBut s p looked
-    → AreGoals s p p2 looked group goal → ((q n : ℕ) → IsTrue (is_moved goal q) → IsParent s q n → IsTrue (next n)) → IsRound s p p2 (is_moved goal) next
+    → AreGoals s p p2 looked group goal → ((q n : ℕ) → IsTrue (is_moved goal q) → IsParent s q n → IsTrue (next n)) → IsSplitRound s p p2 (is_moved goal) next
 goals_round s p p2 looked group goal next st g children = record {
   kept = λ n h. g.kept n (none_of (goal n) h);
   parted = λ u v t. elim (came s p p2 looked group goal g u v t) [

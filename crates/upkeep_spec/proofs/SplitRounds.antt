@@ -7,10 +7,10 @@ use Rattle.bisim_spec.specs.Partitions.{IsPartition}
 use Rattle.bisim_spec.specs.Stability.{StableBut, Stable}
 use Rattle.bisim_spec.specs.Reach.{reach}
 use Rattle.bisim_spec.proofs.Reached.{reach_step}
-use Rattle.upkeep_spec.specs.Rounds.{IsRound, IsRefinement, SameBut}
+use Rattle.upkeep_spec.specs.Rounds.{IsSplitRound, IsRefinement, SameBut}
 
 -- nodes that have no moved parent are alike after a round where they are together
-pub round_stable : (s : Shape) (p p2 : List (Option ℕ)) (moved next : ℕ → Bool) → IsPartition s p2 → IsRound s p p2 moved next → StableBut s p2 next
+pub round_stable : (s : Shape) (p p2 : List (Option ℕ)) (moved next : ℕ → Bool) → IsPartition s p2 → IsSplitRound s p p2 moved next → StableBut s p2 next
 round_stable s p p2 moved next partition r = record {
   partition = partition;
   label = λ u v nu nv t. (r.parted u v t).label;

@@ -1,14 +1,15 @@
 -- Sums over lists of distinct numbers, and over all numbers below a bound that pass a test.
-use Rattle.std.proofs.Common.{◌≡◌, ◌≢◌, ℕ, zero, suc, ◌+◌, ◌<◌, ◌≤◌, List, [], ◌∷◌, Option, Some, length, refl, sym, ◌∙◌, ap, arith, inl, inr, true, false, Bool, cond}
+use Rattle.std.proofs.Common.{◌≡◌, ◌≢◌, ℕ, zero, suc, ◌+◌, ◌*◌, ◌<◌, ◌≤◌, List, [], ◌∷◌, Option, Some, length, refl, sym, ◌∙◌, ap, arith, inl, inr, true, false, Bool, cond, take, get_or}
 use Rattle.std.specs.Prelude.{nat_eq, not, ◌&&◌}
 use Rattle.std.specs.List.{sum_by, IsDistinct, AllByRecursion}
 use Rattle.std.proofs.lemmas.Bool.{cases_lt, and_parts, and_from, both_ways, not_from_false, or_left, or_right, false_from_ne_true}
 use Rattle.std.proofs.lemmas.Bool.Decides.{eqb_tells, Decides-eqb}
-use Rattle.std.proofs.lemmas.List.Sums.{sum_by-cons}
+use Rattle.std.proofs.lemmas.List.{take_more}
+use Rattle.std.proofs.lemmas.List.Sums.{sum_by-cons, sum_by_push, sum_by-take-le}
 use Rattle.std.proofs.lemmas.Map.Keys.{IsDistinct-head, IsDistinct-tail}
 use Rattle.px_spec.specs.Members.{has, Lists, at, is_this}
 use Rattle.bisim_spec.specs.Below.{count_below}
-use Rattle.bisim_spec.proofs.BelowLaws.{count_strict}
+use Rattle.bisim_spec.proofs.BelowLaws.{count_strict, bit_of}
 use Rattle.bisim_spec.proofs.Moves.{block_get, block_from}
 use Rattle.bisim_spec.specs.Below.{sum_below}
 
@@ -141,4 +142,49 @@ sum_most zero f g h = omega arith
 sum_most (suc n) f g h =
     let a = h n (omega arith) in
     let b = sum_most n f g (λ k l. h k (omega (arith, l))) in
+    omega (arith, a, b)
+
+-- a number is met once
+once_before : (n v : ℕ) → n ≤ v → sum_below n (λ k. cond (nat_eq k v) 1 0) ≡ 0
+once_before zero v h = refl
+once_before (suc n) v h = elim (eqb_tells n v) [
+  | inl s ↦ absurd (let e = s.1 in omega (arith, h, e))
+  | inr d ↦ (
+      let rest = once_before n v (omega (arith, h)) in
+      let here : bit_of (nat_eq n v) ≡ 0 = ap bit_of d.0 in
+      omega (arith, rest, here))
+]
+
+pub once_most : (n v : ℕ) → sum_below n (λ k. cond (nat_eq k v) 1 0) ≤ 1
+once_most zero v = omega arith
+once_most (suc n) v = elim (eqb_tells n v) [
+  | inl s ↦ (
+      let e = s.1 in
+      let rest = once_before n v (omega (arith, e)) in
+      let here : bit_of (nat_eq n v) ≡ 1 = ap bit_of s.0 in
+      omega (arith, rest, here))
+  | inr d ↦ (
+      let rest = once_most n v in
+      let here : bit_of (nat_eq n v) ≡ 0 = ap bit_of d.0 in
+      omega (arith, rest, here))
+]
+
+pub zeros : (n : ℕ) → sum_below n (λ k. 0) ≡ 0
+zeros zero = refl
+zeros (suc n) = (let r = zeros n in omega (arith, r))
+
+-- three times one sum, and two others
+pub sum_three : (n : ℕ) (f g h i : ℕ → ℕ) → ((k : ℕ) → f k ≤ 3 * g k + 2 * h k + i k) → sum_below n f ≤ 3 * sum_below n g + 2 * sum_below n h + sum_below n i
+sum_three zero f g h i e = omega arith
+sum_three (suc n) f g h i e = (let a = e n in let r = sum_three n f g h i e in omega (arith, a, r))
+
+-- one more element of a list
+pub sum_next : (f : ℕ → ℕ) (xs : List ℕ) (i d : ℕ) → i < length xs → sum_by f (take (i + 1) xs) ≡ sum_by f (take i xs) + f (get_or xs i d)
+sum_next f xs i d h = ap (sum_by f) (take_more xs i d h) ∙ sum_by_push f (take i xs) (get_or xs i d)
+
+-- the first elements are at most all
+pub sum_first : (f : ℕ → ℕ) (xs : List ℕ) (i d : ℕ) → i < length xs → sum_by f (take i xs) + f (get_or xs i d) ≤ sum_by f xs
+sum_first f xs i d h =
+    let a = sum_next f xs i d h in
+    let b = sum_by-take-le f xs (i + 1) in
     omega (arith, a, b)

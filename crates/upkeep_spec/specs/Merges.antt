@@ -15,7 +15,7 @@ pub record IsMergeablePair (s : Shape) (p : List (Option ℕ)) (a b : ℕ) : Typ
 pub record IsMerged (a b : ℕ) (p p2 : List (Option ℕ)) : Type 0 where
   pub blocks : (n : ℕ) → at p2 n ≡ merged_at a b (at p n)
 
--- p2 comes of p by merging pairs of blocks, each of which can be merged when its turn comes
+-- p2 results from p by merging pairs of blocks, each of which can be merged when its turn comes
 pub data Merges (s : Shape) (p : List (Option ℕ)) : List (Option ℕ) → Type 0 where
   none : Merges s p p
   one_more : (q p2 : List (Option ℕ)) (a b : ℕ) → Merges s p q → IsMergeablePair s q a b → IsMerged a b q p2 → Merges s p p2

@@ -11,8 +11,8 @@ pub record MayStayTogether (s : Shape) (p : List (Option ℕ)) (u v : ℕ) : Typ
   pub parents : Covers (IsParent s) (Together p) u v
 
 -- Some nodes are moved, the others stay; nodes that are together then were alike before; and the children of moved nodes
--- are looked at next.
-pub record IsRound (s : Shape) (p p2 : List (Option ℕ)) (moved next : ℕ → Bool) : Type 0 where
+-- are examined next.
+pub record IsSplitRound (s : Shape) (p p2 : List (Option ℕ)) (moved next : ℕ → Bool) : Type 0 where
   pub kept : (n : ℕ) → IsFalse (moved n) → at p2 n ≡ at p n
   pub parted : (u v : ℕ) → Together p2 u v → MayStayTogether s p u v
   pub listed : (q n : ℕ) → IsTrue (moved q) → IsParent s q n → IsTrue (next n)
@@ -26,8 +26,8 @@ pub record SameBut (p p2 : List (Option ℕ)) (but : ℕ → Bool) : Type 0 wher
   pub into : (u v : ℕ) → IsFalse (but u) → IsFalse (but v) → Together p u v → Together p2 u v
   pub back : (u v : ℕ) → IsFalse (but u) → IsFalse (but v) → Together p2 u v → Together p u v
 
--- Where the nodes that are looked at go: each is of a group, whose nodes were together and alike; a group goes to a block of
--- its own that had no members, or stays; it stays only where all nodes of its block are looked at, and as the one group of
+-- Where the nodes that are examined go: each is of a group, whose nodes were together and alike; a group goes to a block of
+-- its own that had no members, or stays; it stays only where all nodes of its block are examined, and as the one group of
 -- that block.
 pub record AreGoals (s : Shape) (p p2 : List (Option ℕ)) (looked : ℕ → Bool) (group : ℕ → ℕ) (goal : ℕ → Option ℕ) : Type 0 where
   pub only : (n b : ℕ) → goal n ≡ Some b → IsTrue (looked n)

@@ -1,4 +1,4 @@
--- Blocks that are looked at first when pairs are merged after a split.
+-- Blocks that are examined first when pairs are merged after a split.
 use Rattle.std.specs.Prelude.{◌≡◌, ℕ, Bool, List, Option, Some, IsTrue}
 use Rattle.px_spec.specs.Members.{has, at}
 

@@ -135,8 +135,8 @@ impl Loader {
         }
     }
 
-    // Looks where the triple is put: in the set of those that are known, and, where it isn't there, at the ends of two lists of
-    // neighbours. Where those neighbours are no nodes the hints are dropped.
+    // Reads where the triple would be put: the set of the known triples, and, if it isn't there, the ends of two lists of
+    // neighbours. Where those neighbours aren't nodes, the hints are dropped.
     fn compare_ends(&self, triple: &HashedTriple, hints: Hints) -> Hints {
         if self.is_near(hints) == Some(true) || self.has_ends(hints) {
             hints

@@ -19,4 +19,4 @@ raise-requires-clause-few c =
 pub returns-clause-linked : goal.returns-clause-linked
 returns-clause-linked c =
     level_linked c.args.u c.args.v c.own_block-a.result c.own_block-b.result (level_at c.args.family.now c.args.i) (changes_at c.args.draft.now c.args.i) (changes_at c.raise.new.d c.args.i)
-    c.requires.none c.own_block-a.ensures.block c.own_block-b.ensures.block c.in_ok-raise.ensures.raised c.raise.ensures.blocks c.raise.ensures.labels c.raise.ensures.keys
+    c.requires.none c.own_block-a.ensures.block c.own_block-b.ensures.block c.in_ok-raise.ensures.raised c.raise.ensures.kept.blocks c.raise.ensures.kept.labels c.raise.ensures.kept.keys

@@ -22,4 +22,4 @@ lower-requires-clause-some c =
 pub returns-clause-unlinked : goal.returns-clause-unlinked
 returns-clause-unlinked c =
     level_unlinked c.args.u c.args.v c.own_block-a.result c.own_block-b.result (level_at c.args.family.now c.args.i) (changes_at c.args.draft.now c.args.i) (changes_at c.lower.new.d c.args.i)
-    c.requires.none c.own_block-a.ensures.block c.own_block-b.ensures.block c.in_ok-lower.ensures.lowered c.lower.ensures.blocks c.lower.ensures.labels c.lower.ensures.keys
+    c.requires.none c.own_block-a.ensures.block c.own_block-b.ensures.block c.in_ok-lower.ensures.lowered c.lower.ensures.kept.blocks c.lower.ensures.kept.labels c.lower.ensures.kept.keys

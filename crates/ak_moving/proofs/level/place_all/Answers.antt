@@ -3,8 +3,7 @@ use Rattle.std.proofs.lemmas.List.{take_more}
 use Rattle.graph_update.specs.PendingChanges.{graph_after}
 use Rattle.ak_moving.specs.Costs.{place_cost}
 use Rattle.ak_moving.specs.Placed.{ArePlaced}
-use Rattle.near_nodes.proofs.SearchCosts.{sum_next}
-use Rattle.ak_moving.proofs.PlacingCosts.{sum_first}
+use Rattle.upkeep_spec.proofs.Sums.{sum_first, sum_next}
 use Rattle.ak_moving.proofs.Nodes.{placed_next}
 use Rattle.ak_moving.proofs.level.place_all.Goals as goal
 

@@ -2,7 +2,7 @@ use Rattle.std.proofs.Common.{arith, ◌∙◌, get_or, take}
 use Rattle.std.specs.Prelude.{not, nat_eq}
 use Rattle.px_spec.specs.Members.{has}
 use Rattle.coarsest_partition.specs.Alone.{is_alone}
-use Rattle.block_splitting.proofs.Lists.{has_at, has_more}
+use Rattle.px_spec.proofs.MemberLaws.{has_at, has_more}
 use Rattle.coarsest_partition.proofs.Alone.{wakes_step}
 use Rattle.coarsest_partition.proofs.waking.wake_shared.Goals as goal
 

@@ -2,7 +2,8 @@ use Rattle.std.proofs.Common.{◌||◌, ap, sym, ◌∙◌}
 use Rattle.std.specs.Prelude.{nat_eq}
 use Rattle.px_spec.specs.Members.{has}
 use Rattle.block_partition.specs.Partitions.{is_member}
-use Rattle.extent_report.proofs.RisingLists.{has_push, moved_over}
+use Rattle.px_spec.proofs.MemberLaws.{has_push}
+use Rattle.extent_report.proofs.RisingLists.{moved_over}
 use Rattle.extent_report.proofs.leads.push_members.Goals as goal
 
 pub loop-n-preserved : goal.loop-n-preserved

@@ -5,7 +5,7 @@ use Rattle.px_spec.specs.Shapes.{shape_of}
 use Rattle.graph_update.specs.PendingChanges.{graph_after}
 use Rattle.near_nodes.specs.Costs.{children_cost}
 use Rattle.near_nodes.proofs.MetChildren.{spread_more, stays_at, spread_longer}
-use Rattle.near_nodes.proofs.SearchCosts.{sum_next}
+use Rattle.upkeep_spec.proofs.Sums.{sum_next}
 use Rattle.near_nodes.proofs.reading.spread.Goals as goal
 
 pub node_at-n-requires : goal.node_at-n-requires

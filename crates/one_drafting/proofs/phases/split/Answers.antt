@@ -8,8 +8,15 @@ use Rattle.one_drafting.proofs.PhaseLaws.{one_once, reach_cost}
 use Rattle.one_drafting.proofs.Unreached.{split_reached, split_of}
 use Rattle.one_drafting.proofs.phases.split.Goals as goal
 
-pub split-requires-clause-once : goal.split-requires-clause-once
-split-requires-clause-once g c = one_once c.args.target
+pub split-requires : goal.split-requires
+split-requires g c = record {
+  over = c.requires.over;
+  once = one_once c.args.target;
+  stable = c.requires.stable;
+  named = c.requires.named;
+  none = c.new-made.ensures.items;
+  supports = c.requires.supports;
+}
 
 pub returns-in_err-split-clause-cost : goal.returns-in_err-split-clause-cost
 returns-in_err-split-clause-cost g c =

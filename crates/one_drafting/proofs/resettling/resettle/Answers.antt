@@ -1,18 +1,22 @@
-use Rattle.std.proofs.Common.{sym, subst}
-use Rattle.px_spec.specs.Members.{at}
+use Rattle.std.proofs.Common.{◌∷◌, [], sym, subst}
+use Rattle.px_spec.specs.Members.{at, has}
 use Rattle.label_graph.specs.Views.{label_number}
 use Rattle.graph_update.specs.PendingChanges.{graph_after}
 use Rattle.quotient_draft.specs.Drafts.{shown_blocks, shown_labels, shown_support}
-use Rattle.one_drafting.proofs.PhaseLaws.{one_once, stable_there, few_after, has_graph, reach_cost, stepped, AreAdded}
+use Rattle.one_drafting.proofs.PhaseLaws.{one_once, stable_there, named_off, few_after, has_graph, reach_cost, stepped, AreAdded}
 use Rattle.one_drafting.proofs.resettling.resettle.Goals as goal
 
-pub split-requires-clause-once : goal.split-requires-clause-once
-split-requires-clause-once g c = one_once c.args.target
-
-pub split-requires-clause-stable : goal.split-requires-clause-stable
-split-requires-clause-stable g c =
-    stable_there c.args.after.now.before c.args.after.now.change c.args.target c.args.index.now.base.now c.args.draft.now c.requires.before.graph c.requires.before.graph_after
-    c.requires.before.fits c.requires.target c.requires.changed
+pub split-requires : goal.split-requires
+split-requires g c = record {
+  over = c.requires.changed.over;
+  once = one_once c.args.target;
+  stable = stable_there c.args.after.now.before c.args.after.now.change c.args.target c.args.index.now.base.now c.args.draft.now c.requires.before.graph c.requires.before.graph_after
+      c.requires.before.fits c.requires.target c.requires.changed;
+  named = named_off (has (c.args.target ∷ [])) (shown_blocks c.args.index.now.base.now c.args.draft.now) (at (shown_labels c.args.index.now.base.now c.args.draft.now))
+      (label_number (graph_after c.args.after.now)) c.requires.changed.named;
+  none = c.new-blocks.ensures.items;
+  supports = c.requires.changed.supports;
+}
 
 pub returns-in_err-split-clause-cost : goal.returns-in_err-split-clause-cost
 returns-in_err-split-clause-cost g c =

@@ -1,7 +1,7 @@
 use Rattle.std.proofs.Common.{ap, sym, ◌∙◌, is_some, true≢false, List, Option, ℕ}
 use Rattle.px_spec.specs.Members.{at}
 use Rattle.quotient_draft.specs.Drafts.{shown_labels}
-use Rattle.one_splitting.proofs.Present.{at_put}
+use Rattle.block_partition.proofs.PutNumbers.{at_put}
 use Rattle.one_splitting.proofs.goals.draft_block.Goals as goal
 
 pub returns-clause-empty : goal.returns-clause-empty

@@ -7,7 +7,7 @@ use Rattle.graph_update.specs.PendingChanges.{graph_after}
 use Rattle.quotient_draft.specs.Drafts.{shown_blocks}
 use Rattle.node_moves.specs.Costs.{parents_cost}
 use Rattle.one_splitting.specs.Numbered.{HaveNumbers}
-use Rattle.one_splitting.proofs.ListSums.{sum_next, sum_first}
+use Rattle.upkeep_spec.proofs.Sums.{sum_next, sum_first}
 use Rattle.one_splitting.proofs.NumberedNodes.{numbered_more}
 use Rattle.one_splitting.proofs.keys.number_nodes.Goals as goal
 

@@ -5,7 +5,7 @@ use Rattle.graph_update.specs.PendingChanges.{graph_after}
 use Rattle.quotient_draft.specs.Drafts.{shown_blocks}
 use Rattle.one_splitting.specs.Costs.{move_cost}
 use Rattle.one_splitting.specs.NodeGoals.{goal_at, HaveGone}
-use Rattle.one_splitting.proofs.ListSums.{sum_next, sum_first}
+use Rattle.upkeep_spec.proofs.Sums.{sum_next, sum_first}
 use Rattle.one_splitting.proofs.Gone.{OneMoved, OneListed, gone_more, next_more}
 use Rattle.one_splitting.proofs.Places.{has_place}
 use Rattle.one_splitting.proofs.Present.{partition_moved}

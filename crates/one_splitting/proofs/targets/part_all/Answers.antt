@@ -7,7 +7,7 @@ use Rattle.graph_update.specs.PendingChanges.{graph_after}
 use Rattle.quotient_draft.specs.Drafts.{shown_blocks, shown_labels}
 use Rattle.one_splitting.specs.Costs.{move_cost}
 use Rattle.one_splitting.proofs.Apart.{blocks_none}
-use Rattle.one_splitting.proofs.ListSums.{sum_next, sum_first}
+use Rattle.upkeep_spec.proofs.Sums.{sum_next, sum_first}
 use Rattle.one_splitting.proofs.Ends.{set_distinct}
 use Rattle.one_splitting.proofs.Places.{has_place}
 use Rattle.one_splitting.proofs.Total.{closed_all}
@@ -16,14 +16,14 @@ use Rattle.one_splitting.proofs.targets.part_all.Goals as goal
 
 pub loop-t-init : goal.loop-t-init
 loop-t-init g c = record {
-  over = c.requires.over;
+  over = c.requires.split.over;
   live = c.requires.live;
   parting = λ inside closed within.
       parting_first (shape_of (graph_after c.args.after.now)) inside (shown_blocks c.args.base.now c.args.draft.now) c.new-next.result.list.items c.args.made.now.items (λ n. has (drop 0 c.args.targets.now) n)
-      c.new-next.ensures c.requires.none c.requires.stable;
-  named = c.requires.named;
-  supports = c.requires.supports;
-  made = blocks_none (at (shown_labels c.args.base.now c.args.draft.now)) c.args.made.now.items c.requires.none;
+      c.new-next.ensures c.requires.split.none c.requires.split.stable;
+  named = c.requires.split.named;
+  supports = c.requires.split.supports;
+  made = blocks_none (at (shown_labels c.args.base.now c.args.draft.now)) c.args.made.now.items c.requires.split.none;
   charged = λ w few. omega arith;
   cost = omega arith;
 }
@@ -45,7 +45,7 @@ loop-t-preserved g c =
     let inv = c.loop-t.invariant in
     let ok = c.in_ok-part_one.ensures in
     let below : c.loop-t.t-index < length c.args.targets.now = c.loop-t-test.true in
-    let first = first_at targets i c.requires.once below in
+    let first = first_at targets i c.requires.split.once below in
     let there = has_place targets i below in
     let rest : ℕ → Bool = λ n. has (drop i targets) n in
     let rest2 : ℕ → Bool = λ n. has (drop (i + 1) targets) n in

@@ -31,7 +31,7 @@ pub returns-clause-made : goal.returns-clause-made
 returns-clause-made g c =
     let labels : ℕ → Option ℕ = at (shown_labels c.args.base.now c.args.draft.now) in
     let labels2 : ℕ → Option ℕ = at (shown_labels c.args.base.now c.draft_block.new.draft) in
-    let same : shown_labels c.args.base.now c.move_and_list.new.draft ≡ shown_labels c.args.base.now c.draft_block.new.draft = ap (with_added c.args.base.now.blocks.labels) c.move_and_list.ensures.added in
+    let same : shown_labels c.args.base.now c.move_node.new.draft ≡ shown_labels c.args.base.now c.draft_block.new.draft = ap (with_added c.args.base.now.blocks.labels) c.move_node.ensures.added in
     let keep = labels_kept labels labels2 c.in_ok-b.b c.label.result c.in_ok-b.ensures.free c.in_ok-b.ensures.told in
     let some = is_some_at (labels2 c.in_ok-b.b) c.label.result (told_some labels labels2 c.in_ok-b.b c.label.result c.in_ok-b.ensures.told) in
     subst (λ (ls : List (Option ℕ)). AreBlocks (at ls) c.push.new.self.items) (sym same)
@@ -41,26 +41,25 @@ pub returns-clause-parting : goal.returns-clause-parting
 returns-clause-parting g c = λ inside first rest rest2 closed within is_first a.
     let s = shape_of (graph_after c.args.after.now) in
     let p = shown_blocks c.args.base.now c.args.draft.now in
-    let p2 = shown_blocks c.args.base.now c.move_and_list.new.draft in
+    let p2 = shown_blocks c.args.base.now c.move_node.new.draft in
     let labels : ℕ → Option ℕ = at (shown_labels c.args.base.now c.args.draft.now) in
     let labels2 : ℕ → Option ℕ = at (shown_labels c.args.base.now c.draft_block.new.draft) in
-    let ch = c.in_ok-move_and_list.ensures.next in
     let keep = labels_kept labels labels2 c.in_ok-b.b c.label.result c.in_ok-b.ensures.free c.in_ok-b.ensures.told in
     let some = is_some_at (labels2 c.in_ok-b.b) c.label.result (told_some labels labels2 c.in_ok-b.b c.label.result c.in_ok-b.ensures.told) in
     let blocks = blocks_more labels labels2 c.args.made.now.items c.push.new.self.items c.in_ok-b.b c.requires.made c.in_ok-b.ensures.free keep some c.in_ok-push.ensures.items in
-    part_moves s inside first p p2 c.args.next.now.list.items c.move_and_list.new.next.list.items rest rest2 c.args.made.now.items c.push.new.self.items c.args.target c.in_ok-b.b c.requires.shape closed within
-    c.requires.node (apart_from p (shown_blocks c.args.base.now c.draft_block.new.draft) p2 c.args.target c.in_ok-b.b c.in_ok-b.ensures.empty c.in_ok-b.ensures.stay c.in_ok-move_and_list.ensures.moved)
-    (children_more s c.args.target c.args.next.now.list.items c.move_and_list.new.next.list.items ch.0 ch.1 ch.2) c.in_ok-push.ensures.items blocks.once is_first a
+    part_moves s inside first p p2 c.args.next.now.list.items c.add_children.new.self.list.items rest rest2 c.args.made.now.items c.push.new.self.items c.args.target c.in_ok-b.b c.requires.shape closed within
+    c.requires.node (apart_from p (shown_blocks c.args.base.now c.draft_block.new.draft) p2 c.args.target c.in_ok-b.b c.in_ok-b.ensures.empty c.in_ok-b.ensures.stay c.in_ok-move_node.ensures.moved)
+    (children_more s c.args.target c.args.next.now.list.items c.add_children.new.self.list.items c.move_node.new.near c.in_ok-move_node.ensures.children c.in_ok-add_children.ensures.list) c.in_ok-push.ensures.items blocks.once is_first a
 
 pub returns-clause-named : goal.returns-clause-named
 returns-clause-named g c = λ rest rest2 is_first named.
     let p = shown_blocks c.args.base.now c.args.draft.now in
-    let p2 = shown_blocks c.args.base.now c.move_and_list.new.draft in
+    let p2 = shown_blocks c.args.base.now c.move_node.new.draft in
     let labels : ℕ → Option ℕ = at (shown_labels c.args.base.now c.args.draft.now) in
     let labels2 : ℕ → Option ℕ = at (shown_labels c.args.base.now c.draft_block.new.draft) in
     let names = label_number (graph_after c.args.after.now) in
-    let same : shown_labels c.args.base.now c.move_and_list.new.draft ≡ shown_labels c.args.base.now c.draft_block.new.draft = ap (with_added c.args.base.now.blocks.labels) c.move_and_list.ensures.added in
+    let same : shown_labels c.args.base.now c.move_node.new.draft ≡ shown_labels c.args.base.now c.draft_block.new.draft = ap (with_added c.args.base.now.blocks.labels) c.move_node.ensures.added in
     let keep = labels_kept labels labels2 c.in_ok-b.b c.label.result c.in_ok-b.ensures.free c.in_ok-b.ensures.told in
     subst (λ (ls : List (Option ℕ)). AreNamedOff rest2 p2 (at ls) names) (sym same)
-    (named_moved c.args.target c.in_ok-b.b c.label.result p (shown_blocks c.args.base.now c.draft_block.new.draft) p2 labels labels2 names rest rest2 c.in_ok-b.ensures.stay c.in_ok-move_and_list.ensures.moved
+    (named_moved c.args.target c.in_ok-b.b c.label.result p (shown_blocks c.args.base.now c.draft_block.new.draft) p2 labels labels2 names rest rest2 c.in_ok-b.ensures.stay c.in_ok-move_node.ensures.moved
     (told_some labels labels2 c.in_ok-b.b c.label.result c.in_ok-b.ensures.told) c.label.ensures.number keep is_first named)

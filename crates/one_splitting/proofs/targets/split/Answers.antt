@@ -1,20 +1,38 @@
-use Rattle.std.proofs.Common.{◌≡◌, ◌+◌, ◌-◌, ◌*◌, ◌<◌, ◌⊎◌, ℕ, length, arith, sym, ap, subst, ◌∙◌, refl, true, false, Bool, inl, inr, rules}
+use Rattle.std.proofs.Common.{◌≡◌, ◌+◌, ◌-◌, ◌*◌, ◌<◌, ◌⊎◌, ℕ, Option, length, arith, sym, ap, subst, ◌∙◌, refl, true, false, Bool, inl, inr, rules}
 use Rattle.std.specs.Prelude.{nat_eq}
 use Rattle.std.specs.List.{IsDistinct, sum_by}
-use Rattle.px_spec.specs.Members.{has}
+use Rattle.px_spec.specs.Members.{at, has}
 use Rattle.px_spec.specs.Shapes.{shape_of}
 use Rattle.px_spec.proofs.GraphLaws.{is_shape}
 use Rattle.label_graph.specs.Views.{label_number}
 use Rattle.bisim_spec.specs.Weights.{weight, size_of}
 use Rattle.upkeep_spec.specs.Splits.{IsSplitInside}
 use Rattle.graph_update.specs.PendingChanges.{graph_after}
-use Rattle.quotient_draft.specs.Drafts.{shown_blocks}
+use Rattle.quotient_draft.specs.Drafts.{shown_blocks, shown_labels}
 use Rattle.one_splitting.specs.Costs.{round_cost}
 use Rattle.one_splitting.proofs.Bounds.{size_most}
 use Rattle.one_splitting.proofs.Total.{closed_all, made_few, most_done, cost_more, most_within, round_within, next_heavy, left_falls, few_nodes, not_done}
 use Rattle.one_splitting.proofs.Light.{targets_light, target_most, light_within, cost_charged}
-use Rattle.one_splitting.proofs.Present.{ArePresent, node_present, target_present}
+use Rattle.one_splitting.proofs.Present.{ArePresent, node_present, target_present, stable_present, named_present}
 use Rattle.one_splitting.proofs.targets.split.Goals as goal
+
+pub part_all-requires-clause-split : goal.part_all-requires-clause-split
+part_all-requires-clause-split g c =
+    let s = shape_of (graph_after c.args.after.now) in
+    let p = shown_blocks c.args.base.now c.args.draft.now in
+    let labels : ℕ → Option ℕ = at (shown_labels c.args.base.now c.args.draft.now) in
+    let names = label_number (graph_after c.args.after.now) in
+    let targets = has c.args.targets.now in
+    let nodes = c.deref.result.now in
+    let present : ArePresent p targets (has nodes) = record { each = λ n. ap (λ xs. has xs n) c.deref.ensures.value ∙ c.in_ok-present.ensures.those n } in
+    record {
+      over = c.requires.over;
+      once = subst (IsDistinct nat_eq) (sym c.deref.ensures.value) c.in_ok-present.ensures.once;
+      stable = stable_present s p targets (has nodes) present c.requires.stable;
+      named = named_present p labels names targets (has nodes) present c.requires.named;
+      none = c.requires.none;
+      supports = c.requires.supports;
+    }
 
 pub returns-in_err-next-clause-cost : goal.returns-in_err-next-clause-cost
 returns-in_err-next-clause-cost g c = λ inside closed within.

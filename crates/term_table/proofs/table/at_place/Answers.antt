@@ -1,4 +1,4 @@
-use Rattle.std.proofs.Common.{◌≡◌, ◌∙◌, ap, sym, refl, arith}
+use Rattle.std.proofs.Common.{◌∙◌, ap, sym, refl, arith}
 use Rattle.term_table.specs.Entries.{parts_in}
 use Rattle.term_table.proofs.FoundLemmas.{found_as}
 use Rattle.term_table.proofs.table.at_place.Goals as goal

@@ -1,4 +1,4 @@
-use Rattle.std.proofs.Common.{◌≡◌, refl, ap, ◌∙◌}
+use Rattle.std.proofs.Common.{refl}
 use Rattle.std.proofs.lemmas.Result.{err_from_is_err_and}
 use Rattle.term_table.specs.declared.entries.Entry.{Entry}
 use Rattle.term_table.specs.Parts.{parts_of, shown_parts}

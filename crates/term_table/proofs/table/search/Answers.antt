@@ -1,6 +1,6 @@
-use Rattle.std.proofs.Common.{◌≡◌, ◌<◌, ◌∙◌, ap, sym, subst, refl, arith, length, Some, None}
+use Rattle.std.proofs.Common.{◌∙◌, ap, sym, subst, refl, arith, Some, None}
 use Rattle.term_table.specs.Parts.{shown_parts}
-use Rattle.term_table.specs.Entries.{LackParts, parts_in, entry_at}
+use Rattle.term_table.specs.Entries.{LackParts, parts_in}
 use Rattle.term_table.proofs.FoundLemmas.{found_as, absent_as}
 use Rattle.term_table.proofs.Spelled.{IsTermSearch, search_on, search_end}
 use Rattle.term_table.proofs.table.search.Goals as goal

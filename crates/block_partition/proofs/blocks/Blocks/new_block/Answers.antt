@@ -1,6 +1,6 @@
 use Rattle.std.proofs.Common.{◌∙◌, ap}
 use Rattle.px_spec.specs.Members.{at}
-use Rattle.block_partition.proofs.Growth.{at_put}
+use Rattle.block_partition.proofs.PutNumbers.{at_put}
 use Rattle.block_partition.proofs.blocks.Blocks.new_block.Goals as goal
 
 pub returns-then-b-span-clause-labels : goal.returns-then-b-span-clause-labels

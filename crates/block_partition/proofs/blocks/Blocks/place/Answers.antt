@@ -2,7 +2,8 @@ use Rattle.std.proofs.Common.{◌≡◌, ◌∙◌, ap, add-one, Some}
 use Rattle.px_spec.specs.Members.{at}
 use Rattle.block_partition.specs.Partitions.{with_move, with_member}
 use Rattle.block_partition.specs.Tables.{with_length}
-use Rattle.block_partition.proofs.Growth.{member_steps, at_put}
+use Rattle.block_partition.proofs.Growth.{member_steps}
+use Rattle.block_partition.proofs.PutNumbers.{at_put}
 use Rattle.block_partition.proofs.blocks.Blocks.place.Goals as goal
 
 pub returns-clause-placed : goal.returns-clause-placed

@@ -2,7 +2,7 @@ use Rattle.std.proofs.Common.{◌≡◌, ℕ, Some, cond, take}
 use Rattle.px_spec.specs.Members.{at, has}
 use Rattle.quotient_draft.specs.Drafts.{shown_blocks}
 use Rattle.quotient_draft.specs.Basis.{IsOver}
-use Rattle.block_joining.proofs.joining.move_all.Given as goal
+use Rattle.block_joining.proofs.one_block.move_all.Given as goal
 
 abbrev pub invariant-loop-i : goal.invariant-loop-i
 invariant-loop-i l = record {

@@ -7,7 +7,7 @@ use Rattle.quotient_draft.specs.Drafts.{shown_labels, shown_blocks, shown_suppor
 use Rattle.block_joining.specs.Mates.{shown_joined}
 use Rattle.block_joining.specs.Merged.{merged_support, HasGraph}
 use Rattle.block_joining.proofs.Joined.{graph_merged, supports_merged, viewed_merged, merged_by}
-use Rattle.block_joining.proofs.joining.join.Goals as goal
+use Rattle.block_joining.proofs.one_block.join.Goals as goal
 
 pub returns-clause-merged : goal.returns-clause-merged
 returns-clause-merged c =

@@ -1,6 +1,6 @@
 use Rattle.std.proofs.Common.{◌≤◌, vec_len}
 use Rattle.block_splitting.specs.Chosen.{KeepersBelow}
-use Rattle.block_splitting.proofs.keeping.note_keepers.Given as goal
+use Rattle.block_splitting.proofs.keepers.note_keepers.Given as goal
 
 abbrev pub invariant-loop-k : goal.invariant-loop-k
 invariant-loop-k l = record {

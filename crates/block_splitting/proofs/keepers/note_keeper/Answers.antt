@@ -1,7 +1,7 @@
 use Rattle.std.proofs.Common.{◌<◌, arith, sym, ◌∙◌, subst, length}
 use Rattle.block_splitting.specs.Chosen.{HasFirst}
 use Rattle.block_splitting.proofs.Choices.{keepers_set, keepers_stay, get_any}
-use Rattle.block_splitting.proofs.keeping.note_keeper.Goals as goal
+use Rattle.block_splitting.proofs.keepers.note_keeper.Goals as goal
 
 pub index-before-requires : goal.index-before-requires
 index-before-requires c = let o = c.requires.keyed c.args.k _ c.key.ensures in let e = c.own_number-own.ensures o.0 o.1 in let l = o.2 in omega (arith, e, l)

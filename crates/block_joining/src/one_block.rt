@@ -18,11 +18,11 @@ use px_base::{Memory, NodeId};
 use quotient::Summary;
 use quotient_draft::Draft;
 
-/// Drafts that the members of block `b` go to block `a`, where the two can be merged. Each member of `b` is
-/// moved, and each block next to `b` written once; so `b` had better be the smaller of the two. `list` is room
-/// that is used again. Where memory runs out, the draft may have a part of it.
+/// Drafts that the members of block `b` go to block `a`, where the two can be merged. Each member of `b` is moved, and
+/// each block next to `b` written once; so `b` should be the smaller of the two. `list` is memory to be reused. Where
+/// memory runs out, the draft may hold a part of this.
 ///
-/// Expected O(s log s) for s members, parents and children of `b` in the base and as drafted; the draft takes O(s) memory more.
+/// Expected O(s log s) for s members, parents and children of `b` in the base and as drafted; it takes O(s) memory, by which the draft grows.
 pub fn join(
     base: &Summary,
     draft: &mut Draft,

@@ -4,7 +4,7 @@ use Rattle.px_spec.specs.Members.{at, Lists}
 use Rattle.quotient_draft.specs.Drafts.{shown_labels, shown_blocks}
 use Rattle.block_joining.specs.Mates.{shown_joined, met}
 use Rattle.block_joining.proofs.MateLaws.{mates_from, covered_listed, no_mates_label, no_mates_there, no_mates_back, no_mates_swap, no_mates_unmet}
-use Rattle.block_joining.proofs.mates.mergeable.Goals as goal
+use Rattle.block_joining.proofs.mates.can_join.Goals as goal
 
 pub returns-then-not-same_label-clause-no : goal.returns-then-not-same_label-clause-no
 returns-then-not-same_label-clause-no c = λ _.
