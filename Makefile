@@ -19,7 +19,7 @@ help:
 
 run:
 	@$(NEEDS_RT)
-	@echo 'Proving and building the program. The first time takes 25 to 30 minutes on four cores; bin/run.log lists the crates that are proved.'
+	@echo 'Proving and building the program. The first time takes about half an hour on four cores; bin/run.log lists the crates that are proved.'
 	@mkdir -p bin
 	@(cd $(PROGRAM) && rt all check --jobs $(JOBS)) >bin/run.log 2>&1 || { status=$$?; cat bin/run.log; exit $$status; }
 	@cd $(PROGRAM) && rt run -- ../../examples/foaf.script --graph ../../examples/foaf.nt >../../bin/foaf.out 2>>../../bin/run.log \
