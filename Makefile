@@ -11,26 +11,33 @@ COUNTER := crates/triples_count
 JOBS ?= 14
 NEEDS_RT = command -v rt >/dev/null || { echo "make $@: the command rt of the Rattle kit isn't on the path" >&2; exit 1; }
 
+# Runs the program on a script and, if one is named, a graph file; it is compiled, and nothing is proved.
+unproved = cd $(PROGRAM) && rt try --data s='$(abspath $(1))' $(if $(2),--data g='$(abspath $(2))') -- s $(if $(2),--graph g)
+
 help:
-	@echo 'make run               prove and build the program, and run examples/foaf.script'
+	@echo 'make run               run examples/foaf.script at once, and then prove and build the program'
 	@echo 'make test              the gate: each proof, each edit that must be refused, each test, program and example'
 	@echo 'make try SCRIPT=FILE   run a script without proving anything, for a first look; GRAPH=FILE names a graph file'
 	@echo 'make bench             measure bin/pathindex on generated scripts and graph files, and triples_count beside serdi'
 
 run:
 	@$(NEEDS_RT)
-	@echo 'Proving and building the program. The first time takes about half an hour on four cores; bin/run.log lists the crates that are proved.'
 	@mkdir -p bin
+	@echo 'The graph examples/foaf.nt:'
+	@sed 's/^/    /' examples/foaf.nt
+	@echo 'The script examples/foaf.script:'
+	@sed 's/^/    /' examples/foaf.script
+	@echo 'What the program writes, from a build that nothing has proved yet (in about a minute):'
+	@$(call unproved,examples/foaf.script,examples/foaf.nt) >$(abspath bin/unproved.out) 2>$(abspath bin/run.log) \
+		|| { status=$$?; cat $(abspath bin/run.log bin/unproved.out); exit $$status; }
+	@sed 's/^/    /' bin/unproved.out
+	@echo 'Proving and building bin/pathindex. The first time takes about half an hour on four cores; bin/run.log lists the crates that are proved.'
 	@(cd $(PROGRAM) && rt all check --jobs $(JOBS)) >bin/run.log 2>&1 || { status=$$?; cat bin/run.log; exit $$status; }
 	@cd $(PROGRAM) && rt run -- ../../examples/foaf.script --graph ../../examples/foaf.nt >../../bin/foaf.out 2>>../../bin/run.log \
 		|| { status=$$?; cat ../../bin/run.log ../../bin/foaf.out; exit $$status; }
 	@cp $(PROGRAM)/out/pathindex_main bin/pathindex
-	@echo 'bin/pathindex is built. The graph examples/foaf.nt:'
-	@sed 's/^/    /' examples/foaf.nt
-	@echo 'The script examples/foaf.script:'
-	@sed 's/^/    /' examples/foaf.script
-	@echo 'What bin/pathindex examples/foaf.script --graph examples/foaf.nt writes:'
-	@sed 's/^/    /' bin/foaf.out
+	@diff bin/unproved.out bin/foaf.out || { echo 'make run: the proved program writes something else, as the lines above show' >&2; exit 1; }
+	@echo 'bin/pathindex is proved and built, and writes the same.'
 
 test:
 	@$(NEEDS_RT)
@@ -41,9 +48,9 @@ try:
 	@$(NEEDS_RT)
 	@test -n '$(SCRIPT)' || { echo 'make try: name a script, as in make try SCRIPT=examples/first.script' >&2; exit 1; }
 	@test -f '$(SCRIPT)' || { echo 'make try: there is no file $(SCRIPT)' >&2; exit 1; }
-	@echo 'A first look: the program is compiled, and nothing is proved.'
 	@test -z '$(GRAPH)' || test -f '$(GRAPH)' || { echo 'make try: there is no file $(GRAPH)' >&2; exit 1; }
-	@cd $(PROGRAM) && rt try --data s='$(abspath $(SCRIPT))' $(if $(GRAPH),--data g='$(abspath $(GRAPH))') -- s $(if $(GRAPH),--graph g)
+	@echo 'A first look: the program is compiled, and nothing is proved.'
+	@$(call unproved,$(SCRIPT),$(GRAPH))
 
 bench:
 	@command -v python3 >/dev/null || { echo "make bench: python3 isn't on the path" >&2; exit 1; }

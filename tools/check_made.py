@@ -6,10 +6,10 @@ with the three queries through each index. Before and after the steps all indexe
 and its exit status, must be what the definitions in check_by_definition.py give of the graph as it is then, and all answers to a query
 must be the same nodes. The first output that is wrong ends the tool with the status 1.
 
-Before that the facts in examples/made-1.out are compared with those of the whole texts of the seed 1. They are found in Python alone,
-by keys of nodes in place of pairs: the classes of each index are refined until they stay, and walks are followed from node to node. With
-no PROGRAM that is all. Else the program is asked over its whole graph file too, after the first 40 changes, and the nodes of each answer are
-compared.
+Before that the facts in crates/pathindex_main/stdout, which the program writes for the seed 1, are compared with those of the whole texts
+of that seed. They are found in Python alone, by keys of nodes in place of pairs: the classes of each index are refined until they stay, and
+walks are followed from node to node. With no PROGRAM that is all. Else the program is asked over its whole graph file too, after the first 40
+changes, and the nodes of each answer are compared.
 """
 import pathlib
 import re
@@ -23,7 +23,7 @@ from check_by_definition import (
 )
 from made_texts import Draws, graph_file, script
 
-MADE = pathlib.Path(__file__).resolve().parent.parent / "examples" / "made-1.out"
+MADE = pathlib.Path(__file__).resolve().parent.parent / "crates/pathindex_main/stdout"
 SEEDS = [1, 2, 18446744073709551615]
 # of a script the first changes, the last lines, which write sizes and ask each query through each of these, and the lines of the sizes
 FIRST, ASKED, SIZES = 40, 13, 6

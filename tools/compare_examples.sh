@@ -1,13 +1,11 @@
 #!/usr/bin/env bash
 # Runs each script of examples/ on the program, with the words of NAME.words behind its name where there is such a
 # file, one a line. Compares what it writes with NAME.out, and its exit status with NAME.status, which is 0 where
-# there is no such file. Then runs the texts that are made from the seed 1, which write made-1.out: tools/check_made.py
-# finds the same lines without the program. That run is stopped after a minute, of which it needs a small part.
+# there is no such file.
 set -eu
 cd "$(dirname "$0")/.."
 program=${1:?usage: tools/compare_examples.sh PROGRAM}
 [ -x "$program" ] || { echo "$program: there is no such program" >&2; exit 1; }
-run=("$program")
 written=$(mktemp)
 trap 'rm -f "$written"' EXIT
 failed=0
@@ -16,7 +14,7 @@ failed=0
 compare() {
     local name=$1 wanted=$2 status=0
     shift 2
-    "${run[@]}" "$@" >"$written" || status=$?
+    "$program" "$@" >"$written" || status=$?
     if ! diff -u "$name.out" "$written"; then
         echo "FAILED $*: it writes something else"
         failed=1
@@ -36,6 +34,4 @@ for script in examples/*.script; do
     [ ! -f "$name.words" ] || mapfile -t words <"$name.words"
     compare "$name" "$wanted" "$script" "${words[@]}"
 done
-run=(timeout 60 "$program")
-compare examples/made-1 0 --make 1
 exit "$failed"
