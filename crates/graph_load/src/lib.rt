@@ -1,4 +1,6 @@
 //! Graph files: the graph of the triples of an N-Triples text.
+//!
+//! A text loads to at most one outcome (`proofs/OneOutcome.antt`). The first refused line decides, whatever follows it.
 #![tactic(auto)]
 
 mod batch;
