@@ -1,5 +1,5 @@
 -- What holds of the tables of each partition.
-use Rattle.std.specs.Prelude.{◌≡◌, ℕ, ◌+◌, ◌*◌, ◌<◌, ◌≤◌, ◌^◌, List, length, Option, None, Some, IsSome, is_some, slice_index, nat_eq}
+use Rattle.std.specs.Prelude.{◌≡◌, ℕ, ◌+◌, ◌*◌, ◌<◌, ◌≤◌, ◌^◌, List, length, Option, None, Some, IsSome, is_some, slice_index, nat_eq, Vec, vec_capacity}
 use Rattle.std.specs.List.{count_by, IsDistinct}
 use Rattle.px_spec.specs.Members.{at, has, is_this}
 use Rattle.block_partition.specs.Tables.{Table, Gaps, NumberSet, full_at, gap_room, group}
@@ -82,6 +82,7 @@ pub record BlocksFit (count first labels sizes freed span live more : ℕ) : Typ
   pub places_fit : count + more ≤ span
   pub live_fit : count + more ≤ live
 
+-- the tables are those of a partition, with room for that many more nodes and blocks
 pub record IsSoundPartition (block next prev first : Table) (labels : List (Option ℕ)) (labels_capacity : ℕ) (sizes : List ℕ)
     (sizes_capacity : ℕ) (freed : Gaps) (live : NumberSet) (node_room block_room : ℕ) : Type 0 where
   pub mirrored : AreMirrored block.places next.places prev.places first.places
@@ -89,3 +90,8 @@ pub record IsSoundPartition (block next prev first : Table) (labels : List (Opti
   pub tables : AreTables first.places labels sizes freed live
   pub nodes_fit : NodesFit block next prev node_room
   pub blocks_fit : BlocksFit (length live.numbers) first.capacity labels_capacity sizes_capacity (gap_room freed) live.span live.capacity block_room
+
+-- the same, of the vectors of labels and of counts
+abbrev pub AreSoundTables : {Z : Type 0} → Table → Table → Table → Table → Vec (Option ℕ) Z → Vec ℕ Z → Gaps → NumberSet → ℕ → ℕ → Type 0
+AreSoundTables block next prev first labels sizes freed live node_room block_room =
+    IsSoundPartition block next prev first labels.items (vec_capacity labels) sizes.items (vec_capacity sizes) freed live node_room block_room

@@ -41,15 +41,14 @@ pub struct Blocks {
 }
 
 impl Model for Blocks {
-    ghost use Rattle.std.specs.Prelude.{vec_capacity};
     ghost use Rattle.block_partition.specs.Partitions.{Partition};
-    ghost use Rattle.block_partition.specs.Soundness.{IsSoundPartition};
+    ghost use Rattle.block_partition.specs.Soundness.{AreSoundTables};
 
     ghost Value = { Partition };
 
     ghost view = { λ b. record { block_of = b.block.places; labels = b.labels.items; room = record { nodes = b.node_room; blocks = b.block_room } } };
 
-    ghost invariant = { λ b. IsSoundPartition b.block b.next b.prev b.first b.labels.items (vec_capacity b.labels) b.sizes.items (vec_capacity b.sizes) b.freed b.live b.node_room b.block_room };
+    ghost invariant = { λ b. AreSoundTables b.block b.next b.prev b.first b.labels b.sizes b.freed b.live b.node_room b.block_room };
 }
 
 // Reading.
