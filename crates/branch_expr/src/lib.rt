@@ -1,4 +1,4 @@
-//! Branching queries as trees: their answers over any graph, and their relaxed forms; and sets of nodes, with where an axis leads from them.
+//! Branching queries as trees: their answers over any graph, and their relaxed forms.
 #![tactic(auto)]
 
 mod answers;
