@@ -70,3 +70,27 @@ pub record IsSoundQuotient (p : Partition) (t : SupportTable) (children parents 
   pub live : AreLive p t
   pub length_children : length p.labels ≤ length children
   pub length_parents : length children ≤ length parents
+
+-- the support of this pair rises by one, and no other changes
+abbrev pub RaisesPair : ℕ → ℕ → (ℕ → ℕ → ℕ) → (ℕ → ℕ → ℕ) → Type 0
+RaisesPair a b support support2 = (x y : ℕ) → support2 x y ≡ support x y + one_if (nat_eq x a && nat_eq y b)
+
+-- the support of this pair falls by one, and no other changes
+abbrev pub LowersPair : ℕ → ℕ → (ℕ → ℕ → ℕ) → (ℕ → ℕ → ℕ) → Type 0
+LowersPair a b support support2 = (x y : ℕ) → support2 x y + one_if (nat_eq x a && nat_eq y b) ≡ support x y
+
+-- the second list has one pair more, where there is one that passes
+abbrev pub AddsPairIf : (ℕ → ℕ → Bool) → List (ℕ × ℕ) → List (ℕ × ℕ) → Type 0
+AddsPairIf passes pairs pairs2 = (x y : ℕ) → pairs_with pairs2 x y ≡ pairs_with pairs x y + one_if (passes x y)
+
+-- the support of two blocks once the pairs of a list are counted too
+abbrev pub support_with : SupportTable → List (ℕ × ℕ) → ℕ → ℕ → ℕ
+support_with t pairs x y = support_at t x y + pairs_with pairs x y
+
+-- the pairs of the list are counted, and no others
+abbrev pub CountsPairs : List (ℕ × ℕ) → SupportTable → SupportTable → Type 0
+CountsPairs pairs t t2 = (x y : ℕ) → support_at t2 x y ≡ support_with t pairs x y
+
+-- what is counted and what is still gathered are together as many as before
+abbrev pub SameTotals : SupportTable → List (ℕ × ℕ) → SupportTable → List (ℕ × ℕ) → Type 0
+SameTotals t pairs t2 pairs2 = (x y : ℕ) → support_with t2 pairs2 x y ≡ support_with t pairs x y

@@ -4,7 +4,7 @@ use Rattle.std.specs.Coded.{Coded, code_by, coded×, coded_ℕ}
 use Rattle.std.specs.FinMap as table
 use Rattle.px_spec.specs.Graphs.{edge_cmp}
 use Rattle.bisim_spec.specs.Views.{SupportTable}
-use Rattle.quotient.specs.Quotients.{with_support}
+use Rattle.quotient.specs.Quotients.{PairRoom, with_support}
 use Rattle.quotient.specs.Joined.{AreNear, one_if}
 
 -- supports, and how many more pairs fit with no more memory
@@ -24,6 +24,10 @@ pairs_code =
 pub record KeptLists : Type 0 where
   pub lists : List (List ℕ)
   pub room : List ℕ
+
+-- what there is room for in the tables of supports, of children and of parents
+abbrev pub room_of : KeptPairs → KeptLists → KeptLists → PairRoom
+room_of supports children parents = record { span = length children.lists; pairs = supports.room; children = children.room; parents = parents.room }
 
 -- each list has as much room as before, but this one may have room for one fewer
 pub record UsesOne (n : ℕ) (old new : List ℕ) : Type 0 where

@@ -1,13 +1,14 @@
 -- The quotient of a graph by a partition of its nodes: how many edges lead from one block to another. It is the index graph
 -- of the partition (T. Milo and D. Suciu, ICDT 1999; support counts: K. Yi, H. He, I. Stanoi and J. Yang, SIGMOD 2004).
-use Rattle.std.specs.Prelude.{ℕ, ◌≡◌, ◌&&◌, Bool, List, [], Option, None, Some, is_some, cond, slice_set, nat_eq, nat_lt, refl}
+use Rattle.std.specs.Prelude.{ℕ, ◌≡◌, ◌&&◌, Bool, List, [], Option, None, Some, is_some, cond, slice_set, nat_eq, nat_lt, refl, length}
 use Rattle.std.specs.Coded.{Coded, code_by, coded×, coded_ℕ, coded_list, coded_option}
 use Rattle.std.specs.FinMap as table
 use Rattle.px_spec.specs.Graphs.{Edges, edge_cmp}
 use Rattle.px_spec.specs.Members.{at}
+use Rattle.px_spec.specs.Shapes.{shape_by}
 use Rattle.block_partition.specs.Partitions.{Partition, put}
 use Rattle.bisim_spec.specs.Supports.{edges_between}
-use Rattle.bisim_spec.specs.Views.{View, SupportTable, support_at}
+use Rattle.bisim_spec.specs.Views.{View, SupportTable, support_at, shape_of_view}
 
 -- what there is room for
 pub record PairRoom : Type 0 where
@@ -56,6 +57,10 @@ pair_count supports = table.len (table.retain_keys supports (λ p. nat_lt 0 (sup
 -- whether an edge of the index graph leads from a to b: both are blocks, and they have support
 abbrev pub is_joined : Quotient → ℕ → ℕ → Bool
 is_joined q a b = nat_lt 0 (support_at q.supports a b) && (is_some (at q.blocks.labels a) && is_some (at q.blocks.labels b))
+
+-- whatever the texts of the labels: as a graph, the quotient has the shape of its view
+abbrev pub HasShapeOfView : Quotient → Type 0
+HasShapeOfView q = (texts : List (List ℕ)) → shape_by texts (length q.blocks.labels) (at q.blocks.labels) (is_joined q) ≡ shape_of_view texts (view_of q)
 
 -- the supports, with this one for the pair; a pair without support isn't in the table
 abbrev pub with_support : SupportTable → ℕ × ℕ → ℕ → SupportTable

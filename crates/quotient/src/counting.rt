@@ -1,9 +1,9 @@
 // Counting edges between the blocks of their ends.
-ghost use Rattle.std.specs.Prelude.{◌≡◌, ◌+◌, ◌-◌, ◌<◌, ◌≤◌, ◌^◌, ◌&&◌, ℕ, IfOk, IfSome, OnOk, length, nat_eq};
+ghost use Rattle.std.specs.Prelude.{◌≡◌, ◌-◌, ◌<◌, ◌≤◌, ◌^◌, ◌&&◌, ℕ, IfOk, IfSome, OnOk, length, nat_eq};
 ghost use Rattle.px_spec.specs.Members.{is_this};
 ghost use Rattle.bisim_spec.specs.Supports.{joins, support};
 ghost use Rattle.bisim_spec.specs.Views.{support_at};
-ghost use Rattle.quotient.specs.Joined.{AreNear, AreLive, AreBelow, AreFew, one_if, pairs_with};
+ghost use Rattle.quotient.specs.Joined.{AreNear, AreLive, AreBelow, AreFew, AddsPairIf, CountsPairs, SameTotals, support_with};
 
 use crate::joins::Joins;
 use block_partition::Blocks;
@@ -24,7 +24,7 @@ fn push_pair(
     requires from { IfSome from (λ a. a < span) }
     requires onto { IfSome onto (λ b. b < span) }
     requires below { AreBelow span pairs.old.items }
-    ensures pairs { OnOk result ((x y : ℕ) → pairs_with pairs.new.items x y ≡ pairs_with pairs.old.items x y + one_if (is_this x from && is_this y onto)) }
+    ensures pairs { OnOk result (AddsPairIf (λ x y. is_this x from && is_this y onto) pairs.old.items pairs.new.items) }
     ensures below { OnOk result (AreBelow span pairs.new.items) }
 {
     let Some(a) = from else { return Ok(()) };
@@ -42,7 +42,7 @@ fn gather_edge(
     onto: NodeId,
 ) -> Result<(), Memory>
     requires below { AreBelow (length blocks.now.labels) pairs.old.items }
-    ensures pairs { OnOk result ((x y : ℕ) → pairs_with pairs.new.items x y ≡ pairs_with pairs.old.items x y + one_if (joins blocks.now.block_of x y (from, onto))) }
+    ensures pairs { OnOk result (AddsPairIf (λ x y. joins blocks.now.block_of x y (from, onto)) pairs.old.items pairs.new.items) }
     ensures below { OnOk result (AreBelow (length blocks.now.labels) pairs.new.items) }
 {
     let (a, b) = (blocks.block_of(from), blocks.block_of(onto));
@@ -51,11 +51,11 @@ fn gather_edge(
 
 // Counts the pairs of blocks.
 fn count_pairs(joins: &mut Joins, pairs: &[(u32, u32)]) -> Result<(), Memory>
-    requires few { (x y : ℕ) → support_at joins.old.supports.pairs x y + pairs_with pairs.now x y ≤ 2 ^ 30 }
+    requires few { (x y : ℕ) → support_with joins.old.supports.pairs pairs.now x y ≤ 2 ^ 30 }
     requires below { AreBelow (length joins.old.children.lists) pairs.now }
     requires near { AreNear joins.old.supports.pairs joins.old.children.lists joins.old.parents.lists }
     requires lengths { length joins.old.parents.lists ≡ length joins.old.children.lists }
-    ensures supports { OnOk result ((x y : ℕ) → support_at joins.new.supports.pairs x y ≡ support_at joins.old.supports.pairs x y + pairs_with pairs.now x y) }
+    ensures supports { OnOk result (CountsPairs pairs.now joins.old.supports.pairs joins.new.supports.pairs) }
     ensures near { OnOk result (AreNear joins.new.supports.pairs joins.new.children.lists joins.new.parents.lists) }
     ensures children { OnOk result (length joins.new.children.lists ≡ length joins.old.children.lists) }
     ensures parents { OnOk result (length joins.new.parents.lists ≡ length joins.old.parents.lists) }
@@ -69,11 +69,11 @@ fn count_pairs(joins: &mut Joins, pairs: &[(u32, u32)]) -> Result<(), Memory>
 // Counts the pairs of blocks that were gathered, once they are many.
 #[inline(always)]
 fn count_batch(joins: &mut Joins, pairs: &mut Vec<(u32, u32)>) -> Result<(), Memory>
-    requires few { (x y : ℕ) → support_at joins.old.supports.pairs x y + pairs_with pairs.old.items x y ≤ 2 ^ 30 }
+    requires few { (x y : ℕ) → support_with joins.old.supports.pairs pairs.old.items x y ≤ 2 ^ 30 }
     requires below { AreBelow (length joins.old.children.lists) pairs.old.items }
     requires near { AreNear joins.old.supports.pairs joins.old.children.lists joins.old.parents.lists }
     requires lengths { length joins.old.parents.lists ≡ length joins.old.children.lists }
-    ensures supports { OnOk result ((x y : ℕ) → support_at joins.new.supports.pairs x y + pairs_with pairs.new.items x y ≡ support_at joins.old.supports.pairs x y + pairs_with pairs.old.items x y) }
+    ensures supports { OnOk result (SameTotals joins.old.supports.pairs pairs.old.items joins.new.supports.pairs pairs.new.items) }
     ensures below { OnOk result (AreBelow (length joins.new.children.lists) pairs.new.items) }
     ensures near { OnOk result (AreNear joins.new.supports.pairs joins.new.children.lists joins.new.parents.lists) }
     ensures children { OnOk result (length joins.new.children.lists ≡ length joins.old.children.lists) }

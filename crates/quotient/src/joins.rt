@@ -1,8 +1,8 @@
 // Edges between blocks: how many there are, and which blocks they join.
-ghost use Rattle.std.specs.Prelude.{◌≡◌, ◌+◌, ◌-◌, ◌<◌, ◌≤◌, ◌^◌, ◌&&◌, ℕ, IfOk, OnOk, nat_eq, length, slice_index};
+ghost use Rattle.std.specs.Prelude.{◌≡◌, ◌-◌, ◌<◌, ◌≤◌, ◌^◌, ℕ, IfOk, OnOk, length, slice_index};
 ghost use Rattle.std.specs.FinMap as table;
 ghost use Rattle.bisim_spec.specs.Views.{support_at};
-ghost use Rattle.quotient.specs.Joined.{AreNear, list_at, one_if};
+ghost use Rattle.quotient.specs.Joined.{AreNear, list_at, RaisesPair};
 ghost use Rattle.quotient.specs.Kept.{IsWritten};
 
 use crate::block_neighbours::BlockNeighbours;
@@ -41,7 +41,7 @@ impl Joins {
         requires onto { b < length self.old.parents.lists }
         requires few { support_at self.old.supports.pairs a b < 2 ^ 32 - 1 }
         requires near { AreNear self.old.supports.pairs self.old.children.lists self.old.parents.lists }
-        ensures supports { OnOk result ((x y : ℕ) → support_at self.new.supports.pairs x y ≡ support_at self.old.supports.pairs x y + one_if (nat_eq x a && nat_eq y b)) }
+        ensures supports { OnOk result (RaisesPair a b (support_at self.old.supports.pairs) (support_at self.new.supports.pairs)) }
         ensures near { OnOk result (AreNear self.new.supports.pairs self.new.children.lists self.new.parents.lists) }
         ensures children { OnOk result (length self.new.children.lists ≡ length self.old.children.lists) }
         ensures parents { OnOk result (length self.new.parents.lists ≡ length self.old.parents.lists) }

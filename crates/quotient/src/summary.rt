@@ -1,11 +1,10 @@
 // The index graph of a partition.
-ghost use Rattle.std.specs.Prelude.{◌≡◌, ◌<◌, ◌≤◌, ◌^◌, ℕ, List, Some, None, true, is_some, IsSome, IfOk, IfSome, length};
+ghost use Rattle.std.specs.Prelude.{◌≡◌, ◌<◌, ◌≤◌, ◌^◌, ℕ, Some, None, true, is_some, IsSome, IfOk, IfSome, length};
 ghost use Rattle.px_spec.specs.Members.{Lists, at};
-ghost use Rattle.px_spec.specs.Shapes.{shape_by};
 ghost use Rattle.block_partition.specs.Partitions.{is_member, member_count, block_count};
 ghost use Rattle.bisim_spec.specs.Supports.{support};
-ghost use Rattle.bisim_spec.specs.Views.{support_at, shape_of_view};
-ghost use Rattle.quotient.specs.Quotients.{AreSupports, pair_count, is_joined, view_of};
+ghost use Rattle.bisim_spec.specs.Views.{support_at};
+ghost use Rattle.quotient.specs.Quotients.{AreSupports, pair_count, is_joined, HasShapeOfView};
 
 use crate::counting::count_edges;
 use crate::edges::EdgeList;
@@ -39,9 +38,9 @@ impl Model for Summary {
     ghost coded = { quotient_code };
 
     ghost use Rattle.quotient.specs.Joined.{IsSoundQuotient};
-    ghost use Rattle.std.specs.Prelude.{length};
+    ghost use Rattle.quotient.specs.Kept.{room_of};
 
-    ghost view = { λ s. record { blocks = s.blocks; supports = s.joins.supports.pairs; room = record { span = length s.joins.children.lists; pairs = s.joins.supports.room; children = s.joins.children.room; parents = s.joins.parents.room } } };
+    ghost view = { λ s. record { blocks = s.blocks; supports = s.joins.supports.pairs; room = room_of s.joins.supports s.joins.children s.joins.parents } };
 
     ghost invariant = { λ s. IsSoundQuotient s.blocks s.joins.supports.pairs s.joins.children.lists s.joins.parents.lists };
 }
@@ -131,7 +130,7 @@ impl Summary {
     pub fn blocks(&self) -> u32
         ensures count { result ≡ block_count self.now.blocks }
         ensures few { result ≤ 2 ^ 31 }
-        ensures shape { (texts : List (List ℕ)) → shape_by texts (length self.now.blocks.labels) (at self.now.blocks.labels) (is_joined self.now) ≡ shape_of_view texts (view_of self.now) }
+        ensures shape { HasShapeOfView self.now }
     {
         self.blocks.count()
     }
