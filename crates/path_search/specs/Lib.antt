@@ -3,3 +3,4 @@ pub mod Rows
 pub mod Waits
 pub mod Programs
 pub mod NewMarks
+pub mod Digraphs

@@ -1,11 +1,13 @@
 -- How marks spread over places, and over pairs of a state and a place.
 use Rattle.std.specs.Prelude.{◌≡◌, ℕ, ◌+◌, ◌≤◌, ◌⊎◌, Bool, List, length, Option, None, Some, IsTrue, IsSome}
 use Rattle.px_spec.specs.Members.{has}
+use Rattle.px_base.specs.BitSets.{BitSet}
 use Rattle.path_search.specs.Searches.{leads, Succeeds}
 use Rattle.path_search.specs.declared.state.State.{State}
 use Rattle.path_search.specs.declared.state.State.TheVariants.{End, Stuck, Any, Label, Fork}
 use Rattle.path_search.specs.Rows.{row, IsSet, IsMarked, row_members, members, pairs}
 use Rattle.path_search.specs.Waits.{Among}
+use Rattle.path_search.specs.Programs.{IsEnd}
 use Rattle.path_search.specs.declared.frontier.Frontier.{Frontier}
 
 -- Further places of the kind were marked in a row, and found.
@@ -32,6 +34,18 @@ pub record SpreadsOver (R : ℕ → ℕ → Type 0) (before after : List (List B
 
 abbrev pub Spreads : (ℕ → ℕ → Type 0) → Frontier → Frontier → Type 0
 Spreads R before after = SpreadsOver R before.rows.items after.rows.items before.waiting after.waiting
+
+-- the state was marked at further places of the kind, and waits there
+abbrev pub SpreadsAt : ℕ → (ℕ → Type 0) → Frontier → Frontier → Type 0
+SpreadsAt state P before after = Spreads (λ s v. (s ≡ state) × P v) before after
+
+-- each pair of the kind is marked
+abbrev pub AreMarked : (ℕ → ℕ → Type 0) → Frontier → Type 0
+AreMarked R after = (s v : ℕ) → R s v → IsMarked after.rows.items s v
+
+-- only numbers of the kind were added
+abbrev pub AddsOnly : (ℕ → Type 0) → BitSet → BitSet → Type 0
+AddsOnly P before after = (v : ℕ) → IsTrue (has after.members v) → IsTrue (has before.members v) ⊎ P v
 
 -- the label passes: any one, or the one with the number
 abbrev pub Passes : (ℕ → Option ℕ) → Option ℕ → ℕ → Type 0
@@ -66,6 +80,10 @@ Enters (Some (Fork a b)) s = (s ≡ a) ⊎ (s ≡ b)
 -- a word ends in the state, or in one that is entered from it
 abbrev pub EndsHere : (ℕ → Option State) → ℕ → Type 0
 EndsHere at s = (at s ≡ Some End) ⊎ ((k : ℕ) × Enters (at s) k × (at k ≡ Some End))
+
+-- one of the two states at one of the places, except an end
+abbrev pub ForksTo : List State → ℕ → ℕ → List ℕ → ℕ → ℕ → Type 0
+ForksTo states a b places s v = ((s ≡ a) ⊎ (s ≡ b)) × IsTrue (has places v) × (IsEnd states s → ⊥)
 
 -- what succeeds it, except an end that is entered
 abbrev pub MarksOne : (ℕ → Option State) → ℕ → (ℕ → Option ℕ) → (ℕ → ℕ → Bool) → ℕ → List ℕ → ℕ → ℕ → Type 0

@@ -1,7 +1,15 @@
 -- Automata as lists of states.
-use Rattle.std.specs.Prelude.{◌≡◌, ℕ, ◌<◌, List, length, slice_get, Some}
+use Rattle.std.specs.Prelude.{◌≡◌, ℕ, ◌<◌, List, length, slice_get, Option, Some}
 use Rattle.path_search.specs.declared.state.State.{State}
 use Rattle.path_search.specs.declared.state.State.TheVariants.{End, Stuck, Any, Label, Fork}
+
+-- the state with the number
+abbrev pub state_at : List State → ℕ → Option State
+state_at states k = slice_get states k
+
+-- a word ends in the state
+abbrev pub IsEnd : List State → ℕ → Type 0
+IsEnd states k = state_at states k ≡ Some End
 
 -- the states that it leads to have numbers below n
 abbrev pub LeadsInside : ℕ → State → Type 0

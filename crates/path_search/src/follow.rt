@@ -1,9 +1,9 @@
 // What comes next to places, marked in a row.
 ghost use Rattle.std.specs.Prelude.{◌≡◌, ◌↔◌, ◌≤◌, ◌+◌, ℕ, true, length, IsSome, IsTrue, OnOk};
 ghost use Rattle.px_spec.specs.Members.{has};
-ghost use Rattle.path_search.specs.Searches.{label_in, edge_in};
 ghost use Rattle.path_search.specs.Rows.{IsSet};
-ghost use Rattle.path_search.specs.NewMarks.{Gathers, Passes, Next, NextOf, IsPlace};
+ghost use Rattle.path_search.specs.NewMarks.{Gathers, Passes};
+ghost use Rattle.path_search.specs.Digraphs.{PassesWithin, PassesAmong, NextWithin, NextOfWithin, IsPlaceWithin, ArePlacesWithin};
 
 use crate::frontier::mark_if;
 use crate::row::Row;
@@ -12,9 +12,9 @@ use label_graph::Digraph;
 use px_base::{Memory, NodeId};
 use std::alloc::Global;
 
-/// Whether the node's label passes: any one, or the one with the number.
+/// Whether the node's label passes: any one, or the one with the number. O(1), no memory.
 #[inline(always)]
-fn has_label<G: Digraph>(g: &G, test: Option<u32>, n: NodeId) -> bool
+pub fn has_label<G: Digraph>(g: &G, test: Option<u32>, n: NodeId) -> bool
     requires { IsSome (G.label_at g.now n) }
     ensures { IsTrue result ↔ Passes (G.label_at g.now) test n }
 {
@@ -28,7 +28,7 @@ fn has_label<G: Digraph>(g: &G, test: Option<u32>, n: NodeId) -> bool
 #[inline(always)]
 fn passes<G: Digraph, S: Scope>(g: &G, scope: &S, test: Option<u32>, n: NodeId) -> bool
     requires { IsSome (G.label_at g.now n) }
-    ensures { IsTrue result ↔ Passes (label_in (S.keeps scope.now) (G.label_at g.now)) test n }
+    ensures { IsTrue result ↔ PassesWithin G.Digraph g.now (S.keeps scope.now) test n }
 {
     scope.contains(n) && has_label(g, test, n)
 }
@@ -36,7 +36,7 @@ fn passes<G: Digraph, S: Scope>(g: &G, scope: &S, test: Option<u32>, n: NodeId) 
 /// Whether the number is that of a node that is within and whose label passes.
 #[inline(always)]
 fn is_passing<G: Digraph, S: Scope>(g: &G, scope: &S, test: Option<u32>, n: NodeId) -> bool
-    ensures { IsTrue result ↔ Passes (label_in (S.keeps scope.now) (G.label_at g.now)) test n }
+    ensures { IsTrue result ↔ PassesWithin G.Digraph g.now (S.keeps scope.now) test n }
 {
     g.is_node(n) && passes(g, scope, test, n)
 }
@@ -51,8 +51,8 @@ fn mark_nodes<G: Digraph, S: Scope>(
     found: &mut Vec<u32>,
 ) -> Result<(), Memory>
     requires { G.span g.now + 1 ≤ length row.old }
-    ensures gathers { OnOk result (Gathers (λ c. Passes (label_in (S.keeps scope.now) (G.label_at g.now)) test c) row.old row.new found.old.items found.new.items) }
-    ensures marked { OnOk result ((c : ℕ) → Passes (label_in (S.keeps scope.now) (G.label_at g.now)) test c → IsSet row.new c) }
+    ensures gathers { OnOk result (Gathers (PassesWithin G.Digraph g.now (S.keeps scope.now) test) row.old row.new found.old.items found.new.items) }
+    ensures marked { OnOk result ((c : ℕ) → PassesWithin G.Digraph g.now (S.keeps scope.now) test c → IsSet row.new c) }
 {
     let size = g.size();
     let mut place = scope.first_from(0, size);
@@ -76,8 +76,8 @@ fn mark_among<G: Digraph, S: Scope>(
 ) -> Result<(), Memory>
     requires nodes { (c : ℕ) → has nodes.now c ≡ true → IsSome (G.label_at g.now c) }
     requires room { G.span g.now + 1 ≤ length row.old }
-    ensures gathers { OnOk result (Gathers (λ c. IsTrue (has nodes.now c) × Passes (label_in (S.keeps scope.now) (G.label_at g.now)) test c) row.old row.new found.old.items found.new.items) }
-    ensures marked { OnOk result ((c : ℕ) → IsTrue (has nodes.now c) → Passes (label_in (S.keeps scope.now) (G.label_at g.now)) test c → IsSet row.new c) }
+    ensures gathers { OnOk result (Gathers (PassesAmong G.Digraph g.now (S.keeps scope.now) test nodes.now) row.old row.new found.old.items found.new.items) }
+    ensures marked { OnOk result ((c : ℕ) → IsTrue (has nodes.now c) → PassesWithin G.Digraph g.now (S.keeps scope.now) test c → IsSet row.new c) }
 {
     for node in nodes {
         let place = *node;
@@ -97,10 +97,10 @@ fn mark_next<G: Digraph, S: Scope>(
     found: &mut Vec<u32>,
     place: u32,
 ) -> Result<(), Memory>
-    requires place { IsPlace (G.span g.now) (label_in (S.keeps scope.now) (G.label_at g.now)) place }
+    requires place { IsPlaceWithin G.Digraph g.now (S.keeps scope.now) place }
     requires room { G.span g.now + 1 ≤ length row.old }
-    ensures gathers { OnOk result (Gathers (λ c. Next (G.span g.now) (label_in (S.keeps scope.now) (G.label_at g.now)) (edge_in (S.keeps scope.now) (G.edge g.now)) test place c) row.old row.new found.old.items found.new.items) }
-    ensures marked { OnOk result ((c : ℕ) → Next (G.span g.now) (label_in (S.keeps scope.now) (G.label_at g.now)) (edge_in (S.keeps scope.now) (G.edge g.now)) test place c → IsSet row.new c) }
+    ensures gathers { OnOk result (Gathers (NextWithin G.Digraph g.now (S.keeps scope.now) test place) row.old row.new found.old.items found.new.items) }
+    ensures marked { OnOk result ((c : ℕ) → NextWithin G.Digraph g.now (S.keeps scope.now) test place c → IsSet row.new c) }
 {
     if place == g.size() {
         mark_nodes(alloc, g, scope, test, row, found)
@@ -119,10 +119,10 @@ pub(crate) fn follow<G: Digraph, S: Scope>(
     found: &mut Vec<u32>,
     places: &[u32],
 ) -> Result<(), Memory>
-    requires places { (v : ℕ) → IsTrue (has places.now v) → IsPlace (G.span g.now) (label_in (S.keeps scope.now) (G.label_at g.now)) v }
+    requires places { ArePlacesWithin G.Digraph g.now (S.keeps scope.now) places.now }
     requires room { G.span g.now + 1 ≤ length row.old }
-    ensures gathers { OnOk result (Gathers (NextOf (G.span g.now) (label_in (S.keeps scope.now) (G.label_at g.now)) (edge_in (S.keeps scope.now) (G.edge g.now)) test places.now) row.old row.new found.old.items found.new.items) }
-    ensures marked { OnOk result ((v c : ℕ) → IsTrue (has places.now v) → Next (G.span g.now) (label_in (S.keeps scope.now) (G.label_at g.now)) (edge_in (S.keeps scope.now) (G.edge g.now)) test v c → IsSet row.new c) }
+    ensures gathers { OnOk result (Gathers (NextOfWithin G.Digraph g.now (S.keeps scope.now) test places.now) row.old row.new found.old.items found.new.items) }
+    ensures marked { OnOk result ((v c : ℕ) → IsTrue (has places.now v) → NextWithin G.Digraph g.now (S.keeps scope.now) test v c → IsSet row.new c) }
 {
     for p in places {
         let place = *p;

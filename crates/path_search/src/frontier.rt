@@ -2,7 +2,7 @@
 ghost use Rattle.std.specs.Prelude.{◌≡◌, ◌<◌, ◌≤◌, ℕ, [], length, IsTrue, IfOk, OnOk};
 ghost use Rattle.px_spec.specs.Members.{has};
 ghost use Rattle.path_search.specs.Rows.{row, IsSet, IsMarked, HasRoom};
-ghost use Rattle.path_search.specs.NewMarks.{Gathers, Spreads};
+ghost use Rattle.path_search.specs.NewMarks.{Gathers, SpreadsAt};
 
 use crate::row::Row;
 use crate::waiting::Waiting;
@@ -96,7 +96,7 @@ impl Frontier {
     ) -> Result<(), Memory>
         requires there { state < length self.old.rows.items }
         requires room { (v : ℕ) → IsTrue (has places.now v) → v < length (row self.old.rows.items state) }
-        ensures spreads { OnOk result (Spreads (λ s v. (s ≡ state) × IsTrue (has places.now v)) self.old self.new) }
+        ensures spreads { OnOk result (SpreadsAt state (λ v. IsTrue (has places.now v)) self.old self.new) }
         ensures marked { OnOk result ((v : ℕ) → IsTrue (has places.now v) → IsMarked self.new.rows.items state v) }
     {
         found.clear();

@@ -11,6 +11,7 @@ mod searching;
 mod state;
 mod waiting;
 
+pub use follow::has_label;
 pub use program::Program;
 pub use searching::{search, search_within};
 pub use state::State;

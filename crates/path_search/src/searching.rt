@@ -1,11 +1,11 @@
 // The search of the product of an automaton and a graph.
-ghost use Rattle.std.specs.Prelude.{◌≡◌, ◌↔◌, ◌≤◌, ◌<◌, ◌+◌, ◌⊎◌, ℕ, length, slice_get, Some, IsSome, IsTrue, IfOk, OnOk};
+ghost use Rattle.std.specs.Prelude.{◌≡◌, ◌↔◌, ◌≤◌, ◌<◌, ◌+◌, ℕ, length, IsTrue, IfOk, OnOk};
 ghost use Rattle.std.specs.List.Sorted.{IsStrictlyIncreasing};
 ghost use Rattle.px_spec.specs.Members.{has};
-ghost use Rattle.path_search.specs.Searches.{label_in, edge_in, Succeeds, AreEnds};
-ghost use Rattle.path_search.specs.declared.state.State.TheVariants.{End};
+ghost use Rattle.path_search.specs.Programs.{state_at, IsEnd};
 ghost use Rattle.path_search.specs.Rows.{row, IsMarked, HasRoom};
-ghost use Rattle.path_search.specs.NewMarks.{Spreads, NextOf, SucceedsOne, EndsHere, MarksOne, IsPlace};
+ghost use Rattle.path_search.specs.NewMarks.{Spreads, SpreadsAt, AreMarked, AddsOnly, ForksTo, EndsHere};
+ghost use Rattle.path_search.specs.Digraphs.{ArePlaces, AreEndsFrom, NextOfWithin, ArePlacesWithin, MarksWithin, StaysInside, AreEndsWithin};
 
 use crate::follow::follow;
 use crate::frontier::Frontier;
@@ -28,10 +28,10 @@ fn advance<G: Digraph, S: Scope>(
     places: &[u32],
 ) -> Result<(), Memory>
     requires there { state < length frontier.old.rows.items }
-    requires places { (v : ℕ) → IsTrue (has places.now v) → IsPlace (G.span g.now) (label_in (S.keeps scope.now) (G.label_at g.now)) v }
+    requires places { ArePlacesWithin G.Digraph g.now (S.keeps scope.now) places.now }
     requires room { G.span g.now + 1 ≤ length (row frontier.old.rows.items state) }
-    ensures spreads { OnOk result (Spreads (λ s c. (s ≡ state) × NextOf (G.span g.now) (label_in (S.keeps scope.now) (G.label_at g.now)) (edge_in (S.keeps scope.now) (G.edge g.now)) test places.now c) frontier.old frontier.new) }
-    ensures marked { OnOk result ((c : ℕ) → NextOf (G.span g.now) (label_in (S.keeps scope.now) (G.label_at g.now)) (edge_in (S.keeps scope.now) (G.edge g.now)) test places.now c → IsMarked frontier.new.rows.items state c) }
+    ensures spreads { OnOk result (SpreadsAt state (NextOfWithin G.Digraph g.now (S.keeps scope.now) test places.now) frontier.old frontier.new) }
+    ensures marked { OnOk result ((c : ℕ) → NextOfWithin G.Digraph g.now (S.keeps scope.now) test places.now c → IsMarked frontier.new.rows.items state c) }
 {
     found.clear();
     let alloc = frontier.alloc;
@@ -59,8 +59,8 @@ fn enter(
     requires state { state < length program.now }
     requires there { state < length frontier.old.rows.items }
     requires room { (v : ℕ) → IsTrue (has places.now v) → v < length (row frontier.old.rows.items state) }
-    ensures spreads { OnOk result (Spreads (λ s v. (s ≡ state) × IsTrue (has places.now v) × (slice_get program.now s ≡ Some End → ⊥)) frontier.old frontier.new) }
-    ensures marked { OnOk result ((v : ℕ) → IsTrue (has places.now v) → (slice_get program.now state ≡ Some End → ⊥) → IsMarked frontier.new.rows.items state v) }
+    ensures spreads { OnOk result (Spreads (λ s v. (s ≡ state) × IsTrue (has places.now v) × (IsEnd program.now s → ⊥)) frontier.old frontier.new) }
+    ensures marked { OnOk result ((v : ℕ) → IsTrue (has places.now v) → (IsEnd program.now state → ⊥) → IsMarked frontier.new.rows.items state v) }
 {
     if is_end(program, state) {
         Ok(())
@@ -84,8 +84,8 @@ fn fork(
     requires second { second < length frontier.old.rows.items }
     requires first_room { (v : ℕ) → IsTrue (has places.now v) → v < length (row frontier.old.rows.items first) }
     requires second_room { (v : ℕ) → IsTrue (has places.now v) → v < length (row frontier.old.rows.items second) }
-    ensures spreads { OnOk result (Spreads (λ s v. ((s ≡ first) ⊎ (s ≡ second)) × IsTrue (has places.now v) × (slice_get program.now s ≡ Some End → ⊥)) frontier.old frontier.new) }
-    ensures marked { OnOk result ((s v : ℕ) → ((s ≡ first) ⊎ (s ≡ second)) → IsTrue (has places.now v) → (slice_get program.now s ≡ Some End → ⊥) → IsMarked frontier.new.rows.items s v) }
+    ensures spreads { OnOk result (Spreads (ForksTo program.now first second places.now) frontier.old frontier.new) }
+    ensures marked { OnOk result (AreMarked (ForksTo program.now first second places.now) frontier.new) }
 {
     enter(program, frontier, found, first, places)?;
     enter(program, frontier, found, second, places)
@@ -102,11 +102,11 @@ fn visit<G: Digraph, S: Scope>(
     places: &[u32],
 ) -> Result<(), Memory>
     requires state { state < length program.now }
-    requires places { (v : ℕ) → IsTrue (has places.now v) → IsPlace (G.span g.now) (label_in (S.keeps scope.now) (G.label_at g.now)) v }
+    requires places { ArePlacesWithin G.Digraph g.now (S.keeps scope.now) places.now }
     requires room { HasRoom (length program.now) (G.span g.now + 1) frontier.old.rows.items }
-    ensures spreads { OnOk result (Spreads (MarksOne (λ k. slice_get program.now k) (G.span g.now) (label_in (S.keeps scope.now) (G.label_at g.now)) (edge_in (S.keeps scope.now) (G.edge g.now)) state places.now) frontier.old frontier.new) }
-    ensures marked { OnOk result ((s c : ℕ) → MarksOne (λ k. slice_get program.now k) (G.span g.now) (label_in (S.keeps scope.now) (G.label_at g.now)) (edge_in (S.keeps scope.now) (G.edge g.now)) state places.now s c → IsMarked frontier.new.rows.items s c) }
-    ensures inside { (s c : ℕ) → SucceedsOne (G.span g.now) (label_in (S.keeps scope.now) (G.label_at g.now)) (edge_in (S.keeps scope.now) (G.edge g.now)) (slice_get program.now state) places.now s c → (s < length program.now) × IsPlace (G.span g.now) (label_in (S.keeps scope.now) (G.label_at g.now)) c }
+    ensures spreads { OnOk result (Spreads (MarksWithin G.Digraph g.now (S.keeps scope.now) program.now state places.now) frontier.old frontier.new) }
+    ensures marked { OnOk result (AreMarked (MarksWithin G.Digraph g.now (S.keeps scope.now) program.now state places.now) frontier.new) }
+    ensures inside { StaysInside G.Digraph g.now (S.keeps scope.now) program.now state places.now }
 {
     match program.state(state) {
         State::End | State::Stuck => Ok(()),
@@ -119,7 +119,7 @@ fn visit<G: Digraph, S: Scope>(
 /// Whether a word ends in the state.
 fn is_end(program: &Program, state: u32) -> bool
     requires { state < length program.now }
-    ensures { IsTrue result ↔ (slice_get program.now state ≡ Some End) }
+    ensures { IsTrue result ↔ IsEnd program.now state }
 {
     matches!(program.state(state), State::End)
 }
@@ -127,7 +127,7 @@ fn is_end(program: &Program, state: u32) -> bool
 /// Whether a word ends in the state, or in one that is entered from it.
 fn ends(program: &Program, state: u32) -> bool
     requires { state < length program.now }
-    ensures { IsTrue result ↔ EndsHere (λ k. slice_get program.now k) state }
+    ensures { IsTrue result ↔ EndsHere (state_at program.now) state }
 {
     match program.state(state) {
         State::End => true,
@@ -142,7 +142,7 @@ fn note_each(answers: &mut Bits, places: &[u32])
     ensures size { answers.new.size ≡ answers.old.size }
     ensures kept { (v : ℕ) → IsTrue (has answers.old.members v) → IsTrue (has answers.new.members v) }
     ensures noted { (v : ℕ) → IsTrue (has places.now v) → v < answers.old.size → IsTrue (has answers.new.members v) }
-    ensures source { (v : ℕ) → IsTrue (has answers.new.members v) → IsTrue (has answers.old.members v) ⊎ ((v < answers.old.size) × IsTrue (has places.now v)) }
+    ensures source { AddsOnly (λ v. (v < answers.old.size) × IsTrue (has places.now v)) answers.old answers.new }
     ensures rising { IsStrictlyIncreasing answers.new.members }
 {
     for p in places {
@@ -157,7 +157,7 @@ fn note(answers: &mut Bits, place: u32)
     ensures size { answers.new.size ≡ answers.old.size }
     ensures kept { (v : ℕ) → IsTrue (has answers.old.members v) → IsTrue (has answers.new.members v) }
     ensures noted { place < answers.old.size → IsTrue (has answers.new.members place) }
-    ensures source { (v : ℕ) → IsTrue (has answers.new.members v) → IsTrue (has answers.old.members v) ⊎ ((v < answers.old.size) × (v ≡ place)) }
+    ensures source { AddsOnly (λ v. (v < answers.old.size) × (v ≡ place)) answers.old answers.new }
     ensures rising { IsStrictlyIncreasing answers.new.members }
 {
     if place < answers.size() {
@@ -171,8 +171,8 @@ fn note_ends(program: &Program, answers: &mut Bits, state: u32, places: &[u32])
     requires rising { IsStrictlyIncreasing answers.old.members }
     ensures size { answers.new.size ≡ answers.old.size }
     ensures kept { (v : ℕ) → IsTrue (has answers.old.members v) → IsTrue (has answers.new.members v) }
-    ensures noted { EndsHere (λ k. slice_get program.now k) state → (v : ℕ) → IsTrue (has places.now v) → v < answers.old.size → IsTrue (has answers.new.members v) }
-    ensures source { (v : ℕ) → IsTrue (has answers.new.members v) → IsTrue (has answers.old.members v) ⊎ (EndsHere (λ k. slice_get program.now k) state × (v < answers.old.size) × IsTrue (has places.now v)) }
+    ensures noted { EndsHere (state_at program.now) state → (v : ℕ) → IsTrue (has places.now v) → v < answers.old.size → IsTrue (has answers.new.members v) }
+    ensures source { AddsOnly (λ v. EndsHere (state_at program.now) state × (v < answers.old.size) × IsTrue (has places.now v)) answers.old answers.new }
     ensures rising { IsStrictlyIncreasing answers.new.members }
 {
     if ends(program, state) {
@@ -191,9 +191,9 @@ fn search_in<G: Digraph, S: Scope>(
     places: &[u32],
 ) -> Result<Bits, Memory>
     requires start { start < length program.now }
-    requires places { (v : ℕ) → IsTrue (has places.now v) → IsPlace (G.span g.now) (label_in (S.keeps scope.now) (G.label_at g.now)) v }
+    requires places { ArePlacesWithin G.Digraph g.now (S.keeps scope.now) places.now }
     ensures size { IfOk result (λ b. b.size ≡ G.span g.now) }
-    ensures ends { IfOk result (λ b. AreEnds (λ k. slice_get program.now k) (G.span g.now) (label_in (S.keeps scope.now) (G.label_at g.now)) (edge_in (S.keeps scope.now) (G.edge g.now)) (λ v. IsTrue (has places.now v)) start b.members) }
+    ensures ends { IfOk result (λ b. AreEndsWithin G.Digraph g.now (S.keeps scope.now) program.now start places.now b.members) }
 {
     let size = g.size();
     let mut frontier = Frontier::new(alloc, program.len(), size as usize + 1)?;
@@ -228,9 +228,9 @@ pub fn search<G: Digraph>(
     places: &[u32],
 ) -> Result<Bits, Memory>
     requires start { start < length program.now }
-    requires places { (v : ℕ) → IsTrue (has places.now v) → IsPlace (G.span g.now) (G.label_at g.now) v }
+    requires places { ArePlaces G.Digraph g.now places.now }
     ensures size { IfOk result (λ b. b.size ≡ G.span g.now) }
-    ensures ends { IfOk result (λ b. AreEnds (λ k. slice_get program.now k) (G.span g.now) (G.label_at g.now) (G.edge g.now) (λ v. IsTrue (has places.now v)) start b.members) }
+    ensures ends { IfOk result (λ b. AreEndsFrom G.Digraph g.now program.now start places.now b.members) }
 {
     search_in(alloc, g, &Everywhere, program, start, places)
 }
@@ -247,9 +247,9 @@ pub fn search_within<G: Digraph>(
     places: &[u32],
 ) -> Result<Bits, Memory>
     requires start { start < length program.now }
-    requires places { (v : ℕ) → IsTrue (has places.now v) → IsPlace (G.span g.now) (label_in (has set.now.members) (G.label_at g.now)) v }
+    requires places { ArePlacesWithin G.Digraph g.now (has set.now.members) places.now }
     ensures size { IfOk result (λ b. b.size ≡ G.span g.now) }
-    ensures ends { IfOk result (λ b. AreEnds (λ k. slice_get program.now k) (G.span g.now) (label_in (has set.now.members) (G.label_at g.now)) (edge_in (has set.now.members) (G.edge g.now)) (λ v. IsTrue (has places.now v)) start b.members) }
+    ensures ends { IfOk result (λ b. AreEndsWithin G.Digraph g.now (has set.now.members) program.now start places.now b.members) }
 {
     search_in(alloc, g, &Inside { set }, program, start, places)
 }
