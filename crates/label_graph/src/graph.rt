@@ -28,13 +28,27 @@ use std::sync::ledger::Ledger;
 ///     let bo = graph.add_node();
 ///     graph.reserve_edge(ana, bo)?;
 ///     graph.add_edge(ana, bo);
-#[derive(Drop)]
 pub struct Graph {
     labels: Labels,
     nodes: Nodes,
     node_count: u32,
     edge_count: u32,
     room: Reserved,
+}
+
+impl Drop for Graph {
+    // By hand, so that no crate above proves how the tables are dropped.
+    fn drop(self) {
+        let Graph {
+            labels,
+            nodes,
+            node_count: _,
+            edge_count: _,
+            room: _,
+        } = self;
+        drop(labels);
+        drop(nodes);
+    }
 }
 
 impl Model for Graph {
