@@ -3,13 +3,17 @@
 //!
 //! Laws in `proofs/`, for shapes whose nodes are below the size and whose edges join nodes:
 //! - `Settled`: each level is an equivalence within the one below, and from the number of nodes on all levels are one.
-//! - `Keys`: if a partition agrees with a level, nodes are bisimilar one level up exactly if their own blocks and their parents' blocks are the same.
+//! - `Keys`: if a partition agrees with a level, nodes are bisimilar one level up exactly if their own blocks and their parents' blocks are
+//!   the same.
 //! - `Stable`: a stable partition lies within each level; full bisimilarity is stable, and no two of its blocks can be merged.
-//! - `MergeableBlocks`: two blocks of a stable partition can be merged exactly if they have one label and, counted as one, the same parent blocks.
-//! - `Ranks`: in an acyclic graph a stable partition with no such pair is full bisimilarity; `ring_by_ring_minimal` in `Examples` shows that a cycle breaks this.
-//! - `Differs`, `Changed`, `Outside`: a change alters a graph at its target alone; a stable partition is then stable except there; no pair of blocks becomes mergeable
-//!   outside the change's reach.
-//! - `Moves`, `Supported`: what a moved node and an edge added or removed do to supports; a pair has support exactly if an edge joins the two blocks.
+//! - `MergeableBlocks`: two blocks of a stable partition can be merged exactly if they have one label and, counted as one, the same parent
+//!   blocks.
+//! - `Ranks`: in an acyclic graph a stable partition with no such pair is full bisimilarity; `ring_by_ring_minimal` in `Examples` shows
+//!   that a cycle breaks this.
+//! - `Differs`, `Changed`, `Outside`: a change alters a graph at its target alone; a stable partition is then stable except there; no pair
+//!   of blocks becomes mergeable outside the change's reach.
+//! - `Moves`, `Supported`: what a moved node and an edge added or removed do to supports; a pair has support exactly if an edge joins the
+//!   two blocks.
 //! - `FitLaws`: which views fit the 1-index.
 #![tactic(auto)]
 
