@@ -22,3 +22,7 @@ pub record IsOver (block labels : List (Option ℕ)) (d : Drafted) : Type 0 wher
   pub ends : (p : ℕ × ℕ) (n : ℕ) → lookup (is_pair p) d.supports ≡ Some n → IsSome (at (with_added labels d.added) p.0) × IsSome (at (with_added labels d.added) p.1)
   pub left : (n b : ℕ) → at block n ≡ Some b → IsSome (lookup (nat_eq n) d.moves) → has d.left b ≡ true
   pub taken : AreTaken block d.moves d.taken
+
+-- each pair that is written is one of blocks
+abbrev pub ArePairsOfBlocks : List (Option ℕ) → List ((ℕ × ℕ) × ℕ) → Type 0
+ArePairsOfBlocks labels supports = (p : ℕ × ℕ) (n : ℕ) → lookup (is_pair p) supports ≡ Some n → IsSome (at labels p.0) × IsSome (at labels p.1)

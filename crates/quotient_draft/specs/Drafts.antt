@@ -1,9 +1,9 @@
 -- What is drafted over an index graph. It shows the partition and the supports that result from writing it into the
 -- base.
-use Rattle.std.specs.Prelude.{ℕ, ◌+◌, ◌&&◌, Bool, List, [], ◌∷◌, ◌++◌, Option, None, Some, cond, nat_eq, refl}
+use Rattle.std.specs.Prelude.{ℕ, ◌≡◌, ◌+◌, ◌&&◌, Bool, List, [], ◌∷◌, ◌++◌, Option, None, Some, cond, nat_eq, refl, if◌then◌else◌, false}
 use Rattle.std.specs.Coded.{Coded, code_by, coded×, coded_ℕ, coded_list, coded_option}
 use Rattle.std.specs.List.{list_any}
-use Rattle.px_spec.specs.Members.{is_this}
+use Rattle.px_spec.specs.Members.{is_this, at, has}
 use Rattle.block_partition.specs.Partitions.{put}
 use Rattle.bisim_spec.specs.Views.{View, SupportTable, support_at}
 use Rattle.quotient.specs.Quotients.{Quotient, with_put, with_support}
@@ -70,6 +70,22 @@ shown_support q d a b = support_at (shown_supports q d) a b
 -- whether two pairs are the same
 abbrev pub is_pair : ℕ × ℕ → ℕ × ℕ → Bool
 is_pair p q = nat_eq p.0 q.0 && nat_eq p.1 q.1
+
+-- the node goes into this block, or into none, and all others stay
+abbrev pub PutsNode : ℕ → Option ℕ → List (Option ℕ) → List (Option ℕ) → Type 0
+PutsNode n b block block2 = (m : ℕ) → at block2 m ≡ (if nat_eq m n then b else at block m)
+
+-- the support of this pair is n, and no other changes
+abbrev pub SetsPair : ℕ → ℕ → ℕ → (ℕ → ℕ → ℕ) → (ℕ → ℕ → ℕ) → Type 0
+SetsPair a b n support support2 = (x y : ℕ) → support2 x y ≡ (if is_pair (x, y) (a, b) then n else support x y)
+
+-- whatever the labels of the base: blocks that aren't listed have them as shown
+abbrev pub LabelsStayBut : List ℕ → List (ℕ × ℕ) → Type 0
+LabelsStayBut listed added = (labels : List (Option ℕ)) (b : ℕ) → has listed b ≡ false → at (with_added labels added) b ≡ at labels b
+
+-- whatever the supports of the base: to blocks that aren't listed each block has them as shown
+abbrev pub SupportsStayBut : List ℕ → List ((ℕ × ℕ) × ℕ) → Type 0
+SupportsStayBut listed supports = (t : SupportTable) (a b : ℕ) → has listed b ≡ false → support_at (with_supports t supports) a b ≡ support_at t a b
 
 -- a list to which a block is added, if there is one
 abbrev pub with_left : List ℕ → Option ℕ → List ℕ

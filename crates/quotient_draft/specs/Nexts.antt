@@ -1,5 +1,5 @@
 -- The next number that passes a test.
-use Rattle.std.specs.Prelude.{◌≡◌, ℕ, ◌<◌, ◌≤◌, Bool, true, false, Option, None, Some, nat_lt}
+use Rattle.std.specs.Prelude.{◌≡◌, ℕ, ◌<◌, ◌≤◌, Bool, true, false, Option, None, Some, nat_lt, ◌&&◌, ◌||◌}
 
 -- a is the least number from this one on that passes
 pub record IsLeastFrom (p : ℕ → Bool) (from a : ℕ) : Type 0 where
@@ -16,3 +16,9 @@ IsNext p from (Some a) = IsLeastFrom p from a
 abbrev pub is_below : Option ℕ → ℕ → Bool
 is_below None a = true
 is_below (Some next) a = nat_lt a next
+
+-- Whatever was looked through before: once these numbers are looked through too, the second result is the least from this one on
+-- that passes, where the first was it before.
+abbrev pub LooksThrough : (ℕ → Bool) → (ℕ → Bool) → ℕ → Option ℕ → Option ℕ → Type 0
+LooksThrough numbers passes from before result =
+    (seen : ℕ → Bool) → IsNext (λ a. seen a && passes a) from before → IsNext (λ a. (seen a || numbers a) && passes a) from result

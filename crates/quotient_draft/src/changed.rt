@@ -4,8 +4,9 @@ ghost use Rattle.std.specs.Map.{lookup, keys_of};
 ghost use Rattle.px_spec.specs.Members.{at, has};
 ghost use Rattle.bisim_spec.specs.Views.{SupportTable, support_at};
 ghost use Rattle.quotient.specs.Quotients.{view_of};
-ghost use Rattle.quotient_draft.specs.Drafts.{with_supports, is_pair};
+ghost use Rattle.quotient_draft.specs.Drafts.{with_supports, is_pair, SetsPair, SupportsStayBut};
 ghost use Rattle.quotient_draft.specs.Rooms.{from_count, onto_count};
+ghost use Rattle.quotient_draft.specs.Basis.{ArePairsOfBlocks};
 
 use crate::ends::{Ends, ends_of, make_room, note};
 use indexmap::IndexMap;
@@ -79,7 +80,7 @@ impl Changed {
 
     /// The blocks at which drafted pairs end. To others each block has the support of the base.
     pub(crate) fn targets(&self) -> &[u32]
-        ensures { (t : SupportTable) (a b : ℕ) → has result.now b ≡ false → support_at (with_supports t self.now) a b ≡ support_at t a b }
+        ensures { SupportsStayBut result.now self.now }
     {
         self.onto.keys().as_slice()
     }
@@ -87,7 +88,7 @@ impl Changed {
     /// Drafts the support of a pair.
     pub(crate) fn set(&mut self, a: u32, b: u32, n: u32) -> Result<(), Memory>
         ensures looked { OnOk result ((p : ℕ × ℕ) → lookup (is_pair p) self.new ≡ (if is_pair p (a, b) then Some n else lookup (is_pair p) self.old)) }
-        ensures shown { OnOk result ((t : SupportTable) (x y : ℕ) → support_at (with_supports t self.new) x y ≡ (if is_pair (x, y) (a, b) then n else support_at (with_supports t self.old) x y)) }
+        ensures shown { OnOk result ((t : SupportTable) → SetsPair a b n (support_at (with_supports t self.old)) (support_at (with_supports t self.new))) }
         ensures err { OnErr result (self.new ≡ self.old) }
     {
         match self.pairs.get(&(a, b)) {
@@ -100,7 +101,7 @@ impl Changed {
     fn set_again(&mut self, a: u32, b: u32, n: u32) -> Result<(), Memory>
         requires { IsSome (lookup (is_pair (a, b)) self.old) }
         ensures looked { OnOk result ((p : ℕ × ℕ) → lookup (is_pair p) self.new ≡ (if is_pair p (a, b) then Some n else lookup (is_pair p) self.old)) }
-        ensures shown { OnOk result ((t : SupportTable) (x y : ℕ) → support_at (with_supports t self.new) x y ≡ (if is_pair (x, y) (a, b) then n else support_at (with_supports t self.old) x y)) }
+        ensures shown { OnOk result ((t : SupportTable) → SetsPair a b n (support_at (with_supports t self.old)) (support_at (with_supports t self.new))) }
         ensures err { OnErr result (self.new ≡ self.old) }
     {
         self.pairs.insert((a, b), n)?;
@@ -111,7 +112,7 @@ impl Changed {
     fn set_first(&mut self, a: u32, b: u32, n: u32) -> Result<(), Memory>
         requires { lookup (is_pair (a, b)) self.old ≡ None }
         ensures looked { OnOk result ((p : ℕ × ℕ) → lookup (is_pair p) self.new ≡ (if is_pair p (a, b) then Some n else lookup (is_pair p) self.old)) }
-        ensures shown { OnOk result ((t : SupportTable) (x y : ℕ) → support_at (with_supports t self.new) x y ≡ (if is_pair (x, y) (a, b) then n else support_at (with_supports t self.old) x y)) }
+        ensures shown { OnOk result ((t : SupportTable) → SetsPair a b n (support_at (with_supports t self.old)) (support_at (with_supports t self.new))) }
         ensures err { OnErr result (self.new ≡ self.old) }
     {
         make_room(&mut self.from, a)?;
@@ -144,7 +145,7 @@ impl Changed {
 
     /// Writes the supports in the base, which has room for them.
     pub(crate) fn make_in(&self, base: &mut Summary)
-        requires ends { (p : ℕ × ℕ) (n : ℕ) → lookup (is_pair p) self.now ≡ Some n → IsSome (at base.old.blocks.labels p.0) × IsSome (at base.old.blocks.labels p.1) }
+        requires ends { ArePairsOfBlocks base.old.blocks.labels self.now }
         requires pairs { length self.now ≤ base.old.room.pairs }
         requires children { (a : ℕ) → from_count (keys_of self.now) a ≤ slice_index base.old.room.children a }
         requires parents { (b : ℕ) → onto_count (keys_of self.now) b ≤ slice_index base.old.room.parents b }

@@ -1,9 +1,9 @@
 // A draft over the quotient of a graph.
-ghost use Rattle.std.specs.Prelude.{◌≡◌, ◌+◌, ◌<◌, ◌^◌, ◌&&◌, ◌++◌, ◌∷◌, [], ℕ, List, Option, Some, IsSome, is_some, IfOk, OnOk, OnErr, IfSome, nat_eq, if◌then◌else◌, count_by};
+ghost use Rattle.std.specs.Prelude.{◌≡◌, ◌+◌, ◌<◌, ◌^◌, ◌++◌, ◌∷◌, [], ℕ, List, Option, Some, IsSome, is_some, IfOk, OnOk, OnErr, IfSome, count_by};
 ghost use Rattle.px_spec.specs.Members.{at};
 ghost use Rattle.block_partition.specs.Partitions.{IsLeastFree, put};
-ghost use Rattle.quotient.specs.Joined.{one_if};
-ghost use Rattle.quotient_draft.specs.Drafts.{no_changes, shown_labels, shown_blocks, shown_support, with_left};
+ghost use Rattle.quotient.specs.Joined.{RaisesPair, LowersPair};
+ghost use Rattle.quotient_draft.specs.Drafts.{no_changes, shown_labels, shown_blocks, shown_support, with_left, PutsNode};
 ghost use Rattle.quotient_draft.specs.Basis.{IsOver};
 
 use crate::added::Added;
@@ -119,7 +119,7 @@ impl Draft {
         requires over { IsOver base.now.blocks.block_of base.now.blocks.labels self.old }
         requires small { n < 2 ^ 31 }
         requires block { IfSome b (λ b. IsSome (at (shown_labels base.now self.old) b)) }
-        ensures blocks { OnOk result ((m : ℕ) → at (shown_blocks base.now self.new) m ≡ (if nat_eq m n then b else at (shown_blocks base.now self.old) m)) }
+        ensures blocks { OnOk result (PutsNode n b (shown_blocks base.now self.old) (shown_blocks base.now self.new)) }
         ensures added { self.new.added ≡ self.old.added }
         ensures left { OnOk result (self.new.left ≡ with_left self.old.left (at (shown_blocks base.now self.old) n)) }
         ensures supports { self.new.supports ≡ self.old.supports }
@@ -137,7 +137,7 @@ impl Draft {
         requires from { IsSome (at (shown_labels base.now self.old) a) }
         requires onto { IsSome (at (shown_labels base.now self.old) b) }
         requires few { shown_support base.now self.old a b < 2 ^ 31 }
-        ensures raised { OnOk result ((x y : ℕ) → shown_support base.now self.new x y ≡ shown_support base.now self.old x y + one_if (nat_eq x a && nat_eq y b)) }
+        ensures raised { OnOk result (RaisesPair a b (shown_support base.now self.old) (shown_support base.now self.new)) }
         ensures added { self.new.added ≡ self.old.added }
         ensures moves { self.new.moves ≡ self.old.moves }
         ensures left { self.new.left ≡ self.old.left }
@@ -156,7 +156,7 @@ impl Draft {
         requires from { IsSome (at (shown_labels base.now self.old) a) }
         requires onto { IsSome (at (shown_labels base.now self.old) b) }
         requires some { 0 < shown_support base.now self.old a b }
-        ensures lowered { OnOk result ((x y : ℕ) → shown_support base.now self.new x y + one_if (nat_eq x a && nat_eq y b) ≡ shown_support base.now self.old x y) }
+        ensures lowered { OnOk result (LowersPair a b (shown_support base.now self.old) (shown_support base.now self.new)) }
         ensures added { self.new.added ≡ self.old.added }
         ensures moves { self.new.moves ≡ self.old.moves }
         ensures left { self.new.left ≡ self.old.left }

@@ -5,8 +5,8 @@ ghost use Rattle.std.specs.Map.{lookup, keys_of};
 ghost use Rattle.indexmap.specs.IndexMap.{spare};
 ghost use Rattle.px_spec.specs.Members.{Lists, at, has, is_this};
 ghost use Rattle.quotient.specs.Joined.{one_if};
-ghost use Rattle.quotient_draft.specs.Drafts.{with_moves, with_left};
-ghost use Rattle.quotient_draft.specs.Kept.{counted, AreTaken};
+ghost use Rattle.quotient_draft.specs.Drafts.{with_moves, with_left, PutsNode};
+ghost use Rattle.quotient_draft.specs.Kept.{counted, AreTaken, StayTaken, AreLookedUp, MovedBelow};
 ghost use Rattle.quotient_draft.specs.PutLogs.{has_put, is_kept, is_moved_to};
 ghost use Rattle.quotient_draft.specs.ShownMembers.{is_unmoved};
 
@@ -70,7 +70,7 @@ impl Moves {
 
     // Each node has one move, so the last is the one that a look-up finds. It takes no time.
     pub(crate) fn know_lookups(&self)
-        ensures { (block : List (Option ℕ)) (n : ℕ) → at (with_moves block self.now.moves) n ≡ unwrap_or (lookup (nat_eq n) self.now.moves) (at block n) }
+        ensures { AreLookedUp self.now.moves }
     {
         let _ = self.moves.len();
     }
@@ -78,10 +78,10 @@ impl Moves {
     /// Drafts a move, and notes the block from which the node is taken.
     pub(crate) fn put(&mut self, base: &Summary, n: NodeId, b: Option<u32>) -> Result<(), Memory>
         ensures looked { OnOk result ((m : ℕ) → lookup (nat_eq m) self.new.moves ≡ (if nat_eq m n then Some b else lookup (nat_eq m) self.old.moves)) }
-        ensures shown { OnOk result ((block : List (Option ℕ)) (m : ℕ) → at (with_moves block self.new.moves) m ≡ (if nat_eq m n then b else at (with_moves block self.old.moves) m)) }
+        ensures shown { OnOk result ((block : List (Option ℕ)) → PutsNode n b (with_moves block self.old.moves) (with_moves block self.new.moves)) }
         ensures left { OnOk result (self.new.left ≡ with_left self.old.left (at (with_moves base.now.blocks.block_of self.old.moves) n)) }
         ensures own { OnOk result (self.new.left ≡ with_left self.old.left (unwrap_or (lookup (nat_eq n) self.old.moves) (at base.now.blocks.block_of n))) }
-        ensures taken { OnOk result (AreTaken base.now.blocks.block_of self.old.moves self.old.taken → AreTaken base.now.blocks.block_of self.new.moves self.new.taken) }
+        ensures taken { OnOk result (StayTaken base.now.blocks.block_of self.old self.new) }
         ensures err { OnErr result (self.new ≡ self.old) }
     {
         match self.moves.get(&n) {
@@ -97,9 +97,9 @@ impl Moves {
     fn put_first(&mut self, own: Option<u32>, n: NodeId, b: Option<u32>) -> Result<(), Memory>
         requires { lookup (nat_eq n) self.old.moves ≡ None }
         ensures looked { OnOk result ((m : ℕ) → lookup (nat_eq m) self.new.moves ≡ (if nat_eq m n then Some b else lookup (nat_eq m) self.old.moves)) }
-        ensures shown { OnOk result ((block : List (Option ℕ)) (m : ℕ) → at (with_moves block self.new.moves) m ≡ (if nat_eq m n then b else at (with_moves block self.old.moves) m)) }
+        ensures shown { OnOk result ((block : List (Option ℕ)) → PutsNode n b (with_moves block self.old.moves) (with_moves block self.new.moves)) }
         ensures left { OnOk result (self.new.left ≡ with_left self.old.left own) }
-        ensures taken { OnOk result ((block : List (Option ℕ)) → at block n ≡ own → AreTaken block self.old.moves self.old.taken → AreTaken block self.new.moves self.new.taken) }
+        ensures taken { OnOk result ((block : List (Option ℕ)) → at block n ≡ own → StayTaken block self.old self.new) }
         ensures err { OnErr result (self.new ≡ self.old) }
     {
         let moves = self.moves.len();
@@ -118,9 +118,9 @@ impl Moves {
     fn put_again(&mut self, own: Option<u32>, n: NodeId, b: Option<u32>) -> Result<(), Memory>
         requires { lookup (nat_eq n) self.old.moves ≡ Some own }
         ensures looked { OnOk result ((m : ℕ) → lookup (nat_eq m) self.new.moves ≡ (if nat_eq m n then Some b else lookup (nat_eq m) self.old.moves)) }
-        ensures shown { OnOk result ((block : List (Option ℕ)) (m : ℕ) → at (with_moves block self.new.moves) m ≡ (if nat_eq m n then b else at (with_moves block self.old.moves) m)) }
+        ensures shown { OnOk result ((block : List (Option ℕ)) → PutsNode n b (with_moves block self.old.moves) (with_moves block self.new.moves)) }
         ensures left { OnOk result (self.new.left ≡ with_left self.old.left own) }
-        ensures taken { OnOk result ((block : List (Option ℕ)) → AreTaken block self.old.moves self.old.taken → AreTaken block self.new.moves self.new.taken) }
+        ensures taken { OnOk result ((block : List (Option ℕ)) → StayTaken block self.old self.new) }
         ensures err { OnErr result (self.new ≡ self.old) }
     {
         let moves = self.moves.len();
@@ -137,8 +137,8 @@ impl Moves {
     /// For how many numbers past the end of a list of this length the moves need room.
     pub(crate) fn past(&self, numbers: u32) -> u32
         requires few { numbers ≤ 2 ^ 31 }
-        requires numbers { (n b : ℕ) → lookup (nat_eq n) self.now.moves ≡ Some (Some b) → n < 2 ^ 31 }
-        ensures fits { (n b : ℕ) → lookup (nat_eq n) self.now.moves ≡ Some (Some b) → n < numbers + result }
+        requires numbers { MovedBelow (2 ^ 31) self.now.moves }
+        ensures fits { MovedBelow (numbers + result) self.now.moves }
         ensures few { numbers + result ≤ 2 ^ 31 }
     {
         let mut end = numbers;
@@ -154,7 +154,7 @@ impl Moves {
     /// Makes the moves in the base, which has room for them.
     pub(crate) fn make_in(&self, base: &mut Summary)
         requires blocks { (n b : ℕ) → lookup (nat_eq n) self.now.moves ≡ Some (Some b) → IsSome (at base.old.blocks.labels b) }
-        requires nodes { (n b : ℕ) → lookup (nat_eq n) self.now.moves ≡ Some (Some b) → n < length base.old.blocks.block_of + base.old.blocks.room.nodes }
+        requires nodes { MovedBelow (length base.old.blocks.block_of + base.old.blocks.room.nodes) self.now.moves }
         ensures blocks { base.new.blocks.block_of ≡ with_moves base.old.blocks.block_of self.now.moves }
         ensures labels { base.new.blocks.labels ≡ base.old.blocks.labels }
         ensures supports { base.new.supports ≡ base.old.supports }
@@ -171,7 +171,7 @@ impl Moves {
     /// How many members a block has as shown.
     pub(crate) fn member_count(&self, base: &Summary, b: u32) -> u32
         requires taken { AreTaken base.now.blocks.block_of self.now.moves self.now.taken }
-        requires numbers { (n b : ℕ) → lookup (nat_eq n) self.now.moves ≡ Some (Some b) → n < 2 ^ 31 }
+        requires numbers { MovedBelow (2 ^ 31) self.now.moves }
         ensures { result ≡ count_by (is_this b) (with_moves base.now.blocks.block_of self.now.moves) }
     {
         let numbers = base.numbers().max(1 << 31) as usize;

@@ -60,8 +60,8 @@ impl Draft {
 pub fn base_parents(base: &Summary, b: u32) -> &[u32]
     ensures { Lists (λ a. nat_lt 0 (support_at base.now.supports a b)) result.now }
 {
-    // This says that only blocks have support.
-    let _ = base.blocks();
+    // Called for its contract: only blocks have support.
+    let _known = base.blocks();
     if base.is_node(b) {
         return base.parents(b);
     }
@@ -72,8 +72,8 @@ pub fn base_parents(base: &Summary, b: u32) -> &[u32]
 pub fn base_children(base: &Summary, a: u32) -> &[u32]
     ensures { Lists (λ b. nat_lt 0 (support_at base.now.supports a b)) result.now }
 {
-    // This says that only blocks have support.
-    let _ = base.blocks();
+    // Called for its contract: only blocks have support.
+    let _known = base.blocks();
     if base.is_node(a) {
         return base.children(a);
     }

@@ -1,9 +1,9 @@
 // The next block that has support to a block as shown, and the next one to which it has support.
-ghost use Rattle.std.specs.Prelude.{◌≡◌, ◌&&◌, ◌||◌, ℕ, Bool, nat_eq, nat_le, nat_lt};
+ghost use Rattle.std.specs.Prelude.{◌≡◌, ◌&&◌, nat_eq, nat_le, nat_lt};
 ghost use Rattle.px_spec.specs.Members.{has};
-ghost use Rattle.bisim_spec.specs.Views.{support_at};
 ghost use Rattle.quotient_draft.specs.Drafts.{shown_support, with_supports};
-ghost use Rattle.quotient_draft.specs.Nexts.{IsNext, is_below};
+ghost use Rattle.quotient_draft.specs.Nexts.{IsNext, is_below, LooksThrough};
+ghost use Rattle.quotient.specs.Joined.{is_supported};
 
 use crate::changed::Changed;
 use crate::draft::Draft;
@@ -46,7 +46,7 @@ fn next_parent_in(
     from: u32,
     next: Option<u32>,
 ) -> Option<u32>
-    ensures { (seen : ℕ → Bool) → IsNext (λ a. seen a && nat_lt 0 (support_at (with_supports base.now.supports changed.now) a b)) from next → IsNext (λ a. (seen a || has blocks.now a) && nat_lt 0 (support_at (with_supports base.now.supports changed.now) a b)) from result }
+    ensures { LooksThrough (has blocks.now) (λ a. is_supported (with_supports base.now.supports changed.now) a b) from next result }
 {
     let mut found = next;
     for i in 0..blocks.len() {
@@ -64,7 +64,7 @@ fn next_child_in(
     from: u32,
     next: Option<u32>,
 ) -> Option<u32>
-    ensures { (seen : ℕ → Bool) → IsNext (λ b. seen b && nat_lt 0 (support_at (with_supports base.now.supports changed.now) a b)) from next → IsNext (λ b. (seen b || has blocks.now b) && nat_lt 0 (support_at (with_supports base.now.supports changed.now) a b)) from result }
+    ensures { LooksThrough (has blocks.now) (λ b. is_supported (with_supports base.now.supports changed.now) a b) from next result }
 {
     let mut found = next;
     for i in 0..blocks.len() {
@@ -82,7 +82,7 @@ fn nearer_parent(
     from: u32,
     found: Option<u32>,
 ) -> Option<u32>
-    ensures { (seen : ℕ → Bool) → IsNext (λ x. seen x && nat_lt 0 (support_at (with_supports base.now.supports changed.now) x b)) from found → IsNext (λ x. (seen x || nat_eq x a) && nat_lt 0 (support_at (with_supports base.now.supports changed.now) x b)) from result }
+    ensures { LooksThrough (λ x. nat_eq x a) (λ x. is_supported (with_supports base.now.supports changed.now) x b) from found result }
 {
     if !is_nearer(found, from, a) {
         return found;
@@ -102,7 +102,7 @@ fn nearer_child(
     from: u32,
     found: Option<u32>,
 ) -> Option<u32>
-    ensures { (seen : ℕ → Bool) → IsNext (λ x. seen x && nat_lt 0 (support_at (with_supports base.now.supports changed.now) a x)) from found → IsNext (λ x. (seen x || nat_eq x b) && nat_lt 0 (support_at (with_supports base.now.supports changed.now) a x)) from result }
+    ensures { LooksThrough (λ x. nat_eq x b) (λ x. is_supported (with_supports base.now.supports changed.now) a x) from found result }
 {
     if !is_nearer(found, from, b) {
         return found;

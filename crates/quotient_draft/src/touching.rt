@@ -1,9 +1,9 @@
 // What a draft touches.
-ghost use Rattle.std.specs.Prelude.{◌≡◌, ◌≢◌, ◌<◌, ◌&&◌, ◌++◌, not, ℕ, List, Option, false, IsTrue, IsFalse, OnOk, nat_eq, nat_lt};
+ghost use Rattle.std.specs.Prelude.{◌≡◌, ◌≢◌, ◌<◌, ◌&&◌, ◌++◌, not, ℕ, IsTrue, IsFalse, OnOk, nat_eq, nat_lt};
 ghost use Rattle.std.specs.List.{list_any};
 ghost use Rattle.px_spec.specs.Members.{at, has};
-ghost use Rattle.bisim_spec.specs.Views.{SupportTable, support_at};
-ghost use Rattle.quotient_draft.specs.Drafts.{shown_support, with_added, with_supports};
+ghost use Rattle.bisim_spec.specs.Views.{support_at};
+ghost use Rattle.quotient_draft.specs.Drafts.{shown_support, with_supports, LabelsStayBut, SupportsStayBut};
 
 use crate::changed::Changed;
 use crate::draft::Draft;
@@ -17,8 +17,8 @@ impl Draft {
     /// each where the list has no room.
     pub fn add_touched(&self, list: &mut Vec<u32>) -> Result<(), Memory>
         ensures kept { OnOk result ((b : ℕ) → IsTrue (has list.old.items b) → IsTrue (has list.new.items b)) }
-        ensures labels { OnOk result ((labels : List (Option ℕ)) (b : ℕ) → has list.new.items b ≡ false → at (with_added labels self.now.added) b ≡ at labels b) }
-        ensures supports { OnOk result ((t : SupportTable) (a b : ℕ) → has list.new.items b ≡ false → support_at (with_supports t self.now.supports) a b ≡ support_at t a b) }
+        ensures labels { OnOk result (LabelsStayBut list.new.items self.now.added) }
+        ensures supports { OnOk result (SupportsStayBut list.new.items self.now.supports) }
     {
         add_both(list, self.added.numbers(), self.changed.targets())
     }

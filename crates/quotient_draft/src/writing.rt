@@ -1,7 +1,7 @@
 // Drafting a support, or the move of a node that has a block.
-ghost use Rattle.std.specs.Prelude.{◌≡◌, ◌<◌, ℕ, Some, IsSome, OnOk, OnErr, nat_eq, if◌then◌else◌};
+ghost use Rattle.std.specs.Prelude.{◌≡◌, ◌<◌, ℕ, Some, IsSome, OnOk, OnErr};
 ghost use Rattle.px_spec.specs.Members.{at, has};
-ghost use Rattle.quotient_draft.specs.Drafts.{shown_labels, shown_blocks, shown_support, is_pair, with_left};
+ghost use Rattle.quotient_draft.specs.Drafts.{shown_labels, shown_blocks, shown_support, with_left, SetsPair, PutsNode};
 ghost use Rattle.quotient_draft.specs.Basis.{IsOver};
 
 use crate::draft::Draft;
@@ -14,7 +14,7 @@ impl Draft {
         requires over { IsOver base.now.blocks.block_of base.now.blocks.labels self.old }
         requires from { IsSome (at (shown_labels base.now self.old) a) }
         requires onto { IsSome (at (shown_labels base.now self.old) b) }
-        ensures set { OnOk result ((x y : ℕ) → shown_support base.now self.new x y ≡ (if is_pair (x, y) (a, b) then n else shown_support base.now self.old x y)) }
+        ensures set { OnOk result (SetsPair a b n (shown_support base.now self.old) (shown_support base.now self.new)) }
         ensures added { self.new.added ≡ self.old.added }
         ensures moves { self.new.moves ≡ self.old.moves }
         ensures left { self.new.left ≡ self.old.left }
@@ -31,14 +31,15 @@ impl Draft {
         requires over { IsOver base.now.blocks.block_of base.now.blocks.labels self.old }
         requires node { IsSome (at (shown_blocks base.now self.old) n) }
         requires block { IsSome (at (shown_labels base.now self.old) b) }
-        ensures blocks { OnOk result ((m : ℕ) → at (shown_blocks base.now self.new) m ≡ (if nat_eq m n then Some b else at (shown_blocks base.now self.old) m)) }
+        ensures blocks { OnOk result (PutsNode n (Some b) (shown_blocks base.now self.old) (shown_blocks base.now self.new)) }
         ensures added { self.new.added ≡ self.old.added }
         ensures left { OnOk result (self.new.left ≡ with_left self.old.left (at (shown_blocks base.now self.old) n)) }
         ensures supports { self.new.supports ≡ self.old.supports }
         ensures over { OnOk result (IsOver base.now.blocks.block_of base.now.blocks.labels self.new) }
         ensures err { OnErr result (self.new ≡ self.old) }
     {
-        let _ = base.numbers();
+        // Called for its contract: there are at most 2^31 numbers of nodes.
+        let _known = base.numbers();
         self.moves.know_lookups();
         self.put(base, n, Some(b))?;
         Ok(())
