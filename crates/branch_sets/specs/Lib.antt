@@ -1,2 +1,3 @@
 pub mod Axes
 pub mod Automata
+pub mod Images

@@ -1,11 +1,11 @@
 // Where a set of nodes leads along an axis.
-ghost use Rattle.std.specs.Prelude.{◌≡◌, ◌↔◌, ◌⊎◌, ℕ, ◌∷◌, [], true, length, IsTrue, IsSome, IfOk, OnOk};
+ghost use Rattle.std.specs.Prelude.{◌≡◌, ℕ, IsTrue, IsSome, IfOk, OnOk};
 ghost use Rattle.px_spec.specs.Members.{has};
 ghost use Rattle.path_search.specs.NewMarks.{Passes};
-ghost use Rattle.path_search.specs.declared.state.State.TheVariants.{End, Any, Fork};
 ghost use Rattle.branch_spec.specs.Answers.{Along, Reaches};
 ghost use Rattle.branch_sets.specs.Axes.{axis_of};
 ghost use Rattle.branch_sets.specs.Automata.{far_states};
+ghost use Rattle.branch_sets.specs.Images.{IsMember, HasJust, Gains, Loses, HasParent, Image};
 
 use crate::axis::Axis;
 use crate::mirror::Mirror;
@@ -28,11 +28,11 @@ fn far_program(alloc: Global) -> Result<Program, Memory>
 
 /// The members of the set, rising.
 fn members(alloc: Global, set: &Bits) -> Result<Vec<u32>, Memory>
-    ensures { IfOk result (λ l. (n : ℕ) → IsTrue (has l.items n) ↔ IsTrue (has set.now.members n)) }
+    ensures { IfOk result (λ l. HasJust l.items (IsMember set.now.members)) }
 {
     let mut list = Vec::new(alloc);
     // The members are below the size, which this call says.
-    let _size = set.size();
+    let _for_proof = set.size();
     let mut from = 0;
     while let Some(n) = set.next_from(from) {
         list.push(n)?;
@@ -46,7 +46,7 @@ fn insert_children<G: Digraph>(g: &G, n: u32, set: &mut Bits)
     requires node { IsSome (G.label_at g.now n) }
     requires size { set.old.size ≡ G.span g.now }
     ensures size { set.new.size ≡ set.old.size }
-    ensures members { (c : ℕ) → IsTrue (has set.new.members c) ↔ (IsTrue (has set.old.members c) ⊎ IsTrue (G.edge g.now n c)) }
+    ensures members { Gains set.old.members set.new.members (λ c. IsTrue (G.edge g.now n c)) }
 {
     let children = g.children(n);
     for i in 0..children.len() {
@@ -58,11 +58,11 @@ fn insert_children<G: Digraph>(g: &G, n: u32, set: &mut Bits)
 fn near<G: Digraph>(alloc: Global, g: &G, set: &Bits) -> Result<Bits, Memory>
     requires { (v : ℕ) → IsTrue (has set.now.members v) → IsSome (G.label_at g.now v) }
     ensures size { IfOk result (λ b. b.size ≡ G.span g.now) }
-    ensures image { IfOk result (λ b. (c : ℕ) → IsTrue (has b.members c) ↔ ((v : ℕ) × IsTrue (has set.now.members v) × IsTrue (G.edge g.now v c))) }
+    ensures image { IfOk result (λ b. HasJust b.members (HasParent (G.edge g.now) (IsMember set.now.members))) }
 {
     let mut image = Bits::new(alloc, g.size())?;
     // The members are below the size, which this call says.
-    let _size = set.size();
+    let _for_proof = set.size();
     let mut from = 0;
     while let Some(n) = set.next_from(from) {
         insert_children(g, n, &mut image);
@@ -76,7 +76,7 @@ fn insert_led<G: Digraph>(g: &G, nodes: &[u32], set: &mut Bits)
     requires nodes { (n : ℕ) → IsTrue (has nodes.now n) → IsSome (G.label_at g.now n) }
     requires size { set.old.size ≡ G.span g.now }
     ensures size { set.new.size ≡ set.old.size }
-    ensures members { (c : ℕ) → IsTrue (has set.new.members c) ↔ (IsTrue (has set.old.members c) ⊎ ((v : ℕ) × IsTrue (has nodes.now v) × IsTrue (G.edge g.now v c))) }
+    ensures members { Gains set.old.members set.new.members (HasParent (G.edge g.now) (IsMember nodes.now)) }
 {
     for i in 0..nodes.len() {
         insert_children(g, nodes[i], set);
@@ -88,7 +88,7 @@ fn insert_led<G: Digraph>(g: &G, nodes: &[u32], set: &mut Bits)
 /// each node is read once. It takes a byte for each number, and 4 KiB.
 pub fn passing_children<G: Digraph>(alloc: Global, g: &G, test: Option<u32>) -> Result<Bits, Memory>
     ensures size { IfOk result (λ b. b.size ≡ G.span g.now) }
-    ensures image { IfOk result (λ b. (c : ℕ) → IsTrue (has b.members c) ↔ ((v : ℕ) × Passes (G.label_at g.now) test v × IsTrue (G.edge g.now v c))) }
+    ensures image { IfOk result (λ b. HasJust b.members (HasParent (G.edge g.now) (Passes (G.label_at g.now) test))) }
 {
     let mut image = Bits::new(alloc, g.size())?;
     let mut noted = vec![in alloc; 0; RUN as usize]?;
@@ -107,7 +107,7 @@ fn remove_children<G: Digraph>(g: &G, n: u32, set: &mut Bits)
     requires node { IsSome (G.label_at g.now n) }
     requires size { set.old.size ≡ G.span g.now }
     ensures size { set.new.size ≡ set.old.size }
-    ensures members { (c : ℕ) → IsTrue (has set.new.members c) ↔ (IsTrue (has set.old.members c) × (IsTrue (G.edge g.now n c) → ⊥)) }
+    ensures members { Loses set.old.members set.new.members (λ c. IsTrue (G.edge g.now n c)) }
 {
     let children = g.children(n);
     for i in 0..children.len() {
@@ -120,7 +120,7 @@ fn remove_led<G: Digraph>(g: &G, nodes: &[u32], set: &mut Bits)
     requires nodes { (n : ℕ) → IsTrue (has nodes.now n) → IsSome (G.label_at g.now n) }
     requires size { set.old.size ≡ G.span g.now }
     ensures size { set.new.size ≡ set.old.size }
-    ensures members { (c : ℕ) → IsTrue (has set.new.members c) ↔ (IsTrue (has set.old.members c) × (((v : ℕ) × IsTrue (has nodes.now v) × IsTrue (G.edge g.now v c)) → ⊥)) }
+    ensures members { Loses set.old.members set.new.members (HasParent (G.edge g.now) (IsMember nodes.now)) }
 {
     for i in 0..nodes.len() {
         remove_children(g, nodes[i], set);
@@ -138,7 +138,7 @@ pub fn remove_passing_children<G: Digraph>(
 ) -> Result<(), Memory>
     requires { set.old.size ≡ G.span g.now }
     ensures size { set.new.size ≡ set.old.size }
-    ensures members { OnOk result ((c : ℕ) → IsTrue (has set.new.members c) ↔ (IsTrue (has set.old.members c) × (((v : ℕ) × Passes (G.label_at g.now) test v × IsTrue (G.edge g.now v c)) → ⊥))) }
+    ensures members { OnOk result (Loses set.old.members set.new.members (HasParent (G.edge g.now) (Passes (G.label_at g.now) test))) }
 {
     let mut noted = vec![in alloc; 0; RUN as usize]?;
     let mut from = 0;
@@ -155,7 +155,7 @@ pub fn remove_passing_children<G: Digraph>(
 fn far<G: Digraph>(alloc: Global, g: &G, set: &Bits) -> Result<Bits, Memory>
     requires { (v : ℕ) → IsTrue (has set.now.members v) → IsSome (G.label_at g.now v) }
     ensures size { IfOk result (λ b. b.size ≡ G.span g.now) }
-    ensures image { IfOk result (λ b. (c : ℕ) → IsTrue (has b.members c) ↔ ((v : ℕ) × IsTrue (has set.now.members v) × Reaches (G.edge g.now) v c)) }
+    ensures image { IfOk result (λ b. HasJust b.members (Image (Reaches (G.edge g.now)) (IsMember set.now.members))) }
 {
     let program = far_program(alloc)?;
     let places = members(alloc, set)?;
@@ -168,7 +168,7 @@ fn far<G: Digraph>(alloc: Global, g: &G, set: &Bits) -> Result<Bits, Memory>
 pub fn along<G: Digraph>(alloc: Global, g: &G, axis: Axis, set: &Bits) -> Result<Bits, Memory>
     requires { (v : ℕ) → IsTrue (has set.now.members v) → IsSome (G.label_at g.now v) }
     ensures size { IfOk result (λ b. b.size ≡ G.span g.now) }
-    ensures image { IfOk result (λ b. (c : ℕ) → IsTrue (has b.members c) ↔ ((v : ℕ) × IsTrue (has set.now.members v) × Along (G.edge g.now) (axis_of axis) v c)) }
+    ensures image { IfOk result (λ b. HasJust b.members (Image (Along (G.edge g.now) (axis_of axis)) (IsMember set.now.members))) }
 {
     match axis {
         Axis::Child => near(alloc, g, set),

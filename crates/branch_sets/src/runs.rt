@@ -1,22 +1,11 @@
 // Nodes whose label passes, taken by runs of numbers.
-ghost use Rattle.std.specs.Prelude.{◌≡◌, ◌+◌, ◌<◌, ◌≤◌, ◌↔◌, ◌⊎◌, ℕ, length, take, IsTrue, IsSome};
-ghost use Rattle.px_spec.specs.Members.{has};
+ghost use Rattle.std.specs.Prelude.{◌≡◌, ◌+◌, ◌<◌, ◌≤◌, ◌↔◌, length, take, IsTrue, IsSome};
 ghost use Rattle.path_search.specs.NewMarks.{Passes};
+ghost use Rattle.branch_sets.specs.Images.{IsMember, HasJust, Gains};
 
 use label_graph::Digraph;
+use path_search::has_label;
 use px_base::{Bits, NodeId};
-
-/// Whether the node's label passes: any one, or the one with the number.
-#[inline(always)]
-fn passes<G: Digraph>(g: &G, test: Option<u32>, n: NodeId) -> bool
-    requires { IsSome (G.label_at g.now n) }
-    ensures { IsTrue result ↔ Passes (G.label_at g.now) test n }
-{
-    match test {
-        None => true,
-        Some(label) => g.label(n) == label,
-    }
-}
 
 /// Whether the number is that of a node whose label passes.
 #[inline(always)]
@@ -24,7 +13,7 @@ pub(crate) fn is_passing<G: Digraph>(g: &G, test: Option<u32>, n: NodeId) -> boo
     ensures passes { IsTrue result ↔ Passes (G.label_at g.now) test n }
     ensures node { IsTrue result → IsSome (G.label_at g.now n) }
 {
-    g.is_node(n) && passes(g, test, n)
+    g.is_node(n) && has_label(g, test, n)
 }
 
 /// How many nodes are tested before those that pass are used: few enough for their numbers to stay in the nearest
@@ -37,7 +26,7 @@ fn note_if(noted: &mut Vec<u32>, count: usize, n: NodeId, wanted: bool) -> usize
     requires { count < length noted.old.items }
     ensures length { length noted.new.items ≡ length noted.old.items }
     ensures within { result ≤ count + 1 }
-    ensures noted { (m : ℕ) → IsTrue (has (take result noted.new.items) m) ↔ (IsTrue (has (take count noted.old.items) m) ⊎ ((m ≡ n) × IsTrue wanted)) }
+    ensures noted { Gains (take count noted.old.items) (take result noted.new.items) (λ m. (m ≡ n) × IsTrue wanted) }
 {
     noted[count] = n;
     if wanted { count + 1 } else { count }
@@ -57,7 +46,7 @@ pub(crate) fn note_passing<G: Digraph>(
     requires room { to ≤ from + length noted.old.items }
     ensures length { length noted.new.items ≡ length noted.old.items }
     ensures within { result ≤ length noted.new.items }
-    ensures noted { (m : ℕ) → IsTrue (has (take result noted.new.items) m) ↔ ((from ≤ m) × (m < to) × Passes (G.label_at g.now) test m) }
+    ensures noted { HasJust (take result noted.new.items) (λ m. (from ≤ m) × (m < to) × Passes (G.label_at g.now) test m) }
 {
     let mut count = 0;
     for n in from..to {
@@ -74,7 +63,7 @@ pub(crate) fn note_members(set: &Bits, from: u32, to: u32, noted: &mut Vec<u32>)
     requires room { to ≤ from + length noted.old.items }
     ensures length { length noted.new.items ≡ length noted.old.items }
     ensures within { result ≤ length noted.new.items }
-    ensures noted { (m : ℕ) → IsTrue (has (take result noted.new.items) m) ↔ ((from ≤ m) × (m < to) × IsTrue (has set.now.members m)) }
+    ensures noted { HasJust (take result noted.new.items) (λ m. (from ≤ m) × (m < to) × IsMember set.now.members m) }
 {
     let mut count = 0;
     for n in from..to {

@@ -1,7 +1,8 @@
 // Sets of nodes from other sets, and from labels.
-ghost use Rattle.std.specs.Prelude.{◌≡◌, ◌+◌, ◌<◌, ◌≤◌, ◌↔◌, ◌⊎◌, ℕ, Some, length, take, IsTrue, IsSome, IfOk, OnOk};
+ghost use Rattle.std.specs.Prelude.{◌≡◌, ◌<◌, ℕ, Some, IsTrue, IfOk, OnOk};
 ghost use Rattle.px_spec.specs.Members.{has};
 ghost use Rattle.path_search.specs.NewMarks.{Passes};
+ghost use Rattle.branch_sets.specs.Images.{IsMember, HasJust, Gains, Keeps, Loses};
 
 use crate::runs::{RUN, end_of_run, is_passing, note_members, note_passing};
 use label_graph::Digraph;
@@ -13,7 +14,7 @@ use std::alloc::Global;
 fn remove_unless(set: &mut Bits, n: NodeId, stays: bool)
     requires { n < set.old.size }
     ensures size { set.new.size ≡ set.old.size }
-    ensures members { (m : ℕ) → IsTrue (has set.new.members m) ↔ (IsTrue (has set.old.members m) × (m ≡ n → IsTrue stays)) }
+    ensures members { Keeps set.old.members set.new.members (λ m. m ≡ n → IsTrue stays) }
 {
     if !stays {
         set.remove(n);
@@ -23,10 +24,10 @@ fn remove_unless(set: &mut Bits, n: NodeId, stays: bool)
 /// Takes out of a set the numbers that aren't in another one. O(n) for the first set's size n, no memory.
 pub fn intersect(set: &mut Bits, other: &Bits)
     ensures size { set.new.size ≡ set.old.size }
-    ensures members { (n : ℕ) → IsTrue (has set.new.members n) ↔ (IsTrue (has set.old.members n) × IsTrue (has other.now.members n)) }
+    ensures members { Keeps set.old.members set.new.members (IsMember other.now.members) }
 {
     // The members are below the size, which this call says.
-    let _size = set.size();
+    let _for_proof = set.size();
     let mut from = 0;
     while let Some(n) = set.next_from(from) {
         remove_unless(set, n, other.contains(n));
@@ -38,10 +39,10 @@ pub fn intersect(set: &mut Bits, other: &Bits)
 pub fn unite(set: &mut Bits, other: &Bits)
     requires { other.now.size ≡ set.old.size }
     ensures size { set.new.size ≡ set.old.size }
-    ensures members { (n : ℕ) → IsTrue (has set.new.members n) ↔ (IsTrue (has set.old.members n) ⊎ IsTrue (has other.now.members n)) }
+    ensures members { Gains set.old.members set.new.members (IsMember other.now.members) }
 {
     // The members are below the size, which this call says.
-    let _size = other.size();
+    let _for_proof = other.size();
     let mut from = 0;
     while let Some(n) = other.next_from(from) {
         set.insert(n);
@@ -52,10 +53,10 @@ pub fn unite(set: &mut Bits, other: &Bits)
 /// Takes the numbers of another set out of a set. O(n) for the first set's size n, no memory.
 pub fn subtract(set: &mut Bits, gone: &Bits)
     ensures size { set.new.size ≡ set.old.size }
-    ensures members { (n : ℕ) → IsTrue (has set.new.members n) ↔ (IsTrue (has set.old.members n) × (IsTrue (has gone.now.members n) → ⊥)) }
+    ensures members { Loses set.old.members set.new.members (IsMember gone.now.members) }
 {
     // The members are below the size, which this call says.
-    let _size = set.size();
+    let _for_proof = set.size();
     let mut from = 0;
     while let Some(n) = set.next_from(from) {
         remove_unless(set, n, !gone.contains(n));
@@ -67,7 +68,7 @@ pub fn subtract(set: &mut Bits, gone: &Bits)
 fn insert_all(set: &mut Bits, list: &[u32])
     requires { (n : ℕ) → IsTrue (has list.now n) → n < set.old.size }
     ensures size { set.new.size ≡ set.old.size }
-    ensures members { (n : ℕ) → IsTrue (has set.new.members n) ↔ (IsTrue (has set.old.members n) ⊎ IsTrue (has list.now n)) }
+    ensures members { Gains set.old.members set.new.members (IsMember list.now) }
 {
     for i in 0..list.len() {
         set.insert(list[i]);
@@ -78,7 +79,7 @@ fn insert_all(set: &mut Bits, list: &[u32])
 /// `Memory` comes only where memory runs out. O(n) for n node numbers; it takes a byte for each, and 4 KiB.
 pub fn passing<G: Digraph>(alloc: Global, g: &G, test: Option<u32>) -> Result<Bits, Memory>
     ensures size { IfOk result (λ s. s.size ≡ G.span g.now) }
-    ensures members { IfOk result (λ s. (n : ℕ) → IsTrue (has s.members n) ↔ Passes (G.label_at g.now) test n) }
+    ensures members { IfOk result (λ s. HasJust s.members (Passes (G.label_at g.now) test)) }
 {
     let mut set = Bits::new(alloc, g.size())?;
     let mut noted = vec![in alloc; 0; RUN as usize]?;
@@ -96,7 +97,7 @@ pub fn passing<G: Digraph>(alloc: Global, g: &G, test: Option<u32>) -> Result<Bi
 fn keep_listed<G: Digraph>(g: &G, label: u32, list: &[u32], set: &mut Bits)
     requires { (n : ℕ) → IsTrue (has list.now n) → n < set.old.size }
     ensures size { set.new.size ≡ set.old.size }
-    ensures members { (n : ℕ) → IsTrue (has set.new.members n) ↔ (IsTrue (has set.old.members n) × (IsTrue (has list.now n) → G.label_at g.now n ≡ Some label)) }
+    ensures members { Keeps set.old.members set.new.members (λ n. IsMember list.now n → G.label_at g.now n ≡ Some label) }
 {
     for i in 0..list.len() {
         remove_unless(set, list[i], is_passing(g, Some(label), list[i]));
@@ -112,7 +113,7 @@ pub fn keep_labelled<G: Digraph>(
     set: &mut Bits,
 ) -> Result<(), Memory>
     ensures size { set.new.size ≡ set.old.size }
-    ensures members { OnOk result ((n : ℕ) → IsTrue (has set.new.members n) ↔ (IsTrue (has set.old.members n) × (G.label_at g.now n ≡ Some label))) }
+    ensures members { OnOk result (Keeps set.old.members set.new.members (λ n. G.label_at g.now n ≡ Some label)) }
 {
     let mut noted = vec![in alloc; 0; RUN as usize]?;
     let mut from = 0;
