@@ -1,13 +1,11 @@
 // The members of the blocks, as they are printed.
-ghost use Rattle.std.specs.Prelude.{◌≡◌, ◌++◌, ℕ, Bool, true, Some, IsSome, OnOk, IfOk, length, string_bytes};
-ghost use Rattle.px_spec.specs.Graphs.{Graph};
-ghost use Rattle.px_spec.specs.Shapes.{shape_of};
+ghost use Rattle.std.specs.Prelude.{◌≡◌, ◌++◌, true, Some, IsSome, OnOk, IfOk, length, string_bytes};
 ghost use Rattle.px_spec.specs.Members.{at};
 ghost use Rattle.bisim_spec.specs.Tests.{together};
 ghost use Rattle.bisim_spec.specs.Below.{count_below};
 ghost use Rattle.extent_report.specs.ListedBlocks as printed;
-ghost use Rattle.extent_report.specs.ListedBlocks.{texts_below, block_line};
-ghost use Rattle.extent_report.specs.Summaries.{shape_of_blocks, LabelsHaveTexts, IsSummaryOf, line_at};
+ghost use Rattle.extent_report.specs.ListedBlocks.{texts_below};
+ghost use Rattle.extent_report.specs.Summaries.{shape_of_blocks, LabelsHaveTexts, ListsBlocks, line_of, line_at};
 ghost use Rattle.extent_report.specs.Chains.{leads, word_with};
 
 use crate::chains::Chains;
@@ -44,7 +42,7 @@ fn push_block(
     requires block { at chains.now.block_of first ≡ Some b }
     requires live { IsSome (at chains.now.labels b) }
     requires labelled { LabelsHaveTexts labels.now.texts chains.now }
-    ensures { OnOk result (string_bytes out.new ≡ string_bytes out.old ++ block_line (shape_of_blocks labels.now.texts chains.now) (together chains.now.block_of) first) }
+    ensures { OnOk result (string_bytes out.new ≡ string_bytes out.old ++ line_of labels.now.texts chains.now first) }
 {
     let label = labels.text(chains.label(b));
     out.push_str(label.as_str())?;
@@ -132,7 +130,7 @@ fn text_of(alloc: Global, summary: &Summary, labels: &Labels) -> Result<Text, Me
 pub fn extents_text(alloc: Global, summary: &Summary, labels: &Labels) -> Result<Text, Memory>
     requires labelled { LabelsHaveTexts labels.now.texts summary.now.blocks }
     ensures text { IfOk result (λ t. t ≡ printed.extents_text (shape_of_blocks labels.now.texts summary.now.blocks) (together summary.now.blocks.block_of)) }
-    ensures listed { IfOk result (λ t. (g : Graph) (r : ℕ → ℕ → Bool) → IsSummaryOf g r summary.now → g.seen ≡ labels.now.texts → t ≡ printed.extents_text (shape_of g) r) }
+    ensures listed { IfOk result (ListsBlocks labels.now.texts summary.now) }
 {
     let text = text_of(alloc, summary, labels)?;
     Ok(text)
