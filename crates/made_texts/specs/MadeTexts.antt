@@ -107,6 +107,10 @@ last_lines =
     (asked_onto (codes "path") (codes "g0//literal")
     (asked_onto (codes "branch") (codes "iri[/<http://e/p0> and not(/<http://e/p1>)]") []))
 
+-- so many steps from the state x on, for a graph of that many nodes, and then the last lines
+abbrev pub steps_text : ℕ → ℕ → ℕ → List ℕ
+steps_text nodes count x = lines_text (steps_onto nodes count nodes x last_lines)
+
 -- The script of a seed, for a graph to which that many nodes were given numbers: 500 steps, whose draws go on where those
 -- of the graph file ended, and then the last lines.
 unfoldable pub made_script_text : ℕ → ℕ → List ℕ

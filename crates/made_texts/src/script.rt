@@ -1,7 +1,7 @@
 // The script of a seed.
 ghost use Rattle.std.specs.Prelude.{◌≡◌, ◌++◌, [], IfOk, OnOk, string_bytes};
 ghost use Rattle.made_texts.specs.Generator.{state_after};
-ghost use Rattle.made_texts.specs.MadeTexts.{last_lines, lines_text, made_script_text, step_lines, steps_onto};
+ghost use Rattle.made_texts.specs.MadeTexts.{last_lines, lines_text, made_script_text, step_lines, steps_text};
 
 use crate::generator::Generator;
 use crate::graph::LINES;
@@ -40,7 +40,7 @@ fn push_steps(
     nodes: u32,
     count: u32,
 ) -> Result<(), Memory>
-    ensures { OnOk result (string_bytes out.new ++ lines_text last_lines ≡ string_bytes out.old ++ lines_text (steps_onto nodes count nodes generator.old.state last_lines)) }
+    ensures { OnOk result (string_bytes out.new ++ lines_text last_lines ≡ string_bytes out.old ++ steps_text nodes count generator.old.state) }
 {
     for i in 0..count {
         push_step(

@@ -2,7 +2,7 @@
 ghost use Rattle.std.specs.Prelude.{◌≡◌, ◌+◌, ◌*◌, ◌<◌, if◌then◌else◌, nat_lt};
 ghost use Rattle.made_texts.specs.Generator.{drawn, state_after};
 ghost use Rattle.made_texts.specs.MadeTexts.{after_line, after_lines, graph_line, node_term, value_term};
-ghost use Rattle.made_texts.specs.Shown.{shown_line, shown_object};
+ghost use Rattle.made_texts.specs.Shown.{shown_line, shown_object, object_above, after_object};
 
 use crate::generator::Generator;
 
@@ -29,8 +29,8 @@ pub(crate) struct Triple {
 // An object above the subject, or a value where that is past the nodes.
 fn draw_object(generator: &mut Generator, subject: u64) -> Object
     requires { subject < 4000 }
-    ensures shown { shown_object result ≡ (let n = 8 * subject + 1 + drawn 1 16 generator.old.state in if nat_lt n 4000 then node_term n else value_term (drawn 2 500 generator.old.state)) }
-    ensures state { generator.new.state ≡ (let n = 8 * subject + 1 + drawn 1 16 generator.old.state in if nat_lt n 4000 then state_after 1 generator.old.state else state_after 2 generator.old.state) }
+    ensures shown { shown_object result ≡ object_above subject generator.old.state }
+    ensures state { generator.new.state ≡ after_object subject generator.old.state }
 {
     let number = 8 * subject + 1 + generator.draw(16);
     if number < NODES {
