@@ -1,9 +1,9 @@
 -- What the code's values say, in the words of the definitions.
-use Rattle.std.specs.Prelude.{◌≡◌, ℕ, List, Option, Some, None, option_map, true, false}
+use Rattle.std.specs.Prelude.{◌≡◌, ℕ, List, Option, Some, None, Result, IfOk, option_map, true, false}
 use Rattle.clap.specs.Words.{found_of, matches_of, rows_of}
 use Rattle.clap.specs.declared.parser.matches.ArgMatches.{ArgMatches}
 use Rattle.command_line.specs.Forms.{Form, Settings, runs, makes, neither}
-use Rattle.command_line.specs.Givens.{Given}
+use Rattle.command_line.specs.Givens.{Given, form_given}
 use Rattle.command_line.specs.Words.{command, is_accepted}
 use Rattle.command_line.specs.declared.form.Form.{Form as FormSeen}
 use Rattle.command_line.specs.declared.form.Form.TheVariants.{Run, Make, Neither}
@@ -27,6 +27,10 @@ shown_given g = record {
   without_one = g.without_one;
   without_fb = g.without_fb;
 }
+
+-- the form that is read is the one that these texts and flags give
+abbrev pub IsReadAs : {E : Type 0} → Result FormSeen E → Given → Type 0
+IsReadAs result given = IfOk result (λ f. shown_form f ≡ form_given given)
 
 -- clap's matches of the words; none where it refuses them, and only there
 abbrev pub Matches : List (List ℕ) → Option ArgMatches → Type 0

@@ -76,6 +76,10 @@ given_by (of_seed seed) = given_seed seed
 abbrev pub flagless : ScriptUsage → ScriptUsage
 flagless u = record u { without_one = false; without_fb = false }
 
+-- just these texts, and no flag
+abbrev pub given_texts : ScriptUsage → Given
+given_texts u = given_with (flagless u)
+
 -- not empty, and no hyphen (45) first
 abbrev pub IsPlainText : List ℕ → Type 0
 IsPlainText [] = ⊥

@@ -6,8 +6,8 @@ ghost use Rattle.command_line.specs.Forms.{neither, HasLevel};
 ghost use Rattle.command_line.specs.Givens.{form_given, form_with, level_or_default as level_given, level_of as level_in};
 ghost use Rattle.command_line.specs.Givens.{has_others as others_given, is_numeral as numeral_given, seed_of as seed_given};
 ghost use Rattle.command_line.specs.Words.{form_of as form_said, form_read, is_accepted};
-ghost use Rattle.command_line.specs.Shown.{shown_form, shown_given};
-ghost use Rattle.command_line.specs.Usage.{HasPlain, HasPlainTexts, Order, ScriptUsage, Usage, flagless, given_by, given_with, words_in, words_of};
+ghost use Rattle.command_line.specs.Shown.{shown_form, shown_given, IsReadAs};
+ghost use Rattle.command_line.specs.Usage.{HasPlain, HasPlainTexts, Order, ScriptUsage, Usage, given_by, given_texts, words_in, words_of};
 
 use crate::given::{Given, read_given};
 use px_base::Memory;
@@ -158,9 +158,9 @@ fn judge<'a>(given: Option<Given<'a>>) -> Form<'a>
 pub fn read_words<'a>(alloc: Global, words: &'a [String]) -> Result<Form<'a>, Memory>
     ensures exact { IfOk result (λ f. shown_form f ≡ form_said (map string_bytes words.entry.now)) }
     // The words of the usage line, with texts that aren't empty and don't begin with a hyphen, give those texts.
-    ensures plain { (u : Usage) → map string_bytes words.entry.now ≡ words_of u → HasPlainTexts u → IfOk result (λ f. shown_form f ≡ form_given (given_by u)) }
+    ensures plain { (u : Usage) → map string_bytes words.entry.now ≡ words_of u → HasPlainTexts u → IsReadAs result (given_by u) }
     // So do those of a script without flags in another order.
-    ensures reordered { (u : ScriptUsage) (o : Order) → map string_bytes words.entry.now ≡ words_in o u → HasPlain u → IfOk result (λ f. shown_form f ≡ form_given (given_with (flagless u))) }
+    ensures reordered { (u : ScriptUsage) (o : Order) → map string_bytes words.entry.now ≡ words_in o u → HasPlain u → IsReadAs result (given_texts u) }
     ensures refused { is_accepted (map string_bytes words.entry.now) ≡ false → IfOk result (λ f. shown_form f ≡ neither) }
     ensures level { IfOk result (λ f. HasLevel (shown_form f)) }
 {
