@@ -26,7 +26,6 @@ use std::marker::Model;
 ///     let block = blocks.new_block(label);
 ///     blocks.place(0, block);
 ///     blocks.place(1, block);
-#[derive(Drop)]
 pub struct Blocks {
     block: Slots,
     next: Slots,
@@ -38,6 +37,32 @@ pub struct Blocks {
     live: Live,
     node_room: u32,
     block_room: u32,
+}
+
+impl Drop for Blocks {
+    // By hand, so that no crate above proves how the tables are dropped.
+    fn drop(self) {
+        let Blocks {
+            block,
+            next,
+            prev,
+            first,
+            labels,
+            sizes,
+            freed,
+            live,
+            node_room: _,
+            block_room: _,
+        } = self;
+        drop(block);
+        drop(next);
+        drop(prev);
+        drop(first);
+        drop(labels);
+        drop(sizes);
+        drop(freed);
+        drop(live);
+    }
 }
 
 impl Model for Blocks {

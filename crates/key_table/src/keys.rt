@@ -22,10 +22,18 @@ use std::marker::Model;
 ///     let first = keys.intern(&[7, 1, 4])?;  // 0
 ///     let other = keys.intern(&[7])?;        // 1
 ///     let again = keys.intern(&[7, 1, 4])?;  // 0
-#[derive(Drop)]
 pub struct KeyTable {
     arena: Vec<u32>,
     index: HashIndex<KeyRange>,
+}
+
+impl Drop for KeyTable {
+    // By hand, so that no crate above proves how the tables are dropped.
+    fn drop(self) {
+        let KeyTable { arena, index } = self;
+        drop(arena);
+        drop(index);
+    }
 }
 
 impl Model for KeyTable {
