@@ -24,10 +24,18 @@ use std::marker::Model;
 ///
 ///     let summary = Summary::of(alloc, blocks, &graph.view(&mut steps))?;
 ///     let edges = summary.support(0, 1);
-#[derive(Drop)]
 pub struct Summary {
     pub(crate) blocks: Blocks,
     pub(crate) joins: Joins,
+}
+
+impl Drop for Summary {
+    // By hand, so that no crate above proves how the tables are dropped.
+    fn drop(self) {
+        let Summary { blocks, joins } = self;
+        drop(blocks);
+        drop(joins);
+    }
 }
 
 impl Model for Summary {
