@@ -1,12 +1,12 @@
 // Moving a node to another block.
-ghost use Rattle.std.specs.Prelude.{◌≡◌, ◌+◌, ◌≤◌, ℕ, Some, IsSome, IsTrue, OnOk, nat_eq, if◌then◌else◌};
+ghost use Rattle.std.specs.Prelude.{◌≡◌, ◌+◌, ◌≤◌, Some, IsSome, IsTrue, OnOk};
 ghost use Rattle.px_spec.specs.Members.{at, Lists};
 ghost use Rattle.px_spec.specs.Graphs.{is_live, has_edge};
 ghost use Rattle.px_spec.specs.Shapes.{shape_of};
 ghost use Rattle.bisim_spec.specs.Partitions.{IsPartition};
 ghost use Rattle.upkeep_spec.specs.Supported.{AreEdgeCounts};
 ghost use Rattle.graph_update.specs.PendingChanges.{graph_after};
-ghost use Rattle.quotient_draft.specs.Drafts.{shown_labels, shown_blocks, shown_support};
+ghost use Rattle.quotient_draft.specs.Drafts.{shown_labels, shown_blocks, shown_support, PutsNode};
 ghost use Rattle.quotient_draft.specs.Basis.{IsOver};
 ghost use Rattle.node_moves.specs.Costs.{parents_cost, children_cost};
 
@@ -36,15 +36,15 @@ pub fn move_node<L: Ledger>(
     requires partition { IsPartition (shape_of (graph_after after.now)) (shown_blocks base.now draft.old) }
     requires block { IsSome (at (shown_labels base.now draft.old) b) }
     requires supports { AreEdgeCounts (graph_after after.now) (shown_blocks base.now draft.old) (shown_support base.now draft.old) }
-    ensures moved { OnOk result ((m : ℕ) → at (shown_blocks base.now draft.new) m ≡ (if nat_eq m n then Some b else at (shown_blocks base.now draft.old) m)) }
+    ensures moved { OnOk result (PutsNode n (Some b) (shown_blocks base.now draft.old) (shown_blocks base.now draft.new)) }
     ensures added { draft.new.added ≡ draft.old.added }
     ensures supports { OnOk result (AreEdgeCounts (graph_after after.now) (shown_blocks base.now draft.new) (shown_support base.now draft.new)) }
     ensures children { OnOk result (Lists (has_edge (graph_after after.now) n) near.new) }
     ensures over { OnOk result (IsOver base.now.blocks.block_of base.now.blocks.labels draft.new) }
     ensures cost { steps.new ≤ steps.old + parents_cost after.now n + children_cost after.now n }
 {
-    // This says that there are few edges, so that no support grows too large.
-    let _ = after.edge_count();
+    // Called for its contract: there are few edges, so that no support grows too large.
+    let _known = after.edge_count();
     let own = block_of(base, draft, n);
     read_parents(&mut near.parents, after, n, steps)?;
     read_children(&mut near.children, after, n, steps)?;

@@ -22,8 +22,8 @@ pub fn read_parents<L: Ledger>(
     ensures few { length (graph_after after.now).given ≤ 2 ^ 30 }
     ensures cost { steps.new ≤ steps.old + parents_cost after.now n }
 {
-    // This says that there is a graph, so that the parents are among its nodes.
-    let _ = after.created();
+    // Called for its contract: there is a graph, so that the parents are among its nodes.
+    let _known = after.created();
     fill(list, after.parents(n, steps))
 }
 
@@ -39,7 +39,7 @@ pub(crate) fn read_children<L: Ledger>(
     ensures few { length (graph_after after.now).given ≤ 2 ^ 30 }
     ensures cost { steps.new ≤ steps.old + children_cost after.now n }
 {
-    let _ = after.created();
+    let _known = after.created();
     fill(list, after.children(n, steps))
 }
 

@@ -1,12 +1,12 @@
 // The supports of the edges at a node that moves.
-ghost use Rattle.std.specs.Prelude.{◌≡◌, ◌+◌, ◌≤◌, ◌<◌, ◌^◌, ◌&&◌, ℕ, List, Option, Some, IsSome, IsTrue, true, OnOk, nat_eq};
+ghost use Rattle.std.specs.Prelude.{◌≡◌, ◌≤◌, ◌<◌, ◌^◌, ℕ, Some, IsSome, IsTrue, true, OnOk};
 ghost use Rattle.px_spec.specs.Members.{at, has};
 ghost use Rattle.bisim_spec.specs.Supports.{joins};
 ghost use Rattle.bisim_spec.specs.NodeEdges.{joins_off};
 ghost use Rattle.quotient.specs.Joined.{one_if};
 ghost use Rattle.quotient_draft.specs.Drafts.{shown_labels, shown_blocks, shown_support};
 ghost use Rattle.quotient_draft.specs.Basis.{IsOver};
-ghost use Rattle.node_moves.specs.Shifts.{onto_count, from_count, MovesNode};
+ghost use Rattle.node_moves.specs.Shifts.{onto_count, from_count, ShiftsPair, ShiftsEdges, HasSpaceFor, HasSpaceForEdge};
 
 use px_base::{Memory, NodeId};
 use quotient::Summary;
@@ -39,7 +39,7 @@ fn shift(
     ensures added { draft.new.added ≡ draft.old.added }
     ensures moves { draft.new.moves ≡ draft.old.moves }
     ensures over { OnOk result (IsOver base.now.blocks.block_of base.now.blocks.labels draft.new) }
-    ensures shifted { OnOk result ((x y : ℕ) → shown_support base.now draft.new x y + one_if (nat_eq x before.0 && nat_eq y before.1) ≡ shown_support base.now draft.old x y + one_if (nat_eq x after.0 && nat_eq y after.1)) }
+    ensures shifted { OnOk result (ShiftsPair before after (shown_support base.now draft.old) (shown_support base.now draft.new)) }
 {
     draft.lower(base, before.0, before.1)?;
     draft.raise(base, after.0, after.1)?;
@@ -61,11 +61,11 @@ fn shift_parent(
     requires block { IsSome (at (shown_labels base.now draft.old) b) }
     requires has { IsSome (at (shown_blocks base.now draft.old) parent) }
     requires some { (x y : ℕ) → joins (shown_blocks base.now draft.old) x y (parent, n) ≡ true → 0 < shown_support base.now draft.old x y }
-    requires few { (x y : ℕ) (block2 : List (Option ℕ)) → MovesNode n own b (shown_blocks base.now draft.old) block2 → joins block2 x y (parent, n) ≡ true → shown_support base.now draft.old x y < 2 ^ 31 }
+    requires few { HasSpaceForEdge (λ p x y. joins p x y (parent, n)) n own b base.now draft.old }
     ensures added { draft.new.added ≡ draft.old.added }
     ensures moves { draft.new.moves ≡ draft.old.moves }
     ensures over { OnOk result (IsOver base.now.blocks.block_of base.now.blocks.labels draft.new) }
-    ensures shifted { OnOk result ((x y : ℕ) (block2 : List (Option ℕ)) → MovesNode n own b (shown_blocks base.now draft.old) block2 → shown_support base.now draft.new x y + one_if (joins (shown_blocks base.now draft.old) x y (parent, n)) ≡ shown_support base.now draft.old x y + one_if (joins block2 x y (parent, n))) }
+    ensures shifted { OnOk result (ShiftsEdges (λ p x y. one_if (joins p x y (parent, n))) n own b base.now draft.old draft.new) }
 {
     if parent == n {
         return shift(base, draft, (own, own), (b, b));
@@ -89,11 +89,11 @@ fn shift_child(
     requires block { IsSome (at (shown_labels base.now draft.old) b) }
     requires has { IsSome (at (shown_blocks base.now draft.old) child) }
     requires some { (x y : ℕ) → joins_off n (shown_blocks base.now draft.old) x y (n, child) ≡ true → 0 < shown_support base.now draft.old x y }
-    requires few { (x y : ℕ) (block2 : List (Option ℕ)) → MovesNode n own b (shown_blocks base.now draft.old) block2 → joins_off n block2 x y (n, child) ≡ true → shown_support base.now draft.old x y < 2 ^ 31 }
+    requires few { HasSpaceForEdge (λ p x y. joins_off n p x y (n, child)) n own b base.now draft.old }
     ensures added { draft.new.added ≡ draft.old.added }
     ensures moves { draft.new.moves ≡ draft.old.moves }
     ensures over { OnOk result (IsOver base.now.blocks.block_of base.now.blocks.labels draft.new) }
-    ensures shifted { OnOk result ((x y : ℕ) (block2 : List (Option ℕ)) → MovesNode n own b (shown_blocks base.now draft.old) block2 → shown_support base.now draft.new x y + one_if (joins_off n (shown_blocks base.now draft.old) x y (n, child)) ≡ shown_support base.now draft.old x y + one_if (joins_off n block2 x y (n, child))) }
+    ensures shifted { OnOk result (ShiftsEdges (λ p x y. one_if (joins_off n p x y (n, child))) n own b base.now draft.old draft.new) }
 {
     if child == n {
         return Ok(());
@@ -117,11 +117,11 @@ pub(crate) fn shift_parents(
     requires block { IsSome (at (shown_labels base.now draft.old) b) }
     requires has { (p : ℕ) → IsTrue (has parents.now p) → IsSome (at (shown_blocks base.now draft.old) p) }
     requires some { (x y : ℕ) → onto_count (shown_blocks base.now draft.old) n x y parents.now ≤ shown_support base.now draft.old x y }
-    requires few { (x y : ℕ) (block2 : List (Option ℕ)) → MovesNode n own b (shown_blocks base.now draft.old) block2 → shown_support base.now draft.old x y + onto_count block2 n x y parents.now ≤ 2 ^ 31 }
+    requires few { HasSpaceFor (λ p x y. onto_count p n x y parents.now) n own b base.now draft.old }
     ensures added { draft.new.added ≡ draft.old.added }
     ensures moves { draft.new.moves ≡ draft.old.moves }
     ensures over { OnOk result (IsOver base.now.blocks.block_of base.now.blocks.labels draft.new) }
-    ensures shifted { OnOk result ((x y : ℕ) (block2 : List (Option ℕ)) → MovesNode n own b (shown_blocks base.now draft.old) block2 → shown_support base.now draft.new x y + onto_count (shown_blocks base.now draft.old) n x y parents.now ≡ shown_support base.now draft.old x y + onto_count block2 n x y parents.now) }
+    ensures shifted { OnOk result (ShiftsEdges (λ p x y. onto_count p n x y parents.now) n own b base.now draft.old draft.new) }
 {
     for p in parents {
         shift_parent(base, draft, *p, n, own, b)?;
@@ -144,11 +144,11 @@ pub(crate) fn shift_children(
     requires block { IsSome (at (shown_labels base.now draft.old) b) }
     requires has { (c : ℕ) → IsTrue (has children.now c) → IsSome (at (shown_blocks base.now draft.old) c) }
     requires some { (x y : ℕ) → from_count (shown_blocks base.now draft.old) n x y children.now ≤ shown_support base.now draft.old x y }
-    requires few { (x y : ℕ) (block2 : List (Option ℕ)) → MovesNode n own b (shown_blocks base.now draft.old) block2 → shown_support base.now draft.old x y + from_count block2 n x y children.now ≤ 2 ^ 31 }
+    requires few { HasSpaceFor (λ p x y. from_count p n x y children.now) n own b base.now draft.old }
     ensures added { draft.new.added ≡ draft.old.added }
     ensures moves { draft.new.moves ≡ draft.old.moves }
     ensures over { OnOk result (IsOver base.now.blocks.block_of base.now.blocks.labels draft.new) }
-    ensures shifted { OnOk result ((x y : ℕ) (block2 : List (Option ℕ)) → MovesNode n own b (shown_blocks base.now draft.old) block2 → shown_support base.now draft.new x y + from_count (shown_blocks base.now draft.old) n x y children.now ≡ shown_support base.now draft.old x y + from_count block2 n x y children.now) }
+    ensures shifted { OnOk result (ShiftsEdges (λ p x y. from_count p n x y children.now) n own b base.now draft.old draft.new) }
 {
     for c in children {
         shift_child(base, draft, *c, n, own, b)?;
