@@ -1,9 +1,10 @@
 -- A partition refined by the blocks of neighbours (refinement step of R. Paige and R. E. Tarjan, "Three Partition Refinement
 -- Algorithms", SIAM Journal on Computing 16, 1987, done for all blocks at once).
-use Rattle.std.specs.Prelude.{ℕ, ◌≡◌, ◌<◌, ◌≤◌, Bool, List, length, Option, None, Some, IsSome, IsTrue, slice_get}
+use Rattle.std.specs.Prelude.{ℕ, ◌≡◌, ◌<◌, ◌≤◌, Bool, List, length, Option, None, Some, IsSome, IsTrue, slice_get, suc}
 use Rattle.bisim_spec.specs.Bisimilarity.{Matched}
 use Rattle.px_spec.specs.Members.{at}
-use Rattle.bisim_spec.specs.Partitions.{Together}
+use Rattle.px_spec.specs.Shapes.{Shape}
+use Rattle.bisim_spec.specs.Partitions.{Together, Agrees}
 use Rattle.bisim_levels.specs.Keys.{IsKey}
 
 -- the function gives both the same number
@@ -50,3 +51,7 @@ pub record Numbers (own : ℕ → Option ℕ) (base : List (Option ℕ)) (near :
   pub some : (b : ℕ) → own n ≡ Some b
       → (k : ℕ) × (key : List ℕ) × (number ≡ Some k) × (slice_get new k ≡ Some key) × IsKey own base near n key
   pub fresh : (k : ℕ) → length old ≤ k → k < length new → number ≡ Some k
+
+-- Whatever the level: where the one partition is into the classes of a relation at that level, the other is into those at the next.
+abbrev pub IsNextLevel : (Shape → ℕ → ℕ → ℕ → Type 0) → Shape → List (Option ℕ) → List (Option ℕ) → Type 0
+IsNextLevel R s block next = (i : ℕ) → Agrees s block (R s i) → Agrees s next (R s (suc i))

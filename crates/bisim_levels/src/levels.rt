@@ -1,5 +1,5 @@
 // Levels of bisimilarity, each from the one below.
-ghost use Rattle.std.specs.Prelude.{◌≡◌, ℕ, suc, [], IsSome, IfOk, length, slice_get};
+ghost use Rattle.std.specs.Prelude.{◌≡◌, [], IsSome, IfOk, length, slice_get};
 ghost use Rattle.px_spec.specs.Shapes.{shape_of};
 ghost use Rattle.label_graph.specs.Views.{label_number};
 ghost use Rattle.key_table.specs.NumberedKeys.{AreDistinct};
@@ -8,7 +8,7 @@ ghost use Rattle.px_spec.specs.Members.{at};
 ghost use Rattle.bisim_spec.specs.Partitions.{IsPartition, Agrees};
 ghost use Rattle.bisim_levels.specs.declared.sides.Side.TheVariants.{Parents, Children};
 ghost use Rattle.bisim_levels.specs.Sides.{is_near, no_neighbours};
-ghost use Rattle.bisim_levels.specs.Refinement.{AreNumbered, AreNumberedTwice, AreBlocksBelow, Numbers};
+ghost use Rattle.bisim_levels.specs.Refinement.{AreNumbered, AreNumberedTwice, AreBlocksBelow, Numbers, IsNextLevel};
 
 use crate::recent_keys::RecentKeys;
 use crate::refining::{Level, refine};
@@ -65,7 +65,7 @@ pub fn next_level(
     block: &[Option<u32>],
 ) -> Result<Level, Memory>
     requires partition { IsPartition (shape_of view.now) block.now }
-    ensures agrees { IfOk result (λ l. (i : ℕ) → Agrees (shape_of view.now) block.now (Bis (shape_of view.now) i) → Agrees (shape_of view.now) l.block.items (Bis (shape_of view.now) (suc i))) }
+    ensures agrees { IfOk result (λ l. IsNextLevel Bis (shape_of view.now) block.now l.block.items) }
     ensures partition { IfOk result (λ l. IsPartition (shape_of view.now) l.block.items) }
     ensures numbered { IfOk result (λ l. AreNumbered (at block.now) block.now (is_near Parents view.now) l.block.items (slice_get l.keys)) }
     ensures span { IfOk result (λ l. AreBlocksBelow l.block.items (length l.keys)) }
@@ -84,7 +84,7 @@ pub fn next_level_both(
     block: &[Option<u32>],
 ) -> Result<Level, Memory>
     requires partition { IsPartition (shape_of view.now) block.now }
-    ensures agrees { IfOk result (λ l. (i : ℕ) → Agrees (shape_of view.now) block.now (Both (shape_of view.now) i) → Agrees (shape_of view.now) l.block.items (Both (shape_of view.now) (suc i))) }
+    ensures agrees { IfOk result (λ l. IsNextLevel Both (shape_of view.now) block.now l.block.items) }
     ensures partition { IfOk result (λ l. IsPartition (shape_of view.now) l.block.items) }
     ensures numbered { IfOk result (λ l. AreNumberedTwice block.now (is_near Parents view.now) (is_near Children view.now) l.block.items (slice_get l.keys)) }
     ensures span { IfOk result (λ l. AreBlocksBelow l.block.items (length l.keys)) }
