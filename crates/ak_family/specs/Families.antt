@@ -52,11 +52,15 @@ pub record AreKeyedBySupports (below block : List (Option ℕ)) (key : ℕ → O
   pub nodes : (n : ℕ) → is_some (at block n) ≡ is_some (at below n)
   pub keyed : (n b : ℕ) → at block n ≡ Some b → IsKeyedBySupports (at below n) key support b
 
+-- each block of each level has a member
+abbrev pub HaveMembers : List KeyedQuotient → Type 0
+HaveMembers levels = (i : ℕ) → i < length levels → AreInhabited (level_at levels i).quotient.blocks.labels (blocks_at levels i)
+
 -- What each family keeps, whatever graph it is of: exactly the blocks of each level have keys, no two the same, each block has a member,
 -- and the keys are as the labels say at the lowest level, and above it as the level below and the supports say.
 pub record IsKeyedFamily (levels : List KeyedQuotient) : Type 0 where
   pub keyed : (i : ℕ) → i < length levels → AreKeyed (level_at levels i).quotient.blocks.labels (key_at (level_at levels i).keys)
-  pub inhabited : (i : ℕ) → i < length levels → AreInhabited (level_at levels i).quotient.blocks.labels (blocks_at levels i)
+  pub inhabited : HaveMembers levels
   pub lowest : AreLabelled (level_at levels 0).quotient.blocks.labels (key_at (level_at levels 0).keys)
   pub above : (i : ℕ) → i + 1 < length levels
       → AreKeyedBySupports (blocks_at levels i) (blocks_at levels (i + 1)) (key_at (level_at levels (i + 1)).keys) (support_at (level_at levels (i + 1)).quotient.supports)

@@ -1,7 +1,8 @@
 -- What is drafted over a family, level by level.
-use Rattle.std.specs.Prelude.{ℕ, ◌≡◌, ◌≢◌, ◌⊎◌, ◌+◌, ◌<◌, List, length, Option, Some, IsSome, slice_index_or}
+use Rattle.std.specs.Prelude.{ℕ, ◌≡◌, ◌≢◌, ◌⊎◌, ◌+◌, ◌<◌, ◌&&◌, List, length, Option, Some, IsSome, nat_eq, slice_index_or, if◌then◌else◌}
 use Rattle.px_spec.specs.Members.{at}
 use Rattle.quotient.specs.Quotients.{view_of}
+use Rattle.quotient.specs.Joined.{one_if}
 use Rattle.keyed_quotient.specs.Levels.{KeyedQuotient}
 use Rattle.keyed_quotient.specs.Changes.{KeyedChanges, no_keyed_changes, blocks_as_shown, labels_as_shown, support_as_shown, shown_key, IsKeyedOver, HasKeyRoom, IsSettled, AreUnsupported}
 use Rattle.level_spec.specs.Keyed.{KeysStay, AreLabelled}
@@ -66,6 +67,31 @@ pub record HasBlock (label : ℕ) (key : List ℕ) (b : ℕ) (labels labels2 : L
   pub other_keys : (c : ℕ) → c ≢ b → keys2 c ≡ keys c
   pub labels_stay : (c l : ℕ) → at labels c ≡ Some l → at labels2 c ≡ Some l
   pub keys_stay : KeysStay keys keys2
+
+-- block b of a level has the key now, and was made with this label where no block had the key before
+abbrev pub ShowsBlock : List KeyedQuotient → ℕ → List KeyedChanges → List KeyedChanges → ℕ → List ℕ → ℕ → Type 0
+ShowsBlock f i old new label key b = HasBlock label key b (labels_shown f old i) (labels_shown f new i) (key_shown f old i) (key_shown f new i)
+
+-- one edge more leads from block a to block b of a level, and no other pair has changed
+abbrev pub SupportRises : List KeyedQuotient → ℕ → List KeyedChanges → List KeyedChanges → ℕ → ℕ → Type 0
+SupportRises f i old new a b = (x y : ℕ) → support_shown f new i x y ≡ support_shown f old i x y + one_if (nat_eq x a && nat_eq y b)
+
+-- one edge fewer does
+abbrev pub SupportFalls : List KeyedQuotient → ℕ → List KeyedChanges → List KeyedChanges → ℕ → ℕ → Type 0
+SupportFalls f i old new a b = (x y : ℕ) → support_shown f new i x y + one_if (nat_eq x a && nat_eq y b) ≡ support_shown f old i x y
+
+-- node n is in this block of a level now, or in none, and the others are where they were
+abbrev pub NodeMoves : List KeyedQuotient → ℕ → List KeyedChanges → List KeyedChanges → ℕ → Option ℕ → Type 0
+NodeMoves f i old new n b = (m : ℕ) → at (blocks_shown f new i) m ≡ (if nat_eq m n then b else at (blocks_shown f old i) m)
+
+-- No label and no key of a block of a level has changed, and no other level has.
+pub record KeepsLabelsAndKeys (f : List KeyedQuotient) (i : ℕ) (old new : List KeyedChanges) : Type 0 where
+  -- each block of the level has its label
+  pub labels : labels_shown f new i ≡ labels_shown f old i
+  -- and its key
+  pub keys : (b : ℕ) → key_shown f new i b ≡ key_shown f old i b
+  -- what is drafted at the other levels is the same
+  pub others : AreSameBut i old new
 
 -- each level has room for what the draft shows
 abbrev pub HaveRoom : List KeyedQuotient → List KeyedChanges → Type 0

@@ -1,5 +1,5 @@
 // What is drafted over a family.
-ghost use Rattle.std.specs.Prelude.{◌≡◌, ◌≢◌, ◌+◌, ◌<◌, ◌≤◌, ◌^◌, ◌&&◌, ◌↔◌, ℕ, List, Option, Some, None, IsSome, IsTrue, is_some, IfOk, OnOk, OnErr, IfSome, nat_eq, if◌then◌else◌, count_by, length};
+ghost use Rattle.std.specs.Prelude.{◌≡◌, ◌+◌, ◌<◌, ◌≤◌, ◌^◌, ◌↔◌, ℕ, List, Option, Some, None, IsSome, IsTrue, is_some, IfOk, OnOk, OnErr, IfSome, nat_eq, if◌then◌else◌, count_by, length};
 ghost use Rattle.px_spec.specs.Members.{at, Lists};
 ghost use Rattle.px_spec.specs.Graphs.{is_live, has_edge};
 ghost use Rattle.px_spec.specs.Shapes.{shape_of};
@@ -7,12 +7,11 @@ ghost use Rattle.bisim_spec.specs.Partitions.{IsPartition};
 ghost use Rattle.upkeep_spec.specs.Supported.{AreEdgeCounts};
 ghost use Rattle.graph_update.specs.PendingChanges.{graph_after};
 ghost use Rattle.block_partition.specs.Partitions.{IsLeastFree, put};
-ghost use Rattle.quotient.specs.Joined.{one_if};
 ghost use Rattle.node_moves.specs.Costs.{parents_cost, children_cost};
 ghost use Rattle.keyed_quotient.specs.Levels.{KeyedQuotient};
 ghost use Rattle.keyed_quotient.specs.Changes.{KeyedChanges};
 ghost use Rattle.ak_family.specs.Families.{level_at, IsKeyedFamily};
-ghost use Rattle.ak_family.specs.LevelDrafts.{changes_at, blocks_shown, labels_shown, support_shown, key_shown, AreOver, AreSameBut, AreBlocksThere, KeepsAllButSupports, AreEmpty, HasBlock};
+ghost use Rattle.ak_family.specs.LevelDrafts.{changes_at, blocks_shown, labels_shown, support_shown, key_shown, AreOver, AreSameBut, AreBlocksThere, KeepsAllButSupports, KeepsLabelsAndKeys, AreEmpty, ShowsBlock, SupportRises, SupportFalls, NodeMoves};
 
 use crate::family::AkFamily;
 use graph_update::After;
@@ -141,7 +140,7 @@ impl AkFamily {
         requires over { AreOver self.now d.old }
         requires level { i < length self.now }
         requires fresh { (b : ℕ) → key_shown self.now d.old i b ≡ Some key.now → ⊥ }
-        ensures block { IfOk result (λ b. HasBlock label key.now b (labels_shown self.now d.old i) (labels_shown self.now d.new i) (key_shown self.now d.old i) (key_shown self.now d.new i)) }
+        ensures block { IfOk result (λ b. ShowsBlock self.now i d.old d.new label key.now b) }
         ensures blocks { blocks_shown self.now d.new i ≡ blocks_shown self.now d.old i }
         ensures supports { (x y : ℕ) → support_shown self.now d.new i x y ≡ support_shown self.now d.old i x y }
         ensures others { AreSameBut i d.old d.new }
@@ -167,7 +166,7 @@ impl AkFamily {
     ) -> Result<u32, Memory>
         requires over { AreOver self.now d.old }
         requires level { i < length self.now }
-        ensures block { IfOk result (λ b. HasBlock label key.now b (labels_shown self.now d.old i) (labels_shown self.now d.new i) (key_shown self.now d.old i) (key_shown self.now d.new i)) }
+        ensures block { IfOk result (λ b. ShowsBlock self.now i d.old d.new label key.now b) }
         ensures blocks { blocks_shown self.now d.new i ≡ blocks_shown self.now d.old i }
         ensures supports { (x y : ℕ) → support_shown self.now d.new i x y ≡ support_shown self.now d.old i x y }
         ensures others { AreSameBut i d.old d.new }
@@ -187,7 +186,7 @@ impl AkFamily {
         requires level { i < length self.now }
         requires small { n < 2 ^ 31 }
         requires block { IfSome b (λ b. IsSome (at (labels_shown self.now d.old i) b)) }
-        ensures blocks { OnOk result ((m : ℕ) → at (blocks_shown self.now d.new i) m ≡ (if nat_eq m n then b else at (blocks_shown self.now d.old i) m)) }
+        ensures blocks { OnOk result (NodeMoves self.now i d.old d.new n b) }
         ensures labels { labels_shown self.now d.new i ≡ labels_shown self.now d.old i }
         ensures supports { (x y : ℕ) → support_shown self.now d.new i x y ≡ support_shown self.now d.old i x y }
         ensures keys { (b : ℕ) → key_shown self.now d.new i b ≡ key_shown self.now d.old i b }
@@ -205,7 +204,7 @@ impl AkFamily {
     pub fn raise(&self, d: &mut AkDraft, i: u32, a: u32, b: u32) -> Result<(), Memory>
         requires there { AreBlocksThere self.now d.old i a b }
         requires few { support_shown self.now d.old i a b < 2 ^ 31 }
-        ensures raised { OnOk result ((x y : ℕ) → support_shown self.now d.new i x y ≡ support_shown self.now d.old i x y + one_if (nat_eq x a && nat_eq y b)) }
+        ensures raised { OnOk result (SupportRises self.now i d.old d.new a b) }
         ensures kept { KeepsAllButSupports self.now i d.old d.new }
         ensures err { OnErr result (d.new ≡ d.old) }
     {
@@ -219,7 +218,7 @@ impl AkFamily {
     pub fn lower(&self, d: &mut AkDraft, i: u32, a: u32, b: u32) -> Result<(), Memory>
         requires there { AreBlocksThere self.now d.old i a b }
         requires some { 0 < support_shown self.now d.old i a b }
-        ensures lowered { OnOk result ((x y : ℕ) → support_shown self.now d.new i x y + one_if (nat_eq x a && nat_eq y b) ≡ support_shown self.now d.old i x y) }
+        ensures lowered { OnOk result (SupportFalls self.now i d.old d.new a b) }
         ensures kept { KeepsAllButSupports self.now i d.old d.new }
         ensures err { OnErr result (d.new ≡ d.old) }
     {
@@ -246,12 +245,10 @@ impl AkFamily {
         requires partition { IsPartition (shape_of (graph_after after.now)) (blocks_shown self.now d.old to.level) }
         requires block { IsSome (at (labels_shown self.now d.old to.level) to.block) }
         requires supports { AreEdgeCounts (graph_after after.now) (blocks_shown self.now d.old to.level) (support_shown self.now d.old to.level) }
-        ensures moved { OnOk result ((m : ℕ) → at (blocks_shown self.now d.new to.level) m ≡ (if nat_eq m n then Some to.block else at (blocks_shown self.now d.old to.level) m)) }
-        ensures labels { labels_shown self.now d.new to.level ≡ labels_shown self.now d.old to.level }
-        ensures keys { (b : ℕ) → key_shown self.now d.new to.level b ≡ key_shown self.now d.old to.level b }
+        ensures moved { OnOk result (NodeMoves self.now to.level d.old d.new n (Some to.block)) }
         ensures supports { OnOk result (AreEdgeCounts (graph_after after.now) (blocks_shown self.now d.new to.level) (support_shown self.now d.new to.level)) }
         ensures children { OnOk result (Lists (has_edge (graph_after after.now) n) near.new) }
-        ensures others { AreSameBut to.level d.old d.new }
+        ensures kept { KeepsLabelsAndKeys self.now to.level d.old d.new }
         ensures over { OnOk result (AreOver self.now d.new) }
         ensures cost { steps.new ≤ steps.old + parents_cost after.now n + children_cost after.now n }
     {

@@ -1,8 +1,6 @@
 // The quotient by a level of bisimilarity, with the keys of its blocks.
-ghost use Rattle.std.specs.Prelude.{◌≡◌, ◌≤◌, ◌^◌, ℕ, List, Some, IfOk, length, slice_get};
+ghost use Rattle.std.specs.Prelude.{◌≡◌, ◌≤◌, ◌^◌, ℕ, IfOk, length, slice_get};
 ghost use Rattle.px_spec.specs.Shapes.{shape_of};
-ghost use Rattle.px_spec.specs.Members.{at};
-ghost use Rattle.label_graph.specs.Views.{label_number};
 ghost use Rattle.bisim_spec.specs.Partitions.{IsPartition};
 ghost use Rattle.bisim_spec.specs.Views.{ViewFits};
 ghost use Rattle.bisim_levels.specs.Refinement.{AreBlocksBelow};
@@ -11,7 +9,7 @@ ghost use Rattle.quotient.specs.Quotients.{view_of};
 ghost use Rattle.quotient.specs.Joined.{AreListed};
 ghost use Rattle.keyed_quotient.specs.Levels.{AreKeyed, key_at};
 ghost use Rattle.block_filling.specs.FilledTables.{SameBlocks};
-ghost use Rattle.ak_family.specs.BlockLabels.{BlocksHaveLabels};
+ghost use Rattle.ak_family.specs.BlockLabels.{BlocksHaveLabels, HasTheirLabels};
 
 use crate::labelled_levels::LabelledLevel;
 use block_filling::fill;
@@ -39,7 +37,7 @@ pub(crate) fn keyed_summary(
     requires few { length labelled.now.labels.items ≤ 2 ^ 31 }
     ensures blocks { IfOk result (λ s. SameBlocks s.quotient.blocks.block_of labelled.now.block.items) }
     ensures fits { IfOk result (λ s. ViewFits view.now (view_of s.quotient)) }
-    ensures labels { IfOk result (λ s. (n b : ℕ) → at s.quotient.blocks.block_of n ≡ Some b → at s.quotient.blocks.labels b ≡ label_number view.now n) }
+    ensures labels { IfOk result (λ s. HasTheirLabels view.now s.quotient.blocks) }
     ensures keys { IfOk result (λ s. (b : ℕ) → key_at s.keys b ≡ slice_get keys b) }
     ensures keyed { IfOk result (λ s. AreKeyed s.quotient.blocks.labels (key_at s.keys)) }
 {

@@ -3,13 +3,11 @@ ghost use Rattle.std.specs.Prelude.{◌≡◌, ◌≤◌, ◌^◌, [], ℕ, suc,
 ghost use Rattle.px_spec.specs.Shapes.{shape_of};
 ghost use Rattle.label_graph.specs.Views.{label_number};
 ghost use Rattle.bisim_spec.specs.Bisimilarity.{Bis};
-ghost use Rattle.px_spec.specs.Members.{at};
 ghost use Rattle.bisim_spec.specs.Partitions.{Agrees, IsPartition};
-ghost use Rattle.bisim_levels.specs.declared.sides.Side.TheVariants.{Parents};
-ghost use Rattle.bisim_levels.specs.Sides.{is_near, no_neighbours};
+ghost use Rattle.bisim_levels.specs.Sides.{no_neighbours};
 ghost use Rattle.bisim_levels.specs.Refinement.{AreNumbered, AreBlocksBelow};
 ghost use Rattle.key_table.specs.NumberedKeys.{AreDistinct};
-ghost use Rattle.ak_family.specs.BlockLabels.{BlocksHaveLabels};
+ghost use Rattle.ak_family.specs.BlockLabels.{BlocksHaveLabels, IsNextLevel, AreNumberedAbove};
 
 use crate::labels::{look_up, own_numbers};
 use bisim_levels::{label_level, next_level};
@@ -57,9 +55,9 @@ pub(crate) fn above(
 ) -> Result<(LabelledLevel, KeyTable), Memory>
     requires partition { IsPartition (shape_of view.now) below.now.block.items }
     requires labelled { BlocksHaveLabels view.now below.now.block.items below.now.labels.items }
-    ensures agrees { IfOk result (λ l. (i : ℕ) → Agrees (shape_of view.now) below.now.block.items (Bis (shape_of view.now) i) → Agrees (shape_of view.now) l.0.block.items (Bis (shape_of view.now) (suc i))) }
+    ensures agrees { IfOk result (λ l. IsNextLevel view.now below.now.block.items l.0.block.items) }
     ensures labelled { IfOk result (λ l. BlocksHaveLabels view.now l.0.block.items l.0.labels.items) }
-    ensures numbered { IfOk result (λ l. AreNumbered (at below.now.block.items) below.now.block.items (is_near Parents view.now) l.0.block.items (slice_get l.1)) }
+    ensures numbered { IfOk result (λ l. AreNumberedAbove view.now below.now.block.items l.0.block.items (slice_get l.1)) }
     ensures span { IfOk result (λ l. AreBlocksBelow l.0.block.items (length l.1)) }
     ensures distinct { IfOk result (λ l. AreDistinct l.1) }
     ensures count { IfOk result (λ l. length l.0.labels.items ≡ length l.1) }

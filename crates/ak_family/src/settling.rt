@@ -2,8 +2,7 @@
 ghost use Rattle.std.specs.Prelude.{◌≡◌, ◌<◌, ℕ, List, OnOk, length};
 ghost use Rattle.quotient.specs.Quotients.{view_of};
 ghost use Rattle.keyed_quotient.specs.Levels.{KeyedQuotient};
-ghost use Rattle.keyed_quotient.specs.Changes.{AreInhabited};
-ghost use Rattle.ak_family.specs.Families.{level_at, IsKeyedFamily};
+ghost use Rattle.ak_family.specs.Families.{level_at, HaveMembers, IsKeyedFamily};
 ghost use Rattle.ak_family.specs.LevelDrafts.{AreOver, AreSeenAs, HaveRoom, ShowsFamily, AreSettled, AreEmpty};
 
 use crate::drafting::{AkDraft, draft_of};
@@ -58,7 +57,7 @@ fn reserve_all(levels: &mut Vec<KeyedSummary>, drafts: &Vec<KeyedDraft>) -> Resu
 fn settle_all(levels: &mut Vec<KeyedSummary>, drafts: &mut Vec<KeyedDraft>)
     requires room { HaveRoom levels.old.items drafts.old.items }
     requires shows { ShowsFamily levels.old.items drafts.old.items }
-    requires inhabited { (i : ℕ) → i < length levels.old.items → AreInhabited (level_at levels.old.items i).quotient.blocks.labels (level_at levels.old.items i).quotient.blocks.block_of }
+    requires inhabited { HaveMembers levels.old.items }
     ensures settled { AreSettled levels.old.items drafts.old.items levels.new.items }
     ensures count { length drafts.new.items ≡ length drafts.old.items }
     ensures empty { AreEmpty drafts.new.items }
