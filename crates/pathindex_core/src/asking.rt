@@ -1,5 +1,5 @@
 // Queries that are asked of an engine.
-ghost use Rattle.std.specs.Prelude.{◌≡◌, ◌≢◌, ◌+◌, ◌↔◌, ℕ, Bool, Some, Err, false, map, All, IfOk, IsTrue};
+ghost use Rattle.std.specs.Prelude.{◌≡◌, ◌≢◌, ◌+◌, ◌↔◌, ℕ, Bool, Err, false, map, All, IfOk, IsTrue};
 ghost use Rattle.px_spec.specs.Graphs.{IsGraph};
 ghost use Rattle.px_spec.specs.Shapes.{shape_of};
 ghost use Rattle.label_graph.specs.Views.{live_count, edge_count};
@@ -7,11 +7,12 @@ ghost use Rattle.bisim_spec.specs.Partitions.{Agrees};
 ghost use Rattle.quotient.specs.Quotients.{view_of};
 ghost use Rattle.index_api.specs.declared.kinds.Via.TheVariants.{Data, Fb};
 ghost use Rattle.index_api.specs.declared.answers.How.TheVariants.{Data as InGraph};
+ghost use Rattle.index_api.specs.Meanings.{KeepsViews};
 ghost use Rattle.index_api.specs.Kept.{is_kept, kept_of};
 ghost use Rattle.branch_query.specs.Queries.{query_of, AreQueryAnswers};
 ghost use Rattle.index_eval.specs.Exactness.{FitsVia, IsExact};
 ghost use Rattle.extent_report.specs.Summaries.{LabelsHaveTexts};
-ghost use Rattle.pathindex_core.specs.Engines.{IsKeptFor, engine_seen, opened};
+ghost use Rattle.pathindex_core.specs.Engines.{EachBecomes, IsKeptFor, open_seen, opened};
 ghost use Rattle.pathindex_core.specs.QueryAnswers.{IsFoundBy, IsAnswered, IsQueried};
 ghost use Rattle.pathindex_core.specs.Boxes.{IsFbComputed};
 
@@ -59,7 +60,9 @@ fn ask_view<L: Ledger>(
     requires fits { FitsVia via graph.now.graph (view_of summary.now) }
     requires texts { LabelsHaveTexts graph.now.graph.seen summary.now.blocks }
     ensures answers { IfOk result (λ answer. AreQueryAnswers (shape_of graph.now.graph) (query_of query.now) answer.nodes.members) }
-    ensures how { IfOk result (λ answer. (test : ℕ → ℕ → Bool) → Agrees (shape_of graph.now.graph) summary.now.blocks.block_of (λ u v. IsTrue (test u v)) → IsFoundBy graph.now.graph test via (query_of query.now) answer.how) }
+    ensures how { IfOk result (λ answer. (test : ℕ → ℕ → Bool)
+        → Agrees (shape_of graph.now.graph) summary.now.blocks.block_of (λ u v. IsTrue (test u v))
+        → IsFoundBy graph.now.graph test via (query_of query.now) answer.how) }
     ensures cost { IsExact via (query_of query.now) → steps.new ≡ steps.old }
     ensures graph { IfOk result (λ _. IsGraph graph.now.graph) }
 {
@@ -80,19 +83,20 @@ fn ask_view<L: Ledger>(
 }
 
 /// Asks an index whose view is computed, where it is kept.
-fn ask_index<L: Ledger>(
+fn ask_index<B: PathIndex, L: Ledger>(
     alloc: Global,
-    boxes: &Vec<Box<dyn PathIndex>>,
+    boxes: &Vec<B>,
     state: &Open,
     via: Via,
     query: &Query<'_>,
     steps: &mut Steps<L>,
 ) -> Result<Answer, AskError>
-    requires kept { All (IsKeptFor (opened state.now)) (map meaning boxes.now.items) }
-    requires computed { via ≡ Fb → IsFbComputed (map meaning boxes.now.items) }
+    requires kept { All (IsKeptFor (opened state.now)) (map B.meaning boxes.now.items) }
+    requires computed { via ≡ Fb → IsFbComputed (map B.meaning boxes.now.items) }
     requires index { via ≢ Data }
-    ensures answered { IfOk result (λ answer. IsAnswered state.now.graph.graph (kept_of (map meaning boxes.now.items) state.now.k) via (query_of query.now) answer.how answer.nodes.members) }
-    ensures no_index { (result ≡ Err AskError.NoIndex) ↔ (is_kept (kept_of (map meaning boxes.now.items) state.now.k) via ≡ false) }
+    ensures answered { IfOk result (λ answer. IsAnswered state.now.graph.graph (kept_of (map B.meaning boxes.now.items) state.now.k) via
+        (query_of query.now) answer.how answer.nodes.members) }
+    ensures no_index { (result ≡ Err AskError.NoIndex) ↔ (is_kept (kept_of (map B.meaning boxes.now.items) state.now.k) via ≡ false) }
     ensures cost { IsExact via (query_of query.now) → steps.new ≡ steps.old }
 {
     match summary_of(boxes, via) {
@@ -105,18 +109,20 @@ fn ask_index<L: Ledger>(
 }
 
 /// Asks an index, where it is kept. The view of the forward and backward index is first computed, where it isn't.
-fn ask_kept<L: Ledger>(
+fn ask_kept<B: PathIndex, L: Ledger>(
     alloc: Global,
-    boxes: &mut Vec<Box<dyn PathIndex>>,
+    boxes: &mut Vec<B>,
     state: &Open,
     via: Via,
     query: &Query<'_>,
     steps: &mut Steps<L>,
 ) -> Result<Answer, AskError>
-    requires kept { All (IsKeptFor (opened state.now)) (map meaning boxes.old.items) }
+    requires kept { All (IsKeptFor (opened state.now)) (map B.meaning boxes.old.items) }
     requires index { via ≢ Data }
-    ensures kept { All (IsKeptFor (opened state.now)) (map meaning boxes.new.items) }
-    ensures queried { IsQueried (engine_seen (map meaning boxes.old.items) (Some state.now)) (engine_seen (map meaning boxes.new.items) (Some state.now)) via (query_of query.now) result steps.old steps.new }
+    ensures kept { All (IsKeptFor (opened state.now)) (map B.meaning boxes.new.items) }
+    ensures keeps { EachBecomes KeepsViews (map B.meaning boxes.old.items) (map B.meaning boxes.new.items) }
+    ensures queried { IsQueried (open_seen (map B.meaning boxes.old.items) state.now) (open_seen (map B.meaning boxes.new.items) state.now) via
+        (query_of query.now) result steps.old steps.new }
 {
     match refresh_for(boxes, via, &state.graph, steps) {
         Ok(()) => ask_index(alloc, boxes, state, via, query, steps),
@@ -125,17 +131,19 @@ fn ask_kept<L: Ledger>(
 }
 
 /// Asks the graph itself, or an index where it is kept.
-pub(crate) fn ask<L: Ledger>(
+pub(crate) fn ask<B: PathIndex, L: Ledger>(
     alloc: Global,
-    boxes: &mut Vec<Box<dyn PathIndex>>,
+    boxes: &mut Vec<B>,
     state: &Open,
     via: Via,
     query: &Query<'_>,
     steps: &mut Steps<L>,
 ) -> Result<Answer, AskError>
-    requires kept { All (IsKeptFor (opened state.now)) (map meaning boxes.old.items) }
-    ensures kept { All (IsKeptFor (opened state.now)) (map meaning boxes.new.items) }
-    ensures queried { IsQueried (engine_seen (map meaning boxes.old.items) (Some state.now)) (engine_seen (map meaning boxes.new.items) (Some state.now)) via (query_of query.now) result steps.old steps.new }
+    requires kept { All (IsKeptFor (opened state.now)) (map B.meaning boxes.old.items) }
+    ensures kept { All (IsKeptFor (opened state.now)) (map B.meaning boxes.new.items) }
+    ensures keeps { EachBecomes KeepsViews (map B.meaning boxes.old.items) (map B.meaning boxes.new.items) }
+    ensures queried { IsQueried (open_seen (map B.meaning boxes.old.items) state.now) (open_seen (map B.meaning boxes.new.items) state.now) via
+        (query_of query.now) result steps.old steps.new }
 {
     match via {
         Via::Data => match ask_graph(alloc, &state.graph, query, steps) {

@@ -21,8 +21,8 @@ fn is_kind(kind: Kind, other: Kind) -> bool
 }
 
 /// The place of the box of a kind, and None exactly where there is none.
-pub(crate) fn box_place(boxes: &Vec<Box<dyn PathIndex>>, kind: Kind) -> Option<usize>
-    ensures { MatchOption result (has_kind (kinds_of (map meaning boxes.now.items)) kind ≡ false) (StandsAt (map meaning boxes.now.items) kind) }
+pub(crate) fn box_place<B: PathIndex>(boxes: &Vec<B>, kind: Kind) -> Option<usize>
+    ensures { MatchOption result (has_kind (kinds_of (map B.meaning boxes.now.items)) kind ≡ false) (StandsAt (map B.meaning boxes.now.items) kind) }
 {
     for i in 0..boxes.len() {
         if is_kind(kind, boxes[i].kind()) {
@@ -33,23 +33,23 @@ pub(crate) fn box_place(boxes: &Vec<Box<dyn PathIndex>>, kind: Kind) -> Option<u
 }
 
 /// Takes out the box at a place and drops it.
-pub(crate) fn take_out(boxes: &mut Vec<Box<dyn PathIndex>>, kind: Kind, i: usize)
-    requires stands { StandsAt (map meaning boxes.old.items) kind i }
-    requires apart { AllPairs (λ a b. a.kind ≢ b.kind) (map meaning boxes.old.items) }
-    ensures { map meaning boxes.new.items ≡ filter (λ m. not (is_kind kind m.kind)) (map meaning boxes.old.items) }
+pub(crate) fn take_out<B: PathIndex>(boxes: &mut Vec<B>, kind: Kind, i: usize)
+    requires stands { StandsAt (map B.meaning boxes.old.items) kind i }
+    requires apart { AllPairs (λ a b. a.kind ≢ b.kind) (map B.meaning boxes.old.items) }
+    ensures { map B.meaning boxes.new.items ≡ filter (λ m. not (is_kind kind m.kind)) (map B.meaning boxes.old.items) }
 {
     boxes.remove(i);
 }
 
 /// Builds each box. Where one finds no memory, those before it are built.
-pub(crate) fn build_all(
-    boxes: &mut Vec<Box<dyn PathIndex>>,
+pub(crate) fn build_all<B: PathIndex>(
+    boxes: &mut Vec<B>,
     view: &GraphView<'_>,
     k: u32,
 ) -> Result<(), Memory>
     requires few { k ≤ 8 }
-    ensures ok { OnOk result (EachBecomes (λ a b. IsBuilt a b view.now k) (map meaning boxes.old.items) (map meaning boxes.new.items)) }
-    ensures kinds { kinds_of (map meaning boxes.new.items) ≡ kinds_of (map meaning boxes.old.items) }
+    ensures ok { OnOk result (EachBecomes (λ a b. IsBuilt a b view.now k) (map B.meaning boxes.old.items) (map B.meaning boxes.new.items)) }
+    ensures kinds { kinds_of (map B.meaning boxes.new.items) ≡ kinds_of (map B.meaning boxes.old.items) }
 {
     for i in 0..boxes.len() {
         boxes[i].build(view, k)?;
@@ -58,8 +58,8 @@ pub(crate) fn build_all(
 }
 
 /// Drops what each box has staged.
-pub(crate) fn cancel_all(boxes: &mut Vec<Box<dyn PathIndex>>)
-    ensures { map meaning boxes.new.items ≡ map unstaged (map meaning boxes.old.items) }
+pub(crate) fn cancel_all<B: PathIndex>(boxes: &mut Vec<B>)
+    ensures { map B.meaning boxes.new.items ≡ map unstaged (map B.meaning boxes.old.items) }
 {
     for i in 0..boxes.len() {
         boxes[i].cancel();
@@ -67,15 +67,16 @@ pub(crate) fn cancel_all(boxes: &mut Vec<Box<dyn PathIndex>>)
 }
 
 /// Prepares each box for a change. Where one finds no memory, all are as before.
-pub(crate) fn prepare_all(
-    boxes: &mut Vec<Box<dyn PathIndex>>,
+pub(crate) fn prepare_all<B: PathIndex>(
+    boxes: &mut Vec<B>,
     graph: &Graph,
     change: &Change,
 ) -> Result<(), Memory>
-    requires ready { All (λ m. IsReady m graph.now.graph) (map meaning boxes.old.items) }
+    requires ready { All (λ m. IsReady m graph.now.graph) (map B.meaning boxes.old.items) }
     requires new { IsNew (change_of change.now) graph.now.graph }
-    ensures ok { OnOk result (EachBecomes (λ a b. IsPrepared a b (change_of change.now) graph.now.graph) (map meaning boxes.old.items) (map meaning boxes.new.items)) }
-    ensures err { OnErr result (map meaning boxes.new.items ≡ map meaning boxes.old.items) }
+    ensures ok { OnOk result (EachBecomes (λ a b. IsPrepared a b (change_of change.now) graph.now.graph)
+        (map B.meaning boxes.old.items) (map B.meaning boxes.new.items)) }
+    ensures err { OnErr result (map B.meaning boxes.new.items ≡ map B.meaning boxes.old.items) }
 {
     for i in 0..boxes.len() {
         match boxes[i].prepare(graph, change) {
@@ -90,9 +91,9 @@ pub(crate) fn prepare_all(
 }
 
 /// Puts in force what each box has staged.
-pub(crate) fn commit_all(boxes: &mut Vec<Box<dyn PathIndex>>)
-    requires staged { All (λ m. IsSome m.staged) (map meaning boxes.old.items) }
-    ensures { EachBecomes IsCommitted (map meaning boxes.old.items) (map meaning boxes.new.items) }
+pub(crate) fn commit_all<B: PathIndex>(boxes: &mut Vec<B>)
+    requires staged { All (λ m. IsSome m.staged) (map B.meaning boxes.old.items) }
+    ensures { EachBecomes IsCommitted (map B.meaning boxes.old.items) (map B.meaning boxes.new.items) }
 {
     for i in 0..boxes.len() {
         boxes[i].commit();

@@ -1,19 +1,16 @@
 // The engine.
-ghost use Rattle.std.specs.Prelude.{◌≡◌, ◌≢◌, ◌+◌, ◌<◌, ◌≤◌, ◌↔◌, not, Ok, Err, Some, None, true, false, List, ℕ, map, OnOk, OnErr, IfOk, IsSome};
-ghost use Rattle.std.specs.List.{AllPairs, filter};
-ghost use Rattle.label_graph.specs.Views.{live_count, edge_count};
+ghost use Rattle.std.specs.Prelude.{◌≡◌, ◌≢◌, ◌<◌, ◌≤◌, ◌↔◌, Ok, Err, Some, None, true, false, map, OnOk, OnErr, IfOk, IsSome};
+ghost use Rattle.std.specs.List.{AllPairs};
 ghost use Rattle.graph_update.specs.NewChanges.{is_same};
 ghost use Rattle.graph_update.specs.Verdicts.{change_of};
-ghost use Rattle.graph_update.specs.StagedChanges.{applied_of};
-ghost use Rattle.branch_query.specs.Queries.{path, branch};
+ghost use Rattle.branch_query.specs.Queries.{query_of, path, branch};
 ghost use Rattle.pathindex_core.specs.QueryAnswers.{IsQueried};
-ghost use Rattle.index_api.specs.declared.kinds.Via.TheVariants.{Data as TheGraph, Fb as TheFb};
-ghost use Rattle.index_api.specs.Meanings.{IsBuilt, KeepsViews};
-ghost use Rattle.index_api.specs.Kept.{is_kind, is_kept, kept_of, kinds_of, has_kind};
-ghost use Rattle.extent_report.specs.Shown.{ListsIndex, ListsSizes};
-ghost use Rattle.pathindex_core.specs.Boxes.{IsFbComputed};
-ghost use Rattle.pathindex_core.specs.Engines.{engine_seen, opened_of, graph_in, level_in, EachBecomes, IsSound};
-ghost use Rattle.pathindex_core.specs.Updates.{outcome_in, opened_after, IsUpdated};
+ghost use Rattle.index_api.specs.declared.kinds.Via.TheVariants.{Data as TheGraph};
+ghost use Rattle.index_api.specs.Meanings.{IsBuilt};
+ghost use Rattle.index_api.specs.Kept.{kinds_of, has_kind};
+ghost use Rattle.pathindex_core.specs.Calls.{IsMade, IsForgotten, IsAsked, IsListed, IsMeasured};
+ghost use Rattle.pathindex_core.specs.Engines.{graph_in, EachBecomes, IsSound, seen};
+ghost use Rattle.pathindex_core.specs.Updates.{outcome_in};
 
 use crate::asking::ask;
 use crate::boxes::{box_place, build_all, take_out};
@@ -29,13 +26,14 @@ use label_graph::Graph;
 use path_query::PathExpr;
 use px_base::{Limits, Memory, Refusal, Steps, Text};
 use std::alloc::Global;
-use std::marker::Brand;
+use std::marker::{Brand, Model};
 use std::sync::ledger::{Blank, Ledger};
 
-/// A graph, and the indexes that are kept of it. Each index is in a box, at most one of each kind. An engine is opened with a graph, of
-/// which each index is then built, and from there on changes go through the engine.
+/// A graph, and the indexes that are kept of it: at most one of each kind, each in a box, or each of one type B that is a `PathIndex`.
+/// An engine is opened with a graph, of which each index is then built, and from there on changes go through the engine.
 ///
-/// No contract can name what a box means in a field, so the clauses name the engine's two fields, through `engine_seen`.
+/// Clauses see the indexes themselves and what the engine is opened with (`EngineOf`); by what the indexes mean it is
+/// `seen B.meaning engine` (`EngineSeen`). What a call makes of it is a record in `specs/Calls.antt`.
 ///
 /// An edge is added, and the 1-index is asked:
 ///
@@ -45,13 +43,23 @@ use std::sync::ledger::{Blank, Ledger};
 ///
 /// `crates/library_use` is a whole caller.
 #[derive(Drop)]
-pub struct Engine {
-    boxes: Vec<Box<dyn PathIndex>>,
+pub struct Engine<B = Box<dyn PathIndex>> {
+    boxes: Vec<B>,
     state: Option<Open>,
 }
 
-fn build_counted<L: Ledger>(
-    boxes: &mut Vec<Box<dyn PathIndex>>,
+impl<B> Model for Engine<B> {
+    ghost use Rattle.pathindex_core.specs.Engines.{EngineOf, engine_code, opened_of};
+
+    ghost Value = { EngineOf B };
+
+    ghost coded = { engine_code B.code };
+
+    ghost view = { λ e. record { boxes = e.boxes.items; opened = opened_of e.state } };
+}
+
+fn build_counted<B: PathIndex, L: Ledger>(
+    boxes: &mut Vec<B>,
     graph: &Graph,
     k: u32,
     blank: Blank,
@@ -60,8 +68,8 @@ fn build_counted<L: Ledger>(
     requires name { blank.name ≡ L.name }
     requires parts { blank.parts ≡ L.parts }
     requires some { 0 < blank.parts }
-    ensures ok { OnOk result (EachBecomes (λ a b. IsBuilt a b graph.now.graph k) (map meaning boxes.old.items) (map meaning boxes.new.items)) }
-    ensures kinds { kinds_of (map meaning boxes.new.items) ≡ kinds_of (map meaning boxes.old.items) }
+    ensures ok { OnOk result (EachBecomes (λ a b. IsBuilt a b graph.now.graph k) (map B.meaning boxes.old.items) (map B.meaning boxes.new.items)) }
+    ensures kinds { kinds_of (map B.meaning boxes.new.items) ≡ kinds_of (map B.meaning boxes.old.items) }
 {
     let mut steps = Steps::<L>::new(blank);
     let view = graph.view(&mut steps);
@@ -69,20 +77,20 @@ fn build_counted<L: Ledger>(
 }
 
 /// Builds each box of the graph.
-fn build_of(boxes: &mut Vec<Box<dyn PathIndex>>, graph: &Graph, k: u32) -> Result<(), Memory>
+fn build_of<B: PathIndex>(boxes: &mut Vec<B>, graph: &Graph, k: u32) -> Result<(), Memory>
     requires few { k ≤ 8 }
-    ensures ok { OnOk result (EachBecomes (λ a b. IsBuilt a b graph.now.graph k) (map meaning boxes.old.items) (map meaning boxes.new.items)) }
-    ensures kinds { kinds_of (map meaning boxes.new.items) ≡ kinds_of (map meaning boxes.old.items) }
+    ensures ok { OnOk result (EachBecomes (λ a b. IsBuilt a b graph.now.graph k) (map B.meaning boxes.old.items) (map B.meaning boxes.new.items)) }
+    ensures kinds { kinds_of (map B.meaning boxes.new.items) ≡ kinds_of (map B.meaning boxes.old.items) }
 {
-    build_counted::<Brand>(boxes, graph, k, Blank::new(1))
+    build_counted::<B, Brand>(boxes, graph, k, Blank::new(1))
 }
 
-impl Engine {
+impl<B: PathIndex> Engine<B> {
     /// An engine with these boxes, no two of which are of one kind. It isn't open. O(1), no memory.
-    pub fn new(boxes: Vec<Box<dyn PathIndex>>) -> Engine
-        requires apart { AllPairs (λ a b. a.kind ≢ b.kind) (map meaning boxes.items) }
-        ensures seen { engine_seen (map meaning result.boxes.items) result.state ≡ record { boxes = map meaning boxes.items; opened = None } }
-        ensures sound { IsSound (engine_seen (map meaning result.boxes.items) result.state) }
+    pub fn new(boxes: Vec<B>) -> Self
+        requires apart { AllPairs (λ a b. a.kind ≢ b.kind) (map B.meaning boxes.items) }
+        ensures seen { seen B.meaning result ≡ record { boxes = map B.meaning boxes.items; opened = None } }
+        ensures sound { IsSound (seen B.meaning result) }
     {
         Engine { boxes, state: None }
     }
@@ -94,14 +102,14 @@ impl Engine {
     /// O((k + r) (n + m log d)) in all, where a node has at most d neighbours on a side, and the 1-index and the forward and backward index
     /// take r rounds; it takes O(k (n + m)) memory, for a k of at least 1.
     pub fn open(&mut self, graph: Graph, limits: Limits, k: u32) -> Result<(), Memory>
-        requires closed { opened_of self.old.state ≡ None }
+        requires closed { self.old.opened ≡ None }
         requires few { k ≤ 8 }
-        requires sound { IsSound (engine_seen (map meaning self.old.boxes.items) self.old.state) }
-        ensures sound { IsSound (engine_seen (map meaning self.new.boxes.items) self.new.state) }
-        ensures opened { OnOk result (opened_of self.new.state ≡ Some (record { graph = graph.graph; limits = limits; k = k })) }
-        ensures built { OnOk result (EachBecomes (λ a b. IsBuilt a b graph.graph k) (map meaning self.old.boxes.items) (map meaning self.new.boxes.items)) }
-        ensures err { OnErr result (opened_of self.new.state ≡ None) }
-        ensures kinds { kinds_of (map meaning self.new.boxes.items) ≡ kinds_of (map meaning self.old.boxes.items) }
+        requires sound { IsSound (seen B.meaning self.old) }
+        ensures sound { IsSound (seen B.meaning self.new) }
+        ensures opened { OnOk result (self.new.opened ≡ Some (record { graph = graph.graph; limits = limits; k = k })) }
+        ensures built { OnOk result (EachBecomes (λ a b. IsBuilt a b graph.graph k) (map B.meaning self.old.boxes) (map B.meaning self.new.boxes)) }
+        ensures err { OnErr result (self.new.opened ≡ None) }
+        ensures kinds { kinds_of (map B.meaning self.new.boxes) ≡ kinds_of (map B.meaning self.old.boxes) }
     {
         build_of(&mut self.boxes, &graph, k)?;
         self.state = Some(Open { graph, limits, k });
@@ -110,8 +118,8 @@ impl Engine {
 
     /// The graph. O(1), no memory.
     pub fn graph(&self) -> &Graph
-        requires open { IsSome (opened_of self.now.state) }
-        ensures { result.now.graph ≡ graph_in (opened_of self.now.state) }
+        requires open { IsSome self.now.opened }
+        ensures { result.now.graph ≡ graph_in self.now.opened }
     {
         match &self.state {
             Some(open) => &open.graph,
@@ -129,17 +137,13 @@ impl Engine {
     /// forward and backward index goes, or the blocks without other parents are searched for again, which passes over the blocks of the
     /// 1-index: `AkIndex`, `OneKept` and `FbIndex` say how much time and memory that takes.
     pub fn update(&mut self, alloc: Global, change: Change) -> Result<Applied, UpdateError>
-        requires open { IsSome (opened_of self.old.state) }
-        requires sound { IsSound (engine_seen (map meaning self.old.boxes.items) self.old.state) }
-        ensures sound { IsSound (engine_seen (map meaning self.new.boxes.items) self.new.state) }
-        ensures refused { (r : Refusal) → (result ≡ Err (UpdateError.Refused r)) ↔ (outcome_in (change_of change) (opened_of self.old.state) ≡ Err r) }
-        ensures opened { OnOk result (opened_of self.new.state ≡ opened_after (change_of change) (opened_of self.old.state)) }
-        ensures updated { OnOk result (EachBecomes (IsUpdated (change_of change) (graph_in (opened_of self.old.state))) (map meaning self.old.boxes.items) (map meaning self.new.boxes.items)) }
-        ensures applied { IfOk result (λ applied. applied ≡ applied_of (change_of change) (graph_in (opened_of self.old.state))) }
-        ensures same { is_same (change_of change) (graph_in (opened_of self.old.state)) ≡ true → result ≡ Ok Applied.Done }
-        ensures still { is_same (change_of change) (graph_in (opened_of self.old.state)) ≡ true → engine_seen (map meaning self.new.boxes.items) self.new.state ≡ engine_seen (map meaning self.old.boxes.items) self.old.state }
-        ensures kinds { kinds_of (map meaning self.new.boxes.items) ≡ kinds_of (map meaning self.old.boxes.items) }
-        ensures err { OnErr result (engine_seen (map meaning self.new.boxes.items) self.new.state ≡ engine_seen (map meaning self.old.boxes.items) self.old.state) }
+        requires open { IsSome self.old.opened }
+        requires sound { IsSound (seen B.meaning self.old) }
+        ensures sound { IsSound (seen B.meaning self.new) }
+        ensures refused { (r : Refusal) → (result ≡ Err (UpdateError.Refused r)) ↔ (outcome_in (change_of change) self.old.opened ≡ Err r) }
+        ensures made { IfOk result (IsMade (change_of change) (seen B.meaning self.old) (seen B.meaning self.new)) }
+        ensures same { is_same (change_of change) (graph_in self.old.opened) ≡ true → result ≡ Ok Applied.Done }
+        ensures err { OnErr result (seen B.meaning self.new ≡ seen B.meaning self.old) }
     {
         match &mut self.state {
             Some(open) => update(
@@ -156,11 +160,10 @@ impl Engine {
     /// Takes out the index of a kind and drops it; all else stays. `NoIndex` comes exactly where none of that kind is kept, and no other
     /// refusal. O(i) for i indexes, and what it takes to drop one; no memory.
     pub fn forget(&mut self, kind: Kind) -> Result<(), Refusal>
-        requires sound { IsSound (engine_seen (map meaning self.old.boxes.items) self.old.state) }
-        ensures sound { IsSound (engine_seen (map meaning self.new.boxes.items) self.new.state) }
-        ensures opened { opened_of self.new.state ≡ opened_of self.old.state }
-        ensures boxes { map meaning self.new.boxes.items ≡ filter (λ m. not (is_kind kind m.kind)) (map meaning self.old.boxes.items) }
-        ensures no_index { (result ≡ Err Refusal.NoIndex) ↔ (has_kind (kinds_of (map meaning self.old.boxes.items)) kind ≡ false) }
+        requires sound { IsSound (seen B.meaning self.old) }
+        ensures sound { IsSound (seen B.meaning self.new) }
+        ensures forgotten { IsForgotten kind (seen B.meaning self.old) (seen B.meaning self.new) }
+        ensures no_index { (result ≡ Err Refusal.NoIndex) ↔ (has_kind (kinds_of (map B.meaning self.old.boxes)) kind ≡ false) }
         ensures no_other { (r : Refusal) → result ≡ Err r → r ≡ Refusal.NoIndex }
     {
         match box_place(&self.boxes, kind) {
@@ -172,11 +175,31 @@ impl Engine {
         }
     }
 
-    /// The last nodes of the walks whose labels match the expression, asked of the graph itself or through an index, and how they were
-    /// found. `NoIndex` comes exactly where the index isn't kept, memory or not. The view of the forward and backward index is first
-    /// computed, where it isn't: that takes what `FbIndex` takes; of the graph it reads one view. Of the graph itself a query costs one
-    /// view of the graph; through an index that is exact for it and computed, it reads nothing of the graph. Answered or not, the graph,
-    /// its limits, the levels, which indexes are kept, the blocks of the 1-index and each view that is computed stay.
+    /// The answers of a query, asked of the graph itself or through an index, and how they were found. `NoIndex` comes exactly where the
+    /// index isn't kept, memory or not. The view of the forward and backward index is first computed, where it isn't: that takes what
+    /// `FbIndex` takes; of the graph it reads one view. Of the graph itself a query costs one view of the graph; through an index that is
+    /// exact for it and computed, it reads nothing of the graph. Answered or not, the graph, its limits, the levels, which indexes are
+    /// kept, the blocks of the 1-index and each view that is computed stay. `path` and `branch` say how much time and memory it takes.
+    pub fn ask<L: Ledger>(
+        &mut self,
+        alloc: Global,
+        via: Via,
+        query: &Query<'_>,
+        steps: &mut Steps<L>,
+    ) -> Result<Answer, AskError>
+        requires open { IsSome self.old.opened }
+        requires sound { IsSound (seen B.meaning self.old) }
+        ensures sound { IsSound (seen B.meaning self.new) }
+        ensures asked { IsAsked (seen B.meaning self.old) (seen B.meaning self.new) }
+        ensures queried { IsQueried (seen B.meaning self.old) (seen B.meaning self.new) via (query_of query.now) result steps.old steps.new }
+    {
+        match &self.state {
+            Some(open) => ask(alloc, &mut self.boxes, open, via, query, steps),
+            None => unreachable!(),
+        }
+    }
+
+    /// `ask` of a path expression: the last nodes of the walks whose labels match it.
     ///
     /// O(m (n + e)) for an expression of m tokens and a graph with n node numbers and e edges; it takes O(m n) memory. Through an index n
     /// and e are the numbers of its blocks and of the pairs with support, and O(s) is added to both time and memory for s node numbers;
@@ -188,20 +211,17 @@ impl Engine {
         expr: &PathExpr,
         steps: &mut Steps<L>,
     ) -> Result<Answer, AskError>
-        requires open { IsSome (opened_of self.old.state) }
-        requires sound { IsSound (engine_seen (map meaning self.old.boxes.items) self.old.state) }
-        ensures sound { IsSound (engine_seen (map meaning self.new.boxes.items) self.new.state) }
-        ensures queried { IsQueried (engine_seen (map meaning self.old.boxes.items) self.old.state) (engine_seen (map meaning self.new.boxes.items) self.new.state) via (path expr.now) result steps.old steps.new }
+        requires open { IsSome self.old.opened }
+        requires sound { IsSound (seen B.meaning self.old) }
+        ensures sound { IsSound (seen B.meaning self.new) }
+        ensures asked { IsAsked (seen B.meaning self.old) (seen B.meaning self.new) }
+        ensures queried { IsQueried (seen B.meaning self.old) (seen B.meaning self.new) via (path expr.now) result steps.old steps.new }
     {
-        match &self.state {
-            Some(open) => ask(alloc, &mut self.boxes, open, via, &Query::Path(expr), steps),
-            None => unreachable!(),
-        }
+        self.ask(alloc, via, &Query::Path(expr), steps)
     }
 
-    /// The answers of a branching query, asked of the graph itself or through an index, and how they were found. When `NoIndex` comes, what
-    /// is read of the graph and what stays are as in `path`. The forward and backward index alone is exact for it, and is first computed, as
-    /// there; through another one the candidates of its relaxed form are looked up in the graph.
+    /// `ask` of a branching query. The forward and backward index alone is exact for it; through another one the candidates of its relaxed
+    /// form are looked up in the graph.
     ///
     /// O(m (n + e)) for m tokens, as for `path`; it takes O((d + 1) n + s) memory where brackets nest d deep, parentheses
     /// counted; through an index that isn't exact, O((d + 1) s).
@@ -212,16 +232,13 @@ impl Engine {
         query: &Branch,
         steps: &mut Steps<L>,
     ) -> Result<Answer, AskError>
-        requires open { IsSome (opened_of self.old.state) }
-        requires sound { IsSound (engine_seen (map meaning self.old.boxes.items) self.old.state) }
-        ensures sound { IsSound (engine_seen (map meaning self.new.boxes.items) self.new.state) }
-        ensures queried { IsQueried (engine_seen (map meaning self.old.boxes.items) self.old.state) (engine_seen (map meaning self.new.boxes.items) self.new.state) via (branch query.now) result steps.old steps.new }
+        requires open { IsSome self.old.opened }
+        requires sound { IsSound (seen B.meaning self.old) }
+        ensures sound { IsSound (seen B.meaning self.new) }
+        ensures asked { IsAsked (seen B.meaning self.old) (seen B.meaning self.new) }
+        ensures queried { IsQueried (seen B.meaning self.old) (seen B.meaning self.new) via (branch query.now) result steps.old steps.new }
     {
-        let asked = Query::Branch(query);
-        match &self.state {
-            Some(open) => ask(alloc, &mut self.boxes, open, via, &asked, steps),
-            None => unreachable!(),
-        }
+        self.ask(alloc, via, &Query::Branch(query), steps)
     }
 
     /// The list of the blocks of an index that isn't the graph itself, each with its nodes. `NoIndex` comes exactly where the index
@@ -237,20 +254,12 @@ impl Engine {
         via: Via,
         steps: &mut Steps<L>,
     ) -> Result<Text, AskError>
-        requires open { IsSome (opened_of self.old.state) }
-        requires sound { IsSound (engine_seen (map meaning self.old.boxes.items) self.old.state) }
+        requires open { IsSome self.old.opened }
+        requires sound { IsSound (seen B.meaning self.old) }
         requires index { via ≢ TheGraph }
-        ensures sound { IsSound (engine_seen (map meaning self.new.boxes.items) self.new.state) }
-        ensures opened { opened_of self.new.state ≡ opened_of self.old.state }
-        ensures keeps { EachBecomes KeepsViews (map meaning self.old.boxes.items) (map meaning self.new.boxes.items) }
-        ensures kept { kept_of (map meaning self.new.boxes.items) (level_in (opened_of self.old.state)) ≡ kept_of (map meaning self.old.boxes.items) (level_in (opened_of self.old.state)) }
-        ensures others { via ≢ TheFb → map meaning self.new.boxes.items ≡ map meaning self.old.boxes.items }
-        ensures text { IfOk result (ListsIndex (graph_in (opened_of self.old.state)) (kept_of (map meaning self.old.boxes.items) (level_in (opened_of self.old.state))) via) }
-        ensures no_index { (result ≡ Err AskError.NoIndex) ↔ (is_kept (kept_of (map meaning self.old.boxes.items) (level_in (opened_of self.old.state))) via ≡ false) }
-        ensures computed { via ≡ TheFb → OnOk result (IsFbComputed (map meaning self.new.boxes.items)) }
-        ensures free { via ≢ TheFb → steps.new ≡ steps.old }
-        ensures still { IsFbComputed (map meaning self.old.boxes.items) → steps.new ≡ steps.old }
-        ensures cost { steps.new ≤ steps.old + 1 + live_count (graph_in (opened_of self.old.state)) + edge_count (graph_in (opened_of self.old.state)) }
+        ensures sound { IsSound (seen B.meaning self.new) }
+        ensures asked { IsAsked (seen B.meaning self.old) (seen B.meaning self.new) }
+        ensures listed { IsListed (seen B.meaning self.old) (seen B.meaning self.new) via result steps.old steps.new }
     {
         match &self.state {
             Some(open) => list(alloc, &mut self.boxes, open, via, steps),
@@ -263,16 +272,11 @@ impl Engine {
     /// the graph is read. `Memory` leaves the graph and each view that is computed. O(k) for levels up to k where nothing is computed; it
     /// takes the memory of the text.
     pub fn sizes<L: Ledger>(&mut self, alloc: Global, steps: &mut Steps<L>) -> Result<Text, Memory>
-        requires open { IsSome (opened_of self.old.state) }
-        requires sound { IsSound (engine_seen (map meaning self.old.boxes.items) self.old.state) }
-        ensures sound { IsSound (engine_seen (map meaning self.new.boxes.items) self.new.state) }
-        ensures opened { opened_of self.new.state ≡ opened_of self.old.state }
-        ensures keeps { EachBecomes KeepsViews (map meaning self.old.boxes.items) (map meaning self.new.boxes.items) }
-        ensures kept { kept_of (map meaning self.new.boxes.items) (level_in (opened_of self.old.state)) ≡ kept_of (map meaning self.old.boxes.items) (level_in (opened_of self.old.state)) }
-        ensures text { IfOk result (ListsSizes (graph_in (opened_of self.old.state)) (kept_of (map meaning self.old.boxes.items) (level_in (opened_of self.old.state)))) }
-        ensures computed { OnOk result (IsFbComputed (map meaning self.new.boxes.items)) }
-        ensures still { IsFbComputed (map meaning self.old.boxes.items) → steps.new ≡ steps.old }
-        ensures cost { steps.new ≤ steps.old + 1 + live_count (graph_in (opened_of self.old.state)) + edge_count (graph_in (opened_of self.old.state)) }
+        requires open { IsSome self.old.opened }
+        requires sound { IsSound (seen B.meaning self.old) }
+        ensures sound { IsSound (seen B.meaning self.new) }
+        ensures asked { IsAsked (seen B.meaning self.old) (seen B.meaning self.new) }
+        ensures measured { IsMeasured (seen B.meaning self.old) (seen B.meaning self.new) result steps.old steps.new }
     {
         match &self.state {
             Some(open) => measure(alloc, &mut self.boxes, open, steps),

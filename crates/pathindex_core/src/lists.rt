@@ -1,13 +1,13 @@
 // The lists of the indexes that are kept.
-ghost use Rattle.std.specs.Prelude.{◌≡◌, ◌≢◌, ◌≤◌, ◌+◌, ◌++◌, ◌↔◌, Err, Some, true, false, List, ℕ, map, All, OnOk, OnErr, IfOk, string_bytes};
+ghost use Rattle.std.specs.Prelude.{◌≡◌, ◌≤◌, ◌++◌, ◌↔◌, Err, false, List, ℕ, map, All, OnOk, IfOk, string_bytes};
 ghost use Rattle.px_spec.specs.Graphs.{IsGraph};
-ghost use Rattle.label_graph.specs.Views.{live_count, edge_count};
-ghost use Rattle.index_api.specs.declared.kinds.Via.TheVariants.{Data, Fb};
+ghost use Rattle.index_api.specs.declared.kinds.Via.TheVariants.{Fb};
 ghost use Rattle.index_api.specs.Meanings.{KeepsViews};
 ghost use Rattle.index_api.specs.Kept.{is_kept, kept_of};
 ghost use Rattle.extent_report.specs.Shown.{ListsIndex, ListsSizes, ShowsSize};
-ghost use Rattle.pathindex_core.specs.Engines.{EachBecomes, IsKeptFor, opened};
+ghost use Rattle.pathindex_core.specs.Engines.{EachBecomes, IsKeptFor, opened, open_seen};
 ghost use Rattle.pathindex_core.specs.Boxes.{IsFbComputed};
+ghost use Rattle.pathindex_core.specs.Calls.{IsListed, IsMeasured};
 
 use crate::errors::AskError;
 use crate::state::Open;
@@ -19,16 +19,16 @@ use std::alloc::Global;
 use std::sync::ledger::Ledger;
 
 /// The list of the blocks of an index whose view is computed, where it is kept.
-fn text_of(
+fn text_of<B: PathIndex>(
     alloc: Global,
-    boxes: &Vec<Box<dyn PathIndex>>,
+    boxes: &Vec<B>,
     state: &Open,
     via: Via,
 ) -> Result<Text, AskError>
-    requires kept { All (IsKeptFor (opened state.now)) (map meaning boxes.now.items) }
-    requires computed { via ≡ Fb → IsFbComputed (map meaning boxes.now.items) }
-    ensures text { IfOk result (ListsIndex state.now.graph.graph (kept_of (map meaning boxes.now.items) state.now.k) via) }
-    ensures no_index { (result ≡ Err AskError.NoIndex) ↔ (is_kept (kept_of (map meaning boxes.now.items) state.now.k) via ≡ false) }
+    requires kept { All (IsKeptFor (opened state.now)) (map B.meaning boxes.now.items) }
+    requires computed { via ≡ Fb → IsFbComputed (map B.meaning boxes.now.items) }
+    ensures text { IfOk result (ListsIndex state.now.graph.graph (kept_of (map B.meaning boxes.now.items) state.now.k) via) }
+    ensures no_index { (result ≡ Err AskError.NoIndex) ↔ (is_kept (kept_of (map B.meaning boxes.now.items) state.now.k) via ≡ false) }
 {
     match summary_of(boxes, via) {
         Some(summary) => match extents_text(alloc, summary, state.graph.labels()) {
@@ -40,23 +40,18 @@ fn text_of(
 }
 
 /// The list of the blocks of an index, where it is kept.
-pub(crate) fn list<L: Ledger>(
+pub(crate) fn list<B: PathIndex, L: Ledger>(
     alloc: Global,
-    boxes: &mut Vec<Box<dyn PathIndex>>,
+    boxes: &mut Vec<B>,
     state: &Open,
     via: Via,
     steps: &mut Steps<L>,
 ) -> Result<Text, AskError>
-    requires kept { All (IsKeptFor (opened state.now)) (map meaning boxes.old.items) }
-    ensures keeps { EachBecomes KeepsViews (map meaning boxes.old.items) (map meaning boxes.new.items) }
-    ensures kept { All (IsKeptFor (opened state.now)) (map meaning boxes.new.items) }
-    ensures others { via ≢ Fb → map meaning boxes.new.items ≡ map meaning boxes.old.items }
-    ensures text { IfOk result (ListsIndex state.now.graph.graph (kept_of (map meaning boxes.old.items) state.now.k) via) }
-    ensures no_index { (result ≡ Err AskError.NoIndex) ↔ (is_kept (kept_of (map meaning boxes.old.items) state.now.k) via ≡ false) }
-    ensures computed { via ≡ Fb → OnOk result (IsFbComputed (map meaning boxes.new.items)) }
-    ensures free { via ≢ Fb → steps.new ≡ steps.old }
-    ensures still { IsFbComputed (map meaning boxes.old.items) → steps.new ≡ steps.old }
-    ensures cost { steps.new ≤ steps.old + 1 + live_count state.now.graph.graph + edge_count state.now.graph.graph }
+    requires kept { All (IsKeptFor (opened state.now)) (map B.meaning boxes.old.items) }
+    ensures kept { All (IsKeptFor (opened state.now)) (map B.meaning boxes.new.items) }
+    ensures keeps { EachBecomes KeepsViews (map B.meaning boxes.old.items) (map B.meaning boxes.new.items) }
+    ensures listed { IsListed (open_seen (map B.meaning boxes.old.items) state.now) (open_seen (map B.meaning boxes.new.items) state.now) via
+        result steps.old steps.new }
 {
     match refresh_for(boxes, via, &state.graph, steps) {
         Ok(()) => text_of(alloc, boxes, state, via),
@@ -65,17 +60,19 @@ pub(crate) fn list<L: Ledger>(
 }
 
 /// Appends the line of the size of an index, where it is kept.
-fn push_size(
+fn push_size<B: PathIndex>(
     alloc: Global,
     out: &mut String,
-    boxes: &Vec<Box<dyn PathIndex>>,
+    boxes: &Vec<B>,
     state: &Open,
     via: Via,
 ) -> Result<(), Memory>
-    requires kept { All (IsKeptFor (opened state.now)) (map meaning boxes.now.items) }
-    requires computed { IsFbComputed (map meaning boxes.now.items) }
+    requires kept { All (IsKeptFor (opened state.now)) (map B.meaning boxes.now.items) }
+    requires computed { IsFbComputed (map B.meaning boxes.now.items) }
     requires graph { IsGraph state.now.graph.graph }
-    ensures { OnOk result ((line : List ℕ) × ShowsSize state.now.graph.graph (kept_of (map meaning boxes.now.items) state.now.k) via line × (string_bytes out.new ≡ string_bytes out.old ++ line)) }
+    ensures { OnOk result ((line : List ℕ)
+        × ShowsSize state.now.graph.graph (kept_of (map B.meaning boxes.now.items) state.now.k) via line
+        × (string_bytes out.new ≡ string_bytes out.old ++ line)) }
 {
     match summary_of(boxes, via) {
         Some(summary) => {
@@ -88,11 +85,11 @@ fn push_size(
 }
 
 /// The sizes, where the forward and backward index is computed if it is kept.
-fn sizes_of(alloc: Global, boxes: &Vec<Box<dyn PathIndex>>, state: &Open) -> Result<Text, Memory>
-    requires kept { All (IsKeptFor (opened state.now)) (map meaning boxes.now.items) }
-    requires computed { IsFbComputed (map meaning boxes.now.items) }
+fn sizes_of<B: PathIndex>(alloc: Global, boxes: &Vec<B>, state: &Open) -> Result<Text, Memory>
+    requires kept { All (IsKeptFor (opened state.now)) (map B.meaning boxes.now.items) }
+    requires computed { IsFbComputed (map B.meaning boxes.now.items) }
     requires few { state.now.k ≤ 8 }
-    ensures { IfOk result (ListsSizes state.now.graph.graph (kept_of (map meaning boxes.now.items) state.now.k)) }
+    ensures { IfOk result (ListsSizes state.now.graph.graph (kept_of (map B.meaning boxes.now.items) state.now.k)) }
 {
     let head = sizes_head(alloc, state.graph.node_count(), state.graph.edge_count())?;
     let mut out = head.into_string();
@@ -105,20 +102,18 @@ fn sizes_of(alloc: Global, boxes: &Vec<Box<dyn PathIndex>>, state: &Open) -> Res
 }
 
 /// The size of the graph and of each index that is kept.
-pub(crate) fn measure<L: Ledger>(
+pub(crate) fn measure<B: PathIndex, L: Ledger>(
     alloc: Global,
-    boxes: &mut Vec<Box<dyn PathIndex>>,
+    boxes: &mut Vec<B>,
     state: &Open,
     steps: &mut Steps<L>,
 ) -> Result<Text, Memory>
-    requires kept { All (IsKeptFor (opened state.now)) (map meaning boxes.old.items) }
+    requires kept { All (IsKeptFor (opened state.now)) (map B.meaning boxes.old.items) }
     requires few { state.now.k ≤ 8 }
-    ensures keeps { EachBecomes KeepsViews (map meaning boxes.old.items) (map meaning boxes.new.items) }
-    ensures kept { All (IsKeptFor (opened state.now)) (map meaning boxes.new.items) }
-    ensures text { IfOk result (ListsSizes state.now.graph.graph (kept_of (map meaning boxes.old.items) state.now.k)) }
-    ensures computed { OnOk result (IsFbComputed (map meaning boxes.new.items)) }
-    ensures still { IsFbComputed (map meaning boxes.old.items) → steps.new ≡ steps.old }
-    ensures cost { steps.new ≤ steps.old + 1 + live_count state.now.graph.graph + edge_count state.now.graph.graph }
+    ensures kept { All (IsKeptFor (opened state.now)) (map B.meaning boxes.new.items) }
+    ensures keeps { EachBecomes KeepsViews (map B.meaning boxes.old.items) (map B.meaning boxes.new.items) }
+    ensures measured { IsMeasured (open_seen (map B.meaning boxes.old.items) state.now) (open_seen (map B.meaning boxes.new.items) state.now)
+        result steps.old steps.new }
 {
     refresh_fb(boxes, &state.graph, steps)?;
     let text = sizes_of(alloc, boxes, state)?;

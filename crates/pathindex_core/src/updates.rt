@@ -19,19 +19,20 @@ use std::alloc::Global;
 
 /// Makes a change that alters the graph. All memory that it needs is taken before the graph or an index changes; where it
 /// runs out, all are as before.
-fn make(
+fn make<B: PathIndex>(
     alloc: Global,
-    boxes: &mut Vec<Box<dyn PathIndex>>,
+    boxes: &mut Vec<B>,
     graph: &mut Graph,
     change: &Change,
 ) -> Result<Applied, Memory>
-    requires ready { All (λ m. IsReady m graph.old.graph) (map meaning boxes.old.items) }
+    requires ready { All (λ m. IsReady m graph.old.graph) (map B.meaning boxes.old.items) }
     requires new { IsNew (change_of change.now) graph.old.graph }
     ensures graph { OnOk result (graph.new.graph ≡ after (change_of change.now) graph.old.graph) }
-    ensures moved { OnOk result (EachBecomes (λ a b. IsMoved a b (change_of change.now) graph.old.graph) (map meaning boxes.old.items) (map meaning boxes.new.items)) }
+    ensures moved { OnOk result (EachBecomes (λ a b. IsMoved a b (change_of change.now) graph.old.graph)
+        (map B.meaning boxes.old.items) (map B.meaning boxes.new.items)) }
     ensures applied { IfOk result (λ applied. applied ≡ applied_of (change_of change.now) graph.old.graph) }
     ensures err_graph { OnErr result (graph.new.graph ≡ graph.old.graph) }
-    ensures err_boxes { OnErr result (map meaning boxes.new.items ≡ map meaning boxes.old.items) }
+    ensures err_boxes { OnErr result (map B.meaning boxes.new.items ≡ map B.meaning boxes.old.items) }
 {
     let staged = stage(alloc, graph, change)?;
     prepare_all(boxes, graph, change)?;
@@ -42,24 +43,25 @@ fn make(
 
 /// Judges a change, and makes it where it is accepted. A refusal and `Memory` leave all as it was, and so does a change that alters
 /// nothing, which takes no memory.
-pub(crate) fn update(
+pub(crate) fn update<B: PathIndex>(
     alloc: Global,
-    boxes: &mut Vec<Box<dyn PathIndex>>,
+    boxes: &mut Vec<B>,
     graph: &mut Graph,
     change: &Change,
     limits: &Limits,
 ) -> Result<Applied, UpdateError>
-    requires ready { All (λ m. IsReady m graph.old.graph) (map meaning boxes.old.items) }
+    requires ready { All (λ m. IsReady m graph.old.graph) (map B.meaning boxes.old.items) }
     ensures refused { (r : Refusal) → (result ≡ Err (UpdateError.Refused r)) ↔ (apply (change_of change.now) graph.old.graph limits.now ≡ Err r) }
     ensures graph { OnOk result (graph.new.graph ≡ graph_or graph.old.graph (apply (change_of change.now) graph.old.graph limits.now)) }
-    ensures updated { OnOk result (EachBecomes (IsUpdated (change_of change.now) graph.old.graph) (map meaning boxes.old.items) (map meaning boxes.new.items)) }
+    ensures updated { OnOk result (EachBecomes (IsUpdated (change_of change.now) graph.old.graph)
+        (map B.meaning boxes.old.items) (map B.meaning boxes.new.items)) }
     ensures applied { IfOk result (λ applied. applied ≡ applied_of (change_of change.now) graph.old.graph) }
     ensures same { is_same (change_of change.now) graph.old.graph ≡ true → result ≡ Ok Applied.Done }
     ensures still_graph { is_same (change_of change.now) graph.old.graph ≡ true → graph.new.graph ≡ graph.old.graph }
-    ensures still_boxes { is_same (change_of change.now) graph.old.graph ≡ true → map meaning boxes.new.items ≡ map meaning boxes.old.items }
-    ensures ready { OnOk result (EachBecomes (λ a b. StaysReady a b graph.new.graph) (map meaning boxes.old.items) (map meaning boxes.new.items)) }
+    ensures still_boxes { is_same (change_of change.now) graph.old.graph ≡ true → map B.meaning boxes.new.items ≡ map B.meaning boxes.old.items }
+    ensures ready { OnOk result (EachBecomes (λ a b. StaysReady a b graph.new.graph) (map B.meaning boxes.old.items) (map B.meaning boxes.new.items)) }
     ensures err_graph { OnErr result (graph.new.graph ≡ graph.old.graph) }
-    ensures err_boxes { OnErr result (map meaning boxes.new.items ≡ map meaning boxes.old.items) }
+    ensures err_boxes { OnErr result (map B.meaning boxes.new.items ≡ map B.meaning boxes.old.items) }
 {
     match judge(graph, change, limits) {
         Err(refusal) => Err(UpdateError::Refused(refusal)),

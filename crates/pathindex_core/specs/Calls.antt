@@ -1,0 +1,77 @@
+-- What the calls of an engine make of it: it is e before and f after.
+use Rattle.std.specs.Prelude.{ℕ, ◌≡◌, ◌≢◌, ◌≤◌, ◌↔◌, List, true, false, not, Result, Err, IfOk, OnOk}
+use Rattle.std.specs.List.{filter}
+use Rattle.px_spec.specs.Changes.{Change}
+use Rattle.px_base.specs.declared.allocation.Memory.{Memory}
+use Rattle.graph_update.specs.declared.changes.Applied.{Applied}
+use Rattle.graph_update.specs.NewChanges.{is_same}
+use Rattle.graph_update.specs.StagedChanges.{applied_of}
+use Rattle.bisim_spec.specs.declared.kind.Kind.{Kind}
+use Rattle.index_api.specs.declared.kinds.Via.{Via}
+use Rattle.index_api.specs.declared.kinds.Via.TheVariants.{Fb}
+use Rattle.index_api.specs.Meanings.{KeepsViews}
+use Rattle.index_api.specs.Kept.{is_kind, is_kept, kinds_of}
+use Rattle.extent_report.specs.Shown.{ListsIndex, ListsSizes}
+use Rattle.pathindex_core.specs.declared.errors.AskError.{AskError}
+use Rattle.pathindex_core.specs.declared.errors.AskError.TheVariants.{NoIndex}
+use Rattle.pathindex_core.specs.Boxes.{IsFbComputed}
+use Rattle.pathindex_core.specs.Engines.{EngineSeen, EachBecomes, graph_in, kept_in}
+use Rattle.pathindex_core.specs.Updates.{IsUpdated, opened_after}
+use Rattle.pathindex_core.specs.QueryAnswers.{after_view}
+
+-- An accepted change was made, and answered so.
+pub record IsMade (c : Change) (e f : EngineSeen) (answer : Applied) : Type 0 where
+  -- the graph is the one after the change; the limits and the highest level stay
+  pub opened : f.opened ≡ opened_after c e.opened
+  -- each index is one of that graph; the partition of the 1-index moved by one step
+  pub updated : EachBecomes (IsUpdated c (graph_in e.opened)) e.boxes f.boxes
+  -- which kinds are kept stays
+  pub kinds : kinds_of f.boxes ≡ kinds_of e.boxes
+  -- a change that alters nothing leaves all as it was
+  pub still : is_same c (graph_in e.opened) ≡ true → f ≡ e
+  -- the number of a new node, or that the change is made
+  pub applied : answer ≡ applied_of c (graph_in e.opened)
+
+-- The index of that kind, where one is kept, was taken out.
+pub record IsForgotten (kind : Kind) (e f : EngineSeen) : Type 0 where
+  -- the graph, the limits and the highest level stay
+  pub opened : f.opened ≡ e.opened
+  -- so do the other indexes
+  pub boxes : f.boxes ≡ filter (λ m. not (is_kind kind m.kind)) e.boxes
+
+-- The engine was asked something: at most, a view that wasn't computed is.
+pub record IsAsked (e f : EngineSeen) : Type 0 where
+  -- the graph, the limits and the highest level stay
+  pub opened : f.opened ≡ e.opened
+  -- each view that is computed stays
+  pub keeps : EachBecomes KeepsViews e.boxes f.boxes
+  -- which indexes are kept, and the blocks of the 1-index, stay
+  pub kept : kept_in f ≡ kept_in e
+
+-- The blocks of an index were listed so. The counts are those of what was read of the graph, before and after.
+pub record IsListed (e f : EngineSeen) (via : Via) (result : Result (List ℕ) AskError) (before after : ℕ) : Type 0 where
+  -- the text is the list of the blocks, each with its nodes
+  pub text : IfOk result (ListsIndex (graph_in e.opened) (kept_in e) via)
+  -- the index isn't kept
+  pub no_index : (result ≡ Err NoIndex) ↔ (is_kept (kept_in e) via ≡ false)
+  -- the view of the forward and backward index is computed afterwards, where that one is listed
+  pub computed : via ≡ Fb → OnOk result (IsFbComputed f.boxes)
+  -- and no view is, where another one is listed
+  pub others : via ≢ Fb → f.boxes ≡ e.boxes
+  -- of the graph one view at most is read
+  pub cost : after ≤ after_view before (graph_in e.opened)
+  -- nothing, where it isn't the forward and backward index that is listed
+  pub free : via ≢ Fb → after ≡ before
+  -- nor where this one is computed already
+  pub still : IsFbComputed e.boxes → after ≡ before
+
+-- The sizes of the graph and of the indexes were listed so. The counts are as above.
+pub record IsMeasured (e f : EngineSeen) (result : Result (List ℕ) Memory) (before after : ℕ) : Type 0 where
+  -- the text is the list of the sizes
+  pub text : IfOk result (ListsSizes (graph_in e.opened) (kept_in e))
+  -- the view of the forward and backward index is computed afterwards, where that one is kept
+  pub computed : OnOk result (IsFbComputed f.boxes)
+  -- of the graph one view at most is read
+  pub cost : after ≤ after_view before (graph_in e.opened)
+  -- nothing, where that view is computed already
+  pub still : IsFbComputed e.boxes → after ≡ before
