@@ -27,10 +27,19 @@ use std::sync::ledger::{Blank, Ledger};
 ///     index.build(&graph.view(&mut steps), 2)?;
 ///     index.prepare(&graph, &change)?;
 ///     index.commit();
-#[derive(Drop)]
 pub struct AkIndex {
     alloc: Global,
     kept: Option<Kept>,
+}
+
+// Written out, so that the proof of an owner sees one call and not the drop of each table.
+impl Drop for AkIndex {
+    fn drop(self) {
+        let AkIndex {
+            alloc: _alloc,
+            kept: _kept,
+        } = self;
+    }
 }
 
 impl AkIndex {

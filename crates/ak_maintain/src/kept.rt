@@ -18,10 +18,19 @@ use std::sync::ledger::Ledger;
 
 /// The A(0)- to A(k)-indexes in force, and a draft of what a change to come will make of them. A draft is made for each change, and
 /// dropped with it.
-#[derive(Drop)]
 pub(crate) struct Kept {
     family: AkFamily,
     staged: Option<AkDraft>,
+}
+
+// Written out, so that the proof of an owner sees one call and not the drop of each table.
+impl Drop for Kept {
+    fn drop(self) {
+        let Kept {
+            family: _family,
+            staged: _staged,
+        } = self;
+    }
 }
 
 impl Model for Kept {

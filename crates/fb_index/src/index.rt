@@ -25,11 +25,21 @@ use std::alloc::Global;
 ///     index.prepare(&graph, &change)?;
 ///     index.commit();
 ///     index.refresh(&graph.view(&mut steps))?;
-#[derive(Drop)]
 pub struct FbIndex {
     alloc: Global,
     summary: Option<Summary>,
     is_staged: bool,
+}
+
+// Written out, so that the proof of an owner sees one call and not the drop of each table.
+impl Drop for FbIndex {
+    fn drop(self) {
+        let FbIndex {
+            alloc: _alloc,
+            summary: _summary,
+            is_staged: _is_staged,
+        } = self;
+    }
 }
 
 impl FbIndex {
