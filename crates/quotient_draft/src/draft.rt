@@ -25,11 +25,24 @@ use std::marker::Model;
 ///     let mut draft = Draft::new(alloc)?;
 ///     let block = draft.new_block(&base, label)?;
 ///     draft.put(&base, node, Some(block))?;
-#[derive(Drop)]
 pub struct Draft {
     pub(crate) added: Added,
     pub(crate) moves: Moves,
     pub(crate) changed: Changed,
+}
+
+impl Drop for Draft {
+    // By hand, so that no crate above proves how the tables are dropped.
+    fn drop(self) {
+        let Draft {
+            added,
+            moves,
+            changed,
+        } = self;
+        drop(added);
+        drop(moves);
+        drop(changed);
+    }
 }
 
 impl Model for Draft {
