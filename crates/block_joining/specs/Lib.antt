@@ -1,2 +1,3 @@
 pub mod Mates
 pub mod Merged
+pub mod Shown

@@ -2,10 +2,10 @@
 ghost use Rattle.std.specs.Prelude.{◌≡◌, ◌≢◌, ◌&&◌, ℕ, Some, IsTrue, IsFalse, IfOk, not, false};
 ghost use Rattle.std.specs.List.{list_all, list_any};
 ghost use Rattle.px_spec.specs.Members.{at};
-ghost use Rattle.quotient_draft.specs.Drafts.{shown_labels, shown_blocks, shown_support};
+ghost use Rattle.quotient_draft.specs.Drafts.{shown_labels, shown_blocks};
 ghost use Rattle.quotient_draft.specs.Basis.{IsOver};
-ghost use Rattle.block_joining.specs.Mates.{shown_joined, met, AreMates, AreNoMates};
-ghost use Rattle.block_joining.specs.Merged.{HasGraph};
+ghost use Rattle.block_joining.specs.Mates.{shown_joined, met};
+ghost use Rattle.block_joining.specs.Shown.{AreShownMates, AreNoShownMates, HasShownGraph};
 
 use label_graph::Digraph;
 use px_base::Memory;
@@ -39,7 +39,7 @@ fn are_met(base: &Summary, draft: &Draft, a: u32, b: u32, d: u32, blocks: &[u32]
 // Whether two blocks have one label.
 fn same_label(base: &Summary, draft: &Draft, a: u32, b: u32) -> bool
     requires over { IsOver base.now.blocks.block_of base.now.blocks.labels draft.now }
-    requires graph { HasGraph (shown_blocks base.now draft.now) (at (shown_labels base.now draft.now)) (shown_support base.now draft.now) }
+    requires graph { HasShownGraph base.now draft.now }
     requires first { (n : ℕ) × (at (shown_blocks base.now draft.now) n ≡ Some a) }
     requires second { (n : ℕ) × (at (shown_blocks base.now draft.now) n ≡ Some b) }
     ensures yes { IsTrue result → at (shown_labels base.now draft.now) a ≡ at (shown_labels base.now draft.now) b }
@@ -82,12 +82,12 @@ pub fn can_join(
     list: &mut Vec<u32>,
 ) -> Result<bool, Memory>
     requires over { IsOver base.now.blocks.block_of base.now.blocks.labels draft.now }
-    requires graph { HasGraph (shown_blocks base.now draft.now) (at (shown_labels base.now draft.now)) (shown_support base.now draft.now) }
+    requires graph { HasShownGraph base.now draft.now }
     requires apart { a ≢ b }
     requires first { (n : ℕ) × (at (shown_blocks base.now draft.now) n ≡ Some a) }
     requires second { (n : ℕ) × (at (shown_blocks base.now draft.now) n ≡ Some b) }
-    ensures yes { IfOk result (λ can. IsTrue can → AreMates (shown_blocks base.now draft.now) (at (shown_labels base.now draft.now)) (shown_joined base.now draft.now) a b) }
-    ensures no { IfOk result (λ can. IsFalse can → AreNoMates (shown_blocks base.now draft.now) (at (shown_labels base.now draft.now)) (shown_joined base.now draft.now) a b) }
+    ensures yes { IfOk result (λ can. IsTrue can → AreShownMates base.now draft.now a b) }
+    ensures no { IfOk result (λ can. IsFalse can → AreNoShownMates base.now draft.now a b) }
 {
     if !same_label(base, draft, a, b) {
         return Ok(false);

@@ -1,17 +1,11 @@
 // Merging two blocks.
-ghost use Rattle.std.specs.Prelude.{◌≡◌, ℕ, Option, Some, IsSome, IsTrue, OnOk, if◌then◌else◌};
+ghost use Rattle.std.specs.Prelude.{◌≡◌, ℕ, IsSome, IsTrue, OnOk};
 ghost use Rattle.px_spec.specs.Members.{at, has};
-ghost use Rattle.px_spec.specs.Graphs.{Graph};
-ghost use Rattle.px_spec.specs.Shapes.{Shape};
 ghost use Rattle.bisim_spec.specs.Stability.{Mergeable};
 ghost use Rattle.upkeep_spec.specs.Merges.{IsMerged};
-ghost use Rattle.upkeep_spec.specs.Named.{AreNamed};
-ghost use Rattle.upkeep_spec.specs.Supported.{AreEdgeCounts};
-ghost use Rattle.upkeep_spec.specs.Viewed.{IsViewed};
-ghost use Rattle.quotient_draft.specs.Drafts.{shown_labels, shown_blocks, shown_support};
+ghost use Rattle.quotient_draft.specs.Drafts.{shown_labels, shown_blocks};
 ghost use Rattle.quotient_draft.specs.Basis.{IsOver};
-ghost use Rattle.block_joining.specs.Mates.{shown_joined, AreMates};
-ghost use Rattle.block_joining.specs.Merged.{HasGraph};
+ghost use Rattle.block_joining.specs.Shown.{HasShownGraph, AreShownMates, StayEdgeCounts, StayNamed, StaysShown, PutsNodes};
 
 use crate::supports::join_supports;
 use px_base::{Memory, NodeId};
@@ -31,15 +25,15 @@ pub fn join(
     list: &mut Vec<u32>,
 ) -> Result<(), Memory>
     requires over { IsOver base.now.blocks.block_of base.now.blocks.labels draft.old }
-    requires graph { HasGraph (shown_blocks base.now draft.old) (at (shown_labels base.now draft.old)) (shown_support base.now draft.old) }
-    requires mates { AreMates (shown_blocks base.now draft.old) (at (shown_labels base.now draft.old)) (shown_joined base.now draft.old) a b }
+    requires graph { HasShownGraph base.now draft.old }
+    requires mates { AreShownMates base.now draft.old a b }
     ensures over { OnOk result (IsOver base.now.blocks.block_of base.now.blocks.labels draft.new) }
-    ensures graph { OnOk result (HasGraph (shown_blocks base.now draft.new) (at (shown_labels base.now draft.new)) (shown_support base.now draft.new)) }
+    ensures graph { OnOk result (HasShownGraph base.now draft.new) }
     ensures merged { OnOk result (IsMerged a b (shown_blocks base.now draft.old) (shown_blocks base.now draft.new)) }
     ensures labels { OnOk result (shown_labels base.now draft.new ≡ shown_labels base.now draft.old) }
-    ensures supports { OnOk result ((g : Graph) → AreEdgeCounts g (shown_blocks base.now draft.old) (shown_support base.now draft.old) → AreEdgeCounts g (shown_blocks base.now draft.new) (shown_support base.now draft.new)) }
-    ensures named { OnOk result ((names : ℕ → Option ℕ) → AreNamed (shown_blocks base.now draft.old) (at (shown_labels base.now draft.old)) names → AreNamed (shown_blocks base.now draft.new) (at (shown_labels base.now draft.new)) names) }
-    ensures viewed { OnOk result ((s : Shape) → IsViewed s (shown_blocks base.now draft.old) (at (shown_labels base.now draft.old)) (shown_joined base.now draft.old) → IsViewed s (shown_blocks base.now draft.new) (at (shown_labels base.now draft.new)) (shown_joined base.now draft.new)) }
+    ensures supports { OnOk result (StayEdgeCounts base.now draft.old draft.new) }
+    ensures named { OnOk result (StayNamed base.now draft.old draft.new) }
+    ensures viewed { OnOk result (StaysShown base.now draft.old draft.new) }
 {
     join_supports(base, draft, a, b, list)?;
     draft.fill_members(base, b, list)?;
@@ -52,7 +46,7 @@ fn move_all(base: &Summary, draft: &mut Draft, nodes: &[NodeId], b: u32) -> Resu
     requires over { IsOver base.now.blocks.block_of base.now.blocks.labels draft.old }
     requires nodes { (n : ℕ) → IsTrue (has nodes.now n) → IsSome (at (shown_blocks base.now draft.old) n) }
     requires block { IsSome (at (shown_labels base.now draft.old) b) }
-    ensures blocks { OnOk result ((m : ℕ) → at (shown_blocks base.now draft.new) m ≡ (if has nodes.now m then Some b else at (shown_blocks base.now draft.old) m)) }
+    ensures blocks { OnOk result (PutsNodes nodes.now b (shown_blocks base.now draft.old) (shown_blocks base.now draft.new)) }
     ensures added { draft.new.added ≡ draft.old.added }
     ensures supports { draft.new.supports ≡ draft.old.supports }
     ensures over { OnOk result (IsOver base.now.blocks.block_of base.now.blocks.labels draft.new) }

@@ -1,9 +1,9 @@
 // The supports of two blocks that become one.
-ghost use Rattle.std.specs.Prelude.{◌≡◌, ◌≢◌, ◌+◌, ◌<◌, ◌≤◌, ◌^◌, ℕ, IsSome, IsTrue, OnOk, nat_eq, if◌then◌else◌};
+ghost use Rattle.std.specs.Prelude.{◌≡◌, ◌≢◌, ◌+◌, ◌<◌, ◌≤◌, ◌^◌, ℕ, IsSome, IsTrue, OnOk, nat_eq};
 ghost use Rattle.px_spec.specs.Members.{at, has};
 ghost use Rattle.quotient_draft.specs.Drafts.{shown_labels, shown_blocks, shown_support};
 ghost use Rattle.quotient_draft.specs.Basis.{IsOver};
-ghost use Rattle.block_joining.specs.Merged.{with_column, with_row, merged_support, HasGraph};
+ghost use Rattle.block_joining.specs.Merged.{with_column, with_row, merged_support, HasGraph, AddsColumn, AddsRow};
 
 use px_base::Memory;
 use quotient::Summary;
@@ -16,7 +16,7 @@ fn add_parent(base: &Summary, draft: &mut Draft, a: u32, b: u32, x: u32) -> Resu
     requires goes { IsSome (at (shown_labels base.now draft.old) b) }
     requires parent { IsSome (at (shown_labels base.now draft.old) x) }
     requires few { shown_support base.now draft.old x a + shown_support base.now draft.old x b ≤ 2 ^ 30 }
-    ensures supports { OnOk result ((u v : ℕ) → shown_support base.now draft.new u v ≡ (if nat_eq u x then with_column a b (shown_support base.now draft.old) u v else shown_support base.now draft.old u v)) }
+    ensures supports { OnOk result (AddsColumn (λ u. nat_eq u x) a b (shown_support base.now draft.old) (shown_support base.now draft.new)) }
     ensures added { OnOk result (draft.new.added ≡ draft.old.added) }
     ensures moves { OnOk result (draft.new.moves ≡ draft.old.moves) }
     ensures over { OnOk result (IsOver base.now.blocks.block_of base.now.blocks.labels draft.new) }
@@ -34,7 +34,7 @@ fn add_child(base: &Summary, draft: &mut Draft, a: u32, b: u32, y: u32) -> Resul
     requires goes { IsSome (at (shown_labels base.now draft.old) b) }
     requires child { IsSome (at (shown_labels base.now draft.old) y) }
     requires few { shown_support base.now draft.old a y + shown_support base.now draft.old b y ≤ 2 ^ 30 }
-    ensures supports { OnOk result ((u v : ℕ) → shown_support base.now draft.new u v ≡ (if nat_eq v y then with_row a b (shown_support base.now draft.old) u v else shown_support base.now draft.old u v)) }
+    ensures supports { OnOk result (AddsRow (λ v. nat_eq v y) a b (shown_support base.now draft.old) (shown_support base.now draft.new)) }
     ensures added { OnOk result (draft.new.added ≡ draft.old.added) }
     ensures moves { OnOk result (draft.new.moves ≡ draft.old.moves) }
     ensures over { OnOk result (IsOver base.now.blocks.block_of base.now.blocks.labels draft.new) }
@@ -59,7 +59,7 @@ fn add_parents(
     requires goes { IsSome (at (shown_labels base.now draft.old) b) }
     requires parents { (x : ℕ) → IsTrue (has parents.now x) → IsSome (at (shown_labels base.now draft.old) x) }
     requires few { (x : ℕ) → shown_support base.now draft.old x a + shown_support base.now draft.old x b ≤ 2 ^ 30 }
-    ensures supports { OnOk result ((u v : ℕ) → shown_support base.now draft.new u v ≡ (if has parents.now u then with_column a b (shown_support base.now draft.old) u v else shown_support base.now draft.old u v)) }
+    ensures supports { OnOk result (AddsColumn (has parents.now) a b (shown_support base.now draft.old) (shown_support base.now draft.new)) }
     ensures added { OnOk result (draft.new.added ≡ draft.old.added) }
     ensures moves { OnOk result (draft.new.moves ≡ draft.old.moves) }
     ensures over { OnOk result (IsOver base.now.blocks.block_of base.now.blocks.labels draft.new) }
@@ -84,7 +84,7 @@ fn add_children(
     requires goes { IsSome (at (shown_labels base.now draft.old) b) }
     requires children { (y : ℕ) → IsTrue (has children.now y) → IsSome (at (shown_labels base.now draft.old) y) }
     requires few { (y : ℕ) → shown_support base.now draft.old a y + shown_support base.now draft.old b y ≤ 2 ^ 30 }
-    ensures supports { OnOk result ((u v : ℕ) → shown_support base.now draft.new u v ≡ (if has children.now v then with_row a b (shown_support base.now draft.old) u v else shown_support base.now draft.old u v)) }
+    ensures supports { OnOk result (AddsRow (has children.now) a b (shown_support base.now draft.old) (shown_support base.now draft.new)) }
     ensures added { OnOk result (draft.new.added ≡ draft.old.added) }
     ensures moves { OnOk result (draft.new.moves ≡ draft.old.moves) }
     ensures over { OnOk result (IsOver base.now.blocks.block_of base.now.blocks.labels draft.new) }
