@@ -11,7 +11,8 @@ use Rattle.branch_expr.specs.declared.tree.Cond.{Cond}
 use Rattle.branch_expr.specs.declared.tree.And.{And}
 use Rattle.branch_expr.specs.declared.tree.Hop.{Hop}
 use Rattle.branch_expr.specs.Views.{preds_of, step_of, chain_of, cond_of, and_from, and_of, or_from}
-use Rattle.branch_expr.specs.Sets.{IsSetOf, Keeps}
+use Rattle.branch_sets.specs.Images.{Keeps}
+use Rattle.branch_expr.specs.Sets.{IsSetOf}
 use Rattle.branch_sets.specs.Axes.{turned}
 
 module _ (L : ℕ → Option ℕ) where

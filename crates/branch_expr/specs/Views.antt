@@ -6,6 +6,7 @@ use Rattle.branch_expr.specs.declared.tree.Test.{Test}
 use Rattle.branch_expr.specs.declared.tree.Test.TheVariants.{Label, Any}
 use Rattle.branch_expr.specs.declared.tree.Step.{Step}
 use Rattle.branch_expr.specs.declared.tree.Hop.{Hop}
+use Rattle.branch_expr.specs.declared.tree.Rel as rels
 use Rattle.branch_expr.specs.declared.tree.Cond.{Cond}
 use Rattle.branch_expr.specs.declared.tree.Cond.TheVariants.{Not, Group, Rel, True}
 use Rattle.branch_expr.specs.declared.tree.And.{And}
@@ -24,6 +25,9 @@ step_of s = tree.step (test_of s.test) (preds_of s.preds.items)
 abbrev pub chain_of : List Hop → tree.Chain
 chain_of [] = tree.end
 chain_of (h ∷ hs) = tree.go (axis_of h.axis) (step_of h.step) (chain_of hs)
+
+abbrev pub rel_of : rels.Rel → tree.Chain
+rel_of r = chain_of (r.first ∷ r.rest.items)
 
 abbrev pub cond_of : Cond → tree.Cond
 cond_of (Not o) = tree.fails o.value

@@ -1,6 +1,6 @@
 // The answers of a branching query over a graph.
 ghost use Rattle.std.specs.Prelude.{◌≡◌, ◌<◌, ℕ, Some, length, IfOk};
-ghost use Rattle.px_spec.specs.Shapes.{shape_by};
+ghost use Rattle.path_search.specs.Digraphs.{shape_through};
 ghost use Rattle.branch_spec.specs.Answers.{AreBranchAnswers};
 
 use crate::holding::step_set;
@@ -22,7 +22,7 @@ pub fn eval<G: Digraph>(
 ) -> Result<Bits, Memory>
     requires labelled { (n l : ℕ) → G.label_at g.now n ≡ Some l → l < length labels.now.texts }
     ensures size { IfOk result (λ b. b.size ≡ G.span g.now) }
-    ensures answers { IfOk result (λ b. AreBranchAnswers (shape_by labels.now.texts (G.span g.now) (G.label_at g.now) (G.edge g.now)) query.now b.members) }
+    ensures answers { IfOk result (λ b. AreBranchAnswers (shape_through G.Digraph labels.now g.now) query.now b.members) }
 {
     let mut set = step_set(alloc, g, labels, &query.first)?;
     for j in 0..query.rest.len() {
@@ -32,6 +32,6 @@ pub fn eval<G: Digraph>(
         intersect(&mut set, &reached);
     }
     // Called for its contract: the members rise.
-    let _size = set.size();
+    let _for_proof = set.size();
     Ok(set)
 }

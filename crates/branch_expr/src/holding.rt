@@ -1,11 +1,11 @@
 // Where the parts of a query hold.
-ghost use Rattle.std.specs.Prelude.{◌≡◌, ◌<◌, ◌↔◌, ℕ, ◌∷◌, [], Some, length, IsTrue, IsSome, IfOk, OnOk};
+ghost use Rattle.std.specs.Prelude.{◌≡◌, ◌<◌, ℕ, ◌∷◌, [], Some, length, IsTrue, IsSome, IfOk, OnOk};
 ghost use Rattle.px_spec.specs.Members.{has};
-ghost use Rattle.px_spec.specs.Shapes.{shape_by};
-ghost use Rattle.branch_spec.specs.Answers.{Along, Meets, HoldsOr, HoldsAnd, HoldsCond, Goes};
-ghost use Rattle.branch_sets.specs.Axes.{axis_of};
-ghost use Rattle.branch_expr.specs.Views.{step_of, chain_of, cond_of, and_of};
-ghost use Rattle.branch_expr.specs.Sets.{IsSetOf, Keeps};
+ghost use Rattle.path_search.specs.Digraphs.{shape_through};
+ghost use Rattle.branch_spec.specs.Answers.{Meets, HoldsOr, HoldsAnd, HoldsCond, Goes};
+ghost use Rattle.branch_sets.specs.Images.{Keeps, Loses};
+ghost use Rattle.branch_expr.specs.Views.{step_of, chain_of, rel_of, cond_of, and_of};
+ghost use Rattle.branch_expr.specs.Sets.{IsSetOf, HopsTo};
 
 use crate::meeting::{axis_leading, deny_axis, keep_test, test_set};
 use crate::tree::{And, Cond, Hop, Or, Rel, Step};
@@ -24,7 +24,7 @@ pub(crate) fn step_set<G: Digraph>(
 ) -> Result<Bits, Memory>
     requires labelled { (n l : ℕ) → G.label_at g.now n ≡ Some l → l < length labels.now.texts }
     ensures size { IfOk result (λ b. b.size ≡ G.span g.now) }
-    ensures set { IfOk result (λ b. IsSetOf (G.label_at g.now) b.members (Meets (shape_by labels.now.texts (G.span g.now) (G.label_at g.now) (G.edge g.now)) (step_of step.now))) }
+    ensures set { IfOk result (λ b. IsSetOf (G.label_at g.now) b.members (Meets (shape_through G.Digraph labels.now g.now) (step_of step.now))) }
 {
     if step.preds.is_empty() {
         return test_set(alloc, g, labels, &step.test);
@@ -48,7 +48,7 @@ fn hop_set<G: Digraph>(
 ) -> Result<Bits, Memory>
     requires labelled { (n l : ℕ) → G.label_at g.now n ≡ Some l → l < length labels.now.texts }
     ensures size { IfOk result (λ b. b.size ≡ G.span g.now) }
-    ensures set { IfOk result (λ b. IsSetOf (G.label_at g.now) b.members (λ v. (c : ℕ) × Along (G.edge g.now) (axis_of hop.now.axis) v c × Meets (shape_by labels.now.texts (G.span g.now) (G.label_at g.now) (G.edge g.now)) (step_of hop.now.step) c × IsTrue (has behind.now.members c))) }
+    ensures set { IfOk result (λ b. IsSetOf (G.label_at g.now) b.members (HopsTo (shape_through G.Digraph labels.now g.now) hop.now behind.now.members)) }
 {
     let mut ends = step_set(alloc, g, labels, &hop.step)?;
     intersect(&mut ends, behind);
@@ -60,7 +60,7 @@ fn hop_set<G: Digraph>(
 fn last_set<G: Digraph>(alloc: Global, g: &G, labels: &Labels, hop: &Hop) -> Result<Bits, Memory>
     requires labelled { (n l : ℕ) → G.label_at g.now n ≡ Some l → l < length labels.now.texts }
     ensures size { IfOk result (λ b. b.size ≡ G.span g.now) }
-    ensures set { IfOk result (λ b. IsSetOf (G.label_at g.now) b.members (Goes (shape_by labels.now.texts (G.span g.now) (G.label_at g.now) (G.edge g.now)) (chain_of (hop.now ∷ [])))) }
+    ensures set { IfOk result (λ b. IsSetOf (G.label_at g.now) b.members (Goes (shape_through G.Digraph labels.now g.now) (chain_of (hop.now ∷ [])))) }
 {
     if hop.step.preds.is_empty() {
         return axis_leading(alloc, g, labels, hop.axis.turned(), &hop.step.test);
@@ -74,7 +74,7 @@ fn last_set<G: Digraph>(alloc: Global, g: &G, labels: &Labels, hop: &Hop) -> Res
 fn rel_set<G: Digraph>(alloc: Global, g: &G, labels: &Labels, rel: &Rel) -> Result<Bits, Memory>
     requires labelled { (n l : ℕ) → G.label_at g.now n ≡ Some l → l < length labels.now.texts }
     ensures size { IfOk result (λ b. b.size ≡ G.span g.now) }
-    ensures set { IfOk result (λ b. IsSetOf (G.label_at g.now) b.members (Goes (shape_by labels.now.texts (G.span g.now) (G.label_at g.now) (G.edge g.now)) (chain_of (rel.now.first ∷ rel.now.rest.items)))) }
+    ensures set { IfOk result (λ b. IsSetOf (G.label_at g.now) b.members (Goes (shape_through G.Digraph labels.now g.now) (rel_of rel.now))) }
 {
     let count = rel.rest.len();
     if count == 0 {
@@ -100,7 +100,7 @@ fn keep_cond<G: Digraph>(
     requires nodes { (v : ℕ) → IsTrue (has set.old.members v) → IsSome (G.label_at g.now v) }
     requires size { set.old.size ≡ G.span g.now }
     ensures size { OnOk result (set.new.size ≡ set.old.size) }
-    ensures keeps { OnOk result (Keeps set.old.members set.new.members (HoldsCond (shape_by labels.now.texts (G.span g.now) (G.label_at g.now) (G.edge g.now)) (cond_of cond.now))) }
+    ensures keeps { OnOk result (Keeps set.old.members set.new.members (HoldsCond (shape_through G.Digraph labels.now g.now) (cond_of cond.now))) }
 {
     match cond {
         Cond::Not(or) => deny_or(alloc, g, labels, or, set),
@@ -127,7 +127,7 @@ fn keep_and<G: Digraph>(
     requires nodes { (v : ℕ) → IsTrue (has set.old.members v) → IsSome (G.label_at g.now v) }
     requires size { set.old.size ≡ G.span g.now }
     ensures size { OnOk result (set.new.size ≡ set.old.size) }
-    ensures keeps { OnOk result (Keeps set.old.members set.new.members (HoldsAnd (shape_by labels.now.texts (G.span g.now) (G.label_at g.now) (G.edge g.now)) (and_of and.now))) }
+    ensures keeps { OnOk result (Keeps set.old.members set.new.members (HoldsAnd (shape_through G.Digraph labels.now g.now) (and_of and.now))) }
 {
     keep_cond(alloc, g, labels, &and.first, set)?;
     for j in 0..and.more.len() {
@@ -149,7 +149,7 @@ fn keep_or<G: Digraph>(
     requires nodes { (v : ℕ) → IsTrue (has set.old.members v) → IsSome (G.label_at g.now v) }
     requires size { set.old.size ≡ G.span g.now }
     ensures size { OnOk result (set.new.size ≡ set.old.size) }
-    ensures keeps { OnOk result (Keeps set.old.members set.new.members (HoldsOr (shape_by labels.now.texts (G.span g.now) (G.label_at g.now) (G.edge g.now)) or.now)) }
+    ensures keeps { OnOk result (Keeps set.old.members set.new.members (HoldsOr (shape_through G.Digraph labels.now g.now) or.now)) }
 {
     if or.more.is_empty() {
         return keep_and(alloc, g, labels, &or.first, set);
@@ -164,7 +164,7 @@ fn keep_or<G: Digraph>(
 fn cond_set<G: Digraph>(alloc: Global, g: &G, labels: &Labels, cond: &Cond) -> Result<Bits, Memory>
     requires labelled { (n l : ℕ) → G.label_at g.now n ≡ Some l → l < length labels.now.texts }
     ensures size { IfOk result (λ b. b.size ≡ G.span g.now) }
-    ensures set { IfOk result (λ b. IsSetOf (G.label_at g.now) b.members (HoldsCond (shape_by labels.now.texts (G.span g.now) (G.label_at g.now) (G.edge g.now)) (cond_of cond.now))) }
+    ensures set { IfOk result (λ b. IsSetOf (G.label_at g.now) b.members (HoldsCond (shape_through G.Digraph labels.now g.now) (cond_of cond.now))) }
 {
     match cond {
         Cond::Not(or) => {
@@ -183,7 +183,7 @@ fn cond_set<G: Digraph>(alloc: Global, g: &G, labels: &Labels, cond: &Cond) -> R
 fn and_set<G: Digraph>(alloc: Global, g: &G, labels: &Labels, and: &And) -> Result<Bits, Memory>
     requires labelled { (n l : ℕ) → G.label_at g.now n ≡ Some l → l < length labels.now.texts }
     ensures size { IfOk result (λ b. b.size ≡ G.span g.now) }
-    ensures set { IfOk result (λ b. IsSetOf (G.label_at g.now) b.members (HoldsAnd (shape_by labels.now.texts (G.span g.now) (G.label_at g.now) (G.edge g.now)) (and_of and.now))) }
+    ensures set { IfOk result (λ b. IsSetOf (G.label_at g.now) b.members (HoldsAnd (shape_through G.Digraph labels.now g.now) (and_of and.now))) }
 {
     let mut set = cond_set(alloc, g, labels, &and.first)?;
     for j in 0..and.more.len() {
@@ -197,7 +197,7 @@ fn and_set<G: Digraph>(alloc: Global, g: &G, labels: &Labels, and: &And) -> Resu
 fn or_set<G: Digraph>(alloc: Global, g: &G, labels: &Labels, or: &Or) -> Result<Bits, Memory>
     requires labelled { (n l : ℕ) → G.label_at g.now n ≡ Some l → l < length labels.now.texts }
     ensures size { IfOk result (λ b. b.size ≡ G.span g.now) }
-    ensures set { IfOk result (λ b. IsSetOf (G.label_at g.now) b.members (HoldsOr (shape_by labels.now.texts (G.span g.now) (G.label_at g.now) (G.edge g.now)) or.now)) }
+    ensures set { IfOk result (λ b. IsSetOf (G.label_at g.now) b.members (HoldsOr (shape_through G.Digraph labels.now g.now) or.now)) }
 {
     let mut set = and_set(alloc, g, labels, &or.first)?;
     for j in 0..or.more.len() {
@@ -220,7 +220,7 @@ fn deny_last<G: Digraph>(
     requires nodes { (v : ℕ) → IsTrue (has set.old.members v) → IsSome (G.label_at g.now v) }
     requires size { set.old.size ≡ G.span g.now }
     ensures size { OnOk result (set.new.size ≡ set.old.size) }
-    ensures keeps { OnOk result (Keeps set.old.members set.new.members (λ v. Goes (shape_by labels.now.texts (G.span g.now) (G.label_at g.now) (G.edge g.now)) (chain_of (hop.now ∷ [])) v → ⊥)) }
+    ensures keeps { OnOk result (Loses set.old.members set.new.members (Goes (shape_through G.Digraph labels.now g.now) (chain_of (hop.now ∷ [])))) }
 {
     if hop.step.preds.is_empty() {
         return deny_axis(alloc, g, labels, hop.axis.turned(), &hop.step.test, set);
@@ -243,7 +243,7 @@ fn deny_rel<G: Digraph>(
     requires nodes { (v : ℕ) → IsTrue (has set.old.members v) → IsSome (G.label_at g.now v) }
     requires size { set.old.size ≡ G.span g.now }
     ensures size { OnOk result (set.new.size ≡ set.old.size) }
-    ensures keeps { OnOk result (Keeps set.old.members set.new.members (λ v. Goes (shape_by labels.now.texts (G.span g.now) (G.label_at g.now) (G.edge g.now)) (chain_of (rel.now.first ∷ rel.now.rest.items)) v → ⊥)) }
+    ensures keeps { OnOk result (Loses set.old.members set.new.members (Goes (shape_through G.Digraph labels.now g.now) (rel_of rel.now))) }
 {
     if rel.rest.is_empty() {
         return deny_last(alloc, g, labels, &rel.first, set);
@@ -266,7 +266,7 @@ fn deny_cond<G: Digraph>(
     requires nodes { (v : ℕ) → IsTrue (has set.old.members v) → IsSome (G.label_at g.now v) }
     requires size { set.old.size ≡ G.span g.now }
     ensures size { OnOk result (set.new.size ≡ set.old.size) }
-    ensures keeps { OnOk result (Keeps set.old.members set.new.members (λ v. HoldsCond (shape_by labels.now.texts (G.span g.now) (G.label_at g.now) (G.edge g.now)) (cond_of cond.now) v → ⊥)) }
+    ensures keeps { OnOk result (Loses set.old.members set.new.members (HoldsCond (shape_through G.Digraph labels.now g.now) (cond_of cond.now))) }
 {
     match cond {
         Cond::Rel(rel) => deny_rel(alloc, g, labels, rel, set),
@@ -291,7 +291,7 @@ fn deny_and<G: Digraph>(
     requires nodes { (v : ℕ) → IsTrue (has set.old.members v) → IsSome (G.label_at g.now v) }
     requires size { set.old.size ≡ G.span g.now }
     ensures size { OnOk result (set.new.size ≡ set.old.size) }
-    ensures keeps { OnOk result (Keeps set.old.members set.new.members (λ v. HoldsAnd (shape_by labels.now.texts (G.span g.now) (G.label_at g.now) (G.edge g.now)) (and_of and.now) v → ⊥)) }
+    ensures keeps { OnOk result (Loses set.old.members set.new.members (HoldsAnd (shape_through G.Digraph labels.now g.now) (and_of and.now))) }
 {
     if and.more.is_empty() {
         return deny_cond(alloc, g, labels, &and.first, set);
@@ -314,7 +314,7 @@ fn deny_or<G: Digraph>(
     requires nodes { (v : ℕ) → IsTrue (has set.old.members v) → IsSome (G.label_at g.now v) }
     requires size { set.old.size ≡ G.span g.now }
     ensures size { OnOk result (set.new.size ≡ set.old.size) }
-    ensures keeps { OnOk result (Keeps set.old.members set.new.members (λ v. HoldsOr (shape_by labels.now.texts (G.span g.now) (G.label_at g.now) (G.edge g.now)) or.now v → ⊥)) }
+    ensures keeps { OnOk result (Loses set.old.members set.new.members (HoldsOr (shape_through G.Digraph labels.now g.now) or.now)) }
 {
     deny_and(alloc, g, labels, &or.first, set)?;
     for j in 0..or.more.len() {

@@ -1,12 +1,12 @@
 // The nodes whose label passes, and where an axis leads from them.
-ghost use Rattle.std.specs.Prelude.{◌≡◌, ◌<◌, ◌↔◌, ℕ, Some, length, IsTrue, IsSome, IfOk, OnOk};
+ghost use Rattle.std.specs.Prelude.{◌≡◌, ◌<◌, ℕ, Some, length, IsTrue, IsSome, IfOk, OnOk};
 ghost use Rattle.px_spec.specs.Members.{has};
-ghost use Rattle.px_spec.specs.Shapes.{shape_by};
+ghost use Rattle.path_search.specs.Digraphs.{shape_through};
 ghost use Rattle.branch_spec.specs.Trees as tree;
-ghost use Rattle.branch_spec.specs.Answers.{Along, Passes};
-ghost use Rattle.branch_sets.specs.Axes.{axis_of};
+ghost use Rattle.branch_spec.specs.Answers.{Passes};
+ghost use Rattle.branch_sets.specs.Images.{HasJust, Keeps, Loses};
 ghost use Rattle.branch_expr.specs.Views.{test_of};
-ghost use Rattle.branch_expr.specs.Sets.{IsSetOf, Keeps};
+ghost use Rattle.branch_expr.specs.Sets.{IsSetOf, HasPassingParent, HasPassingSource};
 
 use crate::tree::Test;
 use branch_sets::{
@@ -21,7 +21,7 @@ use std::alloc::Global;
 fn label_set<G: Digraph>(alloc: Global, g: &G, labels: &Labels, text: &Text) -> Result<Bits, Memory>
     requires labelled { (n l : ℕ) → G.label_at g.now n ≡ Some l → l < length labels.now.texts }
     ensures size { IfOk result (λ b. b.size ≡ G.span g.now) }
-    ensures set { IfOk result (λ b. IsSetOf (G.label_at g.now) b.members (Passes (shape_by labels.now.texts (G.span g.now) (G.label_at g.now) (G.edge g.now)) (tree.label text.now))) }
+    ensures set { IfOk result (λ b. IsSetOf (G.label_at g.now) b.members (Passes (shape_through G.Digraph labels.now g.now) (tree.label text.now))) }
 {
     match labels.find(text) {
         Some(label) => passing(alloc, g, Some(label)),
@@ -38,7 +38,7 @@ pub(crate) fn test_set<G: Digraph>(
 ) -> Result<Bits, Memory>
     requires labelled { (n l : ℕ) → G.label_at g.now n ≡ Some l → l < length labels.now.texts }
     ensures size { IfOk result (λ b. b.size ≡ G.span g.now) }
-    ensures set { IfOk result (λ b. IsSetOf (G.label_at g.now) b.members (Passes (shape_by labels.now.texts (G.span g.now) (G.label_at g.now) (G.edge g.now)) (test_of test.now))) }
+    ensures set { IfOk result (λ b. IsSetOf (G.label_at g.now) b.members (Passes (shape_through G.Digraph labels.now g.now) (test_of test.now))) }
 {
     match test {
         Test::Any => passing(alloc, g, None),
@@ -57,7 +57,7 @@ fn keep_label<G: Digraph>(
     requires labelled { (n l : ℕ) → G.label_at g.now n ≡ Some l → l < length labels.now.texts }
     requires nodes { (v : ℕ) → IsTrue (has set.old.members v) → IsSome (G.label_at g.now v) }
     ensures size { OnOk result (set.new.size ≡ set.old.size) }
-    ensures keeps { OnOk result (Keeps set.old.members set.new.members (Passes (shape_by labels.now.texts (G.span g.now) (G.label_at g.now) (G.edge g.now)) (tree.label text.now))) }
+    ensures keeps { OnOk result (Keeps set.old.members set.new.members (Passes (shape_through G.Digraph labels.now g.now) (tree.label text.now))) }
 {
     match labels.find(text) {
         Some(label) => keep_labelled(alloc, g, label, set),
@@ -80,7 +80,7 @@ pub(crate) fn keep_test<G: Digraph>(
     requires labelled { (n l : ℕ) → G.label_at g.now n ≡ Some l → l < length labels.now.texts }
     requires nodes { (v : ℕ) → IsTrue (has set.old.members v) → IsSome (G.label_at g.now v) }
     ensures size { OnOk result (set.new.size ≡ set.old.size) }
-    ensures keeps { OnOk result (Keeps set.old.members set.new.members (Passes (shape_by labels.now.texts (G.span g.now) (G.label_at g.now) (G.edge g.now)) (test_of test.now))) }
+    ensures keeps { OnOk result (Keeps set.old.members set.new.members (Passes (shape_through G.Digraph labels.now g.now) (test_of test.now))) }
 {
     match test {
         Test::Any => Ok(()),
@@ -97,7 +97,7 @@ fn label_leading<G: Digraph>(
 ) -> Result<Bits, Memory>
     requires labelled { (n l : ℕ) → G.label_at g.now n ≡ Some l → l < length labels.now.texts }
     ensures size { IfOk result (λ b. b.size ≡ G.span g.now) }
-    ensures image { IfOk result (λ b. (c : ℕ) → IsTrue (has b.members c) ↔ ((v : ℕ) × Passes (shape_by labels.now.texts (G.span g.now) (G.label_at g.now) (G.edge g.now)) (tree.label text.now) v × IsTrue (G.edge g.now v c))) }
+    ensures image { IfOk result (λ b. HasJust b.members (HasPassingParent (shape_through G.Digraph labels.now g.now) (tree.label text.now))) }
 {
     match labels.find(text) {
         Some(label) => passing_children(alloc, g, Some(label)),
@@ -114,7 +114,7 @@ fn test_leading<G: Digraph>(
 ) -> Result<Bits, Memory>
     requires labelled { (n l : ℕ) → G.label_at g.now n ≡ Some l → l < length labels.now.texts }
     ensures size { IfOk result (λ b. b.size ≡ G.span g.now) }
-    ensures image { IfOk result (λ b. (c : ℕ) → IsTrue (has b.members c) ↔ ((v : ℕ) × Passes (shape_by labels.now.texts (G.span g.now) (G.label_at g.now) (G.edge g.now)) (test_of test.now) v × IsTrue (G.edge g.now v c))) }
+    ensures image { IfOk result (λ b. HasJust b.members (HasPassingParent (shape_through G.Digraph labels.now g.now) (test_of test.now))) }
 {
     match test {
         Test::Any => passing_children(alloc, g, None),
@@ -132,7 +132,7 @@ fn far_leading<G: Digraph>(
 ) -> Result<Bits, Memory>
     requires labelled { (n l : ℕ) → G.label_at g.now n ≡ Some l → l < length labels.now.texts }
     ensures size { IfOk result (λ b. b.size ≡ G.span g.now) }
-    ensures image { IfOk result (λ b. (c : ℕ) → IsTrue (has b.members c) ↔ ((v : ℕ) × Passes (shape_by labels.now.texts (G.span g.now) (G.label_at g.now) (G.edge g.now)) (test_of test.now) v × Along (G.edge g.now) (axis_of axis) v c)) }
+    ensures image { IfOk result (λ b. HasJust b.members (HasPassingSource (shape_through G.Digraph labels.now g.now) axis (test_of test.now))) }
 {
     let met = test_set(alloc, g, labels, test)?;
     along(alloc, g, axis, &met)
@@ -148,7 +148,7 @@ pub(crate) fn axis_leading<G: Digraph>(
 ) -> Result<Bits, Memory>
     requires labelled { (n l : ℕ) → G.label_at g.now n ≡ Some l → l < length labels.now.texts }
     ensures size { IfOk result (λ b. b.size ≡ G.span g.now) }
-    ensures image { IfOk result (λ b. (c : ℕ) → IsTrue (has b.members c) ↔ ((v : ℕ) × Passes (shape_by labels.now.texts (G.span g.now) (G.label_at g.now) (G.edge g.now)) (test_of test.now) v × Along (G.edge g.now) (axis_of axis) v c)) }
+    ensures image { IfOk result (λ b. HasJust b.members (HasPassingSource (shape_through G.Digraph labels.now g.now) axis (test_of test.now))) }
 {
     match axis {
         Axis::Child => test_leading(alloc, g, labels, test),
@@ -168,7 +168,7 @@ fn deny_label<G: Digraph>(
     requires labelled { (n l : ℕ) → G.label_at g.now n ≡ Some l → l < length labels.now.texts }
     requires size { set.old.size ≡ G.span g.now }
     ensures size { OnOk result (set.new.size ≡ set.old.size) }
-    ensures spared { OnOk result ((c : ℕ) → IsTrue (has set.new.members c) ↔ (IsTrue (has set.old.members c) × (((v : ℕ) × Passes (shape_by labels.now.texts (G.span g.now) (G.label_at g.now) (G.edge g.now)) (tree.label text.now) v × IsTrue (G.edge g.now v c)) → ⊥))) }
+    ensures spared { OnOk result (Loses set.old.members set.new.members (HasPassingParent (shape_through G.Digraph labels.now g.now) (tree.label text.now))) }
 {
     match labels.find(text) {
         Some(label) => remove_passing_children(alloc, g, Some(label), set),
@@ -187,7 +187,7 @@ fn deny_test<G: Digraph>(
     requires labelled { (n l : ℕ) → G.label_at g.now n ≡ Some l → l < length labels.now.texts }
     requires size { set.old.size ≡ G.span g.now }
     ensures size { OnOk result (set.new.size ≡ set.old.size) }
-    ensures spared { OnOk result ((c : ℕ) → IsTrue (has set.new.members c) ↔ (IsTrue (has set.old.members c) × (((v : ℕ) × Passes (shape_by labels.now.texts (G.span g.now) (G.label_at g.now) (G.edge g.now)) (test_of test.now) v × IsTrue (G.edge g.now v c)) → ⊥))) }
+    ensures spared { OnOk result (Loses set.old.members set.new.members (HasPassingParent (shape_through G.Digraph labels.now g.now) (test_of test.now))) }
 {
     match test {
         Test::Any => remove_passing_children(alloc, g, None, set),
@@ -206,7 +206,7 @@ fn deny_far<G: Digraph>(
 ) -> Result<(), Memory>
     requires labelled { (n l : ℕ) → G.label_at g.now n ≡ Some l → l < length labels.now.texts }
     ensures size { OnOk result (set.new.size ≡ set.old.size) }
-    ensures spared { OnOk result ((c : ℕ) → IsTrue (has set.new.members c) ↔ (IsTrue (has set.old.members c) × (((v : ℕ) × Passes (shape_by labels.now.texts (G.span g.now) (G.label_at g.now) (G.edge g.now)) (test_of test.now) v × Along (G.edge g.now) (axis_of axis) v c) → ⊥))) }
+    ensures spared { OnOk result (Loses set.old.members set.new.members (HasPassingSource (shape_through G.Digraph labels.now g.now) axis (test_of test.now))) }
 {
     let led = far_leading(alloc, g, labels, axis, test)?;
     subtract(set, &led);
@@ -225,7 +225,7 @@ pub(crate) fn deny_axis<G: Digraph>(
     requires labelled { (n l : ℕ) → G.label_at g.now n ≡ Some l → l < length labels.now.texts }
     requires size { set.old.size ≡ G.span g.now }
     ensures size { OnOk result (set.new.size ≡ set.old.size) }
-    ensures spared { OnOk result ((c : ℕ) → IsTrue (has set.new.members c) ↔ (IsTrue (has set.old.members c) × (((v : ℕ) × Passes (shape_by labels.now.texts (G.span g.now) (G.label_at g.now) (G.edge g.now)) (test_of test.now) v × Along (G.edge g.now) (axis_of axis) v c) → ⊥))) }
+    ensures spared { OnOk result (Loses set.old.members set.new.members (HasPassingSource (shape_through G.Digraph labels.now g.now) axis (test_of test.now))) }
 {
     match axis {
         Axis::Child => deny_test(alloc, g, labels, test, set),

@@ -1,8 +1,8 @@
 // Relaxed forms of queries.
-ghost use Rattle.std.specs.Prelude.{◌≡◌, ◌∷◌, IfOk};
+ghost use Rattle.std.specs.Prelude.{◌≡◌, IfOk};
 ghost use Rattle.branch_spec.specs.Relaxed.{relax_step, relax_chain, relax_cond, relax_and, relax_or, relax};
 ghost use Rattle.branch_sets.specs.Axes.{axis_of};
-ghost use Rattle.branch_expr.specs.Views.{test_of, step_of, chain_of, cond_of, and_of};
+ghost use Rattle.branch_expr.specs.Views.{test_of, step_of, rel_of, cond_of, and_of};
 
 use crate::tree::{And, BranchTree, Cond, Hop, Or, Rel, Step, Test};
 use px_base::Memory;
@@ -44,7 +44,7 @@ fn relax_hop(alloc: Global, hop: &Hop) -> Result<Hop, Memory>
 
 #[cycle(relax)]
 fn relax_rel(alloc: Global, rel: &Rel) -> Result<Rel, Memory>
-    ensures { IfOk result (λ r. chain_of (r.first ∷ r.rest.items) ≡ relax_chain (chain_of (rel.now.first ∷ rel.now.rest.items))) }
+    ensures { IfOk result (λ r. rel_of r ≡ relax_chain (rel_of rel.now)) }
 {
     let mut rest = Vec::new(alloc);
     for j in 0..rel.rest.len() {

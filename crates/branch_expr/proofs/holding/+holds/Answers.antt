@@ -3,20 +3,20 @@ use Rattle.std.specs.Prelude.{IfOk, OnOk}
 use Rattle.std.proofs.lemmas.Result.{IfOk-weaker}
 use Rattle.std.proofs.lemmas.Bool.Decides.{Decides-eqb}
 use Rattle.px_spec.specs.Members.{has}
-use Rattle.px_spec.specs.Shapes.{shape_by}
-use Rattle.branch_spec.specs.Answers.{Along, Passes, Meets, HoldsOr, Goes}
+use Rattle.path_search.specs.Digraphs.{shape_through}
+use Rattle.branch_spec.specs.Answers.{Along, Passes, Meets, HoldsOr, HoldsAnd, Goes}
 use Rattle.branch_sets.specs.Axes.{axis_of}
-use Rattle.branch_expr.specs.Views.{test_of, step_of, chain_of, cond_of, and_of}
-use Rattle.branch_expr.specs.Sets.{IsSetOf, Keeps}
+use Rattle.branch_expr.specs.Views.{test_of, step_of, chain_of, cond_of, and_from, and_of}
+use Rattle.branch_sets.specs.Images.{Keeps, Loses}
+use Rattle.branch_expr.specs.Sets.{IsSetOf}
 use Rattle.branch_sets.specs.Axes.{turned}
 use Rattle.branch_expr.proofs.Laws.{no_items, IsLed, set_plain, keeps_and, keeps_none, spared_plain, set_and, set_or, set_preds, set_go, set_hop, set_last, drop_back, drop_none}
 use Rattle.branch_expr.proofs.holding.+holds.Goals as goal
 
 pub rel_set-loop-j-preserved : goal.rel_set-loop-j-preserved
 rel_set-loop-j-preserved g t c =
-    let span = g.G.Digraph.span c.args.g.now in
     let label_at = g.G.Digraph.label_at c.args.g.now in
-    let s = shape_by c.args.labels.now.texts span label_at (g.G.Digraph.edge c.args.g.now) in
+    let s = shape_through g.G.Digraph c.args.labels.now c.args.g.now in
     let hs = c.args.rel.now.rest.items in
     let x = c.index-in-loop-j.result.now in
     let back = drop_back hs c.loop-j.j x (omega arith) (omega arith) c.index-in-loop-j.ensures in
@@ -28,10 +28,9 @@ rel_set-loop-j-preserved g t c =
 
 pub rel_set-returns-clause-set : goal.rel_set-returns-clause-set
 rel_set-returns-clause-set g t c =
-    let span = g.G.Digraph.span c.args.g.now in
     let label_at = g.G.Digraph.label_at c.args.g.now in
     let edge = g.G.Digraph.edge c.args.g.now in
-    let s = shape_by c.args.labels.now.texts span label_at edge in
+    let s = shape_through g.G.Digraph c.args.labels.now c.args.g.now in
     let h = c.args.rel.now.first in
     let hs = c.args.rel.now.rest.items in
     let behind = c.loop-j.set.members in
@@ -41,10 +40,9 @@ rel_set-returns-clause-set g t c =
 
 pub hop_set-returns-clause-set : goal.hop_set-returns-clause-set
 hop_set-returns-clause-set g t c =
-    let span = g.G.Digraph.span c.args.g.now in
     let label_at = g.G.Digraph.label_at c.args.g.now in
     let edge = g.G.Digraph.edge c.args.g.now in
-    let s = shape_by c.args.labels.now.texts span label_at edge in
+    let s = shape_through g.G.Digraph c.args.labels.now c.args.g.now in
     let h = c.args.hop.now in
     let both = c.intersect.new.set.members in
     let image = subst (λ a. IfOk c.along.result (λ b. (x : ℕ) → IsTrue (has b.members x) ↔ ((v : ℕ) × IsTrue (has both v) × Along edge a v x))) c.turned.ensures c.along.ensures.image in
@@ -54,9 +52,8 @@ hop_set-returns-clause-set g t c =
 
 pub keep_and-loop-j-preserved : goal.keep_and-loop-j-preserved
 keep_and-loop-j-preserved g t c =
-    let span = g.G.Digraph.span c.args.g.now in
     let label_at = g.G.Digraph.label_at c.args.g.now in
-    let s = shape_by c.args.labels.now.texts span label_at (g.G.Digraph.edge c.args.g.now) in
+    let s = shape_through g.G.Digraph c.args.labels.now c.args.g.now in
     record {
       size = c.in_ok-keep_cond-2.ensures.size ∙ c.loop-j.invariant.size;
       keeps = keeps_and label_at s (g.met.G.Digraph.ends c.args.g.now) (cond_of c.args.and.now.first) c.args.and.now.more.items c.loop-j.j c.index.result.now (omega arith) c.index.ensures
@@ -65,9 +62,8 @@ keep_and-loop-j-preserved g t c =
 
 pub or_set-loop-j-preserved : goal.or_set-loop-j-preserved
 or_set-loop-j-preserved g t c =
-    let span = g.G.Digraph.span c.args.g.now in
     let label_at = g.G.Digraph.label_at c.args.g.now in
-    let s = shape_by c.args.labels.now.texts span label_at (g.G.Digraph.edge c.args.g.now) in
+    let s = shape_through g.G.Digraph c.args.labels.now c.args.g.now in
     record {
       size = c.unite.ensures.size ∙ c.loop-j.invariant.size;
       holds = set_or label_at s (g.met.G.Digraph.ends c.args.g.now) (and_of c.or.inside.first) c.or.inside.more.items c.loop-j.j c.index.result.now (omega arith) c.index.ensures
@@ -76,9 +72,8 @@ or_set-loop-j-preserved g t c =
 
 pub and_set-loop-j-preserved : goal.and_set-loop-j-preserved
 and_set-loop-j-preserved g t c =
-    let span = g.G.Digraph.span c.args.g.now in
     let label_at = g.G.Digraph.label_at c.args.g.now in
-    let s = shape_by c.args.labels.now.texts span label_at (g.G.Digraph.edge c.args.g.now) in
+    let s = shape_through g.G.Digraph c.args.labels.now c.args.g.now in
     record {
       size = c.in_ok-keep_cond.ensures.size ∙ c.loop-j.invariant.size;
       holds = set_and label_at s (g.met.G.Digraph.ends c.args.g.now) (cond_of c.args.and.now.first) c.args.and.now.more.items c.loop-j.j c.index.result.now (omega arith) c.index.ensures
@@ -87,9 +82,8 @@ and_set-loop-j-preserved g t c =
 
 pub step_set-loop-j-preserved : goal.step_set-loop-j-preserved
 step_set-loop-j-preserved g t c =
-    let span = g.G.Digraph.span c.args.g.now in
     let label_at = g.G.Digraph.label_at c.args.g.now in
-    let s = shape_by c.args.labels.now.texts span label_at (g.G.Digraph.edge c.args.g.now) in
+    let s = shape_through g.G.Digraph c.args.labels.now c.args.g.now in
     record {
       size = c.in_ok-keep_or.ensures.size ∙ c.loop-j.invariant.size;
       holds = set_preds label_at s (g.met.G.Digraph.ends c.args.g.now) c.args.step.now.preds.items c.loop-j.j c.index-in-loop-j.result.now (omega arith) c.index-in-loop-j.ensures
@@ -98,16 +92,14 @@ step_set-loop-j-preserved g t c =
 
 pub keep_cond-returns-in-Group-clause-keeps : goal.keep_cond-returns-in-Group-clause-keeps
 keep_cond-returns-in-Group-clause-keeps g t c =
-    let span = g.G.Digraph.span c.args.g.now in
     let label_at = g.G.Digraph.label_at c.args.g.now in
-    let s = shape_by c.args.labels.now.texts span label_at (g.G.Digraph.edge c.args.g.now) in
+    let s = shape_through g.G.Digraph c.args.labels.now c.args.g.now in
     rw c.in-Group.is (subst (λ o. OnOk c.keep_or.result (Keeps c.args.set.now.members c.keep_or.new.set.members (HoldsOr s o))) c.deref-in-Group.ensures c.keep_or.ensures.keeps)
 
 pub last_set-returns-then-is_empty-clause-set : goal.last_set-returns-then-is_empty-clause-set
 last_set-returns-then-is_empty-clause-set g t c =
-    let span = g.G.Digraph.span c.args.g.now in
     let label_at = g.G.Digraph.label_at c.args.g.now in
-    let s = shape_by c.args.labels.now.texts span label_at (g.G.Digraph.edge c.args.g.now) in
+    let s = shape_through g.G.Digraph c.args.labels.now c.args.g.now in
     let h = c.args.hop.now in
     let test = test_of h.step.test in
     let preds = h.step.preds.items in
@@ -119,10 +111,9 @@ last_set-returns-then-is_empty-clause-set g t c =
 
 pub last_set-returns-clause-set : goal.last_set-returns-clause-set
 last_set-returns-clause-set g t c =
-    let span = g.G.Digraph.span c.args.g.now in
     let label_at = g.G.Digraph.label_at c.args.g.now in
     let edge = g.G.Digraph.edge c.args.g.now in
-    let s = shape_by c.args.labels.now.texts span label_at edge in
+    let s = shape_through g.G.Digraph c.args.labels.now c.args.g.now in
     let h = c.args.hop.now in
     let step = c.in_ok-met.met.members in
     let image = subst (λ a. IfOk c.along.result (λ b. (x : ℕ) → IsTrue (has b.members x) ↔ ((v : ℕ) × IsTrue (has step v) × Along edge a v x))) c.turned-2.ensures c.along.ensures.image in
@@ -131,9 +122,8 @@ last_set-returns-clause-set g t c =
 
 pub deny_or-loop-j-preserved : goal.deny_or-loop-j-preserved
 deny_or-loop-j-preserved g t c =
-    let span = g.G.Digraph.span c.args.g.now in
     let label_at = g.G.Digraph.label_at c.args.g.now in
-    let s = shape_by c.args.labels.now.texts span label_at (g.G.Digraph.edge c.args.g.now) in
+    let s = shape_through g.G.Digraph c.args.labels.now c.args.g.now in
     record {
       size = c.in_ok-deny_and-2.ensures.size ∙ c.loop-j.invariant.size;
       keeps = keeps_none label_at s (g.met.G.Digraph.ends c.args.g.now) (and_of c.or.inside.first) c.or.inside.more.items c.loop-j.j c.index.result.now (omega arith) c.index.ensures
@@ -142,9 +132,8 @@ deny_or-loop-j-preserved g t c =
 
 pub deny_last-returns-then-is_empty-clause-keeps : goal.deny_last-returns-then-is_empty-clause-keeps
 deny_last-returns-then-is_empty-clause-keeps g t c =
-    let span = g.G.Digraph.span c.args.g.now in
     let label_at = g.G.Digraph.label_at c.args.g.now in
-    let s = shape_by c.args.labels.now.texts span label_at (g.G.Digraph.edge c.args.g.now) in
+    let s = shape_through g.G.Digraph c.args.labels.now c.args.g.now in
     let h = c.args.hop.now in
     let test = test_of h.step.test in
     let preds = h.step.preds.items in
@@ -161,9 +150,8 @@ deny_cond-returns-in-Rel-clause-keeps g t c = rw c.in-Rel.is c.deny_rel.ensures.
 
 pub deny_rel-returns-then-is_empty-clause-keeps : goal.deny_rel-returns-then-is_empty-clause-keeps
 deny_rel-returns-then-is_empty-clause-keeps g t c =
-    let span = g.G.Digraph.span c.args.g.now in
     let label_at = g.G.Digraph.label_at c.args.g.now in
-    let s = shape_by c.args.labels.now.texts span label_at (g.G.Digraph.edge c.args.g.now) in
+    let s = shape_through g.G.Digraph c.args.labels.now c.args.g.now in
     let rest = c.args.rel.now.rest in
     let empty : vec_len rest ≡ 0 = (Decides-eqb (vec_len rest) 0).0 (sym c.if-is_empty.ensures) in
     subst (λ y. OnOk c.deny_last.result (Keeps c.args.set.now.members c.deny_last.new.set.members (λ v. Goes s (chain_of (c.args.rel.now.first ∷ y)) v → ⊥)))
@@ -171,7 +159,14 @@ deny_rel-returns-then-is_empty-clause-keeps g t c =
 
 pub keep_cond-returns-in-Not-clause-keeps : goal.keep_cond-returns-in-Not-clause-keeps
 keep_cond-returns-in-Not-clause-keeps g t c =
-    let span = g.G.Digraph.span c.args.g.now in
     let label_at = g.G.Digraph.label_at c.args.g.now in
-    let s = shape_by c.args.labels.now.texts span label_at (g.G.Digraph.edge c.args.g.now) in
+    let s = shape_through g.G.Digraph c.args.labels.now c.args.g.now in
     rw c.in-Not.is (subst (λ o. OnOk c.deny_or.result (Keeps c.args.set.now.members c.deny_or.new.set.members (λ v. HoldsOr s o v → ⊥))) c.deref.ensures c.deny_or.ensures.keeps)
+
+pub deny_and-returns-then-is_empty-clause-keeps : goal.deny_and-returns-then-is_empty-clause-keeps
+deny_and-returns-then-is_empty-clause-keeps g t c =
+    let s = shape_through g.G.Digraph c.args.labels.now c.args.g.now in
+    let more = c.args.and.now.more in
+    let empty : vec_len more ≡ 0 = (Decides-eqb (vec_len more) 0).0 (sym c.if-is_empty.ensures) in
+    subst (λ y. OnOk c.deny_cond.result (Loses c.args.set.now.members c.deny_cond.new.set.members (HoldsAnd s (and_from (cond_of c.args.and.now.first) y))))
+    (no_items more.items (omega (arith, empty))) c.deny_cond.ensures.keeps
