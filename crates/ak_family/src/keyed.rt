@@ -44,6 +44,7 @@ pub(crate) fn keyed_summary(
     let blocks = fill(alloc, view.created(), &labelled.block, &labelled.labels)?;
     let summary = Summary::of_edges(alloc, blocks, edges)?;
     let level = KeyedSummary::new(alloc, summary, keys)?;
-    let _ = level.summary();
+    // Called for its contract: exactly its blocks have keys.
+    let _known = level.summary();
     Ok(level)
 }

@@ -1,8 +1,8 @@
 // Settling a draft in its family.
-ghost use Rattle.std.specs.Prelude.{◌≡◌, ◌<◌, ℕ, List, OnOk, length};
+ghost use Rattle.std.specs.Prelude.{◌≡◌, ◌<◌, List, OnOk, length};
 ghost use Rattle.quotient.specs.Quotients.{view_of};
 ghost use Rattle.keyed_quotient.specs.Levels.{KeyedQuotient};
-ghost use Rattle.ak_family.specs.Families.{level_at, HaveMembers, IsKeyedFamily};
+ghost use Rattle.ak_family.specs.Families.{HaveMembers, IsKeyedFamily};
 ghost use Rattle.ak_family.specs.LevelDrafts.{AreOver, AreSeenAs, HaveRoom, ShowsFamily, AreSettled, AreEmpty};
 
 use crate::drafting::{AkDraft, draft_of};

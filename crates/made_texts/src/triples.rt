@@ -1,7 +1,6 @@
 // The triples of the graph file, as they are drawn.
-ghost use Rattle.std.specs.Prelude.{◌≡◌, ◌+◌, ◌*◌, ◌<◌, if◌then◌else◌, nat_lt};
-ghost use Rattle.made_texts.specs.Generator.{drawn, state_after};
-ghost use Rattle.made_texts.specs.MadeTexts.{after_line, after_lines, graph_line, node_term, value_term};
+ghost use Rattle.std.specs.Prelude.{◌≡◌, ◌<◌};
+ghost use Rattle.made_texts.specs.MadeTexts.{after_line, after_lines, graph_line};
 ghost use Rattle.made_texts.specs.Shown.{shown_line, shown_object, object_above, after_object};
 
 use crate::generator::Generator;

@@ -1,5 +1,5 @@
 -- The one canonical spelling of a triple, as characters.
-use Rattle.std.specs.Prelude.{ℕ, List, [], ◌∷◌, ◌++◌, ◌+◌, ◌/◌, ◌%◌, ◌==◌, nat_lt, Option, Some, None, bytes_eq, encode_utf8_all, if◌then◌else◌}
+use Rattle.std.specs.Prelude.{ℕ, List, [], ◌∷◌, ◌++◌, ◌+◌, ◌/◌, ◌%◌, ◌==◌, ◌≡◌, nat_lt, Option, Some, None, bytes_eq, String, string_bytes, encode_utf8_all, if◌then◌else◌}
 use Rattle.std.specs.List.{flat_map}
 use Rattle.std.specs.Str.{chars}
 use Rattle.triples_read.specs.Characters.{is_iri_char}
@@ -46,6 +46,10 @@ iri_spelling iri = encode_utf8_all (term_text (Iri iri))
 -- the three parts, each followed by one space, and a dot
 abbrev pub triple_text : Triple → List ℕ
 triple_text t = term_text t.subject ++ (32 ∷ (iri_text (chars t.predicate) ++ (32 ∷ (term_text t.object ++ (32 ∷ 46 ∷ [])))))
+
+-- the UTF-8 of the characters is put behind the text
+abbrev pub IsAppended : {Z : Type 0} → String Z → String Z → List ℕ → Type 0
+IsAppended old new cs = string_bytes new ≡ string_bytes old ++ encode_utf8_all cs
 
 -- some line spells the triple
 abbrev pub IsSpelled : Triple → Type 0

@@ -1,6 +1,6 @@
 // IRIs in angle brackets.
 ghost use Rattle.std.specs.Prelude.{◌≡◌, ◌++◌, ◌∷◌, [], List, ℕ, IfOk, IfSome, IsSomeAnd, encode_utf8_all};
-ghost use Rattle.triples_read.specs.Fronts.{Front, IsText, Lacks};
+ghost use Rattle.triples_read.specs.Fronts.{Front, IsText, EachFront, IfRead, IsRead, Lacks};
 ghost use Rattle.triples_read.specs.Lines.{IsIri, IsIriFront};
 
 use crate::quoted::{Quote, read_quoted};
@@ -49,8 +49,8 @@ pub(crate) fn read_iri<'a>(
     spare: &mut SpareTexts,
     text: &'a str,
 ) -> Result<Option<(Text, &'a str)>, Memory>
-    ensures found { (cs : List ℕ) → IsText text.now cs → IfOk result (λ r. IfSome r (λ f. Front (λ s. IsIri s f.0) cs f.1.now)) }
-    ensures whole { (s r iri : List ℕ) → IsText text.now (s ++ r) → IsIri s iri → IfOk result (λ found. IsSomeAnd found (λ f. (f.0 ≡ iri) × (f.1.now ≡ encode_utf8_all r))) }
+    ensures found { (cs : List ℕ) → IsText text.now cs → IfRead result (λ f. Front (λ s. IsIri s f.0) cs f.1.now) }
+    ensures whole { EachFront IsIri text.now (λ iri r. IsRead result (λ f. (f.0 ≡ iri) × (f.1.now ≡ encode_utf8_all r))) }
 {
     let Some((iri, rest)) = read_quoted(Quote::Angle, spare, text)? else {
         return Ok(None);

@@ -1,8 +1,7 @@
 // Blank node labels.
-ghost use Rattle.std.specs.Prelude.{true, ◌≡◌, ◌++◌, [], List, ℕ, MatchOption, IfOk, IfSome, IsSomeAnd, encode_utf8, encode_utf8_all, ◌∷◌};
+ghost use Rattle.std.specs.Prelude.{true, ◌≡◌, ◌++◌, [], List, ℕ, MatchOption, IfSome, IsSomeAnd, encode_utf8, encode_utf8_all, ◌∷◌};
 ghost use Rattle.triples_read.specs.ByteReaders.{past_label};
-ghost use Rattle.triples_read.specs.Terminals.{IsLabel};
-ghost use Rattle.triples_read.specs.Fronts.{IsLabelFront, EndsLabel, Front, IsText};
+ghost use Rattle.triples_read.specs.Fronts.{IsLabelFront, EndsLabel, EachLabel, Front, IsText, EachFront, IfRead, IsRead};
 ghost use Rattle.triples_read.specs.Lines.{IsBlankNode};
 ghost use Rattle.std.specs.Str.{chars};
 
@@ -40,7 +39,7 @@ fn after_label(text: &str) -> &str
 // What follows the longest label at the front.
 fn past_front(text: &str) -> Option<&str>
     ensures found { IfSome result (λ tail. IsLabelFront text.now tail.now) }
-    ensures whole { (v tail : List ℕ) → text.now ≡ encode_utf8_all (v ++ tail) → IsLabel v → EndsLabel tail → IsSomeAnd result (λ left. left.now ≡ encode_utf8_all tail) }
+    ensures whole { EachLabel text.now (λ tail. IsSomeAnd result (λ left. left.now ≡ encode_utf8_all tail)) }
 {
     let Some((first, after)) = next_char(text) else {
         return None;
@@ -56,8 +55,8 @@ pub(crate) fn read_label<'a>(
     spare: &mut SpareTexts,
     text: &'a str,
 ) -> Result<Option<(Text, &'a str)>, Memory>
-    ensures found { (cs : List ℕ) → IsText text.now cs → IfOk result (λ r. IfSome r (λ f. Front (λ s. IsBlankNode s f.0) cs f.1.now)) }
-    ensures whole { (s r label : List ℕ) → IsText text.now (s ++ r) → IsBlankNode s label → EndsLabel r → IfOk result (λ found. IsSomeAnd found (λ f. (f.0 ≡ label) × (f.1.now ≡ encode_utf8_all r))) }
+    ensures found { (cs : List ℕ) → IsText text.now cs → IfRead result (λ f. Front (λ s. IsBlankNode s f.0) cs f.1.now) }
+    ensures whole { EachFront IsBlankNode text.now (λ label r. EndsLabel r → IsRead result (λ f. (f.0 ≡ label) × (f.1.now ≡ encode_utf8_all r))) }
 {
     let Some(after) = past_two(b'_', b':', text) else {
         return Ok(None);

@@ -1,8 +1,8 @@
 // Lines.
-ghost use Rattle.std.specs.Prelude.{◌≡◌, ◌++◌, List, ℕ, true, false, Ok, Some, None, ◌⊎◌, IfOk, IfSome, IfNone, IsSomeAnd, IsErrOf, encode_utf8_all};
+ghost use Rattle.std.specs.Prelude.{◌≡◌, List, ℕ, true, false, Ok, Some, None, ◌⊎◌, IfOk, IfSome, IfNone, IsErrOf, encode_utf8_all};
 ghost use Rattle.triples_read.specs.Lines.{IsIri, IsBlankNode, IsSubject, IsObject, Spells, Empty};
-ghost use Rattle.triples_read.specs.Fronts.{Front, IsText, EndsLabel};
-ghost use Rattle.triples_read.specs.Parts.{AfterObject, AfterPredicate, AfterSubject, FromSubject};
+ghost use Rattle.triples_read.specs.Fronts.{Front, IsText, EachFront, IfRead, IsRead, EndsLabel};
+ghost use Rattle.triples_read.specs.Parts.{EachRest, AfterObject, AfterPredicate, AfterSubject, FromSubject};
 
 use crate::blanks::{is_over, past_byte, skip_blanks, starts_with};
 use crate::iri::read_iri;
@@ -27,8 +27,8 @@ fn read_iri_term<'a>(
     spare: &mut SpareTexts,
     text: &'a str,
 ) -> Result<Option<(Term, &'a str)>, Memory>
-    ensures found { (cs : List ℕ) → IsText text.now cs → IfOk result (λ r. IfSome r (λ f. Front (λ s. IsSubject s f.0) cs f.1.now)) }
-    ensures whole { (s r iri : List ℕ) → IsText text.now (s ++ r) → IsIri s iri → IfOk result (λ found. IsSomeAnd found (λ f. (f.0 ≡ Term.Iri iri) × (f.1.now ≡ encode_utf8_all r))) }
+    ensures found { (cs : List ℕ) → IsText text.now cs → IfRead result (λ f. Front (λ s. IsSubject s f.0) cs f.1.now) }
+    ensures whole { EachFront IsIri text.now (λ iri r. IsRead result (λ f. (f.0 ≡ Term.Iri iri) × (f.1.now ≡ encode_utf8_all r))) }
 {
     let Some((iri, rest)) = read_iri(spare, text)? else {
         return Ok(None);
@@ -40,8 +40,8 @@ fn read_blank_node<'a>(
     spare: &mut SpareTexts,
     text: &'a str,
 ) -> Result<Option<(Term, &'a str)>, Memory>
-    ensures found { (cs : List ℕ) → IsText text.now cs → IfOk result (λ r. IfSome r (λ f. Front (λ s. IsSubject s f.0) cs f.1.now)) }
-    ensures whole { (s r label : List ℕ) → IsText text.now (s ++ r) → IsBlankNode s label → EndsLabel r → IfOk result (λ found. IsSomeAnd found (λ f. (f.0 ≡ Term.Blank label) × (f.1.now ≡ encode_utf8_all r))) }
+    ensures found { (cs : List ℕ) → IsText text.now cs → IfRead result (λ f. Front (λ s. IsSubject s f.0) cs f.1.now) }
+    ensures whole { EachFront IsBlankNode text.now (λ label r. EndsLabel r → IsRead result (λ f. (f.0 ≡ Term.Blank label) × (f.1.now ≡ encode_utf8_all r))) }
 {
     let Some((label, rest)) = read_label(spare, text)? else {
         return Ok(None);
@@ -54,8 +54,8 @@ fn read_subject<'a>(
     spare: &mut SpareTexts,
     text: &'a str,
 ) -> Result<Option<(Term, &'a str)>, Memory>
-    ensures found { (cs : List ℕ) → IsText text.now cs → IfOk result (λ r. IfSome r (λ f. Front (λ s. IsSubject s f.0) cs f.1.now)) }
-    ensures whole { (s r : List ℕ) (t : Term) → IsText text.now (s ++ r) → IsSubject s t → EndsLabel r → IfOk result (λ found. IsSomeAnd found (λ f. (f.0 ≡ t) × (f.1.now ≡ encode_utf8_all r))) }
+    ensures found { (cs : List ℕ) → IsText text.now cs → IfRead result (λ f. Front (λ s. IsSubject s f.0) cs f.1.now) }
+    ensures whole { EachFront IsSubject text.now (λ t r. EndsLabel r → IsRead result (λ f. (f.0 ≡ t) × (f.1.now ≡ encode_utf8_all r))) }
 {
     if starts_with(b'<', text) {
         return read_iri_term(spare, text);
@@ -65,8 +65,8 @@ fn read_subject<'a>(
 
 // The object at the front, and what follows it.
 fn read_object<'a>(spare: &mut SpareTexts, text: &'a str) -> Result<Option<(Term, &'a str)>, Memory>
-    ensures found { (cs : List ℕ) → IsText text.now cs → IfOk result (λ r. IfSome r (λ f. Front (λ s. IsObject s f.0) cs f.1.now)) }
-    ensures whole { (s r : List ℕ) (t : Term) → IsText text.now (s ++ r) → IsObject s t → AfterObject r → IfOk result (λ found. IsSomeAnd found (λ f. (f.0 ≡ t) × (f.1.now ≡ encode_utf8_all r))) }
+    ensures found { (cs : List ℕ) → IsText text.now cs → IfRead result (λ f. Front (λ s. IsObject s f.0) cs f.1.now) }
+    ensures whole { EachFront IsObject text.now (λ t r. AfterObject r → IsRead result (λ f. (f.0 ≡ t) × (f.1.now ≡ encode_utf8_all r))) }
 {
     if starts_with(b'"', text) {
         return read_literal(spare, text);
@@ -87,8 +87,8 @@ fn ends_triple(text: &str) -> bool
 
 // The object of the triple whose predicate was read, if the rest of the line is well formed.
 fn read_last(spare: &mut SpareTexts, text: &str) -> Result<Option<Term>, Memory>
-    ensures found { (cs : List ℕ) → IsText text.now cs → IfOk result (λ r. IfSome r (λ o. AfterPredicate cs o)) }
-    ensures whole { (cs : List ℕ) (object : Term) → IsText text.now cs → AfterPredicate cs object → IfOk result (λ r. IsSomeAnd r (λ o. o ≡ object)) }
+    ensures found { (cs : List ℕ) → IsText text.now cs → IfRead result (λ o. AfterPredicate cs o) }
+    ensures whole { (cs : List ℕ) (object : Term) → IsText text.now cs → AfterPredicate cs object → IsRead result (λ o. o ≡ object) }
 {
     let Some((object, rest)) = read_object(spare, skip_blanks(text))? else {
         return Ok(None);
@@ -101,8 +101,8 @@ fn read_last(spare: &mut SpareTexts, text: &str) -> Result<Option<Term>, Memory>
 
 // The predicate and the object of the triple whose subject was read.
 fn read_rest(spare: &mut SpareTexts, text: &str) -> Result<Option<(Text, Term)>, Memory>
-    ensures found { (cs : List ℕ) → IsText text.now cs → IfOk result (λ r. IfSome r (λ f. AfterSubject cs f.0 f.1)) }
-    ensures whole { (cs predicate : List ℕ) (object : Term) → IsText text.now cs → AfterSubject cs predicate object → IfOk result (λ r. IsSomeAnd r (λ f. (f.0 ≡ predicate) × (f.1 ≡ object))) }
+    ensures found { (cs : List ℕ) → IsText text.now cs → IfRead result (λ f. AfterSubject cs f.0 f.1) }
+    ensures whole { EachRest text.now (λ predicate object. IsRead result (λ f. (f.0 ≡ predicate) × (f.1 ≡ object))) }
 {
     let Some((predicate, rest)) = read_iri(spare, skip_blanks(text))? else {
         return Ok(None);
@@ -115,8 +115,8 @@ fn read_rest(spare: &mut SpareTexts, text: &str) -> Result<Option<(Text, Term)>,
 
 // The triple that begins at the front and takes the whole rest of the line.
 fn read_triple(spare: &mut SpareTexts, text: &str) -> Result<Option<Triple>, Memory>
-    ensures found { (cs : List ℕ) → IsText text.now cs → IfOk result (λ r. IfSome r (λ t. FromSubject cs t)) }
-    ensures whole { (cs : List ℕ) (t : Triple) → IsText text.now cs → FromSubject cs t → IfOk result (λ r. IsSomeAnd r (λ u. u ≡ t)) }
+    ensures found { (cs : List ℕ) → IsText text.now cs → IfRead result (λ t. FromSubject cs t) }
+    ensures whole { (cs : List ℕ) (t : Triple) → IsText text.now cs → FromSubject cs t → IsRead result (λ u. u ≡ t) }
 {
     let Some((subject, rest)) = read_subject(spare, text)? else {
         return Ok(None);

@@ -1,9 +1,10 @@
 // What stands between quotes, with escapes: the body of an IRIREF and of a string.
-ghost use Rattle.std.specs.Prelude.{◌≡◌, ◌<◌, ◌≤◌, ◌+◌, ◌∷◌, List, ℕ, true, false, length, IfOk, IfSome, IfNone, IsSomeAnd, IsUtf8, string_bytes, encode_utf8_all};
+ghost use Rattle.std.specs.Prelude.{◌≡◌, ◌<◌, ◌≤◌, ◌+◌, ◌∷◌, List, ℕ, true, false, length, IfOk, IfSome, IfNone, IsUtf8, string_bytes, encode_utf8_all};
 ghost use Rattle.std.specs.List.{position_or_len, position};
 ghost use Rattle.std.proofs.Common.{not};
-ghost use Rattle.triples_read.specs.Bodies.{Body, Adds, StopsAt, IsBodyFront};
-ghost use Rattle.triples_read.specs.Quotes.{opening as opening_of, closing as closing_of, inner, escape_at, PieceIn, IsQuoted};
+ghost use Rattle.triples_read.specs.Bodies.{StopsAt, IsBodyFront};
+ghost use Rattle.triples_read.specs.Quotes.{opening as opening_of, closing as closing_of, inner, escape_at, PieceIn, BodyIn, AddsPieces, IsQuoted};
+ghost use Rattle.triples_read.specs.Fronts.{IfRead, IsRead};
 
 use crate::blanks::past_byte;
 use crate::characters::{is_iri_byte, stands_in_string};
@@ -96,7 +97,7 @@ fn escape(quote: Quote, bytes: &[u8]) -> Option<(char, usize)>
 
 // Takes the run of characters that stand for themselves, as one slice.
 fn take_run<'a>(quote: Quote, text: &mut String, rest: &'a str) -> Result<&'a str, AllocError>
-    ensures found { IfOk result (λ after. Adds (PieceIn quote) (closing_of quote) (string_bytes text.old) (string_bytes text.new) rest.now after.now) }
+    ensures found { IfOk result (λ after. AddsPieces quote text.old text.new rest.now after.now) }
     ensures ended { IfOk result (λ after. StopsAt (inner quote) after.now) }
     ensures shorter { IfOk result (λ after. length after.now ≤ length rest.now) }
     ensures utf8 { IfOk result (λ after. IsUtf8 after.now) }
@@ -112,10 +113,10 @@ fn take_escape<'a>(
     text: &mut String,
     rest: &'a str,
 ) -> Result<Option<&'a str>, AllocError>
-    ensures found { IfOk result (λ r. IfSome r (λ after. Adds (PieceIn quote) (closing_of quote) (string_bytes text.old) (string_bytes text.new) (92 ∷ rest.now) after.now)) }
-    ensures none { IfOk result (λ r. IfNone r ((v tail : List ℕ) → Body (PieceIn quote) (closing_of quote) (92 ∷ rest.now) v tail → ⊥)) }
-    ensures shorter { IfOk result (λ r. IfSome r (λ after. length after.now < length rest.now + 1)) }
-    ensures utf8 { IfOk result (λ r. IfSome r (λ after. IsUtf8 after.now)) }
+    ensures found { IfRead result (λ after. AddsPieces quote text.old text.new (92 ∷ rest.now) after.now) }
+    ensures none { IfOk result (λ r. IfNone r ((v tail : List ℕ) → BodyIn quote (92 ∷ rest.now) v tail → ⊥)) }
+    ensures shorter { IfRead result (λ after. length after.now < length rest.now + 1) }
+    ensures utf8 { IfRead result (λ after. IsUtf8 after.now) }
 {
     match escape(quote, rest.as_bytes()) {
         Some((c, len)) => {
@@ -133,11 +134,11 @@ fn take_piece<'a>(
     text: &mut String,
     rest: &'a str,
 ) -> Result<Option<(bool, &'a str)>, AllocError>
-    ensures more { IfOk result (λ r. IfSome r (λ f. f.0 ≡ false → Adds (PieceIn quote) (closing_of quote) (string_bytes text.old) (string_bytes text.new) rest.now f.1.now)) }
-    ensures shorter { IfOk result (λ r. IfSome r (λ f. length f.1.now < length rest.now)) }
-    ensures utf8 { IfOk result (λ r. IfSome r (λ f. IsUtf8 f.1.now)) }
-    ensures end { IfOk result (λ r. IfSome r (λ f. f.0 ≡ true → Adds (PieceIn quote) (closing_of quote) (string_bytes text.old) (string_bytes text.new) rest.now (closing_of quote ∷ f.1.now))) }
-    ensures none { IfOk result (λ r. IfNone r ((v tail : List ℕ) → Body (PieceIn quote) (closing_of quote) rest.now v tail → ⊥)) }
+    ensures more { IfRead result (λ f. f.0 ≡ false → AddsPieces quote text.old text.new rest.now f.1.now) }
+    ensures shorter { IfRead result (λ f. length f.1.now < length rest.now) }
+    ensures utf8 { IfRead result (λ f. IsUtf8 f.1.now) }
+    ensures end { IfRead result (λ f. f.0 ≡ true → AddsPieces quote text.old text.new rest.now (closing_of quote ∷ f.1.now)) }
+    ensures none { IfOk result (λ r. IfNone r ((v tail : List ℕ) → BodyIn quote rest.now v tail → ⊥)) }
 {
     let after = take_run(quote, text, rest)?;
     if let Some(behind) = past_byte(quote.closing(), after) {
@@ -158,8 +159,8 @@ fn quoted_body<'a>(
     spare: &mut SpareTexts,
     body: &'a str,
 ) -> Result<Option<(String, &'a str)>, AllocError>
-    ensures found { IfOk result (λ r. IfSome r (λ f. IsBodyFront (PieceIn quote) (closing_of quote) body.now (string_bytes f.0) f.1.now)) }
-    ensures only { (v tail : List ℕ) → Body (PieceIn quote) (closing_of quote) body.now v tail → IfOk result (λ r. IsSomeAnd r (λ f. (string_bytes f.0 ≡ encode_utf8_all v) × (f.1.now ≡ tail))) }
+    ensures found { IfRead result (λ f. IsBodyFront (PieceIn quote) (closing_of quote) body.now (string_bytes f.0) f.1.now) }
+    ensures only { (v tail : List ℕ) → BodyIn quote body.now v tail → IsRead result (λ f. (string_bytes f.0 ≡ encode_utf8_all v) × (f.1.now ≡ tail)) }
 {
     let mut text = spare.take();
     let mut rest = body;
@@ -181,8 +182,8 @@ pub(crate) fn read_quoted<'a>(
     spare: &mut SpareTexts,
     text: &'a str,
 ) -> Result<Option<(String, &'a str)>, AllocError>
-    ensures found { IfOk result (λ r. IfSome r (λ f. (v : List ℕ) × (string_bytes f.0 ≡ encode_utf8_all v) × IsQuoted quote text.now v f.1.now)) }
-    ensures only { (v tail : List ℕ) → IsQuoted quote text.now v tail → IfOk result (λ r. IsSomeAnd r (λ f. (string_bytes f.0 ≡ encode_utf8_all v) × (f.1.now ≡ tail))) }
+    ensures found { IfRead result (λ f. (v : List ℕ) × (string_bytes f.0 ≡ encode_utf8_all v) × IsQuoted quote text.now v f.1.now) }
+    ensures only { (v tail : List ℕ) → IsQuoted quote text.now v tail → IsRead result (λ f. (string_bytes f.0 ≡ encode_utf8_all v) × (f.1.now ≡ tail)) }
 {
     let Some(body) = past_byte(quote.opening(), text) else {
         return Ok(None);

@@ -1,12 +1,11 @@
 // Language tags.
-ghost use Rattle.std.specs.Prelude.{[], ◌↔◌, ◌≡◌, ◌∷◌, ◌++◌, List, ℕ, true, false, None, Some, MatchOption, IfOk, IfSome, IsSomeAnd, encode_utf8_all, map};
+ghost use Rattle.std.specs.Prelude.{[], ◌↔◌, ◌≡◌, List, ℕ, true, false, None, Some, MatchOption, IfOk, encode_utf8_all, map};
 ghost use Rattle.std.specs.Char.{to_ascii_lowercase};
 ghost use Rattle.std.specs.List.{list_all};
 ghost use Rattle.std.proofs.Common.{not};
 ghost use Rattle.triples_read.specs.Characters.{from_to};
-ghost use Rattle.triples_read.specs.Terminals.{LANGTAG};
 ghost use Rattle.triples_read.specs.ByteReaders.{tag_part, past_tag as past};
-ghost use Rattle.triples_read.specs.Fronts.{Front, IsText, EndsTag};
+ghost use Rattle.triples_read.specs.Fronts.{Front, IsText, EachFront, IfRead, IsRead, IsTag, EndsTag};
 
 use crate::characters::{is_letter, is_letter_or_digit};
 use crate::spare::SpareTexts;
@@ -64,8 +63,8 @@ pub(crate) fn read_tag<'a>(
     spare: &mut SpareTexts,
     text: &'a str,
 ) -> Result<Option<(Text, &'a str)>, Memory>
-    ensures found { (cs : List ℕ) → IsText text.now cs → IfOk result (λ r. IfSome r (λ f. Front (λ s. LANGTAG (64 ∷ s) f.0) cs f.1.now)) }
-    ensures whole { (s r tag : List ℕ) → IsText text.now (s ++ r) → LANGTAG (64 ∷ s) tag → EndsTag (encode_utf8_all r) → IfOk result (λ found. IsSomeAnd found (λ f. (f.0 ≡ tag) × (f.1.now ≡ encode_utf8_all r))) }
+    ensures found { (cs : List ℕ) → IsText text.now cs → IfRead result (λ f. Front (λ s. IsTag s f.0) cs f.1.now) }
+    ensures whole { EachFront IsTag text.now (λ tag r. EndsTag (encode_utf8_all r) → IsRead result (λ f. (f.0 ≡ tag) × (f.1.now ≡ encode_utf8_all r))) }
 {
     let Some(behind) = past_tag(text.as_bytes()) else {
         return Ok(None);
@@ -97,8 +96,8 @@ fn is_tag_in_any_case(bytes: &[u8]) -> bool
 
 /// Whether the whole text is a language tag in lower case, without its `@`.
 pub(crate) fn is_tag(bytes: &[u8]) -> bool
-    ensures sound { result ≡ true → LANGTAG (64 ∷ bytes.now) bytes.now }
-    ensures complete { (s : List ℕ) → LANGTAG (64 ∷ s) bytes.now → result ≡ true }
+    ensures sound { result ≡ true → IsTag bytes.now bytes.now }
+    ensures complete { (s : List ℕ) → IsTag s bytes.now → result ≡ true }
 {
     is_tag_in_any_case(bytes) && has_no_upper(bytes)
 }

@@ -1,11 +1,10 @@
 // The canonical spelling.
-ghost use Rattle.std.specs.Prelude.{◌≡◌, ◌++◌, ◌<◌, ℕ, List, IfOk, OnOk, string_bytes, encode_utf8_all, bytes_eq, false, Option};
-ghost use Rattle.std.specs.List.{flat_map};
+ghost use Rattle.std.specs.Prelude.{◌≡◌, ◌<◌, ℕ, List, IfOk, OnOk, encode_utf8_all, bytes_eq, false, Option};
 ghost use Rattle.std.specs.Str.{chars};
 ghost use Rattle.triples_read.specs.Characters.{is_iri_char};
 ghost use Rattle.triples_read.specs.Lines.{Spells, xsd_string};
-ghost use Rattle.triples_read.specs.Quotes.{quoted_char, quoted_text};
-ghost use Rattle.triples_read.specs.Canonical.{upper_hex as upper_hex_of, iri_char, string_char, suffix_text, term_text, triple_text, IsSpelled};
+ghost use Rattle.triples_read.specs.Quotes.{quoted_char, quoted_chars, quoted_text};
+ghost use Rattle.triples_read.specs.Canonical.{upper_hex as upper_hex_of, iri_char, string_char, suffix_text, term_text, triple_text, IsSpelled, IsAppended};
 
 use crate::characters::stands_in_iri;
 use crate::labels::next_char;
@@ -27,7 +26,7 @@ fn upper_hex(d: u32) -> char
 // Writes a character by its number.
 fn push_number(out: &mut String, c: char) -> Result<(), AllocError>
     requires { is_iri_char c ≡ false }
-    ensures { OnOk result (string_bytes out.new ≡ string_bytes out.old ++ encode_utf8_all (iri_char c)) }
+    ensures { OnOk result (IsAppended out.old out.new (iri_char c)) }
 {
     let code = c as u32;
     out.push_str("\\u00")?;
@@ -36,7 +35,7 @@ fn push_number(out: &mut String, c: char) -> Result<(), AllocError>
 }
 
 fn push_iri_char(out: &mut String, c: char) -> Result<(), AllocError>
-    ensures { OnOk result (string_bytes out.new ≡ string_bytes out.old ++ encode_utf8_all (iri_char c)) }
+    ensures { OnOk result (IsAppended out.old out.new (iri_char c)) }
 {
     if stands_in_iri(c) {
         return out.push(c);
@@ -45,7 +44,7 @@ fn push_iri_char(out: &mut String, c: char) -> Result<(), AllocError>
 }
 
 fn push_string_char(out: &mut String, c: char) -> Result<(), AllocError>
-    ensures { OnOk result (string_bytes out.new ≡ string_bytes out.old ++ encode_utf8_all (string_char c)) }
+    ensures { OnOk result (IsAppended out.old out.new (string_char c)) }
 {
     match c {
         '"' => out.push_str("\\\""),
@@ -57,7 +56,7 @@ fn push_string_char(out: &mut String, c: char) -> Result<(), AllocError>
 }
 
 fn push_char(quote: Quote, out: &mut String, c: char) -> Result<(), AllocError>
-    ensures { OnOk result (string_bytes out.new ≡ string_bytes out.old ++ encode_utf8_all (quoted_char quote c)) }
+    ensures { OnOk result (IsAppended out.old out.new (quoted_char quote c)) }
 {
     match quote {
         Quote::Angle => push_iri_char(out, c),
@@ -66,7 +65,7 @@ fn push_char(quote: Quote, out: &mut String, c: char) -> Result<(), AllocError>
 }
 
 fn push_chars(quote: Quote, out: &mut String, text: &str) -> Result<(), AllocError>
-    ensures { (cs : List ℕ) → text.now ≡ encode_utf8_all cs → OnOk result (string_bytes out.new ≡ string_bytes out.old ++ encode_utf8_all (flat_map (quoted_char quote) cs)) }
+    ensures { (cs : List ℕ) → text.now ≡ encode_utf8_all cs → OnOk result (IsAppended out.old out.new (quoted_chars quote cs)) }
 {
     let mut rest = text;
     'chars: while let Some((c, after)) = next_char(rest) {
@@ -77,7 +76,7 @@ fn push_chars(quote: Quote, out: &mut String, text: &str) -> Result<(), AllocErr
 }
 
 fn push_quoted(quote: Quote, out: &mut String, text: &str) -> Result<(), AllocError>
-    ensures { OnOk result (string_bytes out.new ≡ string_bytes out.old ++ encode_utf8_all (quoted_text quote (chars text.now))) }
+    ensures { OnOk result (IsAppended out.old out.new (quoted_text quote (chars text.now))) }
 {
     out.push(quote.opening() as char)?;
     push_chars(quote, out, text)?;
@@ -85,7 +84,7 @@ fn push_quoted(quote: Quote, out: &mut String, text: &str) -> Result<(), AllocEr
 }
 
 fn push_label(out: &mut String, label: &str) -> Result<(), AllocError>
-    ensures { OnOk result (string_bytes out.new ≡ string_bytes out.old ++ encode_utf8_all (term_text (Term.Blank label.now))) }
+    ensures { OnOk result (IsAppended out.old out.new (term_text (Term.Blank label.now))) }
 {
     out.push_str("_:")?;
     out.push_str(label)
@@ -93,14 +92,14 @@ fn push_label(out: &mut String, label: &str) -> Result<(), AllocError>
 
 fn push_datatype(out: &mut String, datatype: &str) -> Result<(), AllocError>
     requires { bytes_eq datatype.now xsd_string ≡ false }
-    ensures { OnOk result (string_bytes out.new ≡ string_bytes out.old ++ encode_utf8_all (suffix_text datatype.now Option.None)) }
+    ensures { OnOk result (IsAppended out.old out.new (suffix_text datatype.now Option.None)) }
 {
     out.push_str("^^")?;
     push_quoted(Quote::Angle, out, datatype)
 }
 
 fn push_tag(out: &mut String, datatype: &Text, tag: &str) -> Result<(), AllocError>
-    ensures { OnOk result (string_bytes out.new ≡ string_bytes out.old ++ encode_utf8_all (suffix_text datatype.now (Option.Some tag.now))) }
+    ensures { OnOk result (IsAppended out.old out.new (suffix_text datatype.now (Option.Some tag.now))) }
 {
     out.push_str("@")?;
     out.push_str(tag)
@@ -108,7 +107,7 @@ fn push_tag(out: &mut String, datatype: &Text, tag: &str) -> Result<(), AllocErr
 
 // What follows the quotes of a literal.
 fn push_suffix(out: &mut String, datatype: &Text, tag: &Option<Text>) -> Result<(), AllocError>
-    ensures { OnOk result (string_bytes out.new ≡ string_bytes out.old ++ encode_utf8_all (suffix_text datatype.now tag.now)) }
+    ensures { OnOk result (IsAppended out.old out.new (suffix_text datatype.now tag.now)) }
 {
     match tag {
         Some(tag) => push_tag(out, datatype, tag.as_str()),
@@ -127,14 +126,14 @@ fn push_literal(
     datatype: &Text,
     tag: &Option<Text>,
 ) -> Result<(), AllocError>
-    ensures { OnOk result (string_bytes out.new ≡ string_bytes out.old ++ encode_utf8_all (term_text (Term.Literal text.now datatype.now tag.now))) }
+    ensures { OnOk result (IsAppended out.old out.new (term_text (Term.Literal text.now datatype.now tag.now))) }
 {
     push_quoted(Quote::Double, out, text.as_str())?;
     push_suffix(out, datatype, tag)
 }
 
 fn push_term(out: &mut String, term: &Term) -> Result<(), AllocError>
-    ensures { OnOk result (string_bytes out.new ≡ string_bytes out.old ++ encode_utf8_all (term_text term.now)) }
+    ensures { OnOk result (IsAppended out.old out.new (term_text term.now)) }
 {
     match term {
         Term::Iri(iri) => push_quoted(Quote::Angle, out, iri.as_str()),
@@ -148,7 +147,7 @@ fn push_term(out: &mut String, term: &Term) -> Result<(), AllocError>
 }
 
 fn push_triple(out: &mut String, t: &Triple) -> Result<(), AllocError>
-    ensures { OnOk result (string_bytes out.new ≡ string_bytes out.old ++ encode_utf8_all (triple_text t.now)) }
+    ensures { OnOk result (IsAppended out.old out.new (triple_text t.now)) }
 {
     push_term(out, &t.subject)?;
     out.push_str(" ")?;
