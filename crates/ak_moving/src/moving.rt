@@ -1,11 +1,9 @@
 // Moving the nodes near a change, level by level.
-ghost use Rattle.std.specs.Prelude.{◌≡◌, ◌+◌, ◌*◌, ◌<◌, ◌≤◌, ◌∷◌, [], ℕ, OnOk, length};
+ghost use Rattle.std.specs.Prelude.{◌≡◌, ◌+◌, ◌<◌, ◌≤◌, ◌∷◌, [], ℕ, OnOk, length};
 ghost use Rattle.px_spec.specs.Members.{has};
-ghost use Rattle.px_spec.specs.Shapes.{shape_of};
-ghost use Rattle.bisim_spec.specs.Reach.{near};
-ghost use Rattle.bisim_spec.specs.Weights.{weight};
 ghost use Rattle.graph_update.specs.PendingChanges.{graph_after};
 ghost use Rattle.ak_family.specs.LevelDrafts.{blocks_shown};
+ghost use Rattle.ak_moving.specs.Costs.{most_move_steps};
 ghost use Rattle.ak_moving.specs.MovedLevels.{HasMovedNear, AreKeyedNear};
 
 use crate::buffers::Buffers;
@@ -37,10 +35,10 @@ pub fn move_near<L: Ledger>(
     ensures moving { OnOk result (HasMovedNear (has (target ∷ [])) (graph_after after.now) family.now draft.new) }
     ensures keyed { OnOk result (AreKeyedNear (has (target ∷ [])) (graph_after after.now) family.now draft.new) }
     ensures lowest { OnOk result (blocks_shown family.now draft.new 0 ≡ blocks_shown family.now draft.old 0) }
-    ensures cost { (k : ℕ) → length family.now ≡ k + 1 → steps.new ≤ steps.old + 8 * k * weight (shape_of (graph_after after.now)) (near (shape_of (graph_after after.now)) (has (target ∷ [])) k) }
+    ensures cost { (k : ℕ) → length family.now ≡ k + 1 → steps.new ≤ steps.old + most_move_steps (graph_after after.now) (has (target ∷ [])) k }
 {
-    // This says that there is a graph, so that what is near is among its nodes.
-    let _ = after.created();
+    // Called for its contract: there is a graph, so what is near is among its nodes.
+    let _known = after.created();
     let k = family.k();
     let found = near_nodes(alloc, after, &[target], k, steps)?;
     let mut buffers = Buffers::new(alloc);

@@ -63,8 +63,8 @@ pub(crate) fn place<L: Ledger>(
     let Some(own) = family.shown(draft, i, n) else {
         return Ok(());
     };
-    // This says that there are few levels.
-    let _ = family.k();
+    // Called for its contract: there are few levels.
+    let _known = family.k();
     read_parents(&mut buffers.parents, after, n, steps)?;
     write_level_key(&mut buffers.key, family, draft, i, &buffers.parents, own)?;
     let b = family.keyed_block(draft, i + 1, after.label(n), &buffers.key)?;

@@ -20,7 +20,7 @@ loop-i-preserved g c =
     let placed = c.in_ok-place_all.ensures.placed in
     let listed : Lists (near (shape_of graph) target (c.loop-i.i + 1)) c.within-nodes.result.now =
     subst (Lists (near (shape_of graph) target (c.loop-i.i + 1))) (sym c.within-nodes.ensures) (c.in_ok-found.ensures.near.each (c.loop-i.i + 1) below) in
-    let most = level_most c.args.after.now c.args.target (c.loop-i.i + 1) c.k-k.result c.within-nodes.result.now (is_shape graph c.created.ensures.after) c.requires.given listed below in
+    let most = level_most c.args.after.now c.args.target (c.loop-i.i + 1) c.k-k.result c.within-nodes.result.now (is_shape graph c.created-known.ensures.after) c.requires.given listed below in
     let so_far = inv.cost in
     let here = c.place_all.ensures.cost in
     record {
@@ -44,7 +44,7 @@ returns-in_err-place_all-clause-cost g c = λ k e.
     let below : c.loop-i.i + 1 ≤ c.k-k.result = omega arith in
     let listed : Lists (near (shape_of graph) target (c.loop-i.i + 1)) c.within-nodes.result.now =
     subst (Lists (near (shape_of graph) target (c.loop-i.i + 1))) (sym c.within-nodes.ensures) (c.in_ok-found.ensures.near.each (c.loop-i.i + 1) below) in
-    let most = level_most c.args.after.now c.args.target (c.loop-i.i + 1) c.k-k.result c.within-nodes.result.now (is_shape graph c.created.ensures.after) c.requires.given listed below in
+    let most = level_most c.args.after.now c.args.target (c.loop-i.i + 1) c.k-k.result c.within-nodes.result.now (is_shape graph c.created-known.ensures.after) c.requires.given listed below in
     let so_far = c.loop-i.invariant.cost in
     let here = c.place_all.ensures.cost in
     spent_most (shape_of graph) c.args.target c.k-k.result (c.loop-i.i + 1) c.args.steps.now c.place_all.new.steps c.requires.given below (λ z. absurd (omega (arith, z, below)))
