@@ -31,10 +31,19 @@ use std::sync::ledger::{Blank, Ledger};
 ///     index.build(&graph.view(&mut steps), 0)?;
 ///     index.prepare(&graph, &change)?;
 ///     index.commit();
-#[derive(Drop)]
 pub struct OneKept {
     alloc: Global,
     kept: Option<Kept>,
+}
+
+// Written out, so that the proof of an owner sees one call and not the drop of each table.
+impl Drop for OneKept {
+    fn drop(self) {
+        let OneKept {
+            alloc: _alloc,
+            kept: _kept,
+        } = self;
+    }
 }
 
 impl OneKept {

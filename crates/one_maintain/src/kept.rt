@@ -24,12 +24,23 @@ use std::sync::ledger::Ledger;
 
 /// A 1-index in force, and a draft of what a change to come will make of it. Where none is staged nothing is drafted. The blocks to which
 /// no other has support are known, those of the base and those as shown.
-#[derive(Drop)]
 pub(crate) struct Kept {
     base: Summary,
     roots: Roots,
     draft: Draft,
     staged: bool,
+}
+
+// Written out, so that the proof of an owner sees one call and not the drop of each table.
+impl Drop for Kept {
+    fn drop(self) {
+        let Kept {
+            base: _base,
+            roots: _roots,
+            draft: _draft,
+            staged: _staged,
+        } = self;
+    }
 }
 
 impl Model for Kept {
