@@ -1,7 +1,8 @@
 -- What splitting costs.
-use Rattle.std.specs.Prelude.{◌≡◌, ℕ, ◌+◌, ◌*◌, ◌≤◌, List, []}
+use Rattle.std.specs.Prelude.{◌≡◌, ℕ, ◌+◌, ◌*◌, ◌≤◌, List, [], ◌<◌, ◌⊎◌, IsTrue, length}
 use Rattle.graph_update.specs.PendingChanges.{Pending}
 use Rattle.node_moves.specs.Costs.{parents_cost, children_cost}
+use Rattle.px_spec.specs.Members.{has}
 
 -- moving a node reads its parents and its children once
 abbrev pub move_cost : Pending → ℕ → ℕ
@@ -16,3 +17,11 @@ round_cost a n = 2 * parents_cost a n + children_cost a n
 pub data HasCost (w made spent : ℕ) (next : List ℕ) : Type 0 where
   going : spent ≤ made * (3 * w + 3) → HasCost w made spent next
   ended : next ≡ [] → 3 ≤ w → spent ≤ (made + 1) * (3 * w + 3) → HasCost w made spent next
+
+-- a block was made, or no step was taken
+abbrev pub IsCharged : List ℕ → List ℕ → ℕ → ℕ → Type 0
+IsCharged made made2 steps steps2 = (length made < length made2) ⊎ ((length made2 ≡ length made) × (steps2 ≡ steps))
+
+-- where moving a target costs at most w, no more than w was spent for each block that was made
+abbrev pub CostsPerBlock : Pending → List ℕ → List ℕ → ℕ → ℕ → Type 0
+CostsPerBlock a targets made steps steps2 = (w : ℕ) → ((n : ℕ) → IsTrue (has targets n) → move_cost a n ≤ w) → steps2 ≤ steps + length made * w

@@ -1,5 +1,5 @@
 -- Where the groups of nodes with one key go.
-use Rattle.std.specs.Prelude.{◌≡◌, ◌⊎◌, ℕ, ◌<◌, ◌≤◌, List, Option, Some, None, length, slice_get, slice_index, slice_index_or, IsTrue, IsFalse, IsSome, ◌++◌, ◌∷◌, [], nat_eq, count_by}
+use Rattle.std.specs.Prelude.{◌≡◌, ◌⊎◌, ℕ, ◌<◌, ◌≤◌, List, Option, Some, None, length, slice_get, slice_index, slice_index_or, IsTrue, IsFalse, IsSome, ◌++◌, ◌∷◌, [], nat_eq, count_by, Bool, ◌&&◌, ◌||◌, is_some, if◌then◌else◌}
 use Rattle.std.specs.List.{IsDistinct}
 use Rattle.px_spec.specs.Members.{at, has, is_this}
 use Rattle.px_spec.specs.Shapes.{Shape, IsParent}
@@ -78,3 +78,19 @@ pub record LabelsStay (labels labels2 : ℕ → Option ℕ) : Type 0 where
 -- members are in blocks
 pub record MembersHaveLabels (p : List (Option ℕ)) (labels : ℕ → Option ℕ) : Type 0 where
   pub some : (n b : ℕ) → at p n ≡ Some b → IsSome (labels b)
+
+-- the block has this label, and all others have the labels that they had
+abbrev pub SetsLabel : ℕ → ℕ → (ℕ → Option ℕ) → (ℕ → Option ℕ) → Type 0
+SetsLabel b label labels labels2 = (c : ℕ) → labels2 c ≡ (if nat_eq c b then Some label else labels c)
+
+-- a block to which a group goes has the label of the block from which it comes
+abbrev pub TakesLabel : ℕ → Option ℕ → (ℕ → Option ℕ) → (ℕ → Option ℕ) → Type 0
+TakesLabel own goal labels labels2 = (b : ℕ) → goal ≡ Some b → labels2 b ≡ labels own
+
+-- the node goes to the block, if there is one, and all others stay
+abbrev pub GoesTo : ℕ → Option ℕ → List (Option ℕ) → List (Option ℕ) → Type 0
+GoesTo n goal p p2 = (m : ℕ) → at p2 m ≡ (if nat_eq m n && is_some goal then goal else at p m)
+
+-- where the node goes to a block, its children are put into the list
+abbrev pub ListsChildrenIf : (ℕ → ℕ → Bool) → ℕ → Option ℕ → List ℕ → List ℕ → Type 0
+ListsChildrenIf leads n goal next next2 = (m : ℕ) → has next2 m ≡ (has next m || (is_some goal && leads n m))

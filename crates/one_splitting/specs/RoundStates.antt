@@ -1,7 +1,7 @@
 -- What a round over some nodes asks, and what it leaves.
 use Rattle.std.specs.Prelude.{◌⊎◌, ◌≡◌, ◌≤◌, ◌<◌, ℕ, Bool, List, [], Option, IsTrue, length, nat_eq}
 use Rattle.std.specs.List.{IsDistinct}
-use Rattle.px_spec.specs.Graphs.{is_live}
+use Rattle.px_spec.specs.Graphs.{Graph, is_live}
 use Rattle.px_spec.specs.Members.{at, has}
 use Rattle.px_spec.specs.Shapes.{shape_of, IsShape}
 use Rattle.bisim_spec.specs.Partitions.{IsPartition}
@@ -12,7 +12,7 @@ use Rattle.graph_update.specs.PendingChanges.{Pending, graph_after}
 use Rattle.quotient.specs.Quotients.{Quotient}
 use Rattle.quotient_draft.specs.Basis.{IsOver}
 use Rattle.quotient_draft.specs.Drafts.{Drafted, shown_blocks, shown_labels, shown_support}
-use Rattle.one_splitting.specs.NodeGoals.{AreBlocks, MembersHaveLabels}
+use Rattle.one_splitting.specs.NodeGoals.{AreBlocks, MembersHaveLabels, GoesIf, GoalsHaveLabels, HaveGone, ListsChildrenOf, LabelsStay}
 
 -- The draft shows a partition of the graph after the change, with labels and the numbers of edges; the nodes are there, each once; and what was
 -- made are blocks.
@@ -39,3 +39,39 @@ pub record IsRound (a : Pending) (base : Quotient) (d d2 : Drafted) (nodes made 
   pub supports : AreEdgeCounts (graph_after a) (shown_blocks base d2) (shown_support base d2)
   pub least : length made ≤ length made2
   pub more : (length made < length made2) ⊎ (next ≡ [])
+
+-- the draft has further blocks, and all else is as it was
+pub record ExtendsDraft (base : Quotient) (d d2 : Drafted) : Type 0 where
+  pub over : IsOver base.blocks.block_of base.blocks.labels d2
+  pub stay : shown_blocks base d2 ≡ shown_blocks base d
+  pub supports : (x y : ℕ) → shown_support base d2 x y ≡ shown_support base d x y
+  pub kept : LabelsStay (at (shown_labels base d)) (at (shown_labels base d2))
+
+-- nodes of the graph, each once
+pub record AreLiveNodes (g : Graph) (nodes : List ℕ) : Type 0 where
+  pub there : (n : ℕ) → IsTrue (has nodes n) → IsTrue (is_live g n)
+  pub once : IsDistinct nat_eq nodes
+
+-- The draft shows a partition of the graph after the change, with the numbers of edges.
+pub record ShowsPartition (a : Pending) (base : Quotient) (d : Drafted) : Type 0 where
+  pub over : IsOver base.blocks.block_of base.blocks.labels d
+  pub shape : IsShape (shape_of (graph_after a))
+  pub partition : IsPartition (shape_of (graph_after a)) (shown_blocks base d)
+  pub supports : AreEdgeCounts (graph_after a) (shown_blocks base d) (shown_support base d)
+
+-- where a group goes, it goes to a block that was none before it was drafted, as `GoesIf` says
+abbrev pub GoesAsDrafted : Quotient → Drafted → Drafted → List (ℕ × ℕ) → ℕ → List ℕ → List ℕ → Option ℕ → Type 0
+GoesAsDrafted base d d2 counts own stays stays2 goal =
+    GoesIf (shown_blocks base d) (at (shown_labels base d)) (at (shown_labels base d2)) counts own stays stays2 goal
+
+-- a block to which a group goes has, as drafted, the label of the block from which it comes
+abbrev pub GoalsTakeLabels : Quotient → Drafted → Drafted → List (List ℕ) → List (Option ℕ) → Type 0
+GoalsTakeLabels base d d2 keys goals = GoalsHaveLabels keys goals (at (shown_labels base d)) (at (shown_labels base d2))
+
+-- all nodes have gone where their groups go, and the others have stayed
+abbrev pub HaveAllGone : Quotient → Drafted → Drafted → List ℕ → List ℕ → List (Option ℕ) → Type 0
+HaveAllGone base d d2 nodes numbers goals = HaveGone (shown_blocks base d) (shown_blocks base d2) nodes numbers goals (length nodes)
+
+-- the list has the children, after the change, of the nodes that have gone
+abbrev pub ListsAllChildren : Pending → List ℕ → List ℕ → List (Option ℕ) → List ℕ → Type 0
+ListsAllChildren a nodes numbers goals next = ListsChildrenOf (shape_of (graph_after a)) nodes numbers goals (length nodes) next

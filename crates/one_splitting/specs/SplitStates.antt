@@ -1,14 +1,16 @@
 -- What splitting from some targets asks, and targets that are examined one after another.
-use Rattle.std.specs.Prelude.{◌≡◌, ◌≢◌, ◌⊎◌, ℕ, ◌||◌, Bool, List, [], Option, Some, IsTrue, IsFalse, nat_eq}
+use Rattle.std.specs.Prelude.{◌≡◌, ◌≢◌, ◌⊎◌, ℕ, ◌||◌, Bool, List, [], Option, Some, IsTrue, IsFalse, nat_eq, ◌+◌, ◌*◌, ◌≤◌, IsSome}
 use Rattle.std.specs.List.{IsDistinct}
 use Rattle.px_spec.specs.Members.{at, has}
 use Rattle.px_spec.specs.Shapes.{Shape, IsNode, IsParent, shape_of}
 use Rattle.label_graph.specs.Views.{label_number}
 use Rattle.bisim_spec.specs.Partitions.{Together}
 use Rattle.bisim_spec.specs.Stability.{StableBut}
+use Rattle.bisim_spec.specs.Weights.{size_of, weight}
 use Rattle.upkeep_spec.specs.Named.{AreNamedOff}
 use Rattle.upkeep_spec.specs.Rounds.{IsRefinement, SameBut}
 use Rattle.upkeep_spec.specs.Supported.{AreEdgeCounts}
+use Rattle.upkeep_spec.specs.Splits.{IsClosed, IsSplitInside}
 use Rattle.graph_update.specs.PendingChanges.{Pending, graph_after}
 use Rattle.quotient.specs.Quotients.{Quotient}
 use Rattle.quotient_draft.specs.Basis.{IsOver}
@@ -50,3 +52,35 @@ pub record IsFirst (rest rest2 : ℕ → Bool) (t : ℕ) : Type 0 where
   pub gone : IsFalse (rest2 t)
   pub within : (n : ℕ) → IsTrue (rest2 n) → IsTrue (rest n)
   pub only : (n : ℕ) → IsFalse (rest2 n) → n ≢ t → IsFalse (rest n)
+
+-- the blocks of the targets are blocks as shown
+abbrev pub HaveLiveBlocks : List ℕ → Quotient → Drafted → Type 0
+HaveLiveBlocks targets base d = (n b : ℕ) → IsTrue (has targets n) → at (shown_blocks base d) n ≡ Some b → IsSome (at (shown_labels base d) b)
+
+-- Whatever closed set has the target: where the partition was stable except perhaps at some targets, of which this one is the first, it is
+-- so except perhaps at the others and at the nodes that are examined next.
+abbrev pub Parts : Pending → ℕ → Quotient → Drafted → Drafted → List ℕ → List ℕ → List ℕ → List ℕ → Type 0
+Parts a target base d d2 next next2 made made2 = (inside : ℕ → Bool) (first : List (Option ℕ)) (rest rest2 : ℕ → Bool)
+    → IsClosed (shape_of (graph_after a)) inside → IsTrue (inside target) → IsFirst rest rest2 target
+    → IsSplitBut (shape_of (graph_after a)) inside first (shown_blocks base d) next rest made
+    → IsSplitBut (shape_of (graph_after a)) inside first (shown_blocks base d2) next2 rest2 made2
+
+-- where blocks had the labels of their members except perhaps at some targets, of which this one is the first, they have them except
+-- perhaps at the others
+abbrev pub NamesTarget : Pending → ℕ → Quotient → Drafted → Drafted → Type 0
+NamesTarget a target base d d2 = (rest rest2 : ℕ → Bool) → IsFirst rest rest2 target
+    → AreNamedOff rest (shown_blocks base d) (at (shown_labels base d)) (label_number (graph_after a))
+    → AreNamedOff rest2 (shown_blocks base d2) (at (shown_labels base d2)) (label_number (graph_after a))
+
+-- whatever set is closed under children and has the targets: blocks are split inside it
+abbrev pub SplitsInside : Pending → List ℕ → Quotient → Drafted → Drafted → List ℕ → List ℕ → Type 0
+SplitsInside a targets base d d2 next made =
+    (inside : ℕ → Bool) → IsClosed (shape_of (graph_after a)) inside → ((n : ℕ) → IsTrue (has targets n) → IsTrue (inside n))
+    → IsSplitInside (shape_of (graph_after a)) inside (shown_blocks base d) (shown_blocks base d2) next made
+
+-- whatever set is closed under children and has the targets: the steps are at most four times its numbers and one, times what there
+-- is to read at them
+abbrev pub CostsInside : Pending → List ℕ → ℕ → ℕ → Type 0
+CostsInside a targets steps steps2 =
+    (inside : ℕ → Bool) → IsClosed (shape_of (graph_after a)) inside → ((n : ℕ) → IsTrue (has targets n) → IsTrue (inside n))
+    → steps2 ≤ steps + 4 * ((size_of (shape_of (graph_after a)) inside + 1) * weight (shape_of (graph_after a)) inside)

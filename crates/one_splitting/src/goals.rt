@@ -1,9 +1,10 @@
 // Where groups of nodes go.
-ghost use Rattle.std.specs.Prelude.{◌≡◌, ◌≢◌, ◌⊎◌, ◌++◌, ◌∷◌, ◌<◌, ◌^◌, [], ℕ, List, IfOk, OnOk, Some, None, IsSome, IsTrue, IsFalse, false, length, nat_eq, option_to_list, count_by, if◌then◌else◌};
+ghost use Rattle.std.specs.Prelude.{◌≡◌, ◌≢◌, ◌⊎◌, ◌++◌, ◌∷◌, ◌<◌, ◌^◌, [], ℕ, List, IfOk, OnOk, Some, None, IsSome, IsTrue, IsFalse, false, length, option_to_list, count_by};
 ghost use Rattle.px_spec.specs.Members.{has, at, is_this};
 ghost use Rattle.quotient_draft.specs.Drafts.{shown_blocks, shown_labels, shown_support};
 ghost use Rattle.quotient_draft.specs.Basis.{IsOver};
-ghost use Rattle.one_splitting.specs.NodeGoals.{AreGroupGoals, BeginsAt, IsCountedWhole, StaysIf, GoesIf, AreBlocks, GoalsAreBlocks, AreAdded, MembersHaveLabels, GoalsHaveLabels, LabelsStay};
+ghost use Rattle.one_splitting.specs.NodeGoals.{AreGroupGoals, BeginsAt, IsCountedWhole, StaysIf, AreBlocks, GoalsAreBlocks, AreAdded, MembersHaveLabels, LabelsStay, SetsLabel, TakesLabel};
+ghost use Rattle.one_splitting.specs.RoundStates.{ExtendsDraft, GoesAsDrafted, GoalsTakeLabels};
 
 use crate::owners::is_whole;
 use indexmap::{IndexMap, IndexSet};
@@ -21,7 +22,7 @@ pub(crate) fn draft_block(base: &Summary, draft: &mut Draft, label: u32) -> Resu
     ensures free { IfOk result (λ b. at (shown_labels base.now draft.old) b ≡ None) }
     ensures stay { OnOk result (shown_blocks base.now draft.new ≡ shown_blocks base.now draft.old) }
     ensures supports { OnOk result ((x y : ℕ) → shown_support base.now draft.new x y ≡ shown_support base.now draft.old x y) }
-    ensures told { IfOk result (λ b. (c : ℕ) → at (shown_labels base.now draft.new) c ≡ (if nat_eq c b then Some label else at (shown_labels base.now draft.old) c)) }
+    ensures told { IfOk result (λ b. SetsLabel b label (at (shown_labels base.now draft.old)) (at (shown_labels base.now draft.new))) }
     ensures over { OnOk result (IsOver base.now.blocks.block_of base.now.blocks.labels draft.new) }
 {
     if draft.blocks(base) >= 1 << 31 {
@@ -74,9 +75,9 @@ fn find_goal(
     ensures stay { OnOk result (shown_blocks base.now draft.new ≡ shown_blocks base.now draft.old) }
     ensures supports { OnOk result ((x y : ℕ) → shown_support base.now draft.new x y ≡ shown_support base.now draft.old x y) }
     ensures kept { OnOk result (LabelsStay (at (shown_labels base.now draft.old)) (at (shown_labels base.now draft.new))) }
-    ensures label { IfOk result (λ goal. (b : ℕ) → goal ≡ Some b → at (shown_labels base.now draft.new) b ≡ at (shown_labels base.now draft.old) own) }
+    ensures label { IfOk result (λ goal. TakesLabel own goal (at (shown_labels base.now draft.old)) (at (shown_labels base.now draft.new))) }
     ensures stays { IfOk result (λ goal. StaysIf (shown_blocks base.now draft.old) counts.now.entries own stays.old.keys stays.new.keys goal) }
-    ensures goes { IfOk result (λ goal. GoesIf (shown_blocks base.now draft.old) (at (shown_labels base.now draft.old)) (at (shown_labels base.now draft.new)) counts.now.entries own stays.old.keys stays.new.keys goal) }
+    ensures goes { IfOk result (λ goal. GoesAsDrafted base.now draft.old draft.new counts.now.entries own stays.old.keys stays.new.keys goal) }
     ensures made { IfOk result (λ goal. made.new.items ≡ made.old.items ++ option_to_list goal) }
 {
     if may_stay(base, draft, counts, own, stays) {
@@ -101,14 +102,11 @@ pub(crate) fn find_goals(
     requires live { MembersHaveLabels (shown_blocks base.now draft.old) (at (shown_labels base.now draft.old)) }
     requires keys { (k : ℕ) → k < length keys.now → (own : ℕ) × BeginsAt keys.now k own × IsSome (at (shown_labels base.now draft.old) own) }
     requires made { AreBlocks (at (shown_labels base.now draft.old)) made.old.items }
-    ensures over { OnOk result (IsOver base.now.blocks.block_of base.now.blocks.labels draft.new) }
-    ensures stay { OnOk result (shown_blocks base.now draft.new ≡ shown_blocks base.now draft.old) }
-    ensures supports { OnOk result ((x y : ℕ) → shown_support base.now draft.new x y ≡ shown_support base.now draft.old x y) }
+    ensures extends { OnOk result (ExtendsDraft base.now draft.old draft.new) }
     ensures count { IfOk result (λ goals. length goals.items ≡ length keys.now) }
     ensures going { IfOk result (λ goals. AreGroupGoals (shown_blocks base.now draft.old) counts.now.entries keys.now goals.items) }
     ensures blocks { IfOk result (λ goals. GoalsAreBlocks goals.items (at (shown_labels base.now draft.new))) }
-    ensures labels { IfOk result (λ goals. GoalsHaveLabels keys.now goals.items (at (shown_labels base.now draft.old)) (at (shown_labels base.now draft.new))) }
-    ensures kept { OnOk result (LabelsStay (at (shown_labels base.now draft.old)) (at (shown_labels base.now draft.new))) }
+    ensures labels { IfOk result (λ goals. GoalsTakeLabels base.now draft.old draft.new keys.now goals.items) }
     ensures made { OnOk result (AreBlocks (at (shown_labels base.now draft.new)) made.new.items) }
     ensures from { IfOk result (λ goals. AreAdded goals.items made.old.items made.new.items) }
 {

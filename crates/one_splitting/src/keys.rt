@@ -1,15 +1,12 @@
 // The keys of nodes: their own blocks, and the blocks of their parents.
-ghost use Rattle.std.specs.Prelude.{◌≡◌, ◌+◌, ◌≤◌, ◌<◌, [], ℕ, List, IfOk, Some, IsSome, IsTrue, length, sum_by};
+ghost use Rattle.std.specs.Prelude.{◌≡◌, ◌+◌, ◌≤◌, ◌<◌, [], ℕ, IfOk, Some, IsSome, IsTrue, length, sum_by};
 ghost use Rattle.px_spec.specs.Members.{has, at};
-ghost use Rattle.px_spec.specs.Graphs.{has_edge};
 ghost use Rattle.px_spec.specs.Shapes.{shape_of, IsShape};
-ghost use Rattle.bisim_levels.specs.Keys.{IsKey};
-ghost use Rattle.key_table.specs.NumberedKeys.{Interns};
 ghost use Rattle.graph_update.specs.PendingChanges.{graph_after};
 ghost use Rattle.quotient_draft.specs.Drafts.{shown_blocks};
 ghost use Rattle.quotient_draft.specs.Basis.{IsOver};
 ghost use Rattle.node_moves.specs.Costs.{parents_cost};
-ghost use Rattle.one_splitting.specs.Numbered.{HaveNumbers};
+ghost use Rattle.one_splitting.specs.Numbered.{HaveNumbers, leads_after, InternsParentKey};
 
 use bisim_levels::write_key;
 use graph_update::After;
@@ -69,7 +66,7 @@ fn number_of<L: Ledger>(
     requires over { IsOver base.now.blocks.block_of base.now.blocks.labels draft.now }
     requires shape { IsShape (shape_of (graph_after after.now)) }
     requires block { IsSome (at (shown_blocks base.now draft.now) n) }
-    ensures ok { IfOk result (λ k. (key : List ℕ) × IsKey (at (shown_blocks base.now draft.now)) (shown_blocks base.now draft.now) (has_edge (graph_after after.now)) n key × Interns keys.old keys.new key k) }
+    ensures ok { IfOk result (λ k. InternsParentKey (shown_blocks base.now draft.now) after.now n keys.old keys.new k) }
     ensures cost { steps.new ≤ steps.old + parents_cost after.now n }
 {
     read_parents(&mut buffers.parents, after, n, steps)?;
@@ -98,7 +95,7 @@ pub(crate) fn number_nodes<L: Ledger>(
     requires shape { IsShape (shape_of (graph_after after.now)) }
     requires blocks { (n : ℕ) → IsTrue (has nodes.now n) → IsSome (at (shown_blocks base.now draft.now) n) }
     ensures count { IfOk result (λ numbers. length numbers.items ≡ length nodes.now) }
-    ensures numbered { IfOk result (λ numbers. HaveNumbers (shown_blocks base.now draft.now) (has_edge (graph_after after.now)) keys.new nodes.now numbers.items) }
+    ensures numbered { IfOk result (λ numbers. HaveNumbers (shown_blocks base.now draft.now) (leads_after after.now) keys.new nodes.now numbers.items) }
     ensures cost { steps.new ≤ steps.old + sum_by (parents_cost after.now) nodes.now }
 {
     let mut numbers = Vec::with_capacity(alloc, nodes.len())?;

@@ -1,8 +1,7 @@
 // Splitting in rounds.
-ghost use Rattle.std.specs.Prelude.{◌≡◌, ◌+◌, ◌≤◌, ◌<◌, ℕ, List, Option, IfOk, OnOk, IsSome, IfSome, IsTrue, is_some, ◌&&◌, ◌||◌, length, nat_eq, slice_index, sum_by, if◌then◌else◌};
-ghost use Rattle.std.specs.List.{IsDistinct};
-ghost use Rattle.px_spec.specs.Members.{has, at};
-ghost use Rattle.px_spec.specs.Graphs.{is_live, has_edge};
+ghost use Rattle.std.specs.Prelude.{◌≡◌, ◌+◌, ◌≤◌, ◌<◌, List, Option, IfOk, OnOk, IsSome, IfSome, IsTrue, length, nat_eq, slice_index, sum_by};
+ghost use Rattle.px_spec.specs.Members.{at};
+ghost use Rattle.px_spec.specs.Graphs.{is_live};
 ghost use Rattle.px_spec.specs.Shapes.{shape_of};
 ghost use Rattle.bisim_spec.specs.Partitions.{IsPartition};
 ghost use Rattle.upkeep_spec.specs.Supported.{AreEdgeCounts};
@@ -10,8 +9,9 @@ ghost use Rattle.graph_update.specs.PendingChanges.{graph_after};
 ghost use Rattle.quotient_draft.specs.Drafts.{shown_blocks, shown_labels, shown_support};
 ghost use Rattle.quotient_draft.specs.Basis.{IsOver};
 ghost use Rattle.one_splitting.specs.Costs.{move_cost, round_cost};
-ghost use Rattle.one_splitting.specs.NodeGoals.{goal_at, GoalsAreBlocks, HaveGone, ListsChildrenOf};
-ghost use Rattle.one_splitting.specs.RoundStates.{CanRound, IsRound};
+ghost use Rattle.one_splitting.specs.NodeGoals.{goal_at, GoalsAreBlocks, GoesTo, ListsChildrenIf};
+ghost use Rattle.one_splitting.specs.RoundStates.{CanRound, IsRound, AreLiveNodes, HaveAllGone, ListsAllChildren};
+ghost use Rattle.one_splitting.specs.Numbered.{leads_after};
 
 use crate::company::with_company;
 use crate::goals::find_goals;
@@ -43,10 +43,10 @@ fn move_one<L: Ledger>(
     requires block { IfSome goal (λ b. IsSome (at (shown_labels base.now draft.old) b)) }
     requires supports { AreEdgeCounts (graph_after after.now) (shown_blocks base.now draft.old) (shown_support base.now draft.old) }
     ensures over { OnOk result (IsOver base.now.blocks.block_of base.now.blocks.labels draft.new) }
-    ensures moved { OnOk result ((m : ℕ) → at (shown_blocks base.now draft.new) m ≡ (if nat_eq m n && is_some goal then goal else at (shown_blocks base.now draft.old) m)) }
+    ensures moved { OnOk result (GoesTo n goal (shown_blocks base.now draft.old) (shown_blocks base.now draft.new)) }
     ensures added { draft.new.added ≡ draft.old.added }
     ensures supports { OnOk result (AreEdgeCounts (graph_after after.now) (shown_blocks base.now draft.new) (shown_support base.now draft.new)) }
-    ensures next { OnOk result ((m : ℕ) → has next.new.list.items m ≡ (has next.old.list.items m || (is_some goal && has_edge (graph_after after.now) n m))) }
+    ensures next { OnOk result (ListsChildrenIf (leads_after after.now) n goal next.old.list.items next.new.list.items) }
     ensures cost { steps.new ≤ steps.old + move_cost after.now n }
 {
     let Some(b) = goal else {
@@ -84,15 +84,14 @@ fn move_nodes<L: Ledger>(
     steps: &mut Steps<L>,
 ) -> Result<Vec<NodeId>, Memory>
     requires over { IsOver base.now.blocks.block_of base.now.blocks.labels draft.old }
-    requires live { (n : ℕ) → IsTrue (has nodes.now n) → IsTrue (is_live (graph_after after.now) n) }
-    requires once { IsDistinct nat_eq nodes.now }
+    requires nodes { AreLiveNodes (graph_after after.now) nodes.now }
     requires count { length groups.now.numbers.items ≡ length nodes.now }
     requires partition { IsPartition (shape_of (graph_after after.now)) (shown_blocks base.now draft.old) }
     requires blocks { GoalsAreBlocks groups.now.goals.items (at (shown_labels base.now draft.old)) }
     requires supports { AreEdgeCounts (graph_after after.now) (shown_blocks base.now draft.old) (shown_support base.now draft.old) }
     ensures over { OnOk result (IsOver base.now.blocks.block_of base.now.blocks.labels draft.new) }
-    ensures gone { OnOk result (HaveGone (shown_blocks base.now draft.old) (shown_blocks base.now draft.new) nodes.now groups.now.numbers.items groups.now.goals.items (length nodes.now)) }
-    ensures next { IfOk result (λ next. ListsChildrenOf (shape_of (graph_after after.now)) nodes.now groups.now.numbers.items groups.now.goals.items (length nodes.now) next.items) }
+    ensures gone { OnOk result (HaveAllGone base.now draft.old draft.new nodes.now groups.now.numbers.items groups.now.goals.items) }
+    ensures next { IfOk result (λ next. ListsAllChildren after.now nodes.now groups.now.numbers.items groups.now.goals.items next.items) }
     ensures added { OnOk result (draft.new.added ≡ draft.old.added) }
     ensures supports { OnOk result (AreEdgeCounts (graph_after after.now) (shown_blocks base.now draft.new) (shown_support base.now draft.new)) }
     ensures cost { steps.new ≤ steps.old + sum_by (move_cost after.now) nodes.now }

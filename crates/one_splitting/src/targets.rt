@@ -1,21 +1,19 @@
 // Splitting from several targets.
-ghost use Rattle.std.specs.Prelude.{◌≡◌, ◌⊎◌, ◌++◌, ◌∷◌, ◌+◌, ◌*◌, ◌≤◌, ◌<◌, ◌&&◌, if◌then◌else◌, [], ℕ, Bool, List, Option, IfOk, OnOk, Some, IsSome, IsTrue, is_some, length, nat_eq, sum_by};
+ghost use Rattle.std.specs.Prelude.{◌≡◌, ◌++◌, ◌∷◌, ◌+◌, ◌≤◌, ◌&&◌, if◌then◌else◌, [], ℕ, IfOk, OnOk, Some, IsSome, IsTrue, is_some, nat_eq, sum_by};
 ghost use Rattle.std.specs.List.{IsDistinct};
 ghost use Rattle.px_spec.specs.Members.{has, at};
 ghost use Rattle.px_spec.specs.Graphs.{is_live};
 ghost use Rattle.px_spec.specs.Shapes.{shape_of, IsShape};
 ghost use Rattle.label_graph.specs.Views.{label_number};
-ghost use Rattle.bisim_spec.specs.Partitions.{IsPartition};
-ghost use Rattle.bisim_spec.specs.Weights.{size_of, weight};
-ghost use Rattle.upkeep_spec.specs.Named.{AreNamed, AreNamedOff};
-ghost use Rattle.upkeep_spec.specs.Splits.{IsClosed, IsSplitInside};
+ghost use Rattle.upkeep_spec.specs.Named.{AreNamed};
 ghost use Rattle.upkeep_spec.specs.Supported.{AreEdgeCounts};
 ghost use Rattle.graph_update.specs.PendingChanges.{graph_after};
 ghost use Rattle.quotient_draft.specs.Drafts.{shown_blocks, shown_labels, shown_support};
 ghost use Rattle.quotient_draft.specs.Basis.{IsOver};
-ghost use Rattle.one_splitting.specs.Costs.{move_cost};
+ghost use Rattle.one_splitting.specs.Costs.{move_cost, IsCharged, CostsPerBlock};
 ghost use Rattle.one_splitting.specs.NodeGoals.{AreBlocks, MembersHaveLabels};
-ghost use Rattle.one_splitting.specs.SplitStates.{CanSplit, IsSplitBut, IsFirst};
+ghost use Rattle.one_splitting.specs.SplitStates.{CanSplit, HaveLiveBlocks, Parts, NamesTarget, SplitsInside, CostsInside};
+ghost use Rattle.one_splitting.specs.RoundStates.{ShowsPartition};
 
 use crate::company::push_if;
 use crate::goals::draft_block;
@@ -42,7 +40,7 @@ fn with_blocks(
     requires once { IsDistinct nat_eq targets.now }
     ensures once { IfOk result (λ list. IsDistinct nat_eq list.items) }
     ensures those { IfOk result (λ list. (n : ℕ) → has list.items n ≡ (has targets.now n && is_some (at (shown_blocks base.now draft.now) n))) }
-    ensures live { OnOk result ((n b : ℕ) → IsTrue (has targets.now n) → at (shown_blocks base.now draft.now) n ≡ Some b → IsSome (at (shown_labels base.now draft.now) b)) }
+    ensures live { OnOk result (HaveLiveBlocks targets.now base.now draft.now) }
 {
     let mut list = Vec::new(alloc);
     for t in targets {
@@ -77,20 +75,17 @@ fn part_one<L: Ledger>(
     next: &mut NextNodes,
     steps: &mut Steps<L>,
 ) -> Result<(), Memory>
-    requires over { IsOver base.now.blocks.block_of base.now.blocks.labels draft.old }
+    requires shown { ShowsPartition after.now base.now draft.old }
     requires live { MembersHaveLabels (shown_blocks base.now draft.old) (at (shown_labels base.now draft.old)) }
-    requires shape { IsShape (shape_of (graph_after after.now)) }
-    requires partition { IsPartition (shape_of (graph_after after.now)) (shown_blocks base.now draft.old) }
     requires node { IsTrue (is_live (graph_after after.now) target) }
     requires made { AreBlocks (at (shown_labels base.now draft.old)) made.old.items }
-    requires supports { AreEdgeCounts (graph_after after.now) (shown_blocks base.now draft.old) (shown_support base.now draft.old) }
     ensures over { OnOk result (IsOver base.now.blocks.block_of base.now.blocks.labels draft.new) }
     ensures live { OnOk result (MembersHaveLabels (shown_blocks base.now draft.new) (at (shown_labels base.now draft.new))) }
-    ensures parting { OnOk result ((inside : ℕ → Bool) (first : List (Option ℕ)) (rest rest2 : ℕ → Bool) → IsClosed (shape_of (graph_after after.now)) inside → IsTrue (inside target) → IsFirst rest rest2 target → IsSplitBut (shape_of (graph_after after.now)) inside first (shown_blocks base.now draft.old) next.old.list.items rest made.old.items → IsSplitBut (shape_of (graph_after after.now)) inside first (shown_blocks base.now draft.new) next.new.list.items rest2 made.new.items) }
-    ensures named { OnOk result ((rest rest2 : ℕ → Bool) → IsFirst rest rest2 target → AreNamedOff rest (shown_blocks base.now draft.old) (at (shown_labels base.now draft.old)) (label_number (graph_after after.now)) → AreNamedOff rest2 (shown_blocks base.now draft.new) (at (shown_labels base.now draft.new)) (label_number (graph_after after.now))) }
+    ensures parting { OnOk result (Parts after.now target base.now draft.old draft.new next.old.list.items next.new.list.items made.old.items made.new.items) }
+    ensures named { OnOk result (NamesTarget after.now target base.now draft.old draft.new) }
     ensures made { OnOk result (AreBlocks (at (shown_labels base.now draft.new)) made.new.items) }
     ensures supports { OnOk result (AreEdgeCounts (graph_after after.now) (shown_blocks base.now draft.new) (shown_support base.now draft.new)) }
-    ensures charged { OnOk result ((length made.old.items < length made.new.items) ⊎ ((length made.new.items ≡ length made.old.items) × (steps.new ≡ steps.old))) }
+    ensures charged { OnOk result (IsCharged made.old.items made.new.items steps.old steps.new) }
     ensures cost { steps.new ≤ steps.old + move_cost after.now target }
 {
     let own = own_block(base, draft, target);
@@ -120,12 +115,12 @@ fn part_all<L: Ledger>(
     requires shape { IsShape (shape_of (graph_after after.now)) }
     requires nodes { (n : ℕ) → IsTrue (has targets.now n) → IsTrue (is_live (graph_after after.now) n) }
     ensures over { OnOk result (IsOver base.now.blocks.block_of base.now.blocks.labels draft.new) }
-    ensures split { IfOk result (λ next. (inside : ℕ → Bool) → IsClosed (shape_of (graph_after after.now)) inside → ((n : ℕ) → IsTrue (has targets.now n) → IsTrue (inside n)) → IsSplitInside (shape_of (graph_after after.now)) inside (shown_blocks base.now draft.old) (shown_blocks base.now draft.new) next.items made.new.items) }
+    ensures split { IfOk result (λ next. SplitsInside after.now targets.now base.now draft.old draft.new next.items made.new.items) }
     ensures once { IfOk result (λ next. IsDistinct nat_eq next.items) }
     ensures named { OnOk result (AreNamed (shown_blocks base.now draft.new) (at (shown_labels base.now draft.new)) (label_number (graph_after after.now))) }
     ensures made { OnOk result (AreBlocks (at (shown_labels base.now draft.new)) made.new.items) }
     ensures supports { OnOk result (AreEdgeCounts (graph_after after.now) (shown_blocks base.now draft.new) (shown_support base.now draft.new)) }
-    ensures charged { OnOk result ((w : ℕ) → ((n : ℕ) → IsTrue (has targets.now n) → move_cost after.now n ≤ w) → steps.new ≤ steps.old + length made.new.items * w) }
+    ensures charged { OnOk result (CostsPerBlock after.now targets.now made.new.items steps.old steps.new) }
     ensures cost { steps.new ≤ steps.old + sum_by (move_cost after.now) targets.now }
 {
     let mut next = NextNodes::new(alloc);
@@ -157,14 +152,14 @@ pub fn split<L: Ledger>(
     requires { CanSplit after.now base.now draft.old targets.now made.old.items }
     ensures over { OnOk result (IsOver base.now.blocks.block_of base.now.blocks.labels draft.new) }
     ensures named { OnOk result (AreNamed (shown_blocks base.now draft.new) (at (shown_labels base.now draft.new)) (label_number (graph_after after.now))) }
-    ensures split { OnOk result ((inside : ℕ → Bool) → IsClosed (shape_of (graph_after after.now)) inside → ((n : ℕ) → IsTrue (has targets.now n) → IsTrue (inside n)) → IsSplitInside (shape_of (graph_after after.now)) inside (shown_blocks base.now draft.old) (shown_blocks base.now draft.new) [] made.new.items) }
+    ensures split { OnOk result (SplitsInside after.now targets.now base.now draft.old draft.new [] made.new.items) }
     ensures made { OnOk result ((b : ℕ) → IsTrue (has made.new.items b) → IsSome (at (shown_labels base.now draft.new) b)) }
     ensures supports { OnOk result (AreEdgeCounts (graph_after after.now) (shown_blocks base.now draft.new) (shown_support base.now draft.new)) }
-    ensures cost { (inside : ℕ → Bool) → IsClosed (shape_of (graph_after after.now)) inside → ((n : ℕ) → IsTrue (has targets.now n) → IsTrue (inside n)) → steps.new ≤ steps.old + 4 * ((size_of (shape_of (graph_after after.now)) inside + 1) * weight (shape_of (graph_after after.now)) inside) }
+    ensures cost { CostsInside after.now targets.now steps.old steps.new }
 {
     let present = with_blocks(alloc, base, draft, targets)?;
-    // This says that there is a graph, so that edges lead from nodes to nodes.
-    let _ = after.created();
+    // Called for its contract: there is a graph, so that edges lead from nodes to nodes.
+    let _known = after.created();
     let mut next = part_all(alloc, base, draft, after, &present, made, steps)?;
     'rounds: while !is_done(&next) {
         next = round(alloc, base, draft, after, &next, made, steps)?;

@@ -68,3 +68,8 @@ loop-k-preserved c =
       made = next.distinct;
       from = subst (λ gs. AreAdded gs c.args.made.now.items c.find_goal.new.made.items) (sym added) next.from;
     }
+
+pub returns-clause-extends : goal.returns-clause-extends
+returns-clause-extends c =
+    let inv = c.loop-k.invariant in
+    record { over = inv.over; stay = inv.stay; supports = inv.supports; kept = inv.kept }

@@ -31,8 +31,8 @@ loop-i-preserved g c =
     let here = c.move_one.ensures.cost in
     record {
       over = ok.over;
-      partition = partition_moved s q q2 (slice_index nodes i) c.goal_of-goal.result inv.partition (c.requires.live (slice_index nodes i) (has_place nodes i below)) ok.moved;
-      gone = gone_more (shown_blocks c.args.base.now c.args.draft.now) q q2 nodes numbers goals i c.requires.once below inv.gone (subst (λ o. OneMoved (slice_index nodes i) o q q2) is moved);
+      partition = partition_moved s q q2 (slice_index nodes i) c.goal_of-goal.result inv.partition (c.requires.nodes.there (slice_index nodes i) (has_place nodes i below)) ok.moved;
+      gone = gone_more (shown_blocks c.args.base.now c.args.draft.now) q q2 nodes numbers goals i c.requires.nodes.once below inv.gone (subst (λ o. OneMoved (slice_index nodes i) o q q2) is moved);
       next = next_more s nodes numbers goals i c.loop-i.next.list.items c.move_one.new.next.list.items inv.next
           (subst (λ o. OneListed s (slice_index nodes i) o c.loop-i.next.list.items c.move_one.new.next.list.items) is listed);
       supports = ok.supports;

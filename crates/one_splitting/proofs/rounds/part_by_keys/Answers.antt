@@ -1,16 +1,18 @@
-use Rattle.std.proofs.Common.{◌≡◌, ℕ, List, Option, length, arith, sym, ap, subst, rules}
+use Rattle.std.proofs.Common.{◌≡◌, ℕ, List, Option, length, arith, sym, ap, subst, rules, ◌∙◌}
 use Rattle.px_spec.specs.Graphs.{has_edge}
 use Rattle.px_spec.specs.Members.{at}
 use Rattle.px_spec.specs.Shapes.{shape_of}
 use Rattle.upkeep_spec.specs.Named.{AreNamed}
+use Rattle.upkeep_spec.specs.Supported.{AreEdgeCounts}
 use Rattle.graph_update.specs.PendingChanges.{graph_after}
-use Rattle.quotient_draft.specs.Drafts.{shown_blocks, shown_labels, with_added}
+use Rattle.quotient_draft.specs.Drafts.{shown_blocks, shown_labels, with_added, shown_support}
 use Rattle.one_splitting.specs.Counted.{AreCounted}
 use Rattle.one_splitting.specs.NodeGoals.{HaveGone}
 use Rattle.one_splitting.proofs.Ends.{set_distinct, next_set, more_or_none, owns, round_parts}
 use Rattle.one_splitting.proofs.Named.{named_step}
 use Rattle.one_splitting.proofs.NextRound.{split_step}
 use Rattle.one_splitting.proofs.rounds.part_by_keys.Goals as goal
+use Rattle.bisim_spec.specs.Partitions.{IsPartition}
 
 pub returns-in_err-numbers-clause-cost : goal.returns-in_err-numbers-clause-cost
 returns-in_err-numbers-clause-cost g c =
@@ -35,6 +37,21 @@ returns-in_err-goals-clause-cost g c =
     let parts = round_parts c.args.after.now c.args.nodes.now in
     let cost = c.number_nodes.ensures.cost in
     omega (arith, parts, cost)
+
+pub move_nodes-requires-clause-over : goal.move_nodes-requires-clause-over
+move_nodes-requires-clause-over g c = c.in_ok-goals.ensures.extends.over
+
+pub move_nodes-requires-clause-partition : goal.move_nodes-requires-clause-partition
+move_nodes-requires-clause-partition g c = subst (IsPartition (shape_of (graph_after c.args.after.now))) (sym c.in_ok-goals.ensures.extends.stay) c.requires.partition
+
+pub move_nodes-requires-clause-supports : goal.move_nodes-requires-clause-supports
+move_nodes-requires-clause-supports g c =
+    let more = c.in_ok-goals.ensures.extends in
+    subst (λ p. AreEdgeCounts (graph_after c.args.after.now) p (shown_support c.args.base.now c.find_goals.new.draft)) (sym more.stay)
+    (record { each = λ x y. more.supports x y ∙ c.requires.supports.each x y })
+
+pub move_nodes-requires-clause-nodes : goal.move_nodes-requires-clause-nodes
+move_nodes-requires-clause-nodes g c = record { there = c.requires.there; once = c.requires.once }
 
 pub returns-in_err-next-clause-cost : goal.returns-in_err-next-clause-cost
 returns-in_err-next-clause-cost g c =
@@ -66,7 +83,7 @@ returns-clause-round g c = record {
       let numbered = c.in_ok-numbers.ensures.numbered in
       split_step s inside first p p2 keys nodes numbers c.args.made.now.items c.sort_once.new.numbers.items c.find_goals.new.made.items goals counts c.requires.shape closed split c.requires.once
       c.in_ok-numbers.ensures.count numbered c.in_ok-goals.ensures.count counted c.in_ok-goals.ensures.going
-      (subst (λ x. HaveGone x p2 nodes numbers goals (length nodes)) c.in_ok-goals.ensures.stay c.in_ok-next.ensures.gone)
+      (subst (λ x. HaveGone x p2 nodes numbers goals (length nodes)) c.in_ok-goals.ensures.extends.stay c.in_ok-next.ensures.gone)
       (next_set s nodes numbers goals (length nodes) c.in_ok-next.next.items c.sort_once.new.numbers.items (record { rising = c.sort_once.ensures.rising; same = c.sort_once.ensures.same })
       c.in_ok-next.ensures.next)
       c.in_ok-goals.ensures.from c.in_ok-goals.ensures.made.once
@@ -79,11 +96,11 @@ returns-clause-round g c = record {
       let p2 = shown_blocks c.args.base.now c.move_nodes.new.draft in
       let numbers = c.in_ok-numbers.numbers.items in
       let goals = c.in_ok-goals.goals.items in
-      let gone = subst (λ x. HaveGone x p2 nodes numbers goals (length nodes)) c.in_ok-goals.ensures.stay c.in_ok-next.ensures.gone in
+      let gone = subst (λ x. HaveGone x p2 nodes numbers goals (length nodes)) c.in_ok-goals.ensures.extends.stay c.in_ok-next.ensures.gone in
       let labels : shown_labels c.args.base.now c.move_nodes.new.draft ≡ shown_labels c.args.base.now c.find_goals.new.draft = ap (with_added c.args.base.now.blocks.labels) c.in_ok-next.ensures.added in
       subst (λ (ls : List (Option ℕ)). AreNamed p2 (at ls) names) (sym labels)
       (named_step s p p2 c.number_nodes.new.keys nodes numbers goals (at (shown_labels c.args.base.now c.args.draft.now)) (at (shown_labels c.args.base.now c.find_goals.new.draft)) names
-      c.in_ok-numbers.ensures.count c.requires.once c.in_ok-numbers.ensures.numbered gone c.in_ok-goals.ensures.labels c.in_ok-goals.ensures.kept named);
+      c.in_ok-numbers.ensures.count c.requires.once c.in_ok-numbers.ensures.numbered gone c.in_ok-goals.ensures.labels c.in_ok-goals.ensures.extends.kept named);
   blocks = search rules;
   supports = c.in_ok-next.ensures.supports;
   least = c.in_ok-goals.ensures.from.least;

@@ -28,8 +28,13 @@ loop-t-init g c = record {
   cost = omega arith;
 }
 
-pub part_one-requires-clause-partition : goal.part_one-requires-clause-partition
-part_one-requires-clause-partition g c = (c.loop-t.invariant.parting (λ n. true) (closed_all (shape_of (graph_after c.args.after.now))) (λ n h. refl)).stable.partition
+pub part_one-requires-clause-shown : goal.part_one-requires-clause-shown
+part_one-requires-clause-shown g c = record {
+  over = c.loop-t.invariant.over;
+  shape = c.requires.shape;
+  partition = (c.loop-t.invariant.parting (λ n. true) (closed_all (shape_of (graph_after c.args.after.now))) (λ n h. refl)).stable.partition;
+  supports = c.loop-t.invariant.supports;
+}
 
 pub returns-in_err-part_one-clause-cost : goal.returns-in_err-part_one-clause-cost
 returns-in_err-part_one-clause-cost g c =

@@ -39,7 +39,7 @@ returns-in_err-next-clause-cost g c = λ inside closed within.
     let s = shape_of (graph_after c.args.after.now) in
     let p = shown_blocks c.args.base.now c.args.draft.now in
     let nodes = c.deref.result.now in
-    let shape = is_shape (graph_after c.args.after.now) c.created.ensures.after in
+    let shape = is_shape (graph_after c.args.after.now) c.created-known.ensures.after in
     let present : ArePresent p (has c.args.targets.now) (has nodes) = record { each = λ n. ap (λ xs. has xs n) c.deref.ensures.value ∙ c.in_ok-present.ensures.those n } in
     let cost = c.part_all.ensures.cost in
     let light = targets_light c.args.after.now inside nodes (subst (IsDistinct nat_eq) (sym c.deref.ensures.value) c.in_ok-present.ensures.once)
@@ -55,7 +55,7 @@ rounds-init g c =
     let s = shape_of (graph_after c.args.after.now) in
     let p = shown_blocks c.args.base.now c.args.draft.now in
     let nodes = c.deref.result.now in
-    let shape = is_shape (graph_after c.args.after.now) c.created.ensures.after in
+    let shape = is_shape (graph_after c.args.after.now) c.created-known.ensures.after in
     let present : ArePresent p (has c.args.targets.now) (has nodes) = record { each = λ n. ap (λ xs. has xs n) c.deref.ensures.value ∙ c.in_ok-present.ensures.those n } in
     record {
       over = c.in_ok-next.ensures.over;
@@ -79,7 +79,7 @@ round-requires g c =
       over = c.rounds.invariant.over;
       live = search rules;
       there = λ n h. every.next_nodes n (sym (ap (λ xs. has xs n) next_is) ∙ h);
-      shape = is_shape (graph_after c.args.after.now) c.created.ensures.after;
+      shape = is_shape (graph_after c.args.after.now) c.created-known.ensures.after;
       partition = every.stable.partition;
       once = subst (IsDistinct nat_eq) (sym next_is) c.rounds.invariant.once;
       blocks = c.rounds.invariant.made;
@@ -90,7 +90,7 @@ pub returns-in_err-next-2-clause-cost : goal.returns-in_err-next-2-clause-cost
 returns-in_err-next-2-clause-cost g c = λ inside closed within.
     let s = shape_of (graph_after c.args.after.now) in
     let a = c.args.after.now in
-    let shape = is_shape (graph_after c.args.after.now) c.created.ensures.after in
+    let shape = is_shape (graph_after c.args.after.now) c.created-known.ensures.after in
     let first = shown_blocks c.args.base.now c.args.draft.now in
     let p = shown_blocks c.args.base.now c.rounds.draft in
     let next = c.rounds.next.items in
@@ -112,7 +112,7 @@ pub rounds-preserved : goal.rounds-preserved
 rounds-preserved g c =
     let s = shape_of (graph_after c.args.after.now) in
     let a = c.args.after.now in
-    let shape = is_shape (graph_after c.args.after.now) c.created.ensures.after in
+    let shape = is_shape (graph_after c.args.after.now) c.created-known.ensures.after in
     let first = shown_blocks c.args.base.now c.args.draft.now in
     let p = shown_blocks c.args.base.now c.rounds.draft in
     let next = c.rounds.next.items in
@@ -141,7 +141,7 @@ rounds-preserved g c =
 pub rounds-smaller : goal.rounds-smaller
 rounds-smaller g c =
     let s = shape_of (graph_after c.args.after.now) in
-    let shape = is_shape (graph_after c.args.after.now) c.created.ensures.after in
+    let shape = is_shape (graph_after c.args.after.now) c.created-known.ensures.after in
     let first = shown_blocks c.args.base.now c.args.draft.now in
     let p = shown_blocks c.args.base.now c.rounds.draft in
     let inv = c.rounds.invariant in
@@ -161,7 +161,7 @@ rounds-smaller g c =
 pub returns-clause-cost : goal.returns-clause-cost
 returns-clause-cost g c = λ inside closed within.
     let s = shape_of (graph_after c.args.after.now) in
-    let shape = is_shape (graph_after c.args.after.now) c.created.ensures.after in
+    let shape = is_shape (graph_after c.args.after.now) c.created-known.ensures.after in
     let inv = c.rounds.invariant in
     let split = inv.split inside closed within in
     let fit = most_done (size_of s inside) (weight s inside) (length c.rounds.made.items) (c.rounds.steps - c.args.steps.now) c.rounds.next.items
