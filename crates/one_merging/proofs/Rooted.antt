@@ -1,10 +1,9 @@
 -- Blocks to which no other block has support.
-use Rattle.std.proofs.Common.{◌≡◌, ◌≢◌, ℕ, zero, suc, ◌+◌, ◌<◌, ◌≤◌, List, [], ◌∷◌, length, take, Option, Some, None, IsTrue, is_some, refl, sym, ◌∙◌, ap, subst, arith, inl, inr, true, false, Bool, count_by, true≢false}
-use Rattle.std.specs.Prelude.{nat_eq, nat_lt, cond, IfNone, IfOk, Result, Ok, Err, get_or}
+use Rattle.std.proofs.Common.{◌≡◌, ◌≢◌, ℕ, zero, suc, ◌+◌, List, [], ◌∷◌, Option, Some, None, IsTrue, is_some, refl, sym, ◌∙◌, ap, subst, arith, inl, inr, true, false, Bool, count_by, true≢false}
+use Rattle.std.specs.Prelude.{nat_eq, nat_lt, cond, IfNone, IfOk, Result, Ok, Err}
 use Rattle.std.specs.List.{list_all}
-use Rattle.std.proofs.lemmas.Bool.{cases_Bool, cases_lt, both_ways, or_left, or_right, and_from}
+use Rattle.std.proofs.lemmas.Bool.{cases_Bool, both_ways, or_left, or_right, and_from}
 use Rattle.std.proofs.lemmas.Bool.Decides.{Decides-eqb, Decides-ltb, eqb_tells}
-use Rattle.std.proofs.lemmas.List.{get_or_past}
 use Rattle.px_spec.specs.Members.{has, at, is_this, Lists}
 use Rattle.px_spec.specs.Shapes.{Shape}
 use Rattle.bisim_spec.proofs.Together.{together_at, merged_cases}
@@ -15,11 +14,9 @@ use Rattle.upkeep_spec.specs.Viewed.{IsViewed}
 use Rattle.upkeep_spec.proofs.Suspects.{partner_alone}
 use Rattle.quotient.specs.Quotients.{Quotient}
 use Rattle.quotient_draft.specs.Drafts.{Drafted, has_member, inhabited_from, settled_view, shown_blocks, shown_labels, shown_support}
-use Rattle.quotient_draft.specs.Ends.{listed}
 use Rattle.block_joining.specs.Mates.{AreNoMates}
 use Rattle.one_merging.specs.Roots.{RootLists, IsNoted, IsRoot, CoversRoots, CoversBase, CoversShown}
 use Rattle.one_merging.proofs.Counted.{member_counted}
-use Rattle.one_merging.proofs.Laws.{more_hold}
 
 zero_by : (n : ℕ) → nat_lt 0 n ≡ false → n ≡ 0
 zero_by n h = grind (arith, h)
@@ -130,18 +127,6 @@ covers_touched q d roots roots2 touched covers kept labels supports noted = reco
   ];
 }
 
--- Those below a number are noted.
-pub record CoversBelow (labels : ℕ → Option ℕ) (support : ℕ → ℕ → ℕ) (roots : RootLists) (n : ℕ) : Type 0 where
-  pub each : (b label : ℕ) → b < n → labels b ≡ Some label → IsRoot support b → IsNoted roots label b
-
-pub covers_all : (labels : List (Option ℕ)) (support : ℕ → ℕ → ℕ) (roots : RootLists) (n : ℕ) → length labels ≤ n → CoversBelow (at labels) support roots n → CoversRoots (at labels) support roots
-covers_all labels support roots n past below = record {
-  each = λ b l h k. elim (cases_lt b n) [
-    | inl less ↦ below.each b l less h k
-    | inr over ↦ absurd (true≢false (sym (ap is_some h) ∙ ap is_some (get_or_past labels b None (omega (arith, past, over)))))
-  ];
-}
-
 -- the same numbers are listed
 pub lists_as : (p q : ℕ → Bool) (xs : List ℕ) → ((n : ℕ) → p n ≡ q n) → Lists p xs → Lists q xs
 lists_as p q xs same l = record { once = l.once; members = λ n. l.members n ∙ same n }
@@ -161,23 +146,3 @@ all_own support b xs parents root = all_from xs (λ a h. elim (eqb_tells a b) [
     all_from (y ∷ ys) h =
         and_from (nat_eq y b) (list_all (λ a. nat_eq a b) ys) (h y (or_left (nat_eq y y) (has ys y) ((Decides-eqb y y).1 refl)))
         (all_from ys (λ a k. h a (or_right (nat_eq a y) (has ys a) k)))
-
--- one number more
-pub below_more : (labels : ℕ → Option ℕ) (support : ℕ → ℕ → ℕ) (roots roots2 : RootLists) (n : ℕ) → ((l c : ℕ) → IsNoted roots l c → IsNoted roots2 l c)
-    → ((label : ℕ) → labels n ≡ Some label → IsRoot support n → IsNoted roots2 label n) → CoversBelow labels support roots n → CoversBelow labels support roots2 (n + 1)
-below_more labels support roots roots2 n kept here below = record {
-  each = λ b l less h k. elim (cases_lt b n) [
-    | inl before ↦ kept l b (below.each b l before h k)
-    | inr over ↦ (
-        let same : b ≡ n = omega (arith, less, over) in
-        ap (λ x. has (listed roots2 l) x) same ∙ here l (ap labels (sym same) ∙ h) (subst (IsRoot support) same k))
-  ];
-}
-
--- one block of a list more
-pub noted_more : (labels : ℕ → Option ℕ) (support : ℕ → ℕ → ℕ) (now next : RootLists) (xs : List ℕ) (i d : ℕ) → i < length xs
-    → ((b l : ℕ) → IsTrue (has (take i xs) b) → labels b ≡ Some l → IsRoot support b → IsNoted now l b) → ((l c : ℕ) → IsNoted now l c → IsNoted next l c)
-    → ((l : ℕ) → labels (get_or xs i d) ≡ Some l → IsRoot support (get_or xs i d) → IsNoted next l (get_or xs i d))
-    → (b : ℕ) → IsTrue (has (take (i + 1) xs) b) → (l : ℕ) → labels b ≡ Some l → IsRoot support b → IsNoted next l b
-noted_more labels support now next xs i d less before kept here =
-    more_hold (λ b. (l : ℕ) → labels b ≡ Some l → IsRoot support b → IsNoted next l b) xs i d less (λ b h l e k. kept l b (before b l h e k)) here

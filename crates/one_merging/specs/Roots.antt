@@ -19,6 +19,14 @@ IsNoted roots label b = IsTrue (has (listed roots label) b)
 abbrev pub IsRoot : (ℕ → ℕ → ℕ) → ℕ → Type 0
 IsRoot support b = (a : ℕ) → a ≢ b → support a b ≡ 0
 
+-- where the block has a label, and no other block has support to it, it is noted
+abbrev pub NotesRoot : (ℕ → Option ℕ) → (ℕ → ℕ → ℕ) → RootLists → ℕ → Type 0
+NotesRoot labels support roots b = (label : ℕ) → labels b ≡ Some label → IsRoot support b → IsNoted roots label b
+
+-- and so for each block of a list
+abbrev pub NotesRoots : (ℕ → Option ℕ) → (ℕ → ℕ → ℕ) → RootLists → List ℕ → Type 0
+NotesRoots labels support roots list = (b label : ℕ) → IsTrue (has list b) → labels b ≡ Some label → IsRoot support b → IsNoted roots label b
+
 -- Each block to which no other has support is noted for its label. Others may be noted too.
 pub record CoversRoots (labels : ℕ → Option ℕ) (support : ℕ → ℕ → ℕ) (roots : RootLists) : Type 0 where
   pub each : (b label : ℕ) → labels b ≡ Some label → IsRoot support b → IsNoted roots label b

@@ -1,17 +1,8 @@
 // Pairs that are merged, one after another.
-ghost use Rattle.std.specs.Prelude.{◌≡◌, ◌⊎◌, ℕ, Option, IsTrue, IfSome, IfNone, IfOk, OnOk};
-ghost use Rattle.px_spec.specs.Members.{at, has};
-ghost use Rattle.px_spec.specs.Graphs.{Graph};
-ghost use Rattle.px_spec.specs.Shapes.{Shape};
-ghost use Rattle.upkeep_spec.specs.Merges.{AreSuspects};
-ghost use Rattle.upkeep_spec.specs.Named.{AreNamed};
-ghost use Rattle.upkeep_spec.specs.Supported.{AreEdgeCounts};
-ghost use Rattle.upkeep_spec.specs.Viewed.{IsViewed, IsDone};
-ghost use Rattle.quotient_draft.specs.Drafts.{shown_labels, shown_blocks, shown_support};
+ghost use Rattle.std.specs.Prelude.{ℕ, IsTrue, IfSome, IfNone, IfOk, OnOk};
+ghost use Rattle.px_spec.specs.Members.{has};
 ghost use Rattle.quotient_draft.specs.Basis.{IsOver};
-ghost use Rattle.block_joining.specs.Mates.{shown_joined};
-ghost use Rattle.block_joining.specs.Merged.{HasGraph};
-ghost use Rattle.one_merging.specs.ShownMerges.{IsShown, HasShownGraph, AreShownMates, AreShownSuspects};
+ghost use Rattle.one_merging.specs.ShownMerges.{HasShownGraph, AreShownMates, StaySuspects, AreUnmergeable, MergesToEnd, StayEdgeCounts, StayNamed};
 ghost use Rattle.one_merging.specs.Roots.{CoversBase};
 
 use crate::members::larger_first;
@@ -36,8 +27,8 @@ fn next_pair(
     requires graph { HasShownGraph base.now draft.now }
     requires covers { CoversBase base.now roots.now }
     ensures some { IfOk result (λ pair. IfSome pair (λ r. AreShownMates base.now draft.now r.0 r.1)) }
-    ensures rest { IfOk result (λ pair. IfSome pair (λ r. (s : Shape) → IsShown s base.now draft.now → AreShownSuspects s base.now draft.now (λ b. IsTrue (has suspects.old b)) → AreShownSuspects s base.now draft.now (λ b. ((b ≡ r.0) ⊎ (b ≡ r.1)) ⊎ IsTrue (has suspects.new b)))) }
-    ensures none { IfOk result (λ pair. IfNone pair ((s : Shape) → IsShown s base.now draft.now → AreShownSuspects s base.now draft.now (λ b. IsTrue (has suspects.old b)) → AreShownSuspects s base.now draft.now (λ b. ⊥))) }
+    ensures rest { IfOk result (λ pair. IfSome pair (λ r. StaySuspects base.now draft.now suspects.old r suspects.new)) }
+    ensures none { IfOk result (λ pair. IfNone pair (AreUnmergeable base.now draft.now suspects.old)) }
 {
     'look: while let Some(a) = suspects.take() {
         if let Some(b) = partner_of(base, draft, roots, a, buffers)? {
@@ -71,9 +62,9 @@ fn merge_pairs(
     requires graph { HasShownGraph base.now draft.old }
     requires covers { CoversBase base.now roots.now }
     ensures over { OnOk result (IsOver base.now.blocks.block_of base.now.blocks.labels draft.new) }
-    ensures merged { OnOk result ((s : Shape) → IsShown s base.now draft.old → AreShownSuspects s base.now draft.old (λ b. IsTrue (has suspects.old b)) → IsDone s (shown_blocks base.now draft.old) (shown_blocks base.now draft.new)) }
-    ensures supports { OnOk result ((g : Graph) → AreEdgeCounts g (shown_blocks base.now draft.old) (shown_support base.now draft.old) → AreEdgeCounts g (shown_blocks base.now draft.new) (shown_support base.now draft.new)) }
-    ensures named { OnOk result ((names : ℕ → Option ℕ) → AreNamed (shown_blocks base.now draft.old) (at (shown_labels base.now draft.old)) names → AreNamed (shown_blocks base.now draft.new) (at (shown_labels base.now draft.new)) names) }
+    ensures merged { OnOk result (MergesToEnd base.now draft.old draft.new suspects.old) }
+    ensures supports { OnOk result (StayEdgeCounts base.now draft.old draft.new) }
+    ensures named { OnOk result (StayNamed base.now draft.old draft.new) }
 {
     'pairs: while let Some((a, b)) = next_pair(base, draft, roots, suspects, buffers)? {
         draft.fill_children(base, b, &mut buffers.children)?;
@@ -104,12 +95,12 @@ pub fn merge(
     suspects: &[u32],
 ) -> Result<(), Memory>
     requires over { IsOver base.now.blocks.block_of base.now.blocks.labels draft.old }
-    requires graph { HasGraph (shown_blocks base.now draft.old) (at (shown_labels base.now draft.old)) (shown_support base.now draft.old) }
+    requires graph { HasShownGraph base.now draft.old }
     requires covers { CoversBase base.now roots.now }
     ensures over { OnOk result (IsOver base.now.blocks.block_of base.now.blocks.labels draft.new) }
-    ensures merged { OnOk result ((s : Shape) → IsViewed s (shown_blocks base.now draft.old) (at (shown_labels base.now draft.old)) (shown_joined base.now draft.old) → AreSuspects s (shown_blocks base.now draft.old) (λ b. IsTrue (has suspects.now b)) → IsDone s (shown_blocks base.now draft.old) (shown_blocks base.now draft.new)) }
-    ensures supports { OnOk result ((g : Graph) → AreEdgeCounts g (shown_blocks base.now draft.old) (shown_support base.now draft.old) → AreEdgeCounts g (shown_blocks base.now draft.new) (shown_support base.now draft.new)) }
-    ensures named { OnOk result ((names : ℕ → Option ℕ) → AreNamed (shown_blocks base.now draft.old) (at (shown_labels base.now draft.old)) names → AreNamed (shown_blocks base.now draft.new) (at (shown_labels base.now draft.new)) names) }
+    ensures merged { OnOk result (MergesToEnd base.now draft.old draft.new suspects.now) }
+    ensures supports { OnOk result (StayEdgeCounts base.now draft.old draft.new) }
+    ensures named { OnOk result (StayNamed base.now draft.old draft.new) }
 {
     let mut waiting = Suspects::new(alloc);
     waiting.add_all(suspects)?;

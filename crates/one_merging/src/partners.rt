@@ -2,11 +2,10 @@
 ghost use Rattle.std.specs.Prelude.{◌≡◌, ◌≢◌, ◌⊎◌, ◌&&◌, ℕ, Some, None, IsTrue, IsFalse, IfSome, IfNone, IfOk, OnOk, not, nat_eq, false};
 ghost use Rattle.std.specs.List.{list_any};
 ghost use Rattle.px_spec.specs.Members.{at, has};
-ghost use Rattle.bisim_spec.specs.Views.{support_at};
 ghost use Rattle.quotient_draft.specs.Drafts.{shown_labels, shown_blocks, shown_support};
 ghost use Rattle.quotient_draft.specs.Basis.{IsOver};
 ghost use Rattle.block_joining.specs.Mates.{shown_joined};
-ghost use Rattle.one_merging.specs.ShownMerges.{HasShownGraph, AreShownMates, AreNoShownMates};
+ghost use Rattle.one_merging.specs.ShownMerges.{HasShownGraph, AreShownMates, AreNoShownMates, HasNoOther, ListsOwnChildren, HasBaseSupports};
 ghost use Rattle.one_merging.specs.Roots.{IsNoted, CoversBase};
 
 use crate::members::{children_count, has_members};
@@ -172,7 +171,7 @@ fn other_among(
 ) -> Option<u32>
     requires first { IfSome first (λ x. (x ≢ a) × IsTrue (shown_joined base.now draft.now x a)) }
     ensures some { IfSome result (λ x. (x ≢ a) × IsTrue (shown_joined base.now draft.now x a)) }
-    ensures none { result ≡ None → (first ≡ None) × ((x : ℕ) → IsTrue (has blocks.now x) → IsTrue (shown_joined base.now draft.now x a) → x ≡ a) }
+    ensures none { result ≡ None → (first ≡ None) × HasNoOther base.now draft.now blocks.now a }
 {
     let mut found = first;
     for i in 0..blocks.len() {
@@ -223,7 +222,7 @@ fn fill_own_children(
     a: u32,
     list: &mut Vec<u32>,
 ) -> Result<(), Memory>
-    ensures { OnOk result (IsTrue (shown_joined base.now draft.now a a) → (b : ℕ) → IsTrue (shown_joined base.now draft.now a b) → IsTrue (has list.new.items b)) }
+    ensures { OnOk result (ListsOwnChildren base.now draft.now a list.new.items) }
 {
     if draft.support(base, a, a) > 0 {
         return draft.fill_children(base, a, list);
@@ -242,10 +241,10 @@ fn fill_candidates(
     label: u32,
     list: &mut Vec<u32>,
 ) -> Result<(), Memory>
-    ensures children { OnOk result (IsTrue (shown_joined base.now draft.now a a) → (b : ℕ) → IsTrue (shown_joined base.now draft.now a b) → IsTrue (has list.new.items b)) }
+    ensures children { OnOk result (ListsOwnChildren base.now draft.now a list.new.items) }
     ensures noted { OnOk result ((b : ℕ) → IsNoted roots.now label b → IsTrue (has list.new.items b)) }
     ensures labels { OnOk result ((b : ℕ) → has list.new.items b ≡ false → at (shown_labels base.now draft.now) b ≡ at base.now.blocks.labels b) }
-    ensures supports { OnOk result ((x b : ℕ) → has list.new.items b ≡ false → shown_support base.now draft.now x b ≡ support_at base.now.supports x b) }
+    ensures supports { OnOk result (HasBaseSupports base.now draft.now list.new.items) }
 {
     fill_own_children(base, draft, a, list)?;
     roots.add_to(label, list)?;

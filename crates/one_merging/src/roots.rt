@@ -1,12 +1,12 @@
 // The blocks without other parents than themselves, by their labels.
-ghost use Rattle.std.specs.Prelude.{◌≡◌, ◌++◌, [], ℕ, Some, IsTrue, IsSome, IfOk, OnOk, true, nat_eq};
+ghost use Rattle.std.specs.Prelude.{◌≡◌, ◌++◌, [], ℕ, IsTrue, IsSome, IfOk, OnOk, true, nat_eq};
 ghost use Rattle.std.specs.List.{list_all};
 ghost use Rattle.px_spec.specs.Members.{at, has};
 ghost use Rattle.bisim_spec.specs.Views.{support_at};
 ghost use Rattle.quotient_draft.specs.Basis.{IsOver};
 ghost use Rattle.quotient_draft.specs.Drafts.{settled_view, shown_support};
 ghost use Rattle.quotient_draft.specs.Ends.{listed};
-ghost use Rattle.one_merging.specs.Roots.{IsNoted, IsRoot, CoversBase, CoversShown};
+ghost use Rattle.one_merging.specs.Roots.{IsNoted, IsRoot, CoversBase, CoversShown, NotesRoot, NotesRoots};
 
 use indexmap::IndexMap;
 use label_graph::Digraph;
@@ -37,7 +37,7 @@ impl Model for Roots {
 }
 
 impl Roots {
-    /// The roots of a base. Expected O(b) for b block numbers, where no two blocks can be merged: then a label has two of them at most,
+    /// The roots of a base. Expected O(b) for b blocks, where no two can be merged: then a label has two of them at most,
     /// one of which is its own parent. It takes O(l) memory for l labels with such blocks.
     pub fn of(alloc: Global, base: &Summary) -> Result<Roots, Memory>
         ensures covers { IfOk result (CoversBase base.now) }
@@ -90,8 +90,16 @@ impl Roots {
     fn note_base(&mut self, base: &Summary) -> Result<(), Memory>
         ensures covers { OnOk result (CoversBase base.now self.new) }
     {
-        for b in 0..base.size() {
-            self.note_one(base, b)?;
+        self.note_all(base, base.live())?;
+        Ok(())
+    }
+
+    // Notes those of these blocks of a base to which no other has support.
+    fn note_all(&mut self, base: &Summary, blocks: &[u32]) -> Result<(), Memory>
+        ensures { OnOk result (NotesRoots (at base.now.blocks.labels) (support_at base.now.supports) self.new blocks.now) }
+    {
+        for i in 0..blocks.len() {
+            self.note_one(base, blocks[i])?;
         }
         Ok(())
     }
@@ -99,7 +107,7 @@ impl Roots {
     // Notes a block of a base, where no other has support to it.
     fn note_one(&mut self, base: &Summary, b: u32) -> Result<(), Memory>
         ensures kept { (l c : ℕ) → IsNoted self.old l c → IsNoted self.new l c }
-        ensures noted { OnOk result ((label : ℕ) → at base.now.blocks.labels b ≡ Some label → IsRoot (support_at base.now.supports) b → IsNoted self.new label b) }
+        ensures noted { OnOk result (NotesRoot (at base.now.blocks.labels) (support_at base.now.supports) self.new b) }
     {
         if is_root(base, b) {
             return self.note(base.label(b), b);
@@ -111,7 +119,7 @@ impl Roots {
     fn note_roots(&mut self, base: &Summary, draft: &Draft, blocks: &[u32]) -> Result<(), Memory>
         requires over { IsOver base.now.blocks.block_of base.now.blocks.labels draft.now }
         ensures kept { (l c : ℕ) → IsNoted self.old l c → IsNoted self.new l c }
-        ensures noted { OnOk result ((b label : ℕ) → IsTrue (has blocks.now b) → at (settled_view base.now draft.now).labels b ≡ Some label → IsRoot (shown_support base.now draft.now) b → IsNoted self.new label b) }
+        ensures noted { OnOk result (NotesRoots (at (settled_view base.now draft.now).labels) (shown_support base.now draft.now) self.new blocks.now) }
     {
         for i in 0..blocks.len() {
             self.note_shown(base, draft, blocks[i])?;
@@ -123,7 +131,7 @@ impl Roots {
     fn note_shown(&mut self, base: &Summary, draft: &Draft, b: u32) -> Result<(), Memory>
         requires over { IsOver base.now.blocks.block_of base.now.blocks.labels draft.now }
         ensures kept { (l c : ℕ) → IsNoted self.old l c → IsNoted self.new l c }
-        ensures noted { OnOk result ((label : ℕ) → at (settled_view base.now draft.now).labels b ≡ Some label → IsRoot (shown_support base.now draft.now) b → IsNoted self.new label b) }
+        ensures noted { OnOk result (NotesRoot (at (settled_view base.now draft.now).labels) (shown_support base.now draft.now) self.new b) }
     {
         if !draft.is_block(base, b) {
             return Ok(());
@@ -198,8 +206,8 @@ fn is_root(base: &Summary, b: u32) -> bool
     ensures block { IsTrue result → IsSome (at base.now.blocks.labels b) }
     ensures all { IsSome (at base.now.blocks.labels b) → IsRoot (support_at base.now.supports) b → IsTrue result }
 {
-    // This says that only blocks have support.
-    let _ = base.blocks();
+    // Called for its contract: only blocks have support.
+    let _known = base.blocks();
     if !base.is_node(b) {
         return false;
     }

@@ -8,4 +8,4 @@ pub returns-clause-all : goal.returns-clause-all
 returns-clause-all c = λ some root.
     c.are_all.ensures
     ∙ all_own (λ a. support_at c.args.base.now.supports a c.args.b) c.args.b c.parents.result.now
-    (lists_as _ _ _ (λ a. ap (λ (s : Shape). s.edge a c.args.b) (c.blocks-2.ensures.shape [])) c.parents.ensures) root
+    (lists_as _ _ _ (λ a. ap (λ (s : Shape). s.edge a c.args.b) (c.blocks-known.ensures.shape [])) c.parents.ensures) root
