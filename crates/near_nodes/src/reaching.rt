@@ -27,8 +27,8 @@ pub fn reached_nodes<L: Ledger>(
     ensures reached { IfOk result (λ nodes. Lists (reach (shape_of (graph_after after.now)) (has targets.now)) nodes.items) }
     ensures cost { steps.new ≤ steps.old + weight (shape_of (graph_after after.now)) (reach (shape_of (graph_after after.now)) (has targets.now)) + 1 }
 {
-    // This says that there is a graph, so that what is reached is among its nodes.
-    let _ = after.created();
+    // Called for its contract: there is a graph, so that what is reached is among its nodes.
+    let _known = after.created();
     let mut met = IndexSet::new(alloc);
     meet(&mut met, targets)?;
     let mut from = 0;

@@ -53,8 +53,8 @@ fn read_children<L: Ledger>(
     ensures has { OnOk result ((c : ℕ) → has met.new.keys c ≡ (has met.old.keys c || has_edge (graph_after after.now) n c)) }
     ensures cost { steps.new ≤ steps.old + children_cost after.now n }
 {
-    // This says that there is a graph, so that the children are among its nodes.
-    let _ = after.created();
+    // Called for its contract: there is a graph, so that the children are among its nodes.
+    let _known = after.created();
     meet_all(met, after.children(n, steps))
 }
 

@@ -67,8 +67,8 @@ pub fn near_nodes<L: Ledger>(
     ensures none { k ≡ 0 → steps.new ≡ steps.old }
     ensures cost { steps.new ≤ steps.old + weight (shape_of (graph_after after.now)) (near (shape_of (graph_after after.now)) (has targets.now) k) + 1 }
 {
-    // This says that there is a graph, so that what is near is among its nodes.
-    let _ = after.created();
+    // Called for its contract: there is a graph, so that what is near is among its nodes.
+    let _known = after.created();
     let mut met = IndexSet::new(alloc);
     let mut ends = Vec::new(alloc);
     meet(&mut met, targets)?;

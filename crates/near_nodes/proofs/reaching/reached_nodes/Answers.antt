@@ -22,7 +22,7 @@ rounds-init g c = record {
 
 pub returns-in_err-spread-clause-cost : goal.returns-in_err-spread-clause-cost
 returns-in_err-spread-clause-cost g c =
-    let most = reaching_most c.args.after.now (has c.args.targets.now) c.rounds.from c.rounds.met.keys c.len.ensures.unique (is_shape (graph_after c.args.after.now) c.created.ensures.after)
+    let most = reaching_most c.args.after.now (has c.args.targets.now) c.rounds.from c.rounds.met.keys c.len.ensures.unique (is_shape (graph_after c.args.after.now) c.created-known.ensures.after)
     c.requires.given c.rounds.invariant.reaching in
     let so_far = c.rounds.invariant.cost in
     let cost = c.spread.ensures.cost in
@@ -31,7 +31,7 @@ returns-in_err-spread-clause-cost g c =
 pub rounds-smaller : goal.rounds-smaller
 rounds-smaller g c =
     let few = reaching_few (shape_of (graph_after c.args.after.now)) (has c.args.targets.now) c.rounds.from c.rounds.met.keys c.len.ensures.unique
-    (is_shape (graph_after c.args.after.now) c.created.ensures.after) c.requires.given c.rounds.invariant.reaching in
+    (is_shape (graph_after c.args.after.now) c.created-known.ensures.after) c.requires.given c.rounds.invariant.reaching in
     let below = c.rounds-test.true in
     let len = c.len.ensures.len in
     let end = c.len-end.ensures.len in
@@ -45,7 +45,7 @@ rounds-preserved g c =
     let end : c.len-end.result ≡ length keys = c.len-end.ensures.len in
     let spread : IsSpread s keys (length keys) keys2 = c.in_ok-spread.ensures.spread in
     let next : IsReaching s (has c.args.targets.now) (length keys) keys2 =
-    reaching_next s (has c.args.targets.now) c.rounds.from keys keys2 (is_shape (graph_after c.args.after.now) c.created.ensures.after) c.rounds.invariant.reaching spread in
+    reaching_next s (has c.args.targets.now) c.rounds.from keys keys2 (is_shape (graph_after c.args.after.now) c.created-known.ensures.after) c.rounds.invariant.reaching spread in
     let front = first_again keys keys2 c.len-end.result spread.front end in
     let same = ap (sum_by (children_cost c.args.after.now)) front in
     let so_far = c.rounds.invariant.cost in
@@ -57,7 +57,7 @@ rounds-preserved g c =
 
 pub returns-in_err-nodes-clause-cost : goal.returns-in_err-nodes-clause-cost
 returns-in_err-nodes-clause-cost g c =
-    let most = reaching_part c.args.after.now (has c.args.targets.now) c.rounds.from c.rounds.met.keys c.len.ensures.unique (is_shape (graph_after c.args.after.now) c.created.ensures.after)
+    let most = reaching_part c.args.after.now (has c.args.targets.now) c.rounds.from c.rounds.met.keys c.len.ensures.unique (is_shape (graph_after c.args.after.now) c.created-known.ensures.after)
     c.requires.given c.rounds.invariant.reaching in
     let so_far = c.rounds.invariant.cost in
     omega (arith, most, so_far)
@@ -74,7 +74,7 @@ returns-clause-reached g c =
 
 pub returns-clause-cost : goal.returns-clause-cost
 returns-clause-cost g c =
-    let most = reaching_part c.args.after.now (has c.args.targets.now) c.rounds.from c.rounds.met.keys c.len.ensures.unique (is_shape (graph_after c.args.after.now) c.created.ensures.after)
+    let most = reaching_part c.args.after.now (has c.args.targets.now) c.rounds.from c.rounds.met.keys c.len.ensures.unique (is_shape (graph_after c.args.after.now) c.created-known.ensures.after)
     c.requires.given c.rounds.invariant.reaching in
     let so_far = c.rounds.invariant.cost in
     omega (arith, most, so_far)

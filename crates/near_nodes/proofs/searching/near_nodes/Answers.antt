@@ -25,7 +25,7 @@ pub returns-in_err-spread-clause-cost : goal.returns-in_err-spread-clause-cost
 returns-in_err-spread-clause-cost g c =
     let below = c.loop-test.true in
     let most = search_most c.args.after.now c.args.targets.now c.loop.met.keys c.loop.ends.items c.loop.counter c.loop.from c.args.k
-    (is_shape (graph_after c.args.after.now) c.created.ensures.after) c.requires.given c.loop.invariant.searched (omega (arith, below)) in
+    (is_shape (graph_after c.args.after.now) c.created-known.ensures.after) c.requires.given c.loop.invariant.searched (omega (arith, below)) in
     let so_far = c.loop.invariant.cost in
     let cost = c.spread.ensures.cost in
     omega (arith, most, so_far, cost)
@@ -34,7 +34,7 @@ pub returns-in_err-push-2-clause-cost : goal.returns-in_err-push-2-clause-cost
 returns-in_err-push-2-clause-cost g c =
     let below = c.loop-test.true in
     let most = search_most c.args.after.now c.args.targets.now c.loop.met.keys c.loop.ends.items c.loop.counter c.loop.from c.args.k
-    (is_shape (graph_after c.args.after.now) c.created.ensures.after) c.requires.given c.loop.invariant.searched (omega (arith, below)) in
+    (is_shape (graph_after c.args.after.now) c.created-known.ensures.after) c.requires.given c.loop.invariant.searched (omega (arith, below)) in
     let so_far = c.loop.invariant.cost in
     let cost = c.spread.ensures.cost in
     omega (arith, most, so_far, cost)
@@ -48,7 +48,7 @@ loop-preserved g c =
     let spread : IsSpread s keys (length keys) keys2 = c.in_ok-spread.ensures.spread in
     let next : IsSearched s (has c.args.targets.now) (c.loop.counter + 1) (length keys) keys2 c.push-in-loop.new.self.items =
     searched_next s (has c.args.targets.now) c.loop.counter c.loop.from keys keys2 c.loop.ends.items c.push-in-loop.new.self.items
-    (is_shape (graph_after c.args.after.now) c.created.ensures.after) c.loop.invariant.searched spread c.len-in-loop.ensures.unique
+    (is_shape (graph_after c.args.after.now) c.created-known.ensures.after) c.loop.invariant.searched spread c.len-in-loop.ensures.unique
     (c.in_ok-push-2.ensures.items ∙ ap (λ m. c.loop.ends.items ++ m ∷ []) c.len-in-loop.ensures.len)
     in
     let front = first_again keys keys2 c.len-end.result spread.front end in
@@ -65,6 +65,6 @@ pub returns-clause-cost : goal.returns-clause-cost
 returns-clause-cost g c =
     let within = c.loop.auto.counter-end in
     let most = first_most c.args.after.now c.args.targets.now c.loop.met.keys c.loop.ends.items c.loop.counter c.loop.from c.args.k
-    (is_shape (graph_after c.args.after.now) c.created.ensures.after) c.requires.given c.loop.invariant.searched (omega (arith, within)) in
+    (is_shape (graph_after c.args.after.now) c.created-known.ensures.after) c.requires.given c.loop.invariant.searched (omega (arith, within)) in
     let so_far = c.loop.invariant.cost in
     omega (arith, most, so_far)
