@@ -1,4 +1,5 @@
 pub mod Parsed
 pub mod Seen
 pub mod Fronts
+pub mod Heads
 pub mod Written

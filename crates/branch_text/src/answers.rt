@@ -1,6 +1,6 @@
 // The answers of a branching query over a graph.
 ghost use Rattle.std.specs.Prelude.{◌≡◌, ◌<◌, ℕ, length, Some, IfOk};
-ghost use Rattle.px_spec.specs.Shapes.{shape_by};
+ghost use Rattle.path_search.specs.Digraphs.{shape_through};
 ghost use Rattle.branch_spec.specs.Answers.{AreBranchAnswers};
 
 use crate::branch::Branch;
@@ -19,7 +19,7 @@ pub fn eval<G: Digraph>(
 ) -> Result<Bits, Memory>
     requires labelled { (n l : ℕ) → G.label_at g.now n ≡ Some l → l < length labels.now.texts }
     ensures size { IfOk result (λ b. b.size ≡ G.span g.now) }
-    ensures answers { IfOk result (λ b. AreBranchAnswers (shape_by labels.now.texts (G.span g.now) (G.label_at g.now) (G.edge g.now)) query.now b.members) }
+    ensures answers { IfOk result (λ b. AreBranchAnswers (shape_through G.Digraph labels.now g.now) query.now b.members) }
 {
     branch_expr::eval(alloc, g, labels, query.tree())
 }

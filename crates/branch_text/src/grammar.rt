@@ -1,9 +1,10 @@
 // The grammar of branching queries, over tokens.
-ghost use Rattle.std.specs.Prelude.{◌≡◌, ◌<◌, ◌≤◌, ℕ, List, ◌∷◌, length, IfOk, IsErrOf};
+ghost use Rattle.std.specs.Prelude.{◌≡◌, ◌<◌, ◌≤◌, List, ◌∷◌, length, IfOk, IsErrOf};
 ghost use Rattle.branch_spec.specs.Trees as tree;
 ghost use Rattle.branch_spec.specs.Tokens as tokens;
-ghost use Rattle.branch_expr.specs.Views.{test_of, step_of, chain_of, cond_of, and_of};
+ghost use Rattle.branch_expr.specs.Views.{test_of, step_of, chain_of, rel_of, cond_of, and_of};
 ghost use Rattle.branch_text.specs.Seen.{seen};
+ghost use Rattle.branch_text.specs.Heads.{HasNoTest, HasNoPred, HasNoGroup, HasNoStep, HasNoChain, HasNoRel, HasNoUnit, HasNoCond, HasNoAnd, HasNoOr, EndsUnitBefore, EndsCondBefore};
 
 use crate::token::{
     Token, after_and, after_close, after_left, after_open, after_or, after_right, ends_cond,
@@ -48,7 +49,7 @@ impl From<Memory> for ReadError {
 fn read_test<'t>(alloc: Global, left: &'t [Token]) -> Result<(Test, &'t [Token]), ReadError>
     ensures ok { IfOk result (λ r. seen left.now ≡ tokens.test_onto (test_of r.0) (seen r.1.now)) }
     ensures shorter { IfOk result (λ r. length r.1.now < length left.now) }
-    ensures syntax { IsErrOf result ReadError.Syntax → (t : tree.Test) (r : List tokens.Token) → seen left.now ≡ tokens.test_onto t r → ⊥ }
+    ensures syntax { IsErrOf result ReadError.Syntax → HasNoTest (seen left.now) }
 {
     let Some((token, rest)) = first_token(left) else {
         return Err(ReadError::Syntax);
@@ -65,7 +66,7 @@ fn read_test<'t>(alloc: Global, left: &'t [Token]) -> Result<(Test, &'t [Token])
 fn read_pred<'t>(alloc: Global, left: &'t [Token]) -> Result<(Or, &'t [Token]), ReadError>
     ensures ok { IfOk result (λ r. seen left.now ≡ tokens.or_onto r.0 (tokens.right ∷ seen r.1.now)) }
     ensures shorter { IfOk result (λ r. length r.1.now < length left.now) }
-    ensures syntax { IsErrOf result ReadError.Syntax → (o : tree.Or) (r : List tokens.Token) → seen left.now ≡ tokens.or_onto o (tokens.right ∷ r) → ⊥ }
+    ensures syntax { IsErrOf result ReadError.Syntax → HasNoPred (seen left.now) }
 {
     let (or, inside) = read_or(alloc, left)?;
     let Some(after) = after_right(inside) else {
@@ -80,7 +81,7 @@ fn read_step<'t>(alloc: Global, left: &'t [Token]) -> Result<(Step, &'t [Token])
     ensures ok { IfOk result (λ r. seen left.now ≡ tokens.step_onto (step_of r.0) (seen r.1.now)) }
     ensures ends { IfOk result (λ r. tokens.EndsStep (seen r.1.now)) }
     ensures shorter { IfOk result (λ r. length r.1.now < length left.now) }
-    ensures syntax { IsErrOf result ReadError.Syntax → (s : tree.Step) (r : List tokens.Token) → tokens.EndsStep r → seen left.now ≡ tokens.step_onto s r → ⊥ }
+    ensures syntax { IsErrOf result ReadError.Syntax → HasNoStep (seen left.now) }
 {
     let (test, mut behind) = read_test(alloc, left)?;
     let mut preds = Vec::new(alloc);
@@ -103,7 +104,7 @@ fn read_hops<'t>(alloc: Global, left: &'t [Token]) -> Result<(Vec<Hop>, &'t [Tok
     ensures ok { IfOk result (λ r. seen left.now ≡ tokens.chain_onto (chain_of r.0.items) (seen r.1.now)) }
     ensures ends { IfOk result (λ r. tokens.EndsChain (seen r.1.now)) }
     ensures shorter { IfOk result (λ r. length r.1.now ≤ length left.now) }
-    ensures syntax { IsErrOf result ReadError.Syntax → (ch : tree.Chain) (r : List tokens.Token) → tokens.EndsChain r → seen left.now ≡ tokens.chain_onto ch r → ⊥ }
+    ensures syntax { IsErrOf result ReadError.Syntax → HasNoChain (seen left.now) }
 {
     let mut hops = Vec::new(alloc);
     let mut behind = left;
@@ -118,10 +119,10 @@ fn read_hops<'t>(alloc: Global, left: &'t [Token]) -> Result<(Vec<Hop>, &'t [Tok
 /// One or more steps at the front, each after its axis, and what follows them.
 #[cycle(read)]
 fn read_rel<'t>(alloc: Global, left: &'t [Token]) -> Result<(Rel, &'t [Token]), ReadError>
-    ensures ok { IfOk result (λ r. seen left.now ≡ tokens.chain_onto (chain_of (r.0.first ∷ r.0.rest.items)) (seen r.1.now)) }
+    ensures ok { IfOk result (λ r. seen left.now ≡ tokens.chain_onto (rel_of r.0) (seen r.1.now)) }
     ensures ends { IfOk result (λ r. tokens.EndsChain (seen r.1.now)) }
     ensures shorter { IfOk result (λ r. length r.1.now < length left.now) }
-    ensures syntax { IsErrOf result ReadError.Syntax → (a : tree.Axis) (s : tree.Step) (ch : tree.Chain) (r : List tokens.Token) → tokens.EndsChain r → seen left.now ≡ tokens.chain_onto (tree.go a s ch) r → ⊥ }
+    ensures syntax { IsErrOf result ReadError.Syntax → HasNoRel (seen left.now) }
 {
     let Some((axis, after)) = first_axis(left) else {
         return Err(ReadError::Syntax);
@@ -137,7 +138,7 @@ fn read_rel<'t>(alloc: Global, left: &'t [Token]) -> Result<(Rel, &'t [Token]), 
 fn read_group<'t>(alloc: Global, left: &'t [Token]) -> Result<(Or, &'t [Token]), ReadError>
     ensures ok { IfOk result (λ r. seen left.now ≡ tokens.opening ∷ tokens.or_onto r.0 (tokens.closing ∷ seen r.1.now)) }
     ensures shorter { IfOk result (λ r. length r.1.now < length left.now) }
-    ensures syntax { IsErrOf result ReadError.Syntax → (o : tree.Or) (r : List tokens.Token) → seen left.now ≡ tokens.opening ∷ tokens.or_onto o (tokens.closing ∷ r) → ⊥ }
+    ensures syntax { IsErrOf result ReadError.Syntax → HasNoGroup (seen left.now) }
 {
     let Some(start) = after_open(left) else {
         return Err(ReadError::Syntax);
@@ -154,8 +155,8 @@ fn read_group<'t>(alloc: Global, left: &'t [Token]) -> Result<(Or, &'t [Token]),
 fn read_not<'t>(alloc: Global, left: &'t [Token]) -> Result<(Cond, &'t [Token]), ReadError>
     ensures ok { IfOk result (λ r. tokens.not_word ∷ seen left.now ≡ tokens.cond_onto (cond_of r.0) (seen r.1.now)) }
     ensures shorter { IfOk result (λ r. length r.1.now < length left.now) }
-    ensures only { IfOk result (λ p. (c : tree.Cond) (r : List tokens.Token) → tokens.not_word ∷ seen left.now ≡ tokens.cond_onto c r → r ≡ seen p.1.now) }
-    ensures syntax { IsErrOf result ReadError.Syntax → (c : tree.Cond) (r : List tokens.Token) → tokens.not_word ∷ seen left.now ≡ tokens.cond_onto c r → ⊥ }
+    ensures only { IfOk result (λ p. EndsUnitBefore (tokens.not_word ∷ seen left.now) (seen p.1.now)) }
+    ensures syntax { IsErrOf result ReadError.Syntax → HasNoUnit (tokens.not_word ∷ seen left.now) }
 {
     let (or, after) = read_group(alloc, left)?;
     Ok((Cond::Not(Box::new(alloc, or)?), after))
@@ -167,8 +168,8 @@ fn read_parentheses<'t>(alloc: Global, left: &'t [Token]) -> Result<(Cond, &'t [
     requires { (q : List tokens.Token) × (seen left.now ≡ tokens.opening ∷ q) }
     ensures ok { IfOk result (λ r. seen left.now ≡ tokens.cond_onto (cond_of r.0) (seen r.1.now)) }
     ensures shorter { IfOk result (λ r. length r.1.now < length left.now) }
-    ensures only { IfOk result (λ p. (c : tree.Cond) (r : List tokens.Token) → seen left.now ≡ tokens.cond_onto c r → r ≡ seen p.1.now) }
-    ensures syntax { IsErrOf result ReadError.Syntax → (c : tree.Cond) (r : List tokens.Token) → seen left.now ≡ tokens.cond_onto c r → ⊥ }
+    ensures only { IfOk result (λ p. EndsUnitBefore (seen left.now) (seen p.1.now)) }
+    ensures syntax { IsErrOf result ReadError.Syntax → HasNoUnit (seen left.now) }
 {
     let (or, after) = read_group(alloc, left)?;
     Ok((Cond::Group(Box::new(alloc, or)?), after))
@@ -180,8 +181,8 @@ fn read_steps<'t>(alloc: Global, left: &'t [Token]) -> Result<(Cond, &'t [Token]
     requires { (a : tree.Axis) × (q : List tokens.Token) × (seen left.now ≡ tokens.axis a ∷ q) }
     ensures ok { IfOk result (λ r. seen left.now ≡ tokens.cond_onto (cond_of r.0) (seen r.1.now)) }
     ensures shorter { IfOk result (λ r. length r.1.now < length left.now) }
-    ensures only { IfOk result (λ p. (c : tree.Cond) (r : List tokens.Token) → tokens.EndsChain r → seen left.now ≡ tokens.cond_onto c r → r ≡ seen p.1.now) }
-    ensures syntax { IsErrOf result ReadError.Syntax → (c : tree.Cond) (r : List tokens.Token) → tokens.EndsChain r → seen left.now ≡ tokens.cond_onto c r → ⊥ }
+    ensures only { IfOk result (λ p. EndsCondBefore (seen left.now) (seen p.1.now)) }
+    ensures syntax { IsErrOf result ReadError.Syntax → HasNoCond (seen left.now) }
 {
     let (rel, after) = read_rel(alloc, left)?;
     Ok((Cond::Rel(rel), after))
@@ -192,8 +193,8 @@ fn read_steps<'t>(alloc: Global, left: &'t [Token]) -> Result<(Cond, &'t [Token]
 fn read_unit<'t>(alloc: Global, left: &'t [Token]) -> Result<(Cond, &'t [Token]), ReadError>
     ensures ok { IfOk result (λ r. seen left.now ≡ tokens.cond_onto (cond_of r.0) (seen r.1.now)) }
     ensures shorter { IfOk result (λ r. length r.1.now < length left.now) }
-    ensures only { IfOk result (λ p. (c : tree.Cond) (r : List tokens.Token) → tokens.EndsChain r → seen left.now ≡ tokens.cond_onto c r → r ≡ seen p.1.now) }
-    ensures syntax { IsErrOf result ReadError.Syntax → (c : tree.Cond) (r : List tokens.Token) → tokens.EndsChain r → seen left.now ≡ tokens.cond_onto c r → ⊥ }
+    ensures only { IfOk result (λ p. EndsCondBefore (seen left.now) (seen p.1.now)) }
+    ensures syntax { IsErrOf result ReadError.Syntax → HasNoCond (seen left.now) }
 {
     let Some((token, rest)) = first_token(left) else {
         return Err(ReadError::Syntax);
@@ -212,7 +213,7 @@ fn read_cond<'t>(alloc: Global, left: &'t [Token]) -> Result<(Cond, &'t [Token])
     ensures ok { IfOk result (λ r. seen left.now ≡ tokens.cond_onto (cond_of r.0) (seen r.1.now)) }
     ensures ends { IfOk result (λ r. tokens.EndsChain (seen r.1.now)) }
     ensures shorter { IfOk result (λ r. length r.1.now < length left.now) }
-    ensures syntax { IsErrOf result ReadError.Syntax → (c : tree.Cond) (r : List tokens.Token) → tokens.EndsChain r → seen left.now ≡ tokens.cond_onto c r → ⊥ }
+    ensures syntax { IsErrOf result ReadError.Syntax → HasNoCond (seen left.now) }
 {
     let (cond, behind) = read_unit(alloc, left)?;
     if ends_cond(behind) {
@@ -228,7 +229,7 @@ fn read_and<'t>(alloc: Global, left: &'t [Token]) -> Result<(And, &'t [Token]), 
     ensures ok { IfOk result (λ r. seen left.now ≡ tokens.and_onto (and_of r.0) (seen r.1.now)) }
     ensures ends { IfOk result (λ r. tokens.EndsAnd (seen r.1.now)) }
     ensures shorter { IfOk result (λ r. length r.1.now < length left.now) }
-    ensures syntax { IsErrOf result ReadError.Syntax → (a : tree.And) (r : List tokens.Token) → tokens.EndsAnd r → seen left.now ≡ tokens.and_onto a r → ⊥ }
+    ensures syntax { IsErrOf result ReadError.Syntax → HasNoAnd (seen left.now) }
 {
     let (first, mut behind) = read_cond(alloc, left)?;
     let mut more = Vec::new(alloc);
@@ -246,7 +247,7 @@ fn read_or<'t>(alloc: Global, left: &'t [Token]) -> Result<(Or, &'t [Token]), Re
     ensures ok { IfOk result (λ r. seen left.now ≡ tokens.or_onto r.0 (seen r.1.now)) }
     ensures ends { IfOk result (λ r. tokens.EndsOr (seen r.1.now)) }
     ensures shorter { IfOk result (λ r. length r.1.now < length left.now) }
-    ensures syntax { IsErrOf result ReadError.Syntax → (o : tree.Or) (r : List tokens.Token) → tokens.EndsOr r → seen left.now ≡ tokens.or_onto o r → ⊥ }
+    ensures syntax { IsErrOf result ReadError.Syntax → HasNoOr (seen left.now) }
 {
     let (first, mut behind) = read_and(alloc, left)?;
     let mut more = Vec::new(alloc);
