@@ -1,6 +1,6 @@
 // Queries of every language.
 ghost use Rattle.std.specs.Prelude.{◌≡◌, ◌<◌, ℕ, length, Some, IfOk};
-ghost use Rattle.px_spec.specs.Shapes.{shape_by};
+ghost use Rattle.path_search.specs.Digraphs.{shape_through};
 ghost use Rattle.branch_query.specs.Queries.{query_of, relaxed, AreQueryAnswers};
 
 use branch_text::Branch;
@@ -30,7 +30,7 @@ impl Query<'_> {
     pub fn answers<G: Digraph>(&self, alloc: Global, g: &G, labels: &Labels) -> Result<Bits, Memory>
         requires labelled { (n l : ℕ) → G.label_at g.now n ≡ Some l → l < length labels.now.texts }
         ensures size { IfOk result (λ b. b.size ≡ G.span g.now) }
-        ensures answers { IfOk result (λ b. AreQueryAnswers (shape_by labels.now.texts (G.span g.now) (G.label_at g.now) (G.edge g.now)) (query_of self.now) b.members) }
+        ensures answers { IfOk result (λ b. AreQueryAnswers (shape_through G.Digraph labels.now g.now) (query_of self.now) b.members) }
     {
         match *self {
             Query::Path(expr) => eval(alloc, g, labels, expr),
@@ -49,7 +49,7 @@ impl Query<'_> {
     ) -> Result<Bits, Memory>
         requires labelled { (n l : ℕ) → G.label_at g.now n ≡ Some l → l < length labels.now.texts }
         ensures size { IfOk result (λ b. b.size ≡ G.span g.now) }
-        ensures answers { IfOk result (λ b. AreQueryAnswers (shape_by labels.now.texts (G.span g.now) (G.label_at g.now) (G.edge g.now)) (relaxed (query_of self.now)) b.members) }
+        ensures answers { IfOk result (λ b. AreQueryAnswers (shape_through G.Digraph labels.now g.now) (relaxed (query_of self.now)) b.members) }
     {
         match *self {
             Query::Path(_) => self.answers(alloc, g, labels),
