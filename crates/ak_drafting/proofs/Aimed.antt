@@ -16,13 +16,9 @@ use Rattle.keyed_quotient.specs.Changes.{KeyedChanges}
 use Rattle.ak_family.specs.Families.{IsKeyedFamily}
 use Rattle.ak_moving.specs.MovedLevels.{HasMovedNear, AreKeyedNear}
 use Rattle.ak_drafting.specs.FamilyDrafts.{FamilyFits, most_steps}
-use Rattle.ak_drafting.specs.Stages.{AreMoved}
+use Rattle.ak_drafting.specs.Stages.{IsAimedAt, AreMoved}
 use Rattle.ak_drafting.proofs.Bases.{bases}
 use Rattle.ak_drafting.proofs.MovedDrafts.{HaveMoved}
-
--- the change has this target and no other
-pub record IsAimedAt (a : Pending) (v : ℕ) : Type 0 where
-  pub same : has (v ∷ []) ≡ target a.change a.before
 
 has_one : (v : ℕ) → has (v ∷ []) ≡ (λ n. nat_eq n v)
 has_one v = λ j n. or-false (nat_eq n v) j

@@ -1,18 +1,16 @@
 -- What is drafted for a change of the graph of an A(k)-family.
-use Rattle.std.specs.Prelude.{◌*◌, ◌<◌, ℕ, List, length}
+use Rattle.std.specs.Prelude.{◌<◌, ℕ, List, length}
 use Rattle.px_spec.specs.Graphs.{Graph}
 use Rattle.px_spec.specs.Changes.{Change, after}
-use Rattle.px_spec.specs.Shapes.{shape_of}
 use Rattle.bisim_spec.specs.Fits.{FitsLevel}
-use Rattle.bisim_spec.specs.Reach.{near}
 use Rattle.bisim_spec.specs.Targets.{target}
-use Rattle.bisim_spec.specs.Weights.{weight}
 use Rattle.quotient.specs.Quotients.{view_of}
 use Rattle.quotient_draft.specs.Drafts.{settled_view}
 use Rattle.keyed_quotient.specs.Levels.{KeyedQuotient}
 use Rattle.keyed_quotient.specs.Changes.{KeyedChanges}
 use Rattle.ak_family.specs.Families.{level_at}
 use Rattle.ak_family.specs.LevelDrafts.{changes_at}
+use Rattle.ak_moving.specs.Costs.{most_move_steps}
 
 -- each level is that of the graph
 abbrev pub FamilyFits : Graph → List KeyedQuotient → Type 0
@@ -24,4 +22,4 @@ ShownFit g f d = (i : ℕ) → i < length f → FitsLevel g i (settled_view (lev
 
 -- how many steps a change may take, where levels up to k are kept
 abbrev pub most_steps : Graph → Change → ℕ → ℕ
-most_steps g c k = 8 * k * weight (shape_of (after c g)) (near (shape_of (after c g)) (target c g) k)
+most_steps g c k = most_move_steps (after c g) (target c g) k

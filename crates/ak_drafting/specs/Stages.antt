@@ -3,7 +3,7 @@ use Rattle.std.specs.Prelude.{◌≡◌, ℕ, zero, suc, ◌+◌, ◌<◌, ◌�
 use Rattle.std.specs.FinSet as set
 use Rattle.px_spec.specs.Graphs.{IsGraph}
 use Rattle.px_spec.specs.Changes.{Change, node}
-use Rattle.px_spec.specs.Members.{at}
+use Rattle.px_spec.specs.Members.{at, has}
 use Rattle.bisim_spec.specs.Targets.{target}
 use Rattle.bisim_spec.specs.Views.{support_at}
 use Rattle.graph_update.specs.NewChanges.{IsNew}
@@ -26,6 +26,10 @@ pub record IsBefore (a : Pending) (f : List KeyedQuotient) : Type 0 where
   pub graph_after : IsGraph (graph_after a)
   pub few : set.len a.before.edges ≤ 2 ^ 30
 
+-- the change has this target and no other
+pub record IsAimedAt (a : Pending) (v : ℕ) : Type 0 where
+  pub same : has (v ∷ []) ≡ target a.change a.before
+
 -- each level shows the graph after the change, and nodes near the target are in the blocks of their keys
 pub record AreMoved (a : Pending) (f : List KeyedQuotient) (d : List KeyedChanges) : Type 0 where
   pub moving : HasMovedNear (target a.change a.before) (graph_after a) f d
@@ -35,6 +39,14 @@ pub record AreMoved (a : Pending) (f : List KeyedQuotient) (d : List KeyedChange
 pub record HasSameKeys (q : KeyedQuotient) (d : KeyedChanges) : Type 0 where
   pub labels : labels_as_shown q d ≡ q.quotient.blocks.labels
   pub keys : (b : ℕ) → shown_key q d b ≡ key_at q.keys b
+
+-- a block that has this key has this label
+abbrev pub KeyHasLabel : (ℕ → Option (List ℕ)) → List (Option ℕ) → List ℕ → ℕ → Type 0
+KeyHasLabel keys labels key label = (b : ℕ) → keys b ≡ Some key → at labels b ≡ Some label
+
+-- an edge leads from the block of u to that of v
+abbrev pub AreSupported : KeyedQuotient → ℕ → ℕ → Type 0
+AreSupported q u v = (x y : ℕ) → at q.quotient.blocks.block_of u ≡ Some x → at q.quotient.blocks.block_of v ≡ Some y → 0 < support_at q.quotient.supports x y
 
 -- One more edge leads from the block of u to that of v, and nothing else has changed.
 pub record IsLinked (u v : ℕ) (q : KeyedQuotient) (d : KeyedChanges) : Type 0 where

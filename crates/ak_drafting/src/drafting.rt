@@ -1,11 +1,14 @@
 // What a change makes of a family.
-ghost use Rattle.std.specs.Prelude.{◌≡◌, ◌+◌, ◌≤◌, ℕ, OnOk, length};
-ghost use Rattle.px_spec.specs.Changes.{after, link, unlink, drop};
+ghost use Rattle.std.specs.Prelude.{◌≡◌, ◌+◌, ◌<◌, ◌≤◌, ◌∷◌, [], ℕ, OnOk, length};
+ghost use Rattle.px_spec.specs.Changes.{after};
+ghost use Rattle.px_spec.specs.Members.{has};
 ghost use Rattle.graph_update.specs.NewChanges.{IsNew};
+ghost use Rattle.graph_update.specs.PendingChanges.{graph_after};
 ghost use Rattle.graph_update.specs.Verdicts.{change_of};
 ghost use Rattle.ak_family.specs.LevelDrafts.{AreOver, AreEmpty, ShowsFamily};
+ghost use Rattle.ak_moving.specs.MovedLevels.{HasMovedNear};
 ghost use Rattle.ak_drafting.specs.FamilyDrafts.{FamilyFits, ShownFit, most_steps};
-ghost use Rattle.ak_drafting.specs.Stages.{IsBefore, AreMoved, IsNodeChange};
+ghost use Rattle.ak_drafting.specs.Stages.{IsBefore, IsAimedAt, AreMoved};
 
 use crate::edges::{draft_link, draft_unlink};
 use crate::nodes::{draft_drop, draft_node};
@@ -17,46 +20,21 @@ use px_base::{Memory, NodeId, Steps};
 use std::alloc::Global;
 use std::sync::ledger::Ledger;
 
-// An edge comes.
-fn add_edge<L: Ledger>(
+// Moves the nodes near the end of an edge that comes or goes, once it is drafted at each level.
+fn move_near_end<L: Ledger>(
     alloc: Global,
     family: &AkFamily,
     draft: &mut AkDraft,
     after: &After<'_>,
-    u: NodeId,
     v: NodeId,
     steps: &mut Steps<L>,
 ) -> Result<(), Memory>
-    requires before { IsBefore after.now family.now }
-    requires over { AreOver family.now draft.old }
-    requires empty { AreEmpty draft.old }
-    requires links { after.now.change ≡ link u v }
+    requires given { v < length (graph_after after.now).given }
+    requires aimed { IsAimedAt after.now v }
+    requires moving { HasMovedNear (has (v ∷ [])) (graph_after after.now) family.now draft.old }
     ensures moved { OnOk result (AreMoved after.now family.now draft.new) }
     ensures cost { (k : ℕ) → length family.now ≡ k + 1 → steps.new ≤ steps.old + most_steps after.now.before after.now.change k }
 {
-    draft_link(family, draft, after, u, v)?;
-    move_near(alloc, family, draft, after, v, steps)?;
-    Ok(())
-}
-
-// An edge goes.
-fn drop_edge<L: Ledger>(
-    alloc: Global,
-    family: &AkFamily,
-    draft: &mut AkDraft,
-    after: &After<'_>,
-    u: NodeId,
-    v: NodeId,
-    steps: &mut Steps<L>,
-) -> Result<(), Memory>
-    requires before { IsBefore after.now family.now }
-    requires over { AreOver family.now draft.old }
-    requires empty { AreEmpty draft.old }
-    requires unlinks { after.now.change ≡ unlink u v }
-    ensures moved { OnOk result (AreMoved after.now family.now draft.new) }
-    ensures cost { (k : ℕ) → length family.now ≡ k + 1 → steps.new ≤ steps.old + most_steps after.now.before after.now.change k }
-{
-    draft_unlink(family, draft, after, u, v)?;
     move_near(alloc, family, draft, after, v, steps)?;
     Ok(())
 }
@@ -79,8 +57,14 @@ fn draft_pending<L: Ledger>(
 {
     match change {
         Change::Node(_) => draft_node(family, draft, after),
-        Change::Link(u, v) => add_edge(alloc, family, draft, after, *u, *v, steps),
-        Change::Unlink(u, v) => drop_edge(alloc, family, draft, after, *u, *v, steps),
+        Change::Link(u, v) => {
+            draft_link(family, draft, after, *u, *v)?;
+            move_near_end(alloc, family, draft, after, *v, steps)
+        }
+        Change::Unlink(u, v) => {
+            draft_unlink(family, draft, after, *u, *v)?;
+            move_near_end(alloc, family, draft, after, *v, steps)
+        }
         Change::Drop(u) => draft_drop(family, draft, after, *u),
     }
 }
@@ -108,8 +92,8 @@ pub fn draft_change<L: Ledger>(
     ensures cost { (k : ℕ) → length family.now ≡ k + 1 → steps.new ≤ steps.old + most_steps graph.now.graph (change_of change.now) k }
 {
     // Called for their contracts: edges are few, and the keys are as the levels say.
-    let _edges = graph.edge_count();
-    let _k = family.k();
+    let _known = graph.edge_count();
+    let _known = family.k();
     let after = After::new(graph, change);
     draft_pending(alloc, family, draft, &after, change, steps)?;
     Ok(())

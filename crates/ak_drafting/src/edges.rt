@@ -8,7 +8,7 @@ ghost use Rattle.keyed_quotient.specs.Changes.{no_keyed_changes};
 ghost use Rattle.ak_family.specs.Families.{level_at, blocks_at};
 ghost use Rattle.ak_family.specs.LevelDrafts.{changes_at, blocks_shown, labels_shown, AreOver, AreSameBut, AreEmpty};
 ghost use Rattle.ak_moving.specs.MovedLevels.{HasMovedNear};
-ghost use Rattle.ak_drafting.specs.Stages.{IsBefore, IsLinked, IsUnlinked};
+ghost use Rattle.ak_drafting.specs.Stages.{IsBefore, IsAimedAt, AreSupported, IsLinked, IsUnlinked};
 
 use ak_family::{AkDraft, AkFamily};
 use graph_update::After;
@@ -62,7 +62,7 @@ fn unlink_level(
     requires none { changes_at draft.old i ≡ no_keyed_changes }
     requires from { IsSome (at (blocks_at family.now i) u) }
     requires onto { IsSome (at (blocks_at family.now i) v) }
-    requires some { (x y : ℕ) → at (blocks_at family.now i) u ≡ Some x → at (blocks_at family.now i) v ≡ Some y → 0 < support_at (level_at family.now i).quotient.supports x y }
+    requires some { AreSupported (level_at family.now i) u v }
     ensures unlinked { OnOk result (IsUnlinked u v (level_at family.now i) (changes_at draft.new i)) }
     ensures others { AreSameBut i draft.old draft.new }
     ensures over { AreOver family.now draft.new }
@@ -86,6 +86,7 @@ pub(crate) fn draft_link(
     requires empty { AreEmpty draft.old }
     requires links { after.now.change ≡ link u v }
     ensures given { v < length (graph_after after.now).given }
+    ensures aimed { IsAimedAt after.now v }
     ensures moving { OnOk result (HasMovedNear (has (v ∷ [])) (graph_after after.now) family.now draft.new) }
 {
     'links: for i in 0..family.k() + 1 {
@@ -107,6 +108,7 @@ pub(crate) fn draft_unlink(
     requires empty { AreEmpty draft.old }
     requires unlinks { after.now.change ≡ unlink u v }
     ensures given { v < length (graph_after after.now).given }
+    ensures aimed { IsAimedAt after.now v }
     ensures moving { OnOk result (HasMovedNear (has (v ∷ [])) (graph_after after.now) family.now draft.new) }
 {
     'unlinks: for i in 0..family.k() + 1 {

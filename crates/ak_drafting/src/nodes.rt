@@ -6,8 +6,8 @@ ghost use Rattle.bisim_spec.specs.Views.{support_at};
 ghost use Rattle.keyed_quotient.specs.Levels.{key_at};
 ghost use Rattle.keyed_quotient.specs.Changes.{no_keyed_changes};
 ghost use Rattle.ak_family.specs.Families.{level_at};
-ghost use Rattle.ak_family.specs.LevelDrafts.{changes_at, blocks_shown, labels_shown, support_shown, key_shown, AreOver, AreSameBut, AreEmpty, HasBlock};
-ghost use Rattle.ak_drafting.specs.Stages.{IsBefore, AreMoved, IsGone, IsJoined, IsNodeChange};
+ghost use Rattle.ak_family.specs.LevelDrafts.{changes_at, blocks_shown, labels_shown, support_shown, key_shown, AreOver, AreSameBut, AreEmpty, ShowsBlock};
+ghost use Rattle.ak_drafting.specs.Stages.{IsBefore, KeyHasLabel, AreMoved, IsGone, IsJoined, IsNodeChange};
 
 use ak_family::{AkDraft, AkFamily};
 use graph_update::After;
@@ -23,8 +23,8 @@ fn lone_block(
 ) -> Result<u32, Memory>
     requires over { AreOver family.now draft.old }
     requires level { i < length family.now }
-    requires labelled { (b : ℕ) → key_shown family.now draft.old i b ≡ Some (number ∷ []) → at (labels_shown family.now draft.old i) b ≡ Some label }
-    ensures block { IfOk result (λ b. HasBlock label (number ∷ []) b (labels_shown family.now draft.old i) (labels_shown family.now draft.new i) (key_shown family.now draft.old i) (key_shown family.now draft.new i)) }
+    requires labelled { KeyHasLabel (key_shown family.now draft.old i) (labels_shown family.now draft.old i) (number ∷ []) label }
+    ensures block { IfOk result (λ b. ShowsBlock family.now i draft.old draft.new label (number ∷ []) b) }
     ensures label { IfOk result (λ b. at (labels_shown family.now draft.new i) b ≡ Some label) }
     ensures blocks { blocks_shown family.now draft.new i ≡ blocks_shown family.now draft.old i }
     ensures supports { (x y : ℕ) → support_shown family.now draft.new i x y ≡ support_shown family.now draft.old i x y }
@@ -49,7 +49,7 @@ fn join_level(
     requires level { i < length family.now }
     requires small { n < 2 ^ 31 }
     requires none { changes_at draft.old i ≡ no_keyed_changes }
-    requires labelled { (b : ℕ) → key_at (level_at family.now i).keys b ≡ Some (number ∷ []) → at (level_at family.now i).quotient.blocks.labels b ≡ Some label }
+    requires labelled { KeyHasLabel (key_at (level_at family.now i).keys) (level_at family.now i).quotient.blocks.labels (number ∷ []) label }
     ensures joined { OnOk result (IsJoined n label (Some number) (level_at family.now i) (changes_at draft.new i)) }
     ensures there { IfOk result (λ b. at (blocks_shown family.now draft.new i) n ≡ Some b) }
     ensures others { AreSameBut i draft.old draft.new }
@@ -109,7 +109,7 @@ pub(crate) fn draft_drop(
     ensures moved { OnOk result (AreMoved after.now family.now draft.new) }
 {
     // Called for its contract: numbers are small.
-    let _created = after.created();
+    let _known = after.created();
     'leaves: for i in 0..family.k() + 1 {
         leave_level(family, draft, i, u)?;
     }

@@ -17,22 +17,22 @@ returns-in_err-draft_pending-clause-cost g c =
 
 pub returns-clause-shows : goal.returns-clause-shows
 returns-clause-shows g c =
-    let count = c.k-k.ensures.count in
+    let count = c.k-known.ensures.count in
     let graph = c.args.graph.now.graph in
     let change = change_of c.args.change.now in
     shows_family (target change graph) graph (after change graph) c.args.family.now c.draft_pending.new.draft
-    (have_moved graph change c.args.family.now c.draft_pending.new.draft c.edge_count-edges.ensures.graph
-    (subst (λ (a : Pending). IsGraph (graph_after a)) c.new-after.ensures.pending c.new-after.ensures.after) c.requires.fits c.k-k.ensures.keyed (omega (arith, count))
+    (have_moved graph change c.args.family.now c.draft_pending.new.draft c.edge_count-known.ensures.graph
+    (subst (λ (a : Pending). IsGraph (graph_after a)) c.new-after.ensures.pending c.new-after.ensures.after) c.requires.fits c.k-known.ensures.keyed (omega (arith, count))
     (subst (λ (a : Pending). AreMoved a c.args.family.now c.draft_pending.new.draft) c.new-after.ensures.pending c.in_ok-draft_pending.ensures.moved))
 
 pub returns-clause-fits : goal.returns-clause-fits
 returns-clause-fits g c =
-    let count = c.k-k.ensures.count in
+    let count = c.k-known.ensures.count in
     let graph = c.args.graph.now.graph in
     let change = change_of c.args.change.now in
     shown_fit (target change graph) graph (after change graph) c.args.family.now c.draft_pending.new.draft
-    (have_moved graph change c.args.family.now c.draft_pending.new.draft c.edge_count-edges.ensures.graph
-    (subst (λ (a : Pending). IsGraph (graph_after a)) c.new-after.ensures.pending c.new-after.ensures.after) c.requires.fits c.k-k.ensures.keyed (omega (arith, count))
+    (have_moved graph change c.args.family.now c.draft_pending.new.draft c.edge_count-known.ensures.graph
+    (subst (λ (a : Pending). IsGraph (graph_after a)) c.new-after.ensures.pending c.new-after.ensures.after) c.requires.fits c.k-known.ensures.keyed (omega (arith, count))
     (subst (λ (a : Pending). AreMoved a c.args.family.now c.draft_pending.new.draft) c.new-after.ensures.pending c.in_ok-draft_pending.ensures.moved))
 
 pub returns-clause-cost : goal.returns-clause-cost

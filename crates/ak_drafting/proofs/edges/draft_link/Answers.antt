@@ -1,5 +1,6 @@
 use Rattle.std.proofs.Common.{arith}
 use Rattle.ak_drafting.specs.Stages.{IsLinked}
+use Rattle.ak_drafting.proofs.Aimed.{link_aimed}
 use Rattle.ak_drafting.proofs.Below.{done_next, done_all}
 use Rattle.ak_drafting.proofs.LinkedLevels.{support_few, link_given, link_moving}
 use Rattle.ak_drafting.proofs.edges.draft_link.Goals as goal
@@ -19,6 +20,12 @@ returns-in_err-link_level-clause-given c = link_given c.args.after.now c.args.fa
 
 pub returns-clause-given : goal.returns-clause-given
 returns-clause-given c = link_given c.args.after.now c.args.family.now c.args.u c.args.v c.requires.before c.requires.links
+
+pub returns-in_err-link_level-clause-aimed : goal.returns-in_err-link_level-clause-aimed
+returns-in_err-link_level-clause-aimed c = link_aimed c.args.after.now c.args.u c.args.v c.requires.links
+
+pub returns-clause-aimed : goal.returns-clause-aimed
+returns-clause-aimed c = link_aimed c.args.after.now c.args.u c.args.v c.requires.links
 
 pub returns-clause-moving : goal.returns-clause-moving
 returns-clause-moving c =

@@ -1,5 +1,6 @@
 use Rattle.std.proofs.Common.{arith}
 use Rattle.ak_drafting.specs.Stages.{IsUnlinked}
+use Rattle.ak_drafting.proofs.Aimed.{unlink_aimed}
 use Rattle.ak_drafting.proofs.Below.{done_next, done_all}
 use Rattle.ak_drafting.proofs.LinkedLevels.{support_some, unlink_given, unlink_moving}
 use Rattle.ak_drafting.proofs.edges.draft_unlink.Goals as goal
@@ -19,6 +20,12 @@ returns-in_err-unlink_level-clause-given c = unlink_given c.args.after.now c.arg
 
 pub returns-clause-given : goal.returns-clause-given
 returns-clause-given c = unlink_given c.args.after.now c.args.family.now c.args.u c.args.v c.requires.before c.requires.unlinks
+
+pub returns-in_err-unlink_level-clause-aimed : goal.returns-in_err-unlink_level-clause-aimed
+returns-in_err-unlink_level-clause-aimed c = unlink_aimed c.args.after.now c.args.u c.args.v c.requires.unlinks
+
+pub returns-clause-aimed : goal.returns-clause-aimed
+returns-clause-aimed c = unlink_aimed c.args.after.now c.args.u c.args.v c.requires.unlinks
 
 pub returns-clause-moving : goal.returns-clause-moving
 returns-clause-moving c =
