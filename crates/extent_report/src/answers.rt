@@ -44,8 +44,8 @@ fn push_others(out: &mut String, nodes: &Bits, first: NodeId) -> Result<(), Memo
     requires { first < nodes.now.size }
     ensures { OnOk result (string_bytes out.new ≡ string_bytes out.old ++ others_text (members_from nodes.now.members (first + 1))) }
 {
-    // The members rise below the size, which this call says.
-    let _size = nodes.size();
+    // Called for its contract: the members rise below the size.
+    let _known = nodes.size();
     let mut from = first + 1;
     while let Some(node) = nodes.next_from(from) {
         push_node(out, node)?;
@@ -58,8 +58,8 @@ fn push_others(out: &mut String, nodes: &Bits, first: NodeId) -> Result<(), Memo
 fn push_nodes(out: &mut String, nodes: &Bits) -> Result<(), Memory>
     ensures { OnOk result (string_bytes out.new ≡ string_bytes out.old ++ nodes_line nodes.now.members) }
 {
-    // The members rise below the size, which this call says.
-    let _size = nodes.size();
+    // Called for its contract: the members rise below the size.
+    let _known = nodes.size();
     match nodes.next_from(0) {
         Some(first) => {
             push_number(out, "n", u64::from(first))?;

@@ -13,4 +13,4 @@ returns-in_ok-end_line-in-Some c =
     let same : c.from.result ≡ first = search rules in
     let others = others_text (members_from members (first + 1)) in
     c.in_ok-end_line-in-Some.ensures ∙ ap (λ o. o ++ 10 ∷ []) (c.in_ok-push_others-in-Some.ensures ∙ ap (λ o. o ++ others) (c.in_ok-push_number-in-Some.ensures ∙ ap (λ n. out ++ node_word n) same) ∙ append_assoc out (node_word first) others)
-    ∙ append_assoc out (node_word first ++ others) (10 ∷ []) ∙ ap (λ l. out ++ l) (sym (line_by_first members c.size-size.ensures.rising first c.in-Some.ensures.head))
+    ∙ append_assoc out (node_word first ++ others) (10 ∷ []) ∙ ap (λ l. out ++ l) (sym (line_by_first members c.size-known.ensures.rising first c.in-Some.ensures.head))

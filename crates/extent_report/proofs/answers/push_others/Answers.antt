@@ -10,10 +10,10 @@ loop-node-preserved c =
     let members = c.args.nodes.now.members in
     let node = c.in-Some.node in
     let out = string_bytes c.loop-node.out in
-    let below : node < c.args.nodes.now.size = c.size-size.ensures.below node c.in-Some.ensures.next.member in
+    let below : node < c.args.nodes.now.size = c.size-known.ensures.below node c.in-Some.ensures.next.member in
     record {
       text = ap (λ o. o ++ others_text (members_from members (node + 1))) c.in_ok-push_node.ensures ∙ append_assoc out (32 ∷ node_word node) _
-          ∙ ap (λ t. out ++ t) (sym (others_step members c.size-size.ensures.rising c.loop-node.from node c.in-Some.ensures.head)) ∙ c.loop-node.invariant.text;
+          ∙ ap (λ t. out ++ t) (sym (others_step members c.size-known.ensures.rising c.loop-node.from node c.in-Some.ensures.head)) ∙ c.loop-node.invariant.text;
       within = omega arith;
     }
 
