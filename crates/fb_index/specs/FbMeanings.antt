@@ -4,6 +4,7 @@ use Rattle.bisim_spec.specs.declared.kind.Kind.TheVariants.{Fb}
 use Rattle.bisim_spec.specs.Views.{View}
 use Rattle.quotient.specs.Quotients.{Quotient, view_of}
 use Rattle.index_api.specs.Meanings.{Meaning}
+use Rattle.fb_index.specs.declared.index.FbIndex.{FbIndex}
 
 -- its one view, none where it isn't computed
 abbrev pub views_of : Option Quotient → List (Option View)
@@ -16,3 +17,7 @@ staged_of true = Some (None ∷ [])
 
 abbrev pub meaning_of : Option Quotient → Bool → Meaning
 meaning_of summary is_staged = record { kind = Fb; views = views_of summary; staged = staged_of is_staged }
+
+-- the same of the index itself
+abbrev pub fb_meaning : FbIndex → Meaning
+fb_meaning index = meaning_of index.summary index.is_staged

@@ -3,7 +3,7 @@ ghost use Rattle.std.specs.Prelude.{◌≡◌, ◌≤◌, IfOk, OnOk, OnErr, IsS
 ghost use Rattle.graph_update.specs.NewChanges.{IsNew};
 ghost use Rattle.graph_update.specs.Verdicts.{change_of};
 ghost use Rattle.index_api.specs.Meanings.{IsReady, IsBuilt, IsPrepared};
-ghost use Rattle.fb_index.specs.FbMeanings.{meaning_of};
+ghost use Rattle.fb_index.specs.FbMeanings.{fb_meaning, meaning_of};
 
 use crate::building::summary_of_view;
 use graph_update::Change;
@@ -45,7 +45,7 @@ impl Drop for FbIndex {
 impl FbIndex {
     /// An index without a view. O(1); it takes no memory until it is built.
     pub fn new(alloc: Global) -> Result<FbIndex, Memory>
-        ensures { IfOk result (λ index. meaning_of index.summary index.is_staged ≡ meaning_of None false) }
+        ensures { IfOk result (λ index. fb_meaning index ≡ meaning_of None false) }
     {
         Ok(FbIndex {
             alloc,
@@ -67,8 +67,8 @@ impl PathIndex for FbIndex {
     // The view is computed.
     fn build(&mut self, view: &GraphView<'_>, _k: u32) -> Result<(), Memory>
         requires few { _k ≤ 8 }
-        ensures built { OnOk result (IsBuilt (meaning_of self.old.summary self.old.is_staged) (meaning_of self.new.summary self.new.is_staged) view.now _k) }
-        ensures err { OnErr result (meaning_of self.new.summary self.new.is_staged ≡ meaning_of self.old.summary self.old.is_staged) }
+        ensures built { OnOk result (IsBuilt (fb_meaning self.old) (fb_meaning self.new) view.now _k) }
+        ensures err { OnErr result (fb_meaning self.new ≡ fb_meaning self.old) }
         ensures computed { OnOk result (IsSome self.new.summary) }
     {
         let summary = summary_of_view(self.alloc, view)?;
@@ -79,10 +79,10 @@ impl PathIndex for FbIndex {
 
     // A view is staged that isn't computed. It takes no memory.
     fn prepare(&mut self, _graph: &Graph, _change: &Change) -> Result<(), Memory>
-        requires ready { IsReady (meaning_of self.old.summary self.old.is_staged) _graph.now.graph }
+        requires ready { IsReady (fb_meaning self.old) _graph.now.graph }
         requires new { IsNew (change_of _change.now) _graph.now.graph }
-        ensures staged { OnOk result (IsPrepared (meaning_of self.old.summary self.old.is_staged) (meaning_of self.new.summary self.new.is_staged) (change_of _change.now) _graph.now.graph) }
-        ensures err { OnErr result (meaning_of self.new.summary self.new.is_staged ≡ meaning_of self.old.summary self.old.is_staged) }
+        ensures staged { OnOk result (IsPrepared (fb_meaning self.old) (fb_meaning self.new) (change_of _change.now) _graph.now.graph) }
+        ensures err { OnErr result (fb_meaning self.new ≡ fb_meaning self.old) }
         ensures bare { (self.new.is_staged ≡ true) × (self.new.summary ≡ self.old.summary) }
         ensures fine { result ≡ Ok tt }
     {
