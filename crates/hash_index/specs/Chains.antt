@@ -1,9 +1,9 @@
 -- Chains of the items whose hashes fall into one bucket. A link or a head is one more than a number, or 0 where there is
 -- none.
-use Rattle.std.specs.Prelude.{◌≡◌, ℕ, ◌-◌, ◌^◌, ◌<◌, ◌≤◌, List, length, slice_index_or, bit_and}
+use Rattle.std.specs.Prelude.{◌≡◌, ℕ, ◌-◌, ◌^◌, ◌<◌, ◌≤◌, List, Option, length, slice_index_or, bit_and}
 use Rattle.hash_index.specs.declared.slots.Slot.{Slot}
 use Rattle.hash_index.specs.Slots.{hashes_of, links_of}
-use Rattle.hash_index.specs.Items.{hash_at}
+use Rattle.hash_index.specs.Items.{hash_at, IsNewest}
 
 abbrev pub head_at : List ℕ → ℕ → ℕ
 head_at heads b = slice_index_or heads b 0
@@ -40,3 +40,8 @@ pub record IsWalk (hashes heads : List ℕ) (hash m at : ℕ) : Type 0 where
   pub below : at ≤ m
   pub chain : 0 < at → bucket_of heads (hash_at hashes (at - 1)) ≡ bucket_of heads hash
   pub rest : (j : ℕ) → j < m → hash_at hashes j ≡ hash → j < at
+
+-- what is found is the newest item with the hash below m, wherever a walk through the numbers below m has come to this link
+abbrev pub FindsNewest : {X : Type 0} → List (Slot X) → ℕ → ℕ → Option ℕ → Type 0
+FindsNewest slots hash from found =
+    (heads : List ℕ) (m : ℕ) → AreChains (length slots) (hashes_of slots) (links_of slots) heads → m ≤ length slots → IsWalk (hashes_of slots) heads hash m from → IsNewest (hashes_of slots) hash m found

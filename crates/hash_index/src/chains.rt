@@ -1,8 +1,8 @@
 // Chains of the items whose hashes fall into one bucket.
-ghost use Rattle.std.specs.Prelude.{◌≡◌, ℕ, ◌+◌, ◌^◌, ◌<◌, ◌≤◌, List, length, slice_set, IfSome};
-ghost use Rattle.hash_index.specs.Items.{hash_at, IsNewest};
+ghost use Rattle.std.specs.Prelude.{◌≡◌, ℕ, ◌+◌, ◌^◌, ◌<◌, ◌≤◌, length, slice_set, IfSome};
+ghost use Rattle.hash_index.specs.Items.{hash_at};
 ghost use Rattle.hash_index.specs.Slots.{hashes_of, links_of, items_of};
-ghost use Rattle.hash_index.specs.Chains.{head_at, link_at, bucket_of, AreChains, IsWalk};
+ghost use Rattle.hash_index.specs.Chains.{head_at, link_at, bucket_of, AreChains, FindsNewest};
 
 use crate::slots::{Slot, read_hash, read_link, set_link};
 use px_base::Memory;
@@ -39,7 +39,7 @@ pub(crate) fn along<T>(slots: &[Slot<T>], from: u32, hash: u32) -> Option<u32>
     requires within { from ≤ length slots.now }
     requires falls { (i : ℕ) → i < length slots.now → link_at (links_of slots.now) i ≤ i }
     ensures within { IfSome result (λ i. i < length slots.now) }
-    ensures newest { (heads : List ℕ) (m : ℕ) → AreChains (length slots.now) (hashes_of slots.now) (links_of slots.now) heads → m ≤ length slots.now → IsWalk (hashes_of slots.now) heads hash m from → IsNewest (hashes_of slots.now) hash m result }
+    ensures newest { FindsNewest slots.now hash from result }
 {
     let mut at = from;
     while at > 0 {
