@@ -1,15 +1,14 @@
 // Carrying out the lines of a script.
-ghost use Rattle.std.specs.Prelude.{◌≡◌, ◌≢◌, ◌<◌, ◌↔◌, ◌++◌, map, Err, IfOk, OnOk, OnErr, false, true, if◌then◌else◌};
+ghost use Rattle.std.specs.Prelude.{◌≡◌, ◌≢◌, ◌<◌, ◌++◌, IfOk, OnOk, OnErr, false, true, if◌then◌else◌};
 ghost use Rattle.graph_update.specs.Verdicts.{change_of};
 ghost use Rattle.index_api.specs.declared.kinds.Via.TheVariants.{Data};
 ghost use Rattle.branch_query.specs.Queries.{query_of};
 ghost use Rattle.script_read.specs.Commands.{change as changing, extents as listing, sizes as measuring, forget as forgetting};
 ghost use Rattle.script_read.specs.ReadLines.{command_of};
-ghost use Rattle.pathindex_core.specs.Engines.{engine_seen};
-ghost use Rattle.pathindex_core.specs.QueryAnswers.{IsAnswered, IsUnkept};
+ghost use Rattle.pathindex_core.specs.Engines.{seen};
 ghost use Rattle.script_run.specs.Rules.{rules_for, if_whole};
 ghost use Rattle.script_run.specs.Texts.{applied_line, ok_line, refused_line};
-ghost use Rattle.script_run.specs.EngineStates.{state_in, IsAsked, IsOpen};
+ghost use Rattle.script_run.specs.EngineStates.{state_of, IsOpen};
 ghost use Rattle.script_run.specs.RunSteps.{query_command, Obeyed, LineComes};
 
 use crate::output::{push_line, push_number};
@@ -17,7 +16,7 @@ use crate::printing::Printing;
 use branch_query::Query;
 use extent_report::answer_text;
 use graph_update::{Applied, Change};
-use index_api::{Answer, Kind, Via};
+use index_api::{Kind, PathIndex, Via};
 use pathindex_core::{AskError, Engine, UpdateError};
 use px_base::{Limits, Memory, Refusal, Steps};
 use script_read::{Command, ScriptError, read};
@@ -80,16 +79,17 @@ fn push_ok(out: &mut Vec<u8>, printing: Printing) -> Result<(), Memory>
 }
 
 /// Makes a change where it is accepted, and gathers what that prints. Answers whether it was refused.
-fn change(
+fn change<B: PathIndex>(
     alloc: Global,
-    engine: &mut Engine,
+    engine: &mut Engine<B>,
     change: Change,
     printing: Printing,
     out: &mut Vec<u8>,
 ) -> Result<bool, Memory>
-    requires ready { IsOpen (engine_seen (map (λ b. meaning (b.vtable, b.value)) engine.old.boxes.items) engine.old.state) }
-    ensures ready { IsOpen (engine_seen (map (λ b. meaning (b.vtable, b.value)) engine.new.boxes.items) engine.new.state) }
-    ensures ok { IfOk result (λ refuses. Obeyed (rules_for printing) (state_in (engine_seen (map (λ b. meaning (b.vtable, b.value)) engine.old.boxes.items) engine.old.state)) (changing (change_of change)) out.old.items refuses (state_in (engine_seen (map (λ b. meaning (b.vtable, b.value)) engine.new.boxes.items) engine.new.state)) out.new.items) }
+    requires ready { IsOpen (seen B.meaning engine.old) }
+    ensures ready { IsOpen (seen B.meaning engine.new) }
+    ensures ok { IfOk result (λ refuses. Obeyed (rules_for printing) (state_of B.meaning engine.old) (changing (change_of change)) out.old.items refuses
+        (state_of B.meaning engine.new) out.new.items) }
     ensures err { OnErr result (out.new.items ≡ out.old.items) }
 {
     match engine.update(alloc, change) {
@@ -102,41 +102,24 @@ fn change(
     }
 }
 
-/// What the engine answers to a query of any language.
-fn answer_of<L: Ledger>(
-    alloc: Global,
-    engine: &mut Engine,
-    via: Via,
-    query: &Query<'_>,
-    steps: &mut Steps<L>,
-) -> Result<Answer, AskError>
-    requires ready { IsOpen (engine_seen (map (λ b. meaning (b.vtable, b.value)) engine.old.boxes.items) engine.old.state) }
-    ensures asked { IsAsked (engine_seen (map (λ b. meaning (b.vtable, b.value)) engine.old.boxes.items) engine.old.state) (engine_seen (map (λ b. meaning (b.vtable, b.value)) engine.new.boxes.items) engine.new.state) }
-    ensures answered { IfOk result (λ answer. IsAnswered (state_in (engine_seen (map (λ b. meaning (b.vtable, b.value)) engine.old.boxes.items) engine.old.state)).graph (state_in (engine_seen (map (λ b. meaning (b.vtable, b.value)) engine.old.boxes.items) engine.old.state)).kept via (query_of query.now) answer.how answer.nodes.members) }
-    ensures no_index { (result ≡ Err AskError.NoIndex) ↔ IsUnkept (state_in (engine_seen (map (λ b. meaning (b.vtable, b.value)) engine.old.boxes.items) engine.old.state)).kept via }
-{
-    match *query {
-        Query::Path(expr) => engine.path(alloc, via, expr, steps),
-        Query::Branch(branch) => engine.branch(alloc, via, branch, steps),
-    }
-}
-
 /// Gathers the answers of a query, asked through an index or of the graph itself. Answers whether it was refused.
-fn ask<L: Ledger>(
+fn ask<B: PathIndex, L: Ledger>(
     alloc: Global,
-    engine: &mut Engine,
+    engine: &mut Engine<B>,
     via: Via,
     query: &Query<'_>,
     steps: &mut Steps<L>,
     printing: Printing,
     out: &mut Vec<u8>,
 ) -> Result<bool, Memory>
-    requires ready { IsOpen (engine_seen (map (λ b. meaning (b.vtable, b.value)) engine.old.boxes.items) engine.old.state) }
-    ensures ready { IsOpen (engine_seen (map (λ b. meaning (b.vtable, b.value)) engine.new.boxes.items) engine.new.state) }
-    ensures ok { IfOk result (λ refuses. Obeyed (rules_for printing) (state_in (engine_seen (map (λ b. meaning (b.vtable, b.value)) engine.old.boxes.items) engine.old.state)) (query_command via (query_of query.now)) out.old.items refuses (state_in (engine_seen (map (λ b. meaning (b.vtable, b.value)) engine.new.boxes.items) engine.new.state)) out.new.items) }
+    requires ready { IsOpen (seen B.meaning engine.old) }
+    ensures ready { IsOpen (seen B.meaning engine.new) }
+    ensures ok { IfOk result (λ refuses. Obeyed (rules_for printing) (state_of B.meaning engine.old) (query_command via (query_of query.now))
+        out.old.items refuses
+        (state_of B.meaning engine.new) out.new.items) }
     ensures err { OnErr result (out.new.items ≡ out.old.items) }
 {
-    match answer_of(alloc, engine, via, query, steps) {
+    match engine.ask(alloc, via, query, steps) {
         Ok(answer) => {
             let text = answer_text(alloc, &answer, printing.prints_nodes())?;
             out.extend_from_slice(text.as_bytes())?;
@@ -148,18 +131,19 @@ fn ask<L: Ledger>(
 }
 
 /// Gathers the list of an index, and nothing of the graph itself. Answers whether it was refused.
-fn list_index<L: Ledger>(
+fn list_index<B: PathIndex, L: Ledger>(
     alloc: Global,
-    engine: &mut Engine,
+    engine: &mut Engine<B>,
     via: Via,
     steps: &mut Steps<L>,
     printing: Printing,
     out: &mut Vec<u8>,
 ) -> Result<bool, Memory>
-    requires ready { IsOpen (engine_seen (map (λ b. meaning (b.vtable, b.value)) engine.old.boxes.items) engine.old.state) }
+    requires ready { IsOpen (seen B.meaning engine.old) }
     requires index { via ≢ Data }
-    ensures ready { IsOpen (engine_seen (map (λ b. meaning (b.vtable, b.value)) engine.new.boxes.items) engine.new.state) }
-    ensures ok { IfOk result (λ refuses. Obeyed (rules_for printing) (state_in (engine_seen (map (λ b. meaning (b.vtable, b.value)) engine.old.boxes.items) engine.old.state)) (listing via) out.old.items refuses (state_in (engine_seen (map (λ b. meaning (b.vtable, b.value)) engine.new.boxes.items) engine.new.state)) out.new.items) }
+    ensures ready { IsOpen (seen B.meaning engine.new) }
+    ensures ok { IfOk result (λ refuses. Obeyed (rules_for printing) (state_of B.meaning engine.old) (listing via) out.old.items refuses
+        (state_of B.meaning engine.new) out.new.items) }
     ensures err { OnErr result (out.new.items ≡ out.old.items) }
 {
     match engine.extents(alloc, via, steps) {
@@ -173,17 +157,18 @@ fn list_index<L: Ledger>(
 }
 
 /// Gathers the list of an index. Answers whether it was refused, as a list of the graph itself is.
-fn list<L: Ledger>(
+fn list<B: PathIndex, L: Ledger>(
     alloc: Global,
-    engine: &mut Engine,
+    engine: &mut Engine<B>,
     via: Via,
     steps: &mut Steps<L>,
     printing: Printing,
     out: &mut Vec<u8>,
 ) -> Result<bool, Memory>
-    requires ready { IsOpen (engine_seen (map (λ b. meaning (b.vtable, b.value)) engine.old.boxes.items) engine.old.state) }
-    ensures ready { IsOpen (engine_seen (map (λ b. meaning (b.vtable, b.value)) engine.new.boxes.items) engine.new.state) }
-    ensures ok { IfOk result (λ refuses. Obeyed (rules_for printing) (state_in (engine_seen (map (λ b. meaning (b.vtable, b.value)) engine.old.boxes.items) engine.old.state)) (listing via) out.old.items refuses (state_in (engine_seen (map (λ b. meaning (b.vtable, b.value)) engine.new.boxes.items) engine.new.state)) out.new.items) }
+    requires ready { IsOpen (seen B.meaning engine.old) }
+    ensures ready { IsOpen (seen B.meaning engine.new) }
+    ensures ok { IfOk result (λ refuses. Obeyed (rules_for printing) (state_of B.meaning engine.old) (listing via) out.old.items refuses
+        (state_of B.meaning engine.new) out.new.items) }
     ensures err { OnErr result (out.new.items ≡ out.old.items) }
 {
     match via {
@@ -193,16 +178,17 @@ fn list<L: Ledger>(
 }
 
 /// Gathers the sizes of the graph and of the indexes that are kept.
-fn measure<L: Ledger>(
+fn measure<B: PathIndex, L: Ledger>(
     alloc: Global,
-    engine: &mut Engine,
+    engine: &mut Engine<B>,
     steps: &mut Steps<L>,
     printing: Printing,
     out: &mut Vec<u8>,
 ) -> Result<bool, Memory>
-    requires ready { IsOpen (engine_seen (map (λ b. meaning (b.vtable, b.value)) engine.old.boxes.items) engine.old.state) }
-    ensures ready { IsOpen (engine_seen (map (λ b. meaning (b.vtable, b.value)) engine.new.boxes.items) engine.new.state) }
-    ensures ok { IfOk result (λ refuses. Obeyed (rules_for printing) (state_in (engine_seen (map (λ b. meaning (b.vtable, b.value)) engine.old.boxes.items) engine.old.state)) measuring out.old.items refuses (state_in (engine_seen (map (λ b. meaning (b.vtable, b.value)) engine.new.boxes.items) engine.new.state)) out.new.items) }
+    requires ready { IsOpen (seen B.meaning engine.old) }
+    ensures ready { IsOpen (seen B.meaning engine.new) }
+    ensures ok { IfOk result (λ refuses. Obeyed (rules_for printing) (state_of B.meaning engine.old) measuring out.old.items refuses
+        (state_of B.meaning engine.new) out.new.items) }
     ensures err { OnErr result (out.new.items ≡ out.old.items) }
 {
     let text = engine.sizes(alloc, steps)?;
@@ -211,15 +197,16 @@ fn measure<L: Ledger>(
 }
 
 /// Forgets the index of a kind, and gathers that. Answers whether it was refused.
-fn forget(
-    engine: &mut Engine,
+fn forget<B: PathIndex>(
+    engine: &mut Engine<B>,
     kind: Kind,
     printing: Printing,
     out: &mut Vec<u8>,
 ) -> Result<bool, Memory>
-    requires ready { IsOpen (engine_seen (map (λ b. meaning (b.vtable, b.value)) engine.old.boxes.items) engine.old.state) }
-    ensures ready { IsOpen (engine_seen (map (λ b. meaning (b.vtable, b.value)) engine.new.boxes.items) engine.new.state) }
-    ensures ok { IfOk result (λ refuses. Obeyed (rules_for printing) (state_in (engine_seen (map (λ b. meaning (b.vtable, b.value)) engine.old.boxes.items) engine.old.state)) (forgetting kind) out.old.items refuses (state_in (engine_seen (map (λ b. meaning (b.vtable, b.value)) engine.new.boxes.items) engine.new.state)) out.new.items) }
+    requires ready { IsOpen (seen B.meaning engine.old) }
+    ensures ready { IsOpen (seen B.meaning engine.new) }
+    ensures ok { IfOk result (λ refuses. Obeyed (rules_for printing) (state_of B.meaning engine.old) (forgetting kind) out.old.items refuses
+        (state_of B.meaning engine.new) out.new.items) }
     ensures err { OnErr result (out.new.items ≡ out.old.items) }
 {
     match engine.forget(kind) {
@@ -231,9 +218,9 @@ fn forget(
     }
 }
 
-fn obey_counted<L: Ledger>(
+fn obey_counted<B: PathIndex, L: Ledger>(
     alloc: Global,
-    engine: &mut Engine,
+    engine: &mut Engine<B>,
     command: Command,
     printing: Printing,
     out: &mut Vec<u8>,
@@ -242,9 +229,10 @@ fn obey_counted<L: Ledger>(
     requires name { blank.name ≡ L.name }
     requires parts { blank.parts ≡ L.parts }
     requires some { 0 < blank.parts }
-    requires ready { IsOpen (engine_seen (map (λ b. meaning (b.vtable, b.value)) engine.old.boxes.items) engine.old.state) }
-    ensures ready { IsOpen (engine_seen (map (λ b. meaning (b.vtable, b.value)) engine.new.boxes.items) engine.new.state) }
-    ensures ok { IfOk result (λ refuses. Obeyed (rules_for printing) (state_in (engine_seen (map (λ b. meaning (b.vtable, b.value)) engine.old.boxes.items) engine.old.state)) (command_of command) out.old.items refuses (state_in (engine_seen (map (λ b. meaning (b.vtable, b.value)) engine.new.boxes.items) engine.new.state)) out.new.items) }
+    requires ready { IsOpen (seen B.meaning engine.old) }
+    ensures ready { IsOpen (seen B.meaning engine.new) }
+    ensures ok { IfOk result (λ refuses. Obeyed (rules_for printing) (state_of B.meaning engine.old) (command_of command) out.old.items refuses
+        (state_of B.meaning engine.new) out.new.items) }
     ensures err { OnErr result (out.new.items ≡ out.old.items) }
 {
     let mut steps = Steps::<L>::new(blank);
@@ -282,19 +270,20 @@ fn obey_counted<L: Ledger>(
 }
 
 /// Carries out a command, and gathers what it prints. Answers whether it was refused.
-fn obey(
+fn obey<B: PathIndex>(
     alloc: Global,
-    engine: &mut Engine,
+    engine: &mut Engine<B>,
     command: Command,
     printing: Printing,
     out: &mut Vec<u8>,
 ) -> Result<bool, Memory>
-    requires ready { IsOpen (engine_seen (map (λ b. meaning (b.vtable, b.value)) engine.old.boxes.items) engine.old.state) }
-    ensures ready { IsOpen (engine_seen (map (λ b. meaning (b.vtable, b.value)) engine.new.boxes.items) engine.new.state) }
-    ensures ok { IfOk result (λ refuses. Obeyed (rules_for printing) (state_in (engine_seen (map (λ b. meaning (b.vtable, b.value)) engine.old.boxes.items) engine.old.state)) (command_of command) out.old.items refuses (state_in (engine_seen (map (λ b. meaning (b.vtable, b.value)) engine.new.boxes.items) engine.new.state)) out.new.items) }
+    requires ready { IsOpen (seen B.meaning engine.old) }
+    ensures ready { IsOpen (seen B.meaning engine.new) }
+    ensures ok { IfOk result (λ refuses. Obeyed (rules_for printing) (state_of B.meaning engine.old) (command_of command) out.old.items refuses
+        (state_of B.meaning engine.new) out.new.items) }
     ensures err { OnErr result (out.new.items ≡ out.old.items) }
 {
-    obey_counted::<Brand>(alloc, engine, command, printing, out, Blank::new(1))
+    obey_counted::<B, Brand>(alloc, engine, command, printing, out, Blank::new(1))
 }
 
 fn outcome_of(refuses: bool) -> Outcome
@@ -308,16 +297,17 @@ fn outcome_of(refuses: bool) -> Outcome
 }
 
 /// Takes a line, and gathers what it prints. Where memory runs out, nothing is gathered.
-pub(crate) fn take(
+pub(crate) fn take<B: PathIndex>(
     alloc: Global,
-    engine: &mut Engine,
+    engine: &mut Engine<B>,
     line: &[u8],
     printing: Printing,
     out: &mut Vec<u8>,
 ) -> Result<Outcome, Memory>
-    requires ready { IsOpen (engine_seen (map (λ b. meaning (b.vtable, b.value)) engine.old.boxes.items) engine.old.state) }
-    ensures ready { IsOpen (engine_seen (map (λ b. meaning (b.vtable, b.value)) engine.new.boxes.items) engine.new.state) }
-    ensures ok { IfOk result (λ outcome. LineComes (rules_for printing) (state_in (engine_seen (map (λ b. meaning (b.vtable, b.value)) engine.old.boxes.items) engine.old.state)) line.now out.old.items outcome (state_in (engine_seen (map (λ b. meaning (b.vtable, b.value)) engine.new.boxes.items) engine.new.state)) out.new.items) }
+    requires ready { IsOpen (seen B.meaning engine.old) }
+    ensures ready { IsOpen (seen B.meaning engine.new) }
+    ensures ok { IfOk result (λ outcome. LineComes (rules_for printing) (state_of B.meaning engine.old) line.now out.old.items outcome
+        (state_of B.meaning engine.new) out.new.items) }
     ensures err { OnErr result (out.new.items ≡ out.old.items) }
 {
     match read(alloc, line, &Limits::program()) {

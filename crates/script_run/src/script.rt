@@ -1,15 +1,15 @@
 // The run of a script, line by line.
-ghost use Rattle.std.specs.Prelude.{map, ◌≡◌, ◌≢◌, ◌<◌, ◌≤◌, ◌++◌, IfOk, OnOk, OnErr, IsErrOf, IsTrue, Err};
+ghost use Rattle.std.specs.Prelude.{◌≡◌, ◌≢◌, ◌<◌, ◌≤◌, ◌++◌, IfOk, OnOk, OnErr, IsErrOf, IsTrue, Err};
 ghost use Rattle.std.specs.Io.KnownBytes.{Appends};
 ghost use Rattle.px_base.specs.Causes.{Rose, HasCause};
 ghost use Rattle.px_base.specs.Files.{AppendsFront};
 ghost use Rattle.px_base.specs.ReaderStates.{stream};
-ghost use Rattle.pathindex_core.specs.Engines.{engine_seen};
+ghost use Rattle.pathindex_core.specs.Engines.{seen};
 ghost use Rattle.script_run.specs.Rules.{rules_for};
 ghost use Rattle.script_run.specs.RunSteps.{progress, Goes, OnTaken, CanRead, Writes};
 ghost use Rattle.script_run.specs.Runs.{Progress, end_status};
 ghost use Rattle.script_run.specs.Endings.{status_at};
-ghost use Rattle.script_run.specs.EngineStates.{state_in, IsOpen, IsIn};
+ghost use Rattle.script_run.specs.EngineStates.{state_of, IsOpen, IsIn};
 ghost use Rattle.script_run.specs.Texts.{bad_line};
 ghost use Rattle.script_run.specs.Told.{RanTold, FrontTold};
 ghost use Rattle.script_run.specs.declared.script.Stop.TheVariants.{Sink as SinkStop, Memory as MemoryStop};
@@ -17,6 +17,7 @@ ghost use Rattle.script_run.specs.declared.script.Stop.TheVariants.{Sink as Sink
 use crate::interpreter::{Outcome, take};
 use crate::output::{flush, push_number};
 use crate::printing::Printing;
+use index_api::PathIndex;
 use pathindex_core::Engine;
 use px_base::{Failed, LINE_BYTES, LineFault, LineReader, Memory, SCRIPT_BYTES, Shelf, Sink};
 use std::alloc::Global;
@@ -84,19 +85,21 @@ fn push_bad(out: &mut Vec<u8>, line: u32) -> Result<Next, Stop>
 }
 
 /// Reads a line, and takes it.
-fn next_line<H: Shelf>(
+fn next_line<B: PathIndex, H: Shelf>(
     alloc: Global,
     reader: &mut LineReader,
-    engine: &mut Engine,
+    engine: &mut Engine<B>,
     refused: &mut bool,
     printing: Printing,
     shelf: &mut H,
     out: &mut Vec<u8>,
 ) -> Result<Next, Stop>
     requires can { CanRead reader.old (H.is_open shelf.old) }
-    requires ready { IsOpen (engine_seen (map (λ b. meaning (b.vtable, b.value)) engine.old.boxes.items) engine.old.state) }
-    ensures ready { IsOpen (engine_seen (map (λ b. meaning (b.vtable, b.value)) engine.new.boxes.items) engine.new.state) }
-    ensures goes { IfOk result (λ next. Goes (rules_for printing) (progress (state_in (engine_seen (map (λ b. meaning (b.vtable, b.value)) engine.old.boxes.items) engine.old.state)) refused.old reader.old) (stream reader.old (H.left shelf.old)) out.old.items next (progress (state_in (engine_seen (map (λ b. meaning (b.vtable, b.value)) engine.new.boxes.items) engine.new.state)) refused.new reader.new) (stream reader.new (H.left shelf.new)) out.new.items) }
+    requires ready { IsOpen (seen B.meaning engine.old) }
+    ensures ready { IsOpen (seen B.meaning engine.new) }
+    ensures goes { IfOk result (λ next. Goes (rules_for printing) (progress (state_of B.meaning engine.old) refused.old reader.old)
+        (stream reader.old (H.left shelf.old)) out.old.items next (progress (state_of B.meaning engine.new) refused.new reader.new)
+        (stream reader.new (H.left shelf.new)) out.new.items) }
     ensures can { IfOk result (λ next. OnTaken next (CanRead reader.new (H.is_open shelf.new))) }
     ensures nearer { IfOk result (λ next. OnTaken next ((reader.old.taken < reader.new.taken) × (reader.new.taken ≤ SCRIPT_BYTES))) }
     ensures gathered { OnErr result (out.new.items ≡ out.old.items) }
@@ -163,18 +166,20 @@ fn ending_of(refused: bool) -> Ending
 
 /// Runs the script that is open, on the graph of the engine, to its end or to a line that is bad. O(t) for t bytes of the script, and
 /// what the commands cost (`Engine`); it takes memory for a block of the script, its longest line, and what is gathered of the output.
-pub fn run_lines<H: Shelf, K: Sink>(
+pub fn run_lines<B: PathIndex, H: Shelf, K: Sink>(
     alloc: Global,
-    engine: &mut Engine,
+    engine: &mut Engine<B>,
     printing: Printing,
     shelf: &mut H,
     sink: &mut K,
 ) -> Result<Ending, Stop>
     requires file { IsTrue (H.is_open shelf.old) }
-    requires ready { IsOpen (engine_seen (map (λ b. meaning (b.vtable, b.value)) engine.old.boxes.items) engine.old.state) }
-    ensures ready { IsOpen (engine_seen (map (λ b. meaning (b.vtable, b.value)) engine.new.boxes.items) engine.new.state) }
-    ensures ran { IfOk result (λ ending. RanTold (rules_for printing) (state_in (engine_seen (map (λ b. meaning (b.vtable, b.value)) engine.old.boxes.items) engine.old.state)) (H.left shelf.old) (K.written sink.old) (K.written sink.new) (status_at ending) (IsIn (engine_seen (map (λ b. meaning (b.vtable, b.value)) engine.new.boxes.items) engine.new.state))) }
-    ensures part { OnErr result (FrontTold (rules_for printing) (state_in (engine_seen (map (λ b. meaning (b.vtable, b.value)) engine.old.boxes.items) engine.old.state)) (H.left shelf.old) (K.written sink.old) (K.written sink.new)) }
+    requires ready { IsOpen (seen B.meaning engine.old) }
+    ensures ready { IsOpen (seen B.meaning engine.new) }
+    ensures ran { IfOk result (λ ending. RanTold (rules_for printing) (state_of B.meaning engine.old) (H.left shelf.old)
+        (K.written sink.old) (K.written sink.new) (status_at ending) (IsIn (seen B.meaning engine.new))) }
+    ensures part { OnErr result (FrontTold (rules_for printing) (state_of B.meaning engine.old) (H.left shelf.old)
+        (K.written sink.old) (K.written sink.new)) }
     ensures files { H.files shelf.new ≡ H.files shelf.old }
     ensures shelf_fault { IsErrOf result Stop.Shelf → Rose (H.faults shelf.old) (H.faults shelf.new) }
     ensures no_shelf_fault { result ≢ Err Stop.Shelf → H.faults shelf.new ≡ H.faults shelf.old }

@@ -1,9 +1,9 @@
-use Rattle.std.proofs.Common.{◌≡◌, ◌∙◌, ap, rules, refl, map}
+use Rattle.std.proofs.Common.{◌≡◌, ◌∙◌, ap, rules, refl}
 use Rattle.std.specs.Prelude.{is_some}
 use Rattle.std.proofs.lemmas.Result.{err_from_is_err_and}
+use Rattle.pathindex_core.specs.Engines.{seen}
 use Rattle.script_run.specs.declared.script.Ending.TheVariants.{Bad}
 use Rattle.script_run.specs.Endings.{status_at}
-use Rattle.pathindex_core.specs.Engines.{engine_seen}
 use Rattle.script_run.specs.EngineStates.{state_in}
 use Rattle.script_run.specs.Runs.{end_status}
 use Rattle.script_run.specs.Rules.{rules_for}
@@ -14,11 +14,11 @@ use Rattle.script_run.proofs.script.run_lines.Goals as goal
 pub returns-in_err-reader-clause-part : goal.returns-in_err-reader-clause-part
 returns-in_err-reader-clause-part g c =
     let p = err_from_is_err_and c.from_residual.result c.from_residual.ensures.1 in
-    rw p.1 (front-part _ _ (reached-start (rules_for c.args.printing) (state_in (engine_seen (map (λ b. (goal.PathIndex-dyn g (b.vtable, b.value)).meaning b.value) c.args.engine.now.boxes.items) c.args.engine.now.state)) (g.H.Shelf.left c.args.shelf.now) (g.K.Sink.written c.args.sink.now)) _ (nothing_written _ _))
+    rw p.1 (front-part _ _ (reached-start (rules_for c.args.printing) (state_in (seen g.B.PathIndex.meaning c.args.engine.now)) (g.H.Shelf.left c.args.shelf.now) (g.K.Sink.written c.args.sink.now)) _ (nothing_written _ _))
 
 pub lines-init : goal.lines-init
 lines-init g c = record {
-  reached = rw (c.in_ok-reader.ensures, c.new-out.ensures.items) (reached-start (rules_for c.args.printing) (state_in (engine_seen (map (λ b. (goal.PathIndex-dyn g (b.vtable, b.value)).meaning b.value) c.args.engine.now.boxes.items) c.args.engine.now.state)) (g.H.Shelf.left c.args.shelf.now) (g.K.Sink.written c.args.sink.now));
+  reached = rw (c.in_ok-reader.ensures, c.new-out.ensures.items) (reached-start (rules_for c.args.printing) (state_in (seen g.B.PathIndex.meaning c.args.engine.now)) (g.H.Shelf.left c.args.shelf.now) (g.K.Sink.written c.args.sink.now));
   ready = c.requires.ready;
   can = rw c.in_ok-reader.ensures (search rules);
   taken = rw c.in_ok-reader.ensures (search rules);
@@ -60,8 +60,8 @@ returns-in-Ok-AtBad-clause-part g c =
 pub returns-in-Ok-AtEnd-clause-ran : goal.returns-in-Ok-AtEnd-clause-ran
 returns-in-Ok-AtEnd-clause-ran g c =
     let goes = rw c.in-Ok-AtEnd.field-0-is at c.in-Ok-AtEnd.ensures.goes in
-    let p = progress (state_in (engine_seen (map (λ b. (goal.PathIndex-dyn g (b.vtable, b.value)).meaning b.value) c.lines.engine.boxes.items) c.lines.engine.state)) c.lines.refused c.lines.reader in
-    let q = progress (state_in (engine_seen (map (λ b. (goal.PathIndex-dyn g (b.vtable, b.value)).meaning b.value) c.next_line.new.engine.boxes.items) c.next_line.new.engine.state)) c.next_line.new.refused c.next_line.new.reader in
+    let p = progress (state_in (seen g.B.PathIndex.meaning c.lines.engine)) c.lines.refused c.lines.reader in
+    let q = progress (state_in (seen g.B.PathIndex.meaning c.next_line.new.engine)) c.next_line.new.refused c.next_line.new.reader in
     let e : status_at c.ending_of.result ≡ end_status p = c.ending_of.ensures q refl ∙ goes.2 in
     ok_fact c.finish-in-Ok-AtEnd.result c.ending_of.result _ _ c.finish-in-Ok-AtEnd.ensures.ending c.finish-in-Ok-AtEnd.ensures.all
     (λ w. rw e (ran-over _ _ (reached-written c.lines.invariant.reached _ _ c.in_ok-flush_if_due.ensures.written) goes.0 _ _ goes.3 w _ (record { is_open = ap is_some c.next_line.ensures.ready.opened_is; state = goes.1 })))

@@ -1,7 +1,7 @@
-use Rattle.std.proofs.Common.{◌≡◌, ◌-◌, ◌≤◌, map}
+use Rattle.std.proofs.Common.{◌≡◌, ◌-◌, ◌≤◌}
 use Rattle.px_base.specs.declared.lines.TheConstants.{SCRIPT_BYTES}
 use Rattle.px_base.specs.ReaderStates.{stream}
-use Rattle.pathindex_core.specs.Engines.{engine_seen}
+use Rattle.pathindex_core.specs.Engines.{seen}
 use Rattle.script_run.specs.EngineStates.{IsOpen, state_in}
 use Rattle.script_run.specs.Rules.{rules_for}
 use Rattle.script_run.specs.RunSteps.{progress, CanRead}
@@ -10,9 +10,9 @@ use Rattle.script_run.proofs.script.run_lines.Given as goal
 
 abbrev pub invariant-lines : goal.invariant-lines
 invariant-lines g l = record {
-  reached : Reached (rules_for l.fn.printing) (state_in (engine_seen (map (λ b. (goal.PathIndex-dyn g (b.vtable, b.value)).meaning b.value) l.fn.engine.boxes.items) l.fn.engine.state)) (g.H.Shelf.left l.fn.shelf) (stream l.reader (g.H.Shelf.left l.shelf)) (g.K.Sink.written l.fn.sink) (g.K.Sink.written l.sink) l.out.items
-      (progress (state_in (engine_seen (map (λ b. (goal.PathIndex-dyn g (b.vtable, b.value)).meaning b.value) l.engine.boxes.items) l.engine.state)) l.refused l.reader);
-  ready : IsOpen (engine_seen (map (λ b. (goal.PathIndex-dyn g (b.vtable, b.value)).meaning b.value) l.engine.boxes.items) l.engine.state);
+  reached : Reached (rules_for l.fn.printing) (state_in (seen g.B.PathIndex.meaning l.fn.engine)) (g.H.Shelf.left l.fn.shelf) (stream l.reader (g.H.Shelf.left l.shelf)) (g.K.Sink.written l.fn.sink) (g.K.Sink.written l.sink) l.out.items
+      (progress (state_in (seen g.B.PathIndex.meaning l.engine)) l.refused l.reader);
+  ready : IsOpen (seen g.B.PathIndex.meaning l.engine);
   can : CanRead l.reader (g.H.Shelf.is_open l.shelf);
   taken : l.reader.taken ≤ SCRIPT_BYTES;
   files : g.H.Shelf.files l.shelf ≡ g.H.Shelf.files l.fn.shelf;
