@@ -1,15 +1,13 @@
 -- Walks that end in a set lie in what leads to it.
-use Rattle.std.proofs.Common.{◌≡◌, ℕ, ◌+◌, ◌≤◌, List, [], ◌∷◌, length, refl, sym, ap, ◌∙◌, subst, arith, Option, Some, None, Bool, true, false, cond, true≢false, IsTrue}
+use Rattle.std.proofs.Common.{◌≡◌, ℕ, ◌+◌, ◌<◌, ◌≤◌, List, [], ◌∷◌, length, refl, sym, ap, ◌∙◌, subst, arith, Option, Some, None, Bool, true, false, cond, true≢false, IsTrue}
 use Rattle.std.specs.Prelude.{◌&&◌, slice_get, option_and_then, IsSome}
 use Rattle.px_spec.specs.Members.{has}
 use Rattle.px_spec.specs.Shapes.{Shape, shape_by}
 use Rattle.px_spec.specs.Walks.{Leads}
 use Rattle.path_spec.specs.Trees.{Expr}
 use Rattle.path_spec.specs.Matches.{Word, Matches}
-use Rattle.path_spec.specs.Longest.{IsLongest, longest}
 use Rattle.path_spec.specs.Answers.{IsAnswer, AreAnswers}
 use Rattle.path_spec.specs.Parts.{part_of}
-use Rattle.path_spec.proofs.Longest.{longest_is}
 use Rattle.data_validate.specs.Ancestors.{HasWalk, IsFew, AreAncestors}
 
 both_true : (a b : Bool) → (a && b) ≡ true → (a ≡ true) × (b ≡ true)
@@ -58,10 +56,6 @@ module _ (s : Shape) (keeps : ℕ → Bool) where
   end_text (t ∷ []) u v h = (t, subst (λ x. s.label x ≡ Some t) h.1 h.0)
   end_text (t ∷ r ∷ ts) u v h = end_text (r ∷ ts) h.1 v h.3
 
-few_by : (o : Option ℕ) (P : Word → Type 0) → IsLongest P o → (w : Word) → P w → (k : ℕ) → k + 1 ≤ length w → IsFew o (k + 1)
-few_by None P h w p k le = tt
-few_by (Some n) P h w p k le = let most : length w ≤ n = h.1 w p in omega (arith, le)
-
 module _ (texts : List (List ℕ)) (size : ℕ) (label_at : ℕ → Option ℕ) (edge : ℕ → ℕ → Bool) (e : Expr) (most : Option ℕ) (set near nodes : List ℕ) where
   abbrev whole : Shape
   whole = shape_by texts size label_at edge
@@ -75,7 +69,7 @@ module _ (texts : List (List ℕ)) (size : ℕ) (label_at : ℕ → Option ℕ) 
   pub near_sound : AreAnswers (part_of (has near) whole) e nodes → (v : ℕ) → IsTrue (has nodes v) → IsAnswer whole e v
   near_sound a v h = let f = a.sound v h in (f.0, f.1, f.2, walk_out whole (has near) f.0 f.2 v f.3)
 
-  pub near_complete : AreAnswers (part_of (has near) whole) e nodes → ((k : ℕ) → IsFew (longest e) (k + 1) → IsFew most k) → AreAncestors label_at edge most set near
+  pub near_complete : AreAnswers (part_of (has near) whole) e nodes → ((w : Word) (k : ℕ) → Matches e w → k < length w → IsFew most k) → AreAncestors label_at edge most set near
       → (v : ℕ) → IsTrue (has set v) → IsAnswer whole e v → IsTrue (has nodes v)
   near_complete a few lead v there (w, matches, u, walk) =
       let t = end_text whole (has near) w u v walk in
@@ -85,5 +79,5 @@ module _ (texts : List (List ℕ)) (size : ℕ) (label_at : ℕ → Option ℕ) 
         matches,
         u,
         walk_in whole (has near) w u v walk
-            (λ k x le l. lead.has_all k x v (few k (few_by (longest e) (Matches e) (longest_is e) w matches k le)) there node l),
+            (λ k x le l. lead.has_all k x v (few w k matches (omega (arith, le))) there node l),
       )

@@ -1,5 +1,5 @@
 -- What leads to the members of a set by few edges.
-use Rattle.std.specs.Prelude.{◌≡◌, ℕ, zero, suc, ◌≤◌, ◌⊎◌, ◌&&◌, ◌||◌, not, Bool, List, Option, None, Some, IsTrue, IsSome}
+use Rattle.std.specs.Prelude.{◌≡◌, ℕ, zero, suc, ◌≤◌, ◌⊎◌, ◌&&◌, ◌||◌, not, Bool, List, Option, None, Some, is_some, IsTrue, IsSome}
 use Rattle.px_spec.specs.Members.{has}
 
 -- so many edges lead from u to v
@@ -15,6 +15,10 @@ IsFew (Some most) k = k ≤ most
 -- the members have each node from which few edges lead to a node of the set
 pub record AreAncestors (label_at : ℕ → Option ℕ) (edge : ℕ → ℕ → Bool) (most : Option ℕ) (set members : List ℕ) : Type 0 where
   pub has_all : (k u v : ℕ) → IsFew most k → IsTrue (has set v) → IsSome (label_at v) → HasWalk edge k u v → IsTrue (has members u)
+
+-- whether it is a member of the set and a node
+abbrev pub is_node_of : (ℕ → Option ℕ) → List ℕ → ℕ → Bool
+is_node_of label_at set c = has set c && is_some (label_at c)
 
 -- the numbers that pass are met, and those that weren't met before are found
 pub record IsNoted (passes : ℕ → Bool) (met found met2 found2 : List ℕ) : Type 0 where

@@ -1,7 +1,7 @@
 // What leads to the members of a set by few edges.
-ghost use Rattle.std.specs.Prelude.{◌≡◌, ◌<◌, ◌≤◌, ◌+◌, ◌&&◌, ◌⊎◌, [], ℕ, nat_eq, is_some, length, IsTrue, IsFalse, IsSome, IfOk, IfSome, OnOk};
+ghost use Rattle.std.specs.Prelude.{◌≡◌, ◌<◌, ◌≤◌, ◌+◌, ◌&&◌, ◌⊎◌, [], ℕ, nat_eq, length, IsTrue, IsFalse, IsSome, IfOk, IfSome, OnOk};
 ghost use Rattle.px_spec.specs.Members.{has};
-ghost use Rattle.data_validate.specs.Ancestors.{IsFew, AreAncestors, IsNoted, IsSpread};
+ghost use Rattle.data_validate.specs.Ancestors.{IsFew, AreAncestors, is_node_of, IsNoted, IsSpread};
 
 use label_graph::Digraph;
 use px_base::{Bits, Memory, NodeId};
@@ -50,10 +50,10 @@ fn note_nodes<G: Digraph>(
 ) -> Result<(), Memory>
     requires { met.old.size ≡ G.span g.now }
     ensures size { met.new.size ≡ met.old.size }
-    ensures noted { OnOk result (IsNoted (λ c. has set.now.members c && is_some (G.label_at g.now c)) met.old.members found.old.items met.new.members found.new.items) }
+    ensures noted { OnOk result (IsNoted (is_node_of (G.label_at g.now) set.now.members) met.old.members found.old.items met.new.members found.new.items) }
 {
     // Members are below the set's size, which this call says.
-    let _size = set.size();
+    let _for_proof = set.size();
     let mut from = 0;
     'members: while let Some(n) = set.next_from(from) {
         note_if(met, found, n, g.is_node(n))?;

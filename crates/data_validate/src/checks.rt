@@ -1,12 +1,13 @@
 // The answers among some candidates.
-ghost use Rattle.std.specs.Prelude.{◌≡◌, ◌<◌, ◌+◌, ◌&&◌, ◌||◌, ℕ, length, Some, IsTrue, IfOk, nat_eq};
+ghost use Rattle.std.specs.Prelude.{◌≡◌, ◌<◌, ◌&&◌, ◌||◌, ℕ, length, Some, IfOk, nat_eq};
 ghost use Rattle.std.specs.List.Sorted.{IsStrictlyIncreasing};
 ghost use Rattle.px_spec.specs.Members.{has};
-ghost use Rattle.px_spec.specs.Shapes.{shape_of, shape_by};
+ghost use Rattle.px_spec.specs.Shapes.{shape_of};
+ghost use Rattle.path_search.specs.Digraphs.{shape_through};
 ghost use Rattle.path_spec.specs.Answers.{IsAnswer};
-ghost use Rattle.path_spec.specs.Longest.{longest};
-ghost use Rattle.branch_query.specs.Queries.{query_of, IsQueryAnswer, AreQueryAnswers};
-ghost use Rattle.data_validate.specs.Checks.{AreAnswersAmong};
+ghost use Rattle.path_spec.specs.Matches.{Word, Matches};
+ghost use Rattle.branch_query.specs.Queries.{query_of, IsQueryAnswer};
+ghost use Rattle.data_validate.specs.Checks.{AreAnswersAmong, AreAll, AreAllOf, AreAllIfGiven};
 ghost use Rattle.data_validate.specs.Ancestors.{IsFew};
 
 use crate::ancestors::ancestors;
@@ -47,7 +48,7 @@ fn common(alloc: Global, set: &Bits, other: &Bits) -> Result<Bits, Memory>
 
 /// How many edges a walk has at most whose word matches, and none where there is no bound.
 fn most_edges(expr: &PathExpr) -> Option<u32>
-    ensures { (k : ℕ) → IsFew (longest expr.now) (k + 1) → IsFew result k }
+    ensures { (w : Word) (k : ℕ) → Matches expr.now w → k < length w → IsFew result k }
 {
     match expr.longest() {
         Some(len) => Some(len.saturating_sub(1)),
@@ -65,8 +66,8 @@ fn path_answers<G: Digraph>(
     set: &Bits,
 ) -> Result<Bits, Memory>
     requires labelled { (n l : ℕ) → G.label_at g.now n ≡ Some l → l < length labels.now.texts }
-    ensures sound { IfOk result (λ b. (v : ℕ) → IsTrue (has b.members v) → IsAnswer (shape_by labels.now.texts (G.span g.now) (G.label_at g.now) (G.edge g.now)) expr.now v) }
-    ensures complete { IfOk result (λ b. (v : ℕ) → IsTrue (has set.now.members v) → IsAnswer (shape_by labels.now.texts (G.span g.now) (G.label_at g.now) (G.edge g.now)) expr.now v → IsTrue (has b.members v)) }
+    ensures sound { IfOk result (λ b. AreAll (IsAnswer (shape_through G.Digraph labels.now g.now) expr.now) b.members) }
+    ensures complete { IfOk result (λ b. AreAllOf (IsAnswer (shape_through G.Digraph labels.now g.now) expr.now) set.now.members b.members) }
 {
     match ancestors(alloc, g, set, most_edges(expr))? {
         Some(near) => eval_within(alloc, g, labels, expr, &near),
@@ -83,8 +84,8 @@ fn answers_for<G: Digraph>(
     set: &Bits,
 ) -> Result<Bits, Memory>
     requires labelled { (n l : ℕ) → G.label_at g.now n ≡ Some l → l < length labels.now.texts }
-    ensures sound { IfOk result (λ b. (v : ℕ) → IsTrue (has b.members v) → IsQueryAnswer (shape_by labels.now.texts (G.span g.now) (G.label_at g.now) (G.edge g.now)) (query_of q.now) v) }
-    ensures complete { IfOk result (λ b. (v : ℕ) → IsTrue (has set.now.members v) → IsQueryAnswer (shape_by labels.now.texts (G.span g.now) (G.label_at g.now) (G.edge g.now)) (query_of q.now) v → IsTrue (has b.members v)) }
+    ensures sound { IfOk result (λ b. AreAll (IsQueryAnswer (shape_through G.Digraph labels.now g.now) (query_of q.now)) b.members) }
+    ensures complete { IfOk result (λ b. AreAllOf (IsQueryAnswer (shape_through G.Digraph labels.now g.now) (query_of q.now)) set.now.members b.members) }
 {
     match *q {
         Query::Path(expr) => path_answers(alloc, g, labels, expr, set),
@@ -107,7 +108,7 @@ pub fn check<L: Ledger>(
 ) -> Result<Bits, Memory>
     ensures size { IfOk result (λ kept. kept.size ≡ set.now.size) }
     ensures answers { IfOk result (λ kept. AreAnswersAmong (shape_of graph.now.graph) (query_of q.now) set.now.members kept.members) }
-    ensures all { IfOk result (λ kept. ((v : ℕ) → IsQueryAnswer (shape_of graph.now.graph) (query_of q.now) v → IsTrue (has set.now.members v)) → AreQueryAnswers (shape_of graph.now.graph) (query_of q.now) kept.members) }
+    ensures all { IfOk result (λ kept. AreAllIfGiven (shape_of graph.now.graph) (query_of q.now) set.now.members kept.members) }
 {
     if set.count() == 0 {
         return Bits::new(alloc, set.size());

@@ -5,7 +5,6 @@ use Rattle.px_spec.specs.Shapes.{Shape, IsNode, IsShape, shape_of}
 use Rattle.px_spec.specs.Members.{at}
 use Rattle.px_spec.proofs.GraphLaws.{is_shape}
 use Rattle.path_spec.specs.Trees.{Expr}
-use Rattle.path_spec.specs.Longest.{longest}
 use Rattle.bisim_spec.specs.Bisimilarity.{Bis}
 use Rattle.bisim_spec.specs.Partitions.{Together, IsPartition, Agrees}
 use Rattle.bisim_spec.specs.Stability.{Stable, StableBoth}
@@ -21,7 +20,7 @@ use Rattle.branch_spec.specs.Trees.{Branch}
 use Rattle.branch_spec.proofs.Alike.{Follows}
 use Rattle.branch_query.specs.Queries.{Query, path, branch, IsQueryAnswer, AreQueryAnswers}
 use Rattle.branch_query.specs.Candidates.{loose, AreCandidates}
-use Rattle.index_eval.specs.Exactness.{IsExact, IsWithin, FitsVia}
+use Rattle.index_eval.specs.Exactness.{IsExact, HasLongestWithin, FitsVia}
 use Rattle.index_eval.specs.Extents.{AreOfBlocks}
 use Rattle.index_eval.proofs.LooseWalks.{IsLoose, loose_is, path_kept, level_back, bisimilar_back}
 use Rattle.index_eval.proofs.LooseBranches.{branch_there, branch_back}
@@ -60,7 +59,7 @@ module _ (g : Graph) (is_graph : IsGraph g) (v : View) (fits : ViewFits g v) (no
   candidates_of p q h = are_candidates g is_graph v fits (together v.block_of) (agrees_together s v.block_of p) q true nodes h
 
   -- through a partition by a level, where no word is longer than the level allows
-  level_exact : (i : ℕ) → Agrees s v.block_of (Bis s i) → (e : Expr) → IsWithin (longest e) (i + 1)
+  level_exact : (i : ℕ) → Agrees s v.block_of (Bis s i) → (e : Expr) → HasLongestWithin e (i + 1)
       → AreOfBlocks v.block_of (IsQueryAnswer (shape_of_view g.seen v) (path e)) nodes → AreQueryAnswers s (path e) nodes
   level_exact i a e within h =
       let shape = is_shape g is_graph in

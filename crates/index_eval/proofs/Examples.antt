@@ -1,11 +1,27 @@
 -- Which queries are exact, at worked values and near misses.
-use Rattle.std.proofs.Common.{ℕ, List, arith}
+use Rattle.std.proofs.Common.{◌≡◌, ℕ, ◌+◌, ◌≤◌, List, Some, None, arith}
 use Rattle.std.specs.Prelude.{codes}
+use Rattle.std.proofs.lemmas.Option.{same_Some}
 use Rattle.path_spec.specs.Trees.{star, opt, child, below, Expr, only, or, last, then, Item, once, signed, label}
 use Rattle.index_api.specs.declared.kinds.Via.TheVariants.{Data, A, One, Fb}
 use Rattle.branch_spec.specs.Trees as tree
 use Rattle.branch_query.specs.Queries.{path, branch}
-use Rattle.index_eval.specs.Exactness.{IsExact}
+use Rattle.path_spec.specs.Matches.{Matches}
+use Rattle.path_spec.specs.Longest.{IsLongest}
+use Rattle.path_spec.proofs.Longest.{one_longest}
+use Rattle.path_expr.proofs.LongestWords.{longest_is}
+use Rattle.index_eval.specs.Exactness.{IsExact, HasLongestWithin}
+
+-- what has a longest word of n labels has none within fewer
+too_long : (e : Expr) (n most : ℕ) → IsLongest (Matches e) (Some n) → HasLongestWithin e most → n ≤ most
+too_long e n most is h =
+    let same : Some n ≡ Some h.0 = one_longest (Matches e) (Some n) (Some h.0) is h.1 in
+    let e : n ≡ h.0 = same_Some n h.0 same in
+    let low = h.2 in
+    omega (arith, e, low)
+
+none_within : (e : Expr) (most : ℕ) → IsLongest (Matches e) None → ¬ HasLongestWithin e most
+none_within e most any h = cc (one_longest (Matches e) None (Some h.0) any h.1)
 
 abbrev item : List ℕ → Item
 item t = once (label t)
@@ -18,30 +34,34 @@ three_labels = only (then (item (codes "a")) child (then (item (codes "b")) chil
 abbrev any_length : Expr
 any_length = only (then (item (codes "a")) below (last (item (codes "c"))))
 
+-- a*
+abbrev stars : Expr
+stars = only (last (signed (label (codes "a")) star))
+
 -- a/b?|c
 abbrev at_most_two : Expr
 at_most_two = or (then (item (codes "a")) child (last (signed (label (codes "b")) opt))) (only (last (item (codes "c"))))
 
 -- three labels need level 2
 level_two : IsExact (A 2) (path three_labels)
-level_two = omega arith
+level_two = (3, longest_is three_labels, omega arith)
 
 not_level_one : ¬ IsExact (A 1) (path three_labels)
-not_level_one h = omega (arith, h)
+not_level_one h = let few = too_long three_labels 3 2 (longest_is three_labels) h in omega (arith, few)
 
 -- the longest word counts
 two_labels : IsExact (A 1) (path at_most_two)
-two_labels = omega arith
+two_labels = (2, longest_is at_most_two, omega arith)
 
 not_level_zero : ¬ IsExact (A 0) (path at_most_two)
-not_level_zero h = omega (arith, h)
+not_level_zero h = let few = too_long at_most_two 2 1 (longest_is at_most_two) h in omega (arith, few)
 
 -- no level tells where there is no longest word; the other indexes do
 no_level : (i : ℕ) → ¬ IsExact (A i) (path any_length)
-no_level i h = h
+no_level i h = none_within any_length (i + 1) (longest_is any_length) h
 
-no_level_of_stars : (i : ℕ) → ¬ IsExact (A i) (path (only (last (signed (label (codes "a")) star))))
-no_level_of_stars i h = h
+no_level_of_stars : (i : ℕ) → ¬ IsExact (A i) (path stars)
+no_level_of_stars i h = none_within stars (i + 1) (longest_is stars) h
 
 any_length_of_one : IsExact One (path any_length)
 any_length_of_one = tt

@@ -2,50 +2,31 @@
 use Rattle.std.proofs.Common.{◌≡◌, ℕ, Bool, true, false, List, Option, Result, Ok, Err, IsTrue, sym, subst}
 use Rattle.std.specs.Prelude.{IfOk}
 use Rattle.std.specs.List.Sorted.{IsStrictlyIncreasing}
-use Rattle.px_spec.specs.Graphs.{Graph, IsGraph}
-use Rattle.px_spec.specs.Shapes.{shape_of}
 use Rattle.px_spec.specs.Members.{has, at}
 use Rattle.px_base.specs.BitSets.{BitSet}
-use Rattle.bisim_spec.specs.Partitions.{Agrees, IsPartition}
-use Rattle.bisim_spec.specs.Views.{View, ViewFits, shape_of_view}
-use Rattle.index_api.specs.declared.kinds.Via.{Via}
-use Rattle.branch_query.specs.Queries.{Query, form_of, IsQueryAnswer, AreQueryAnswers}
-use Rattle.branch_query.specs.Candidates.{AreCandidates}
-use Rattle.index_eval.specs.Exactness.{IsExact, FitsVia}
+use Rattle.bisim_spec.specs.Views.{View, shape_of_view}
+use Rattle.branch_query.specs.Queries.{Query, form_of, IsQueryAnswer}
 use Rattle.index_eval.specs.Extents.{is_in_blocks, AreOfBlocks}
+use Rattle.index_eval.specs.Candidates.{AreOfAnsweringBlocks, AreCandidatesOfEach, HaveAnswersOfEach, AreAnswersOfEach}
 use Rattle.index_eval.proofs.BlockSets.{are_of_blocks}
 use Rattle.index_eval.proofs.BlockAnswers.{are_candidates, answers_kept}
 use Rattle.index_eval.proofs.Exact.{exact_answers}
 
 module _ (texts : List (List ℕ)) (v : View) (q : Query) (whole : Bool) where
-  abbrev pub AreGathered : BitSet → Type 0
-  AreGathered set = AreOfBlocks v.block_of (IsQueryAnswer (shape_of_view texts v) (form_of whole q)) set.members
-
-  abbrev pub CandidatesOfEach : BitSet → Type 0
-  CandidatesOfEach set = (g : Graph) (r : ℕ → ℕ → Bool) → IsGraph g → g.seen ≡ texts → ViewFits g v → Agrees (shape_of g) v.block_of (λ x y. IsTrue (r x y))
-      → AreCandidates (shape_of g) r q whole set.members
-
-  abbrev pub KeptOfEach : BitSet → Type 0
-  KeptOfEach set = (g : Graph) → IsGraph g → g.seen ≡ texts → ViewFits g v → IsPartition (shape_of g) v.block_of → whole ≡ false → (n : ℕ) → IsQueryAnswer (shape_of g) q n
-      → IsTrue (has set.members n)
-
-  abbrev pub ExactOfEach : BitSet → Type 0
-  ExactOfEach set = (g : Graph) (via : Via) → IsGraph g → g.seen ≡ texts → FitsVia via g v → IsExact via q → whole ≡ true → AreQueryAnswers (shape_of g) q set.members
-
   -- over the texts of a graph, and the form that is asked
-  over : (set : BitSet) → AreGathered set → (seen : List (List ℕ)) → seen ≡ texts → (b : Bool) → whole ≡ b
+  over : (set : BitSet) → AreOfAnsweringBlocks texts v q whole set.members → (seen : List (List ℕ)) → seen ≡ texts → (b : Bool) → whole ≡ b
       → AreOfBlocks v.block_of (IsQueryAnswer (shape_of_view seen v) (form_of b q)) set.members
   over set h seen e b w =
       subst (λ t. AreOfBlocks v.block_of (IsQueryAnswer (shape_of_view t v) (form_of b q)) set.members) (sym e)
       (subst (λ c. AreOfBlocks v.block_of (IsQueryAnswer (shape_of_view texts v) (form_of c q)) set.members) w h)
 
-  pub candidates_of_each : (set : BitSet) → AreGathered set → CandidatesOfEach set
+  pub candidates_of_each : (set : BitSet) → AreOfAnsweringBlocks texts v q whole set.members → AreCandidatesOfEach texts v q whole set.members
   candidates_of_each set h g r is_graph seen fits agrees = are_candidates g is_graph v fits r agrees q whole set.members (over set h g.seen seen whole (λ i. whole))
 
-  pub kept_of_each : (set : BitSet) → AreGathered set → KeptOfEach set
+  pub kept_of_each : (set : BitSet) → AreOfAnsweringBlocks texts v q whole set.members → HaveAnswersOfEach texts v q whole set.members
   kept_of_each set h g is_graph seen fits p w n a = answers_kept g is_graph v fits p q set.members (over set h g.seen seen false w) n a
 
-  pub exact_of_each : (set : BitSet) → AreGathered set → ExactOfEach set
+  pub exact_of_each : (set : BitSet) → AreOfAnsweringBlocks texts v q whole set.members → AreAnswersOfEach texts v q whole set.members
   exact_of_each set h g via is_graph seen fits exact w = exact_answers g is_graph v via fits q exact set.members (over set h g.seen seen true w)
 
 -- the members of the blocks, by the clauses on them

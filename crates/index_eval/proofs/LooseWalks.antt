@@ -1,21 +1,18 @@
 -- Path expressions over the loose graph of a relation.
-use Rattle.std.proofs.Common.{◌≡◌, ℕ, suc, ◌+◌, ◌≤◌, List, [], ◌∷◌, length, refl, sym, ◌∙◌, subst, Option, None, Some, Bool, IsTrue, arith}
+use Rattle.std.proofs.Common.{◌≡◌, ℕ, suc, ◌+◌, ◌≤◌, List, [], ◌∷◌, length, refl, sym, ◌∙◌, subst, Some, Bool, IsTrue, arith}
 use Rattle.std.specs.Prelude.{is_some, ◌&&◌}
 use Rattle.std.proofs.lemmas.Bool.{and_parts, and_from}
 use Rattle.px_spec.specs.Shapes.{Shape, IsNode, IsShape}
 use Rattle.px_spec.specs.Walks.{Leads}
 use Rattle.path_spec.specs.Trees.{Expr}
-use Rattle.path_spec.specs.Longest.{longest, IsLongest}
 use Rattle.path_spec.specs.Answers.{IsAnswer}
-use Rattle.path_spec.specs.Matches.{Matches}
-use Rattle.path_spec.proofs.Longest.{longest_is}
 use Rattle.bisim_spec.specs.Below.{any_below}
 use Rattle.bisim_spec.specs.Bisimilarity.{Bis, IsBisimulation}
 use Rattle.bisim_spec.proofs.BelowLaws.{any_get, any_from}
 use Rattle.bisim_spec.proofs.Bisimilar.{bis_sym, bis_trans, bis_self, bis_label, label_same}
 use Rattle.bisim_spec.proofs.Settled.{bis_family, falls_to}
 use Rattle.branch_query.specs.Candidates.{loose, has_edge_between}
-use Rattle.index_eval.specs.Exactness.{IsWithin}
+use Rattle.index_eval.specs.Exactness.{HasLongestWithin}
 use Rattle.index_eval.proofs.MappedWalks.{ends_in_node}
 
 -- t has the nodes and labels of s, and edges just between all that are related to the ends of an edge
@@ -88,17 +85,13 @@ module _ (s t : Shape) (shape : IsShape s) where
         (p.0, (label_same s p.0 x (bis_label s k p.0 x to_x) ∙ (sym (is_loose.labels x) ∙ h.0), i2.0, p.1, i2.1), to_x)
 
     -- so an expression without longer words has just the answers of the graph
-    pub level_back : (e : Expr) → IsWithin (longest e) (i + 1) → (v : ℕ) → IsAnswer t e v → IsAnswer s e v
+    pub level_back : (e : Expr) → HasLongestWithin e (i + 1) → (v : ℕ) → IsAnswer t e v → IsAnswer s e v
     level_back e within v ([], m, x, h) = absurd h
     level_back e within v (r ∷ ts, m, x, h) =
-        let bound = short (longest e) (longest_is e) within in
+        let bound : length (r ∷ ts) ≤ i + 1 = (let most : length (r ∷ ts) ≤ within.0 = within.1.1 (r ∷ ts) m in let low = within.2 in omega (arith, most, low)) in
         let node = subst (λ o. IsTrue (is_some o)) (is_loose.labels v) (ends_in_node t x (r ∷ ts) v h) in
         let u = walk_back r ts 0 x v v (omega arith) h (bis_self s shape (0 + length ts) v node) in
         (r ∷ ts, m, u.0, u.1)
-      where
-        short : (o : Option ℕ) → IsLongest (Matches e) o → IsWithin o (i + 1) → length (r ∷ ts) ≤ i + 1
-        short None is w = absurd w
-        short (Some n) is w = let most = is.1 (r ∷ ts) m in omega arith
 
   -- over that of a bisimulation which is one both ways, each walk has
   module _ (R : ℕ → ℕ → Type 0) (is_loose : IsLoose s R t) (bis : IsBisimulation s R) (back : (u v : ℕ) → R u v → R v u) (on : (u v w : ℕ) → R u v → R v w → R u w)

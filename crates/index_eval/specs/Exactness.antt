@@ -1,9 +1,11 @@
 -- Which queries an index answers exactly. Sources: T. Milo and D. Suciu, ICDT 1999 (path expressions through the 1-index), R.
 -- Kaushik, P. Shenoy, P. Bohannon and E. Gudes, ICDE 2002 (short ones through an A(k)-index), R. Kaushik, P. Bohannon, J.
 -- Naughton and H. Korth, SIGMOD 2002 (all queries through the forward and backward index).
-use Rattle.std.specs.Prelude.{ℕ, ◌+◌, ◌≤◌, Option, None, Some}
+use Rattle.std.specs.Prelude.{ℕ, ◌+◌, ◌≤◌, Some}
 use Rattle.px_spec.specs.Graphs.{Graph}
-use Rattle.path_spec.specs.Longest.{longest}
+use Rattle.path_spec.specs.Trees.{Expr}
+use Rattle.path_spec.specs.Matches.{Matches}
+use Rattle.path_spec.specs.Longest.{IsLongest}
 use Rattle.bisim_spec.specs.declared.kind.Kind.TheVariants as kind
 use Rattle.bisim_spec.specs.Views.{View}
 use Rattle.bisim_spec.specs.Fits.{FitsAt}
@@ -11,17 +13,16 @@ use Rattle.index_api.specs.declared.kinds.Via.{Via}
 use Rattle.index_api.specs.declared.kinds.Via.TheVariants.{Data, A, One, Fb}
 use Rattle.branch_query.specs.Queries.{Query, path, branch}
 
--- there is a longest word, and it has at most so many labels
-abbrev pub IsWithin : Option ℕ → ℕ → Type 0
-IsWithin None most = ⊥
-IsWithin (Some n) most = n ≤ most
+-- the expression has a longest matching word, of at most so many labels
+abbrev pub HasLongestWithin : Expr → ℕ → Type 0
+HasLongestWithin e most = (n : ℕ) × IsLongest (Matches e) (Some n) × (n ≤ most)
 
 -- The index answers the query exactly: the 1-index each path expression, the forward and backward index each query, and
--- A(i) each path expression whose longest matching word has at most i + 1 labels. So a branching query is exact through the
+-- A(i) each path expression that has a longest matching word, of at most i + 1 labels. So a branching query is exact through the
 -- forward and backward index alone, since the others don't tell nodes apart by their children. The graph itself is no index.
 abbrev pub IsExact : Via → Query → Type 0
 IsExact Data q = ⊥
-IsExact (A i) (path e) = IsWithin (longest e) (i + 1)
+IsExact (A i) (path e) = HasLongestWithin e (i + 1)
 IsExact (A i) (branch q) = ⊥
 IsExact One (path e) = Unit {0}
 IsExact One (branch q) = ⊥

@@ -1,2 +1,3 @@
 pub mod Exactness
 pub mod Extents
+pub mod Candidates

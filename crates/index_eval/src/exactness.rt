@@ -1,16 +1,15 @@
 // Which queries an index answers exactly.
 ghost use Rattle.std.specs.Prelude.{◌↔◌, ◌+◌, IsTrue};
-ghost use Rattle.path_spec.specs.Longest.{longest};
 ghost use Rattle.branch_query.specs.Queries.{query_of};
-ghost use Rattle.index_eval.specs.Exactness.{IsExact, IsWithin};
+ghost use Rattle.index_eval.specs.Exactness.{IsExact, HasLongestWithin};
 
 use branch_query::Query;
 use index_api::Via;
 use path_query::PathExpr;
 
-/// Whether each matching word has at most one label more than the level.
+/// Whether there is a longest matching word, of at most one label more than the level.
 fn is_short(expr: &PathExpr, level: u32) -> bool
-    ensures { IsTrue result ↔ IsWithin (longest expr.now) (level + 1) }
+    ensures { IsTrue result ↔ HasLongestWithin expr.now (level + 1) }
 {
     match expr.longest() {
         Some(len) => u64::from(len) <= u64::from(level) + 1,
@@ -19,8 +18,8 @@ fn is_short(expr: &PathExpr, level: u32) -> bool
 }
 
 /// Whether the candidates of the query through the index are its answers, whatever the graph: a path expression through
-/// the 1-index, any query through the forward and backward index, and through the A(i)-index a path expression whose
-/// longest matching word has at most i + 1 labels. A branching query is exact through the forward and backward index
+/// the 1-index, any query through the forward and backward index, and through the A(i)-index a path expression that has a
+/// longest matching word, of at most i + 1 labels. A branching query is exact through the forward and backward index
 /// alone. False for the graph itself, which has no candidates. O(m) for a path expression with m tokens, else O(1); no
 /// memory.
 pub fn is_exact(via: Via, q: &Query<'_>) -> bool

@@ -1,18 +1,13 @@
 // The candidates of a query through an index.
-ghost use Rattle.std.specs.Prelude.{◌≡◌, ◌<◌, ◌||◌, ℕ, Bool, true, false, List, length, Some, IsSome, IsTrue, IfOk};
+ghost use Rattle.std.specs.Prelude.{◌≡◌, ◌<◌, ◌||◌, ℕ, length, Some, IsSome, IsTrue, IfOk};
 ghost use Rattle.std.specs.List.Sorted.{IsStrictlyIncreasing};
-ghost use Rattle.px_spec.specs.Graphs.{Graph, IsGraph};
-ghost use Rattle.px_spec.specs.Shapes.{shape_of};
 ghost use Rattle.px_spec.specs.Members.{has, at};
 ghost use Rattle.block_partition.specs.Partitions.{is_member};
-ghost use Rattle.bisim_spec.specs.Partitions.{Agrees, IsPartition};
-ghost use Rattle.bisim_spec.specs.Views.{ViewFits, shape_of_view};
+ghost use Rattle.bisim_spec.specs.Views.{shape_of_view};
 ghost use Rattle.quotient.specs.Quotients.{view_of};
-ghost use Rattle.index_api.specs.declared.kinds.Via.{Via as AnyVia};
-ghost use Rattle.branch_query.specs.Queries.{query_of, form_of, IsQueryAnswer, AreQueryAnswers};
-ghost use Rattle.branch_query.specs.Candidates.{AreCandidates};
-ghost use Rattle.index_eval.specs.Exactness.{IsExact, FitsVia};
-ghost use Rattle.index_eval.specs.Extents.{is_in_blocks, AreOfBlocks};
+ghost use Rattle.branch_query.specs.Queries.{query_of, form_of, AreQueryAnswers};
+ghost use Rattle.index_eval.specs.Extents.{is_in_blocks};
+ghost use Rattle.index_eval.specs.Candidates.{AreOfAnsweringBlocks, AreCandidatesOfEach, HaveAnswersOfEach, AreAnswersOfEach};
 
 use branch_query::Query;
 use label_graph::Labels;
@@ -32,7 +27,7 @@ fn answering_blocks(
     ensures { IfOk result (λ b. AreQueryAnswers (shape_of_view labels.now.texts (view_of summary.now)) (form_of whole (query_of q.now)) b.members) }
 {
     // As a graph the summary is the index graph, which this call says.
-    let _count = summary.blocks();
+    let _for_proof = summary.blocks();
     if whole {
         q.answers(alloc, summary, labels)
     } else {
@@ -62,7 +57,7 @@ fn extents(alloc: Global, summary: &Summary, blocks: &Bits) -> Result<Bits, Memo
     ensures members { IfOk result (λ set. (n : ℕ) → has set.members n ≡ is_in_blocks blocks.now.members (at summary.now.blocks.block_of n)) }
 {
     // The blocks are below the size, which this call says.
-    let _size = blocks.size();
+    let _for_proof = blocks.size();
     let mut set = Bits::new(alloc, summary.numbers())?;
     let mut from = 0;
     while let Some(b) = blocks.next_from(from) {
@@ -89,10 +84,10 @@ pub fn candidates(
 ) -> Result<Bits, Memory>
     requires labelled { (b l : ℕ) → at summary.now.blocks.labels b ≡ Some l → l < length labels.now.texts }
     ensures size { IfOk result (λ set. set.size ≡ length summary.now.blocks.block_of) }
-    ensures members { IfOk result (λ set. AreOfBlocks summary.now.blocks.block_of (IsQueryAnswer (shape_of_view labels.now.texts (view_of summary.now)) (form_of whole (query_of q.now))) set.members) }
-    ensures candidates { IfOk result (λ set. (g : Graph) (r : ℕ → ℕ → Bool) → IsGraph g → g.seen ≡ labels.now.texts → ViewFits g (view_of summary.now) → Agrees (shape_of g) summary.now.blocks.block_of (λ u v. IsTrue (r u v)) → AreCandidates (shape_of g) r (query_of q.now) whole set.members) }
-    ensures kept { IfOk result (λ set. (g : Graph) → IsGraph g → g.seen ≡ labels.now.texts → ViewFits g (view_of summary.now) → IsPartition (shape_of g) summary.now.blocks.block_of → whole ≡ false → (v : ℕ) → IsQueryAnswer (shape_of g) (query_of q.now) v → IsTrue (has set.members v)) }
-    ensures exact { IfOk result (λ set. (g : Graph) (via : AnyVia) → IsGraph g → g.seen ≡ labels.now.texts → FitsVia via g (view_of summary.now) → IsExact via (query_of q.now) → whole ≡ true → AreQueryAnswers (shape_of g) (query_of q.now) set.members) }
+    ensures members { IfOk result (λ set. AreOfAnsweringBlocks labels.now.texts (view_of summary.now) (query_of q.now) whole set.members) }
+    ensures candidates { IfOk result (λ set. AreCandidatesOfEach labels.now.texts (view_of summary.now) (query_of q.now) whole set.members) }
+    ensures kept { IfOk result (λ set. HaveAnswersOfEach labels.now.texts (view_of summary.now) (query_of q.now) whole set.members) }
+    ensures exact { IfOk result (λ set. AreAnswersOfEach labels.now.texts (view_of summary.now) (query_of q.now) whole set.members) }
 {
     let blocks = answering_blocks(alloc, summary, labels, q, whole)?;
     extents(alloc, summary, &blocks)

@@ -5,6 +5,8 @@ pub mod ProductSearch
 pub mod Within
 pub mod AutomatonParts
 pub mod LongestLaws
+pub mod LongestWords
+pub mod LongestExamples
 pub mod Places
 pub mod PartLists
 pub mod NullableLaws

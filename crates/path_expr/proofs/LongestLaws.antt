@@ -2,7 +2,7 @@
 use Rattle.std.proofs.Common.{◌≡◌, ℕ, ◌+◌, ◌<◌, length, take, get_or, List, [], ◌∷◌, ◌++◌, refl, sym, ap, ◌∙◌, arith, max, Option, None, Some}
 use Rattle.std.proofs.lemmas.List.{take_more}
 use Rattle.path_spec.specs.Trees as tree
-use Rattle.path_spec.specs.Longest.{longest, seq_longest, item_longest, greater, together}
+use Rattle.path_expr.specs.WordLengths.{longest, seq_longest, item_longest, greater, together}
 use Rattle.path_expr.specs.declared.tree.Sep.{Sep}
 use Rattle.path_expr.specs.declared.tree.Sep.TheVariants.{Child, Below}
 use Rattle.path_expr.specs.declared.tree.Following.{Following}

@@ -6,3 +6,4 @@ pub mod TreeParts
 pub mod Automata
 pub mod Compiled
 pub mod Capped
+pub mod WordLengths

@@ -1,5 +1,6 @@
 // The automaton of an expression.
-ghost use Rattle.std.specs.Prelude.{◌≡◌, ◌<◌, ◌≤◌, ℕ, List, length, drop, slice_get, Option, Some, IfSome, IfOk, OnOk};
+ghost use Rattle.std.specs.Prelude.{◌≡◌, ◌<◌, ◌≤◌, ℕ, List, length, drop, Option, Some, IfSome, IfOk, OnOk};
+ghost use Rattle.path_search.specs.Programs.{state_at};
 ghost use Rattle.path_expr.specs.Automata.{Stands, StandsSeq, StandsItem, StandsAtom, ReadsLabel};
 ghost use Rattle.path_expr.specs.Views.{seq_of, signed_by, atom_of};
 ghost use Rattle.path_expr.specs.Compiled.{Grows, HasFork, HasSep, StandRest};
@@ -61,7 +62,7 @@ fn compile_atom(
     requires next { next < length program.old }
     ensures number { IfOk result (λ i. i < length program.new) }
     ensures grows { OnOk result (Grows program.old program.new) }
-    ensures stands { IfOk result (λ i. StandsAtom labels.now.texts (λ k. slice_get program.new k) (atom_of atom.now) (length program.old) i next) }
+    ensures stands { IfOk result (λ i. StandsAtom labels.now.texts (state_at program.new) (atom_of atom.now) (length program.old) i next) }
 {
     match atom {
         Atom::Label(label) => program.push(label_state(labels, label, next)),
@@ -81,7 +82,7 @@ pub(crate) fn compile_item(
     requires next { next < length program.old }
     ensures number { IfOk result (λ i. i < length program.new) }
     ensures grows { OnOk result (Grows program.old program.new) }
-    ensures stands { IfOk result (λ i. StandsItem labels.now.texts (λ k. slice_get program.new k) (signed_by (atom_of atom.now) sign) (length program.old) i next) }
+    ensures stands { IfOk result (λ i. StandsItem labels.now.texts (state_at program.new) (signed_by (atom_of atom.now) sign) (length program.old) i next) }
 {
     match sign {
         None => compile_atom(labels, program, atom, next),
@@ -133,7 +134,7 @@ fn compile_seq(labels: &Labels, program: &mut Program, seq: &Seq, next: u32) -> 
     requires next { next < length program.old }
     ensures number { IfOk result (λ i. i < length program.new) }
     ensures grows { OnOk result (Grows program.old program.new) }
-    ensures stands { IfOk result (λ i. StandsSeq labels.now.texts (λ k. slice_get program.new k) (seq_of seq.now) (length program.old) i next) }
+    ensures stands { IfOk result (λ i. StandsSeq labels.now.texts (state_at program.new) (seq_of seq.now) (length program.old) i next) }
 {
     let after = compile_rest(labels, program, seq, 0, next)?;
     compile_item(labels, program, &seq.first.atom, seq.first.sign, after)
@@ -149,7 +150,7 @@ fn compile_expr(
     requires next { next < length program.old }
     ensures number { IfOk result (λ i. i < length program.new) }
     ensures grows { OnOk result (Grows program.old program.new) }
-    ensures stands { IfOk result (λ i. Stands labels.now.texts (λ k. slice_get program.new k) expr.now (length program.old) i next) }
+    ensures stands { IfOk result (λ i. Stands labels.now.texts (state_at program.new) expr.now (length program.old) i next) }
 {
     let mut behind = None;
     for j in (0..expr.more.len()).rev() {

@@ -2,6 +2,7 @@
 ghost use Rattle.std.specs.Prelude.{◌≡◌, ◌<◌, ◌≤◌, length, slice_get, Some, IfOk, OnOk};
 ghost use Rattle.path_spec.specs.Trees.{Atom as TreeAtom};
 ghost use Rattle.path_spec.specs.Trimmed.{trimmed_item, first_trimmed, from_required, trimmed_seq, trimmed};
+ghost use Rattle.path_search.specs.Programs.{state_at};
 ghost use Rattle.path_expr.specs.Automata.{Stands, StandsSeq};
 ghost use Rattle.path_expr.specs.Views.{signed_by, item_of, seq_of};
 ghost use Rattle.path_expr.specs.TreeParts.{items, separators, without_first};
@@ -73,7 +74,7 @@ fn compile_front(
     requires next { next < length program.old }
     ensures number { IfOk result (λ i. i < length program.new) }
     ensures grows { OnOk result (Grows program.old program.new) }
-    ensures stands { IfOk result (λ i. StandsSeq labels.now.texts (λ k. slice_get program.new k) (trimmed_seq (seq_of seq.now)) (length program.old) i next) }
+    ensures stands { IfOk result (λ i. StandsSeq labels.now.texts (state_at program.new) (trimmed_seq (seq_of seq.now)) (length program.old) i next) }
 {
     let lead = lead_len(seq);
     let item = item_at(seq, lead);
@@ -91,7 +92,7 @@ pub(crate) fn compile_trimmed(
     requires next { next < length program.old }
     ensures number { IfOk result (λ i. i < length program.new) }
     ensures grows { OnOk result (Grows program.old program.new) }
-    ensures stands { IfOk result (λ i. Stands labels.now.texts (λ k. slice_get program.new k) (trimmed expr.now) (length program.old) i next) }
+    ensures stands { IfOk result (λ i. Stands labels.now.texts (state_at program.new) (trimmed expr.now) (length program.old) i next) }
 {
     let mut behind = None;
     for j in (0..expr.more.len()).rev() {

@@ -1,15 +1,15 @@
 // The length of the longest matching word.
 ghost use Rattle.std.specs.Prelude.{◌≡◌, ℕ, Option, None};
 ghost use Rattle.path_expr.specs.declared.tree.Sep.TheVariants as seps;
-ghost use Rattle.path_spec.specs.Longest.{longest, seq_longest, item_longest, atom_longest, greater, together};
 ghost use Rattle.path_expr.specs.Views.{atom_of, item_of, seq_of};
-ghost use Rattle.path_expr.specs.Capped.{capped, greatest_length};
+ghost use Rattle.path_expr.specs.WordLengths.{longest, seq_longest, item_longest, atom_longest, greater, together};
+ghost use Rattle.path_expr.specs.Capped.{IsCapped};
 
 use crate::tree::{Atom, Expr, Item, Sep, Seq, Sign};
 
 /// Both lengths together.
 fn sum_of(a: Option<u64>, b: Option<u64>) -> Option<u64>
-    ensures { (x y : Option ℕ) → a ≡ capped greatest_length x → b ≡ capped greatest_length y → result ≡ capped greatest_length (together x y) }
+    ensures { (x y : Option ℕ) → IsCapped x a → IsCapped y b → IsCapped (together x y) result }
 {
     match (a, b) {
         (Some(m), Some(n)) => Some(m.saturating_add(n)),
@@ -19,7 +19,7 @@ fn sum_of(a: Option<u64>, b: Option<u64>) -> Option<u64>
 
 /// The greater length.
 fn greater_of(a: Option<u64>, b: Option<u64>) -> Option<u64>
-    ensures { (x y : Option ℕ) → a ≡ capped greatest_length x → b ≡ capped greatest_length y → result ≡ capped greatest_length (greater x y) }
+    ensures { (x y : Option ℕ) → IsCapped x a → IsCapped y b → IsCapped (greater x y) result }
 {
     match (a, b) {
         (Some(m), Some(n)) => Some(m.max(n)),
@@ -29,7 +29,7 @@ fn greater_of(a: Option<u64>, b: Option<u64>) -> Option<u64>
 
 #[cycle(longest)]
 fn atom_len(atom: &Atom) -> Option<u64>
-    ensures { result ≡ capped greatest_length (atom_longest (atom_of atom.now)) }
+    ensures { IsCapped (atom_longest (atom_of atom.now)) result }
 {
     match atom {
         Atom::Label(_) | Atom::Any => Some(1),
@@ -39,7 +39,7 @@ fn atom_len(atom: &Atom) -> Option<u64>
 
 #[cycle(longest)]
 fn item_len(item: &Item) -> Option<u64>
-    ensures { result ≡ capped greatest_length (item_longest (item_of item.now)) }
+    ensures { IsCapped (item_longest (item_of item.now)) result }
 {
     match item.sign {
         Some(Sign::Star) => None,
@@ -52,7 +52,7 @@ fn item_len(item: &Item) -> Option<u64>
 /// The length with one step more.
 #[cycle(longest)]
 fn step_len(before: Option<u64>, sep: Sep, item: &Item) -> Option<u64>
-    ensures child { sep ≡ seps.Child → (x : Option ℕ) → before ≡ capped greatest_length x → result ≡ capped greatest_length (together x (item_longest (item_of item.now))) }
+    ensures child { sep ≡ seps.Child → (x : Option ℕ) → IsCapped x before → IsCapped (together x (item_longest (item_of item.now))) result }
     ensures below { sep ≡ seps.Below → result ≡ None }
 {
     match sep {
@@ -63,7 +63,7 @@ fn step_len(before: Option<u64>, sep: Sep, item: &Item) -> Option<u64>
 
 #[cycle(longest)]
 fn seq_len(seq: &Seq) -> Option<u64>
-    ensures { result ≡ capped greatest_length (seq_longest (seq_of seq.now)) }
+    ensures { IsCapped (seq_longest (seq_of seq.now)) result }
 {
     let mut len = item_len(&seq.first);
     for j in 0..seq.rest.len() {
@@ -77,7 +77,7 @@ fn seq_len(seq: &Seq) -> Option<u64>
 /// which no text within the limits reaches, it is that number. O(m) for m tokens, no memory.
 #[cycle(longest)]
 pub fn longest(expr: &Expr) -> Option<u64>
-    ensures { result ≡ capped greatest_length (longest expr.now) }
+    ensures { IsCapped (longest expr.now) result }
 {
     let mut len = seq_len(&expr.first);
     for j in 0..expr.more.len() {

@@ -6,7 +6,7 @@ use Rattle.px_spec.specs.declared.limits.Limits.{Limits}
 use Rattle.path_spec.specs.Trees.{star, plus, opt, child, below, Expr, only, or, Seq, last, then, Item, once, signed, Atom, label, any, group}
 use Rattle.path_spec.specs.Tokens.{Token, slash, slashes, bar, opening, closing, sign, onto, seq_onto, item_onto, atom_onto, tokens}
 use Rattle.path_spec.specs.Spelling.{SpellsTokens}
-use Rattle.path_spec.specs.Longest.{longest, seq_longest, item_longest, atom_longest, greater, together}
+use Rattle.path_expr.specs.WordLengths.{longest, seq_longest, item_longest, atom_longest, greater, together}
 use Rattle.path_expr.specs.Capped.{capped, greatest_length}
 use Rattle.path_query.specs.Labels.{SpellsLabel}
 use Rattle.path_query.specs.Lengths.{IsBounded, IsNarrow}

@@ -1,5 +1,5 @@
 -- Labels, as they are written: names, and IRIs in brackets.
-use Rattle.std.specs.Prelude.{ℕ, ◌≡◌, ◌≢◌, ◌≤◌, ◌⊎◌, List, length, take, codes, IsTrue}
+use Rattle.std.specs.Prelude.{ℕ, ◌≡◌, ◌≢◌, ◌≤◌, ◌⊎◌, List, length, take, codes, Option, IsTrue, IsSomeAnd}
 use Rattle.px_spec.specs.Words.{is_name}
 use Rattle.triples_read.specs.Lines.{IsIriFront}
 use Rattle.triples_read.specs.Canonical.{iri_spelling}
@@ -17,3 +17,7 @@ SpellsLabel text t =
 -- the first n bytes spell the label
 abbrev pub IsNameFront : List ℕ → ℕ → List ℕ → Type 0
 IsNameFront text n t = (n ≤ length text) × SpellsLabel (take n text) t
+
+-- this label is read from so many bytes
+abbrev pub IsRead : List ℕ → ℕ → Option (List ℕ × ℕ) → Type 0
+IsRead t n found = IsSomeAnd found (λ f. (f.0 ≡ t) × (f.1 ≡ n))

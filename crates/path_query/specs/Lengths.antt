@@ -1,7 +1,7 @@
 -- How long the words of an expression are.
 use Rattle.std.specs.Prelude.{ℕ, ◌≤◌, ◌^◌, Option, None, Some}
 use Rattle.path_spec.specs.Trees.{Expr}
-use Rattle.path_spec.specs.Longest.{longest}
+use Rattle.path_expr.specs.WordLengths.{longest}
 
 -- where there is a longest word, it has at most so many labels
 abbrev pub IsBounded : Option ℕ → ℕ → Type 0

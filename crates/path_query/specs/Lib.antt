@@ -4,4 +4,5 @@ pub mod Parsed
 pub mod Lengths
 pub mod Seen
 pub mod Fronts
+pub mod Heads
 pub mod Written

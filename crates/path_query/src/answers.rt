@@ -1,7 +1,7 @@
 // The answers of a path expression over a graph.
 ghost use Rattle.std.specs.Prelude.{◌≡◌, ◌<◌, ℕ, length, Some, IfOk};
 ghost use Rattle.px_spec.specs.Members.{has};
-ghost use Rattle.px_spec.specs.Shapes.{shape_by};
+ghost use Rattle.path_search.specs.Digraphs.{shape_through};
 ghost use Rattle.path_spec.specs.Answers.{AreAnswers};
 ghost use Rattle.path_spec.specs.Parts.{part_of};
 
@@ -23,7 +23,7 @@ pub fn eval<G: Digraph>(
 ) -> Result<Bits, Memory>
     requires labelled { (n l : ℕ) → G.label_at g.now n ≡ Some l → l < length labels.now.texts }
     ensures size { IfOk result (λ b. b.size ≡ G.span g.now) }
-    ensures answers { IfOk result (λ b. AreAnswers (shape_by labels.now.texts (G.span g.now) (G.label_at g.now) (G.edge g.now)) expr.now b.members) }
+    ensures answers { IfOk result (λ b. AreAnswers (shape_through G.Digraph labels.now g.now) expr.now b.members) }
 {
     path_expr::eval(alloc, g, labels, expr.tree())
 }
@@ -40,7 +40,7 @@ pub fn eval_within<G: Digraph>(
 ) -> Result<Bits, Memory>
     requires labelled { (n l : ℕ) → G.label_at g.now n ≡ Some l → l < length labels.now.texts }
     ensures size { IfOk result (λ b. b.size ≡ G.span g.now) }
-    ensures answers { IfOk result (λ b. AreAnswers (part_of (has set.now.members) (shape_by labels.now.texts (G.span g.now) (G.label_at g.now) (G.edge g.now))) expr.now b.members) }
+    ensures answers { IfOk result (λ b. AreAnswers (part_of (has set.now.members) (shape_through G.Digraph labels.now g.now)) expr.now b.members) }
 {
     path_expr::eval_within(alloc, g, labels, expr.tree(), set)
 }

@@ -1,7 +1,8 @@
 // Path expressions.
 ghost use Rattle.std.specs.Prelude.{◌≡◌, ◌↔◌, ◌-◌, ◌^◌, ℕ, List, Option, Err, IfOk, IsErrOf, IsTrue};
 ghost use Rattle.path_spec.specs.Trees as tree;
-ghost use Rattle.path_spec.specs.Longest.{longest};
+ghost use Rattle.path_spec.specs.Matches.{Matches};
+ghost use Rattle.path_spec.specs.Longest.{IsLongest};
 ghost use Rattle.path_spec.specs.Spelling.{canonical};
 ghost use Rattle.path_query.specs.Lengths.{IsBounded};
 ghost use Rattle.path_query.specs.Parsed.{Spells, is_past};
@@ -90,7 +91,7 @@ impl PathExpr {
     /// The number of labels of the longest matching word, and None exactly where there is no longest. It is at most 2^30, since
     /// each of these labels takes a byte of a text within the limits. O(m) for m tokens, no memory.
     pub fn longest(&self) -> Option<u32>
-        ensures { result ≡ longest self.now }
+        ensures { IsLongest (Matches self.now) result }
     {
         narrow(longest(&self.tree))
     }

@@ -1,9 +1,10 @@
 // The grammar of path expressions, over tokens.
-ghost use Rattle.std.specs.Prelude.{◌≡◌, ◌<◌, ◌≤◌, ℕ, List, [], length, IfOk, IsErrOf};
+ghost use Rattle.std.specs.Prelude.{◌≡◌, ◌<◌, ◌≤◌, length, IfOk, IsErrOf};
 ghost use Rattle.path_spec.specs.Trees as tree;
 ghost use Rattle.path_spec.specs.Tokens as tokens;
 ghost use Rattle.path_expr.specs.Views.{atom_of, signed_by, item_of, seq_of};
 ghost use Rattle.path_query.specs.Seen.{seen};
+ghost use Rattle.path_query.specs.Heads.{HasNoAtom, HasNoItem, HasNoSeq, HasNoExpr, EndsItemBefore};
 
 use crate::token::{Token, after_bar, after_close, ends_item, first_sep, first_sign, first_token};
 use path_expr::{Atom, Expr, Following, Item, Seq, Sign};
@@ -46,7 +47,7 @@ impl From<Memory> for ReadError {
 fn read_atom<'t>(alloc: Global, left: &'t [Token]) -> Result<(Atom, &'t [Token]), ReadError>
     ensures ok { IfOk result (λ r. seen left.now ≡ tokens.atom_onto (atom_of r.0) (seen r.1.now)) }
     ensures shorter { IfOk result (λ r. length r.1.now < length left.now) }
-    ensures syntax { IsErrOf result ReadError.Syntax → (a : tree.Atom) (r : List tokens.Token) → seen left.now ≡ tokens.atom_onto a r → ⊥ }
+    ensures syntax { IsErrOf result ReadError.Syntax → HasNoAtom (seen left.now) }
 {
     let Some((token, rest)) = first_token(left) else {
         return Err(ReadError::Syntax);
@@ -71,7 +72,7 @@ fn read_item<'t>(alloc: Global, left: &'t [Token]) -> Result<(Item, &'t [Token])
     ensures ok { IfOk result (λ r. seen left.now ≡ tokens.item_onto (item_of r.0) (seen r.1.now)) }
     ensures ends { IfOk result (λ r. tokens.EndsItem (seen r.1.now)) }
     ensures shorter { IfOk result (λ r. length r.1.now < length left.now) }
-    ensures syntax { IsErrOf result ReadError.Syntax → (i : tree.Item) (r : List tokens.Token) → tokens.EndsItem r → seen left.now ≡ tokens.item_onto i r → ⊥ }
+    ensures syntax { IsErrOf result ReadError.Syntax → HasNoItem (seen left.now) }
 {
     let (atom, rest) = read_atom(alloc, left)?;
     let (sign, after) = split_sign(rest);
@@ -85,7 +86,7 @@ fn read_item<'t>(alloc: Global, left: &'t [Token]) -> Result<(Item, &'t [Token])
 /// The sign at the front, if there is one, and what follows.
 fn split_sign(left: &[Token]) -> (Option<Sign>, &[Token])
     ensures whole { (a : tree.Atom) → tokens.atom_onto a (seen left.now) ≡ tokens.item_onto (signed_by a result.0) (seen result.1.now) }
-    ensures only { (a : tree.Atom) (i : tree.Item) (r : List tokens.Token) → tokens.EndsItem r → tokens.atom_onto a (seen left.now) ≡ tokens.item_onto i r → r ≡ seen result.1.now }
+    ensures only { EndsItemBefore (seen left.now) (seen result.1.now) }
     ensures shorter { length result.1.now ≤ length left.now }
 {
     match first_sign(left) {
@@ -100,7 +101,7 @@ fn read_seq<'t>(alloc: Global, left: &'t [Token]) -> Result<(Seq, &'t [Token]), 
     ensures ok { IfOk result (λ r. seen left.now ≡ tokens.seq_onto (seq_of r.0) (seen r.1.now)) }
     ensures ends { IfOk result (λ r. tokens.EndsSeq (seen r.1.now)) }
     ensures shorter { IfOk result (λ r. length r.1.now < length left.now) }
-    ensures syntax { IsErrOf result ReadError.Syntax → (s : tree.Seq) (r : List tokens.Token) → tokens.EndsSeq r → seen left.now ≡ tokens.seq_onto s r → ⊥ }
+    ensures syntax { IsErrOf result ReadError.Syntax → HasNoSeq (seen left.now) }
 {
     let (first, mut behind) = read_item(alloc, left)?;
     let mut rest = Vec::new(alloc);
@@ -118,7 +119,7 @@ fn read_expr<'t>(alloc: Global, left: &'t [Token]) -> Result<(Expr, &'t [Token])
     ensures ok { IfOk result (λ r. seen left.now ≡ tokens.onto r.0 (seen r.1.now)) }
     ensures ends { IfOk result (λ r. tokens.EndsExpr (seen r.1.now)) }
     ensures shorter { IfOk result (λ r. length r.1.now < length left.now) }
-    ensures syntax { IsErrOf result ReadError.Syntax → (e : tree.Expr) (r : List tokens.Token) → tokens.EndsExpr r → seen left.now ≡ tokens.onto e r → ⊥ }
+    ensures syntax { IsErrOf result ReadError.Syntax → HasNoExpr (seen left.now) }
 {
     let (first, mut behind) = read_seq(alloc, left)?;
     let mut more = Vec::new(alloc);

@@ -1,12 +1,12 @@
 // Labels, as they are written.
-ghost use Rattle.std.specs.Prelude.{◌≡◌, ◌↔◌, ◌≤◌, ℕ, List, length, take, drop, IsTrue, IfOk, IfSome, IfNone, IsSomeAnd};
+ghost use Rattle.std.specs.Prelude.{◌≡◌, ◌↔◌, ◌≤◌, ℕ, List, length, take, drop, IsTrue, IfOk, IfSome, IfNone};
 ghost use Rattle.std.specs.List.{list_all, prefix_len};
 ghost use Rattle.px_spec.specs.Words.{is_letter, is_name_byte, is_name};
 ghost use Rattle.triples_read.specs.Lines.{IsIriFront};
 ghost use Rattle.triples_read.specs.Canonical.{iri_spelling};
 ghost use Rattle.triples_read.specs.ByteReaders.{starts_with};
 ghost use Rattle.path_spec.specs.Spelling.{EndsName};
-ghost use Rattle.path_query.specs.Labels.{IsPlainLabel, SpellsLabel, IsNameFront};
+ghost use Rattle.path_query.specs.Labels.{IsPlainLabel, SpellsLabel, IsNameFront, IsRead};
 
 use px_base::{Memory, Text, TextError};
 use std::alloc::Global;
@@ -57,7 +57,7 @@ pub fn name_len(bytes: &[u8]) -> usize
 /// The name at the front, as long as it can be, and its length.
 fn read_name(alloc: Global, text: &[u8]) -> Result<Option<(Text, usize)>, Memory>
     ensures found { IfOk result (λ r. IfSome r (λ f. (f.1 ≤ length text.now) × IsPlainLabel (take f.1 text.now) × (f.0 ≡ take f.1 text.now))) }
-    ensures only { (n : ℕ) → n ≤ length text.now → IsPlainLabel (take n text.now) → EndsName (drop n text.now) → IfOk result (λ r. IsSomeAnd r (λ f. (f.0 ≡ take n text.now) × (f.1 ≡ n))) }
+    ensures only { (n : ℕ) → n ≤ length text.now → IsPlainLabel (take n text.now) → EndsName (drop n text.now) → IfOk result (IsRead (take n text.now) n) }
 {
     let len = name_len(text);
     let (name, _) = text.split_at(len);
@@ -74,7 +74,7 @@ fn read_name(alloc: Global, text: &[u8]) -> Result<Option<(Text, usize)>, Memory
 /// The one spelling of the IRI whose IRIREF is at the front, and the length of that IRIREF.
 fn read_iri(alloc: Global, text: &[u8]) -> Result<Option<(Text, usize)>, Memory>
     ensures found { IfOk result (λ r. IfSome r (λ f. (iri : List ℕ) × IsIriFront text.now f.1 iri × (f.0 ≡ iri_spelling iri))) }
-    ensures only { (n : ℕ) (iri : List ℕ) → IsIriFront text.now n iri → IfOk result (λ r. IsSomeAnd r (λ f. (f.0 ≡ iri_spelling iri) × (f.1 ≡ n))) }
+    ensures only { (n : ℕ) (iri : List ℕ) → IsIriFront text.now n iri → IfOk result (IsRead (iri_spelling iri) n) }
 {
     let Some((iri, len)) = read_iri_front(alloc, text)? else {
         return Ok(None);
@@ -94,7 +94,7 @@ fn opens_iri(text: &[u8]) -> bool
 /// name goes on behind it, that one is read. None where no label stands there. Linear in what it reads.
 pub(crate) fn read_front(alloc: Global, text: &[u8]) -> Result<Option<(Text, usize)>, Memory>
     ensures found { IfOk result (λ r. IfSome r (λ f. IsNameFront text.now f.1 f.0)) }
-    ensures only { (n : ℕ) (t : List ℕ) → IsNameFront text.now n t → EndsName (drop n text.now) → IfOk result (λ r. IsSomeAnd r (λ f. (f.0 ≡ t) × (f.1 ≡ n))) }
+    ensures only { (n : ℕ) (t : List ℕ) → IsNameFront text.now n t → EndsName (drop n text.now) → IfOk result (IsRead t n) }
 {
     if opens_iri(text) {
         read_iri(alloc, text)

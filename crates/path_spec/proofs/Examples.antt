@@ -7,7 +7,6 @@ use Rattle.path_spec.specs.Matches.{Word, Matches}
 use Rattle.path_spec.specs.Tests.{matches}
 use Rattle.path_spec.specs.Trimmed.{trimmed}
 use Rattle.path_spec.specs.Answers.{IsAnswer}
-use Rattle.path_spec.specs.Longest.{longest}
 use Rattle.path_spec.specs.Spelling.{canonical}
 use Rattle.path_spec.proofs.WordTests.{says}
 
@@ -136,15 +135,6 @@ no_walk_is_empty v (t ∷ [], h, zero, walk) =
     true≢false (sym ((says (one (signed a star))).is_yes (t ∷ []) h) ∙ ap (tells (one (signed a star))) (sym walk.0))
 no_walk_is_empty v (t ∷ [], h, suc u, walk) = cc (walk.0)
 no_walk_is_empty v (t ∷ r ∷ ts, h, u, walk) = true≢false (sym walk.2)
-
-longest_or : longest c_or_ab ≡ Some 2
-longest_or = refl
-
-longest_star : longest ab_star ≡ None
-longest_star = refl
-
-longest_below : longest a_below_c ≡ None
-longest_below = refl
 
 -- _*/a/_+ has the answers of a/_+, and so has b*//_?/a+/_+
 abbrev a_some : Expr

@@ -3,7 +3,8 @@ use Rattle.bisim_spec.specs.Views.{shape_of_view}
 use Rattle.quotient.specs.Quotients.{view_of}
 use Rattle.branch_query.specs.Queries.{query_of, form_of, IsQueryAnswer}
 use Rattle.index_eval.proofs.BlockAnswers.{answering_block}
-use Rattle.index_eval.proofs.Gathered.{AreGathered, CandidatesOfEach, KeptOfEach, ExactOfEach, gathered, candidates_of_each, kept_of_each, exact_of_each}
+use Rattle.index_eval.specs.Candidates.{AreOfAnsweringBlocks, AreCandidatesOfEach, HaveAnswersOfEach, AreAnswersOfEach}
+use Rattle.index_eval.proofs.Gathered.{gathered, candidates_of_each, kept_of_each, exact_of_each}
 use Rattle.index_eval.proofs.summary_answers.candidates.Goals as goal
 
 pub extents-requires : goal.extents-requires
@@ -24,7 +25,7 @@ returns-clause-candidates c =
     let v = view_of c.args.summary.now in
     let q = query_of c.args.q.now in
     let whole = c.args.whole in
-    IfOk-weaker c.extents.result (AreGathered texts v q whole) (CandidatesOfEach texts v q whole) (candidates_of_each texts v q whole) (returns-clause-members c)
+    IfOk-weaker c.extents.result (λ b. AreOfAnsweringBlocks texts v q whole b.members) (λ b. AreCandidatesOfEach texts v q whole b.members) (candidates_of_each texts v q whole) (returns-clause-members c)
 
 pub returns-clause-kept : goal.returns-clause-kept
 returns-clause-kept c =
@@ -32,7 +33,7 @@ returns-clause-kept c =
     let v = view_of c.args.summary.now in
     let q = query_of c.args.q.now in
     let whole = c.args.whole in
-    IfOk-weaker c.extents.result (AreGathered texts v q whole) (KeptOfEach texts v q whole) (kept_of_each texts v q whole) (returns-clause-members c)
+    IfOk-weaker c.extents.result (λ b. AreOfAnsweringBlocks texts v q whole b.members) (λ b. HaveAnswersOfEach texts v q whole b.members) (kept_of_each texts v q whole) (returns-clause-members c)
 
 pub returns-clause-exact : goal.returns-clause-exact
 returns-clause-exact c =
@@ -40,4 +41,4 @@ returns-clause-exact c =
     let v = view_of c.args.summary.now in
     let q = query_of c.args.q.now in
     let whole = c.args.whole in
-    IfOk-weaker c.extents.result (AreGathered texts v q whole) (ExactOfEach texts v q whole) (exact_of_each texts v q whole) (returns-clause-members c)
+    IfOk-weaker c.extents.result (λ b. AreOfAnsweringBlocks texts v q whole b.members) (λ b. AreAnswersOfEach texts v q whole b.members) (exact_of_each texts v q whole) (returns-clause-members c)
