@@ -1,4 +1,4 @@
-use Rattle.std.proofs.Common.{ℕ, ◌≤◌, length, Some, subst, arith}
+use Rattle.std.proofs.Common.{◌≤◌, length, Some, subst, arith}
 use Rattle.path_spec.specs.Matches.{Matches}
 use Rattle.path_spec.specs.Longest.{IsLongest}
 use Rattle.data_validate.proofs.checks.most_edges.Goals as goal
