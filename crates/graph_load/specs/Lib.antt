@@ -1,4 +1,5 @@
 pub mod TripleGraphs
+pub mod TermNodes
 pub mod Loads
 pub mod Places
 pub mod Hashed

@@ -1,10 +1,12 @@
 -- What a loader keeps of what is loaded.
-use Rattle.std.specs.Prelude.{◌≡◌, ℕ, ◌<◌, ◌≤◌, Bool, List, [], ◌∷◌, ◌++◌, length, position, bytes_eq, Result, Ok, Err, if◌then◌else◌}
+use Rattle.std.specs.Prelude.{◌≡◌, ℕ, ◌<◌, ◌≤◌, Bool, List, [], ◌∷◌, ◌++◌, length, position, bytes_eq, Some, Result, Ok, Err, if◌then◌else◌}
 use Rattle.std.specs.List.{list_any, AllByRecursion}
 use Rattle.px_spec.specs.declared.limits.Limits.{Limits}
 use Rattle.px_spec.specs.declared.refusal.Refusal.{Refusal}
 use Rattle.label_graph.specs.Held.{no_room}
+use Rattle.triples_read.specs.declared.term.Term.{Term}
 use Rattle.triples_read.specs.declared.term.Triple.{Triple}
+use Rattle.term_table.specs.Terms.{number_of}
 use Rattle.graph_load.specs.declared.known.Key.{Key}
 use Rattle.graph_load.specs.declared.loader.Loader.{Loader}
 use Rattle.graph_load.specs.declared.loader.Places.{Places}
@@ -25,6 +27,10 @@ pub record ArePlaces (r : Loader) (t : Triple) (p : Places) : Type 0 where
   pub subject : IsFoundAs r.terms t.subject p.subject
   pub predicate : p.predicate ≡ position (bytes_eq t.predicate) r.predicates
   pub object : IsFoundAs r.terms t.object p.object
+
+-- the node of the term has this number
+abbrev pub IsNumbered : Loader → Term → ℕ → Type 0
+IsNumbered r t n = number_of r.terms t ≡ Some n
 
 -- the loader knows just these triples
 abbrev pub Holds : Loader → List Triple → Type 0

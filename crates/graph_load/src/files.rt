@@ -1,11 +1,10 @@
 // A graph file, in batches of triples.
 ghost use Rattle.std.specs.Prelude.{◌≡◌, ◌≢◌, ℕ, List, [], IfOk, OnOk, IfErr, IsErrOf, IsTrue, Err};
-ghost use Rattle.px_base.specs.ReaderStates.{stream};
 ghost use Rattle.px_base.specs.Causes.{Rose};
 ghost use Rattle.label_graph.specs.Held.{no_room};
 ghost use Rattle.graph_load.specs.Loads.{Outcome, Loads, loaded, at_start};
-ghost use Rattle.graph_load.specs.Loaders.{load_state, Holds, IsSoundLoader};
-ghost use Rattle.graph_load.specs.LoadSteps.{LoadsTold, LacksFile, TellsOutcome, LoadsAhead, CanRead, place};
+ghost use Rattle.graph_load.specs.Loaders.{Holds, IsSoundLoader};
+ghost use Rattle.graph_load.specs.LoadSteps.{LoadsTold, LacksFile, TellsOutcome, LoadsAhead, LoadsRest, CanRead};
 ghost use Rattle.graph_load.specs.declared.files.LoadError.TheVariants.{Memory as NoMemory};
 
 use crate::batch::{Next, Waiting, give_back, read_batch};
@@ -59,9 +58,9 @@ fn load_batches<H: Shelf>(
     requires nothing { Holds loader.old [] }
     requires sound { IsSoundLoader loader.old }
     requires can { CanRead reader.old (H.is_open shelf.old) }
-    ensures loaded { OnOk result (LoadsAhead limits.now (stream reader.old (H.left shelf.old)) (place reader.old (load_state loader.old [])) (loaded loader.new.graph.graph)) }
+    ensures loaded { OnOk result (LoadsRest limits.now reader.old (H.left shelf.old) loader.old (loaded loader.new.graph.graph)) }
     ensures sound { OnOk result (IsSoundLoader loader.new) }
-    ensures refused { IfErr result (TellsOutcome (LoadsAhead limits.now (stream reader.old (H.left shelf.old)) (place reader.old (load_state loader.old [])))) }
+    ensures refused { IfErr result (TellsOutcome (LoadsRest limits.now reader.old (H.left shelf.old) loader.old)) }
     ensures found { result ≢ Err LoadError.Missing }
     ensures files { H.files shelf.new ≡ H.files shelf.old }
     ensures fault { IsErrOf result LoadError.Fault → Rose (H.faults shelf.old) (H.faults shelf.new) }

@@ -17,14 +17,14 @@ pub(crate) struct TermChanges {
 }
 
 impl Model for TermChanges {
-    ghost use Rattle.std.specs.Prelude.{⊤, ◌≡◌, codes};
-    ghost use Rattle.graph_update.specs.declared.changes.Change.TheVariants.{Node as node_of_change};
+    ghost use Rattle.std.specs.Prelude.{⊤, codes};
+    ghost use Rattle.graph_load.specs.TermNodes.{AddsNode};
 
     ghost Value = { ⊤ };
 
     ghost view = { λ _. tt };
 
-    ghost invariant = { λ k. (k.iri ≡ node_of_change (codes "iri")) × (k.blank ≡ node_of_change (codes "blank")) × (k.literal ≡ node_of_change (codes "literal")) };
+    ghost invariant = { λ k. AddsNode k.iri (codes "iri") × AddsNode k.blank (codes "blank") × AddsNode k.literal (codes "literal") };
 }
 
 fn labelled(alloc: Global, label: &str) -> Result<Change, Memory>
