@@ -2,7 +2,7 @@
 use Rattle.std.specs.Prelude.{◌≡◌, ℕ, ◌<◌, ◌^◌, Bool, true, false, ◌&&◌, ◌||◌, List, length, nat_lt, IsTrue}
 use Rattle.std.specs.FinSet as set
 use Rattle.px_spec.specs.declared.limits.Limits.{Limits}
-use Rattle.px_spec.specs.Graphs.{Graph, is_live, has_edge, is_seen}
+use Rattle.px_spec.specs.Graphs.{Graph, IsGraph, is_live, has_edge, is_seen}
 use Rattle.px_spec.specs.Changes.{Change, node, link, unlink, drop, is_used}
 
 -- the change is a link of an edge that is there already, between live nodes
@@ -47,3 +47,7 @@ pub record AreHighest (limits : Limits) : Type 0 where
   pub nodes : limits.nodes ≡ 2 ^ 30
   pub edges : limits.edges ≡ 2 ^ 30
   pub labels : limits.labels ≡ 2 ^ 30
+
+-- What a pending change keeps: it is new to the graph, these are the texts of the graph's labels, and the graph is sound.
+abbrev pub IsPending : Change → Graph → List (List ℕ) → Type 0
+IsPending c g texts = record { new : IsNew c g; seen : texts ≡ g.seen; sound : IsGraph g }

@@ -38,14 +38,12 @@ impl<'a> Model for After<'a> {
 
     ghost coded = { pending_code };
 
-    ghost use Rattle.std.specs.Prelude.{◌≡◌};
-    ghost use Rattle.px_spec.specs.Graphs.{IsGraph};
-    ghost use Rattle.graph_update.specs.NewChanges.{IsNew};
+    ghost use Rattle.graph_update.specs.NewChanges.{IsPending};
     ghost use Rattle.graph_update.specs.Verdicts.{change_of};
 
     ghost view = { λ a. record { before = a.graph.now.graph; change = change_of a.change.now } };
 
-    ghost invariant = { λ a. record { new : IsNew (change_of a.change.now) a.graph.now.graph; seen : a.labels.now.texts ≡ a.graph.now.graph.seen; sound : IsGraph a.graph.now.graph } };
+    ghost invariant = { λ a. IsPending (change_of a.change.now) a.graph.now.graph a.labels.now.texts };
 }
 
 impl<'a> After<'a> {

@@ -1,5 +1,6 @@
 -- What a table of labels holds.
-use Rattle.std.specs.Prelude.{ℕ, List, ◌++◌, Option, None, Some, if◌then◌else◌}
+use Rattle.std.specs.Prelude.{◌≡◌, ◌≤◌, ◌+◌, ◌^◌, ℕ, List, [], ◌∷◌, ◌++◌, length, bytes_eq, Option, None, Some, if◌then◌else◌}
+use Rattle.std.specs.List.{IsDistinct}
 use Rattle.std.specs.Option.{option_to_list}
 use Rattle.px_spec.specs.Graphs.{is_seen}
 
@@ -11,6 +12,15 @@ pub record LabelTable : Type 0 where
 -- the labels, and then the text ahead
 abbrev pub entries : LabelTable → List (List ℕ)
 entries t = t.texts ++ option_to_list t.ahead
+
+-- What a table keeps: of its entries the first `shown` are labels, at most one more is ahead, and none comes twice.
+abbrev pub IsLabelTable : List (List ℕ) → ℕ → Type 0
+IsLabelTable keys shown = record { within : shown ≤ length keys; one_ahead : length keys ≤ shown + 1; few : shown ≤ 2 ^ 30; once : IsDistinct bytes_eq keys }
+
+-- Of two entries behind the first `shown` only the last one stays.
+abbrev pub DropsPrevious : ℕ → List (List ℕ) → List (List ℕ) → Type 0
+DropsPrevious shown keys left =
+    (front : List (List ℕ)) (old new : List ℕ) → keys ≡ front ++ old ∷ new ∷ [] → length front ≡ shown → left ≡ front ++ new ∷ []
 
 -- there is room for the text: it is a label, or it lies ahead
 abbrev pub with_ahead : LabelTable → List ℕ → LabelTable

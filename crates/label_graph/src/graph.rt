@@ -4,9 +4,9 @@ ghost use Rattle.std.specs.FinSet as set;
 ghost use Rattle.px_spec.specs.Graphs.{IsGraph, empty_graph, is_live, label_of, has_edge};
 ghost use Rattle.px_spec.specs.Changes.{with_node, with_edge, without_edge, without_node, is_used};
 ghost use Rattle.px_spec.specs.Members.{Lists};
-ghost use Rattle.px_spec.specs.Shapes.{shape_of, shape_by};
+ghost use Rattle.px_spec.specs.Shapes.{shape_of};
 ghost use Rattle.label_graph.specs.Held.{no_room, label_room, pair_room};
-ghost use Rattle.label_graph.specs.Views.{label_number, is_linked, live_count, edge_count};
+ghost use Rattle.label_graph.specs.Views.{label_number, is_linked, numbered_shape, live_count, edge_count};
 
 use crate::labels::Labels;
 use crate::node::{Nodes, Reserved};
@@ -191,7 +191,7 @@ impl Graph {
         ensures view { result ≡ self.now.graph }
         ensures cost { steps.new ≡ steps.old + 1 + live_count self.now.graph + edge_count self.now.graph }
         ensures graph { IsGraph self.now.graph }
-        ensures shape { shape_by self.now.graph.seen (length self.now.graph.given) (label_number self.now.graph) (is_linked self.now.graph) ≡ shape_of self.now.graph }
+        ensures shape { numbered_shape self.now.graph ≡ shape_of self.now.graph }
         ensures labelled { (n l : ℕ) → label_number self.now.graph n ≡ Some l → l < length self.now.graph.seen }
     {
         steps.tick();

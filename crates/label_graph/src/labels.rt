@@ -1,8 +1,8 @@
 // The table of labels.
-ghost use Rattle.std.specs.Prelude.{◌≡◌, ◌<◌, ◌≤◌, ◌+◌, ◌^◌, ◌++◌, ◌∷◌, [], ℕ, List, length, slice_get, Some, bytes_eq, position, None, false, IfOk, IsTrue, OnOk, OnErr};
+ghost use Rattle.std.specs.Prelude.{◌≡◌, ◌<◌, ◌≤◌, ◌+◌, ◌^◌, [], length, slice_get, Some, bytes_eq, position, None, false, IfOk, IsTrue, OnOk, OnErr};
 ghost use Rattle.std.specs.List.{IsDistinct};
 ghost use Rattle.px_spec.specs.Graphs.{is_seen};
-ghost use Rattle.label_graph.specs.LabelTable.{entries, with_ahead, with_ahead_shown};
+ghost use Rattle.label_graph.specs.LabelTable.{DropsPrevious, entries, with_ahead, with_ahead_shown};
 ghost use Rattle.label_graph.specs.Soundness.{IsNext};
 
 use indexmap::IndexSet;
@@ -25,15 +25,14 @@ pub struct Labels {
 }
 
 impl Model for Labels {
-    ghost use Rattle.std.specs.Prelude.{take, ◌≤◌, ◌+◌, ◌^◌, length, slice_get, bytes_eq};
-    ghost use Rattle.std.specs.List.{IsDistinct};
-    ghost use Rattle.label_graph.specs.LabelTable.{LabelTable};
+    ghost use Rattle.std.specs.Prelude.{take, slice_get};
+    ghost use Rattle.label_graph.specs.LabelTable.{LabelTable, IsLabelTable};
 
     ghost Value = { LabelTable };
 
     ghost view = { λ l. record { texts = take l.shown l.table.keys; ahead = slice_get l.table.keys l.shown } };
 
-    ghost invariant = { λ l. record { within : l.shown ≤ length l.table.keys; one_ahead : length l.table.keys ≤ l.shown + 1; few : l.shown ≤ 2 ^ 30; once : IsDistinct bytes_eq l.table.keys } };
+    ghost invariant = { λ l. IsLabelTable l.table.keys l.shown };
 }
 
 impl Labels {
@@ -162,7 +161,7 @@ fn last_bytes(t: &Text) -> (u32, u32) {
 // Where two entries stand behind the first ones, only the last of them stays.
 fn drop_previous(table: &mut IndexSet<Text>, shown: usize)
     requires { shown ≤ length table.old.keys }
-    ensures dropped { (front : List (List ℕ)) (old new : List ℕ) → table.old.keys ≡ front ++ old ∷ new ∷ [] → length front ≡ shown → table.new.keys ≡ front ++ new ∷ [] }
+    ensures dropped { DropsPrevious shown table.old.keys table.new.keys }
     ensures kept { length table.old.keys ≤ shown + 1 → table.new.keys ≡ table.old.keys }
     ensures once { IsDistinct bytes_eq table.new.keys }
 {

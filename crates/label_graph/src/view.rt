@@ -1,8 +1,8 @@
 // A graph as queries and indexes read it.
 ghost use Rattle.std.specs.Prelude.{◌≡◌, ◌≤◌, ◌^◌, length};
 ghost use Rattle.px_spec.specs.Graphs.{IsGraph};
-ghost use Rattle.px_spec.specs.Shapes.{shape_of, shape_by};
-ghost use Rattle.label_graph.specs.Views.{label_number, is_linked, edge_count};
+ghost use Rattle.px_spec.specs.Shapes.{shape_of};
+ghost use Rattle.label_graph.specs.Views.{numbered_shape, edge_count};
 
 use crate::digraph::Digraph;
 use crate::graph::Graph;
@@ -45,7 +45,7 @@ impl<'a> GraphView<'a> {
         ensures count { result ≡ length self.now.given }
         ensures few { result ≤ 2 ^ 30 }
         ensures graph { IsGraph self.now }
-        ensures shape { shape_by self.now.seen (length self.now.given) (label_number self.now) (is_linked self.now) ≡ shape_of self.now }
+        ensures shape { numbered_shape self.now ≡ shape_of self.now }
     {
         self.graph.created()
     }
@@ -56,7 +56,7 @@ impl<'a> GraphView<'a> {
         ensures count { result ≡ edge_count self.now }
         ensures few { result ≤ 2 ^ 30 }
         ensures graph { IsGraph self.now }
-        ensures shape { shape_by self.now.seen (length self.now.given) (label_number self.now) (is_linked self.now) ≡ shape_of self.now }
+        ensures shape { numbered_shape self.now ≡ shape_of self.now }
     {
         self.graph.edge_count()
     }
@@ -78,7 +78,7 @@ impl<'a> Digraph for GraphView<'a> {
         ensures size { result ≡ length self.now.given }
         ensures few { result ≤ 2 ^ 30 }
         ensures graph { IsGraph self.now }
-        ensures shape { shape_by self.now.seen (length self.now.given) (label_number self.now) (is_linked self.now) ≡ shape_of self.now }
+        ensures shape { numbered_shape self.now ≡ shape_of self.now }
     {
         self.created()
     }
