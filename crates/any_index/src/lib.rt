@@ -1,0 +1,8 @@
+//! An index of any of the three kinds, as one type, and an engine that keeps one of each kind.
+#![tactic(auto)]
+
+mod any;
+mod engine;
+
+pub use any::AnyIndex;
+pub use engine::full_engine;
