@@ -1,6 +1,6 @@
 -- What is drafted for a change of the graph of a 1-index (K. Yi, H. He, I. Stanoi and J. Yang, "Incremental Maintenance of XML
 -- Structural Indexes", SIGMOD 2004).
-use Rattle.std.specs.Prelude.{◌≡◌, ◌<◌, ◌≤◌, ◌^◌, ◌↔◌, ℕ, ◌+◌, ◌*◌, Bool, List, Option, [], ◌∷◌, length, Some, IsFalse}
+use Rattle.std.specs.Prelude.{◌≡◌, ◌<◌, ◌≤◌, ◌^◌, ◌↔◌, ℕ, ◌+◌, ◌*◌, Bool, List, Option, [], ◌∷◌, length, Some, IsFalse, IsTrue}
 use Rattle.std.specs.FinSet as set
 use Rattle.px_spec.specs.Graphs.{Graph, IsGraph}
 use Rattle.px_spec.specs.Changes.{Change, node, after}
@@ -8,7 +8,7 @@ use Rattle.px_spec.specs.Shapes.{Shape, IsNode, shape_of}
 use Rattle.px_spec.specs.Members.{at, has}
 use Rattle.label_graph.specs.Views.{label_number}
 use Rattle.bisim_spec.specs.Partitions.{IsPartition, Together}
-use Rattle.bisim_spec.specs.Stability.{Stable, Minimal}
+use Rattle.bisim_spec.specs.Stability.{Stable, StableBut, Minimal}
 use Rattle.bisim_spec.specs.Reach.{reach}
 use Rattle.bisim_spec.specs.Weights.{size_of, weight}
 use Rattle.bisim_spec.specs.Targets.{KeepsBlocks, target}
@@ -16,11 +16,11 @@ use Rattle.bisim_spec.specs.OneStep.{OneStep}
 use Rattle.bisim_spec.specs.Views.{View, support_at}
 use Rattle.bisim_spec.specs.Fits.{FitsOne}
 use Rattle.graph_update.specs.NewChanges.{IsNew}
-use Rattle.graph_update.specs.PendingChanges.{Pending}
+use Rattle.graph_update.specs.PendingChanges.{Pending, graph_after}
 use Rattle.quotient.specs.Quotients.{Quotient, view_of}
 use Rattle.quotient_draft.specs.Drafts.{Drafted, shown_blocks, shown_labels, shown_support}
 use Rattle.quotient_draft.specs.Basis.{IsOver}
-use Rattle.upkeep_spec.specs.Named.{AreNamed}
+use Rattle.upkeep_spec.specs.Named.{AreNamed, AreNamedOff}
 use Rattle.upkeep_spec.specs.Supported.{AreEdgeCounts}
 
 -- The draft shows the graph after the change, with nodes in the blocks in which they were: a new node has some block. The partition
@@ -89,3 +89,50 @@ pub record IsSplitOf (g : Graph) (c : Change) (block shown : List (Option ℕ)) 
 pub record AreSupportsAlone (d : Drafted) : Type 0 where
   pub moves : d.moves ≡ []
   pub added : d.added ≡ []
+
+-- The draft shows a stable partition of a graph.
+pub record ShowsStable (g : Graph) (q : Quotient) (d : Drafted) : Type 0 where
+  -- the draft was begun over this base
+  pub over : IsOver q.blocks.block_of q.blocks.labels d
+  -- the members of a block have one label, and parents in the same blocks
+  pub stable : Stable (shape_of g) (shown_blocks q d)
+  -- each node's block has the label of the node
+  pub named : AreNamed (shown_blocks q d) (at (shown_labels q d)) (label_number g)
+  -- the support of a pair of blocks is the number of edges from the first to the second
+  pub supports : AreEdgeCounts g (shown_blocks q d) (shown_support q d)
+
+-- The draft shows a partition of a graph that is stable except perhaps at one node, the target.
+pub record ShowsStableBut (g : Graph) (t : ℕ) (q : Quotient) (d : Drafted) : Type 0 where
+  -- the draft was begun over this base
+  pub over : IsOver q.blocks.block_of q.blocks.labels d
+  -- the members of a block have one label, and parents in the same blocks, but for the target
+  pub stable : StableBut (shape_of g) (shown_blocks q d) (has (t ∷ []))
+  -- each node's block has the label of the node, but for the target
+  pub named : AreNamedOff (has (t ∷ [])) (shown_blocks q d) (at (shown_labels q d)) (label_number g)
+  -- the support of a pair of blocks is the number of edges from the first to the second
+  pub supports : AreEdgeCounts g (shown_blocks q d) (shown_support q d)
+
+-- The base was the 1-index of the graph before the change, and the draft shows each node of both graphs in its old block.
+pub record KeepsMinimal (a : Pending) (q : Quotient) (d : Drafted) : Type 0 where
+  -- the partition of the base was stable before the change
+  pub stable : Stable (shape_of a.before) q.blocks.block_of
+  -- no two of its blocks could be merged
+  pub minimal : Minimal (shape_of a.before) q.blocks.block_of
+  -- two nodes of both graphs are together as shown exactly where they were in the base
+  pub keeps : KeepsBlocks (shape_of a.before) (shape_of (graph_after a)) q.blocks.block_of (shown_blocks q d)
+
+-- the block of each of these nodes is listed
+abbrev pub ListsBlocksOf : List ℕ → List (Option ℕ) → List ℕ → Type 0
+ListsBlocksOf nodes block list = (n b : ℕ) → IsTrue (has nodes n) → at block n ≡ Some b → IsTrue (has list b)
+
+-- it holds of the two blocks, where both nodes have one
+abbrev pub OfBlocks : Quotient → ℕ → ℕ → (ℕ → ℕ → Type 0) → Type 0
+OfBlocks q u v P = (a b : ℕ) → at q.blocks.block_of u ≡ Some a → at q.blocks.block_of v ≡ Some b → P a b
+
+-- what a draft shows came by splitting its base, in the graph after the change
+abbrev pub IsSplitFrom : Pending → Quotient → Drafted → Type 0
+IsSplitFrom a q d = IsSplitOf a.before a.change q.blocks.block_of (shown_blocks q d)
+
+-- the nodes that a change reaches, in the graph after it
+abbrev pub reached_after : Pending → ℕ → Bool
+reached_after a = reached a.before a.change

@@ -165,7 +165,7 @@ pub fn draft_change<L: Ledger>(
     ensures free { (u v : ℕ) → change_of change.now ≡ link u v → IsSupported (view_of base.now) u v → steps.new ≡ steps.old }
 {
     // Called for its contract: edges are few.
-    let _edges = graph.edge_count();
+    let _known = graph.edge_count();
     let after = After::new(graph, change);
     let index = IndexTables { base, roots };
     draft_pending(alloc, &index, draft, &after, change, steps)?;

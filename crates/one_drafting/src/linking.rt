@@ -10,7 +10,7 @@ ghost use Rattle.bisim_spec.specs.Views.{support_at};
 ghost use Rattle.bisim_spec.specs.Weights.{parent_count};
 ghost use Rattle.graph_update.specs.PendingChanges.{graph_after};
 ghost use Rattle.quotient_draft.specs.Drafts.{no_changes};
-ghost use Rattle.one_drafting.specs.OneDrafts.{IsBefore, ShowsChange, IsOnlyTarget, AreSupportsAlone};
+ghost use Rattle.one_drafting.specs.OneDrafts.{IsBefore, ShowsChange, IsOnlyTarget, AreSupportsAlone, OfBlocks};
 
 use graph_update::{After, Neighbours};
 use px_base::{Memory, NodeId, Steps};
@@ -43,7 +43,7 @@ pub(crate) fn draft_link(
     ensures target { IsOnlyTarget after.now.before after.now.change v }
     ensures yes { IfOk result (λ s. IsTrue s → HasOther (shape_of (graph_after after.now)) base.now.blocks.block_of u v) }
     ensures no { IfOk result (λ s. IsFalse s → HasOther (shape_of (graph_after after.now)) base.now.blocks.block_of u v → ⊥) }
-    ensures tells { (a b : ℕ) → at base.now.blocks.block_of u ≡ Some a → at base.now.blocks.block_of v ≡ Some b → IfOk result (λ s. s ≡ nat_lt 0 (support_at base.now.supports a b)) }
+    ensures tells { OfBlocks base.now u v (λ a b. IfOk result (λ s. s ≡ nat_lt 0 (support_at base.now.supports a b))) }
 {
     let a = own_block(base, u);
     let b = own_block(base, v);

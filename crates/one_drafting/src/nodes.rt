@@ -45,7 +45,7 @@ pub(crate) fn draft_drop(
     ensures target { IsOnlyTarget after.now.before after.now.change u }
 {
     // Called for its contract: numbers are small.
-    let _created = after.created();
+    let _known = after.created();
     draft.put(base, u, None)?;
     Ok(())
 }

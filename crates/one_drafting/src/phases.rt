@@ -1,17 +1,12 @@
 // The two phases of the upkeep, each by itself: blocks are split, and then merged.
-ghost use Rattle.std.specs.Prelude.{◌≡◌, ◌+◌, ◌*◌, ◌∷◌, [], ◌≤◌, ℕ, Some, IsTrue, OnOk};
-ghost use Rattle.px_spec.specs.Members.{at, has};
+ghost use Rattle.std.specs.Prelude.{◌+◌, ◌*◌, ◌≤◌, OnOk};
 ghost use Rattle.px_spec.specs.Shapes.{shape_of};
-ghost use Rattle.label_graph.specs.Views.{label_number};
-ghost use Rattle.bisim_spec.specs.Stability.{Minimal, Stable, StableBut};
-ghost use Rattle.bisim_spec.specs.Targets.{KeepsBlocks};
-ghost use Rattle.upkeep_spec.specs.Named.{AreNamed, AreNamedOff};
+ghost use Rattle.bisim_spec.specs.Stability.{Minimal};
 ghost use Rattle.upkeep_spec.specs.Rounds.{IsRefinement, SameBut};
-ghost use Rattle.upkeep_spec.specs.Supported.{AreEdgeCounts};
 ghost use Rattle.graph_update.specs.PendingChanges.{graph_after};
-ghost use Rattle.quotient_draft.specs.Drafts.{shown_blocks, shown_labels, shown_support};
+ghost use Rattle.quotient_draft.specs.Drafts.{shown_blocks};
 ghost use Rattle.quotient_draft.specs.Basis.{IsOver};
-ghost use Rattle.one_drafting.specs.OneDrafts.{IsOnlyTarget, IsSplitOf, reached, rounds_cost};
+ghost use Rattle.one_drafting.specs.OneDrafts.{IsOnlyTarget, rounds_cost, ShowsStable, ShowsStableBut, KeepsMinimal, IsSplitFrom, ListsBlocksOf, reached_after};
 
 use crate::resettling::add_block;
 use graph_update::After;
@@ -42,21 +37,15 @@ pub fn split<L: Ledger>(
     steps: &mut Steps<L>,
 ) -> Result<(), Memory>
     requires target { IsOnlyTarget after.now.before after.now.change target }
-    requires over { IsOver base.now.blocks.block_of base.now.blocks.labels draft.old }
-    requires supports { AreEdgeCounts (graph_after after.now) (shown_blocks base.now draft.old) (shown_support base.now draft.old) }
-    requires stable { StableBut (shape_of (graph_after after.now)) (shown_blocks base.now draft.old) (has (target ∷ [])) }
-    requires named { AreNamedOff (has (target ∷ [])) (shown_blocks base.now draft.old) (at (shown_labels base.now draft.old)) (label_number (graph_after after.now)) }
-    ensures over { OnOk result (IsOver base.now.blocks.block_of base.now.blocks.labels draft.new) }
-    ensures supports { OnOk result (AreEdgeCounts (graph_after after.now) (shown_blocks base.now draft.new) (shown_support base.now draft.new)) }
-    ensures stable { OnOk result (Stable (shape_of (graph_after after.now)) (shown_blocks base.now draft.new)) }
-    ensures named { OnOk result (AreNamed (shown_blocks base.now draft.new) (at (shown_labels base.now draft.new)) (label_number (graph_after after.now))) }
+    requires shown { ShowsStableBut (graph_after after.now) target base.now draft.old }
+    ensures shown { OnOk result (ShowsStable (graph_after after.now) base.now draft.new) }
     ensures within { OnOk result (IsRefinement (shown_blocks base.now draft.old) (shown_blocks base.now draft.new)) }
-    ensures same { OnOk result (SameBut (shown_blocks base.now draft.old) (shown_blocks base.now draft.new) (reached after.now.before after.now.change)) }
-    ensures split { OnOk result (Stable (shape_of after.now.before) base.now.blocks.block_of → Minimal (shape_of after.now.before) base.now.blocks.block_of → KeepsBlocks (shape_of after.now.before) (shape_of (graph_after after.now)) base.now.blocks.block_of (shown_blocks base.now draft.old) → IsSplitOf after.now.before after.now.change base.now.blocks.block_of (shown_blocks base.now draft.new)) }
-    ensures cost { steps.new ≤ steps.old + 4 * rounds_cost (shape_of (graph_after after.now)) (reached after.now.before after.now.change) }
+    ensures same { OnOk result (SameBut (shown_blocks base.now draft.old) (shown_blocks base.now draft.new) (reached_after after.now)) }
+    ensures split { OnOk result (KeepsMinimal after.now base.now draft.old → IsSplitFrom after.now base.now draft.new) }
+    ensures cost { steps.new ≤ steps.old + 4 * rounds_cost (shape_of (graph_after after.now)) (reached_after after.now) }
 {
-    // This says that there is a graph, so that what is reached is closed under edges.
-    let _ = after.created();
+    // Called for its contract: there is a graph, so that what is reached is closed under edges.
+    let _known = after.created();
     let mut made = Vec::new(alloc);
     one_splitting::split(alloc, base, draft, after, &[target], &mut made, steps)?;
     Ok(())
@@ -70,7 +59,7 @@ fn add_blocks(
     blocks: &mut Vec<u32>,
 ) -> Result<(), Memory>
     requires over { IsOver base.now.blocks.block_of base.now.blocks.labels draft.now }
-    ensures there { OnOk result ((n b : ℕ) → IsTrue (has nodes.now n) → at (shown_blocks base.now draft.now) n ≡ Some b → IsTrue (has blocks.new.items b)) }
+    ensures there { OnOk result (ListsBlocksOf nodes.now (shown_blocks base.now draft.now) blocks.new.items) }
 {
     for i in 0..nodes.len() {
         add_block(base, draft, nodes[i], blocks)?;
@@ -86,7 +75,7 @@ fn add_blocks(
 /// It takes at most `3 * (r + 1) * w` steps, where the target reaches `r` nodes, and `w` is one for each of them, one for each of its
 /// parents and one for each of its children. After `Memory` the draft must be cleared before it is used again.
 ///
-/// Expected O(w + b) to find the blocks, with b numbers of blocks, and then what `one_merging::merge` takes from these on. It takes O(w)
+/// Expected O(w + b) to find the blocks, with b blocks, and then what `one_merging::merge` takes from these on. It takes O(w)
 /// memory, and what is merged.
 pub fn merge<L: Ledger>(
     alloc: Global,
@@ -97,22 +86,16 @@ pub fn merge<L: Ledger>(
     steps: &mut Steps<L>,
 ) -> Result<(), Memory>
     requires target { IsOnlyTarget after.now.before after.now.change target }
-    requires over { IsOver base.now.blocks.block_of base.now.blocks.labels draft.old }
-    requires supports { AreEdgeCounts (graph_after after.now) (shown_blocks base.now draft.old) (shown_support base.now draft.old) }
-    requires stable { Stable (shape_of (graph_after after.now)) (shown_blocks base.now draft.old) }
-    requires named { AreNamed (shown_blocks base.now draft.old) (at (shown_labels base.now draft.old)) (label_number (graph_after after.now)) }
-    requires split { IsSplitOf after.now.before after.now.change base.now.blocks.block_of (shown_blocks base.now draft.old) }
-    ensures over { OnOk result (IsOver base.now.blocks.block_of base.now.blocks.labels draft.new) }
-    ensures supports { OnOk result (AreEdgeCounts (graph_after after.now) (shown_blocks base.now draft.new) (shown_support base.now draft.new)) }
-    ensures stable { OnOk result (Stable (shape_of (graph_after after.now)) (shown_blocks base.now draft.new)) }
+    requires shown { ShowsStable (graph_after after.now) base.now draft.old }
+    requires split { IsSplitFrom after.now base.now draft.old }
+    ensures shown { OnOk result (ShowsStable (graph_after after.now) base.now draft.new) }
     ensures minimal { OnOk result (Minimal (shape_of (graph_after after.now)) (shown_blocks base.now draft.new)) }
-    ensures named { OnOk result (AreNamed (shown_blocks base.now draft.new) (at (shown_labels base.now draft.new)) (label_number (graph_after after.now))) }
-    ensures same { OnOk result (SameBut (shown_blocks base.now draft.old) (shown_blocks base.now draft.new) (reached after.now.before after.now.change)) }
-    ensures cost { steps.new ≤ steps.old + 3 * rounds_cost (shape_of (graph_after after.now)) (reached after.now.before after.now.change) }
+    ensures same { OnOk result (SameBut (shown_blocks base.now draft.old) (shown_blocks base.now draft.new) (reached_after after.now)) }
+    ensures cost { steps.new ≤ steps.old + 3 * rounds_cost (shape_of (graph_after after.now)) (reached_after after.now) }
 {
-    // These say that there is a graph, and that it has few edges.
-    let _ = after.created();
-    let _edges = after.edge_count();
+    // Called for their contracts: there is a graph, and it has few edges.
+    let _known = after.created();
+    let _known = after.edge_count();
     let nodes = reached_nodes(alloc, after, &[target], steps)?;
     let mut blocks = Vec::new(alloc);
     add_blocks(base, draft, &nodes, &mut blocks)?;

@@ -124,7 +124,7 @@ fn is_parting<L: Ledger>(
     requires links { change_of change.now ≡ link 6 3 }
 {
     // Called for its contract: edges are few.
-    let _edges = graph.edge_count();
+    let _known = graph.edge_count();
     let after = After::new(graph, change);
     let mut draft = Draft::new(alloc)?;
     are_parted(alloc, base, &mut draft, &after, (6, 3), firsts, steps)

@@ -13,7 +13,7 @@ are_parted-requires-clause-before g c = record {
   graph_after = c.new-after.ensures.after;
   few =
       subst (λ (a : Pending). set.len a.before.edges ≤ 2 ^ 30) (sym c.new-after.ensures.pending)
-      (subst (λ (n : ℕ). n ≤ 2 ^ 30) c.edge_count-edges.ensures.count c.edge_count-edges.ensures.few);
+      (subst (λ (n : ℕ). n ≤ 2 ^ 30) c.edge_count-known.ensures.count c.edge_count-known.ensures.few);
 }
 
 pub are_parted-requires-clause-links : goal.are_parted-requires-clause-links
