@@ -12,6 +12,3 @@ mod writing;
 
 pub use answers::eval;
 pub use branch::Branch;
-
-#[cfg(test)]
-mod tests;

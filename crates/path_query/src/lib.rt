@@ -19,6 +19,3 @@ pub use labels::{name_len, read_label};
 pub use parsing::is_past;
 pub use path_expr::{Atom, Expr, Following, Item, Sep, Seq, Sign};
 pub use words::{skip_blanks, split_word, trim_end_blanks};
-
-#[cfg(test)]
-mod tests;

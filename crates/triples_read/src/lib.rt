@@ -21,6 +21,3 @@ pub use spare::SpareTexts;
 pub use term::{Term, Triple, is_xsd_string};
 pub use triple_test::is_triple;
 pub use writing::{write_term, write_triple};
-
-#[cfg(test)]
-mod tests;

@@ -1,9 +1,12 @@
 // Lines of the standard's grammar, good and bad, as tables; and each call once.
-use super::*;
 use px_base::Text;
 use std::alloc::Global;
 use std::process::Abort;
 use std::test::Fail;
+use triples_read::{
+    LineError, SpareTexts, Term, Triple, is_triple, read_iri_front, read_line, read_line_with,
+    write_term, write_triple,
+};
 
 // Lines, and what they are read as: the canonical spelling of a triple, or the name of another answer.
 const LINES: [(&str, &str); 18] = [

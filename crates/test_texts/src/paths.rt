@@ -2,8 +2,11 @@
 ghost use Rattle.std.specs.Prelude.{◌≡◌, ◌<◌, ℕ, Some, length};
 ghost use Rattle.label_graph.specs.Views.{label_number};
 
-use super::*;
 use label_graph::{Graph, GraphView};
+use path_query::{
+    Atom, Expr, ExprError, Item, PathExpr, Sep, Seq, Sign, eval, eval_within, read_label,
+    skip_blanks, split_word, trim_end_blanks,
+};
 use px_base::{Bits, Memory, NodeId, Steps};
 use px_spec::Limits;
 use std::alloc::Global;

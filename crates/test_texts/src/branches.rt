@@ -3,7 +3,7 @@ ghost use Rattle.std.specs.Prelude.{◌≡◌, ◌<◌, ℕ, Some, length, IsTru
 ghost use Rattle.label_graph.specs.Views.{label_number};
 ghost use Rattle.branch_text.specs.Parsed.{has_text};
 
-use super::*;
+use branch_text::{Branch, eval};
 use label_graph::{Graph, GraphView};
 use path_query::ExprError;
 use px_base::{Bits, NodeId, Steps};
