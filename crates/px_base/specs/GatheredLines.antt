@@ -1,6 +1,6 @@
 -- A line that is put together from the bytes ahead.
 use Rattle.std.specs.Prelude.{◌≡◌, ℕ, ◌+◌, ◌<◌, ◌≤◌, ◌++◌, ⊤, List, [], ◌∷◌, length, Option, None, Some}
-use Rattle.std.specs.Io.KnownBytes.{Consumes}
+use Rattle.std.specs.Io.KnownBytes.{Consumes, prepend_known}
 use Rattle.px_spec.specs.Lines.{Line, cut, IsUncut}
 use Rattle.px_base.specs.declared.line_end.LineEnd.{LineEnd}
 use Rattle.px_base.specs.LineEnds.{end_bytes, IsStopped}
@@ -31,6 +31,10 @@ pub record Gathers (room : ℕ) (line new : List ℕ) (before after : Option (Li
   pub short : length new ≤ room
   pub told : Consumes before after part
 
+-- the same, where the text ahead is what the window holds and then what the shelf has left
+abbrev pub GathersAhead : ℕ → List ℕ → List ℕ → List ℕ → Option (List ℕ) → List ℕ → Option (List ℕ) → Type 0
+GathersAhead room line new window left window2 left2 = Gathers room line new (prepend_known window left) (prepend_known window2 left2)
+
 -- more stands before the first LF or CR than the line has room for
 pub record IsTooLong (room : ℕ) (line : List ℕ) (before : Option (List ℕ)) : Type 0 where
   pub front : List ℕ
@@ -52,6 +56,10 @@ pub record GathersLine (line_limit room : ℕ) (line : List ℕ) (end : LineEnd)
   pub fits : length line + length (end_bytes end) ≤ room
   pub first : 0 < length line + length (end_bytes end) → IsFirst (record { text = line; end = end_bytes end }) before after
   pub done : length line + length (end_bytes end) ≡ 0 → IsDone line window before after
+
+-- the same, where the text ahead is what the window holds and then what the shelf has left
+abbrev pub TakesWhole : ℕ → ℕ → List ℕ → LineEnd → List ℕ → Option (List ℕ) → List ℕ → Option (List ℕ) → Type 0
+TakesWhole line_limit room line end window left window2 left2 = GathersLine line_limit room line end window2 (prepend_known window left) (prepend_known window2 left2)
 
 -- the first line of a told text has more bytes than the line's limit, or with its end more than the room
 abbrev pub IsLong : ℕ → ℕ → Option (List ℕ) → Type 0

@@ -1,5 +1,5 @@
 -- What a reader of lines keeps, and what a call of `next` makes of the text that lies ahead.
-use Rattle.std.specs.Prelude.{◌≡◌, ℕ, ◌+◌, ◌<◌, ◌≤◌, ⊤, Bool, List, [], ◌∷◌, length, Option, None, Some}
+use Rattle.std.specs.Prelude.{◌≡◌, ℕ, ◌+◌, ◌^◌, ◌<◌, ◌≤◌, ⊤, Bool, false, List, [], ◌∷◌, length, Option, None, Some}
 use Rattle.std.specs.Io.KnownBytes.{prepend_known}
 use Rattle.px_spec.specs.Lines.{Line, cut}
 
@@ -16,6 +16,15 @@ pub record ReaderState : Type 0 where
   pub text_limit : ℕ
   -- whether a call answered an error
   pub failed : Bool
+
+-- a reader that has taken nothing
+abbrev pub new_reader : ℕ → ℕ → ReaderState
+new_reader line_limit text_limit =
+    record { ahead = []; line = []; number = 0; taken = 0; line_limit = line_limit; text_limit = text_limit; failed = false }
+
+-- both limits are at most 2^30, what was taken is within the text's, and until a call fails each line took a byte or more
+abbrev pub StaysWithin : ℕ → ℕ → ℕ → ℕ → Bool → Type 0
+StaysWithin line_limit text_limit taken number failed = (line_limit ≤ 2 ^ 30) × (text_limit ≤ 2 ^ 30) × (taken ≤ text_limit) × (failed ≡ false → number ≤ taken)
 
 -- ahead of the reader lies what it read ahead, and then what the shelf has left
 abbrev pub stream : ReaderState → Option (List ℕ) → Option (List ℕ)
@@ -54,6 +63,14 @@ pub record Finishes (old new : ReaderState) (before after : Option (List ℕ)) :
   pub over_before : IsOver before
   pub over_after : IsOver after
   pub kept : new ≡ record old { ahead = []; line = [] }
+
+-- a line was taken, where the shelf has this left of its file before and after
+abbrev pub TakesLine : ReaderState → Option (List ℕ) → ReaderState → Option (List ℕ) → Type 0
+TakesLine old left new left2 = ReadsLine old new (stream old left) (stream new left2)
+
+-- the text is over
+abbrev pub TakesNone : ReaderState → Option (List ℕ) → ReaderState → Option (List ℕ) → Type 0
+TakesNone old left new left2 = Finishes old new (stream old left) (stream new left2)
 
 -- a line passes a limit, the first of the text where that is told
 abbrev pub IsPast : ReaderState → Option (List ℕ) → Type 0

@@ -1,11 +1,11 @@
 // The lines of a file.
-ghost use Rattle.std.specs.Prelude.{◌≡◌, ◌≢◌, ◌+◌, ◌^◌, ◌≤◌, [], length, IfOk, OnOk, OnErr, IsErrOf, IsTrue, Err, false, true};
+ghost use Rattle.std.specs.Prelude.{◌≡◌, ◌≢◌, ◌+◌, ◌^◌, ◌≤◌, length, IfOk, OnOk, IsErrOf, IsTrue, Err, is_err, false};
 ghost use Rattle.std.specs.Io.KnownBytes.{prepend_known};
 ghost use Rattle.px_base.specs.Causes.{Rose};
 ghost use Rattle.px_base.specs.declared.lines.LineFault.TheVariants.{Fault, Memory as NoMemory};
 ghost use Rattle.px_base.specs.LineEnds.{has_end, IsAtStop};
-ghost use Rattle.px_base.specs.GatheredLines.{TakesPart, Overfills, Gathers, IsTooLong, GathersLine, IsLong};
-ghost use Rattle.px_base.specs.ReaderStates.{ReaderState, stream, ReadsLine, Finishes, IsPast};
+ghost use Rattle.px_base.specs.GatheredLines.{TakesPart, Overfills, GathersAhead, IsTooLong, TakesWhole, IsLong};
+ghost use Rattle.px_base.specs.ReaderStates.{ReaderState, new_reader, stream, TakesLine, TakesNone, IsPast};
 
 use crate::line_end::{LineEnd, take_end};
 use crate::window::{self, Window, plain_len};
@@ -79,7 +79,7 @@ fn gather<H: Shelf>(
     requires short { length line.old.items ≤ room }
     requires room { room ≤ 2 ^ 30 }
     requires open { IsTrue (H.is_open shelf.old) }
-    ensures ok { OnOk result (Gathers room line.old.items line.new.items (prepend_known window.old (H.left shelf.old)) (prepend_known window.new (H.left shelf.new))) }
+    ensures ok { OnOk result (GathersAhead room line.old.items line.new.items window.old (H.left shelf.old) window.new (H.left shelf.new)) }
     ensures stop { OnOk result (IsAtStop window.new (H.left shelf.new)) }
     ensures limit { IsErrOf result LineFault.Limit → IsTooLong room line.old.items (prepend_known window.old (H.left shelf.old)) }
     ensures unread { IsTrue (has_end window.old) → shelf.new ≡ shelf.old }
@@ -111,7 +111,7 @@ fn take_line<H: Shelf>(
 ) -> Result<LineEnd, LineFault>
     requires limit { line_limit ≤ 2 ^ 30 }
     requires open { IsTrue (H.is_open shelf.old) }
-    ensures ok { IfOk result (λ end. GathersLine line_limit room line.new.items end window.new (prepend_known window.old (H.left shelf.old)) (prepend_known window.new (H.left shelf.new))) }
+    ensures ok { IfOk result (λ end. TakesWhole line_limit room line.new.items end window.old (H.left shelf.old) window.new (H.left shelf.new)) }
     ensures limit { IsErrOf result LineFault.Limit → IsLong line_limit room (prepend_known window.old (H.left shelf.old)) }
     ensures unread { IsTrue (has_end window.old) → shelf.new ≡ shelf.old }
     ensures files { H.files shelf.new ≡ H.files shelf.old }
@@ -149,8 +149,7 @@ pub struct LineReader {
 }
 
 impl Model for LineReader {
-    ghost use Rattle.std.specs.Prelude.{◌≡◌, ◌≤◌, ◌+◌, ◌^◌, false};
-    ghost use Rattle.px_base.specs.ReaderStates.{ReaderState};
+    ghost use Rattle.px_base.specs.ReaderStates.{ReaderState, StaysWithin};
 
     ghost Value = { ReaderState };
 
@@ -164,7 +163,7 @@ impl Model for LineReader {
       failed = r.failed;
     } };
 
-    ghost invariant = { λ r. (r.line_limit ≤ 2 ^ 30) × (r.text_limit ≤ 2 ^ 30) × (r.taken ≤ r.text_limit) × (r.failed ≡ false → r.number ≤ r.taken) };
+    ghost invariant = { λ r. StaysWithin r.line_limit r.text_limit r.taken r.number r.failed };
 }
 
 impl LineReader {
@@ -174,7 +173,7 @@ impl LineReader {
     pub fn new(alloc: Global, line_limit: u32, text_limit: u32) -> Result<LineReader, Memory>
         requires line { line_limit ≤ 2 ^ 30 }
         requires text { text_limit ≤ 2 ^ 30 }
-        ensures { IfOk result (λ r. r ≡ record { ahead = []; line = []; number = 0; taken = 0; line_limit = line_limit; text_limit = text_limit; failed = false }) }
+        ensures { IfOk result (λ r. r ≡ new_reader line_limit text_limit) }
     {
         Ok(LineReader {
             window: Window::new(alloc)?,
@@ -219,10 +218,9 @@ impl LineReader {
     pub fn next<H: Shelf>(&mut self, shelf: &mut H) -> Result<bool, LineFault>
         requires ready { self.old.failed ≡ false }
         requires open { IsTrue (H.is_open shelf.old) }
-        ensures line { IfOk result (λ found. IsTrue found → ReadsLine self.old self.new (stream self.old (H.left shelf.old)) (stream self.new (H.left shelf.new))) }
-        ensures over { IfOk result (λ found. found ≡ false → Finishes self.old self.new (stream self.old (H.left shelf.old)) (stream self.new (H.left shelf.new))) }
-        ensures ready { OnOk result (self.new.failed ≡ false) }
-        ensures spent { OnErr result (self.new.failed ≡ true) }
+        ensures line { IfOk result (λ found. IsTrue found → TakesLine self.old (H.left shelf.old) self.new (H.left shelf.new)) }
+        ensures over { IfOk result (λ found. found ≡ false → TakesNone self.old (H.left shelf.old) self.new (H.left shelf.new)) }
+        ensures failed { self.new.failed ≡ is_err result }
         ensures limit { IsErrOf result LineFault.Limit → IsPast self.old (stream self.old (H.left shelf.old)) }
         ensures number { IsErrOf result LineFault.Limit → self.new.number ≡ self.old.number + 1 }
         ensures unread { IsTrue (has_end self.old.ahead) → shelf.new ≡ shelf.old }
