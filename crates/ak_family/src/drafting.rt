@@ -39,9 +39,16 @@ pub struct LevelBlock {
 ///     let mut draft = AkDraft::new(alloc, family.k())?;
 ///     let block = family.keyed_block(&mut draft, 1, label, &key)?;
 ///     family.put(&mut draft, 1, node, Some(block))?;
-#[derive(Drop)]
 pub struct AkDraft {
     pub(crate) levels: Vec<KeyedDraft>,
+}
+
+impl Drop for AkDraft {
+    // By hand, so that no crate above proves how the tables are dropped.
+    fn drop(self) {
+        let AkDraft { levels } = self;
+        drop(levels);
+    }
 }
 
 impl Model for AkDraft {

@@ -28,9 +28,16 @@ use std::marker::Model;
 ///
 ///     let family = AkFamily::build(alloc, &graph.view(&mut steps), 2)?;
 ///     let blocks = eval(alloc, family.level(1), graph.labels(), &expr)?;
-#[derive(Drop)]
 pub struct AkFamily {
     pub(crate) levels: Vec<KeyedSummary>,
+}
+
+impl Drop for AkFamily {
+    // By hand, so that no crate above proves how the tables are dropped.
+    fn drop(self) {
+        let AkFamily { levels } = self;
+        drop(levels);
+    }
 }
 
 impl Model for AkFamily {

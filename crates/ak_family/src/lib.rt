@@ -10,8 +10,6 @@ mod keyed;
 mod labelled_levels;
 mod labels;
 mod settling;
-#[cfg(test)]
-mod tests;
 
 pub use drafting::{AkDraft, LevelBlock};
 pub use family::AkFamily;

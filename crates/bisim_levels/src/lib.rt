@@ -6,8 +6,6 @@ mod levels;
 mod recent_keys;
 mod refining;
 mod sides;
-#[cfg(test)]
-mod tests;
 
 pub use keys::{block_of, only_block, write_key};
 pub use levels::{label_level, next_level, next_level_both};

@@ -7,8 +7,6 @@ mod live;
 mod members;
 mod slots;
 mod splitting;
-#[cfg(test)]
-mod tests;
 
 pub use blocks::Blocks;
 pub use members::Members;

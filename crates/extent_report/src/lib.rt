@@ -8,8 +8,6 @@ mod gathered;
 mod leads;
 mod output;
 mod sizes;
-#[cfg(test)]
-mod tests;
 
 pub use answers::answer_text;
 pub use extents::extents_text;

@@ -7,8 +7,6 @@ mod judging;
 mod neighbours;
 mod pending;
 mod staging;
-#[cfg(test)]
-mod tests;
 
 pub use changes::{Applied, Change, Verdict};
 pub use judging::judge;

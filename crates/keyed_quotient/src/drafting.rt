@@ -39,12 +39,25 @@ use std::sync::ledger::Ledger;
 ///         None => draft.new_block(&base, label, &key)?,
 ///     };
 ///     draft.put(&base, node, Some(block))?;
-#[derive(Drop)]
 pub struct KeyedDraft {
     pub(crate) draft: Draft,
     // The further blocks, and the key of each, by its place.
     pub(crate) blocks: Vec<u32>,
     pub(crate) keys: KeyTable,
+}
+
+impl Drop for KeyedDraft {
+    // By hand, so that no crate above proves how the tables are dropped.
+    fn drop(self) {
+        let KeyedDraft {
+            draft,
+            blocks,
+            keys,
+        } = self;
+        drop(draft);
+        drop(blocks);
+        drop(keys);
+    }
 }
 
 impl Model for KeyedDraft {

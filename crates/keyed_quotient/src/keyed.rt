@@ -21,11 +21,23 @@ use std::marker::Model;
 ///     keys.intern(&[8, 0])?;  // the key of block 1
 ///     let level = KeyedSummary::new(alloc, summary, keys)?;
 ///     let edges = level.summary().support(0, 1);
-#[derive(Drop)]
 pub struct KeyedSummary {
     pub(crate) alloc: Global,
     pub(crate) summary: Summary,
     pub(crate) numbers: KeyNumbers,
+}
+
+impl Drop for KeyedSummary {
+    // By hand, so that no crate above proves how the tables are dropped.
+    fn drop(self) {
+        let KeyedSummary {
+            alloc: _,
+            summary,
+            numbers,
+        } = self;
+        drop(summary);
+        drop(numbers);
+    }
 }
 
 impl Model for KeyedSummary {

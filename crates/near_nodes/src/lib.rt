@@ -4,8 +4,6 @@
 mod reaching;
 mod reading;
 mod searching;
-#[cfg(test)]
-mod tests;
 
 pub use reaching::reached_nodes;
 pub use searching::{NearNodes, near_nodes};

@@ -12,8 +12,6 @@ mod joins;
 mod places;
 mod summary;
 mod supports;
-#[cfg(test)]
-mod tests;
 
 pub use edges::EdgeList;
 pub use summary::Summary;

@@ -1,5 +1,0 @@
-use Rattle.ak_family.proofs.tests.loops_stay_together.Given as goal
-
--- the count of steps that was just opened
-abbrev pub ghosts-check_loops : goal.ghosts-check_loops
-ghosts-check_loops g a = record { name = a.blank.name; parts = a.blank.parts }

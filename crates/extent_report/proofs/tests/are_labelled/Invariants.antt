@@ -1,6 +1,0 @@
-use Rattle.std.proofs.Common.{ℕ, ◌≡◌, ◌<◌, Some, length}
-use Rattle.px_spec.specs.Members.{at}
-use Rattle.extent_report.proofs.tests.are_labelled.Given as goal
-
-abbrev pub invariant-loop-b : goal.invariant-loop-b
-invariant-loop-b l = (b n : ℕ) → b < l.b → at l.summary.blocks.labels b ≡ Some n → n < length l.labels.texts
