@@ -5,8 +5,8 @@ ghost use Rattle.command_line.specs.Shown.{shown_settings};
 ghost use Rattle.command_line.specs.Words.{form_of};
 ghost use Rattle.bisim_spec.specs.declared.kind.Kind.{Kind};
 ghost use Rattle.index_api.specs.Kept.{kinds_of};
-ghost use Rattle.pathindex_core.specs.Engines.{engine_seen, opened_of, IsSound};
-ghost use Rattle.script_run.specs.EngineStates.{state_in, IsOpen, IsIn};
+ghost use Rattle.pathindex_core.specs.Engines.{IsSound, seen};
+ghost use Rattle.script_run.specs.EngineStates.{state_of, IsOpen, IsIn};
 ghost use Rattle.script_run.specs.States.{BeginsRun, left_out};
 ghost use Rattle.pathindex_run.specs.Headline.{Meets, HasStatus, Completes, NamesScript, NoFault, kinds_for};
 ghost use Rattle.pathindex_run.specs.ToldFiles.{BeginsTold};
@@ -16,7 +16,7 @@ use crate::output::{show_refusal, show_usage};
 use crate::status::{Status, status_of};
 use command_line::{Form, Settings, read_words};
 use graph_load::{LoadError, load};
-use index_api::Kind;
+use index_api::{Kind, PathIndex};
 use label_graph::Graph;
 use pathindex_core::Engine;
 use px_base::{Limits, Shelf, Sink};
@@ -48,20 +48,24 @@ use std::alloc::Global;
 /// doesn't stand there. At 5, 6 and 7 a front of what the run prints is written. O(b) for b bytes of both files, and what opening
 /// the engine and the commands cost (`Engine`); beside the engine it takes memory for a block of the script, its longest line,
 /// and what is gathered of the output.
-pub fn run<H: Shelf, K: Sink>(
+pub fn run<B: PathIndex, H: Shelf, K: Sink>(
     alloc: Global,
     words: &[String],
-    engine: &mut Engine,
+    engine: &mut Engine<B>,
     shelf: &mut H,
     sink: &mut K,
 ) -> u8
-    requires closed { opened_of engine.old.state ≡ None }
-    requires sound { IsSound (engine_seen (map (λ b. meaning (b.vtable, b.value)) engine.old.boxes.items) engine.old.state) }
-    ensures sound { IsSound (engine_seen (map (λ b. meaning (b.vtable, b.value)) engine.new.boxes.items) engine.new.state) }
-    ensures meets { Meets (form_of (map string_bytes words.now)) (kinds_of (map (λ b. meaning (b.vtable, b.value)) engine.old.boxes.items)) (H.files shelf.old) (K.written sink.old) (K.written sink.new) result (IsIn (engine_seen (map (λ b. meaning (b.vtable, b.value)) engine.new.boxes.items) engine.new.state)) }
-    ensures status { HasStatus (form_of (map string_bytes words.now)) (H.files shelf.old) (H.faults shelf.old) (H.faults shelf.new) (K.faults sink.old) (K.faults sink.new) result }
-    ensures complete { Completes (form_of (map string_bytes words.now)) (H.files shelf.old) (H.faults shelf.old) (H.faults shelf.new) (K.faults sink.old) (K.faults sink.new) result }
-    ensures made { (seed : ℕ) → form_of (map string_bytes words.now) ≡ makes seed → NoFault (K.faults sink.old) (K.faults sink.new) → (result ≤ 1) ⊎ (result ≡ 7) }
+    requires closed { engine.old.opened ≡ None }
+    requires sound { IsSound (seen B.meaning engine.old) }
+    ensures sound { IsSound (seen B.meaning engine.new) }
+    ensures meets { Meets (form_of (map string_bytes words.now)) (kinds_of (map B.meaning engine.old.boxes)) (H.files shelf.old) (K.written sink.old)
+        (K.written sink.new) result (IsIn (seen B.meaning engine.new)) }
+    ensures status { HasStatus (form_of (map string_bytes words.now)) (H.files shelf.old) (H.faults shelf.old) (H.faults shelf.new)
+        (K.faults sink.old) (K.faults sink.new) result }
+    ensures complete { Completes (form_of (map string_bytes words.now)) (H.files shelf.old) (H.faults shelf.old) (H.faults shelf.new)
+        (K.faults sink.old) (K.faults sink.new) result }
+    ensures made { (seed : ℕ) → form_of (map string_bytes words.now) ≡ makes seed → NoFault (K.faults sink.old) (K.faults sink.new)
+        → (result ≤ 1) ⊎ (result ≡ 7) }
     ensures files { H.files shelf.new ≡ H.files shelf.old }
     ensures idle { ¬ NamesScript (form_of (map string_bytes words.now)) → shelf.new ≡ shelf.old }
 {
@@ -74,20 +78,23 @@ pub fn run<H: Shelf, K: Sink>(
 }
 
 /// Loads the graph file, if one is named, and runs the script.
-fn run_settings<H: Shelf, K: Sink>(
+fn run_settings<B: PathIndex, H: Shelf, K: Sink>(
     alloc: Global,
     settings: &Settings<'_>,
-    engine: &mut Engine,
+    engine: &mut Engine<B>,
     shelf: &mut H,
     sink: &mut K,
 ) -> u8
-    requires closed { opened_of engine.old.state ≡ None }
-    requires sound { IsSound (engine_seen (map (λ b. meaning (b.vtable, b.value)) engine.old.boxes.items) engine.old.state) }
+    requires closed { engine.old.opened ≡ None }
+    requires sound { IsSound (seen B.meaning engine.old) }
     requires level { settings.now.k ≤ 8 }
-    ensures sound { IsSound (engine_seen (map (λ b. meaning (b.vtable, b.value)) engine.new.boxes.items) engine.new.state) }
-    ensures meets { Meets (runs (shown_settings settings.now)) (kinds_of (map (λ b. meaning (b.vtable, b.value)) engine.old.boxes.items)) (H.files shelf.old) (K.written sink.old) (K.written sink.new) result (IsIn (engine_seen (map (λ b. meaning (b.vtable, b.value)) engine.new.boxes.items) engine.new.state)) }
-    ensures status { HasStatus (runs (shown_settings settings.now)) (H.files shelf.old) (H.faults shelf.old) (H.faults shelf.new) (K.faults sink.old) (K.faults sink.new) result }
-    ensures complete { Completes (runs (shown_settings settings.now)) (H.files shelf.old) (H.faults shelf.old) (H.faults shelf.new) (K.faults sink.old) (K.faults sink.new) result }
+    ensures sound { IsSound (seen B.meaning engine.new) }
+    ensures meets { Meets (runs (shown_settings settings.now)) (kinds_of (map B.meaning engine.old.boxes)) (H.files shelf.old) (K.written sink.old)
+        (K.written sink.new) result (IsIn (seen B.meaning engine.new)) }
+    ensures status { HasStatus (runs (shown_settings settings.now)) (H.files shelf.old) (H.faults shelf.old) (H.faults shelf.new) (K.faults sink.old)
+        (K.faults sink.new) result }
+    ensures complete { Completes (runs (shown_settings settings.now)) (H.files shelf.old) (H.faults shelf.old) (H.faults shelf.new)
+        (K.faults sink.old) (K.faults sink.new) result }
     ensures files { H.files shelf.new ≡ H.files shelf.old }
 {
     match settings.graph {
@@ -100,22 +107,25 @@ fn run_settings<H: Shelf, K: Sink>(
 }
 
 /// Loads the graph file of that name, and runs the script.
-fn run_loaded<H: Shelf, K: Sink>(
+fn run_loaded<B: PathIndex, H: Shelf, K: Sink>(
     alloc: Global,
     settings: &Settings<'_>,
     name: &str,
-    engine: &mut Engine,
+    engine: &mut Engine<B>,
     shelf: &mut H,
     sink: &mut K,
 ) -> u8
     requires named { option_map (λ t. t.now) settings.now.graph ≡ Some name.now }
-    requires closed { opened_of engine.old.state ≡ None }
-    requires sound { IsSound (engine_seen (map (λ b. meaning (b.vtable, b.value)) engine.old.boxes.items) engine.old.state) }
+    requires closed { engine.old.opened ≡ None }
+    requires sound { IsSound (seen B.meaning engine.old) }
     requires level { settings.now.k ≤ 8 }
-    ensures sound { IsSound (engine_seen (map (λ b. meaning (b.vtable, b.value)) engine.new.boxes.items) engine.new.state) }
-    ensures meets { Meets (runs (shown_settings settings.now)) (kinds_of (map (λ b. meaning (b.vtable, b.value)) engine.old.boxes.items)) (H.files shelf.old) (K.written sink.old) (K.written sink.new) result (IsIn (engine_seen (map (λ b. meaning (b.vtable, b.value)) engine.new.boxes.items) engine.new.state)) }
-    ensures status { HasStatus (runs (shown_settings settings.now)) (H.files shelf.old) (H.faults shelf.old) (H.faults shelf.new) (K.faults sink.old) (K.faults sink.new) result }
-    ensures complete { Completes (runs (shown_settings settings.now)) (H.files shelf.old) (H.faults shelf.old) (H.faults shelf.new) (K.faults sink.old) (K.faults sink.new) result }
+    ensures sound { IsSound (seen B.meaning engine.new) }
+    ensures meets { Meets (runs (shown_settings settings.now)) (kinds_of (map B.meaning engine.old.boxes)) (H.files shelf.old) (K.written sink.old)
+        (K.written sink.new) result (IsIn (seen B.meaning engine.new)) }
+    ensures status { HasStatus (runs (shown_settings settings.now)) (H.files shelf.old) (H.faults shelf.old) (H.faults shelf.new) (K.faults sink.old)
+        (K.faults sink.new) result }
+    ensures complete { Completes (runs (shown_settings settings.now)) (H.files shelf.old) (H.faults shelf.old) (H.faults shelf.new)
+        (K.faults sink.old) (K.faults sink.new) result }
     ensures files { H.files shelf.new ≡ H.files shelf.old }
 {
     match load(alloc, shelf, name, &Limits::program()) {
@@ -129,12 +139,12 @@ fn run_loaded<H: Shelf, K: Sink>(
 }
 
 /// Drops the index of that kind where it is left out.
-fn leave_out(engine: &mut Engine, kind: Kind, is_left_out: bool)
-    requires closed { opened_of engine.old.state ≡ None }
-    requires sound { IsSound (engine_seen (map (λ b. meaning (b.vtable, b.value)) engine.old.boxes.items) engine.old.state) }
-    ensures closed { opened_of engine.new.state ≡ None }
-    ensures sound { IsSound (engine_seen (map (λ b. meaning (b.vtable, b.value)) engine.new.boxes.items) engine.new.state) }
-    ensures kinds { kinds_of (map (λ b. meaning (b.vtable, b.value)) engine.new.boxes.items) ≡ left_out is_left_out kind (kinds_of (map (λ b. meaning (b.vtable, b.value)) engine.old.boxes.items)) }
+fn leave_out<B: PathIndex>(engine: &mut Engine<B>, kind: Kind, is_left_out: bool)
+    requires closed { engine.old.opened ≡ None }
+    requires sound { IsSound (seen B.meaning engine.old) }
+    ensures closed { engine.new.opened ≡ None }
+    ensures sound { IsSound (seen B.meaning engine.new) }
+    ensures kinds { kinds_of (map B.meaning engine.new.boxes) ≡ left_out is_left_out kind (kinds_of (map B.meaning engine.old.boxes)) }
 {
     if is_left_out {
         let _ = engine.forget(kind);
@@ -142,22 +152,25 @@ fn leave_out(engine: &mut Engine, kind: Kind, is_left_out: bool)
 }
 
 /// Opens the engine with that graph and without the indexes that a flag leaves out, and runs the script.
-fn run_script<H: Shelf, K: Sink>(
+fn run_script<B: PathIndex, H: Shelf, K: Sink>(
     alloc: Global,
     settings: &Settings<'_>,
     graph: Graph,
-    engine: &mut Engine,
+    engine: &mut Engine<B>,
     shelf: &mut H,
     sink: &mut K,
 ) -> u8
     requires begins { BeginsTold (shown_settings settings.now).graph (H.files shelf.old) graph.graph }
-    requires closed { opened_of engine.old.state ≡ None }
-    requires sound { IsSound (engine_seen (map (λ b. meaning (b.vtable, b.value)) engine.old.boxes.items) engine.old.state) }
+    requires closed { engine.old.opened ≡ None }
+    requires sound { IsSound (seen B.meaning engine.old) }
     requires level { settings.now.k ≤ 8 }
-    ensures sound { IsSound (engine_seen (map (λ b. meaning (b.vtable, b.value)) engine.new.boxes.items) engine.new.state) }
-    ensures meets { Meets (runs (shown_settings settings.now)) (kinds_of (map (λ b. meaning (b.vtable, b.value)) engine.old.boxes.items)) (H.files shelf.old) (K.written sink.old) (K.written sink.new) result (IsIn (engine_seen (map (λ b. meaning (b.vtable, b.value)) engine.new.boxes.items) engine.new.state)) }
-    ensures status { HasStatus (runs (shown_settings settings.now)) (H.files shelf.old) (H.faults shelf.old) (H.faults shelf.new) (K.faults sink.old) (K.faults sink.new) result }
-    ensures complete { Completes (runs (shown_settings settings.now)) (H.files shelf.old) (H.faults shelf.old) (H.faults shelf.new) (K.faults sink.old) (K.faults sink.new) result }
+    ensures sound { IsSound (seen B.meaning engine.new) }
+    ensures meets { Meets (runs (shown_settings settings.now)) (kinds_of (map B.meaning engine.old.boxes)) (H.files shelf.old) (K.written sink.old)
+        (K.written sink.new) result (IsIn (seen B.meaning engine.new)) }
+    ensures status { HasStatus (runs (shown_settings settings.now)) (H.files shelf.old) (H.faults shelf.old) (H.faults shelf.new) (K.faults sink.old)
+        (K.faults sink.new) result }
+    ensures complete { Completes (runs (shown_settings settings.now)) (H.files shelf.old) (H.faults shelf.old) (H.faults shelf.new)
+        (K.faults sink.old) (K.faults sink.new) result }
     ensures files { H.files shelf.new ≡ H.files shelf.old }
 {
     leave_out(engine, Kind::One, settings.without_one);
@@ -169,19 +182,24 @@ fn run_script<H: Shelf, K: Sink>(
 }
 
 /// Runs the script on the graph of the engine.
-fn run_open<H: Shelf, K: Sink>(
+fn run_open<B: PathIndex, H: Shelf, K: Sink>(
     alloc: Global,
     settings: &Settings<'_>,
-    engine: &mut Engine,
+    engine: &mut Engine<B>,
     shelf: &mut H,
     sink: &mut K,
 ) -> u8
-    requires begins { BeginsTold (shown_settings settings.now).graph (H.files shelf.old) (state_in (engine_seen (map (λ b. meaning (b.vtable, b.value)) engine.old.boxes.items) engine.old.state)).graph }
-    requires ready { IsOpen (engine_seen (map (λ b. meaning (b.vtable, b.value)) engine.old.boxes.items) engine.old.state) }
-    ensures sound { IsSound (engine_seen (map (λ b. meaning (b.vtable, b.value)) engine.new.boxes.items) engine.new.state) }
-    ensures meets { (kinds : List Kind) → BeginsRun (state_in (engine_seen (map (λ b. meaning (b.vtable, b.value)) engine.old.boxes.items) engine.old.state)).graph (kinds_for (shown_settings settings.now) kinds) settings.now.k (state_in (engine_seen (map (λ b. meaning (b.vtable, b.value)) engine.old.boxes.items) engine.old.state)) → Meets (runs (shown_settings settings.now)) kinds (H.files shelf.old) (K.written sink.old) (K.written sink.new) result (IsIn (engine_seen (map (λ b. meaning (b.vtable, b.value)) engine.new.boxes.items) engine.new.state)) }
-    ensures status { HasStatus (runs (shown_settings settings.now)) (H.files shelf.old) (H.faults shelf.old) (H.faults shelf.new) (K.faults sink.old) (K.faults sink.new) result }
-    ensures complete { Completes (runs (shown_settings settings.now)) (H.files shelf.old) (H.faults shelf.old) (H.faults shelf.new) (K.faults sink.old) (K.faults sink.new) result }
+    requires begins { BeginsTold (shown_settings settings.now).graph (H.files shelf.old) (state_of B.meaning engine.old).graph }
+    requires ready { IsOpen (seen B.meaning engine.old) }
+    ensures sound { IsSound (seen B.meaning engine.new) }
+    ensures meets { (kinds : List Kind) → BeginsRun (state_of B.meaning engine.old).graph (kinds_for (shown_settings settings.now) kinds)
+        settings.now.k (state_of B.meaning engine.old)
+        → Meets (runs (shown_settings settings.now)) kinds (H.files shelf.old) (K.written sink.old) (K.written sink.new) result
+        (IsIn (seen B.meaning engine.new)) }
+    ensures status { HasStatus (runs (shown_settings settings.now)) (H.files shelf.old) (H.faults shelf.old) (H.faults shelf.new) (K.faults sink.old)
+        (K.faults sink.new) result }
+    ensures complete { Completes (runs (shown_settings settings.now)) (H.files shelf.old) (H.faults shelf.old) (H.faults shelf.new)
+        (K.faults sink.old) (K.faults sink.new) result }
     ensures files { H.files shelf.new ≡ H.files shelf.old }
 {
     match shelf.open(settings.script) {

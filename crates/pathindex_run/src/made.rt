@@ -5,9 +5,9 @@ ghost use Rattle.graph_load.specs.Loads.{Loads, loaded};
 ghost use Rattle.graph_load.specs.LoadSteps.{TellsOutcome};
 ghost use Rattle.made_texts.specs.MadeTexts.{made_graph_text};
 ghost use Rattle.index_api.specs.Kept.{kinds_of};
-ghost use Rattle.pathindex_core.specs.Engines.{engine_seen, opened_of, IsSound};
+ghost use Rattle.pathindex_core.specs.Engines.{IsSound, seen};
 ghost use Rattle.script_run.specs.declared.printing.Printing.TheVariants.{Brief};
-ghost use Rattle.script_run.specs.EngineStates.{state_in, IsOpen, IsIn};
+ghost use Rattle.script_run.specs.EngineStates.{state_of, IsOpen, IsIn};
 ghost use Rattle.script_run.specs.Rules.{rules_for};
 ghost use Rattle.pathindex_run.specs.Headline.{RunsFrom, RunsLoaded, RunsScript, made_task};
 ghost use Rattle.pathindex_run.specs.MadeSteps.{HasSinkStatus, text_task};
@@ -16,6 +16,7 @@ use crate::output::show_refusal;
 use crate::status::{Status, status_of};
 use crate::text_shelf::TextShelf;
 use graph_load::{LoadError, load};
+use index_api::PathIndex;
 use label_graph::Graph;
 use made_texts::{made_graph, made_script};
 use pathindex_core::Engine;
@@ -53,11 +54,17 @@ fn load_made(alloc: Global, seed: u64) -> Result<Graph, LoadError>
 }
 
 /// Makes the texts of the seed, loads the graph file, and runs the script. The graph file's text is dropped before the script is made.
-pub(crate) fn run_made<K: Sink>(alloc: Global, seed: u64, engine: &mut Engine, sink: &mut K) -> u8
-    requires closed { opened_of engine.old.state ≡ None }
-    requires sound { IsSound (engine_seen (map (λ b. meaning (b.vtable, b.value)) engine.old.boxes.items) engine.old.state) }
-    ensures sound { IsSound (engine_seen (map (λ b. meaning (b.vtable, b.value)) engine.new.boxes.items) engine.new.state) }
-    ensures meets { RunsLoaded (made_task seed (kinds_of (map (λ b. meaning (b.vtable, b.value)) engine.old.boxes.items))) (Some (made_graph_text seed)) (K.written sink.old) (K.written sink.new) result (IsIn (engine_seen (map (λ b. meaning (b.vtable, b.value)) engine.new.boxes.items) engine.new.state)) }
+pub(crate) fn run_made<B: PathIndex, K: Sink>(
+    alloc: Global,
+    seed: u64,
+    engine: &mut Engine<B>,
+    sink: &mut K,
+) -> u8
+    requires closed { engine.old.opened ≡ None }
+    requires sound { IsSound (seen B.meaning engine.old) }
+    ensures sound { IsSound (seen B.meaning engine.new) }
+    ensures meets { RunsLoaded (made_task seed (kinds_of (map B.meaning engine.old.boxes))) (Some (made_graph_text seed)) (K.written sink.old)
+        (K.written sink.new) result (IsIn (seen B.meaning engine.new)) }
     ensures status { HasSinkStatus (K.faults sink.old) (K.faults sink.new) result }
 {
     match load_made(alloc, seed) {
@@ -71,17 +78,18 @@ pub(crate) fn run_made<K: Sink>(alloc: Global, seed: u64, engine: &mut Engine, s
 }
 
 /// Makes the script for the graph, and runs it from there on.
-fn run_script<K: Sink>(
+fn run_script<B: PathIndex, K: Sink>(
     alloc: Global,
     seed: u64,
     graph: Graph,
-    engine: &mut Engine,
+    engine: &mut Engine<B>,
     sink: &mut K,
 ) -> u8
-    requires closed { opened_of engine.old.state ≡ None }
-    requires sound { IsSound (engine_seen (map (λ b. meaning (b.vtable, b.value)) engine.old.boxes.items) engine.old.state) }
-    ensures sound { IsSound (engine_seen (map (λ b. meaning (b.vtable, b.value)) engine.new.boxes.items) engine.new.state) }
-    ensures runs { RunsFrom (made_task seed (kinds_of (map (λ b. meaning (b.vtable, b.value)) engine.old.boxes.items))) graph.graph (K.written sink.old) (K.written sink.new) result (IsIn (engine_seen (map (λ b. meaning (b.vtable, b.value)) engine.new.boxes.items) engine.new.state)) }
+    requires closed { engine.old.opened ≡ None }
+    requires sound { IsSound (seen B.meaning engine.old) }
+    ensures sound { IsSound (seen B.meaning engine.new) }
+    ensures runs { RunsFrom (made_task seed (kinds_of (map B.meaning engine.old.boxes))) graph.graph (K.written sink.old) (K.written sink.new) result
+        (IsIn (seen B.meaning engine.new)) }
     ensures status { HasSinkStatus (K.faults sink.old) (K.faults sink.new) result }
 {
     match made_script(alloc, seed, graph.created()) {
@@ -91,17 +99,18 @@ fn run_script<K: Sink>(
 }
 
 /// Opens the engine with that graph, and runs the script with this text.
-fn run_text<K: Sink>(
+fn run_text<B: PathIndex, K: Sink>(
     alloc: Global,
     script: &[u8],
     graph: Graph,
-    engine: &mut Engine,
+    engine: &mut Engine<B>,
     sink: &mut K,
 ) -> u8
-    requires closed { opened_of engine.old.state ≡ None }
-    requires sound { IsSound (engine_seen (map (λ b. meaning (b.vtable, b.value)) engine.old.boxes.items) engine.old.state) }
-    ensures sound { IsSound (engine_seen (map (λ b. meaning (b.vtable, b.value)) engine.new.boxes.items) engine.new.state) }
-    ensures runs { RunsFrom (text_task script.now (kinds_of (map (λ b. meaning (b.vtable, b.value)) engine.old.boxes.items))) graph.graph (K.written sink.old) (K.written sink.new) result (IsIn (engine_seen (map (λ b. meaning (b.vtable, b.value)) engine.new.boxes.items) engine.new.state)) }
+    requires closed { engine.old.opened ≡ None }
+    requires sound { IsSound (seen B.meaning engine.old) }
+    ensures sound { IsSound (seen B.meaning engine.new) }
+    ensures runs { RunsFrom (text_task script.now (kinds_of (map B.meaning engine.old.boxes))) graph.graph (K.written sink.old) (K.written sink.new)
+        result (IsIn (seen B.meaning engine.new)) }
     ensures status { HasSinkStatus (K.faults sink.old) (K.faults sink.new) result }
 {
     match engine.open(graph, Limits::program(), 2) {
@@ -111,10 +120,16 @@ fn run_text<K: Sink>(
 }
 
 /// Runs the script with this text on the graph of the engine.
-fn run_open<K: Sink>(alloc: Global, script: &[u8], engine: &mut Engine, sink: &mut K) -> u8
-    requires ready { IsOpen (engine_seen (map (λ b. meaning (b.vtable, b.value)) engine.old.boxes.items) engine.old.state) }
-    ensures sound { IsSound (engine_seen (map (λ b. meaning (b.vtable, b.value)) engine.new.boxes.items) engine.new.state) }
-    ensures runs { RunsScript (rules_for Brief) (state_in (engine_seen (map (λ b. meaning (b.vtable, b.value)) engine.old.boxes.items) engine.old.state)) (Some script.now) (K.written sink.old) (K.written sink.new) result (IsIn (engine_seen (map (λ b. meaning (b.vtable, b.value)) engine.new.boxes.items) engine.new.state)) }
+fn run_open<B: PathIndex, K: Sink>(
+    alloc: Global,
+    script: &[u8],
+    engine: &mut Engine<B>,
+    sink: &mut K,
+) -> u8
+    requires ready { IsOpen (seen B.meaning engine.old) }
+    ensures sound { IsSound (seen B.meaning engine.new) }
+    ensures runs { RunsScript (rules_for Brief) (state_of B.meaning engine.old) (Some script.now) (K.written sink.old) (K.written sink.new) result
+        (IsIn (seen B.meaning engine.new)) }
     ensures status { HasSinkStatus (K.faults sink.old) (K.faults sink.new) result }
 {
     let mut shelf = TextShelf::new(script);

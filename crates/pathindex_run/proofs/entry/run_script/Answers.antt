@@ -1,7 +1,7 @@
-use Rattle.std.proofs.Common.{◌∙◌, inr, refl, sym, ap, subst, map}
+use Rattle.std.proofs.Common.{◌∙◌, inr, refl, sym, ap, subst}
 use Rattle.bisim_spec.specs.declared.kind.Kind.TheVariants.{Fb}
 use Rattle.command_line.specs.Shown.{shown_settings}
-use Rattle.pathindex_core.specs.Engines.{engine_seen, graph_in}
+use Rattle.pathindex_core.specs.Engines.{graph_in, seen}
 use Rattle.script_run.specs.States.{left_out}
 use Rattle.pathindex_run.specs.ToldFiles.{BeginsTold}
 use Rattle.pathindex_run.proofs.RunLemmas.{stopped}
@@ -17,7 +17,7 @@ run_open-requires-clause-ready g c = record { sound = c.open.ensures.sound; open
 
 pub returns-in-Ok-clause-meets : goal.returns-in-Ok-clause-meets
 returns-in-Ok-clause-meets g c =
-    c.run_open.ensures.meets _ (opened_for (shown_settings c.args.settings.now) _ (engine_seen (map (λ b. (goal.PathIndex-dyn g (b.vtable, b.value)).meaning b.value) c.leave_out-2.new.engine.boxes.items) c.leave_out-2.new.engine.state) _ _ c.in-Ok.ensures.opened c.in-Ok.ensures.built c.open.ensures.kinds c.open.ensures.sound
+    c.run_open.ensures.meets _ (opened_for (shown_settings c.args.settings.now) _ (seen g.B.PathIndex.meaning c.leave_out-2.new.engine) _ _ c.in-Ok.ensures.opened c.in-Ok.ensures.built c.open.ensures.kinds c.open.ensures.sound
     (c.leave_out-2.ensures.kinds ∙ ap (left_out c.args.settings.now.without_fb Fb) c.leave_out.ensures.kinds))
 
 pub returns-in-Err-clause-meets : goal.returns-in-Err-clause-meets
