@@ -8,6 +8,10 @@ pub record HasFirst (key : List ℕ) (number : ℕ) : Type 0 where
   pub around : List ℕ
   pub is : key ≡ number ∷ around
 
+-- the first number of each key that has one
+abbrev pub AreFirstNumbers : List (List ℕ) → List ℕ → Type 0
+AreFirstNumbers keys first = (b n : ℕ) (key : List ℕ) → slice_get keys b ≡ Some key → HasFirst key n → slice_get first b ≡ Some n
+
 -- all members of the block wait
 pub record AllWait (block : List (Option ℕ)) (waits : ℕ → Bool) (b : ℕ) : Type 0 where
   pub each : (n : ℕ) → at block n ≡ Some b → waits n ≡ true

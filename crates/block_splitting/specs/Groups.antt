@@ -3,7 +3,7 @@ use Rattle.std.specs.Prelude.{ℕ, ◌≡◌, ◌<◌, Bool, true, List, Option,
 use Rattle.px_spec.specs.Graphs.{Graph}
 use Rattle.px_spec.specs.Members.{at}
 use Rattle.label_graph.specs.Views.{label_number}
-use Rattle.key_table.specs.NumberedKeys.{AreDistinct}
+use Rattle.key_table.specs.NumberedKeys.{AreDistinct, Interns}
 use Rattle.bisim_levels.specs.declared.sides.Side.{Side}
 use Rattle.bisim_levels.specs.Sides.{is_near}
 use Rattle.bisim_levels.specs.Keys.{IsKey}
@@ -24,3 +24,7 @@ pub record AreGrouped (K : ℕ → List ℕ → Type 0) (seen : ℕ → Bool) (k
 -- the key of a node: its own block, and then the blocks of its neighbours on a side, rising, each once
 abbrev pub NeighbourKey : Graph → Side → List (Option ℕ) → ℕ → List ℕ → Type 0
 NeighbourKey g side block n key = IsKey (at block) block (is_near side g) n key
+
+-- the number is that of a key that passes, which is put behind the others where it was absent
+abbrev pub InternsSome : (List ℕ → Type 0) → List (List ℕ) → List (List ℕ) → ℕ → Type 0
+InternsSome K keys keys2 k = (key : List ℕ) × Interns keys keys2 key k × K key

@@ -1,5 +1,5 @@
 -- Nodes that went to the blocks of their groups.
-use Rattle.std.specs.Prelude.{ℕ, ◌≡◌, ◌<◌, Bool, true, false, List, length, Option, Some, IsSome, slice_get, slice_index}
+use Rattle.std.specs.Prelude.{ℕ, ◌≡◌, ◌<◌, Bool, true, false, List, length, Option, Some, IsSome, slice_get, slice_index, ◌⊎◌, ◌++◌, ◌∷◌, []}
 use Rattle.px_spec.specs.Members.{at}
 use Rattle.block_partition.specs.Partitions.{Partition, IsBlock}
 use Rattle.block_splitting.specs.Chosen.{HasFirst, AreChosen, KeepersBelow}
@@ -17,6 +17,14 @@ pub record AreMoved (seen : ℕ → Bool) (target : ℕ → ℕ) (old new : List
   pub others : (n : ℕ) → seen n ≡ false → at new n ≡ at old n
   pub still : (n : ℕ) → moved n ≡ false → at new n ≡ at old n
   pub went : (n : ℕ) → moved n ≡ true → at new n ≡ at old n → ⊥
+
+-- the node is put behind those that moved, unless it was in the block already
+abbrev pub NotesMove : List (Option ℕ) → ℕ → ℕ → List ℕ → List ℕ → Type 0
+NotesMove block n to moved moved2 = ((at block n ≡ Some to) × (moved2 ≡ moved)) ⊎ ((at block n ≡ Some to → ⊥) × (moved2 ≡ moved ++ n ∷ []))
+
+-- the nodes that are seen went to the blocks that are chosen for their groups
+abbrev pub WentToChosen : (ℕ → Bool) → List ℕ → List ℕ → List (Option ℕ) → List (Option ℕ) → (ℕ → Bool) → Type 0
+WentToChosen seen group chosen old new moved = AreMoved seen (λ n. slice_index chosen (slice_index group n)) old new moved
 
 -- the nodes that are seen have a block and the number of a key; keys begin with the number of a block
 pub record CanPart (p : Partition) (seen : ℕ → Bool) (keys : List (List ℕ)) (group : List ℕ) : Type 0 where

@@ -9,6 +9,8 @@ use Rattle.bisim_levels.specs.declared.sides.Side.TheVariants.{Parents, Children
 use Rattle.bisim_levels.specs.Sides.{is_near}
 use Rattle.block_partition.specs.Partitions.{Partition}
 use Rattle.block_splitting.specs.Splits.{IsNeighbour}
+use Rattle.block_splitting.specs.Nodes.{NodeList}
+use Rattle.block_splitting.specs.Groups.{AreGrouped}
 
 -- both nodes have a neighbour in the splitter on the side, or neither has one
 pub record BothOrNeither (t : Side) (g : Graph) (splitter : ℕ → Bool) (u v : ℕ) : Type 0 where
@@ -40,3 +42,11 @@ pub record FlagKey (parents children : ℕ → Bool) (block : List (Option ℕ))
   pub own : ℕ
   pub own_is : at block n ≡ Some own
   pub is : key ≡ own ∷ bit_of (parents n) ∷ bit_of (children n) ∷ []
+
+-- the key of a node: its own block, and whether it is of the one list of touched nodes, and of the other
+abbrev pub TouchedKey : NodeList → NodeList → List (Option ℕ) → ℕ → List ℕ → Type 0
+TouchedKey parents children block n key = FlagKey (has parents.nodes) (has children.nodes) block n key
+
+-- each touched node has the number of its key
+abbrev pub AreTouchGroups : NodeList → NodeList → List (Option ℕ) → (ℕ → Bool) → List (List ℕ) → List ℕ → Type 0
+AreTouchGroups parents children block touched keys group = AreGrouped (TouchedKey parents children block) touched keys group

@@ -76,7 +76,8 @@ fn make_room(blocks: &mut Blocks, more: u32) -> Result<(), Memory>
     ensures room { IfOk result (λ _. more ≤ blocks.new.room.blocks) }
     ensures err { OnErr result (blocks.new ≡ blocks.old) }
 {
-    let _ = blocks.numbers();
+    // Called for its contract: there are at most 2^31 numbers.
+    let _known = blocks.numbers();
     if more > (1 << 31) - blocks.count() {
         return Err(Memory);
     }

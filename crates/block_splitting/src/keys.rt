@@ -1,11 +1,11 @@
 // The key of a node, read off the tables of a partition.
-ghost use Rattle.std.specs.Prelude.{ℕ, List, IfOk, IsSome};
+ghost use Rattle.std.specs.Prelude.{IfOk, IsSome};
 ghost use Rattle.px_spec.specs.Graphs.{IsGraph};
 ghost use Rattle.px_spec.specs.Members.{Lists, at};
 ghost use Rattle.label_graph.specs.Views.{label_number};
-ghost use Rattle.key_table.specs.NumberedKeys.{AreDistinct, Interns};
-ghost use Rattle.bisim_levels.specs.Keys.{IsKey};
+ghost use Rattle.key_table.specs.NumberedKeys.{AreDistinct};
 ghost use Rattle.bisim_levels.specs.Sides.{is_near};
+ghost use Rattle.block_splitting.specs.Groups.{NeighbourKey, InternsSome};
 
 use bisim_levels::{Side, write_key};
 use block_partition::Blocks;
@@ -38,7 +38,7 @@ pub(crate) fn key_number(
     requires graph { IsGraph view.now }
     requires node { IsSome (label_number view.now n) }
     requires has { IsSome (at blocks.now.block_of n) }
-    ensures ok { IfOk result (λ k. (key : List ℕ) × Interns keys.old keys.new key k × IsKey (at blocks.now.block_of) blocks.now.block_of (is_near side view.now) n key) }
+    ensures ok { IfOk result (λ k. InternsSome (NeighbourKey view.now side blocks.now.block_of n) keys.old keys.new k) }
     ensures distinct { IfOk result (λ k. AreDistinct keys.new) }
 {
     let Some(number) = blocks.block_of(n) else {

@@ -1,8 +1,8 @@
 // Moving the nodes of groups.
-ghost use Rattle.std.specs.Prelude.{◌≡◌, ◌+◌, ◌<◌, ◌≤◌, ◌++◌, ◌∷◌, ◌⊎◌, ℕ, [], true, Some, IsSome, length, vec_len, vec_capacity, slice_index, nat_eq, if◌then◌else◌};
+ghost use Rattle.std.specs.Prelude.{◌≡◌, ◌+◌, ◌<◌, ◌≤◌, ℕ, [], true, Some, IsSome, length, vec_len, vec_capacity, nat_eq, if◌then◌else◌};
 ghost use Rattle.px_spec.specs.Members.{has, at};
 ghost use Rattle.block_partition.specs.Partitions.{IsBlock, with_move};
-ghost use Rattle.block_splitting.specs.Moved.{AreMoved, CanMove};
+ghost use Rattle.block_splitting.specs.Moved.{CanMove, NotesMove, WentToChosen};
 
 use block_partition::Blocks;
 use px_base::NodeId;
@@ -16,7 +16,7 @@ fn move_one(blocks: &mut Blocks, moved: &mut Vec<NodeId>, n: NodeId, to: u32)
     ensures nodes { (m : ℕ) → at blocks.new.block_of m ≡ (if nat_eq m n then Some to else at blocks.old.block_of m) }
     ensures capacity { vec_capacity moved.new ≡ vec_capacity moved.old }
     ensures len { vec_len moved.new ≤ vec_len moved.old + 1 }
-    ensures moved { ((at blocks.old.block_of n ≡ Some to) × (moved.new.items ≡ moved.old.items)) ⊎ ((at blocks.old.block_of n ≡ Some to → ⊥) × (moved.new.items ≡ moved.old.items ++ n ∷ [])) }
+    ensures moved { NotesMove blocks.old.block_of n to moved.old.items moved.new.items }
 {
     if blocks.block_of(n) == Some(to) {
         return;
@@ -37,7 +37,7 @@ pub(crate) fn move_nodes(
     requires none { moved.old.items ≡ [] }
     requires room { length nodes.now ≤ vec_capacity moved.old }
     ensures labels { blocks.new.labels ≡ blocks.old.labels }
-    ensures moved { AreMoved (has nodes.now) (λ n. slice_index chosen.now (slice_index group.now n)) blocks.old.block_of blocks.new.block_of (has moved.new.items) }
+    ensures moved { WentToChosen (has nodes.now) group.now chosen.now blocks.old.block_of blocks.new.block_of (has moved.new.items) }
 {
     for n in nodes {
         let to = chosen[group[*n as usize] as usize];

@@ -1,14 +1,14 @@
 // Blocks that are split by a set of nodes.
-ghost use Rattle.std.specs.Prelude.{◌≡◌, ◌<◌, ◌≤◌, ℕ, List, [], true, IsSome, IfOk, OnOk, OnErr, length, vec_len};
+ghost use Rattle.std.specs.Prelude.{◌≡◌, ◌<◌, ◌≤◌, [], true, IsSome, IfOk, OnOk, OnErr, length, vec_len};
 ghost use Rattle.px_spec.specs.Graphs.{IsGraph};
 ghost use Rattle.px_spec.specs.Shapes.{shape_of};
 ghost use Rattle.px_spec.specs.Members.{has, at};
-ghost use Rattle.key_table.specs.NumberedKeys.{AreDistinct, Interns};
+ghost use Rattle.key_table.specs.NumberedKeys.{AreDistinct};
 ghost use Rattle.bisim_spec.specs.Partitions.{IsPartition};
 ghost use Rattle.block_splitting.specs.Nodes.{AreNodes};
-ghost use Rattle.block_splitting.specs.Groups.{AreReady, AreGrouped};
+ghost use Rattle.block_splitting.specs.Groups.{AreReady, InternsSome};
 ghost use Rattle.block_splitting.specs.Splits.{AreInhabited};
-ghost use Rattle.block_splitting.specs.Splitters.{bit_of, FlagKey, AreTouched, IsSplitBy, KeepLabels};
+ghost use Rattle.block_splitting.specs.Splitters.{bit_of, AreTouched, IsSplitBy, KeepLabels, TouchedKey, AreTouchGroups};
 
 use crate::nodes::NodeSet;
 use crate::parting::part;
@@ -61,7 +61,7 @@ fn flag_number(
     n: NodeId,
 ) -> Result<u32, Memory>
     requires has { IsSome (at blocks.now.block_of n) }
-    ensures ok { IfOk result (λ k. (key : List ℕ) × Interns keys.old keys.new key k × FlagKey (has touched.now.parents.nodes) (has touched.now.children.nodes) blocks.now.block_of n key) }
+    ensures ok { IfOk result (λ k. InternsSome (TouchedKey touched.now.parents touched.now.children blocks.now.block_of n) keys.old keys.new k) }
     ensures distinct { IfOk result (λ k. AreDistinct keys.new) }
 {
     let Some(number) = blocks.block_of(n) else {
@@ -84,7 +84,7 @@ fn group_touched(
     requires ready { AreReady view.now blocks.now.block_of (has nodes.now) (vec_len group.old) }
     requires none { keys.old ≡ [] }
     ensures length { vec_len group.new ≡ vec_len group.old }
-    ensures grouped { OnOk result (AreGrouped (FlagKey (has touched.now.parents.nodes) (has touched.now.children.nodes) blocks.now.block_of) (has nodes.now) keys.new group.new.items) }
+    ensures grouped { OnOk result (AreTouchGroups touched.now.parents touched.now.children blocks.now.block_of (has nodes.now) keys.new group.new.items) }
 {
     for n in nodes {
         let k = flag_number(keys, touched, blocks, *n)?;
@@ -113,7 +113,7 @@ pub fn split_by(
     ensures err { OnErr result (blocks.new ≡ blocks.old) }
 {
     // Called for its contract: nodes have live blocks.
-    let _ = blocks.span();
+    let _known = blocks.span();
     let touched = touch(alloc, view, splitter)?;
     let nodes = touched.all.nodes();
     let mut keys = KeyTable::new(alloc)?;

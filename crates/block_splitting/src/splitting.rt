@@ -70,7 +70,7 @@ pub fn split(
     ensures err { OnErr result (blocks.new ≡ blocks.old) }
 {
     // Called for its contract: nodes have live blocks.
-    let _ = blocks.span();
+    let _known = blocks.span();
     let nodes = waiting.nodes();
     let mut keys = KeyTable::new(alloc)?;
     let Tables { key, group, keeper } = tables;

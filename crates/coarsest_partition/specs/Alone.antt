@@ -1,6 +1,6 @@
 -- Nodes that are alone in their block.
-use Rattle.std.specs.Prelude.{ℕ, Bool, false, Option, None, Some, nat_eq}
-use Rattle.px_spec.specs.Members.{at}
+use Rattle.std.specs.Prelude.{ℕ, Bool, false, Option, None, Some, nat_eq, ◌≡◌, ◌||◌, ◌&&◌, not, List}
+use Rattle.px_spec.specs.Members.{at, has}
 use Rattle.block_partition.specs.Partitions.{Partition, member_count}
 
 -- whether the block has one member
@@ -11,3 +11,7 @@ has_one p (Some b) = nat_eq (member_count p b) 1
 -- whether the node is alone in its block
 abbrev pub is_alone : Partition → ℕ → Bool
 is_alone p n = has_one p (at p.block_of n)
+
+-- besides those that waited, those wait that pass the test and aren't alone
+abbrev pub Wakes : (ℕ → Bool) → Partition → List ℕ → List ℕ → Type 0
+Wakes passes p waiting waiting2 = (m : ℕ) → has waiting2 m ≡ (has waiting m || (passes m && not (is_alone p m)))

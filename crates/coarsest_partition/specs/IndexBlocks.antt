@@ -4,8 +4,14 @@ use Rattle.px_spec.specs.Graphs.{Graph}
 use Rattle.block_partition.specs.Partitions.{Partition}
 use Rattle.bisim_spec.specs.Supports.{edges_between}
 use Rattle.bisim_spec.specs.Views.{SupportTable, ViewFits, support_at}
+use Rattle.block_splitting.specs.Splits.{AreLabelled, AreInhabited}
 
 -- with the numbers of edges as supports, it is a view of the graph: each block has a member, and its members' label
 abbrev pub FitsWithSupports : Graph → Partition → Type 0
 FitsWithSupports g p = (supports : SupportTable) → ((a b : ℕ) → support_at supports a b ≡ edges_between g.edges p.block_of a b)
     → ViewFits g (record { block_of = p.block_of; labels = p.labels; supports = supports })
+
+-- where each block had the label of its members and a member, it has them still
+pub record StayIndexBlocks (g : Graph) (old new : Partition) : Type 0 where
+  pub labelled : AreLabelled g old → AreLabelled g new
+  pub inhabited : AreInhabited old → AreInhabited new

@@ -3,7 +3,7 @@
 use Rattle.std.specs.Prelude.{ℕ, ◌≡◌, ◌⊎◌, Bool, true, false, List, Option}
 use Rattle.px_spec.specs.Graphs.{Graph}
 use Rattle.bisim_spec.specs.Bisimilarity.{SameLabel, Matched}
-use Rattle.px_spec.specs.Members.{at}
+use Rattle.px_spec.specs.Members.{at, has}
 use Rattle.bisim_spec.specs.Partitions.{Together}
 use Rattle.bisim_levels.specs.declared.sides.Side.{Side}
 use Rattle.block_splitting.specs.Splits.{IsNeighbour}
@@ -52,3 +52,7 @@ pub record IsStep (g : Graph) (kept : Side → Bool) (old new : List (Option ℕ
   pub left_wait : (t : Side) → kept t ≡ true → (n : ℕ) → left t ≡ true → waits t n ≡ true → next t n ≡ true
   pub wait_why : (t : Side) → kept t ≡ true → (n : ℕ) → next t n ≡ true
       → ((left t ≡ true) × (waits t n ≡ true)) ⊎ ((q : ℕ) × IsNeighbour t g q n × (at new q ≡ at old q → ⊥))
+
+-- a step by parents, where these nodes waited and those wait next
+abbrev pub IsStepByParents : Graph → List (Option ℕ) → List (Option ℕ) → List ℕ → List ℕ → Type 0
+IsStepByParents g old new waiting next = IsStep g parents_alone old new (λ t. has waiting) (λ t. has next)

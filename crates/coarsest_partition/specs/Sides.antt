@@ -1,13 +1,15 @@
 -- What waits on each side.
-use Rattle.std.specs.Prelude.{ℕ, ◌≡◌, Bool, true, List, Option, IsSome, length}
+use Rattle.std.specs.Prelude.{ℕ, ◌≡◌, Bool, true, List, Option, IsSome, length, ◌<◌, ◌≤◌, ◌⊎◌, []}
 use Rattle.px_spec.specs.Graphs.{Graph, IsGraph}
 use Rattle.px_spec.specs.Members.{at, has}
 use Rattle.px_spec.specs.Shapes.{shape_of}
 use Rattle.bisim_spec.specs.Bisimilarity.{SameLabel}
-use Rattle.bisim_spec.specs.Partitions.{Agrees}
+use Rattle.bisim_spec.specs.Partitions.{Agrees, IsPartition}
 use Rattle.block_splitting.specs.Nodes.{NodeList, AreNodes}
 use Rattle.bisim_levels.specs.declared.sides.Side.{Side}
 use Rattle.bisim_levels.specs.declared.sides.Side.TheVariants.{Parents, Children}
+use Rattle.block_partition.specs.Partitions.{Partition, block_count}
+use Rattle.coarsest_partition.specs.Refined.{both_sides, IsStep}
 
 -- what waits by parents, and what by children
 abbrev pub two : (ℕ → Bool) → (ℕ → Bool) → Side → ℕ → Bool
@@ -34,3 +36,24 @@ pub record BothSidesWait (g : Graph) (block : List (Option ℕ)) (parents childr
   pub children_size : children.size ≡ length g.given
   pub by_parents : (n : ℕ) → IsSome (at block n) → has parents.nodes n ≡ true
   pub by_children : (n : ℕ) → IsSome (at block n) → has children.nodes n ≡ true
+
+-- nodes of the graph, in a set for all its numbers
+pub record AreWaiting (g : Graph) (waiting : NodeList) : Type 0 where
+  pub nodes : AreNodes g waiting.nodes
+  pub size : waiting.size ≡ length g.given
+
+-- a step both ways: what waited on this side and on the other, and what waits there next
+abbrev pub IsStepOn : Graph → Side → List (Option ℕ) → List (Option ℕ) → NodeList → NodeList → NodeList → NodeList → Type 0
+IsStepOn g side old new own other own2 other2 =
+    IsStep g both_sides old new (by_side side (has own.nodes) (has other.nodes)) (by_side side (has own2.nodes) (has other2.nodes))
+
+-- there are more blocks than before, or no node waits on this side, and on the other the same wait
+abbrev pub HasMoreOrSettles : Partition → Partition → NodeList → NodeList → NodeList → Type 0
+HasMoreOrSettles old new own2 other other2 =
+    ((own2.nodes ≡ []) × ((m : ℕ) → has other2.nodes m ≡ has other.nodes m) × (block_count old ≤ block_count new)) ⊎ (block_count old < block_count new)
+
+-- a partition of the graph, and a table with a group for each of its numbers
+pub record CanRefine (g : Graph) (block : List (Option ℕ)) (groups : ℕ) : Type 0 where
+  pub graph : IsGraph g
+  pub partition : IsPartition (shape_of g) block
+  pub room : length g.given ≤ groups

@@ -1,16 +1,14 @@
 // Rounds by parents and by children in turn.
-ghost use Rattle.std.specs.Prelude.{◌≡◌, ◌<◌, ◌≤◌, ◌^◌, ◌⊎◌, ◌&&◌, ℕ, [], nat_eq, IfOk, OnOk, length, vec_len};
+ghost use Rattle.std.specs.Prelude.{◌≡◌, ◌<◌, ◌≤◌, ◌^◌, ◌&&◌, nat_eq, IfOk, OnOk, length, vec_len};
 ghost use Rattle.px_spec.specs.Graphs.{IsGraph};
-ghost use Rattle.px_spec.specs.Members.{has};
 ghost use Rattle.bisim_spec.specs.Bisimilarity.{SameLabel, FB};
-ghost use Rattle.bisim_spec.specs.Partitions.{IsPartition, Agrees};
+ghost use Rattle.bisim_spec.specs.Partitions.{Agrees};
 ghost use Rattle.px_spec.specs.Shapes.{shape_of};
 ghost use Rattle.block_partition.specs.Partitions.{block_count};
 ghost use Rattle.block_splitting.specs.Nodes.{AreNodes};
 ghost use Rattle.block_splitting.specs.Splits.{AreLabelled, AreInhabited};
-ghost use Rattle.coarsest_partition.specs.IndexBlocks.{FitsWithSupports};
-ghost use Rattle.coarsest_partition.specs.Refined.{both_sides, IsStep};
-ghost use Rattle.coarsest_partition.specs.Sides.{by_side, other_of, BothSidesWait};
+ghost use Rattle.coarsest_partition.specs.IndexBlocks.{FitsWithSupports, StayIndexBlocks};
+ghost use Rattle.coarsest_partition.specs.Sides.{other_of, BothSidesWait, AreWaiting, IsStepOn, CanRefine, HasMoreOrSettles};
 
 use crate::labels::by_labels;
 use crate::rounds::all_waiting;
@@ -49,30 +47,25 @@ fn round_on(
     other: &mut NodeSet,
     tables: &mut Tables,
 ) -> Result<(), Memory>
-    requires graph { IsGraph view.now }
-    requires partition { IsPartition (shape_of view.now) blocks.old.block_of }
-    requires own { AreNodes view.now own.old.nodes }
-    requires other { AreNodes view.now other.old.nodes }
-    requires own_size { own.old.size ≡ length view.now.given }
-    requires other_size { other.old.size ≡ length view.now.given }
-    requires room { length view.now.given ≤ vec_len tables.old.group }
-    ensures step { OnOk result (IsStep view.now both_sides blocks.old.block_of blocks.new.block_of (by_side side (has own.old.nodes) (has other.old.nodes)) (by_side side (has own.new.nodes) (has other.new.nodes))) }
+    requires refine { CanRefine view.now blocks.old.block_of (vec_len tables.old.group) }
+    requires own { AreWaiting view.now own.old }
+    requires other { AreWaiting view.now other.old }
+    ensures step { OnOk result (IsStepOn view.now side blocks.old.block_of blocks.new.block_of own.old other.old own.new other.new) }
     ensures own { OnOk result (AreNodes view.now own.new.nodes) }
     ensures other { OnOk result (AreNodes view.now other.new.nodes) }
     ensures own_size { own.new.size ≡ own.old.size }
     ensures other_size { other.new.size ≡ other.old.size }
     ensures room { vec_len tables.new.group ≡ vec_len tables.old.group }
     ensures few { OnOk result (block_count blocks.new ≤ 2 ^ 31) }
-    ensures labelled { OnOk result (AreLabelled view.now blocks.old → AreLabelled view.now blocks.new) }
-    ensures inhabited { OnOk result (AreInhabited blocks.old → AreInhabited blocks.new) }
-    ensures more { OnOk result (((own.new.nodes ≡ []) × ((m : ℕ) → has other.new.nodes m ≡ has other.old.nodes m) × (block_count blocks.old ≤ block_count blocks.new)) ⊎ (block_count blocks.old < block_count blocks.new)) }
+    ensures kept { OnOk result (StayIndexBlocks view.now blocks.old blocks.new) }
+    ensures more { OnOk result (HasMoreOrSettles blocks.old blocks.new own.new other.old other.new) }
 {
     let moved = split(alloc, view, side, blocks, own, tables)?;
     own.clear();
     wake_moved(own, blocks, view, side, &moved)?;
     wake_moved(other, blocks, view, opposite(side), &moved)?;
     // Called for its contract: there are at most 2^31 blocks.
-    let _ = blocks.count();
+    let _known = blocks.count();
     Ok(())
 }
 

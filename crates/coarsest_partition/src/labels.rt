@@ -1,10 +1,10 @@
 // The partition by labels, in tables.
-ghost use Rattle.std.specs.Prelude.{◌≡◌, ◌<◌, ◌∷◌, [], ℕ, List, IfOk, Some, length, slice_get};
+ghost use Rattle.std.specs.Prelude.{◌≡◌, ◌<◌, ◌∷◌, [], ℕ, IfOk, length};
 ghost use Rattle.px_spec.specs.Graphs.{IsGraph};
 ghost use Rattle.px_spec.specs.Shapes.{shape_of};
 ghost use Rattle.bisim_spec.specs.Bisimilarity.{SameLabel};
 ghost use Rattle.bisim_spec.specs.Partitions.{Agrees};
-ghost use Rattle.block_splitting.specs.Chosen.{HasFirst};
+ghost use Rattle.block_splitting.specs.Chosen.{HasFirst, AreFirstNumbers};
 ghost use Rattle.block_splitting.specs.Splits.{AreLabelled, AreInhabited};
 
 use bisim_levels::label_level;
@@ -28,7 +28,7 @@ fn first_or_zero(key: &[u32]) -> u32
 /// The first number of each key.
 pub(crate) fn first_numbers(alloc: Global, keys: &KeyTable) -> Result<Vec<u32>, Memory>
     ensures count { IfOk result (λ first. length first.items ≡ length keys.now) }
-    ensures first { IfOk result (λ first. (b n : ℕ) (key : List ℕ) → slice_get keys.now b ≡ Some key → HasFirst key n → slice_get first.items b ≡ Some n) }
+    ensures first { IfOk result (λ first. AreFirstNumbers keys.now first.items) }
 {
     let mut first = Vec::with_capacity(alloc, keys.len() as usize)?;
     for b in 0..keys.len() {
@@ -46,7 +46,7 @@ pub(crate) fn by_labels(alloc: Global, view: &GraphView<'_>) -> Result<Blocks, M
     let level = label_level(alloc, view)?;
     let labels = first_numbers(alloc, &level.keys)?;
     // Called for its contract: there are fewer than 2^31 keys.
-    let _ = level.keys.len();
+    let _known = level.keys.len();
     let blocks = fill(alloc, view.created(), &level.block, &labels)?;
     Ok(blocks)
 }

@@ -189,7 +189,7 @@ fn by_numbers(alloc: Global, view: &GraphView<'_>, numbers: &Numbers) -> Result<
 {
     let labels = first_numbers(alloc, &numbers.keys)?;
     // Called for its contract: there are fewer than 2^31 keys.
-    let _ = numbers.keys.len();
+    let _known = numbers.keys.len();
     let blocks = fill(alloc, view.created(), &numbers.block, &labels)?;
     Ok(blocks)
 }

@@ -8,8 +8,9 @@ ghost use Rattle.px_spec.specs.Shapes.{shape_of};
 ghost use Rattle.block_partition.specs.Partitions.{block_count};
 ghost use Rattle.block_splitting.specs.Nodes.{AreNodes};
 ghost use Rattle.block_splitting.specs.Splits.{HasMore, AreLabelled, AreInhabited};
-ghost use Rattle.coarsest_partition.specs.IndexBlocks.{FitsWithSupports};
-ghost use Rattle.coarsest_partition.specs.Refined.{parents_alone, IsRefined, IsStep};
+ghost use Rattle.coarsest_partition.specs.IndexBlocks.{FitsWithSupports, StayIndexBlocks};
+ghost use Rattle.coarsest_partition.specs.Refined.{parents_alone, IsRefined, IsStepByParents};
+ghost use Rattle.coarsest_partition.specs.Sides.{AreWaiting, CanRefine};
 
 use crate::labels::by_labels;
 use crate::ordered::by_order;
@@ -62,25 +63,21 @@ fn round(
     waiting: &mut NodeSet,
     tables: &mut Tables,
 ) -> Result<(), Memory>
-    requires graph { IsGraph view.now }
-    requires partition { IsPartition (shape_of view.now) blocks.old.block_of }
-    requires nodes { AreNodes view.now waiting.old.nodes }
-    requires size { waiting.old.size ≡ length view.now.given }
-    requires room { length view.now.given ≤ vec_len tables.old.group }
-    ensures step { OnOk result (IsStep view.now parents_alone blocks.old.block_of blocks.new.block_of (λ t. has waiting.old.nodes) (λ t. has waiting.new.nodes)) }
+    requires refine { CanRefine view.now blocks.old.block_of (vec_len tables.old.group) }
+    requires waiting { AreWaiting view.now waiting.old }
+    ensures step { OnOk result (IsStepByParents view.now blocks.old.block_of blocks.new.block_of waiting.old.nodes waiting.new.nodes) }
     ensures nodes { OnOk result (AreNodes view.now waiting.new.nodes) }
     ensures size { waiting.new.size ≡ waiting.old.size }
     ensures room { vec_len tables.new.group ≡ vec_len tables.old.group }
     ensures few { OnOk result (block_count blocks.new ≤ 2 ^ 31) }
-    ensures labelled { OnOk result (AreLabelled view.now blocks.old → AreLabelled view.now blocks.new) }
-    ensures inhabited { OnOk result (AreInhabited blocks.old → AreInhabited blocks.new) }
+    ensures kept { OnOk result (StayIndexBlocks view.now blocks.old blocks.new) }
     ensures more { OnOk result (HasMore blocks.old blocks.new waiting.new.nodes) }
 {
     let moved = split(alloc, view, Side::Parents, blocks, waiting, tables)?;
     waiting.clear();
     wake_moved(waiting, blocks, view, Side::Parents, &moved)?;
     // Called for its contract: there are at most 2^31 blocks.
-    let _ = blocks.count();
+    let _known = blocks.count();
     Ok(())
 }
 
@@ -144,7 +141,7 @@ pub fn full_bisimulation(alloc: Global, view: &GraphView<'_>) -> Result<Blocks, 
     ensures fits { IfOk result (FitsWithSupports view.now) }
 {
     // Called for its contract: what is seen is a graph.
-    let _created = view.created();
+    let _known = view.created();
     let blocks = classes(alloc, view)?;
     Ok(blocks)
 }

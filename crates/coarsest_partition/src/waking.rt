@@ -5,7 +5,7 @@ ghost use Rattle.px_spec.specs.Graphs.{IsGraph};
 ghost use Rattle.px_spec.specs.Members.{has, Lists};
 ghost use Rattle.label_graph.specs.Views.{label_number};
 ghost use Rattle.block_splitting.specs.Nodes.{AreNodes};
-ghost use Rattle.coarsest_partition.specs.Alone.{is_alone};
+ghost use Rattle.coarsest_partition.specs.Alone.{is_alone, Wakes};
 ghost use Rattle.bisim_levels.specs.Sides.{is_near};
 
 use bisim_levels::Side;
@@ -60,7 +60,7 @@ fn wake_around(
     requires node { IsSome (label_number view.now q) }
     requires size { waiting.old.size ≡ length view.now.given }
     ensures size { waiting.new.size ≡ waiting.old.size }
-    ensures nodes { OnOk result ((m : ℕ) → has waiting.new.nodes m ≡ (has waiting.old.nodes m || (is_near side view.now q m && not (is_alone blocks.now m)))) }
+    ensures nodes { OnOk result (Wakes (λ m. is_near side view.now q m) blocks.now waiting.old.nodes waiting.new.nodes) }
 {
     wake_shared(waiting, blocks, opposite_neighbours(view, side, q))
 }
@@ -78,7 +78,7 @@ fn wake_each(
     requires nodes { AreNodes view.now moved.now }
     requires size { waiting.old.size ≡ length view.now.given }
     ensures size { waiting.new.size ≡ waiting.old.size }
-    ensures nodes { OnOk result ((m : ℕ) → has waiting.new.nodes m ≡ (has waiting.old.nodes m || (list_any (λ q. is_near side view.now q m) moved.now && not (is_alone blocks.now m)))) }
+    ensures nodes { OnOk result (Wakes (λ m. list_any (λ q. is_near side view.now q m) moved.now) blocks.now waiting.old.nodes waiting.new.nodes) }
 {
     for q in moved {
         wake_around(waiting, blocks, view, side, *q)?;
@@ -99,7 +99,7 @@ pub(crate) fn wake_moved(
     requires nodes { AreNodes view.now moved.now }
     requires size { waiting.old.size ≡ length view.now.given }
     ensures size { waiting.new.size ≡ waiting.old.size }
-    ensures nodes { OnOk result ((m : ℕ) → has waiting.new.nodes m ≡ (has waiting.old.nodes m || (list_any (λ q. is_near side view.now q m) moved.now && not (is_alone blocks.now m)))) }
+    ensures nodes { OnOk result (Wakes (λ m. list_any (λ q. is_near side view.now q m) moved.now) blocks.now waiting.old.nodes waiting.new.nodes) }
 {
     wake_each(waiting, blocks, view, side, moved)?;
     waiting.order()?;

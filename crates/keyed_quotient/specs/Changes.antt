@@ -1,5 +1,5 @@
 -- What is drafted over a quotient whose blocks have keys.
-use Rattle.std.specs.Prelude.{ℕ, ◌≡◌, ◌<◌, false, List, [], Option, None, Some, IsSome, IsTrue, cond, nat_eq, slice_get, refl}
+use Rattle.std.specs.Prelude.{ℕ, ◌≡◌, ◌<◌, false, List, [], Option, None, Some, IsSome, IsTrue, cond, nat_eq, slice_get, refl, if◌then◌else◌}
 use Rattle.std.specs.Coded.{Coded, code_by, coded×, coded_ℕ, coded_list}
 use Rattle.std.specs.List.{IsDistinct}
 use Rattle.std.specs.Option.{option_or}
@@ -74,3 +74,7 @@ AreInhabited labels block = (b : ℕ) → IsSome (at labels b) → IsTrue (has_m
 pub record AreUnsupported (block : List (Option ℕ)) (support : ℕ → ℕ → ℕ) : Type 0 where
   pub from : (b c : ℕ) → has_member block b ≡ false → support b c ≡ 0
   pub onto : (b c : ℕ) → has_member block b ≡ false → support c b ≡ 0
+
+-- the number has this key, and all others have the keys that they had
+abbrev pub SetsKey : ℕ → List ℕ → (ℕ → Option (List ℕ)) → (ℕ → Option (List ℕ)) → Type 0
+SetsKey b key keys keys2 = (c : ℕ) → keys2 c ≡ (if nat_eq c b then Some key else keys c)

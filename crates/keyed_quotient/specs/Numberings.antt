@@ -2,6 +2,7 @@
 use Rattle.std.specs.Prelude.{ℕ, ◌≡◌, ◌≢◌, ◌+◌, ◌<◌, ◌≤◌, List, [], ◌∷◌, length, Option, None, Some, IsSome, is_some, option_and_then, cond, slice_get, slice_set}
 use Rattle.px_spec.specs.Members.{at}
 use Rattle.key_table.specs.NumberedKeys.{AreDistinct}
+use Rattle.keyed_quotient.specs.Levels.{KeyRoom}
 
 pub record Numbering : Type 0 where
   -- the keys, by their numbers
@@ -10,6 +11,10 @@ pub record Numbering : Type 0 where
   pub block_of : List ℕ
   -- the number of the key of each block
   pub number_of : List ℕ
+
+-- what there is room for
+abbrev pub key_room : Numbering → KeyRoom
+key_room t = record { known = t.table; span = length t.number_of }
 
 -- the key of the number that is kept for a block
 abbrev pub numbered_key : Numbering → ℕ → Option (List ℕ)

@@ -1,5 +1,5 @@
 // What is drafted over a quotient whose blocks have keys.
-ghost use Rattle.std.specs.Prelude.{◌≡◌, ◌+◌, ◌<◌, ◌≤◌, ◌^◌, ◌&&◌, ◌++◌, ◌∷◌, ◌↔◌, [], ℕ, List, Option, Some, None, IsSome, IsTrue, is_some, IfOk, OnOk, OnErr, IfSome, IfNone, nat_eq, if◌then◌else◌, count_by, length, slice_get};
+ghost use Rattle.std.specs.Prelude.{◌≡◌, ◌+◌, ◌<◌, ◌≤◌, ◌^◌, ◌++◌, ◌∷◌, ◌↔◌, [], ℕ, List, Option, Some, None, IsSome, IsTrue, is_some, IfOk, OnOk, OnErr, IfSome, IfNone, nat_eq, count_by, length, slice_get};
 ghost use Rattle.std.specs.List.{IsDistinct};
 ghost use Rattle.std.specs.Map.{lookup, keys_of};
 ghost use Rattle.key_table.specs.NumberedKeys.{IsAbsent};
@@ -10,11 +10,11 @@ ghost use Rattle.bisim_spec.specs.Partitions.{IsPartition};
 ghost use Rattle.upkeep_spec.specs.Supported.{AreEdgeCounts};
 ghost use Rattle.graph_update.specs.PendingChanges.{graph_after};
 ghost use Rattle.block_partition.specs.Partitions.{IsLeastFree, put};
-ghost use Rattle.quotient.specs.Joined.{one_if};
-ghost use Rattle.quotient_draft.specs.Drafts.{with_left};
+ghost use Rattle.quotient.specs.Joined.{RaisesPair, LowersPair};
+ghost use Rattle.quotient_draft.specs.Drafts.{with_left, PutsNode};
 ghost use Rattle.node_moves.specs.Costs.{parents_cost, children_cost};
 ghost use Rattle.keyed_quotient.specs.Levels.{KeyedQuotient, AreKeyed, key_at};
-ghost use Rattle.keyed_quotient.specs.Changes.{no_keyed_changes, blocks_as_shown, labels_as_shown, support_as_shown, shown_key, IsKeyedOver};
+ghost use Rattle.keyed_quotient.specs.Changes.{no_keyed_changes, blocks_as_shown, labels_as_shown, support_as_shown, shown_key, IsKeyedOver, SetsKey};
 
 use crate::keyed::KeyedSummary;
 use graph_update::After;
@@ -163,7 +163,7 @@ impl KeyedDraft {
         ensures least { IfOk result (IsLeastFree (labels_as_shown base.now self.old)) }
         ensures added { IfOk result (λ b. self.new.drafted ≡ record self.old.drafted { added = self.old.drafted.added ++ (b, label) ∷ [] }) }
         ensures labels { IfOk result (λ b. labels_as_shown base.now self.new ≡ put (labels_as_shown base.now self.old) b label) }
-        ensures keys { IfOk result (λ b. (c : ℕ) → shown_key base.now self.new c ≡ (if nat_eq c b then Some key.now else shown_key base.now self.old c)) }
+        ensures keys { IfOk result (λ b. SetsKey b key.now (shown_key base.now self.old) (shown_key base.now self.new)) }
         ensures over { OnOk result (IsKeyedOver base.now self.new) }
         ensures err { OnErr result (self.new ≡ self.old) }
     {
@@ -183,7 +183,7 @@ impl KeyedDraft {
         requires over { IsKeyedOver base.now self.old }
         requires small { n < 2 ^ 31 }
         requires block { IfSome b (λ b. IsSome (at (labels_as_shown base.now self.old) b)) }
-        ensures blocks { OnOk result ((m : ℕ) → at (blocks_as_shown base.now self.new) m ≡ (if nat_eq m n then b else at (blocks_as_shown base.now self.old) m)) }
+        ensures blocks { OnOk result (PutsNode n b (blocks_as_shown base.now self.old) (blocks_as_shown base.now self.new)) }
         ensures added { self.new.drafted.added ≡ self.old.drafted.added }
         ensures supports { self.new.drafted.supports ≡ self.old.drafted.supports }
         ensures keys { self.new.keys ≡ self.old.keys }
@@ -201,7 +201,7 @@ impl KeyedDraft {
         requires from { IsSome (at (labels_as_shown base.now self.old) a) }
         requires onto { IsSome (at (labels_as_shown base.now self.old) b) }
         requires few { support_as_shown base.now self.old a b < 2 ^ 31 }
-        ensures raised { OnOk result ((x y : ℕ) → support_as_shown base.now self.new x y ≡ support_as_shown base.now self.old x y + one_if (nat_eq x a && nat_eq y b)) }
+        ensures raised { OnOk result (RaisesPair a b (support_as_shown base.now self.old) (support_as_shown base.now self.new)) }
         ensures added { self.new.drafted.added ≡ self.old.drafted.added }
         ensures moves { self.new.drafted.moves ≡ self.old.drafted.moves }
         ensures keys { self.new.keys ≡ self.old.keys }
@@ -219,7 +219,7 @@ impl KeyedDraft {
         requires from { IsSome (at (labels_as_shown base.now self.old) a) }
         requires onto { IsSome (at (labels_as_shown base.now self.old) b) }
         requires some { 0 < support_as_shown base.now self.old a b }
-        ensures lowered { OnOk result ((x y : ℕ) → support_as_shown base.now self.new x y + one_if (nat_eq x a && nat_eq y b) ≡ support_as_shown base.now self.old x y) }
+        ensures lowered { OnOk result (LowersPair a b (support_as_shown base.now self.old) (support_as_shown base.now self.new)) }
         ensures added { self.new.drafted.added ≡ self.old.drafted.added }
         ensures moves { self.new.drafted.moves ≡ self.old.drafted.moves }
         ensures keys { self.new.keys ≡ self.old.keys }
@@ -247,7 +247,7 @@ impl KeyedDraft {
         requires partition { IsPartition (shape_of (graph_after after.now)) (blocks_as_shown base.now self.old) }
         requires block { IsSome (at (labels_as_shown base.now self.old) b) }
         requires supports { AreEdgeCounts (graph_after after.now) (blocks_as_shown base.now self.old) (support_as_shown base.now self.old) }
-        ensures moved { OnOk result ((m : ℕ) → at (blocks_as_shown base.now self.new) m ≡ (if nat_eq m n then Some b else at (blocks_as_shown base.now self.old) m)) }
+        ensures moved { OnOk result (PutsNode n (Some b) (blocks_as_shown base.now self.old) (blocks_as_shown base.now self.new)) }
         ensures added { self.new.drafted.added ≡ self.old.drafted.added }
         ensures keys { self.new.keys ≡ self.old.keys }
         ensures supports { OnOk result (AreEdgeCounts (graph_after after.now) (blocks_as_shown base.now self.new) (support_as_shown base.now self.new)) }

@@ -41,15 +41,14 @@ impl Drop for KeyedSummary {
 }
 
 impl Model for KeyedSummary {
-    ghost use Rattle.std.specs.Prelude.{length};
     ghost use Rattle.keyed_quotient.specs.Levels.{KeyedQuotient, keyed_code};
-    ghost use Rattle.keyed_quotient.specs.Numberings.{block_keys, IsNumbering};
+    ghost use Rattle.keyed_quotient.specs.Numberings.{block_keys, key_room, IsNumbering};
 
     ghost Value = { KeyedQuotient };
 
     ghost coded = { keyed_code };
 
-    ghost view = { λ s. record { quotient = s.summary; keys = block_keys s.summary.blocks.labels s.numbers; room = record { known = s.numbers.table; span = length s.numbers.number_of } } };
+    ghost view = { λ s. record { quotient = s.summary; keys = block_keys s.summary.blocks.labels s.numbers; room = key_room s.numbers } };
 
     ghost invariant = { λ s. IsNumbering s.summary.blocks.labels s.numbers };
 }

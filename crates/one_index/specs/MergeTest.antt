@@ -20,6 +20,14 @@ pub record CanMerge (q : Quotient) (a b : ℕ) : Type 0 where
   pub there : IsCovered q a b
   pub back : IsCovered q b a
 
+-- a can't be merged with b, where b is a block with members
+abbrev pub CannotMergeWith : Quotient → ℕ → ℕ → Type 0
+CannotMergeWith q a b = (v : ℕ) → IsSome (at q.blocks.labels b) → at q.blocks.block_of v ≡ Some b → CanMerge q a b → ⊥
+
+-- a can be merged with some block behind it, and both have members
+abbrev pub HasMergeable : Quotient → ℕ → Type 0
+HasMergeable q a = (u : ℕ) × (v : ℕ) × (b : ℕ) × (a < b) × (at q.blocks.block_of u ≡ Some a) × (at q.blocks.block_of v ≡ Some b) × CanMerge q a b
+
 -- a can be merged with no block behind it, where both have members
 pub record HasNoMergeable (q : Quotient) (a : ℕ) : Type 0 where
   pub none : (u v b : ℕ) → IsSome (at q.blocks.labels a) → IsSome (at q.blocks.labels b) → a < b → at q.blocks.block_of u ≡ Some a → at q.blocks.block_of v ≡ Some b

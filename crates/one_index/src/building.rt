@@ -38,7 +38,7 @@ impl OneIndex {
         ensures whole { IfOk result (λ s. Agrees (shape_of view.now) s.blocks.block_of (Bisim (shape_of view.now))) }
     {
         // Called for its contract: what is seen is a graph.
-        let _created = view.created();
+        let _known = view.created();
         let blocks = full_bisimulation(alloc, view)?;
         let summary = Summary::of(alloc, blocks, view)?;
         Ok(summary)

@@ -7,7 +7,7 @@ ghost use Rattle.px_spec.specs.Members.{at};
 ghost use Rattle.bisim_spec.specs.Stability.{Mergeable, Minimal};
 ghost use Rattle.quotient.specs.Quotients.{view_of};
 ghost use Rattle.one_index.specs.StableViews.{IsStableView};
-ghost use Rattle.one_index.specs.MergeTest.{is_parent_of_one, IsCovered, CanMerge, HasNoMergeable};
+ghost use Rattle.one_index.specs.MergeTest.{is_parent_of_one, IsCovered, CanMerge, HasNoMergeable, CannotMergeWith, HasMergeable};
 
 use crate::members::has_members;
 use label_graph::Digraph;
@@ -83,7 +83,7 @@ pub fn mergeable(summary: &Summary, a: u32, b: u32) -> bool
 fn can_merge_with(summary: &Summary, a: u32, b: u32) -> bool
     requires first { IsSome (at summary.now.blocks.labels a) }
     ensures yes { IsTrue result → (v : ℕ) × (at summary.now.blocks.block_of v ≡ Some b) × CanMerge summary.now a b }
-    ensures no { IsFalse result → (v : ℕ) → IsSome (at summary.now.blocks.labels b) → at summary.now.blocks.block_of v ≡ Some b → CanMerge summary.now a b → ⊥ }
+    ensures no { IsFalse result → CannotMergeWith summary.now a b }
 {
     if !summary.is_node(b) {
         return false;
@@ -97,7 +97,7 @@ fn can_merge_with(summary: &Summary, a: u32, b: u32) -> bool
 // Whether a block can be merged with one behind it, and both have members.
 fn has_mergeable(summary: &Summary, a: u32) -> bool
     requires within { a < length summary.now.blocks.labels }
-    ensures yes { IsTrue result → (u : ℕ) × (v : ℕ) × (b : ℕ) × (a < b) × (at summary.now.blocks.block_of u ≡ Some a) × (at summary.now.blocks.block_of v ≡ Some b) × CanMerge summary.now a b }
+    ensures yes { IsTrue result → HasMergeable summary.now a }
     ensures no { IsFalse result → HasNoMergeable summary.now a }
 {
     if !summary.is_node(a) {

@@ -2,13 +2,19 @@
 use Rattle.std.specs.Prelude.{◌≡◌, ℕ, Bool, true, false, IsTrue, IsSome, List, [], ◌∷◌, Option, Some, None, refl}
 use Rattle.std.specs.Coded.{Coded, code_by, coded×, coded_bool}
 use Rattle.px_spec.specs.Members.{at}
+use Rattle.px_spec.specs.Graphs.{Graph}
+use Rattle.px_spec.specs.Changes.{Change, after, link}
 use Rattle.bisim_spec.specs.declared.kind.Kind.TheVariants.{One}
 use Rattle.bisim_spec.specs.Views.{View}
+use Rattle.bisim_spec.specs.OneStep.{OneStep}
+use Rattle.bisim_spec.specs.Fits.{view_at}
 use Rattle.quotient.specs.Quotients.{Quotient, quotient_code, view_of}
 use Rattle.quotient_draft.specs.Drafts.{Drafted, drafted_code, no_changes, has_member, shown_blocks, shown_support, settled_view}
 use Rattle.quotient_draft.specs.Basis.{IsOver}
 use Rattle.quotient_draft.specs.Rooms.{HasRoomFor}
 use Rattle.index_api.specs.Meanings.{Meaning}
+use Rattle.one_merging.specs.Roots.{RootLists, CoversBase, CoversShown}
+use Rattle.one_drafting.specs.OneDrafts.{IsSupported}
 
 pub record KeptQuotient : Type 0 where
   pub base : Quotient
@@ -48,3 +54,17 @@ staged_views q d true = Some (Some (settled_view q d) ∷ [])
 abbrev pub meaning_of : Option KeptQuotient → Meaning
 meaning_of None = record { kind = One; views = []; staged = None }
 meaning_of (Some k) = record { kind = One; views = views_of k.base; staged = staged_views k.base k.draft k.staged }
+
+-- what is kept: a draft that can be settled, or none, and the blocks without other parents, those of the base and those as shown
+pub record IsSoundKept (base : Quotient) (draft : Drafted) (staged : Bool) (noted : RootLists) : Type 0 where
+  pub kept : IsKeptDraft base draft staged
+  pub roots : CoversBase base noted
+  pub shown : CoversShown base draft noted
+
+-- the view has the partition that the upkeep of a 1-index makes of that of the base
+abbrev pub IsNextOf : Graph → Change → Quotient → View → Type 0
+IsNextOf g c base v = OneStep g base.blocks.block_of c (after c g) v.block_of
+
+-- where the change is a link between nodes whose blocks have support already, no step is taken
+abbrev pub IsFreeLink : Change → List (Option View) → ℕ → ℕ → Type 0
+IsFreeLink c views steps steps2 = (u v : ℕ) (w : View) → c ≡ link u v → view_at views 0 ≡ Some w → IsSupported w u v → steps2 ≡ steps

@@ -1,13 +1,10 @@
 // The index.
-ghost use Rattle.std.specs.Prelude.{◌≡◌, ◌+◌, ◌≤◌, ◌<◌, ℕ, Some, IfOk, OnOk, OnErr, None};
-ghost use Rattle.px_spec.specs.Changes.{link};
-ghost use Rattle.bisim_spec.specs.Views.{View};
-ghost use Rattle.bisim_spec.specs.Fits.{view_at};
+ghost use Rattle.std.specs.Prelude.{◌≡◌, ◌+◌, ◌≤◌, ◌<◌, IfOk, OnOk, OnErr, None};
 ghost use Rattle.graph_update.specs.NewChanges.{IsNew};
 ghost use Rattle.graph_update.specs.Verdicts.{change_of};
 ghost use Rattle.index_api.specs.Meanings.{IsReady, IsPrepared};
-ghost use Rattle.one_drafting.specs.OneDrafts.{IsSupported, most_steps};
-ghost use Rattle.one_maintain.specs.KeptQuotients.{meaning_of};
+ghost use Rattle.one_drafting.specs.OneDrafts.{most_steps};
+ghost use Rattle.one_maintain.specs.KeptQuotients.{meaning_of, IsFreeLink};
 
 use crate::kept::Kept;
 use graph_update::Change;
@@ -59,7 +56,7 @@ impl OneKept {
     /// link takes none where the blocks of its ends have support already, and then expected O(1) time and memory.
     ///
     /// The time and the memory are those of `one_drafting::draft_change`. A new search for the blocks without other parents passes
-    /// over all blocks: O(b) more, for b block numbers.
+    /// over all blocks: O(b) more, for b blocks.
     pub fn prepare_counted<L: Ledger>(
         &mut self,
         graph: &Graph,
@@ -71,7 +68,7 @@ impl OneKept {
         ensures staged { OnOk result (IsPrepared (meaning_of self.old.kept) (meaning_of self.new.kept) (change_of change.now) graph.now.graph) }
         ensures err { OnErr result (meaning_of self.new.kept ≡ meaning_of self.old.kept) }
         ensures cost { steps.new ≤ steps.old + most_steps graph.now.graph (change_of change.now) }
-        ensures free { (u v : ℕ) (w : View) → change_of change.now ≡ link u v → view_at (meaning_of self.old.kept).views 0 ≡ Some w → IsSupported w u v → steps.new ≡ steps.old }
+        ensures free { IsFreeLink (change_of change.now) (meaning_of self.old.kept).views steps.old steps.new }
     {
         let alloc = self.alloc;
         match &mut self.kept {

@@ -2,14 +2,13 @@
 ghost use Rattle.std.specs.Prelude.{◌≡◌, ◌+◌, ◌≤◌, ℕ, Bool, true, false, IsTrue, IfOk, OnOk, OnErr};
 ghost use Rattle.px_spec.specs.Changes.{after, link};
 ghost use Rattle.bisim_spec.specs.Fits.{FitsOne};
-ghost use Rattle.bisim_spec.specs.OneStep.{OneStep};
 ghost use Rattle.graph_update.specs.NewChanges.{IsNew};
 ghost use Rattle.graph_update.specs.Verdicts.{change_of};
 ghost use Rattle.quotient.specs.Quotients.{view_of};
 ghost use Rattle.quotient_draft.specs.Drafts.{no_changes, settled_view};
 ghost use Rattle.one_merging.specs.Roots.{CoversBase, CoversShown};
 ghost use Rattle.one_drafting.specs.OneDrafts.{IsSupported, most_steps};
-ghost use Rattle.one_maintain.specs.KeptQuotients.{CanSettle};
+ghost use Rattle.one_maintain.specs.KeptQuotients.{CanSettle, IsNextOf};
 
 use graph_update::Change;
 use label_graph::Graph;
@@ -44,8 +43,7 @@ impl Drop for Kept {
 }
 
 impl Model for Kept {
-    ghost use Rattle.one_merging.specs.Roots.{CoversBase, CoversShown};
-    ghost use Rattle.one_maintain.specs.KeptQuotients.{KeptQuotient, IsKeptDraft, kept_code};
+    ghost use Rattle.one_maintain.specs.KeptQuotients.{KeptQuotient, IsSoundKept, kept_code};
 
     ghost Value = { KeptQuotient };
 
@@ -53,7 +51,7 @@ impl Model for Kept {
 
     ghost view = { λ k. record { base = k.base; draft = k.draft; staged = k.staged } };
 
-    ghost invariant = { λ k. record { kept : IsKeptDraft k.base k.draft k.staged; roots : CoversBase k.base k.roots; shown : CoversShown k.base k.draft k.roots } };
+    ghost invariant = { λ k. IsSoundKept k.base k.draft k.staged k.roots };
 }
 
 // Drafts what a change will make of a quotient, notes the blocks to which no other has support then, and makes the room that settling it
@@ -75,7 +73,7 @@ fn fill<L: Ledger>(
     ensures covers { CoversBase base.new roots.new }
     ensures shown { OnOk result (CoversShown base.new draft.new roots.new) }
     ensures ready { OnOk result (CanSettle base.new draft.new) }
-    ensures step { OnOk result (OneStep graph.now.graph base.old.blocks.block_of (change_of change.now) (after (change_of change.now) graph.now.graph) (settled_view base.new draft.new).block_of) }
+    ensures step { OnOk result (IsNextOf graph.now.graph (change_of change.now) base.old (settled_view base.new draft.new)) }
     ensures fits { OnOk result (FitsOne (after (change_of change.now) graph.now.graph) (settled_view base.new draft.new)) }
     ensures cost { steps.new ≤ steps.old + most_steps graph.now.graph (change_of change.now) }
     ensures free { (u v : ℕ) → change_of change.now ≡ link u v → IsSupported (view_of base.old) u v → steps.new ≡ steps.old }
@@ -165,7 +163,7 @@ impl Kept {
         requires new { IsNew (change_of change.now) graph.now.graph }
         ensures same { view_of self.new.base ≡ view_of self.old.base }
         ensures staged { OnOk result (self.new.staged ≡ true) }
-        ensures step { OnOk result (OneStep graph.now.graph self.old.base.blocks.block_of (change_of change.now) (after (change_of change.now) graph.now.graph) (settled_view self.new.base self.new.draft).block_of) }
+        ensures step { OnOk result (IsNextOf graph.now.graph (change_of change.now) self.old.base (settled_view self.new.base self.new.draft)) }
         ensures fits { OnOk result (FitsOne (after (change_of change.now) graph.now.graph) (settled_view self.new.base self.new.draft)) }
         ensures unstaged { OnErr result (self.new.staged ≡ false) }
         ensures cost { steps.new ≤ steps.old + most_steps graph.now.graph (change_of change.now) }

@@ -16,11 +16,11 @@ returns-clause-step c =
 pub returns-clause-own : goal.returns-clause-own
 returns-clause-own c = λ n h.
     let woken = woken_is c.args.view.now c.args.side (is_alone c.split.new.blocks) _ _ _ _ (ap (λ (s : NodeList). s.nodes) c.clear.ensures) c.deref.ensures.value c.in_ok-wake_moved.ensures.nodes in
-    around_nodes c.args.view.now c.requires.graph c.args.side c.in_ok-moved.moved.items n (woken_near c.args.view.now c.args.side (is_alone c.split.new.blocks) _ _ woken n h)
+    around_nodes c.args.view.now c.requires.refine.graph c.args.side c.in_ok-moved.moved.items n (woken_near c.args.view.now c.args.side (is_alone c.split.new.blocks) _ _ woken n h)
 
 pub returns-clause-other : goal.returns-clause-other
 returns-clause-other c =
-    left_nodes c.args.view.now c.requires.graph c.args.side (is_alone c.split.new.blocks) _ c.in_ok-moved.moved.items _ (left_is c.args.view.now c.args.side _ (is_alone c.split.new.blocks) _ _ _ _ c.opposite.ensures c.deref-2.ensures.value c.in_ok-wake_moved-2.ensures.nodes) c.requires.other
+    left_nodes c.args.view.now c.requires.refine.graph c.args.side (is_alone c.split.new.blocks) _ c.in_ok-moved.moved.items _ (left_is c.args.view.now c.args.side _ (is_alone c.split.new.blocks) _ _ _ _ c.opposite.ensures c.deref-2.ensures.value c.in_ok-wake_moved-2.ensures.nodes) c.requires.other.nodes
 
 pub returns-clause-more : goal.returns-clause-more
 returns-clause-more c = elim c.in_ok-moved.ensures.more [
@@ -31,3 +31,6 @@ returns-clause-more c = elim c.in_ok-moved.ensures.more [
   )
   | inr more ↦ inr more
 ]
+
+pub returns-clause-kept : goal.returns-clause-kept
+returns-clause-kept c = record { labelled = c.in_ok-moved.ensures.labelled; inhabited = c.in_ok-moved.ensures.inhabited }

@@ -19,11 +19,31 @@ rounds-init c = record {
   room = c.requires.room;
 }
 
-pub round_on-requires-clause-partition : goal.round_on-requires-clause-partition
-round_on-requires-clause-partition c = fb_part _ c.requires.start.graph _ _ c.rounds.invariant.refined
+pub round_on-requires-clause-refine : goal.round_on-requires-clause-refine
+round_on-requires-clause-refine c = record {
+  graph = c.requires.start.graph;
+  partition = fb_part _ c.requires.start.graph _ _ c.rounds.invariant.refined;
+  room = c.rounds.invariant.room;
+}
 
-pub round_on-requires-in-rounds-clause-partition : goal.round_on-requires-in-rounds-clause-partition
-round_on-requires-in-rounds-clause-partition c = fb_part _ c.requires.start.graph _ _ (step _ _ _ _ _ _ _ (fb_target _ c.requires.start.graph) c.rounds.invariant.refined c.in_ok-round_on.ensures.step)
+pub round_on-requires-clause-own : goal.round_on-requires-clause-own
+round_on-requires-clause-own c = record { nodes = c.rounds.invariant.parents_are; size = c.rounds.invariant.parents_size }
+
+pub round_on-requires-clause-other : goal.round_on-requires-clause-other
+round_on-requires-clause-other c = record { nodes = c.rounds.invariant.children_are; size = c.rounds.invariant.children_size }
+
+pub round_on-requires-in-rounds-clause-refine : goal.round_on-requires-in-rounds-clause-refine
+round_on-requires-in-rounds-clause-refine c = record {
+  graph = c.requires.start.graph;
+  partition = fb_part _ c.requires.start.graph _ _ (step _ _ _ _ _ _ _ (fb_target _ c.requires.start.graph) c.rounds.invariant.refined c.in_ok-round_on.ensures.step);
+  room = let a = c.rounds.invariant.room in let b = c.in_ok-round_on.ensures.room in omega (arith, a, b);
+}
+
+pub round_on-requires-in-rounds-clause-own : goal.round_on-requires-in-rounds-clause-own
+round_on-requires-in-rounds-clause-own c = record { nodes = c.in_ok-round_on.ensures.other; size = c.in_ok-round_on.ensures.other_size ∙ c.rounds.invariant.children_size }
+
+pub round_on-requires-in-rounds-clause-other : goal.round_on-requires-in-rounds-clause-other
+round_on-requires-in-rounds-clause-other c = record { nodes = c.in_ok-round_on.ensures.own; size = c.in_ok-round_on.ensures.own_size ∙ c.rounds.invariant.parents_size }
 
 pub rounds-smaller : goal.rounds-smaller
 rounds-smaller c =
@@ -39,8 +59,8 @@ rounds-preserved c = record {
   children_are = c.in_ok-round_on-2.ensures.own;
   parents_size = c.in_ok-round_on-2.ensures.other_size ∙ c.in_ok-round_on.ensures.own_size ∙ c.rounds.invariant.parents_size;
   children_size = c.in_ok-round_on-2.ensures.own_size ∙ c.in_ok-round_on.ensures.other_size ∙ c.rounds.invariant.children_size;
-  labelled = λ h. c.in_ok-round_on-2.ensures.labelled (c.in_ok-round_on.ensures.labelled (c.rounds.invariant.labelled h));
-  inhabited = λ h. c.in_ok-round_on-2.ensures.inhabited (c.in_ok-round_on.ensures.inhabited (c.rounds.invariant.inhabited h));
+  labelled = λ h. c.in_ok-round_on-2.ensures.kept.labelled (c.in_ok-round_on.ensures.kept.labelled (c.rounds.invariant.labelled h));
+  inhabited = λ h. c.in_ok-round_on-2.ensures.kept.inhabited (c.in_ok-round_on.ensures.kept.inhabited (c.rounds.invariant.inhabited h));
   room = (let a = c.rounds.invariant.room in let b = c.in_ok-round_on.ensures.room in let d = c.in_ok-round_on-2.ensures.room in omega (arith, a, b, d));
 }
 

@@ -15,10 +15,13 @@ returns-clause-step c =
 pub returns-clause-nodes : goal.returns-clause-nodes
 returns-clause-nodes c = λ n h.
     let woken = woken_is c.args.view.now Parents (is_alone c.split.new.blocks) _ _ _ _ (ap (λ (s : NodeList). s.nodes) c.clear.ensures) c.deref.ensures.value c.in_ok-wake_moved.ensures.nodes in
-    around_nodes c.args.view.now c.requires.graph Parents c.in_ok-moved.moved.items n (woken_near c.args.view.now Parents (is_alone c.split.new.blocks) _ _ woken n h)
+    around_nodes c.args.view.now c.requires.refine.graph Parents c.in_ok-moved.moved.items n (woken_near c.args.view.now Parents (is_alone c.split.new.blocks) _ _ woken n h)
 
 pub returns-clause-more : goal.returns-clause-more
 returns-clause-more c = elim c.in_ok-moved.ensures.more [
   | inl (none, le) ↦ inl (none_woken c.args.view.now Parents (is_alone c.split.new.blocks) c.in_ok-moved.moved.items _ (woken_is c.args.view.now Parents (is_alone c.split.new.blocks) _ _ _ _ (ap (λ (s : NodeList). s.nodes) c.clear.ensures) c.deref.ensures.value c.in_ok-wake_moved.ensures.nodes) none, le)
   | inr more ↦ inr more
 ]
+
+pub returns-clause-kept : goal.returns-clause-kept
+returns-clause-kept c = record { labelled = c.in_ok-moved.ensures.labelled; inhabited = c.in_ok-moved.ensures.inhabited }

@@ -4,8 +4,15 @@ use Rattle.coarsest_partition.proofs.StepLaws.{step, bisim_target, bisim_part, b
 use Rattle.coarsest_partition.proofs.RoundLaws.{falls, empty_length, length_empty}
 use Rattle.coarsest_partition.proofs.rounds.settle_by_parents.Goals as goal
 
-pub round-requires-clause-partition : goal.round-requires-clause-partition
-round-requires-clause-partition c = bisim_part _ c.size.ensures.graph _ _ c.rounds.invariant.refined
+pub round-requires-clause-refine : goal.round-requires-clause-refine
+round-requires-clause-refine c = record {
+  graph = c.size.ensures.graph;
+  partition = bisim_part _ c.size.ensures.graph _ _ c.rounds.invariant.refined;
+  room = c.rounds.invariant.room;
+}
+
+pub round-requires-clause-waiting : goal.round-requires-clause-waiting
+round-requires-clause-waiting c = record { nodes = c.rounds.invariant.nodes; size = c.rounds.invariant.size }
 
 pub rounds-smaller : goal.rounds-smaller
 rounds-smaller c =
@@ -20,8 +27,8 @@ rounds-preserved c = record {
   refined = step _ _ _ _ _ _ _ (bisim_target _ c.size.ensures.graph) c.rounds.invariant.refined c.in_ok-round.ensures.step;
   nodes = c.in_ok-round.ensures.nodes;
   size = c.in_ok-round.ensures.size ∙ c.rounds.invariant.size;
-  labelled = λ h. c.in_ok-round.ensures.labelled (c.rounds.invariant.labelled h);
-  inhabited = λ h. c.in_ok-round.ensures.inhabited (c.rounds.invariant.inhabited h);
+  labelled = λ h. c.in_ok-round.ensures.kept.labelled (c.rounds.invariant.labelled h);
+  inhabited = λ h. c.in_ok-round.ensures.kept.inhabited (c.rounds.invariant.inhabited h);
   room = (let a = c.rounds.invariant.room in let b = c.in_ok-round.ensures.room in omega (arith, a, b));
 }
 
