@@ -1,10 +1,10 @@
 // Calls of an engine, and what they answer.
-ghost use Rattle.std.specs.Prelude.{◌≡◌, ◌≢◌, ◌<◌, true, None, IsSome, map};
+ghost use Rattle.std.specs.Prelude.{◌≡◌, ◌≢◌, ◌<◌, true, None, IsSome};
 ghost use Rattle.index_api.specs.declared.kinds.Via.TheVariants.{Data};
-ghost use Rattle.pathindex_core.specs.Engines.{engine_seen, opened_of, IsSound};
+ghost use Rattle.pathindex_core.specs.Engines.{IsSound, seen};
 
 use graph_update::{Applied, Change};
-use index_api::Via;
+use index_api::{PathIndex, Via};
 use label_graph::Graph;
 use pathindex_core::{AskError, Engine, UpdateError};
 use px_base::{Limits, Steps, Text};
@@ -22,11 +22,15 @@ pub(crate) const FEW: Limits = Limits {
 };
 
 /// Opens the engine with this graph, where there is one, under these limits.
-pub(crate) fn opens(engine: &mut Engine, graph: Option<Graph>, limits: Limits) -> bool
-    requires closed { opened_of engine.old.state ≡ None }
-    requires sound { IsSound (engine_seen (map (λ b. meaning (b.vtable, b.value)) engine.old.boxes.items) engine.old.state) }
-    ensures open { result ≡ true → IsSome (opened_of engine.new.state) }
-    ensures sound { IsSound (engine_seen (map (λ b. meaning (b.vtable, b.value)) engine.new.boxes.items) engine.new.state) }
+pub(crate) fn opens<B: PathIndex>(
+    engine: &mut Engine<B>,
+    graph: Option<Graph>,
+    limits: Limits,
+) -> bool
+    requires closed { engine.old.opened ≡ None }
+    requires sound { IsSound (seen B.meaning engine.old) }
+    ensures open { result ≡ true → IsSome engine.new.opened }
+    ensures sound { IsSound (seen B.meaning engine.new) }
 {
     match graph {
         Some(graph) => engine.open(graph, limits, 1).is_ok(),
@@ -35,65 +39,77 @@ pub(crate) fn opens(engine: &mut Engine, graph: Option<Graph>, limits: Limits) -
 }
 
 /// Adds a node with the label `a`; none where there is no memory for the label.
-pub(crate) fn node(engine: &mut Engine, alloc: Global) -> Option<Result<Applied, UpdateError>>
-    requires open { IsSome (opened_of engine.old.state) }
-    requires sound { IsSound (engine_seen (map (λ b. meaning (b.vtable, b.value)) engine.old.boxes.items) engine.old.state) }
-    ensures open { IsSome (opened_of engine.new.state) }
-    ensures sound { IsSound (engine_seen (map (λ b. meaning (b.vtable, b.value)) engine.new.boxes.items) engine.new.state) }
+pub(crate) fn node<B: PathIndex>(
+    engine: &mut Engine<B>,
+    alloc: Global,
+) -> Option<Result<Applied, UpdateError>>
+    requires open { IsSome engine.old.opened }
+    requires sound { IsSound (seen B.meaning engine.old) }
+    ensures open { IsSome engine.new.opened }
+    ensures sound { IsSound (seen B.meaning engine.new) }
 {
     let label = Text::from_bytes(alloc, b"a").ok()?;
     Some(engine.update(alloc, Change::Node(label)))
 }
 
 /// Whether one more node is added with that number.
-pub(crate) fn adds_node(engine: &mut Engine, alloc: Global, number: u32) -> bool
-    requires open { IsSome (opened_of engine.old.state) }
-    requires sound { IsSound (engine_seen (map (λ b. meaning (b.vtable, b.value)) engine.old.boxes.items) engine.old.state) }
-    ensures open { IsSome (opened_of engine.new.state) }
-    ensures sound { IsSound (engine_seen (map (λ b. meaning (b.vtable, b.value)) engine.new.boxes.items) engine.new.state) }
+pub(crate) fn adds_node<B: PathIndex>(engine: &mut Engine<B>, alloc: Global, number: u32) -> bool
+    requires open { IsSome engine.old.opened }
+    requires sound { IsSound (seen B.meaning engine.old) }
+    ensures open { IsSome engine.new.opened }
+    ensures sound { IsSound (seen B.meaning engine.new) }
 {
     node(engine, alloc) == Some(Ok(Applied::Added(number)))
 }
 
 /// Whether one more node isn't added, for this reason.
-pub(crate) fn fails_to_add(engine: &mut Engine, alloc: Global, error: UpdateError) -> bool
-    requires open { IsSome (opened_of engine.old.state) }
-    requires sound { IsSound (engine_seen (map (λ b. meaning (b.vtable, b.value)) engine.old.boxes.items) engine.old.state) }
-    ensures open { IsSome (opened_of engine.new.state) }
-    ensures sound { IsSound (engine_seen (map (λ b. meaning (b.vtable, b.value)) engine.new.boxes.items) engine.new.state) }
+pub(crate) fn fails_to_add<B: PathIndex>(
+    engine: &mut Engine<B>,
+    alloc: Global,
+    error: UpdateError,
+) -> bool
+    requires open { IsSome engine.old.opened }
+    requires sound { IsSound (seen B.meaning engine.old) }
+    ensures open { IsSome engine.new.opened }
+    ensures sound { IsSound (seen B.meaning engine.new) }
 {
     node(engine, alloc) == Some(Err(error))
 }
 
 /// The list through the index.
-fn listed<L: Ledger>(
-    engine: &mut Engine,
+fn listed<B: PathIndex, L: Ledger>(
+    engine: &mut Engine<B>,
     alloc: Global,
     via: Via,
     blank: Blank,
 ) -> Result<Text, AskError>
     requires index { via ≢ Data }
-    requires open { IsSome (opened_of engine.old.state) }
-    requires sound { IsSound (engine_seen (map (λ b. meaning (b.vtable, b.value)) engine.old.boxes.items) engine.old.state) }
+    requires open { IsSome engine.old.opened }
+    requires sound { IsSound (seen B.meaning engine.old) }
     requires name { blank.name ≡ L.name }
     requires parts { blank.parts ≡ L.parts }
     requires some { 0 < blank.parts }
-    ensures open { IsSome (opened_of engine.new.state) }
-    ensures sound { IsSound (engine_seen (map (λ b. meaning (b.vtable, b.value)) engine.new.boxes.items) engine.new.state) }
+    ensures open { IsSome engine.new.opened }
+    ensures sound { IsSound (seen B.meaning engine.new) }
 {
     let mut steps = Steps::<L>::new(blank);
     engine.extents(alloc, via, &mut steps)
 }
 
 /// Whether that is the list through the index; none where there is no memory for it.
-pub(crate) fn lists(engine: &mut Engine, alloc: Global, via: Via, list: Option<&str>) -> bool
+pub(crate) fn lists<B: PathIndex>(
+    engine: &mut Engine<B>,
+    alloc: Global,
+    via: Via,
+    list: Option<&str>,
+) -> bool
     requires index { via ≢ Data }
-    requires open { IsSome (opened_of engine.old.state) }
-    requires sound { IsSound (engine_seen (map (λ b. meaning (b.vtable, b.value)) engine.old.boxes.items) engine.old.state) }
-    ensures open { IsSome (opened_of engine.new.state) }
-    ensures sound { IsSound (engine_seen (map (λ b. meaning (b.vtable, b.value)) engine.new.boxes.items) engine.new.state) }
+    requires open { IsSome engine.old.opened }
+    requires sound { IsSound (seen B.meaning engine.old) }
+    ensures open { IsSome engine.new.opened }
+    ensures sound { IsSound (seen B.meaning engine.new) }
 {
-    match listed::<Brand>(engine, alloc, via, Blank::new(1)) {
+    match listed::<B, Brand>(engine, alloc, via, Blank::new(1)) {
         Ok(text) => list == Some(text.as_str()),
         Err(error) => list.is_none() && error == AskError::Memory,
     }

@@ -1,11 +1,11 @@
 // Candidates that are few in a graph of some size, so that they are checked over what leads to them.
-ghost use Rattle.std.specs.Prelude.{◌≡◌, ◌<◌, IsSome, map};
-ghost use Rattle.pathindex_core.specs.Engines.{engine_seen, opened_of, IsSound};
+ghost use Rattle.std.specs.Prelude.{◌≡◌, ◌<◌, None, IsSome};
+ghost use Rattle.pathindex_core.specs.Engines.{IsSound, seen};
 
 use crate::calls::opens;
 use crate::full_tests::path_gives;
-use full_engine::{EngineTask, with_full_engine};
-use index_api::Via;
+use any_index::full_engine;
+use index_api::{PathIndex, Via};
 use label_graph::Graph;
 use path_query::PathExpr;
 use pathindex_core::Engine;
@@ -38,11 +38,16 @@ fn chains_and_star<L: Ledger>(alloc: Global, blank: Blank) -> Result<Graph, Fail
 }
 
 /// Whether these nodes answer the path with that text through A(0), which is exact for no word of two labels.
-fn text_gives(engine: &mut Engine, alloc: Global, text: &str, nodes: &[NodeId]) -> bool
-    requires open { IsSome (opened_of engine.old.state) }
-    requires sound { IsSound (engine_seen (map (λ b. meaning (b.vtable, b.value)) engine.old.boxes.items) engine.old.state) }
-    ensures open { IsSome (opened_of engine.new.state) }
-    ensures sound { IsSound (engine_seen (map (λ b. meaning (b.vtable, b.value)) engine.new.boxes.items) engine.new.state) }
+fn text_gives<B: PathIndex>(
+    engine: &mut Engine<B>,
+    alloc: Global,
+    text: &str,
+    nodes: &[NodeId],
+) -> bool
+    requires open { IsSome engine.old.opened }
+    requires sound { IsSound (seen B.meaning engine.old) }
+    ensures open { IsSome engine.new.opened }
+    ensures sound { IsSound (seen B.meaning engine.new) }
 {
     match PathExpr::parse(alloc, text.as_bytes(), &Limits::program()) {
         Ok(expr) => path_gives(engine, alloc, Via::A(0), &expr, nodes),
@@ -51,38 +56,29 @@ fn text_gives(engine: &mut Engine, alloc: Global, text: &str, nodes: &[NodeId]) 
 }
 
 /// Whether both nodes `c` are candidates of a few paths, and answer where a walk leads to them.
-fn few_are_checked(engine: &mut Engine, alloc: Global) -> bool
-    requires open { IsSome (opened_of engine.old.state) }
-    requires sound { IsSound (engine_seen (map (λ b. meaning (b.vtable, b.value)) engine.old.boxes.items) engine.old.state) }
-    ensures open { IsSome (opened_of engine.new.state) }
-    ensures sound { IsSound (engine_seen (map (λ b. meaning (b.vtable, b.value)) engine.new.boxes.items) engine.new.state) }
+fn few_are_checked<B: PathIndex>(engine: &mut Engine<B>, alloc: Global) -> bool
+    requires open { IsSome engine.old.opened }
+    requires sound { IsSound (seen B.meaning engine.old) }
+    ensures open { IsSome engine.new.opened }
+    ensures sound { IsSound (seen B.meaning engine.new) }
 {
     text_gives(engine, alloc, "b/c", &[2, 4])
         && text_gives(engine, alloc, "a/b/c", &[2])
         && text_gives(engine, alloc, "a//c", &[2])
 }
 
-/// Asks the graph a few paths.
-#[derive(Drop)]
-struct Checks {
-    graph: Graph,
-}
-
-impl EngineTask for Checks {
-    ghost use Rattle.std.specs.Prelude.{⊤};
-
-    type Output = bool;
-
-    ghost gives = { λ _ _. ⊤ };
-
-    fn carry_out(self, alloc: Global, engine: &mut Engine) -> bool {
-        opens(engine, Some(self.graph), Limits::program()) && few_are_checked(engine, alloc)
-    }
+/// Whether they do in an engine that is opened with this graph.
+fn opens_and_checks<B: PathIndex>(engine: &mut Engine<B>, alloc: Global, graph: Graph) -> bool
+    requires closed { engine.old.opened ≡ None }
+    requires sound { IsSound (seen B.meaning engine.old) }
+{
+    opens(engine, Some(graph), Limits::program()) && few_are_checked(engine, alloc)
 }
 
 #[test]
 fn few_candidates_are_checked(rt: HostRuntime) -> Result<(), Fail> {
     let graph = chains_and_star::<Brand>(rt.alloc(), Blank::new(1))?;
-    assert_eq!(rt; with_full_engine(rt.alloc(), Checks { graph }), Ok(true));
+    let mut engine = full_engine(rt.alloc())?;
+    assert!(rt; opens_and_checks(&mut engine, rt.alloc(), graph));
     Ok(())
 }

@@ -1,9 +1,9 @@
 // An engine of three boxes, the last of which finds no memory once it is built.
-ghost use Rattle.std.specs.Prelude.{[], ◌∷◌, Some, None, IfOk, if◌then◌else◌};
+ghost use Rattle.std.specs.Prelude.{◌≡◌, [], ◌∷◌, Some, None, if◌then◌else◌};
 ghost use Rattle.bisim_spec.specs.declared.kind.Kind.TheVariants.{Fb};
+ghost use Rattle.pathindex_core.specs.Engines.{IsSound, seen};
 
 use ak_maintain::AkIndex;
-use full_engine::EngineTask;
 use graph_update::Change;
 use index_api::{Kind, PathIndex};
 use label_graph::{Graph, GraphView};
@@ -55,13 +55,16 @@ impl PathIndex for FailingIndex {
     }
 }
 
+/// What is done with an engine of boxes.
+pub(crate) trait BoxesTask: Drop {
+    /// Does it, and says whether all was as it should be. The engine isn't open yet.
+    fn carry_out(self, alloc: Global, engine: &mut Engine) -> bool
+        requires closed { engine.old.opened ≡ None }
+        requires sound { IsSound (seen meaning engine.old) };
+}
+
 /// Has the task done with an engine that keeps the A(k)-indexes, the 1-index, and an index that never finds memory.
-pub(crate) fn with_failing_engine<T: EngineTask>(
-    alloc: Global,
-    task: T,
-) -> Result<T::Output, Memory>
-    ensures { IfOk result (T.gives task) }
-{
+pub(crate) fn with_failing_engine<T: BoxesTask>(alloc: Global, task: T) -> Result<bool, Memory> {
     let failing = FailingIndex {
         is_built: false,
         is_staged: false,

@@ -1,8 +1,10 @@
 // A run over all indexes, in which one call on the shelf or the sink fails.
-ghost use Rattle.std.specs.Prelude.{⊤};
+ghost use Rattle.std.specs.Prelude.{◌≡◌, None};
+ghost use Rattle.pathindex_core.specs.Engines.{IsSound, seen};
 
 use crate::script_file::{script_file, script_words};
-use full_engine::{EngineTask, with_full_engine};
+use any_index::full_engine;
+use index_api::PathIndex;
 use pathindex_core::Engine;
 use pathindex_run::run;
 use px_base::{MemShelf, MemSink};
@@ -44,42 +46,52 @@ fn front_of(written: &[u8]) -> Option<usize> {
     None
 }
 
-impl EngineTask for Failing {
-    // how many bytes are written, where the run ends with this status and they are the first of the lists
-    type Output = Option<usize>;
+/// How many bytes the run writes, where it ends with its status and they are the first of the lists.
+fn front<B: PathIndex>(alloc: Global, engine: &mut Engine<B>, failing: &Failing) -> Option<usize>
+    requires closed { engine.old.opened ≡ None }
+    requires sound { IsSound (seen B.meaning engine.old) }
+{
+    let words = script_words(alloc)?;
+    let mut shelf = shelf_of(alloc, failing.shelf)?;
+    let mut sink = MemSink::new(alloc, 1, alone(alloc, failing.sink)?, 1000).ok()?;
+    let status = run(alloc, &words, engine, &mut shelf, &mut sink);
+    if status != failing.status {
+        return None;
+    }
+    front_of(sink.written())
+}
 
-    ghost gives = { λ _ _. ⊤ };
-
-    fn carry_out(self, alloc: Global, engine: &mut Engine) -> Option<usize> {
-        let words = script_words(alloc)?;
-        let mut shelf = shelf_of(alloc, self.shelf)?;
-        let mut sink = MemSink::new(alloc, 1, alone(alloc, self.sink)?, 1000).ok()?;
-        let status = run(alloc, &words, engine, &mut shelf, &mut sink);
-        if status != self.status {
-            return None;
-        }
-        front_of(sink.written())
+/// The same, on an engine with all indexes.
+fn written(alloc: Global, failing: &Failing) -> Option<usize> {
+    match full_engine(alloc) {
+        Ok(mut engine) => front(alloc, &mut engine, failing),
+        Err(_) => None,
     }
 }
 
-/// How many bytes the run writes in which these calls fail, where it ends with that status and they are the first of the lists.
-fn written(alloc: Global, shelf: u32, sink: u32, status: u8) -> Option<usize> {
-    let task = Failing {
+/// A run in which these calls fail, and its status.
+fn failing_at(shelf: u32, sink: u32, status: u8) -> Failing {
+    Failing {
         shelf,
         sink,
         status,
-    };
-    with_full_engine(alloc, task).ok()?
+    }
 }
 
 // One call opens the file, and one for each of its 175 bytes and one more read it. As many write the 281 bytes.
 #[test]
 fn each_failing_call_leaves_a_front(rt: HostRuntime) {
     for call in 1..=177 {
-        assert!(rt; written(rt.alloc(), call, 0, 5).is_some(), "{call}");
+        assert!(rt;
+            written(rt.alloc(), &failing_at(call, 0, 5)).is_some(),
+            "{call}"
+        );
     }
     for done in 0..281 {
-        assert_eq!(rt; written(rt.alloc(), 0, done + 1, 6), Some(done as usize));
+        assert_eq!(rt;
+            written(rt.alloc(), &failing_at(0, done + 1, 6)),
+            Some(done as usize)
+        );
     }
-    assert_eq!(rt; written(rt.alloc(), 178, 282, 0), Some(281));
+    assert_eq!(rt; written(rt.alloc(), &failing_at(178, 282, 0)), Some(281));
 }

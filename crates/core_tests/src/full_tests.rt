@@ -1,12 +1,12 @@
 // One query, through each index and the graph itself.
-ghost use Rattle.std.specs.Prelude.{◌≡◌, ◌<◌, true, None, IsSome, map};
-ghost use Rattle.pathindex_core.specs.Engines.{engine_seen, opened_of, IsSound};
+ghost use Rattle.std.specs.Prelude.{◌≡◌, ◌<◌, None, IsSome};
+ghost use Rattle.pathindex_core.specs.Engines.{IsSound, seen};
 
 use crate::calls::opens;
+use any_index::full_engine;
 use branch_text::Branch;
-use full_engine::{EngineTask, with_full_engine};
 use graph_update::Change;
-use index_api::{Answer, Via};
+use index_api::{Answer, PathIndex, Via};
 use label_graph::Graph;
 use path_query::PathExpr;
 use pathindex_core::{AskError, Engine};
@@ -14,23 +14,24 @@ use px_base::{Limits, NodeId, Steps, Text};
 use std::alloc::Global;
 use std::marker::Brand;
 use std::sync::ledger::{Blank, Ledger};
+use std::test::Fail;
 
 /// Makes a change.
-pub(crate) fn makes(engine: &mut Engine, alloc: Global, change: Change) -> bool
-    requires open { IsSome (opened_of engine.old.state) }
-    requires sound { IsSound (engine_seen (map (λ b. meaning (b.vtable, b.value)) engine.old.boxes.items) engine.old.state) }
-    ensures open { IsSome (opened_of engine.new.state) }
-    ensures sound { IsSound (engine_seen (map (λ b. meaning (b.vtable, b.value)) engine.new.boxes.items) engine.new.state) }
+pub(crate) fn makes<B: PathIndex>(engine: &mut Engine<B>, alloc: Global, change: Change) -> bool
+    requires open { IsSome engine.old.opened }
+    requires sound { IsSound (seen B.meaning engine.old) }
+    ensures open { IsSome engine.new.opened }
+    ensures sound { IsSound (seen B.meaning engine.new) }
 {
     engine.update(alloc, change).is_ok()
 }
 
 /// Adds a node with this label.
-fn adds(engine: &mut Engine, alloc: Global, label: &str) -> bool
-    requires open { IsSome (opened_of engine.old.state) }
-    requires sound { IsSound (engine_seen (map (λ b. meaning (b.vtable, b.value)) engine.old.boxes.items) engine.old.state) }
-    ensures open { IsSome (opened_of engine.new.state) }
-    ensures sound { IsSound (engine_seen (map (λ b. meaning (b.vtable, b.value)) engine.new.boxes.items) engine.new.state) }
+fn adds<B: PathIndex>(engine: &mut Engine<B>, alloc: Global, label: &str) -> bool
+    requires open { IsSome engine.old.opened }
+    requires sound { IsSound (seen B.meaning engine.old) }
+    ensures open { IsSome engine.new.opened }
+    ensures sound { IsSound (seen B.meaning engine.new) }
 {
     match Text::from_bytes(alloc, label.as_bytes()) {
         Ok(label) => makes(engine, alloc, Change::Node(label)),
@@ -39,21 +40,26 @@ fn adds(engine: &mut Engine, alloc: Global, label: &str) -> bool
 }
 
 /// Adds two nodes with these labels.
-pub(crate) fn adds_both(engine: &mut Engine, alloc: Global, first: &str, second: &str) -> bool
-    requires open { IsSome (opened_of engine.old.state) }
-    requires sound { IsSound (engine_seen (map (λ b. meaning (b.vtable, b.value)) engine.old.boxes.items) engine.old.state) }
-    ensures open { IsSome (opened_of engine.new.state) }
-    ensures sound { IsSound (engine_seen (map (λ b. meaning (b.vtable, b.value)) engine.new.boxes.items) engine.new.state) }
+pub(crate) fn adds_both<B: PathIndex>(
+    engine: &mut Engine<B>,
+    alloc: Global,
+    first: &str,
+    second: &str,
+) -> bool
+    requires open { IsSome engine.old.opened }
+    requires sound { IsSound (seen B.meaning engine.old) }
+    ensures open { IsSome engine.new.opened }
+    ensures sound { IsSound (seen B.meaning engine.new) }
 {
     adds(engine, alloc, first) && adds(engine, alloc, second)
 }
 
 /// Links the first node to the second and the third, and the second to the fourth.
-fn links(engine: &mut Engine, alloc: Global) -> bool
-    requires open { IsSome (opened_of engine.old.state) }
-    requires sound { IsSound (engine_seen (map (λ b. meaning (b.vtable, b.value)) engine.old.boxes.items) engine.old.state) }
-    ensures open { IsSome (opened_of engine.new.state) }
-    ensures sound { IsSound (engine_seen (map (λ b. meaning (b.vtable, b.value)) engine.new.boxes.items) engine.new.state) }
+fn links<B: PathIndex>(engine: &mut Engine<B>, alloc: Global) -> bool
+    requires open { IsSome engine.old.opened }
+    requires sound { IsSound (seen B.meaning engine.old) }
+    ensures open { IsSome engine.new.opened }
+    ensures sound { IsSound (seen B.meaning engine.new) }
 {
     makes(engine, alloc, Change::Link(0, 1))
         && makes(engine, alloc, Change::Link(0, 2))
@@ -61,11 +67,11 @@ fn links(engine: &mut Engine, alloc: Global) -> bool
 }
 
 /// Adds an `a` with two children `b`, the first of which has a child `c`.
-fn grows(engine: &mut Engine, alloc: Global) -> bool
-    requires open { IsSome (opened_of engine.old.state) }
-    requires sound { IsSound (engine_seen (map (λ b. meaning (b.vtable, b.value)) engine.old.boxes.items) engine.old.state) }
-    ensures open { IsSome (opened_of engine.new.state) }
-    ensures sound { IsSound (engine_seen (map (λ b. meaning (b.vtable, b.value)) engine.new.boxes.items) engine.new.state) }
+fn grows<B: PathIndex>(engine: &mut Engine<B>, alloc: Global) -> bool
+    requires open { IsSome engine.old.opened }
+    requires sound { IsSound (seen B.meaning engine.old) }
+    ensures open { IsSome engine.new.opened }
+    ensures sound { IsSound (seen B.meaning engine.new) }
 {
     adds_both(engine, alloc, "a", "b") && adds_both(engine, alloc, "b", "c") && links(engine, alloc)
 }
@@ -82,101 +88,106 @@ fn are(answer: &Result<Answer, AskError>, nodes: &[NodeId]) -> bool {
 }
 
 /// The answer to the path, asked so.
-fn path_counted<L: Ledger>(
-    engine: &mut Engine,
+fn path_counted<B: PathIndex, L: Ledger>(
+    engine: &mut Engine<B>,
     alloc: Global,
     via: Via,
     expr: &PathExpr,
     blank: Blank,
 ) -> Result<Answer, AskError>
-    requires open { IsSome (opened_of engine.old.state) }
-    requires sound { IsSound (engine_seen (map (λ b. meaning (b.vtable, b.value)) engine.old.boxes.items) engine.old.state) }
+    requires open { IsSome engine.old.opened }
+    requires sound { IsSound (seen B.meaning engine.old) }
     requires name { blank.name ≡ L.name }
     requires parts { blank.parts ≡ L.parts }
     requires some { 0 < blank.parts }
-    ensures open { IsSome (opened_of engine.new.state) }
-    ensures sound { IsSound (engine_seen (map (λ b. meaning (b.vtable, b.value)) engine.new.boxes.items) engine.new.state) }
+    ensures open { IsSome engine.new.opened }
+    ensures sound { IsSound (seen B.meaning engine.new) }
 {
     let mut steps = Steps::<L>::new(blank);
     engine.path(alloc, via, expr, &mut steps)
 }
 
 /// Whether these nodes answer the path, asked so.
-pub(crate) fn path_gives(
-    engine: &mut Engine,
+pub(crate) fn path_gives<B: PathIndex>(
+    engine: &mut Engine<B>,
     alloc: Global,
     via: Via,
     expr: &PathExpr,
     nodes: &[NodeId],
 ) -> bool
-    requires open { IsSome (opened_of engine.old.state) }
-    requires sound { IsSound (engine_seen (map (λ b. meaning (b.vtable, b.value)) engine.old.boxes.items) engine.old.state) }
-    ensures open { IsSome (opened_of engine.new.state) }
-    ensures sound { IsSound (engine_seen (map (λ b. meaning (b.vtable, b.value)) engine.new.boxes.items) engine.new.state) }
+    requires open { IsSome engine.old.opened }
+    requires sound { IsSound (seen B.meaning engine.old) }
+    ensures open { IsSome engine.new.opened }
+    ensures sound { IsSound (seen B.meaning engine.new) }
 {
-    let answer = path_counted::<Brand>(engine, alloc, via, expr, Blank::new(1));
+    let answer = path_counted::<B, Brand>(engine, alloc, via, expr, Blank::new(1));
     are(&answer, nodes)
 }
 
 /// The answer to the branching query, asked so.
-fn branch_counted<L: Ledger>(
-    engine: &mut Engine,
+fn branch_counted<B: PathIndex, L: Ledger>(
+    engine: &mut Engine<B>,
     alloc: Global,
     via: Via,
     query: &Branch,
     blank: Blank,
 ) -> Result<Answer, AskError>
-    requires open { IsSome (opened_of engine.old.state) }
-    requires sound { IsSound (engine_seen (map (λ b. meaning (b.vtable, b.value)) engine.old.boxes.items) engine.old.state) }
+    requires open { IsSome engine.old.opened }
+    requires sound { IsSound (seen B.meaning engine.old) }
     requires name { blank.name ≡ L.name }
     requires parts { blank.parts ≡ L.parts }
     requires some { 0 < blank.parts }
-    ensures open { IsSome (opened_of engine.new.state) }
-    ensures sound { IsSound (engine_seen (map (λ b. meaning (b.vtable, b.value)) engine.new.boxes.items) engine.new.state) }
+    ensures open { IsSome engine.new.opened }
+    ensures sound { IsSound (seen B.meaning engine.new) }
 {
     let mut steps = Steps::<L>::new(blank);
     engine.branch(alloc, via, query, &mut steps)
 }
 
 /// Whether these nodes answer the branching query, asked so.
-fn branch_gives(
-    engine: &mut Engine,
+fn branch_gives<B: PathIndex>(
+    engine: &mut Engine<B>,
     alloc: Global,
     via: Via,
     query: &Branch,
     nodes: &[NodeId],
 ) -> bool
-    requires open { IsSome (opened_of engine.old.state) }
-    requires sound { IsSound (engine_seen (map (λ b. meaning (b.vtable, b.value)) engine.old.boxes.items) engine.old.state) }
-    ensures open { IsSome (opened_of engine.new.state) }
-    ensures sound { IsSound (engine_seen (map (λ b. meaning (b.vtable, b.value)) engine.new.boxes.items) engine.new.state) }
+    requires open { IsSome engine.old.opened }
+    requires sound { IsSound (seen B.meaning engine.old) }
+    ensures open { IsSome engine.new.opened }
+    ensures sound { IsSound (seen B.meaning engine.new) }
 {
-    let answer = branch_counted::<Brand>(engine, alloc, via, query, Blank::new(1));
+    let answer = branch_counted::<B, Brand>(engine, alloc, via, query, Blank::new(1));
     are(&answer, nodes)
 }
 
 /// Whether these nodes answer the path, through both A(k)-indexes.
-fn path_gives_by_levels(
-    engine: &mut Engine,
+fn path_gives_by_levels<B: PathIndex>(
+    engine: &mut Engine<B>,
     alloc: Global,
     expr: &PathExpr,
     nodes: &[NodeId],
 ) -> bool
-    requires open { IsSome (opened_of engine.old.state) }
-    requires sound { IsSound (engine_seen (map (λ b. meaning (b.vtable, b.value)) engine.old.boxes.items) engine.old.state) }
-    ensures open { IsSome (opened_of engine.new.state) }
-    ensures sound { IsSound (engine_seen (map (λ b. meaning (b.vtable, b.value)) engine.new.boxes.items) engine.new.state) }
+    requires open { IsSome engine.old.opened }
+    requires sound { IsSound (seen B.meaning engine.old) }
+    ensures open { IsSome engine.new.opened }
+    ensures sound { IsSound (seen B.meaning engine.new) }
 {
     path_gives(engine, alloc, Via::A(0), expr, nodes)
         && path_gives(engine, alloc, Via::A(1), expr, nodes)
 }
 
 /// Whether these nodes answer the path, through the other indexes and the graph itself.
-fn path_gives_else(engine: &mut Engine, alloc: Global, expr: &PathExpr, nodes: &[NodeId]) -> bool
-    requires open { IsSome (opened_of engine.old.state) }
-    requires sound { IsSound (engine_seen (map (λ b. meaning (b.vtable, b.value)) engine.old.boxes.items) engine.old.state) }
-    ensures open { IsSome (opened_of engine.new.state) }
-    ensures sound { IsSound (engine_seen (map (λ b. meaning (b.vtable, b.value)) engine.new.boxes.items) engine.new.state) }
+fn path_gives_else<B: PathIndex>(
+    engine: &mut Engine<B>,
+    alloc: Global,
+    expr: &PathExpr,
+    nodes: &[NodeId],
+) -> bool
+    requires open { IsSome engine.old.opened }
+    requires sound { IsSound (seen B.meaning engine.old) }
+    ensures open { IsSome engine.new.opened }
+    ensures sound { IsSound (seen B.meaning engine.new) }
 {
     path_gives(engine, alloc, Via::Data, expr, nodes)
         && path_gives(engine, alloc, Via::One, expr, nodes)
@@ -184,21 +195,31 @@ fn path_gives_else(engine: &mut Engine, alloc: Global, expr: &PathExpr, nodes: &
 }
 
 /// Whether these nodes answer the path, through each index and the graph itself.
-fn path_gives_always(engine: &mut Engine, alloc: Global, expr: &PathExpr, nodes: &[NodeId]) -> bool
-    requires open { IsSome (opened_of engine.old.state) }
-    requires sound { IsSound (engine_seen (map (λ b. meaning (b.vtable, b.value)) engine.old.boxes.items) engine.old.state) }
-    ensures open { IsSome (opened_of engine.new.state) }
-    ensures sound { IsSound (engine_seen (map (λ b. meaning (b.vtable, b.value)) engine.new.boxes.items) engine.new.state) }
+fn path_gives_always<B: PathIndex>(
+    engine: &mut Engine<B>,
+    alloc: Global,
+    expr: &PathExpr,
+    nodes: &[NodeId],
+) -> bool
+    requires open { IsSome engine.old.opened }
+    requires sound { IsSound (seen B.meaning engine.old) }
+    ensures open { IsSome engine.new.opened }
+    ensures sound { IsSound (seen B.meaning engine.new) }
 {
     path_gives_by_levels(engine, alloc, expr, nodes) && path_gives_else(engine, alloc, expr, nodes)
 }
 
 /// Whether these nodes answer the path with that text.
-fn path_text_gives(engine: &mut Engine, alloc: Global, text: &str, nodes: &[NodeId]) -> bool
-    requires open { IsSome (opened_of engine.old.state) }
-    requires sound { IsSound (engine_seen (map (λ b. meaning (b.vtable, b.value)) engine.old.boxes.items) engine.old.state) }
-    ensures open { IsSome (opened_of engine.new.state) }
-    ensures sound { IsSound (engine_seen (map (λ b. meaning (b.vtable, b.value)) engine.new.boxes.items) engine.new.state) }
+fn path_text_gives<B: PathIndex>(
+    engine: &mut Engine<B>,
+    alloc: Global,
+    text: &str,
+    nodes: &[NodeId],
+) -> bool
+    requires open { IsSome engine.old.opened }
+    requires sound { IsSound (seen B.meaning engine.old) }
+    ensures open { IsSome engine.new.opened }
+    ensures sound { IsSound (seen B.meaning engine.new) }
 {
     match PathExpr::parse(alloc, text.as_bytes(), &Limits::program()) {
         Ok(expr) => path_gives_always(engine, alloc, &expr, nodes),
@@ -207,27 +228,32 @@ fn path_text_gives(engine: &mut Engine, alloc: Global, text: &str, nodes: &[Node
 }
 
 /// Whether these nodes answer the branching query, through both A(k)-indexes.
-fn branch_gives_by_levels(
-    engine: &mut Engine,
+fn branch_gives_by_levels<B: PathIndex>(
+    engine: &mut Engine<B>,
     alloc: Global,
     query: &Branch,
     nodes: &[NodeId],
 ) -> bool
-    requires open { IsSome (opened_of engine.old.state) }
-    requires sound { IsSound (engine_seen (map (λ b. meaning (b.vtable, b.value)) engine.old.boxes.items) engine.old.state) }
-    ensures open { IsSome (opened_of engine.new.state) }
-    ensures sound { IsSound (engine_seen (map (λ b. meaning (b.vtable, b.value)) engine.new.boxes.items) engine.new.state) }
+    requires open { IsSome engine.old.opened }
+    requires sound { IsSound (seen B.meaning engine.old) }
+    ensures open { IsSome engine.new.opened }
+    ensures sound { IsSound (seen B.meaning engine.new) }
 {
     branch_gives(engine, alloc, Via::A(0), query, nodes)
         && branch_gives(engine, alloc, Via::A(1), query, nodes)
 }
 
 /// Whether these nodes answer the branching query, through the other indexes and the graph itself.
-fn branch_gives_else(engine: &mut Engine, alloc: Global, query: &Branch, nodes: &[NodeId]) -> bool
-    requires open { IsSome (opened_of engine.old.state) }
-    requires sound { IsSound (engine_seen (map (λ b. meaning (b.vtable, b.value)) engine.old.boxes.items) engine.old.state) }
-    ensures open { IsSome (opened_of engine.new.state) }
-    ensures sound { IsSound (engine_seen (map (λ b. meaning (b.vtable, b.value)) engine.new.boxes.items) engine.new.state) }
+fn branch_gives_else<B: PathIndex>(
+    engine: &mut Engine<B>,
+    alloc: Global,
+    query: &Branch,
+    nodes: &[NodeId],
+) -> bool
+    requires open { IsSome engine.old.opened }
+    requires sound { IsSound (seen B.meaning engine.old) }
+    ensures open { IsSome engine.new.opened }
+    ensures sound { IsSound (seen B.meaning engine.new) }
 {
     branch_gives(engine, alloc, Via::Data, query, nodes)
         && branch_gives(engine, alloc, Via::One, query, nodes)
@@ -235,22 +261,32 @@ fn branch_gives_else(engine: &mut Engine, alloc: Global, query: &Branch, nodes: 
 }
 
 /// Whether these nodes answer the branching query, through each index and the graph itself.
-fn branch_gives_always(engine: &mut Engine, alloc: Global, query: &Branch, nodes: &[NodeId]) -> bool
-    requires open { IsSome (opened_of engine.old.state) }
-    requires sound { IsSound (engine_seen (map (λ b. meaning (b.vtable, b.value)) engine.old.boxes.items) engine.old.state) }
-    ensures open { IsSome (opened_of engine.new.state) }
-    ensures sound { IsSound (engine_seen (map (λ b. meaning (b.vtable, b.value)) engine.new.boxes.items) engine.new.state) }
+fn branch_gives_always<B: PathIndex>(
+    engine: &mut Engine<B>,
+    alloc: Global,
+    query: &Branch,
+    nodes: &[NodeId],
+) -> bool
+    requires open { IsSome engine.old.opened }
+    requires sound { IsSound (seen B.meaning engine.old) }
+    ensures open { IsSome engine.new.opened }
+    ensures sound { IsSound (seen B.meaning engine.new) }
 {
     branch_gives_by_levels(engine, alloc, query, nodes)
         && branch_gives_else(engine, alloc, query, nodes)
 }
 
 /// Whether these nodes answer the branching query with that text.
-fn branch_text_gives(engine: &mut Engine, alloc: Global, text: &str, nodes: &[NodeId]) -> bool
-    requires open { IsSome (opened_of engine.old.state) }
-    requires sound { IsSound (engine_seen (map (λ b. meaning (b.vtable, b.value)) engine.old.boxes.items) engine.old.state) }
-    ensures open { IsSome (opened_of engine.new.state) }
-    ensures sound { IsSound (engine_seen (map (λ b. meaning (b.vtable, b.value)) engine.new.boxes.items) engine.new.state) }
+fn branch_text_gives<B: PathIndex>(
+    engine: &mut Engine<B>,
+    alloc: Global,
+    text: &str,
+    nodes: &[NodeId],
+) -> bool
+    requires open { IsSome engine.old.opened }
+    requires sound { IsSound (seen B.meaning engine.old) }
+    ensures open { IsSome engine.new.opened }
+    ensures sound { IsSound (seen B.meaning engine.new) }
 {
     match Branch::parse(alloc, text.as_bytes(), &Limits::program()) {
         Ok(query) => branch_gives_always(engine, alloc, &query, nodes),
@@ -259,11 +295,11 @@ fn branch_text_gives(engine: &mut Engine, alloc: Global, text: &str, nodes: &[No
 }
 
 /// Whether a few paths have their answers over the small graph.
-fn paths_give(engine: &mut Engine, alloc: Global) -> bool
-    requires open { IsSome (opened_of engine.old.state) }
-    requires sound { IsSound (engine_seen (map (λ b. meaning (b.vtable, b.value)) engine.old.boxes.items) engine.old.state) }
-    ensures open { IsSome (opened_of engine.new.state) }
-    ensures sound { IsSound (engine_seen (map (λ b. meaning (b.vtable, b.value)) engine.new.boxes.items) engine.new.state) }
+fn paths_give<B: PathIndex>(engine: &mut Engine<B>, alloc: Global) -> bool
+    requires open { IsSome engine.old.opened }
+    requires sound { IsSound (seen B.meaning engine.old) }
+    ensures open { IsSome engine.new.opened }
+    ensures sound { IsSound (seen B.meaning engine.new) }
 {
     path_text_gives(engine, alloc, "a/b", &[1, 2])
         && path_text_gives(engine, alloc, "a/b/c", &[3])
@@ -271,36 +307,41 @@ fn paths_give(engine: &mut Engine, alloc: Global) -> bool
 }
 
 /// Whether a few branching queries do.
-fn branches_give(engine: &mut Engine, alloc: Global) -> bool
-    requires open { IsSome (opened_of engine.old.state) }
-    requires sound { IsSound (engine_seen (map (λ b. meaning (b.vtable, b.value)) engine.old.boxes.items) engine.old.state) }
-    ensures open { IsSome (opened_of engine.new.state) }
-    ensures sound { IsSound (engine_seen (map (λ b. meaning (b.vtable, b.value)) engine.new.boxes.items) engine.new.state) }
+fn branches_give<B: PathIndex>(engine: &mut Engine<B>, alloc: Global) -> bool
+    requires open { IsSome engine.old.opened }
+    requires sound { IsSound (seen B.meaning engine.old) }
+    ensures open { IsSome engine.new.opened }
+    ensures sound { IsSound (seen B.meaning engine.new) }
 {
     branch_text_gives(engine, alloc, "b[not(/c)]", &[2])
         && branch_text_gives(engine, alloc, "b\\a[/b/c]", &[0])
 }
 
 /// Whether each of a few queries has its answers over the small graph, however it is asked.
-#[derive(Drop)]
-struct Asks {}
-
-impl EngineTask for Asks {
-    ghost use Rattle.std.specs.Prelude.{⊤};
-
-    type Output = bool;
-
-    ghost gives = { λ _ _. ⊤ };
-
-    fn carry_out(self, alloc: Global, engine: &mut Engine) -> bool {
-        opens(engine, Graph::new(alloc).ok(), Limits::program())
-            && grows(engine, alloc)
-            && paths_give(engine, alloc)
-            && branches_give(engine, alloc)
-    }
+fn queries_give<B: PathIndex>(engine: &mut Engine<B>, alloc: Global) -> bool
+    requires closed { engine.old.opened ≡ None }
+    requires sound { IsSound (seen B.meaning engine.old) }
+{
+    opens(engine, Graph::new(alloc).ok(), Limits::program())
+        && grows(engine, alloc)
+        && paths_give(engine, alloc)
+        && branches_give(engine, alloc)
 }
 
 #[test]
-fn each_index_gives_the_graphs_answers(rt: HostRuntime) {
-    assert_eq!(rt; with_full_engine(rt.alloc(), Asks {}), Ok(true));
+fn each_index_gives_the_graphs_answers(rt: HostRuntime) -> Result<(), Fail> {
+    let mut engine = full_engine(rt.alloc())?;
+    assert!(rt; queries_give(&mut engine, rt.alloc()));
+    Ok(())
+}
+
+/// Takes what may go from thread to thread.
+fn sends<T: Send>(_value: &T) {}
+
+// Nothing in an engine over these indexes stays with a thread.
+#[test]
+fn an_engine_goes_from_thread_to_thread(rt: HostRuntime) -> Result<(), Fail> {
+    let engine = full_engine(rt.alloc())?;
+    sends(&engine);
+    Ok(())
 }

@@ -1,12 +1,11 @@
 // An engine one of whose boxes finds no memory: what fails leaves all as it was, and what needs no memory there goes on.
-ghost use Rattle.std.specs.Prelude.{◌≡◌, ◌<◌, ⊤, None, IsSome, map};
-ghost use Rattle.pathindex_core.specs.Engines.{engine_seen, opened_of, IsSound};
+ghost use Rattle.std.specs.Prelude.{◌≡◌, ◌<◌, None, IsSome};
+ghost use Rattle.pathindex_core.specs.Engines.{IsSound, seen};
 
 use crate::calls::{FEW, adds_node, fails_to_add, lists, opens};
-use crate::failing_index::with_failing_engine;
+use crate::failing_index::{BoxesTask, with_failing_engine};
 use crate::script_file::{script_file, script_words};
-use full_engine::EngineTask;
-use index_api::{Answer, Kind, Via};
+use index_api::{Answer, Kind, PathIndex, Via};
 use label_graph::Graph;
 use path_query::PathExpr;
 use pathindex_core::{AskError, Engine, UpdateError};
@@ -52,11 +51,11 @@ fn start_with_one(alloc: Global) -> Start {
 }
 
 /// Whether each index that has views has this list.
-fn all_list(engine: &mut Engine, alloc: Global, list: &str) -> bool
-    requires open { IsSome (opened_of engine.old.state) }
-    requires sound { IsSound (engine_seen (map (λ b. meaning (b.vtable, b.value)) engine.old.boxes.items) engine.old.state) }
-    ensures open { IsSome (opened_of engine.new.state) }
-    ensures sound { IsSound (engine_seen (map (λ b. meaning (b.vtable, b.value)) engine.new.boxes.items) engine.new.state) }
+fn all_list<B: PathIndex>(engine: &mut Engine<B>, alloc: Global, list: &str) -> bool
+    requires open { IsSome engine.old.opened }
+    requires sound { IsSound (seen B.meaning engine.old) }
+    ensures open { IsSome engine.new.opened }
+    ensures sound { IsSound (seen B.meaning engine.new) }
 {
     lists(engine, alloc, Via::A(0), Some(list))
         && lists(engine, alloc, Via::A(1), Some(list))
@@ -64,21 +63,21 @@ fn all_list(engine: &mut Engine, alloc: Global, list: &str) -> bool
 }
 
 /// Whether the graph has so many nodes, and each index that has views this list.
-fn is_as_begun(engine: &mut Engine, alloc: Global, nodes: u32, list: &str) -> bool
-    requires open { IsSome (opened_of engine.old.state) }
-    requires sound { IsSound (engine_seen (map (λ b. meaning (b.vtable, b.value)) engine.old.boxes.items) engine.old.state) }
-    ensures open { IsSome (opened_of engine.new.state) }
-    ensures sound { IsSound (engine_seen (map (λ b. meaning (b.vtable, b.value)) engine.new.boxes.items) engine.new.state) }
+fn is_as_begun<B: PathIndex>(engine: &mut Engine<B>, alloc: Global, nodes: u32, list: &str) -> bool
+    requires open { IsSome engine.old.opened }
+    requires sound { IsSound (seen B.meaning engine.old) }
+    ensures open { IsSome engine.new.opened }
+    ensures sound { IsSound (seen B.meaning engine.new) }
 {
     engine.graph().created() == nodes && all_list(engine, alloc, list)
 }
 
 /// Whether a node is added with this number once the box that fails is forgotten.
-fn goes_on_without(engine: &mut Engine, alloc: Global, number: u32) -> bool
-    requires open { IsSome (opened_of engine.old.state) }
-    requires sound { IsSound (engine_seen (map (λ b. meaning (b.vtable, b.value)) engine.old.boxes.items) engine.old.state) }
-    ensures open { IsSome (opened_of engine.new.state) }
-    ensures sound { IsSound (engine_seen (map (λ b. meaning (b.vtable, b.value)) engine.new.boxes.items) engine.new.state) }
+fn goes_on_without<B: PathIndex>(engine: &mut Engine<B>, alloc: Global, number: u32) -> bool
+    requires open { IsSome engine.old.opened }
+    requires sound { IsSound (seen B.meaning engine.old) }
+    ensures open { IsSome engine.new.opened }
+    ensures sound { IsSound (seen B.meaning engine.new) }
 {
     engine.forget(Kind::Fb).is_ok() && adds_node(engine, alloc, number)
 }
@@ -89,11 +88,7 @@ struct Changes {
     start: Start,
 }
 
-impl EngineTask for Changes {
-    type Output = bool;
-
-    ghost gives = { λ _ _. ⊤ };
-
+impl BoxesTask for Changes {
     fn carry_out(self, alloc: Global, engine: &mut Engine) -> bool {
         let Start { graph, nodes, list } = self.start;
         opens(engine, graph, FEW)
@@ -122,35 +117,35 @@ fn a_change_without_memory_leaves_a_node(rt: HostRuntime) {
 }
 
 /// The answer of the graph itself.
-fn found<L: Ledger>(
-    engine: &mut Engine,
+fn found<B: PathIndex, L: Ledger>(
+    engine: &mut Engine<B>,
     alloc: Global,
     expr: &PathExpr,
     blank: Blank,
 ) -> Result<Answer, AskError>
-    requires open { IsSome (opened_of engine.old.state) }
-    requires sound { IsSound (engine_seen (map (λ b. meaning (b.vtable, b.value)) engine.old.boxes.items) engine.old.state) }
+    requires open { IsSome engine.old.opened }
+    requires sound { IsSound (seen B.meaning engine.old) }
     requires name { blank.name ≡ L.name }
     requires parts { blank.parts ≡ L.parts }
     requires some { 0 < blank.parts }
-    ensures open { IsSome (opened_of engine.new.state) }
-    ensures sound { IsSound (engine_seen (map (λ b. meaning (b.vtable, b.value)) engine.new.boxes.items) engine.new.state) }
+    ensures open { IsSome engine.new.opened }
+    ensures sound { IsSound (seen B.meaning engine.new) }
 {
     let mut steps = Steps::<L>::new(blank);
     engine.path(alloc, Via::Data, expr, &mut steps)
 }
 
 /// Whether the path has no answer in the graph itself.
-fn finds_none(engine: &mut Engine, alloc: Global, path: &str) -> bool
-    requires open { IsSome (opened_of engine.old.state) }
-    requires sound { IsSound (engine_seen (map (λ b. meaning (b.vtable, b.value)) engine.old.boxes.items) engine.old.state) }
-    ensures open { IsSome (opened_of engine.new.state) }
-    ensures sound { IsSound (engine_seen (map (λ b. meaning (b.vtable, b.value)) engine.new.boxes.items) engine.new.state) }
+fn finds_none<B: PathIndex>(engine: &mut Engine<B>, alloc: Global, path: &str) -> bool
+    requires open { IsSome engine.old.opened }
+    requires sound { IsSound (seen B.meaning engine.old) }
+    ensures open { IsSome engine.new.opened }
+    ensures sound { IsSound (seen B.meaning engine.new) }
 {
     let Ok(expr) = PathExpr::parse(alloc, path.as_bytes(), &FEW) else {
         return false;
     };
-    match found::<Brand>(engine, alloc, &expr, Blank::new(1)) {
+    match found::<B, Brand>(engine, alloc, &expr, Blank::new(1)) {
         Ok(answer) => answer.nodes.count() == 0,
         Err(_) => false,
     }
@@ -162,11 +157,7 @@ struct Lists {
     start: Start,
 }
 
-impl EngineTask for Lists {
-    type Output = bool;
-
-    ghost gives = { λ _ _. ⊤ };
-
+impl BoxesTask for Lists {
     fn carry_out(self, alloc: Global, engine: &mut Engine) -> bool {
         let Start { graph, nodes, list } = self.start;
         opens(engine, graph, FEW)
@@ -202,18 +193,21 @@ fn shelf_of(alloc: Global, script: &str) -> Option<MemShelf> {
     Some(MemShelf::new(files, 64, Vec::new(alloc)))
 }
 
-impl EngineTask for Run {
-    // whether it ends so; none where there is no memory for its files
-    type Output = Option<bool>;
+/// Whether it ends so; none where there is no memory for its files.
+fn ends_so<B: PathIndex>(alloc: Global, engine: &mut Engine<B>, given: &Run) -> Option<bool>
+    requires closed { engine.old.opened ≡ None }
+    requires sound { IsSound (seen B.meaning engine.old) }
+{
+    let words = script_words(alloc)?;
+    let mut shelf = shelf_of(alloc, given.script)?;
+    let mut sink = MemSink::new(alloc, 64, Vec::new(alloc), 64).ok()?;
+    let status = run(alloc, &words, engine, &mut shelf, &mut sink);
+    Some(status == given.status && sink.written() == given.output.as_bytes())
+}
 
-    ghost gives = { λ _ _. ⊤ };
-
-    fn carry_out(self, alloc: Global, engine: &mut Engine) -> Option<bool> {
-        let words = script_words(alloc)?;
-        let mut shelf = shelf_of(alloc, self.script)?;
-        let mut sink = MemSink::new(alloc, 64, Vec::new(alloc), 64).ok()?;
-        let status = run(alloc, &words, engine, &mut shelf, &mut sink);
-        Some(status == self.status && sink.written() == self.output.as_bytes())
+impl BoxesTask for Run {
+    fn carry_out(self, alloc: Global, engine: &mut Engine) -> bool {
+        ends_so(alloc, engine, &self) == Some(true)
     }
 }
 
@@ -233,10 +227,6 @@ fn a_run_ends_where_a_box_finds_no_memory(rt: HostRuntime) {
             output,
             status: *status,
         };
-        assert_eq!(rt;
-            with_failing_engine(rt.alloc(), task),
-            Ok(Some(true)),
-            "{script}"
-        );
+        assert_eq!(rt; with_failing_engine(rt.alloc(), task), Ok(true), "{script}");
     }
 }

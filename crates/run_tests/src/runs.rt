@@ -1,6 +1,5 @@
 // Whole runs in memory, and the real files and output once each.
 use ak_maintain::AkIndex;
-use index_api::PathIndex;
 use pathindex_core::Engine;
 use pathindex_run::{HostShelf, HostSink, run};
 use px_base::{MemShelf, MemSink, Memory, Shelf, Sink, Text};
@@ -59,9 +58,9 @@ fn run_over(
     shelf: &mut MemShelf,
     sink: &mut MemSink,
 ) -> Result<u8, Memory> {
-    let mut boxes: Vec<Box<dyn PathIndex>> = Vec::new(alloc);
-    boxes.push(Box::new(alloc, AkIndex::new(alloc)?)?)?;
-    let mut engine = Engine::new(boxes);
+    let mut indexes = Vec::new(alloc);
+    indexes.push(AkIndex::new(alloc)?)?;
+    let mut engine = Engine::new(indexes);
     Ok(run(alloc, words, &mut engine, shelf, sink))
 }
 
@@ -340,6 +339,11 @@ fn graph_files_are_loaded(rt: HostRuntime) {
             "{script:?} {graph:?}"
         );
     }
+    let flag_first = Given {
+        words: &["--graph", "g", "s"],
+        ..with_graph(Some("path data iri\n"), Some(TWO))
+    };
+    assert!(rt; ends(rt.alloc(), flag_first, "answers 2\nn0 n2\n", 0));
     let unnamed = Given {
         words: &["s"],
         ..with_graph(Some("path data iri\n"), Some(TWO))
