@@ -1,11 +1,17 @@
 //! The program `pathindex`: it carries out a script over a graph, as its words ask for.
 #![tactic(auto)]
 
-use full_engine::{EngineTask, with_full_engine};
+ghost use Rattle.std.specs.Prelude.{◌≡◌, [], ◌∷◌, None};
+ghost use Rattle.index_api.specs.Kept.{kinds_of};
+ghost use Rattle.pathindex_core.specs.Engines.{IsSound, seen};
+
+use ak_maintain::AkIndex;
+use fb_index::FbIndex;
+use index_api::{Kind, PathIndex};
+use one_maintain::OneKept;
 use pathindex_core::Engine;
 use pathindex_run::{HostShelf, HostSink, Status, break_reason, run};
 use px_base::Memory;
-use std::alloc::Global;
 use std::env::Env;
 use std::io::ErrorKind;
 use std::process::ExitCode;
@@ -25,31 +31,32 @@ fn tell(rt: &impl Eprint, status: u8) {
     }
 }
 
-/// What the words ask for, over the real files and standard output.
-#[derive(Drop)]
-struct Run<'a, R: Files + Print + AllocGlobal> {
-    rt: &'a R,
-    words: &'a [String],
+/// Carries out what the words ask for, over the real files and standard output, on an engine with an index of each kind. Answers the
+/// exit status.
+fn run_over<B: PathIndex>(
+    rt: &(impl Files + Print + AllocGlobal),
+    words: &[String],
+    engine: &mut Engine<B>,
+) -> u8
+    requires kinds { kinds_of (seen B.meaning engine.old).boxes ≡ Kind.A ∷ Kind.One ∷ Kind.Fb ∷ [] }
+    requires closed { engine.old.opened ≡ None }
+    requires sound { IsSound (seen B.meaning engine.old) }
+{
+    let mut shelf = HostShelf::new(rt);
+    let mut sink = HostSink::new(rt);
+    run(rt.alloc(), words, engine, &mut shelf, &mut sink)
 }
 
-impl<'a, R: Files + Print + AllocGlobal> EngineTask for Run<'a, R> {
-    ghost use Rattle.std.specs.Prelude.{⊤};
-
-    type Output = u8;
-
-    // `run` says what the status is by what files and output tell of themselves, and real ones tell nothing.
-    ghost gives = { λ _ _. ⊤ };
-
-    fn carry_out(self, alloc: Global, engine: &mut Engine) -> u8 {
-        let mut shelf = HostShelf::new(self.rt);
-        let mut sink = HostSink::new(self.rt);
-        run(alloc, self.words, engine, &mut shelf, &mut sink)
-    }
-}
-
-/// Carries out what the words ask for, on an engine with an index of each kind, and answers the exit status.
+/// The same, on an engine of its own. `Memory` comes only where there is none for a box, and then the run isn't begun.
 fn run_words(rt: &(impl Files + Print + AllocGlobal), words: &[String]) -> Result<u8, Memory> {
-    with_full_engine(rt.alloc(), Run { rt, words })
+    let alloc = rt.alloc();
+    let mut boxes: Vec<Box<dyn PathIndex>> = Vec::new(alloc);
+    boxes.push(Box::new(alloc, AkIndex::new(alloc)?)?)?;
+    boxes.push(Box::new(alloc, OneKept::new(alloc)?)?)?;
+    boxes.push(Box::new(alloc, FbIndex::new(alloc)?)?)?;
+    let mut engine = Engine::new(boxes);
+    let status = run_over(rt, words, &mut engine);
+    Ok(status)
 }
 
 fn main(rt: HostRuntime) -> ExitCode {
