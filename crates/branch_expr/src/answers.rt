@@ -32,6 +32,6 @@ pub fn eval<G: Digraph>(
         intersect(&mut set, &reached);
     }
     // Called for its contract: the members rise.
-    let _for_proof = set.size();
+    let _known = set.size();
     Ok(set)
 }

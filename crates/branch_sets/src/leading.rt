@@ -31,8 +31,8 @@ fn members(alloc: Global, set: &Bits) -> Result<Vec<u32>, Memory>
     ensures { IfOk result (λ l. HasJust l.items (IsMember set.now.members)) }
 {
     let mut list = Vec::new(alloc);
-    // The members are below the size, which this call says.
-    let _for_proof = set.size();
+    // Called for its contract: the members are below the size.
+    let _known = set.size();
     let mut from = 0;
     while let Some(n) = set.next_from(from) {
         list.push(n)?;
@@ -61,8 +61,8 @@ fn near<G: Digraph>(alloc: Global, g: &G, set: &Bits) -> Result<Bits, Memory>
     ensures image { IfOk result (λ b. HasJust b.members (HasParent (G.edge g.now) (IsMember set.now.members))) }
 {
     let mut image = Bits::new(alloc, g.size())?;
-    // The members are below the size, which this call says.
-    let _for_proof = set.size();
+    // Called for its contract: the members are below the size.
+    let _known = set.size();
     let mut from = 0;
     while let Some(n) = set.next_from(from) {
         insert_children(g, n, &mut image);

@@ -26,8 +26,8 @@ pub fn intersect(set: &mut Bits, other: &Bits)
     ensures size { set.new.size ≡ set.old.size }
     ensures members { Keeps set.old.members set.new.members (IsMember other.now.members) }
 {
-    // The members are below the size, which this call says.
-    let _for_proof = set.size();
+    // Called for its contract: the members are below the size.
+    let _known = set.size();
     let mut from = 0;
     while let Some(n) = set.next_from(from) {
         remove_unless(set, n, other.contains(n));
@@ -41,8 +41,8 @@ pub fn unite(set: &mut Bits, other: &Bits)
     ensures size { set.new.size ≡ set.old.size }
     ensures members { Gains set.old.members set.new.members (IsMember other.now.members) }
 {
-    // The members are below the size, which this call says.
-    let _for_proof = other.size();
+    // Called for its contract: the members are below the size.
+    let _known = other.size();
     let mut from = 0;
     while let Some(n) = other.next_from(from) {
         set.insert(n);
@@ -55,8 +55,8 @@ pub fn subtract(set: &mut Bits, gone: &Bits)
     ensures size { set.new.size ≡ set.old.size }
     ensures members { Loses set.old.members set.new.members (IsMember gone.now.members) }
 {
-    // The members are below the size, which this call says.
-    let _for_proof = set.size();
+    // Called for its contract: the members are below the size.
+    let _known = set.size();
     let mut from = 0;
     while let Some(n) = set.next_from(from) {
         remove_unless(set, n, !gone.contains(n));

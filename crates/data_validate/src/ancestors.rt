@@ -52,8 +52,8 @@ fn note_nodes<G: Digraph>(
     ensures size { met.new.size ≡ met.old.size }
     ensures noted { OnOk result (IsNoted (is_node_of (G.label_at g.now) set.now.members) met.old.members found.old.items met.new.members found.new.items) }
 {
-    // Members are below the set's size, which this call says.
-    let _for_proof = set.size();
+    // Called for its contract: members are below the set's size.
+    let _known = set.size();
     let mut from = 0;
     'members: while let Some(n) = set.next_from(from) {
         note_if(met, found, n, g.is_node(n))?;

@@ -26,8 +26,8 @@ fn answering_blocks(
     requires labelled { (b l : ℕ) → at summary.now.blocks.labels b ≡ Some l → l < length labels.now.texts }
     ensures { IfOk result (λ b. AreQueryAnswers (shape_of_view labels.now.texts (view_of summary.now)) (form_of whole (query_of q.now)) b.members) }
 {
-    // As a graph the summary is the index graph, which this call says.
-    let _for_proof = summary.blocks();
+    // Called for its contract: as a graph the summary is the index graph.
+    let _known = summary.blocks();
     if whole {
         q.answers(alloc, summary, labels)
     } else {
@@ -56,8 +56,8 @@ fn extents(alloc: Global, summary: &Summary, blocks: &Bits) -> Result<Bits, Memo
     ensures rising { IfOk result (λ set. IsStrictlyIncreasing set.members) }
     ensures members { IfOk result (λ set. (n : ℕ) → has set.members n ≡ is_in_blocks blocks.now.members (at summary.now.blocks.block_of n)) }
 {
-    // The blocks are below the size, which this call says.
-    let _for_proof = blocks.size();
+    // Called for its contract: the blocks are below the size.
+    let _known = blocks.size();
     let mut set = Bits::new(alloc, summary.numbers())?;
     let mut from = 0;
     while let Some(b) = blocks.next_from(from) {

@@ -21,8 +21,8 @@ pub fn eval<G: Digraph>(alloc: Global, g: &G, labels: &Labels, expr: &Expr) -> R
     ensures size { IfOk result (λ b. b.size ≡ G.span g.now) }
     ensures answers { IfOk result (λ b. AreAnswers (shape_through G.Digraph labels.now g.now) expr.now b.members) }
 {
-    // The labels are distinct, which this call says.
-    let _for_proof = labels.len();
+    // Called for its contract: the labels are distinct.
+    let _known = labels.len();
     let mut program = Program::new(alloc)?;
     let start = compile_trimmed(labels, &mut program, expr, 0)?;
     let places = [g.size()];
@@ -43,8 +43,8 @@ pub fn eval_within<G: Digraph>(
     ensures size { IfOk result (λ b. b.size ≡ G.span g.now) }
     ensures answers { IfOk result (λ b. AreAnswers (part_of (has set.now.members) (shape_through G.Digraph labels.now g.now)) expr.now b.members) }
 {
-    // The labels are distinct, which this call says.
-    let _for_proof = labels.len();
+    // Called for its contract: the labels are distinct.
+    let _known = labels.len();
     let mut program = Program::new(alloc)?;
     let start = compile_trimmed(labels, &mut program, expr, 0)?;
     let places = [g.size()];

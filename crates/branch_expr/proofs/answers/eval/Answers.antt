@@ -29,7 +29,7 @@ returns-clause-answers g c =
     let hs = c.query.inside.rest.items in
     let all = subst (λ y. IsSetOf label_at c.loop-j.set.members (λ v. (u : ℕ) × Meets s first u × Ends s (chain_of y) u v)) (take_all c.loop-j.j hs (omega arith)) c.loop-j.invariant.holds in
     subst (λ t. AreBranchAnswers s t c.loop-j.set.members) c.query.view_is (record {
-      rising = c.size-for_proof.ensures.rising;
+      rising = c.size-known.ensures.rising;
       sound = λ v h. ((all v).0 h).1;
       complete = λ v a.
           (all v).1 (end_node label_at s (g.met.G.Digraph.ends c.args.g.now) (λ n h. node_label (λ l. slice_get texts l) (label_at n) h) first (chain_of hs) a.0 v a.1 a.2, a);

@@ -6,13 +6,13 @@ use Rattle.data_validate.proofs.ancestors.note_nodes.Goals as goal
 
 pub overflow_add-from : goal.overflow_add-from
 overflow_add-from g c =
-    let below : c.in-Some.n < c.args.set.now.size = c.size-for_proof.ensures.below c.in-Some.n c.in-Some.ensures.next.member in
-    let small = c.size-for_proof.ensures.small in
+    let below : c.in-Some.n < c.args.set.now.size = c.size-known.ensures.below c.in-Some.n c.in-Some.ensures.next.member in
+    let small = c.size-known.ensures.small in
     omega (arith, below, small)
 
 pub members-smaller : goal.members-smaller
 members-smaller g c =
-    let below : c.in-Some.n < c.args.set.now.size = c.size-for_proof.ensures.below c.in-Some.n c.in-Some.ensures.next.member in
+    let below : c.in-Some.n < c.args.set.now.size = c.size-known.ensures.below c.in-Some.n c.in-Some.ensures.next.member in
     let from = c.in-Some.ensures.next.from in
     omega (arith, below, from)
 
@@ -22,7 +22,7 @@ members-preserved g c =
     let is_node : ℕ → Bool = λ m. is_some (g.G.Digraph.label_at c.args.g.now m) in
     let n = c.in-Some.n in
     let from = c.members.from in
-    let below : n < c.args.set.now.size = c.size-for_proof.ensures.below n c.in-Some.ensures.next.member in
+    let below : n < c.args.set.now.size = c.size-known.ensures.below n c.in-Some.ensures.next.member in
     record {
       within = omega (arith, below);
       size = c.note_if.ensures.size ∙ c.members.invariant.size;

@@ -7,10 +7,10 @@ use Rattle.index_eval.proofs.summary_answers.answering_blocks.Goals as goal
 
 pub returns-then-whole : goal.returns-then-whole
 returns-then-whole c =
-    let shape = c.blocks-for_proof.ensures.shape c.args.labels.now.texts in
+    let shape = c.blocks-known.ensures.shape c.args.labels.now.texts in
     rw c.if-whole.true (subst (λ (s : Shape). IfOk c.answers.result (λ (b : BitSet). AreQueryAnswers s (query_of c.args.q.now) b.members)) shape c.answers.ensures.answers)
 
 pub returns-else-whole : goal.returns-else-whole
 returns-else-whole c =
-    let shape = c.blocks-for_proof.ensures.shape c.args.labels.now.texts in
+    let shape = c.blocks-known.ensures.shape c.args.labels.now.texts in
     rw c.if-whole.false (subst (λ (s : Shape). IfOk c.relaxed_answers.result (λ (b : BitSet). AreQueryAnswers s (relaxed (query_of c.args.q.now)) b.members)) shape c.relaxed_answers.ensures.answers)

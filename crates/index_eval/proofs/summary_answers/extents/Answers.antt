@@ -20,7 +20,7 @@ loop-b-preserved c =
     let blocks = c.args.blocks.now.members in
     let block = c.args.summary.now.blocks.block_of in
     let b = c.in-Some.b in
-    let below : b < c.args.blocks.now.size = c.size-for_proof.ensures.below b c.in-Some.ensures.next.member in
+    let below : b < c.args.blocks.now.size = c.size-known.ensures.below b c.in-Some.ensures.next.member in
     record {
       within = omega arith;
       size = c.add_extent.ensures.size ∙ c.loop-b.invariant.size;

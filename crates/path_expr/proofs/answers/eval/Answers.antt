@@ -25,5 +25,5 @@ returns-clause-answers g c =
     IfOk-weaker c.search.result (λ b. AreEnds at span label_at edge First start b.members) _
     (λ b h. (answers_trimmed (shape_by texts span label_at edge) c.args.expr.now b.members).0
     (ends_answers texts at span label_at edge
-    (record { distinct = c.len-for_proof.ensures.distinct; labelled = c.requires.labelled; below = g.met.G.Digraph.below c.args.g.now; ends = g.met.G.Digraph.ends c.args.g.now })
+    (record { distinct = c.len-known.ensures.distinct; labelled = c.requires.labelled; below = g.met.G.Digraph.below c.args.g.now; ends = g.met.G.Digraph.ends c.args.g.now })
     (trimmed c.args.expr.now) (length c.in_ok-program.program) start c.in_ok-start.ensures.stands end First (one_there span c.size.result (c.size.ensures)) (λ v f. one_only span c.size.result v c.size.ensures f) b.members h)) c.search.ensures.ends

@@ -25,7 +25,7 @@ returns-clause-answers g c =
     let start = c.in_ok-start.start in
     let made = c.in_ok-program.ensures in
     let end = c.in_ok-start.ensures.grows.kept 0 End (ap (λ p. slice_get p 0) made) in
-    let tabled : IsTabled texts span label_at edge = record { distinct = c.len-for_proof.ensures.distinct; labelled = c.requires.labelled; below = g.met.G.Digraph.below c.args.g.now; ends = g.met.G.Digraph.ends c.args.g.now } in
+    let tabled : IsTabled texts span label_at edge = record { distinct = c.len-known.ensures.distinct; labelled = c.requires.labelled; below = g.met.G.Digraph.below c.args.g.now; ends = g.met.G.Digraph.ends c.args.g.now } in
     IfOk-weaker c.search_within.result (λ b. AreEnds at span (label_in keeps label_at) (edge_in keeps edge) First start b.members) _
     (λ b h. (answers_trimmed (part_of keeps (shape_by texts span label_at edge)) c.args.expr.now b.members).0
     (answers_of_part texts span label_at edge keeps (trimmed c.args.expr.now) b.members
