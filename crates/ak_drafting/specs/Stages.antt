@@ -44,7 +44,7 @@ pub record HasSameKeys (q : KeyedQuotient) (d : KeyedChanges) : Type 0 where
 abbrev pub KeyHasLabel : (ℕ → Option (List ℕ)) → List (Option ℕ) → List ℕ → ℕ → Type 0
 KeyHasLabel keys labels key label = (b : ℕ) → keys b ≡ Some key → at labels b ≡ Some label
 
--- an edge leads from the block of u to that of v
+-- where both nodes have blocks, that of u has support to that of v
 abbrev pub AreSupported : KeyedQuotient → ℕ → ℕ → Type 0
 AreSupported q u v = (x y : ℕ) → at q.quotient.blocks.block_of u ≡ Some x → at q.quotient.blocks.block_of v ≡ Some y → 0 < support_at q.quotient.supports x y
 

@@ -76,7 +76,7 @@ ShowsBlock f i old new label key b = HasBlock label key b (labels_shown f old i)
 abbrev pub SupportRises : List KeyedQuotient → ℕ → List KeyedChanges → List KeyedChanges → ℕ → ℕ → Type 0
 SupportRises f i old new a b = (x y : ℕ) → support_shown f new i x y ≡ support_shown f old i x y + one_if (nat_eq x a && nat_eq y b)
 
--- one edge fewer does
+-- one edge fewer leads from block a to block b of a level, and no other pair has changed
 abbrev pub SupportFalls : List KeyedQuotient → ℕ → List KeyedChanges → List KeyedChanges → ℕ → ℕ → Type 0
 SupportFalls f i old new a b = (x y : ℕ) → support_shown f new i x y + one_if (nat_eq x a && nat_eq y b) ≡ support_shown f old i x y
 

@@ -9,7 +9,7 @@ use Rattle.upkeep_spec.specs.Supported.{AreEdgeCounts}
 abbrev pub with_column : ℕ → ℕ → (ℕ → ℕ → ℕ) → ℕ → ℕ → ℕ
 with_column a b support x y = if nat_eq y b then 0 else (if nat_eq y a then support x a + support x b else support x y)
 
--- for each first block that passes, the support to b is added to that to a; all other supports stay
+-- for each first block that passes, the support to b goes over to a: it is added there, and none is left to b; all other supports stay
 abbrev pub AddsColumn : (ℕ → Bool) → ℕ → ℕ → (ℕ → ℕ → ℕ) → (ℕ → ℕ → ℕ) → Type 0
 AddsColumn passes a b support support2 = (u v : ℕ) → support2 u v ≡ (if passes u then with_column a b support u v else support u v)
 
@@ -17,7 +17,7 @@ AddsColumn passes a b support support2 = (u v : ℕ) → support2 u v ≡ (if pa
 abbrev pub with_row : ℕ → ℕ → (ℕ → ℕ → ℕ) → ℕ → ℕ → ℕ
 with_row a b support x y = if nat_eq x b then 0 else (if nat_eq x a then support a y + support b y else support x y)
 
--- for each second block that passes, the support from b is added to that from a; all other supports stay
+-- for each second block that passes, the support from b goes over to a: it is added there, and none is left from b; all other supports stay
 abbrev pub AddsRow : (ℕ → Bool) → ℕ → ℕ → (ℕ → ℕ → ℕ) → (ℕ → ℕ → ℕ) → Type 0
 AddsRow passes a b support support2 = (u v : ℕ) → support2 u v ≡ (if passes v then with_row a b support u v else support u v)
 

@@ -11,7 +11,9 @@ abbrev pub FitsWithSupports : Graph → Partition → Type 0
 FitsWithSupports g p = (supports : SupportTable) → ((a b : ℕ) → support_at supports a b ≡ edges_between g.edges p.block_of a b)
     → ViewFits g (record { block_of = p.block_of; labels = p.labels; supports = supports })
 
--- where each block had the label of its members and a member, it has them still
+-- what each block had of these two, each has still
 pub record StayIndexBlocks (g : Graph) (old new : Partition) : Type 0 where
+  -- where each block had the label of its members, each has it
   pub labelled : AreLabelled g old → AreLabelled g new
+  -- where each block had a member, each has one
   pub inhabited : AreInhabited old → AreInhabited new

@@ -39,7 +39,9 @@ pub record BothSidesWait (g : Graph) (block : List (Option ℕ)) (parents childr
 
 -- nodes of the graph, in a set for all its numbers
 pub record AreWaiting (g : Graph) (waiting : NodeList) : Type 0 where
+  -- those that wait are nodes
   pub nodes : AreNodes g waiting.nodes
+  -- the set has a place for each number of the graph
   pub size : waiting.size ≡ length g.given
 
 -- a step both ways: what waited on this side and on the other, and what waits there next
@@ -47,13 +49,16 @@ abbrev pub IsStepOn : Graph → Side → List (Option ℕ) → List (Option ℕ)
 IsStepOn g side old new own other own2 other2 =
     IsStep g both_sides old new (by_side side (has own.nodes) (has other.nodes)) (by_side side (has own2.nodes) (has other2.nodes))
 
--- there are more blocks than before, or no node waits on this side, and on the other the same wait
+-- there are more blocks than before; or there are no fewer, no node waits on this side, and on the other the same wait
 abbrev pub HasMoreOrSettles : Partition → Partition → NodeList → NodeList → NodeList → Type 0
 HasMoreOrSettles old new own2 other other2 =
     ((own2.nodes ≡ []) × ((m : ℕ) → has other2.nodes m ≡ has other.nodes m) × (block_count old ≤ block_count new)) ⊎ (block_count old < block_count new)
 
 -- a partition of the graph, and a table with a group for each of its numbers
 pub record CanRefine (g : Graph) (block : List (Option ℕ)) (groups : ℕ) : Type 0 where
+  -- what is seen is a graph
   pub graph : IsGraph g
+  -- exactly its nodes have a block
   pub partition : IsPartition (shape_of g) block
+  -- there is a group for each of its numbers
   pub room : length g.given ≤ groups

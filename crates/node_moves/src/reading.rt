@@ -39,6 +39,7 @@ pub(crate) fn read_children<L: Ledger>(
     ensures few { length (graph_after after.now).given ≤ 2 ^ 30 }
     ensures cost { steps.new ≤ steps.old + children_cost after.now n }
 {
+    // Called for its contract: there is a graph, so that the children are among its nodes.
     let _known = after.created();
     fill(list, after.children(n, steps))
 }

@@ -94,7 +94,7 @@ pub record AreSupportsAlone (d : Drafted) : Type 0 where
 pub record ShowsStable (g : Graph) (q : Quotient) (d : Drafted) : Type 0 where
   -- the draft was begun over this base
   pub over : IsOver q.blocks.block_of q.blocks.labels d
-  -- the members of a block have one label, and parents in the same blocks
+  -- exactly the nodes have a block; the members of a block have one label, and parents in the same blocks
   pub stable : Stable (shape_of g) (shown_blocks q d)
   -- each node's block has the label of the node
   pub named : AreNamed (shown_blocks q d) (at (shown_labels q d)) (label_number g)
@@ -105,20 +105,20 @@ pub record ShowsStable (g : Graph) (q : Quotient) (d : Drafted) : Type 0 where
 pub record ShowsStableBut (g : Graph) (t : ℕ) (q : Quotient) (d : Drafted) : Type 0 where
   -- the draft was begun over this base
   pub over : IsOver q.blocks.block_of q.blocks.labels d
-  -- the members of a block have one label, and parents in the same blocks, but for the target
+  -- exactly the nodes have a block; the members of a block have one label, and parents in the same blocks, but for the target
   pub stable : StableBut (shape_of g) (shown_blocks q d) (has (t ∷ []))
   -- each node's block has the label of the node, but for the target
   pub named : AreNamedOff (has (t ∷ [])) (shown_blocks q d) (at (shown_labels q d)) (label_number g)
   -- the support of a pair of blocks is the number of edges from the first to the second
   pub supports : AreEdgeCounts g (shown_blocks q d) (shown_support q d)
 
--- The base was the 1-index of the graph before the change, and the draft shows each node of both graphs in its old block.
+-- The base was a minimal 1-index of the graph before the change, and the draft shows each node of both graphs in its old block.
 pub record KeepsMinimal (a : Pending) (q : Quotient) (d : Drafted) : Type 0 where
   -- the partition of the base was stable before the change
   pub stable : Stable (shape_of a.before) q.blocks.block_of
   -- no two of its blocks could be merged
   pub minimal : Minimal (shape_of a.before) q.blocks.block_of
-  -- two nodes of both graphs are together as shown exactly where they were in the base
+  -- what is a node of both graphs is shown in the block that it has in the base
   pub keeps : KeepsBlocks (shape_of a.before) (shape_of (graph_after a)) q.blocks.block_of (shown_blocks q d)
 
 -- the block of each of these nodes is listed

@@ -57,11 +57,14 @@ meaning_of (Some k) = record { kind = One; views = views_of k.base; staged = sta
 
 -- what is kept: a draft that can be settled, or none, and the blocks without other parents, those of the base and those as shown
 pub record IsSoundKept (base : Quotient) (draft : Drafted) (staged : Bool) (noted : RootLists) : Type 0 where
+  -- a staged draft can be settled, else nothing is drafted
   pub kept : IsKeptDraft base draft staged
+  -- the base's roots are noted
   pub roots : CoversBase base noted
+  -- the roots as shown are noted
   pub shown : CoversShown base draft noted
 
--- the view has the partition that the upkeep of a 1-index makes of that of the base
+-- the upkeep of a 1-index leads from the partition of the base to that of the view
 abbrev pub IsNextOf : Graph → Change → Quotient → View → Type 0
 IsNextOf g c base v = OneStep g base.blocks.block_of c (after c g) v.block_of
 

@@ -23,7 +23,7 @@ IsRoot support b = (a : ℕ) → a ≢ b → support a b ≡ 0
 abbrev pub NotesRoot : (ℕ → Option ℕ) → (ℕ → ℕ → ℕ) → RootLists → ℕ → Type 0
 NotesRoot labels support roots b = (label : ℕ) → labels b ≡ Some label → IsRoot support b → IsNoted roots label b
 
--- and so for each block of a list
+-- each block of the list that has a label, and to which no other block has support, is noted
 abbrev pub NotesRoots : (ℕ → Option ℕ) → (ℕ → ℕ → ℕ) → RootLists → List ℕ → Type 0
 NotesRoots labels support roots list = (b label : ℕ) → IsTrue (has list b) → labels b ≡ Some label → IsRoot support b → IsNoted roots label b
 

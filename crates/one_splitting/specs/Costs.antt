@@ -18,7 +18,7 @@ pub data HasCost (w made spent : ℕ) (next : List ℕ) : Type 0 where
   going : spent ≤ made * (3 * w + 3) → HasCost w made spent next
   ended : next ≡ [] → 3 ≤ w → spent ≤ (made + 1) * (3 * w + 3) → HasCost w made spent next
 
--- a block was made, or no step was taken
+-- a block was made, or none was made and no step was taken
 abbrev pub IsCharged : List ℕ → List ℕ → ℕ → ℕ → Type 0
 IsCharged made made2 steps steps2 = (length made < length made2) ⊎ ((length made2 ≡ length made) × (steps2 ≡ steps))
 

@@ -42,21 +42,31 @@ pub record IsRound (a : Pending) (base : Quotient) (d d2 : Drafted) (nodes made 
 
 -- the draft has further blocks, and all else is as it was
 pub record ExtendsDraft (base : Quotient) (d d2 : Drafted) : Type 0 where
+  -- the draft fits the base
   pub over : IsOver base.blocks.block_of base.blocks.labels d2
+  -- nodes are in the blocks in which they were
   pub stay : shown_blocks base d2 ≡ shown_blocks base d
+  -- each pair has its support
   pub supports : (x y : ℕ) → shown_support base d2 x y ≡ shown_support base d x y
+  -- each block has its label
   pub kept : LabelsStay (at (shown_labels base d)) (at (shown_labels base d2))
 
 -- nodes of the graph, each once
 pub record AreLiveNodes (g : Graph) (nodes : List ℕ) : Type 0 where
+  -- each is a node
   pub there : (n : ℕ) → IsTrue (has nodes n) → IsTrue (is_live g n)
+  -- none is listed twice
   pub once : IsDistinct nat_eq nodes
 
 -- The draft shows a partition of the graph after the change, with the numbers of edges.
 pub record ShowsPartition (a : Pending) (base : Quotient) (d : Drafted) : Type 0 where
+  -- the draft fits the base
   pub over : IsOver base.blocks.block_of base.blocks.labels d
+  -- edges lead from nodes to nodes
   pub shape : IsShape (shape_of (graph_after a))
+  -- exactly the nodes have a block
   pub partition : IsPartition (shape_of (graph_after a)) (shown_blocks base d)
+  -- supports are numbers of edges
   pub supports : AreEdgeCounts (graph_after a) (shown_blocks base d) (shown_support base d)
 
 -- where a group goes, it goes to a block that was none before it was drafted, as `GoesIf` says

@@ -250,19 +250,23 @@ fn all_is_written_in_pieces(rt: HostRuntime) -> Result<(), Fail> {
 }
 
 // A count takes no bytes, so no code can read it: the contract says what is counted, and the check of the tests proves it.
-fn three_steps<L: Ledger>(blank: Blank) -> Steps<L>
+fn add_three<L: Ledger>(steps: &mut Steps<L>)
+    ensures { steps.new ≡ steps.old + 3 }
+{
+    steps.tick();
+    steps.tick_by(2);
+}
+
+fn three_steps<L: Ledger>(blank: Blank)
     requires name { blank.name ≡ L.name }
     requires parts { blank.parts ≡ L.parts }
     requires some { 0 < blank.parts }
-    ensures { result ≡ 3 }
 {
     let mut steps = Steps::<L>::new(blank);
-    steps.tick();
-    steps.tick_by(2);
-    steps
+    add_three(&mut steps);
 }
 
 #[test]
 fn steps_are_counted(_rt: HostRuntime) {
-    let _steps = three_steps::<Brand>(Blank::new(1));
+    three_steps::<Brand>(Blank::new(1));
 }

@@ -79,7 +79,7 @@ RaisesPair a b support support2 = (x y : ℕ) → support2 x y ≡ support x y +
 abbrev pub LowersPair : ℕ → ℕ → (ℕ → ℕ → ℕ) → (ℕ → ℕ → ℕ) → Type 0
 LowersPair a b support support2 = (x y : ℕ) → support2 x y + one_if (nat_eq x a && nat_eq y b) ≡ support x y
 
--- the second list has one pair more, where there is one that passes
+-- the second list has each pair that passes once more than the first, and all others as often
 abbrev pub AddsPairIf : (ℕ → ℕ → Bool) → List (ℕ × ℕ) → List (ℕ × ℕ) → Type 0
 AddsPairIf passes pairs pairs2 = (x y : ℕ) → pairs_with pairs2 x y ≡ pairs_with pairs x y + one_if (passes x y)
 
