@@ -29,6 +29,7 @@ HasNoRel ts = (a : tree.Axis) (s : tree.Step) (ch : tree.Chain) (r : List Token)
 abbrev pub HasNoUnit : List Token → Type 0
 HasNoUnit ts = (c : tree.Cond) (r : List Token) → ts ≡ cond_onto c r → ⊥
 
+-- a condition, before what may follow a chain
 abbrev pub HasNoCond : List Token → Type 0
 HasNoCond ts = (c : tree.Cond) (r : List Token) → EndsChain r → ts ≡ cond_onto c r → ⊥
 
@@ -42,5 +43,6 @@ HasNoOr ts = (o : tree.Or) (r : List Token) → EndsOr r → ts ≡ or_onto o r 
 abbrev pub EndsUnitBefore : List Token → List Token → Type 0
 EndsUnitBefore ts rest = (c : tree.Cond) (r : List Token) → ts ≡ cond_onto c r → r ≡ rest
 
+-- the same, before what may follow a chain
 abbrev pub EndsCondBefore : List Token → List Token → Type 0
 EndsCondBefore ts rest = (c : tree.Cond) (r : List Token) → EndsChain r → ts ≡ cond_onto c r → r ≡ rest

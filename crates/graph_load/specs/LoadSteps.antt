@@ -47,7 +47,7 @@ LoadsAhead limits (Some text) p o = LoadsFrom limits (cut text) p o
 abbrev pub place : ReaderState → LoadState → Place
 place r l = record { state = l; lines = r.number; bytes = r.taken }
 
--- the rest of the text, which the reader and the shelf have, loads to this behind what was loaded, where that has no triple
+-- what the reader and the shelf have left loads to this outcome from the loader on, where no triple waits
 abbrev pub LoadsRest : Limits → ReaderState → Option (List ℕ) → Loader → (Outcome → Type 0)
 LoadsRest limits r left loader = LoadsAhead limits (stream r left) (place r (load_state loader []))
 

@@ -67,7 +67,7 @@ impl Predicates {
     fn is_at(&self, place: u32, iri: &Text) -> bool
         ensures { result ≡ true → position (bytes_eq iri.now) self.now ≡ Some place }
     {
-        // The predicates are distinct, which this call says.
+        // Called for its contract: the predicates are distinct.
         let _known = self.table.len();
         match self.table.get_index(place as usize) {
             Some((text, _)) => *text == *iri,

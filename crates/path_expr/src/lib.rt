@@ -1,5 +1,7 @@
 //! Path expressions as trees: the automata that read their words, their answers over any graph, and their longest
 //! words.
+//!
+//! A law in `proofs/`: the recursion `longest` gives the longest matching word (`longest_is`).
 #![tactic(auto)]
 
 mod answers;

@@ -37,6 +37,7 @@ NextOfWithin G g keeps test places c = NextOf (G.span g) (label_in keeps (G.labe
 abbrev pub IsPlaceWithin : {A : Type 0} → Digraph A → A → (ℕ → Bool) → ℕ → Type 0
 IsPlaceWithin G g keeps v = IsPlace (G.span g) (label_in keeps (G.label_at g)) v
 
+-- each is a node that the test keeps, or the place before all nodes
 abbrev pub ArePlacesWithin : {A : Type 0} → Digraph A → A → (ℕ → Bool) → List ℕ → Type 0
 ArePlacesWithin G g keeps places = (v : ℕ) → IsTrue (has places v) → IsPlaceWithin G g keeps v
 
@@ -53,6 +54,7 @@ abbrev pub StaysInside : {A : Type 0} → Digraph A → A → (ℕ → Bool) →
 StaysInside G g keeps states state places =
     (s c : ℕ) → SucceedsWithin G g keeps states state places s c → (s < length states) × IsPlaceWithin G g keeps c
 
+-- the same as `AreEndsFrom`, over the nodes that the test keeps and the edges between them
 abbrev pub AreEndsWithin : {A : Type 0} → Digraph A → A → (ℕ → Bool) → List State → ℕ → List ℕ → List ℕ → Type 0
 AreEndsWithin G g keeps states start places nodes =
     AreEnds (state_at states) (G.span g) (label_in keeps (G.label_at g)) (edge_in keeps (G.edge g)) (λ v. IsTrue (has places v)) start nodes

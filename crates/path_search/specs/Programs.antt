@@ -7,7 +7,7 @@ use Rattle.path_search.specs.declared.state.State.TheVariants.{End, Stuck, Any, 
 abbrev pub state_at : List State → ℕ → Option State
 state_at states k = slice_get states k
 
--- a word ends in the state
+-- it is the state in which words end
 abbrev pub IsEnd : List State → ℕ → Type 0
 IsEnd states k = state_at states k ≡ Some End
 

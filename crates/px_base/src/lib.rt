@@ -1,8 +1,8 @@
 //! What every layer uses: texts, sets of small numbers, a cache of numbers, counts of steps, files and
 //! streams as traits with one version of each in memory, and the lines of a file.
 //!
-//! A contract names bytes only of a shelf or sink that exposes them (an `Option`). A failed call raises that count of faults, which stays
-//! at the last value of 64 bits; a call that works leaves it.
+//! A contract names bytes only of a shelf or sink that exposes them (an `Option`). A failed call raises the count of faults of its shelf or
+//! sink, which stays at the last value of 64 bits; a call that works leaves it.
 #![tactic(auto)]
 
 mod allocation;
