@@ -1,4 +1,4 @@
-//! Tests of the engine over boxes, also over some that find no memory, and of the 1-index by itself.
+//! Tests of the engine over any type of index, also over boxes one of which finds no memory, and of the 1-index by itself.
 #![tactic(auto)]
 
 #[cfg(test)]

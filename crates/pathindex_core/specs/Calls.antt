@@ -48,30 +48,30 @@ pub record IsAsked (e f : EngineSeen) : Type 0 where
   -- which indexes are kept, and the blocks of the 1-index, stay
   pub kept : kept_in f ≡ kept_in e
 
--- The blocks of an index were listed so. The counts are those of what was read of the graph, before and after.
+-- What a call of `extents` answers, computes and reads. The last two numbers count what was read of the graph, before and after.
 pub record IsListed (e f : EngineSeen) (via : Via) (result : Result (List ℕ) AskError) (before after : ℕ) : Type 0 where
   -- the text is the list of the blocks, each with its nodes
   pub text : IfOk result (ListsIndex (graph_in e.opened) (kept_in e) via)
-  -- the index isn't kept
+  -- `NoIndex` comes exactly where the index isn't kept
   pub no_index : (result ≡ Err NoIndex) ↔ (is_kept (kept_in e) via ≡ false)
-  -- the view of the forward and backward index is computed afterwards, where that one is listed
+  -- unless an error comes, the view of the forward and backward index is computed afterwards, where that one is listed
   pub computed : via ≡ Fb → OnOk result (IsFbComputed f.boxes)
-  -- and no view is, where another one is listed
+  -- where another one is listed, every index stays as it is
   pub others : via ≢ Fb → f.boxes ≡ e.boxes
   -- of the graph one view at most is read
   pub cost : after ≤ after_view before (graph_in e.opened)
   -- nothing, where it isn't the forward and backward index that is listed
   pub free : via ≢ Fb → after ≡ before
-  -- nor where this one is computed already
+  -- nor where its view is computed already, or isn't kept
   pub still : IsFbComputed e.boxes → after ≡ before
 
--- The sizes of the graph and of the indexes were listed so. The counts are as above.
+-- What a call of `sizes` answers, computes and reads. The last two numbers count what was read of the graph, before and after.
 pub record IsMeasured (e f : EngineSeen) (result : Result (List ℕ) Memory) (before after : ℕ) : Type 0 where
   -- the text is the list of the sizes
   pub text : IfOk result (ListsSizes (graph_in e.opened) (kept_in e))
-  -- the view of the forward and backward index is computed afterwards, where that one is kept
+  -- unless memory runs out, the view of the forward and backward index is computed afterwards, where that one is kept
   pub computed : OnOk result (IsFbComputed f.boxes)
   -- of the graph one view at most is read
   pub cost : after ≤ after_view before (graph_in e.opened)
-  -- nothing, where that view is computed already
+  -- nothing, where that index isn't kept or its view is computed already
   pub still : IsFbComputed e.boxes → after ≡ before
