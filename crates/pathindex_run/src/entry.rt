@@ -9,6 +9,7 @@ ghost use Rattle.pathindex_core.specs.Engines.{IsSound, seen};
 ghost use Rattle.script_run.specs.EngineStates.{state_of, IsOpen, IsIn};
 ghost use Rattle.script_run.specs.States.{BeginsRun, left_out};
 ghost use Rattle.pathindex_run.specs.Headline.{Meets, HasStatus, Completes, NamesScript, NoFault, kinds_for};
+ghost use Rattle.pathindex_run.specs.StatusCodes.{code_of};
 ghost use Rattle.pathindex_run.specs.ToldFiles.{BeginsTold};
 
 use crate::made::run_made;
@@ -69,11 +70,37 @@ pub fn run<B: PathIndex, H: Shelf, K: Sink>(
     ensures files { H.files shelf.new ≡ H.files shelf.old }
     ensures idle { ¬ NamesScript (form_of (map string_bytes words.now)) → shelf.new ≡ shelf.old }
 {
+    let status = run_words(alloc, words, engine, shelf, sink);
+    status.code()
+}
+
+/// Carries out what the words ask for.
+fn run_words<B: PathIndex, H: Shelf, K: Sink>(
+    alloc: Global,
+    words: &[String],
+    engine: &mut Engine<B>,
+    shelf: &mut H,
+    sink: &mut K,
+) -> Status
+    requires closed { engine.old.opened ≡ None }
+    requires sound { IsSound (seen B.meaning engine.old) }
+    ensures sound { IsSound (seen B.meaning engine.new) }
+    ensures meets { Meets (form_of (map string_bytes words.now)) (kinds_of (map B.meaning engine.old.boxes)) (H.files shelf.old) (K.written sink.old)
+        (K.written sink.new) (code_of result) (IsIn (seen B.meaning engine.new)) }
+    ensures status { HasStatus (form_of (map string_bytes words.now)) (H.files shelf.old) (H.faults shelf.old) (H.faults shelf.new)
+        (K.faults sink.old) (K.faults sink.new) (code_of result) }
+    ensures complete { Completes (form_of (map string_bytes words.now)) (H.files shelf.old) (H.faults shelf.old) (H.faults shelf.new)
+        (K.faults sink.old) (K.faults sink.new) (code_of result) }
+    ensures made { (seed : ℕ) → form_of (map string_bytes words.now) ≡ makes seed → NoFault (K.faults sink.old) (K.faults sink.new)
+        → (code_of result ≤ 1) ⊎ (code_of result ≡ 7) }
+    ensures files { H.files shelf.new ≡ H.files shelf.old }
+    ensures idle { ¬ NamesScript (form_of (map string_bytes words.now)) → shelf.new ≡ shelf.old }
+{
     match read_words(alloc, words) {
         Ok(Form::Run(settings)) => run_settings(alloc, &settings, engine, shelf, sink),
         Ok(Form::Make(seed)) => run_made(alloc, seed, engine, sink),
         Ok(Form::Neither) => show_usage(sink),
-        Err(_) => Status::NoMemory as u8,
+        Err(_) => Status::NoMemory,
     }
 }
 
@@ -84,24 +111,24 @@ fn run_settings<B: PathIndex, H: Shelf, K: Sink>(
     engine: &mut Engine<B>,
     shelf: &mut H,
     sink: &mut K,
-) -> u8
+) -> Status
     requires closed { engine.old.opened ≡ None }
     requires sound { IsSound (seen B.meaning engine.old) }
     requires level { settings.now.k ≤ 8 }
     ensures sound { IsSound (seen B.meaning engine.new) }
     ensures meets { Meets (runs (shown_settings settings.now)) (kinds_of (map B.meaning engine.old.boxes)) (H.files shelf.old) (K.written sink.old)
-        (K.written sink.new) result (IsIn (seen B.meaning engine.new)) }
+        (K.written sink.new) (code_of result) (IsIn (seen B.meaning engine.new)) }
     ensures status { HasStatus (runs (shown_settings settings.now)) (H.files shelf.old) (H.faults shelf.old) (H.faults shelf.new) (K.faults sink.old)
-        (K.faults sink.new) result }
+        (K.faults sink.new) (code_of result) }
     ensures complete { Completes (runs (shown_settings settings.now)) (H.files shelf.old) (H.faults shelf.old) (H.faults shelf.new)
-        (K.faults sink.old) (K.faults sink.new) result }
+        (K.faults sink.old) (K.faults sink.new) (code_of result) }
     ensures files { H.files shelf.new ≡ H.files shelf.old }
 {
     match settings.graph {
         Some(name) => run_loaded(alloc, settings, name, engine, shelf, sink),
         None => match Graph::new(alloc) {
             Ok(graph) => run_script(alloc, settings, graph, engine, shelf, sink),
-            Err(_) => Status::NoMemory as u8,
+            Err(_) => Status::NoMemory,
         },
     }
 }
@@ -114,27 +141,27 @@ fn run_loaded<B: PathIndex, H: Shelf, K: Sink>(
     engine: &mut Engine<B>,
     shelf: &mut H,
     sink: &mut K,
-) -> u8
+) -> Status
     requires named { option_map (λ t. t.now) settings.now.graph ≡ Some name.now }
     requires closed { engine.old.opened ≡ None }
     requires sound { IsSound (seen B.meaning engine.old) }
     requires level { settings.now.k ≤ 8 }
     ensures sound { IsSound (seen B.meaning engine.new) }
     ensures meets { Meets (runs (shown_settings settings.now)) (kinds_of (map B.meaning engine.old.boxes)) (H.files shelf.old) (K.written sink.old)
-        (K.written sink.new) result (IsIn (seen B.meaning engine.new)) }
+        (K.written sink.new) (code_of result) (IsIn (seen B.meaning engine.new)) }
     ensures status { HasStatus (runs (shown_settings settings.now)) (H.files shelf.old) (H.faults shelf.old) (H.faults shelf.new) (K.faults sink.old)
-        (K.faults sink.new) result }
+        (K.faults sink.new) (code_of result) }
     ensures complete { Completes (runs (shown_settings settings.now)) (H.files shelf.old) (H.faults shelf.old) (H.faults shelf.new)
-        (K.faults sink.old) (K.faults sink.new) result }
+        (K.faults sink.old) (K.faults sink.new) (code_of result) }
     ensures files { H.files shelf.new ≡ H.files shelf.old }
 {
     match load(alloc, shelf, name, &Limits::program()) {
         Ok(graph) => run_script(alloc, settings, graph, engine, shelf, sink),
         Err(LoadError::Syntax(line)) => show_refusal(alloc, line, "syntax", sink),
         Err(LoadError::Limit(line)) => show_refusal(alloc, line, "limit", sink),
-        Err(LoadError::Missing) => Status::NoFile as u8,
-        Err(LoadError::Fault) => Status::NoFile as u8,
-        Err(LoadError::Memory) => Status::NoMemory as u8,
+        Err(LoadError::Missing) => Status::NoFile,
+        Err(LoadError::Fault) => Status::NoFile,
+        Err(LoadError::Memory) => Status::NoMemory,
     }
 }
 
@@ -159,25 +186,25 @@ fn run_script<B: PathIndex, H: Shelf, K: Sink>(
     engine: &mut Engine<B>,
     shelf: &mut H,
     sink: &mut K,
-) -> u8
+) -> Status
     requires begins { BeginsTold (shown_settings settings.now).graph (H.files shelf.old) graph.graph }
     requires closed { engine.old.opened ≡ None }
     requires sound { IsSound (seen B.meaning engine.old) }
     requires level { settings.now.k ≤ 8 }
     ensures sound { IsSound (seen B.meaning engine.new) }
     ensures meets { Meets (runs (shown_settings settings.now)) (kinds_of (map B.meaning engine.old.boxes)) (H.files shelf.old) (K.written sink.old)
-        (K.written sink.new) result (IsIn (seen B.meaning engine.new)) }
+        (K.written sink.new) (code_of result) (IsIn (seen B.meaning engine.new)) }
     ensures status { HasStatus (runs (shown_settings settings.now)) (H.files shelf.old) (H.faults shelf.old) (H.faults shelf.new) (K.faults sink.old)
-        (K.faults sink.new) result }
+        (K.faults sink.new) (code_of result) }
     ensures complete { Completes (runs (shown_settings settings.now)) (H.files shelf.old) (H.faults shelf.old) (H.faults shelf.new)
-        (K.faults sink.old) (K.faults sink.new) result }
+        (K.faults sink.old) (K.faults sink.new) (code_of result) }
     ensures files { H.files shelf.new ≡ H.files shelf.old }
 {
     leave_out(engine, Kind::One, settings.without_one);
     leave_out(engine, Kind::Fb, settings.without_fb);
     match engine.open(graph, Limits::program(), settings.k) {
         Ok(()) => run_open(alloc, settings, engine, shelf, sink),
-        Err(_) => Status::NoMemory as u8,
+        Err(_) => Status::NoMemory,
     }
 }
 
@@ -188,28 +215,28 @@ fn run_open<B: PathIndex, H: Shelf, K: Sink>(
     engine: &mut Engine<B>,
     shelf: &mut H,
     sink: &mut K,
-) -> u8
+) -> Status
     requires begins { BeginsTold (shown_settings settings.now).graph (H.files shelf.old) (state_of B.meaning engine.old).graph }
     requires ready { IsOpen (seen B.meaning engine.old) }
     ensures sound { IsSound (seen B.meaning engine.new) }
     ensures meets { (kinds : List Kind) → BeginsRun (state_of B.meaning engine.old).graph (kinds_for (shown_settings settings.now) kinds)
         settings.now.k (state_of B.meaning engine.old)
-        → Meets (runs (shown_settings settings.now)) kinds (H.files shelf.old) (K.written sink.old) (K.written sink.new) result
+        → Meets (runs (shown_settings settings.now)) kinds (H.files shelf.old) (K.written sink.old) (K.written sink.new) (code_of result)
         (IsIn (seen B.meaning engine.new)) }
     ensures status { HasStatus (runs (shown_settings settings.now)) (H.files shelf.old) (H.faults shelf.old) (H.faults shelf.new) (K.faults sink.old)
-        (K.faults sink.new) result }
+        (K.faults sink.new) (code_of result) }
     ensures complete { Completes (runs (shown_settings settings.now)) (H.files shelf.old) (H.faults shelf.old) (H.faults shelf.new)
-        (K.faults sink.old) (K.faults sink.new) result }
+        (K.faults sink.old) (K.faults sink.new) (code_of result) }
     ensures files { H.files shelf.new ≡ H.files shelf.old }
 {
     match shelf.open(settings.script) {
         Ok(true) => match run_lines(alloc, engine, Printing::Whole, shelf, sink) {
             Ok(ending) => status_of(ending),
-            Err(Stop::Shelf) => Status::NoFile as u8,
-            Err(Stop::Sink) => Status::NoOutput as u8,
-            Err(Stop::Memory) => Status::NoMemory as u8,
+            Err(Stop::Shelf) => Status::NoFile,
+            Err(Stop::Sink) => Status::NoOutput,
+            Err(Stop::Memory) => Status::NoMemory,
         },
-        Ok(false) => Status::NoFile as u8,
-        Err(_) => Status::NoFile as u8,
+        Ok(false) => Status::NoFile,
+        Err(_) => Status::NoFile,
     }
 }

@@ -11,6 +11,7 @@ ghost use Rattle.script_run.specs.EngineStates.{state_of, IsOpen, IsIn};
 ghost use Rattle.script_run.specs.Rules.{rules_for};
 ghost use Rattle.pathindex_run.specs.Headline.{RunsFrom, RunsLoaded, RunsScript, made_task};
 ghost use Rattle.pathindex_run.specs.MadeSteps.{HasSinkStatus, text_task};
+ghost use Rattle.pathindex_run.specs.StatusCodes.{code_of};
 
 use crate::output::show_refusal;
 use crate::status::{Status, status_of};
@@ -59,13 +60,13 @@ pub(crate) fn run_made<B: PathIndex, K: Sink>(
     seed: u64,
     engine: &mut Engine<B>,
     sink: &mut K,
-) -> u8
+) -> Status
     requires closed { engine.old.opened ≡ None }
     requires sound { IsSound (seen B.meaning engine.old) }
     ensures sound { IsSound (seen B.meaning engine.new) }
     ensures meets { RunsLoaded (made_task seed (kinds_of (map B.meaning engine.old.boxes))) (Some (made_graph_text seed)) (K.written sink.old)
-        (K.written sink.new) result (IsIn (seen B.meaning engine.new)) }
-    ensures status { HasSinkStatus (K.faults sink.old) (K.faults sink.new) result }
+        (K.written sink.new) (code_of result) (IsIn (seen B.meaning engine.new)) }
+    ensures status { HasSinkStatus (K.faults sink.old) (K.faults sink.new) (code_of result) }
 {
     match load_made(alloc, seed) {
         Ok(graph) => run_script(alloc, seed, graph, engine, sink),
@@ -73,7 +74,7 @@ pub(crate) fn run_made<B: PathIndex, K: Sink>(
         Err(LoadError::Limit(line)) => show_refusal(alloc, line, "limit", sink),
         Err(LoadError::Missing) => unreachable!(),
         Err(LoadError::Fault) => unreachable!(),
-        Err(LoadError::Memory) => Status::NoMemory as u8,
+        Err(LoadError::Memory) => Status::NoMemory,
     }
 }
 
@@ -84,17 +85,17 @@ fn run_script<B: PathIndex, K: Sink>(
     graph: Graph,
     engine: &mut Engine<B>,
     sink: &mut K,
-) -> u8
+) -> Status
     requires closed { engine.old.opened ≡ None }
     requires sound { IsSound (seen B.meaning engine.old) }
     ensures sound { IsSound (seen B.meaning engine.new) }
-    ensures runs { RunsFrom (made_task seed (kinds_of (map B.meaning engine.old.boxes))) graph.graph (K.written sink.old) (K.written sink.new) result
+    ensures runs { RunsFrom (made_task seed (kinds_of (map B.meaning engine.old.boxes))) graph.graph (K.written sink.old) (K.written sink.new) (code_of result)
         (IsIn (seen B.meaning engine.new)) }
-    ensures status { HasSinkStatus (K.faults sink.old) (K.faults sink.new) result }
+    ensures status { HasSinkStatus (K.faults sink.old) (K.faults sink.new) (code_of result) }
 {
     match made_script(alloc, seed, graph.created()) {
         Ok(script) => run_text(alloc, script.as_bytes(), graph, engine, sink),
-        Err(_) => Status::NoMemory as u8,
+        Err(_) => Status::NoMemory,
     }
 }
 
@@ -105,17 +106,17 @@ fn run_text<B: PathIndex, K: Sink>(
     graph: Graph,
     engine: &mut Engine<B>,
     sink: &mut K,
-) -> u8
+) -> Status
     requires closed { engine.old.opened ≡ None }
     requires sound { IsSound (seen B.meaning engine.old) }
     ensures sound { IsSound (seen B.meaning engine.new) }
     ensures runs { RunsFrom (text_task script.now (kinds_of (map B.meaning engine.old.boxes))) graph.graph (K.written sink.old) (K.written sink.new)
-        result (IsIn (seen B.meaning engine.new)) }
-    ensures status { HasSinkStatus (K.faults sink.old) (K.faults sink.new) result }
+        (code_of result) (IsIn (seen B.meaning engine.new)) }
+    ensures status { HasSinkStatus (K.faults sink.old) (K.faults sink.new) (code_of result) }
 {
     match engine.open(graph, Limits::program(), 2) {
         Ok(()) => run_open(alloc, script, engine, sink),
-        Err(_) => Status::NoMemory as u8,
+        Err(_) => Status::NoMemory,
     }
 }
 
@@ -125,18 +126,18 @@ fn run_open<B: PathIndex, K: Sink>(
     script: &[u8],
     engine: &mut Engine<B>,
     sink: &mut K,
-) -> u8
+) -> Status
     requires ready { IsOpen (seen B.meaning engine.old) }
     ensures sound { IsSound (seen B.meaning engine.new) }
-    ensures runs { RunsScript (rules_for Brief) (state_of B.meaning engine.old) (Some script.now) (K.written sink.old) (K.written sink.new) result
+    ensures runs { RunsScript (rules_for Brief) (state_of B.meaning engine.old) (Some script.now) (K.written sink.old) (K.written sink.new) (code_of result)
         (IsIn (seen B.meaning engine.new)) }
-    ensures status { HasSinkStatus (K.faults sink.old) (K.faults sink.new) result }
+    ensures status { HasSinkStatus (K.faults sink.old) (K.faults sink.new) (code_of result) }
 {
     let mut shelf = TextShelf::new(script);
     match run_lines(alloc, engine, Printing::Brief, &mut shelf, sink) {
         Ok(ending) => status_of(ending),
         Err(Stop::Shelf) => unreachable!(),
-        Err(Stop::Sink) => Status::NoOutput as u8,
-        Err(Stop::Memory) => Status::NoMemory as u8,
+        Err(Stop::Sink) => Status::NoOutput,
+        Err(Stop::Memory) => Status::NoMemory,
     }
 }

@@ -4,6 +4,7 @@ use Rattle.command_line.specs.Shown.{shown_settings}
 use Rattle.pathindex_core.specs.Engines.{seen}
 use Rattle.script_run.specs.EngineStates.{state_in, IsIn}
 use Rattle.pathindex_run.specs.Headline.{HasStatus}
+use Rattle.pathindex_run.specs.StatusCodes.{code_of}
 use Rattle.pathindex_run.proofs.RunLemmas.{told_ran, told_part, script_meets, script_missing}
 use Rattle.pathindex_run.proofs.CompleteLemmas.{script_completes}
 use Rattle.pathindex_run.proofs.entry.run_open.Goals as goal
@@ -18,8 +19,8 @@ pub returns-in-Ok-clause-complete : goal.returns-in-Ok-clause-complete
 returns-in-Ok-clause-complete g c =
     let found = rw c.in-Ok-true.field-0-test at c.in-Ok-true.ensures.found in
     let files = g.H.Shelf.files c.args.shelf.now in
-    let status : HasStatus (runs (shown_settings c.args.settings.now)) files (g.H.Shelf.faults c.args.shelf.now) (g.H.Shelf.faults c.run_lines.new.shelf) (g.K.Sink.faults c.args.sink.now) (g.K.Sink.faults c.run_lines.new.sink) c.status_of.result = search rules in
-    script_completes (shown_settings c.args.settings.now) files (state_in (seen g.B.PathIndex.meaning c.args.engine.now)) (g.K.Sink.written c.args.sink.now) (g.K.Sink.written c.run_lines.new.sink) _ _ _ _ c.status_of.result (IsIn (seen g.B.PathIndex.meaning c.run_lines.new.engine))
+    let status : HasStatus (runs (shown_settings c.args.settings.now)) files (g.H.Shelf.faults c.args.shelf.now) (g.H.Shelf.faults c.run_lines.new.shelf) (g.K.Sink.faults c.args.sink.now) (g.K.Sink.faults c.run_lines.new.sink) (code_of c.status_of.result) = search rules in
+    script_completes (shown_settings c.args.settings.now) files (state_in (seen g.B.PathIndex.meaning c.args.engine.now)) (g.K.Sink.written c.args.sink.now) (g.K.Sink.written c.run_lines.new.sink) _ _ _ _ (code_of c.status_of.result) (IsIn (seen g.B.PathIndex.meaning c.run_lines.new.engine))
     (rw c.status_of.ensures (told_ran (state_in (seen g.B.PathIndex.meaning c.args.engine.now)) c.args.settings.now.script.now files (g.H.Shelf.left c.open.new.self) _ _ c.in-Ok.ending _ found c.in-Ok.ensures.ran)) status
 
 pub returns-in-Err-Shelf-clause-meets : goal.returns-in-Err-Shelf-clause-meets

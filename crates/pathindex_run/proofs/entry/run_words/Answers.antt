@@ -1,0 +1,27 @@
+use Rattle.std.proofs.Common.{map, string_bytes}
+use Rattle.command_line.specs.Words.{form_of}
+use Rattle.pathindex_run.proofs.RunLemmas.{unread}
+use Rattle.pathindex_run.proofs.CompleteLemmas.{made_status, made_completes}
+use Rattle.pathindex_run.proofs.MadeProper.{made_ends}
+use Rattle.pathindex_run.proofs.entry.run_words.Goals as goal
+
+pub returns-in-Err-clause-meets : goal.returns-in-Err-clause-meets
+returns-in-Err-clause-meets g c = unread (form_of (map string_bytes c.args.words.now)) _ (g.H.Shelf.files c.args.shelf.now) (g.K.Sink.written c.args.sink.now) _
+
+pub returns-in-Ok-Make-clause-meets : goal.returns-in-Ok-Make-clause-meets
+returns-in-Ok-Make-clause-meets g c =
+    let e = rw c.in-Ok-Make.field-0-is at c.in-Ok-Make.ensures.exact in
+    rw (← e) c.run_made.ensures.meets
+
+pub returns-in-Ok-Make-clause-status : goal.returns-in-Ok-Make-clause-status
+returns-in-Ok-Make-clause-status g c =
+    let e = rw c.in-Ok-Make.field-0-is at c.in-Ok-Make.ensures.exact in
+    rw (← e) (made_status c.in-Ok-Make.seed (g.H.Shelf.files c.args.shelf.now) _ _ _ _ c.run_made.ensures.status)
+
+pub returns-in-Ok-Make-clause-complete : goal.returns-in-Ok-Make-clause-complete
+returns-in-Ok-Make-clause-complete g c =
+    let e = rw c.in-Ok-Make.field-0-is at c.in-Ok-Make.ensures.exact in
+    rw (← e) (made_completes c.in-Ok-Make.seed _ (g.H.Shelf.files c.args.shelf.now) _ _ _ _ _ _ _ c.run_made.ensures.meets c.run_made.ensures.status)
+
+pub returns-in-Ok-Make-clause-made : goal.returns-in-Ok-Make-clause-made
+returns-in-Ok-Make-clause-made g c = λ seed e f. made_ends c.in-Ok-Make.seed _ _ _ _ _ _ _ c.run_made.ensures.meets c.run_made.ensures.status f
