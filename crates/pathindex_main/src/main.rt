@@ -24,7 +24,7 @@ fn words(rt: &(impl Env + AllocGlobal)) -> io::Result<Vec<String>> {
     Ok(words)
 }
 
-/// Tells on standard error why a run broke off, if it did. Where that can't be written, the status says it.
+/// Tells on standard error why a run that began broke off, if it did. Where that can't be written, the status says it.
 fn tell(rt: &impl Eprint, status: u8) {
     if let Some(reason) = break_reason(status) {
         let _ = eprintln!(rt; "pathindex: {reason}");
@@ -62,12 +62,14 @@ fn run_words(rt: &(impl Files + Print + AllocGlobal), words: &[String]) -> Resul
 fn main(rt: HostRuntime) -> ExitCode {
     let status = match words(&rt) {
         Ok(words) => match run_words(&rt, &words) {
-            Ok(status) => status,
+            Ok(status) => {
+                tell(&rt, status);
+                status
+            }
             Err(_) => Status::NoMemory as u8,
         },
         Err(error) if error.kind() == ErrorKind::OutOfMemory => Status::NoMemory as u8,
         Err(_) => Status::Usage as u8,
     };
-    tell(&rt, status);
     ExitCode::from(status)
 }
