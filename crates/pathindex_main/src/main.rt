@@ -47,7 +47,8 @@ fn run_over<B: PathIndex>(
     run(rt.alloc(), words, engine, &mut shelf, &mut sink)
 }
 
-/// The same, on an engine of its own. `Memory` comes only where there is none for a box, and then the run isn't begun.
+/// Carries out what the words ask for, on an engine of three boxes that it makes. `Memory` comes only where there is none for a box, and
+/// then the run isn't begun.
 fn run_words(rt: &(impl Files + Print + AllocGlobal), words: &[String]) -> Result<u8, Memory> {
     let alloc = rt.alloc();
     let mut boxes: Vec<Box<dyn PathIndex>> = Vec::new(alloc);
