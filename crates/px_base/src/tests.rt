@@ -1,5 +1,5 @@
 // Each public call once, with ample memory, and each way in which reading and writing may fail.
-ghost use Rattle.std.specs.Prelude.{◌≡◌, ◌≤◌, ◌<◌, IsTrue, is_some, false};
+ghost use Rattle.std.specs.Prelude.{◌+◌, ◌≡◌, ◌≤◌, ◌<◌, IsTrue, is_some, false};
 
 use super::*;
 use std::alloc::Global;
