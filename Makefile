@@ -5,7 +5,7 @@ SHELL := /bin/bash
 .PHONY: help run test try bench
 
 PROGRAM := crates/pathindex_main
-COUNTER := crates/triples_count
+COUNTER := crates/example_count
 # How many crates `make run` takes in hand at a time: far more than there are cores, since most of them wait for a crate below. Each that is
 # proved takes up to 2 GB, and about six are at once.
 JOBS ?= 14
@@ -18,7 +18,7 @@ help:
 	@echo 'make run               run examples/foaf.script at once, and then prove and build the program'
 	@echo 'make test              the gate: each proof, each edit that must be refused, each test, program and example'
 	@echo 'make try SCRIPT=FILE   run a script without proving anything, for a first look; GRAPH=FILE names a graph file'
-	@echo 'make bench             measure bin/pathindex on generated scripts and graph files, and triples_count beside serdi'
+	@echo 'make bench             measure bin/pathindex on generated scripts and graph files, and example_count beside serdi'
 
 run:
 	@$(NEEDS_RT)
@@ -58,7 +58,7 @@ bench:
 	@python3 tools/bench.py
 	@python3 tools/bench_indexes.py
 	@python3 tools/bench_updates.py
-	@command -v serdi >/dev/null || { echo "make bench: serdi isn't on the path, so triples_count has nothing to stand beside; apt-get install serdi brings it" >&2; exit 1; }
-	@test -x $(COUNTER)/out/triples_count || { echo 'make bench: triples_count is missing; make test builds it' >&2; exit 1; }
+	@command -v serdi >/dev/null || { echo "make bench: serdi isn't on the path, so example_count has nothing to stand beside; apt-get install serdi brings it" >&2; exit 1; }
+	@test -x $(COUNTER)/out/example_count || { echo 'make bench: example_count is missing; make test builds it' >&2; exit 1; }
 	@python3 tools/bench_triples.py
 	@python3 tools/bench_load.py

@@ -1,5 +1,5 @@
 #!/usr/bin/env python3
-"""Counts the triples of a generated file with the proved triples_count, and has serdi read and write the
+"""Counts the triples of a generated file with the proved example_count, and has serdi read and write the
 same file, in turns, and prints how fast each is. Times are processor times, user and system, the best of some turns. The gate
 doesn't run this.
 """
@@ -12,7 +12,7 @@ import sys
 import tempfile
 
 ROOT = pathlib.Path(__file__).resolve().parent.parent
-PROGRAM = ROOT / "crates" / "triples_count" / "out" / "triples_count"
+PROGRAM = ROOT / "crates" / "example_count" / "out" / "example_count"
 MAKE = ROOT / "tools" / "make_triples.py"
 COUNT = 200_000
 TURNS = 5
@@ -34,7 +34,7 @@ def run(command, text, output):
 
 def main():
     if not os.access(PROGRAM, os.X_OK):
-        sys.exit("bench_triples.py: triples_count isn't built; `rt run` in crates/triples_count builds it")
+        sys.exit("bench_triples.py: example_count isn't built; `rt run` in crates/example_count builds it")
     if shutil.which("serdi") is None:
         sys.exit("bench_triples.py: serdi isn't there; `apt-get install serdi` installs it")
     with tempfile.TemporaryDirectory() as folder:
@@ -46,12 +46,12 @@ def main():
         for _ in range(TURNS):
             taken, counted = run([PROGRAM], text, subprocess.PIPE)
             if counted.strip() != str(COUNT).encode():
-                sys.exit(f"bench_triples.py: triples_count wrote {counted!r} for {COUNT} triples")
+                sys.exit(f"bench_triples.py: example_count wrote {counted!r} for {COUNT} triples")
             ours.append(taken)
             theirs.append(run(["serdi", "-b", text], text, subprocess.DEVNULL)[0])
-    for name, times in (("triples_count", ours), ("serdi -b", theirs)):
+    for name, times in (("example_count", ours), ("serdi -b", theirs)):
         print(f"{name:<16}{COUNT:>9} triples{size:>7.1f} MB{min(times):>7.2f} s{size / min(times):>8.0f} MB/s")
-    print(f"triples_count takes {min(ours) / min(theirs):.2f} times as long as serdi -b; the mark is 1.5")
+    print(f"example_count takes {min(ours) / min(theirs):.2f} times as long as serdi -b; the mark is 1.5")
 
 
 if __name__ == "__main__":

@@ -21,7 +21,7 @@ from check_by_definition import (
     Graph, Moves, Output, answers, both_ways, branch_answers, classes, level, lists, lists_one, loosened, longest, pairs_of, relaxed,
     sizes_one, writes,
 )
-from made_texts import Draws, graph_file, script
+from workload import Draws, graph_file, script
 
 MADE = pathlib.Path(__file__).resolve().parent.parent / "crates/pathindex_main/stdout"
 SEEDS = [1, 2, 18446744073709551615]

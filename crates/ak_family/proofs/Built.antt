@@ -2,24 +2,24 @@
 use Rattle.std.proofs.Common.{◌≡◌, ℕ, suc, ◌+◌, ◌<◌, ◌≤◌, List, [], ◌∷◌, ◌++◌, length, Option, Some, is_some, slice_get, refl, sym, ◌∙◌, ap, subst, inl, inr, Bool, arith}
 use Rattle.std.proofs.lemmas.Bool.{cases_lt}
 use Rattle.std.proofs.lemmas.List.{get_or_push, get_or_append_left, length-append}
-use Rattle.px_spec.specs.Graphs.{Graph, has_edge}
-use Rattle.px_spec.specs.Shapes.{shape_of}
-use Rattle.label_graph.specs.Views.{label_number}
+use Rattle.graph_spec.specs.Graphs.{Graph, has_edge}
+use Rattle.graph_spec.specs.Shapes.{shape_of}
+use Rattle.label_graph.specs.GraphViews.{label_number}
 use Rattle.bisim_spec.specs.Bisimilarity.{Bis}
-use Rattle.px_spec.specs.Members.{at}
+use Rattle.graph_spec.specs.Members.{at}
 use Rattle.bisim_spec.specs.Partitions.{Agrees}
-use Rattle.bisim_spec.specs.Views.{ViewFits}
+use Rattle.bisim_spec.specs.IndexGraphs.{ViewFits}
 use Rattle.bisim_levels.specs.Keys.{IsKey}
 use Rattle.bisim_levels.specs.Refinement.{AreNumbered}
-use Rattle.bisim_levels.specs.Sides.{is_near, no_neighbours}
+use Rattle.bisim_levels.specs.NeighbourSides.{is_neighbour, no_neighbours}
 use Rattle.bisim_levels.specs.declared.sides.Side.TheVariants.{Parents}
 use Rattle.quotient.specs.Quotients.{view_of}
-use Rattle.keyed_quotient.specs.Levels.{KeyedQuotient, no_level, key_at, AreKeyed}
+use Rattle.keyed_quotient.specs.KeyedQuotients.{KeyedQuotient, no_level, key_at, AreKeyed}
 use Rattle.ak_family.specs.Families.{level_at, blocks_at, AreLabelKeys, AreParentKeys, IsKeyedFamily}
-use Rattle.ak_family.proofs.Supported.{supported_keys, labels_alone}
+use Rattle.ak_family.proofs.KeySupports.{supported_keys, labels_alone}
 use Rattle.quotient_draft.proofs.Gone.{member_there}
-use Rattle.block_filling.specs.FilledTables.{SameBlocks}
-use Rattle.block_filling.proofs.Filled.{agrees_moved}
+use Rattle.block_partition.specs.FilledTables.{SameBlocks}
+use Rattle.block_partition.proofs.Filled.{agrees_moved}
 use Rattle.ak_family.specs.BlockLabels.{BlocksHaveLabels}
 
 -- level i is the last one, and has the blocks of the list
@@ -34,9 +34,9 @@ pub record IsBuilt (g : Graph) (i : ℕ) (levels : List KeyedQuotient) (block : 
   pub keyed : (j : ℕ) → j ≤ i → AreKeyed (level_at levels j).quotient.blocks.labels (key_at (level_at levels j).keys)
   pub lowest : (n b : ℕ) → at (blocks_at levels 0) n ≡ Some b → at (level_at levels 0).quotient.blocks.labels b ≡ label_number g n
 
-key_moved : (own own2 : ℕ → Option ℕ) (base base2 : List (Option ℕ)) (near : ℕ → ℕ → Bool) (n : ℕ) (key : List ℕ) → ((m : ℕ) → own2 m ≡ own m) → SameBlocks base2 base
-    → IsKey own base near n key → IsKey own2 base2 near n key
-key_moved own own2 base base2 near n key owns bases k = record {
+key_moved : (own own2 : ℕ → Option ℕ) (base base2 : List (Option ℕ)) (neighbour_of : ℕ → ℕ → Bool) (n : ℕ) (key : List ℕ) → ((m : ℕ) → own2 m ≡ own m) → SameBlocks base2 base
+    → IsKey own base neighbour_of n key → IsKey own2 base2 neighbour_of n key
+key_moved own own2 base base2 neighbour_of n key owns bases k = record {
   number = k.number;
   around = k.around;
   is = k.is;
@@ -46,11 +46,11 @@ key_moved own own2 base base2 near n key owns bases k = record {
   every = λ p b h e. k.every p b h (sym (bases p) ∙ e);
 }
 
-pub numbered_moved : (own own2 : ℕ → Option ℕ) (base base2 : List (Option ℕ)) (near : ℕ → ℕ → Bool) (next next2 : List (Option ℕ)) (key key2 : ℕ → Option (List ℕ))
-    → ((m : ℕ) → own2 m ≡ own m) → SameBlocks base2 base → SameBlocks next2 next → ((b : ℕ) → key2 b ≡ key b) → AreNumbered own base near next key → AreNumbered own2 base2 near next2 key2
-numbered_moved own own2 base base2 near next next2 key key2 owns bases nexts keys w = record {
+pub numbered_moved : (own own2 : ℕ → Option ℕ) (base base2 : List (Option ℕ)) (neighbour_of : ℕ → ℕ → Bool) (next next2 : List (Option ℕ)) (key key2 : ℕ → Option (List ℕ))
+    → ((m : ℕ) → own2 m ≡ own m) → SameBlocks base2 base → SameBlocks next2 next → ((b : ℕ) → key2 b ≡ key b) → AreNumbered own base neighbour_of next key → AreNumbered own2 base2 neighbour_of next2 key2
+numbered_moved own own2 base base2 neighbour_of next next2 key key2 owns bases nexts keys w = record {
   none = λ n e. nexts n ∙ w.none n (sym (owns n) ∙ e);
-  some = λ n b e. let f = w.some n b (sym (owns n) ∙ e) in (f.0, f.1, nexts n ∙ f.2, keys f.0 ∙ f.3, key_moved own own2 base base2 near n f.1 owns bases f.4);
+  some = λ n b e. let f = w.some n b (sym (owns n) ∙ e) in (f.0, f.1, nexts n ∙ f.2, keys f.0 ∙ f.3, key_moved own own2 base base2 neighbour_of n f.1 owns bases f.4);
   inhabited = λ k h. let m = w.inhabited k (sym (ap is_some (keys k)) ∙ h) in (m.0, nexts m.0 ∙ m.1);
 }
 
@@ -87,7 +87,7 @@ built_top g i levels block labels w = agrees_moved (shape_of g) block (blocks_at
 pub built_above : (g : Graph) (i : ℕ) (levels more : List KeyedQuotient) (level : KeyedQuotient) (block next : List (Option ℕ)) (labels found : List ℕ) (keys : List (List ℕ))
     → IsBuilt g i levels block labels
     → ((j : ℕ) → Agrees (shape_of g) block (Bis (shape_of g) j) → Agrees (shape_of g) next (Bis (shape_of g) (suc j)))
-    → BlocksHaveLabels g next found → AreNumbered (at block) block (is_near Parents g) next (slice_get keys)
+    → BlocksHaveLabels g next found → AreNumbered (at block) block (is_neighbour Parents g) next (slice_get keys)
     → SameBlocks level.quotient.blocks.block_of next → ViewFits g (view_of level.quotient) → ((b : ℕ) → key_at level.keys b ≡ slice_get keys b)
     → AreKeyed level.quotient.blocks.labels (key_at level.keys) → more ≡ levels ++ level ∷ [] → IsBuilt g (i + 1) more next found
 built_above g i levels more level block next labels found keys w up is numbered same fits keys_same alike added =

@@ -5,9 +5,9 @@ use Rattle.std.proofs.lemmas.Bool.Decides.{eqb_tells}
 use Rattle.std.proofs.lemmas.List.{get_or_default, get_or-set_same, get_or-set_other, get_or_past, get_or_push, get_or_append_left, length-set, length-append}
 use Rattle.quotient_draft.specs.Drafts.{no_changes}
 use Rattle.quotient_draft.specs.Basis.{IsOver}
-use Rattle.keyed_quotient.specs.Levels.{KeyedQuotient}
+use Rattle.keyed_quotient.specs.KeyedQuotients.{KeyedQuotient}
 use Rattle.keyed_quotient.specs.Changes.{KeyedChanges, no_keyed_changes, IsKeyedOver}
-use Rattle.keyed_quotient.proofs.Shown.{over_none}
+use Rattle.keyed_quotient.proofs.DraftedKeys.{over_none}
 use Rattle.ak_family.specs.Families.{level_at, IsKeyedFamily}
 use Rattle.ak_family.specs.LevelDrafts.{changes_at, AreOver, KeepsAllButSupports, AreEmpty}
 

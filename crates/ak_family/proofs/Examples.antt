@@ -1,23 +1,23 @@
 -- A family with a gap in the numbers of its blocks: block 1 of each level was retired, and its number is free.
-use Rattle.quotient.specs.Quotients.{no_pair_room}
+use Rattle.quotient.specs.Quotients.{no_reserved_pairs}
 use Rattle.std.proofs.Common.{◌≡◌, ℕ, zero, suc, ◌*◌, List, [], ◌∷◌, Option, None, Some, IsTrue, is_some, refl, sym, ◌∙◌, ap, arith, true≢false, true, ◌&&◌, nat_eq, subst}
 use Rattle.std.specs.Prelude.{◌||◌}
 use Rattle.std.specs.FinMap as table
 use Rattle.std.specs.FinSet as set
 use Rattle.std.proofs.Math.Bool.{and-false, or-false}
 use Rattle.std.proofs.lemmas.Bool.{and_parts, eqb-true}
-use Rattle.px_spec.specs.Graphs.{Graph, edge_cmp, has_edge}
-use Rattle.px_spec.specs.Changes.{with_edge}
-use Rattle.px_spec.specs.Members.{has, at}
-use Rattle.px_spec.proofs.GraphLaws.{edge_with}
-use Rattle.label_graph.specs.Views.{label_number}
-use Rattle.bisim_levels.specs.Sides.{no_neighbours}
+use Rattle.graph_spec.specs.Graphs.{Graph, edge_cmp, has_edge}
+use Rattle.graph_spec.specs.Changes.{with_edge}
+use Rattle.graph_spec.specs.Members.{has, at}
+use Rattle.graph_spec.proofs.GraphLaws.{edge_with}
+use Rattle.label_graph.specs.GraphViews.{label_number}
+use Rattle.bisim_levels.specs.NeighbourSides.{no_neighbours}
 use Rattle.bisim_levels.specs.Keys.{IsKey}
-use Rattle.keyed_quotient.specs.Levels.{KeyedQuotient, key_at, HasKey, AreKeyed}
+use Rattle.keyed_quotient.specs.KeyedQuotients.{KeyedQuotient, key_at, HasKey, AreKeyed}
 use Rattle.ak_family.specs.Families.{AreLabelKeys, AreParentKeys}
 
 abbrev two_nodes : Graph
-two_nodes = record { given = Some (97 ∷ []) ∷ Some (98 ∷ []) ∷ []; edges = set.empty; seen = (97 ∷ []) ∷ (98 ∷ []) ∷ [] }
+two_nodes = record { allocated = Some (97 ∷ []) ∷ Some (98 ∷ []) ∷ []; edges = set.empty; seen = (97 ∷ []) ∷ (98 ∷ []) ∷ [] }
 
 -- an a with a child b
 abbrev linked : Graph
@@ -42,7 +42,7 @@ abbrev next_keys : List (Option (List ℕ))
 next_keys = Some (0 ∷ []) ∷ None ∷ Some (2 ∷ 0 ∷ []) ∷ []
 
 abbrev level : List (Option (List ℕ)) → KeyedQuotient
-level keys = record { quotient = record { blocks = record { block_of = blocks; labels = labels; room = record { nodes = 0; blocks = 0 } }; supports = table.empty; room = no_pair_room }; keys = keys; room = record { known = []; span = 0 } }
+level keys = record { quotient = record { blocks = record { block_of = blocks; labels = labels; reserved = record { nodes = 0; blocks = 0 } }; supports = table.empty; reserved = no_reserved_pairs }; keys = keys; reserved = record { known = []; span = 0 } }
 
 abbrev gapped : List KeyedQuotient
 gapped = level lowest_keys ∷ level next_keys ∷ []

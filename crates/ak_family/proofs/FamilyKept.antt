@@ -1,10 +1,10 @@
 -- What a draft shows is a family once it is settled.
 use Rattle.std.proofs.Common.{◌≡◌, ℕ, ◌+◌, ◌<◌, List, length, Option, Some, None, IsSome, is_some, Bool, true, false, true≢false, cond, refl, sym, ◌∙◌, ap, subst, arith, inl, inr}
-use Rattle.px_spec.specs.Members.{at}
-use Rattle.bisim_spec.specs.Views.{View, support_at}
+use Rattle.graph_spec.specs.Members.{at}
+use Rattle.bisim_spec.specs.IndexGraphs.{View, support_at}
 use Rattle.quotient_draft.specs.Drafts.{has_member, with_added, with_moves, with_supports}
 use Rattle.quotient_draft.proofs.Gone.{member_there}
-use Rattle.keyed_quotient.specs.Levels.{KeyedQuotient, key_at, AreKeyed}
+use Rattle.keyed_quotient.specs.KeyedQuotients.{KeyedQuotient, key_at, AreKeyed}
 use Rattle.keyed_quotient.specs.Changes.{KeyedChanges, blocks_as_shown, labels_as_shown, support_as_shown, shown_key, IsKeyedOver, IsSettled, AreInhabited, AreUnsupported}
 use Rattle.keyed_quotient.proofs.Numbered.{test_is}
 use Rattle.keyed_quotient.proofs.SettledKeys.{left_at}
@@ -116,7 +116,7 @@ settled_family f d new shows w some =
           (shows.empty (i + 1) here) (shows.above i here);
     }
 
--- What is the same but for room is a family too.
+-- What is the same but for reserved capacity is a family too.
 pub family_seen : (f f2 : List KeyedQuotient) → AreSeenAs f f2 → IsKeyedFamily f → IsKeyedFamily f2
 family_seen f f2 s w =
     let count = s.count in
@@ -138,7 +138,7 @@ family_seen f f2 s w =
           (λ a b. ap (λ (v : View). support_at v.supports a b) (s.views (i + 1))) (w.above i (omega (arith, h, count)));
     }
 
--- the draft shows a family whatever the room
+-- the draft shows a family whatever is reserved
 pub shows_seen : (f f2 : List KeyedQuotient) (d : List KeyedChanges) → AreSeenAs f f2 → ShowsFamily f d → ShowsFamily f2 d
 shows_seen f f2 d s w =
     let count = s.count in

@@ -3,19 +3,19 @@ use Rattle.std.proofs.Common.{◌≡◌, ℕ, ◌<◌, List, length, Option, Som
 use Rattle.std.specs.Prelude.{option_and_then}
 use Rattle.std.proofs.lemmas.Bool.{lt-ltb, le-ltb}
 use Rattle.std.proofs.lemmas.Option.{slice_get_within, slice_get_cases}
-use Rattle.px_spec.specs.Graphs.{Graph, IsGraph, label_of}
-use Rattle.px_spec.specs.Shapes.{Shape, shape_of}
+use Rattle.graph_spec.specs.Graphs.{Graph, IsGraph, label_of}
+use Rattle.graph_spec.specs.Shapes.{Shape, shape_of}
 use Rattle.label_graph.proofs.Viewed.{viewed_shape}
-use Rattle.px_spec.specs.Members.{at}
-use Rattle.block_partition.specs.Partitions.{Partition}
-use Rattle.block_filling.specs.FilledTables.{HaveLabels, SameBlocks}
+use Rattle.graph_spec.specs.Members.{at}
+use Rattle.block_partition.specs.LabelledPartitions.{Partition}
+use Rattle.block_partition.specs.FilledTables.{HaveLabels, SameBlocks}
 use Rattle.bisim_spec.specs.Partitions.{IsPartition}
-use Rattle.bisim_spec.specs.Views.{ViewFits}
+use Rattle.bisim_spec.specs.IndexGraphs.{ViewFits}
 use Rattle.bisim_spec.proofs.Bisimilar.{some_of, is_some_at}
 use Rattle.quotient.specs.Quotients.{AreSupports, Quotient, view_of}
 use Rattle.key_table.specs.NumberedKeys.{AreDistinct}
-use Rattle.label_graph.specs.Views.{label_number}
-use Rattle.keyed_quotient.specs.Levels.{AreKeyed}
+use Rattle.label_graph.specs.GraphViews.{label_number}
+use Rattle.keyed_quotient.specs.KeyedQuotients.{AreKeyed}
 use Rattle.ak_family.specs.BlockLabels.{BlocksHaveLabels}
 
 is_some_get : {X : Type 0} (xs : List X) (b : ℕ) → is_some (slice_get xs b) ≡ nat_lt b (length xs)

@@ -2,10 +2,10 @@
 use Rattle.std.proofs.Common.{◌≡◌, ◌≢◌, ℕ, List, Option, Some, None, IsSome, false, refl, sym, ◌∙◌, ap, is_some, inl, inr, true≢false, cond}
 use Rattle.std.specs.Prelude.{nat_eq}
 use Rattle.std.proofs.lemmas.Bool.Decides.{eqb_tells}
-use Rattle.px_spec.specs.Members.{at}
-use Rattle.block_partition.specs.Partitions.{put}
+use Rattle.graph_spec.specs.Members.{at}
+use Rattle.block_partition.specs.LabelledPartitions.{put}
 use Rattle.block_partition.proofs.PutNumbers.{at_put, same_number}
-use Rattle.keyed_quotient.specs.Levels.{AreKeyed}
+use Rattle.keyed_quotient.specs.KeyedQuotients.{AreKeyed}
 use Rattle.ak_family.specs.LevelDrafts.{HasBlock}
 
 -- a block that has the key
@@ -30,9 +30,9 @@ no_some o l e f = (let both : None ≡ Some l = sym e ∙ f in cc)
 -- a block that is no block yet, with a key that no block has
 pub made_block : (label b : ℕ) (key : List ℕ) (labels labels2 : List (Option ℕ)) (keys keys2 : ℕ → Option (List ℕ)) → AreKeyed labels keys → at labels b ≡ None
     → labels2 ≡ put labels b label → ((c : ℕ) → keys2 c ≡ cond (nat_eq c b) (Some key) (keys c)) → HasBlock label key b labels labels2 keys keys2
-made_block label b key labels labels2 keys keys2 keyed free made given = record {
+made_block label b key labels labels2 keys keys2 keyed free made allocated = record {
   live = ap is_some here;
-  key_is = given b ∙ ap (λ t. cond t (Some key) (keys b)) (same_number b);
+  key_is = allocated b ∙ ap (λ t. cond t (Some key) (keys b)) (same_number b);
   found = inr here;
   other_labels = label_at;
   other_keys = key_other;
@@ -47,4 +47,4 @@ made_block label b key labels labels2 keys keys2 keyed free made given = record 
     label_at c o = ap (λ (ls : List (Option ℕ)). at ls c) made ∙ at_put labels b label c ∙ ap (λ t. cond t (Some label) (at labels c)) (apart_test c b o)
 
     key_other : (c : ℕ) → c ≢ b → keys2 c ≡ keys c
-    key_other c o = given c ∙ ap (λ t. cond t (Some key) (keys c)) (apart_test c b o)
+    key_other c o = allocated c ∙ ap (λ t. cond t (Some key) (keys c)) (apart_test c b o)

@@ -1,19 +1,19 @@
 -- A family whose lowest view fits a graph has the labels of that graph as keys.
 use Rattle.std.proofs.Common.{◌≡◌, ℕ, ◌<◌, List, [], ◌∷◌, length, Some, is_some, true≢false, slice_get, refl, sym, ◌∙◌, ap, arith, inl, inr}
 use Rattle.std.specs.Prelude.{option_and_then, position, bytes_eq}
-use Rattle.px_spec.specs.Graphs.{Graph, IsGraph, label_of}
-use Rattle.px_spec.specs.Shapes.{shape_of}
-use Rattle.px_spec.specs.Members.{at}
-use Rattle.label_graph.specs.Views.{label_number}
+use Rattle.graph_spec.specs.Graphs.{Graph, IsGraph, label_of}
+use Rattle.graph_spec.specs.Shapes.{shape_of}
+use Rattle.graph_spec.specs.Members.{at}
+use Rattle.label_graph.specs.GraphViews.{label_number}
 use Rattle.label_graph.proofs.Positions.{position-at}
 use Rattle.bisim_spec.specs.Partitions.{IsPartition}
-use Rattle.bisim_spec.specs.Views.{ViewFits}
+use Rattle.bisim_spec.specs.IndexGraphs.{ViewFits}
 use Rattle.bisim_spec.proofs.Bisimilar.{none_or_some, some_of}
-use Rattle.bisim_levels.proofs.Views.{number_node}
+use Rattle.bisim_levels.proofs.LabelledNodes.{number_node}
 use Rattle.quotient.specs.Quotients.{view_of}
-use Rattle.keyed_quotient.specs.Levels.{KeyedQuotient}
+use Rattle.keyed_quotient.specs.KeyedQuotients.{KeyedQuotient}
 use Rattle.ak_family.specs.Families.{AreLabelKeys, IsKeyedFamily, level_at, blocks_at}
-use Rattle.ak_family.proofs.Supported.{same_some}
+use Rattle.ak_family.proofs.KeySupports.{same_some}
 
 -- the number of a label that was seen
 number_is : (g : Graph) → IsGraph g → (n l : ℕ) (t : List ℕ) → slice_get g.seen l ≡ Some t → label_of g n ≡ Some t → label_number g n ≡ Some l

@@ -1,6 +1,6 @@
-pub mod Labelled
+pub mod LabelledMembers
 pub mod Filled
-pub mod Supported
+pub mod KeySupports
 pub mod Drafted
 pub mod ParentKeys
 pub mod LabelKeys

@@ -1,24 +1,24 @@
--- Levels in which room is made.
+-- Levels in which capacity is reserved.
 use Rattle.std.proofs.Common.{◌≡◌, ℕ, ◌+◌, ◌<◌, ◌≤◌, List, length, Option, None, is_some, cond, nat_eq, refl, sym, ◌∙◌, ap, subst, arith, inl, inr, slice_set, get_or}
 use Rattle.std.specs.Map.{lookup}
 use Rattle.std.specs.Option.{option_or}
 use Rattle.std.proofs.lemmas.Bool.Decides.{eqb_tells}
 use Rattle.std.proofs.lemmas.List.{get_or_default, get_or-set_same, get_or-set_other, length-set}
-use Rattle.px_spec.specs.Members.{at}
-use Rattle.bisim_spec.specs.Views.{View}
+use Rattle.graph_spec.specs.Members.{at}
+use Rattle.bisim_spec.specs.IndexGraphs.{View}
 use Rattle.quotient.specs.Quotients.{view_of}
 use Rattle.quotient_draft.specs.Drafts.{has_member, inhabited_from, with_added, with_moves, with_supports}
 use Rattle.quotient_draft.specs.Basis.{IsOver}
-use Rattle.keyed_quotient.specs.Levels.{KeyedQuotient, no_level, key_at}
-use Rattle.keyed_quotient.specs.Changes.{KeyedChanges, shown_key, IsKeyedOver, HasKeyRoom, IsSettled}
+use Rattle.keyed_quotient.specs.KeyedQuotients.{KeyedQuotient, no_level, key_at}
+use Rattle.keyed_quotient.specs.Changes.{KeyedChanges, shown_key, IsKeyedOver, HasReservedKeys, IsSettled}
 use Rattle.ak_family.specs.Families.{level_at}
-use Rattle.ak_family.specs.LevelDrafts.{changes_at, AreOver, AreSeenAs, AreSettled, HaveRoom}
+use Rattle.ak_family.specs.LevelDrafts.{changes_at, AreOver, AreSeenAs, AreSettled, HaveReserved}
 
 -- a level that is read off the list
 pub level_read : (f : List KeyedQuotient) (i : ℕ) (q : KeyedQuotient) → i < length f → q ≡ get_or f i q → q ≡ level_at f i
 level_read f i q h e = e ∙ get_or_default f i q no_level h
 
--- the level is the same but for room
+-- the level is the same but for reserved capacity
 pub record IsSeenAs (q q2 : KeyedQuotient) : Type 0 where
   pub view : view_of q2.quotient ≡ view_of q.quotient
   pub keys : q2.keys ≡ q.keys
@@ -57,7 +57,7 @@ settled_seen q q2 d new s w = record {
 pub seen_same : (f : List KeyedQuotient) → AreSeenAs f f
 seen_same f = record { count = refl; views = λ i. refl; keys = λ i. refl }
 
--- one more level is the same but for room
+-- one more level is the same but for reserved capacity
 pub seen_set : (f now : List KeyedQuotient) (i : ℕ) (y : KeyedQuotient) → AreSeenAs f now → i < length now → IsSeenAs (level_at now i) y → AreSeenAs f (slice_set now i y)
 seen_set f now i y s h is =
     let here : level_at (slice_set now i y) i ≡ y = get_or-set_same now i y no_level h in
@@ -73,33 +73,33 @@ seen_set f now i y s h is =
       ];
     }
 
--- the levels below i have room for the draft, and all are the same but for room
+-- the levels below i have capacity reserved for the draft, and all are the same but for reserved capacity
 pub record IsReserved (f now : List KeyedQuotient) (d : List KeyedChanges) (i : ℕ) : Type 0 where
   pub seen : AreSeenAs f now
-  pub room : (j : ℕ) → j < i → HasKeyRoom (level_at now j) (changes_at d j)
+  pub reserved : (j : ℕ) → j < i → HasReservedKeys (level_at now j) (changes_at d j)
 
 pub reserved_none : (f : List KeyedQuotient) (d : List KeyedChanges) → IsReserved f f d 0
-reserved_none f d = record { seen = seen_same f; room = λ j h. absurd (omega (arith, h)) }
+reserved_none f d = record { seen = seen_same f; reserved = λ j h. absurd (omega (arith, h)) }
 
 pub reserved_over : (f now : List KeyedQuotient) (d : List KeyedChanges) (i : ℕ) → IsReserved f now d i → AreOver f d → i < length now → IsKeyedOver (level_at now i) (changes_at d i)
 reserved_over f now d i w o h = (let count = w.seen.count in
     over_seen (level_at f i) (level_at now i) (changes_at d i) (seen_at f now i w.seen) (o.each i (omega (arith, h, count))))
 
 pub reserved_next : (f now : List KeyedQuotient) (d : List KeyedChanges) (i : ℕ) (y : KeyedQuotient) → IsReserved f now d i → i < length now → IsSeenAs (level_at now i) y
-    → HasKeyRoom y (changes_at d i) → IsReserved f (slice_set now i y) d (i + 1)
-reserved_next f now d i y w h is room =
+    → HasReservedKeys y (changes_at d i) → IsReserved f (slice_set now i y) d (i + 1)
+reserved_next f now d i y w h is reserved =
     let here : level_at (slice_set now i y) i ≡ y = get_or-set_same now i y no_level h in
     record {
       seen = seen_set f now i y w.seen h is;
-      room = λ j b. elim (eqb_tells j i) [
-        | inl t ↦ subst (λ n. HasKeyRoom (level_at (slice_set now i y) n) (changes_at d n)) (sym t.1) (subst (λ (q : KeyedQuotient). HasKeyRoom q (changes_at d i)) (sym here) room)
+      reserved = λ j b. elim (eqb_tells j i) [
+        | inl t ↦ subst (λ n. HasReservedKeys (level_at (slice_set now i y) n) (changes_at d n)) (sym t.1) (subst (λ (q : KeyedQuotient). HasReservedKeys q (changes_at d i)) (sym here) reserved)
         | inr t ↦ (let other = t.1 in
-            subst (λ (q : KeyedQuotient). HasKeyRoom q (changes_at d j)) (sym (get_or-set_other now i j y no_level other)) (w.room j (omega (arith, b, other))))
+            subst (λ (q : KeyedQuotient). HasReservedKeys q (changes_at d j)) (sym (get_or-set_other now i j y no_level other)) (w.reserved j (omega (arith, b, other))))
       ];
     }
 
-pub reserved_all : (f now : List KeyedQuotient) (d : List KeyedChanges) (i : ℕ) → IsReserved f now d i → length now ≤ i → HaveRoom now d
-reserved_all f now d i w all j h = w.room j (omega (arith, h, all))
+pub reserved_all : (f now : List KeyedQuotient) (d : List KeyedChanges) (i : ℕ) → IsReserved f now d i → length now ≤ i → HaveReserved now d
+reserved_all f now d i w all j h = w.reserved j (omega (arith, h, all))
 
 -- the draft stays one over the family
 pub over_all_seen : (f f2 : List KeyedQuotient) (d : List KeyedChanges) → AreSeenAs f f2 → AreOver f d → AreOver f2 d

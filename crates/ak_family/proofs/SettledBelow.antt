@@ -3,7 +3,7 @@ use Rattle.std.proofs.Common.{◌≡◌, ◌≢◌, ℕ, ◌+◌, ◌<◌, ◌�
 use Rattle.std.proofs.lemmas.Bool.{cases_lt}
 use Rattle.std.proofs.lemmas.Bool.Decides.{eqb_tells}
 use Rattle.std.proofs.lemmas.List.{get_or_default, get_or-set_same, get_or-set_other, get_or_past, length-set}
-use Rattle.keyed_quotient.specs.Levels.{KeyedQuotient, no_level}
+use Rattle.keyed_quotient.specs.KeyedQuotients.{KeyedQuotient, no_level}
 use Rattle.keyed_quotient.specs.Changes.{KeyedChanges, no_keyed_changes, IsSettled}
 use Rattle.ak_family.specs.Families.{level_at}
 use Rattle.ak_family.specs.LevelDrafts.{changes_at, AreOver, AreSettled, AreEmpty}

@@ -3,14 +3,14 @@
 -- that are bisimilar to level i.
 use Rattle.std.specs.Prelude.{ℕ, ◌≡◌, ◌+◌, ◌<◌, ◌≤◌, List, [], ◌∷◌, length, Option, Some, IsTrue, is_some, map, slice_index_or}
 use Rattle.std.specs.List.Sorted.{IsStrictlyIncreasing}
-use Rattle.px_spec.specs.Graphs.{Graph, has_edge}
-use Rattle.px_spec.specs.Members.{at, has}
-use Rattle.label_graph.specs.Views.{label_number}
-use Rattle.bisim_levels.specs.Sides.{no_neighbours}
+use Rattle.graph_spec.specs.Graphs.{Graph, has_edge}
+use Rattle.graph_spec.specs.Members.{at, has}
+use Rattle.label_graph.specs.GraphViews.{label_number}
+use Rattle.bisim_levels.specs.NeighbourSides.{no_neighbours}
 use Rattle.bisim_levels.specs.Refinement.{AreNumbered}
-use Rattle.bisim_spec.specs.Views.{support_at}
+use Rattle.bisim_spec.specs.IndexGraphs.{support_at}
 use Rattle.quotient.specs.Quotients.{Quotient}
-use Rattle.keyed_quotient.specs.Levels.{KeyedQuotient, no_level, key_at, AreKeyed}
+use Rattle.keyed_quotient.specs.KeyedQuotients.{KeyedQuotient, no_level, key_at, AreKeyed}
 use Rattle.keyed_quotient.specs.Changes.{AreInhabited}
 use Rattle.level_spec.specs.Keyed.{first_number, AreLabelled}
 

@@ -1,10 +1,10 @@
 -- What is drafted over a family, level by level.
 use Rattle.std.specs.Prelude.{ℕ, ◌≡◌, ◌≢◌, ◌⊎◌, ◌+◌, ◌<◌, ◌&&◌, List, length, Option, Some, IsSome, nat_eq, slice_index_or, if◌then◌else◌}
-use Rattle.px_spec.specs.Members.{at}
+use Rattle.graph_spec.specs.Members.{at}
 use Rattle.quotient.specs.Quotients.{view_of}
-use Rattle.quotient.specs.Joined.{one_if}
-use Rattle.keyed_quotient.specs.Levels.{KeyedQuotient}
-use Rattle.keyed_quotient.specs.Changes.{KeyedChanges, no_keyed_changes, blocks_as_shown, labels_as_shown, support_as_shown, shown_key, IsKeyedOver, HasKeyRoom, IsSettled, AreUnsupported}
+use Rattle.quotient.specs.QuotientNeighbours.{one_if}
+use Rattle.keyed_quotient.specs.KeyedQuotients.{KeyedQuotient}
+use Rattle.keyed_quotient.specs.Changes.{KeyedChanges, no_keyed_changes, blocks_as_shown, labels_as_shown, support_as_shown, shown_key, IsKeyedOver, HasReservedKeys, IsSettled, AreUnsupported}
 use Rattle.level_spec.specs.Keyed.{KeysStay, AreLabelled}
 use Rattle.ak_family.specs.Families.{level_at, AreKeyedBySupports}
 
@@ -93,9 +93,9 @@ pub record KeepsLabelsAndKeys (f : List KeyedQuotient) (i : ℕ) (old new : List
   -- what is drafted at the other levels is the same
   pub others : AreSameBut i old new
 
--- each level has room for what the draft shows
-abbrev pub HaveRoom : List KeyedQuotient → List KeyedChanges → Type 0
-HaveRoom f d = (i : ℕ) → i < length f → HasKeyRoom (level_at f i) (changes_at d i)
+-- each level has capacity reserved for what the draft shows
+abbrev pub HaveReserved : List KeyedQuotient → List KeyedChanges → Type 0
+HaveReserved f d = (i : ℕ) → i < length f → HasReservedKeys (level_at f i) (changes_at d i)
 
 -- What the draft shows is a family: its keys are as the labels, the levels below and the supports say. No pair with a block
 -- without members has support.
@@ -110,7 +110,7 @@ pub record AreSettled (f : List KeyedQuotient) (d : List KeyedChanges) (new : Li
   pub count : length new ≡ length f
   pub each : (i : ℕ) → i < length f → IsSettled (level_at f i) (changes_at d i) (level_at new i)
 
--- the families are the same but for room
+-- the families are the same but for reserved capacity
 pub record AreSeenAs (old new : List KeyedQuotient) : Type 0 where
   pub count : length new ≡ length old
   pub views : (i : ℕ) → view_of (level_at new i).quotient ≡ view_of (level_at old i).quotient

@@ -1,14 +1,14 @@
 // What is drafted over a family.
 ghost use Rattle.std.specs.Prelude.{◌≡◌, ◌+◌, ◌<◌, ◌≤◌, ◌^◌, ◌↔◌, ℕ, List, Option, Some, None, IsSome, IsTrue, is_some, IfOk, OnOk, OnErr, IfSome, nat_eq, if◌then◌else◌, count_by, length};
-ghost use Rattle.px_spec.specs.Members.{at, Lists};
-ghost use Rattle.px_spec.specs.Graphs.{is_live, has_edge};
-ghost use Rattle.px_spec.specs.Shapes.{shape_of};
+ghost use Rattle.graph_spec.specs.Members.{at, Lists};
+ghost use Rattle.graph_spec.specs.Graphs.{is_live, has_edge};
+ghost use Rattle.graph_spec.specs.Shapes.{shape_of};
 ghost use Rattle.bisim_spec.specs.Partitions.{IsPartition};
-ghost use Rattle.upkeep_spec.specs.Supported.{AreEdgeCounts};
+ghost use Rattle.one_spec.specs.EdgeCounts.{AreEdgeCounts};
 ghost use Rattle.graph_update.specs.PendingChanges.{graph_after};
-ghost use Rattle.block_partition.specs.Partitions.{IsLeastFree, put};
-ghost use Rattle.node_moves.specs.Costs.{parents_cost, children_cost};
-ghost use Rattle.keyed_quotient.specs.Levels.{KeyedQuotient};
+ghost use Rattle.block_partition.specs.LabelledPartitions.{IsLeastFree, put};
+ghost use Rattle.quotient_moves.specs.NeighbourCosts.{parents_cost, children_cost};
+ghost use Rattle.keyed_quotient.specs.KeyedQuotients.{KeyedQuotient};
 ghost use Rattle.keyed_quotient.specs.Changes.{KeyedChanges};
 ghost use Rattle.ak_family.specs.Families.{level_at, IsKeyedFamily};
 ghost use Rattle.ak_family.specs.LevelDrafts.{changes_at, blocks_shown, labels_shown, support_shown, key_shown, AreOver, AreSameBut, AreBlocksThere, KeepsAllButSupports, KeepsLabelsAndKeys, AreEmpty, ShowsBlock, SupportRises, SupportFalls, NodeMoves};
@@ -16,8 +16,8 @@ ghost use Rattle.ak_family.specs.LevelDrafts.{changes_at, blocks_shown, labels_s
 use crate::family::AkFamily;
 use graph_update::After;
 use keyed_quotient::{KeyedDraft, KeyedSummary};
-use node_moves::Near;
 use px_base::{Memory, NodeId, Steps};
+use quotient_moves::NodeNeighbours;
 use std::alloc::Global;
 use std::marker::Model;
 use std::sync::ledger::Ledger;
@@ -235,7 +235,7 @@ impl AkFamily {
     }
 
     /// Drafts the move of a node to a block of a level as shown, with the supports of its edges there. Its parents and its children are
-    /// read once, and its children stay in `near`. After `Memory` the draft must be cleared before it is used again. Expected O(p + c) for
+    /// read once, and its children stay in `neighbours`. After `Memory` the draft must be cleared before it is used again. Expected O(p + c) for
     /// p parents and c children; it takes the memory of one move and of two pairs for each.
     pub fn move_node<L: Ledger>(
         &self,
@@ -243,7 +243,7 @@ impl AkFamily {
         after: &After<'_>,
         n: NodeId,
         to: LevelBlock,
-        near: &mut Near,
+        neighbours: &mut NodeNeighbours,
         steps: &mut Steps<L>,
     ) -> Result<(), Memory>
         requires over { AreOver self.now d.old }
@@ -254,13 +254,13 @@ impl AkFamily {
         requires supports { AreEdgeCounts (graph_after after.now) (blocks_shown self.now d.old to.level) (support_shown self.now d.old to.level) }
         ensures moved { OnOk result (NodeMoves self.now to.level d.old d.new n (Some to.block)) }
         ensures supports { OnOk result (AreEdgeCounts (graph_after after.now) (blocks_shown self.now d.new to.level) (support_shown self.now d.new to.level)) }
-        ensures children { OnOk result (Lists (has_edge (graph_after after.now) n) near.new) }
+        ensures children { OnOk result (Lists (has_edge (graph_after after.now) n) neighbours.new) }
         ensures kept { KeepsLabelsAndKeys self.now to.level d.old d.new }
         ensures over { OnOk result (AreOver self.now d.new) }
         ensures cost { steps.new ≤ steps.old + parents_cost after.now n + children_cost after.now n }
     {
         let level = level_of(&self.levels, to.level);
-        d.levels[to.level as usize].move_node(level, after, n, to.block, near, steps)?;
+        d.levels[to.level as usize].move_node(level, after, n, to.block, neighbours, steps)?;
         Ok(())
     }
 }

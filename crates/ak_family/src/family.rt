@@ -1,12 +1,12 @@
 // The family.
 ghost use Rattle.std.specs.Prelude.{◌≡◌, ◌+◌, ◌<◌, ◌≤◌, ◌↔◌, ℕ, Some, IfOk, IsSome, IsTrue, length, slice_get};
-ghost use Rattle.px_spec.specs.Shapes.{shape_of};
+ghost use Rattle.graph_spec.specs.Shapes.{shape_of};
 ghost use Rattle.bisim_spec.specs.Bisimilarity.{Bis};
-ghost use Rattle.px_spec.specs.Members.{at};
+ghost use Rattle.graph_spec.specs.Members.{at};
 ghost use Rattle.bisim_spec.specs.Partitions.{Agrees, Together};
-ghost use Rattle.bisim_spec.specs.Views.{ViewFits};
+ghost use Rattle.bisim_spec.specs.IndexGraphs.{ViewFits};
 ghost use Rattle.quotient.specs.Quotients.{view_of};
-ghost use Rattle.keyed_quotient.specs.Levels.{AreKeyed, key_at};
+ghost use Rattle.keyed_quotient.specs.KeyedQuotients.{AreKeyed, key_at};
 ghost use Rattle.ak_family.specs.Families.{level_at, blocks_at, quotients_of, AreLabelKeys, AreParentKeys, IsKeyedFamily};
 
 use crate::keyed::keyed_summary;
@@ -43,7 +43,7 @@ impl Drop for AkFamily {
 impl Model for AkFamily {
     ghost use Rattle.std.specs.Prelude.{List};
     ghost use Rattle.std.specs.Coded.{coded_list};
-    ghost use Rattle.keyed_quotient.specs.Levels.{KeyedQuotient, keyed_code};
+    ghost use Rattle.keyed_quotient.specs.KeyedQuotients.{KeyedQuotient, keyed_code};
     ghost use Rattle.ak_family.specs.Families.{IsFamily};
 
     ghost Value = { List KeyedQuotient };

@@ -1,18 +1,18 @@
 // The quotient by a level of bisimilarity, with the keys of its blocks.
 ghost use Rattle.std.specs.Prelude.{◌≡◌, ◌≤◌, ◌^◌, ℕ, IfOk, length, slice_get};
-ghost use Rattle.px_spec.specs.Shapes.{shape_of};
+ghost use Rattle.graph_spec.specs.Shapes.{shape_of};
 ghost use Rattle.bisim_spec.specs.Partitions.{IsPartition};
-ghost use Rattle.bisim_spec.specs.Views.{ViewFits};
+ghost use Rattle.bisim_spec.specs.IndexGraphs.{ViewFits};
 ghost use Rattle.bisim_levels.specs.Refinement.{AreBlocksBelow};
 ghost use Rattle.key_table.specs.NumberedKeys.{AreDistinct};
 ghost use Rattle.quotient.specs.Quotients.{view_of};
-ghost use Rattle.quotient.specs.Joined.{AreListed};
-ghost use Rattle.keyed_quotient.specs.Levels.{AreKeyed, key_at};
-ghost use Rattle.block_filling.specs.FilledTables.{SameBlocks};
+ghost use Rattle.quotient.specs.QuotientNeighbours.{AreListed};
+ghost use Rattle.keyed_quotient.specs.KeyedQuotients.{AreKeyed, key_at};
+ghost use Rattle.block_partition.specs.FilledTables.{SameBlocks};
 ghost use Rattle.ak_family.specs.BlockLabels.{BlocksHaveLabels, HasTheirLabels};
 
 use crate::labelled_levels::LabelledLevel;
-use block_filling::fill;
+use block_partition::fill;
 use key_table::KeyTable;
 use keyed_quotient::KeyedSummary;
 use label_graph::GraphView;

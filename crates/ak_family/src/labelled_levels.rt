@@ -1,10 +1,10 @@
 // Levels of bisimilarity, with the labels of their blocks.
 ghost use Rattle.std.specs.Prelude.{◌≡◌, ◌≤◌, ◌^◌, [], IfOk, length, slice_get};
-ghost use Rattle.px_spec.specs.Shapes.{shape_of};
-ghost use Rattle.label_graph.specs.Views.{label_number};
+ghost use Rattle.graph_spec.specs.Shapes.{shape_of};
+ghost use Rattle.label_graph.specs.GraphViews.{label_number};
 ghost use Rattle.bisim_spec.specs.Bisimilarity.{Bis};
 ghost use Rattle.bisim_spec.specs.Partitions.{Agrees, IsPartition};
-ghost use Rattle.bisim_levels.specs.Sides.{no_neighbours};
+ghost use Rattle.bisim_levels.specs.NeighbourSides.{no_neighbours};
 ghost use Rattle.bisim_levels.specs.Refinement.{AreNumbered, AreBlocksBelow};
 ghost use Rattle.key_table.specs.NumberedKeys.{AreDistinct};
 ghost use Rattle.ak_family.specs.BlockLabels.{BlocksHaveLabels, IsNextLevel, AreNumberedAbove};

@@ -1,9 +1,9 @@
 // Settling a draft in its family.
 ghost use Rattle.std.specs.Prelude.{◌≡◌, ◌<◌, List, OnOk, length};
 ghost use Rattle.quotient.specs.Quotients.{view_of};
-ghost use Rattle.keyed_quotient.specs.Levels.{KeyedQuotient};
+ghost use Rattle.keyed_quotient.specs.KeyedQuotients.{KeyedQuotient};
 ghost use Rattle.ak_family.specs.Families.{HaveMembers, IsKeyedFamily};
-ghost use Rattle.ak_family.specs.LevelDrafts.{AreOver, AreSeenAs, HaveRoom, ShowsFamily, AreSettled, AreEmpty};
+ghost use Rattle.ak_family.specs.LevelDrafts.{AreOver, AreSeenAs, HaveReserved, ShowsFamily, AreSettled, AreEmpty};
 
 use crate::drafting::{AkDraft, draft_of};
 use crate::family::AkFamily;
@@ -11,7 +11,7 @@ use keyed_quotient::{KeyedDraft, KeyedSummary};
 use px_base::Memory;
 
 impl AkFamily {
-    /// Makes the room that settling this draft needs. It leaves the family as it is seen. Expected O(k + d + l) for d entries
+    /// Reserves the capacity that settling this draft needs. It leaves the family as it is seen. Expected O(k + d + l) for d entries
     /// that are drafted, with keys of l numbers together, and linear in a table of a level where that moves; it takes what the drafted entries
     /// take there. Where a level holds many keys of blocks that are gone, or long ones, these are dropped first, in time linear in its block numbers and keys.
     pub fn reserve(&mut self, d: &AkDraft) -> Result<(), Memory>
@@ -20,7 +20,7 @@ impl AkFamily {
         ensures over { AreOver self.new d.now }
         ensures shows { ShowsFamily self.old d.now → ShowsFamily self.new d.now }
         ensures settled { (f : List KeyedQuotient) → AreSettled self.new d.now f → AreSettled self.old d.now f }
-        ensures room { OnOk result (HaveRoom self.new d.now) }
+        ensures reserved { OnOk result (HaveReserved self.new d.now) }
     {
         reserve_all(&mut self.levels, &d.levels)?;
         Ok(())
@@ -29,7 +29,7 @@ impl AkFamily {
     /// Makes the family what the draft shows, without blocks that have no members, and drops what was drafted. It can't fail and takes
     /// no memory. Expected O(k + d + l) for d entries that are drafted, with keys of l numbers together, and what `clear` takes.
     pub fn settle(&mut self, d: &mut AkDraft)
-        requires room { HaveRoom self.old d.old }
+        requires reserved { HaveReserved self.old d.old }
         requires shows { ShowsFamily self.old d.old }
         ensures settled { AreSettled self.old d.old self.new }
         ensures keyed { IsKeyedFamily self.new }
@@ -41,11 +41,11 @@ impl AkFamily {
     }
 }
 
-// Makes the room at each level.
+// Reserves the capacity at each level.
 fn reserve_all(levels: &mut Vec<KeyedSummary>, drafts: &Vec<KeyedDraft>) -> Result<(), Memory>
     requires over { AreOver levels.old.items drafts.now.items }
     ensures same { AreSeenAs levels.old.items levels.new.items }
-    ensures room { OnOk result (HaveRoom levels.new.items drafts.now.items) }
+    ensures reserved { OnOk result (HaveReserved levels.new.items drafts.now.items) }
 {
     'levels: for i in 0..levels.len() {
         draft_of(drafts, i).reserve(&mut levels[i])?;
@@ -55,7 +55,7 @@ fn reserve_all(levels: &mut Vec<KeyedSummary>, drafts: &Vec<KeyedDraft>) -> Resu
 
 // Settles the draft of each level.
 fn settle_all(levels: &mut Vec<KeyedSummary>, drafts: &mut Vec<KeyedDraft>)
-    requires room { HaveRoom levels.old.items drafts.old.items }
+    requires reserved { HaveReserved levels.old.items drafts.old.items }
     requires shows { ShowsFamily levels.old.items drafts.old.items }
     requires inhabited { HaveMembers levels.old.items }
     ensures settled { AreSettled levels.old.items drafts.old.items levels.new.items }

@@ -1,17 +1,17 @@
 -- What is staged, and what is in force once it is committed.
 use Rattle.std.proofs.Common.{◌≡◌, ℕ, ◌+◌, ◌<◌, List, Option, Some, None, IsSome, IfSome, length, option_map, refl, sym, ◌∙◌, ap, subst, arith, true≢false}
-use Rattle.px_spec.specs.Graphs.{Graph}
-use Rattle.px_spec.specs.Changes.{Change, after}
+use Rattle.graph_spec.specs.Graphs.{Graph}
+use Rattle.graph_spec.specs.Changes.{Change, after}
 use Rattle.bisim_spec.specs.declared.kind.Kind.TheVariants.{A}
-use Rattle.bisim_spec.specs.Views.{View}
+use Rattle.bisim_spec.specs.IndexGraphs.{View}
 use Rattle.bisim_spec.specs.Fits.{Fits, FitsAt, view_at}
-use Rattle.keyed_quotient.specs.Levels.{KeyedQuotient}
+use Rattle.keyed_quotient.specs.KeyedQuotients.{KeyedQuotient}
 use Rattle.keyed_quotient.specs.Changes.{KeyedChanges}
 use Rattle.ak_family.specs.LevelDrafts.{AreSeenAs, AreSettled}
-use Rattle.ak_drafting.specs.FamilyDrafts.{FamilyFits}
+use Rattle.level_update.specs.FamilyDrafts.{FamilyFits}
 use Rattle.index_api.specs.Meanings.{IsReady, IsBuilt, IsPrepared, IsCommitted, IsRefreshed, unstaged}
 use Rattle.ak_maintain.specs.KeptFamilies.{KeptFamily, IsStagedFor, views_of, settled_views, kept_views, meaning_of}
-use Rattle.ak_maintain.proofs.Views.{view_total, settled_total, family_fits, fits_family, shown_fits, same_views, views_settled}
+use Rattle.ak_maintain.proofs.FamilyViews.{view_total, settled_total, family_fits, fits_family, shown_fits, same_views, views_settled}
 
 -- an index that is ready has a family, with nothing staged
 pub record IsReadyKept (k : KeptFamily) (g : Graph) : Type 0 where
@@ -39,7 +39,7 @@ none_ready g ready = let count = ready.fits.count in omega (arith, count)
 pub kept_total : (o : Option KeptFamily) (k : KeptFamily) (n : ℕ) → o ≡ Some k → length (kept_views o) ≡ n → length k.base ≡ n
 kept_total o k n is count = sym (view_total k.base) ∙ ap (λ (x : Option KeptFamily). length (kept_views x)) (sym is) ∙ count
 
--- a draft is staged over a family that is the same but for room
+-- a draft is staged over a family that is the same but for reserved capacity
 prepared_by : (k k2 : KeptFamily) (g : Graph) (c : Change) (o : Option (List KeyedChanges)) → AreSeenAs k.base k2.base → 0 < length k.base → k2.staged ≡ o
     → IsStagedFor (after c g) k2.base o → IsPrepared (meaning_of (Some k)) (meaning_of (Some k2)) c g
 prepared_by k k2 g c None same some e fits = absurd fits

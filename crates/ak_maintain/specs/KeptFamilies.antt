@@ -1,15 +1,15 @@
 -- A family of A(k)-indexes that is kept: the family in force, and a draft over it of what a change to come will make of it.
 use Rattle.std.specs.Prelude.{◌+◌, ℕ, List, [], ◌∷◌, Option, Some, None, map, option_map, refl}
 use Rattle.std.specs.Coded.{Coded, code_by, coded×, coded_list, coded_option}
-use Rattle.px_spec.specs.Graphs.{Graph}
+use Rattle.graph_spec.specs.Graphs.{Graph}
 use Rattle.bisim_spec.specs.declared.kind.Kind.TheVariants.{A}
-use Rattle.bisim_spec.specs.Views.{View}
+use Rattle.bisim_spec.specs.IndexGraphs.{View}
 use Rattle.quotient.specs.Quotients.{view_of}
 use Rattle.quotient_draft.specs.Drafts.{settled_view}
-use Rattle.keyed_quotient.specs.Levels.{KeyedQuotient, keyed_code}
+use Rattle.keyed_quotient.specs.KeyedQuotients.{KeyedQuotient, keyed_code}
 use Rattle.keyed_quotient.specs.Changes.{KeyedChanges, changes_code}
-use Rattle.ak_family.specs.LevelDrafts.{changes_at, HaveRoom, ShowsFamily}
-use Rattle.ak_drafting.specs.FamilyDrafts.{ShownFit}
+use Rattle.ak_family.specs.LevelDrafts.{changes_at, HaveReserved, ShowsFamily}
+use Rattle.level_update.specs.FamilyDrafts.{ShownFit}
 use Rattle.index_api.specs.Meanings.{Meaning}
 
 pub record KeptFamily : Type 0 where
@@ -23,9 +23,9 @@ kept_code =
     code_by (List KeyedQuotient × Option (List KeyedChanges)) (coded× (coded_list keyed_code) (coded_option (coded_list changes_code))) (λ k. (k.base, k.staged))
     (λ p. record { base = p.0; staged = p.1 }) (λ _. refl)
 
--- what the draft needs to be settled in its base: room, and that it shows a family
+-- what the draft needs to be settled in its base: reserved capacity, and that it shows a family
 pub record CanSettle (f : List KeyedQuotient) (d : List KeyedChanges) : Type 0 where
-  pub room : HaveRoom f d
+  pub reserved : HaveReserved f d
   pub shows : ShowsFamily f d
 
 -- a draft that is staged can be settled

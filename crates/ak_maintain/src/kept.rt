@@ -1,16 +1,16 @@
 // A family in force, with what a change to come will make of it.
 ghost use Rattle.std.specs.Prelude.{◌≡◌, ◌+◌, ◌≤◌, ℕ, None, IsSome, IfOk, IfSome, OnOk, OnErr, length};
-ghost use Rattle.px_spec.specs.Changes.{after};
+ghost use Rattle.graph_spec.specs.Changes.{after};
 ghost use Rattle.graph_update.specs.NewChanges.{IsNew};
 ghost use Rattle.graph_update.specs.Verdicts.{change_of};
 ghost use Rattle.ak_family.specs.LevelDrafts.{AreSeenAs, AreSettled, ShowsFamily};
-ghost use Rattle.ak_drafting.specs.FamilyDrafts.{FamilyFits, ShownFit, most_steps};
+ghost use Rattle.level_update.specs.FamilyDrafts.{FamilyFits, ShownFit, most_steps};
 ghost use Rattle.ak_maintain.specs.KeptFamilies.{CanSettle, IsStagedFor};
 
-use ak_drafting::draft_change;
 use ak_family::{AkDraft, AkFamily};
 use graph_update::Change;
 use label_graph::Graph;
+use level_update::draft_change;
 use px_base::{Memory, Steps};
 use std::alloc::Global;
 use std::marker::Model;
@@ -65,7 +65,7 @@ fn drafted<L: Ledger>(
 }
 
 // The same, with the room that settling the draft needs.
-fn drafted_with_room<L: Ledger>(
+fn drafted_with_reserved<L: Ledger>(
     alloc: Global,
     family: &mut AkFamily,
     graph: &Graph,
@@ -119,7 +119,7 @@ impl Kept {
         ensures unstaged { OnErr result (self.new.staged ≡ None) }
         ensures cost { (k : ℕ) → length self.old.base ≡ k + 1 → steps.new ≤ steps.old + most_steps graph.now.graph (change_of change.now) k }
     {
-        let draft = drafted_with_room(alloc, &mut self.family, graph, change, steps)?;
+        let draft = drafted_with_reserved(alloc, &mut self.family, graph, change, steps)?;
         self.staged = Some(draft);
         Ok(())
     }

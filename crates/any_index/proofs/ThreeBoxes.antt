@@ -3,7 +3,7 @@ use Rattle.std.proofs.Common.{◌≡◌, ◌≢◌, ℕ, zero, suc, List, [], �
 use Rattle.std.specs.List.{AllPairs}
 use Rattle.bisim_spec.specs.declared.kind.Kind.TheVariants.{A, One, Fb}
 use Rattle.index_api.specs.Meanings.{Meaning}
-use Rattle.index_api.specs.Kept.{kinds_of}
+use Rattle.index_api.specs.IndexKinds.{kinds_of}
 use Rattle.one_maintain.specs.KeptQuotients.{KeptQuotient, meaning_of}
 
 -- what a 1-index means that keeps some quotient, or none

@@ -1,6 +1,6 @@
 // The engine with an index of each kind.
 ghost use Rattle.std.specs.Prelude.{◌≡◌, [], ◌∷◌, None, IfOk};
-ghost use Rattle.index_api.specs.Kept.{kinds_of};
+ghost use Rattle.index_api.specs.IndexKinds.{kinds_of};
 ghost use Rattle.pathindex_core.specs.Engines.{IsSound, seen};
 ghost use Rattle.any_index.specs.AnyMeanings.{meaning_of};
 

@@ -1,5 +1,5 @@
 pub mod RisingLists
-pub mod Written
+pub mod WrittenKeys
 pub mod NumberedNodes
-pub mod Views
+pub mod LabelledNodes
 pub mod LevelLaws

@@ -4,8 +4,8 @@ use Rattle.std.specs.Ordering.{nat_cmp}
 use Rattle.std.specs.List.{cons_option}
 use Rattle.std.specs.List.Sorted.{IsStrictlySortedBy, IsStrictlyIncreasing}
 use Rattle.std.proofs.lemmas.Map.Keys.{sorted_from_strictly_increasing}
-use Rattle.px_spec.specs.Members.{has}
-use Rattle.px_spec.proofs.MemberLaws.{has_cases, has_head, has_tail}
+use Rattle.graph_spec.specs.Members.{has}
+use Rattle.graph_spec.proofs.MemberLaws.{has_cases, has_head, has_tail}
 use Rattle.key_table.proofs.RisingSets.{below_rest}
 use Rattle.bisim_levels.specs.Keys.{IsSetOf, AreImages}
 

@@ -1,3 +1,3 @@
-pub mod Sides
+pub mod NeighbourSides
 pub mod Keys
 pub mod Refinement

@@ -1,9 +1,9 @@
 // Writing the key of a node.
 ghost use Rattle.std.specs.Prelude.{◌≡◌, ◌++◌, ◌∷◌, [], ℕ, Option, filter_map, option_to_list, OnOk, IfSome, Some};
-ghost use Rattle.px_spec.specs.Members.{at};
+ghost use Rattle.graph_spec.specs.Members.{at};
 ghost use Rattle.bisim_levels.specs.Keys.{Gives, IsWritten};
 
-use key_table::sort_once;
+use key_table::sort_dedup;
 use px_base::{Memory, NodeId};
 
 /// The block of a node, and `None` past the end of the list. O(1), no memory.
@@ -21,7 +21,7 @@ pub fn block_of(block: &[Option<u32>], n: NodeId) -> Option<u32>
 /// The block of the only node of a list, and `None` where there are more nodes, or none, or where that
 /// node has no block. O(1), no memory.
 #[inline(always)]
-pub fn only_block(block: &[Option<u32>], nodes: &[NodeId]) -> Option<u32>
+pub fn single_block(block: &[Option<u32>], nodes: &[NodeId]) -> Option<u32>
     ensures { IfSome result (λ b. (p : ℕ) × (nodes.now ≡ p ∷ []) × (at block.now p ≡ Some b)) }
 {
     if nodes.len() == 1 {
@@ -59,7 +59,7 @@ fn push_blocks<F: Fn(NodeId) -> Option<u32>>(
 
 /// Writes the key of a node with these neighbours, whose own block has this number: that number, and then the
 /// blocks of the neighbours, rising, each once. O(m log m) for m neighbours; it takes 4 bytes for each where the
-/// list has no room.
+/// list has no capacity.
 pub fn write_key<F: Fn(NodeId) -> Option<u32>>(
     key: &mut Vec<u32>,
     nodes: &[NodeId],
@@ -71,7 +71,7 @@ pub fn write_key<F: Fn(NodeId) -> Option<u32>>(
 {
     key.clear();
     push_blocks(key, nodes, block_of)?;
-    sort_once(key);
+    sort_dedup(key);
     key.insert(0, number)?;
     Ok(())
 }

@@ -1,13 +1,13 @@
 // Levels of bisimilarity, each from the one below.
 ghost use Rattle.std.specs.Prelude.{◌≡◌, [], IsSome, IfOk, length, slice_get};
-ghost use Rattle.px_spec.specs.Shapes.{shape_of};
-ghost use Rattle.label_graph.specs.Views.{label_number};
+ghost use Rattle.graph_spec.specs.Shapes.{shape_of};
+ghost use Rattle.label_graph.specs.GraphViews.{label_number};
 ghost use Rattle.key_table.specs.NumberedKeys.{AreDistinct};
 ghost use Rattle.bisim_spec.specs.Bisimilarity.{Bis, Both, SameLabel};
-ghost use Rattle.px_spec.specs.Members.{at};
+ghost use Rattle.graph_spec.specs.Members.{at};
 ghost use Rattle.bisim_spec.specs.Partitions.{IsPartition, Agrees};
 ghost use Rattle.bisim_levels.specs.declared.sides.Side.TheVariants.{Parents, Children};
-ghost use Rattle.bisim_levels.specs.Sides.{is_near, no_neighbours};
+ghost use Rattle.bisim_levels.specs.NeighbourSides.{is_neighbour, no_neighbours};
 ghost use Rattle.bisim_levels.specs.Refinement.{AreNumbered, AreNumberedTwice, AreBlocksBelow, Numbers, IsNextLevel};
 
 use crate::recent_keys::RecentKeys;
@@ -67,7 +67,7 @@ pub fn next_level(
     requires partition { IsPartition (shape_of view.now) block.now }
     ensures agrees { IfOk result (λ l. IsNextLevel Bis (shape_of view.now) block.now l.block.items) }
     ensures partition { IfOk result (λ l. IsPartition (shape_of view.now) l.block.items) }
-    ensures numbered { IfOk result (λ l. AreNumbered (at block.now) block.now (is_near Parents view.now) l.block.items (slice_get l.keys)) }
+    ensures numbered { IfOk result (λ l. AreNumbered (at block.now) block.now (is_neighbour Parents view.now) l.block.items (slice_get l.keys)) }
     ensures span { IfOk result (λ l. AreBlocksBelow l.block.items (length l.keys)) }
     ensures distinct { IfOk result (λ l. AreDistinct l.keys) }
 {
@@ -86,7 +86,7 @@ pub fn next_level_both(
     requires partition { IsPartition (shape_of view.now) block.now }
     ensures agrees { IfOk result (λ l. IsNextLevel Both (shape_of view.now) block.now l.block.items) }
     ensures partition { IfOk result (λ l. IsPartition (shape_of view.now) l.block.items) }
-    ensures numbered { IfOk result (λ l. AreNumberedTwice block.now (is_near Parents view.now) (is_near Children view.now) l.block.items (slice_get l.keys)) }
+    ensures numbered { IfOk result (λ l. AreNumberedTwice block.now (is_neighbour Parents view.now) (is_neighbour Children view.now) l.block.items (slice_get l.keys)) }
     ensures span { IfOk result (λ l. AreBlocksBelow l.block.items (length l.keys)) }
     ensures distinct { IfOk result (λ l. AreDistinct l.keys) }
 {

@@ -7,7 +7,7 @@ mod recent_keys;
 mod refining;
 mod sides;
 
-pub use keys::{block_of, only_block, write_key};
+pub use keys::{block_of, single_block, write_key};
 pub use levels::{label_level, next_level, next_level_both};
 pub use refining::{Level, refine};
 pub use sides::Side;

@@ -1,6 +1,6 @@
 // A table of keys in which recent keys are found without a walk along a chain.
 ghost use Rattle.std.specs.Prelude.{◌≡◌, [], ℕ, List, IfOk, IsTrue, Some, slice_get};
-ghost use Rattle.px_spec.specs.Members.{at};
+ghost use Rattle.graph_spec.specs.Members.{at};
 ghost use Rattle.key_table.specs.NumberedKeys.{AreDistinct, Interns};
 ghost use Rattle.bisim_levels.specs.Keys.{IsWritten};
 
@@ -52,9 +52,9 @@ impl RecentKeys {
         ensures ok { IfOk result (Interns self.old self.new key.now) }
         ensures distinct { IfOk result (λ k. AreDistinct self.new) }
     {
-        let near = self.recent.get(a, b);
-        if is_at(&self.table, near, key) {
-            return Ok(near);
+        let neighbour_of = self.recent.get(a, b);
+        if is_at(&self.table, neighbour_of, key) {
+            return Ok(neighbour_of);
         }
         let k = self.table.intern(key)?;
         self.recent.put(a, b, k);

@@ -1,16 +1,16 @@
 // A partition that is refined by the blocks of neighbours.
 ghost use Rattle.std.specs.Prelude.{◌≡◌, ℕ, List, IsSome, IfOk, length, slice_get};
-ghost use Rattle.px_spec.specs.Graphs.{IsGraph};
-ghost use Rattle.px_spec.specs.Shapes.{shape_of};
-ghost use Rattle.label_graph.specs.Views.{label_number};
+ghost use Rattle.graph_spec.specs.Graphs.{IsGraph};
+ghost use Rattle.graph_spec.specs.Shapes.{shape_of};
+ghost use Rattle.label_graph.specs.GraphViews.{label_number};
 ghost use Rattle.key_table.specs.NumberedKeys.{AreDistinct, Interns};
-ghost use Rattle.px_spec.specs.Members.{at};
+ghost use Rattle.graph_spec.specs.Members.{at};
 ghost use Rattle.bisim_spec.specs.Partitions.{IsPartition};
-ghost use Rattle.bisim_levels.specs.Sides.{is_near};
+ghost use Rattle.bisim_levels.specs.NeighbourSides.{is_neighbour};
 ghost use Rattle.bisim_levels.specs.Keys.{IsWritten};
 ghost use Rattle.bisim_levels.specs.Refinement.{Refines, AreNumbered, AreBlocksBelow, Numbers};
 
-use crate::keys::{block_of, only_block};
+use crate::keys::{block_of, single_block};
 use crate::recent_keys::RecentKeys;
 use crate::sides::Side;
 use key_table::KeyTable;
@@ -45,7 +45,7 @@ fn find_key(
     ensures ok { IfOk result (λ k. (key : List ℕ) × IsWritten (at base.now) nodes.now number key × Interns keys.old keys.new key k) }
     ensures distinct { IfOk result (λ k. AreDistinct keys.new) }
 {
-    match only_block(base, nodes) {
+    match single_block(base, nodes) {
         Some(around) => keys.intern(around, number, &[number, around]),
         None => keys.intern_written(base, nodes, number),
     }
@@ -64,7 +64,7 @@ fn number_of(
     requires distinct { AreDistinct keys.old }
     requires graph { IsGraph view.now }
     requires nodes { IsSome (at own.now n) → IsSome (label_number view.now n) }
-    ensures ok { IfOk result (λ number. Numbers (at own.now) base.now (is_near side view.now) n keys.old keys.new number) }
+    ensures ok { IfOk result (λ number. Numbers (at own.now) base.now (is_neighbour side view.now) n keys.old keys.new number) }
     ensures distinct { IfOk result (λ number. AreDistinct keys.new) }
 {
     match block_of(own, n) {
@@ -89,8 +89,8 @@ pub fn refine(
 ) -> Result<Level, Memory>
     requires own { IsPartition (shape_of view.now) own.now }
     requires base { IsPartition (shape_of view.now) base.now }
-    ensures refines { IfOk result (λ l. Refines (at own.now) base.now (is_near side view.now) l.block.items) }
-    ensures numbered { IfOk result (λ l. AreNumbered (at own.now) base.now (is_near side view.now) l.block.items (slice_get l.keys)) }
+    ensures refines { IfOk result (λ l. Refines (at own.now) base.now (is_neighbour side view.now) l.block.items) }
+    ensures numbered { IfOk result (λ l. AreNumbered (at own.now) base.now (is_neighbour side view.now) l.block.items (slice_get l.keys)) }
     ensures span { IfOk result (λ l. AreBlocksBelow l.block.items (length l.keys)) }
     ensures distinct { IfOk result (λ l. AreDistinct l.keys) }
 {

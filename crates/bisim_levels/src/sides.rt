@@ -1,9 +1,9 @@
 // The two sides of a node.
 ghost use Rattle.std.specs.Prelude.{IsSome};
-ghost use Rattle.px_spec.specs.Graphs.{IsGraph};
-ghost use Rattle.px_spec.specs.Members.{Lists};
-ghost use Rattle.label_graph.specs.Views.{label_number};
-ghost use Rattle.bisim_levels.specs.Sides.{is_near};
+ghost use Rattle.graph_spec.specs.Graphs.{IsGraph};
+ghost use Rattle.graph_spec.specs.Members.{Lists};
+ghost use Rattle.label_graph.specs.GraphViews.{label_number};
+ghost use Rattle.bisim_levels.specs.NeighbourSides.{is_neighbour};
 
 use label_graph::{Digraph, GraphView};
 use px_base::NodeId;
@@ -22,7 +22,7 @@ impl Side {
     pub(crate) fn neighbours<'a>(self, view: &'a GraphView<'_>, n: NodeId) -> &'a [NodeId]
         requires graph { IsGraph view.now }
         requires node { IsSome (label_number view.now n) }
-        ensures { Lists (λ p. is_near self view.now p n) result.now }
+        ensures { Lists (λ p. is_neighbour self view.now p n) result.now }
     {
         match self {
             Side::Parents => view.parents(n),

@@ -1,6 +1,6 @@
 -- Levels of bisimilarity are equivalences of the nodes, and each lies within the one below.
 use Rattle.std.proofs.Common.{◌≡◌, ℕ, zero, suc, ◌⊎◌, Option, Some, None, IsSome, is_some, refl, sym, ◌∙◌, ap, inl, inr, true≢false}
-use Rattle.px_spec.specs.Shapes.{Shape, IsNode, IsShape}
+use Rattle.graph_spec.specs.Shapes.{Shape, IsNode, IsShape}
 use Rattle.bisim_spec.specs.Bisimilarity.{SameLabel, Matched, Bis, Both}
 
 pub some_of : {A : Type 0} (o : Option A) → IsSome o → (x : A) × (o ≡ Some x)
@@ -16,20 +16,20 @@ is_some_at o x e = ap is_some e
 
 -- matched neighbours, of relations with these laws
 
-pub matched_sym : {Near R : ℕ → ℕ → Type 0} {u v : ℕ} → Matched Near R u v → Matched Near R v u
+pub matched_sym : {Neighbour R : ℕ → ℕ → Type 0} {u v : ℕ} → Matched Neighbour R u v → Matched Neighbour R v u
 matched_sym h = record { there = h.back; back = h.there }
 
-pub matched_trans : {Near R : ℕ → ℕ → Type 0} {u v w : ℕ} → ((x y z : ℕ) → R x y → R y z → R x z)
-    → Matched Near R u v → Matched Near R v w → Matched Near R u w
+pub matched_trans : {Neighbour R : ℕ → ℕ → Type 0} {u v w : ℕ} → ((x y z : ℕ) → R x y → R y z → R x z)
+    → Matched Neighbour R u v → Matched Neighbour R v w → Matched Neighbour R u w
 matched_trans trans h k = record {
   there = λ p e. let q = h.there p e in let r = k.there q.0 q.1 in (r.0, r.1, trans p q.0 r.0 q.2 r.2);
   back = λ p e. let q = k.back p e in let r = h.back q.0 q.1 in (r.0, r.1, trans p q.0 r.0 q.2 r.2);
 }
 
-pub matched_self : {Near R : ℕ → ℕ → Type 0} {u : ℕ} → ((p : ℕ) → Near p u → R p p) → Matched Near R u u
+pub matched_self : {Neighbour R : ℕ → ℕ → Type 0} {u : ℕ} → ((p : ℕ) → Neighbour p u → R p p) → Matched Neighbour R u u
 matched_self self = record { there = λ p e. (p, e, self p e); back = λ p e. (p, e, self p e) }
 
-pub matched_map : {Near R Q : ℕ → ℕ → Type 0} {u v : ℕ} → ((x y : ℕ) → R x y → Q x y) → Matched Near R u v → Matched Near Q u v
+pub matched_map : {Neighbour R Q : ℕ → ℕ → Type 0} {u v : ℕ} → ((x y : ℕ) → R x y → Q x y) → Matched Neighbour R u v → Matched Neighbour Q u v
 matched_map within h = record {
   there = λ p e. let q = h.there p e in (q.0, q.1, within p q.0 q.2);
   back = λ p e. let q = h.back p e in (q.0, q.1, within p q.0 q.2);

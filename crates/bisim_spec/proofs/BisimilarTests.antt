@@ -3,7 +3,7 @@ use Rattle.std.proofs.Common.{◌≡◌, ℕ, zero, suc, ◌<◌, List, Option, 
 use Rattle.std.specs.Prelude.{Decides}
 use Rattle.std.proofs.lemmas.Bool.{and_parts, and_from}
 use Rattle.std.proofs.lemmas.Slice.Eq.{bytes_eq-Decides}
-use Rattle.px_spec.specs.Shapes.{Shape, IsParent, IsChild, IsShape}
+use Rattle.graph_spec.specs.Shapes.{Shape, IsParent, IsChild, IsShape}
 use Rattle.bisim_spec.specs.Below.{any_below}
 use Rattle.bisim_spec.specs.Bisimilarity.{SameLabel, Covers, Matched, Bis, Both, node_count, Bisim, FB}
 use Rattle.bisim_spec.specs.Tests.{same_text, same_label, covers, matched, is_child, bis, both, bisim, fb}
@@ -29,26 +29,26 @@ pub if_from : (a b : Bool) → (a ≡ true → b ≡ true) → (not a || b) ≡ 
 if_from true b h = h refl
 if_from false b h = refl
 
-pub covers_decides : (size : ℕ) (near r : ℕ → ℕ → Bool) (R : ℕ → ℕ → Type 0) → ((p n : ℕ) → IsTrue (near p n) → p < size) → ((p q : ℕ) → Decides (r p q) (R p q))
-    → (u v : ℕ) → Decides (covers size near r u v) (Covers (λ p n. IsTrue (near p n)) R u v)
-covers_decides size near r R below decides u v = (
+pub covers_decides : (size : ℕ) (neighbour_of r : ℕ → ℕ → Bool) (R : ℕ → ℕ → Type 0) → ((p n : ℕ) → IsTrue (neighbour_of p n) → p < size) → ((p q : ℕ) → Decides (r p q) (R p q))
+    → (u v : ℕ) → Decides (covers size neighbour_of r u v) (Covers (λ p n. IsTrue (neighbour_of p n)) R u v)
+covers_decides size neighbour_of r R below decides u v = (
   λ h p e.
-      let some = if_get (near p u) (any_below size (λ q. near q v && r p q)) (all_get size (λ p. not (near p u) || any_below size (λ q. near q v && r p q)) h p (below p u e)) e in
-      let q = any_get size (λ q. near q v && r p q) some in
-      let a = and_parts (near q.0 v) (r p q.0) q.2 in
+      let some = if_get (neighbour_of p u) (any_below size (λ q. neighbour_of q v && r p q)) (all_get size (λ p. not (neighbour_of p u) || any_below size (λ q. neighbour_of q v && r p q)) h p (below p u e)) e in
+      let q = any_get size (λ q. neighbour_of q v && r p q) some in
+      let a = and_parts (neighbour_of q.0 v) (r p q.0) q.2 in
       (q.0, a.0, (decides p q.0).0 a.1),
-  λ h. all_from size (λ p. not (near p u) || any_below size (λ q. near q v && r p q)) (λ p l. if_from (near p u) (any_below size (λ q. near q v && r p q)) (λ e.
+  λ h. all_from size (λ p. not (neighbour_of p u) || any_below size (λ q. neighbour_of q v && r p q)) (λ p l. if_from (neighbour_of p u) (any_below size (λ q. neighbour_of q v && r p q)) (λ e.
       let q = h p e in
-      any_from size (λ q. near q v && r p q) q.0 (below q.0 v q.1) (and_from (near q.0 v) (r p q.0) q.1 ((decides p q.0).1 q.2)))),
+      any_from size (λ q. neighbour_of q v && r p q) q.0 (below q.0 v q.1) (and_from (neighbour_of q.0 v) (r p q.0) q.1 ((decides p q.0).1 q.2)))),
 )
 
-pub matched_decides : (size : ℕ) (near r : ℕ → ℕ → Bool) (R : ℕ → ℕ → Type 0) → ((p n : ℕ) → IsTrue (near p n) → p < size) → ((p q : ℕ) → Decides (r p q) (R p q))
-    → (u v : ℕ) → Decides (matched size near r u v) (Matched (λ p n. IsTrue (near p n)) R u v)
-matched_decides size near r R below decides u v =
-    let there = covers_decides size near r R below decides u v in
-    let back = covers_decides size near r R below decides v u in (
-      λ h. let a = and_parts (covers size near r u v) (covers size near r v u) h in record { there = there.0 a.0; back = back.0 a.1 },
-      λ h. and_from (covers size near r u v) (covers size near r v u) (there.1 h.there) (back.1 h.back),
+pub matched_decides : (size : ℕ) (neighbour_of r : ℕ → ℕ → Bool) (R : ℕ → ℕ → Type 0) → ((p n : ℕ) → IsTrue (neighbour_of p n) → p < size) → ((p q : ℕ) → Decides (r p q) (R p q))
+    → (u v : ℕ) → Decides (matched size neighbour_of r u v) (Matched (λ p n. IsTrue (neighbour_of p n)) R u v)
+matched_decides size neighbour_of r R below decides u v =
+    let there = covers_decides size neighbour_of r R below decides u v in
+    let back = covers_decides size neighbour_of r R below decides v u in (
+      λ h. let a = and_parts (covers size neighbour_of r u v) (covers size neighbour_of r v u) h in record { there = there.0 a.0; back = back.0 a.1 },
+      λ h. and_from (covers size neighbour_of r u v) (covers size neighbour_of r v u) (there.1 h.there) (back.1 h.back),
     )
 
 parent_below : (s : Shape) → IsShape s → (p n : ℕ) → IsTrue (s.edge p n) → p < s.size

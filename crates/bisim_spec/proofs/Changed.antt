@@ -1,12 +1,12 @@
 -- What a change makes of a stable partition.
 use Rattle.std.proofs.Common.{◌≡◌, ℕ, List, Option, Ok, IsFalse, sym, ◌∙◌, ap}
 use Rattle.std.specs.Prelude.{Bool, is_some}
-use Rattle.px_spec.specs.declared.limits.Limits.{Limits}
-use Rattle.px_spec.specs.Graphs.{Graph, IsGraph}
-use Rattle.px_spec.specs.Changes.{Change, apply}
-use Rattle.px_spec.specs.Shapes.{Shape, IsNode, IsParent, IsShape, shape_of}
-use Rattle.px_spec.specs.Members.{at}
-use Rattle.px_spec.proofs.GraphLaws.{is_shape, graph_applied}
+use Rattle.graph_spec.specs.declared.limits.Limits.{Limits}
+use Rattle.graph_spec.specs.Graphs.{Graph, IsGraph}
+use Rattle.graph_spec.specs.Changes.{Change, apply}
+use Rattle.graph_spec.specs.Shapes.{Shape, IsNode, IsParent, IsShape, shape_of}
+use Rattle.graph_spec.specs.Members.{at}
+use Rattle.graph_spec.proofs.GraphLaws.{is_shape, graph_applied}
 use Rattle.bisim_spec.specs.Partitions.{Together, IsPartition}
 use Rattle.bisim_spec.specs.Stability.{StableBut, Stable}
 use Rattle.bisim_spec.specs.Targets.{KeepsBlocks, target}

@@ -5,11 +5,11 @@ use Rattle.std.proofs.Math.Bool.{and-false}
 use Rattle.std.proofs.lemmas.Bool.{cases_lt, cases_Bool}
 use Rattle.std.proofs.lemmas.Bool.Decides.{eqb_tells}
 use Rattle.std.proofs.lemmas.Option.{slice_get_past}
-use Rattle.px_spec.specs.declared.limits.Limits.{Limits}
-use Rattle.px_spec.specs.Graphs.{Graph, has_edge, is_live}
-use Rattle.px_spec.specs.Changes.{Change, node, link, unlink, drop, after, apply, with_node, with_edge, without_edge, without_node, is_used, node_fits, edge_fits}
-use Rattle.px_spec.specs.Shapes.{shape_of}
-use Rattle.px_spec.proofs.GraphLaws.{edge_with, edge_without}
+use Rattle.graph_spec.specs.declared.limits.Limits.{Limits}
+use Rattle.graph_spec.specs.Graphs.{Graph, has_edge, is_live}
+use Rattle.graph_spec.specs.Changes.{Change, node, link, unlink, drop, after, apply, with_node, with_edge, without_edge, without_node, is_used, node_fits, edge_fits}
+use Rattle.graph_spec.specs.Shapes.{shape_of}
+use Rattle.graph_spec.proofs.GraphLaws.{edge_with, edge_without}
 use Rattle.bisim_spec.specs.Targets.{target}
 use Rattle.bisim_spec.proofs.Outside.{DiffersAt}
 
@@ -31,23 +31,23 @@ differs_unlink g u v = record {
   edge = λ p n h. sym (edge_without g u v p n ∙ ap (λ b. not b && has_edge g p n) (off_end (nat_eq p u) (nat_eq n v) h));
 }
 
-get_front : {X : Type 0} (front : List X) (x : X) (i : ℕ) → i < length front → slice_get (front ++ x ∷ []) i ≡ slice_get front i
-get_front [] x i h = absurd (omega (arith, h))
-get_front (y ∷ ys) x zero h = refl
-get_front (y ∷ ys) x (suc i) h = get_front ys x i (omega (arith, h))
+get_prefix : {X : Type 0} (prefix : List X) (x : X) (i : ℕ) → i < length prefix → slice_get (prefix ++ x ∷ []) i ≡ slice_get prefix i
+get_prefix [] x i h = absurd (omega (arith, h))
+get_prefix (y ∷ ys) x zero h = refl
+get_prefix (y ∷ ys) x (suc i) h = get_prefix ys x i (omega (arith, h))
 
 -- a number that isn't the next one has what it had
-get_other : (given : List (Option (List ℕ))) (t : List ℕ) (n : ℕ) → n ≢ length given → slice_get (given ++ Some t ∷ []) n ≡ slice_get given n
-get_other given t n apart = elim (cases_lt n (length given)) [
-  | inl below ↦ get_front given (Some t) n below
+get_other : (allocated : List (Option (List ℕ))) (t : List ℕ) (n : ℕ) → n ≢ length allocated → slice_get (allocated ++ Some t ∷ []) n ≡ slice_get allocated n
+get_other allocated t n apart = elim (cases_lt n (length allocated)) [
+  | inl below ↦ get_prefix allocated (Some t) n below
   | inr past ↦
-      slice_get_past (given ++ Some t ∷ []) n (let l = length-append given (Some t ∷ []) in omega (arith, apart, past, l))
-      ∙ sym (slice_get_past given n past)
+      slice_get_past (allocated ++ Some t ∷ []) n (let l = length-append allocated (Some t ∷ []) in omega (arith, apart, past, l))
+      ∙ sym (slice_get_past allocated n past)
 ]
 
-pub differs_node : (g : Graph) (t : List ℕ) → DiffersAt (λ n. nat_eq n (length g.given)) (shape_of g) (shape_of (with_node g t))
+pub differs_node : (g : Graph) (t : List ℕ) → DiffersAt (λ n. nat_eq n (length g.allocated)) (shape_of g) (shape_of (with_node g t))
 differs_node g t = record {
-  label = λ n h. sym (ap (λ o. option_and_then (λ l. l) o) (get_other g.given t n (apart_of n (length g.given) h)));
+  label = λ n h. sym (ap (λ o. option_and_then (λ l. l) o) (get_other g.allocated t n (apart_of n (length g.allocated) h)));
   edge = λ p n h. refl;
 }
 
@@ -60,7 +60,7 @@ get_unset (x ∷ xs) (suc u) (suc n) h = get_unset xs u n (λ e. h (ap suc e))
 
 pub differs_drop : (g : Graph) (u : ℕ) → DiffersAt (λ n. nat_eq n u) (shape_of g) (shape_of (without_node g u))
 differs_drop g u = record {
-  label = λ n h. sym (ap (λ o. option_and_then (λ l. l) o) (get_unset g.given u n (apart_of n u h)));
+  label = λ n h. sym (ap (λ o. option_and_then (λ l. l) o) (get_unset g.allocated u n (apart_of n u h)));
   edge = λ p n h. refl;
 }
 

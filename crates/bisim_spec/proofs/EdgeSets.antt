@@ -10,8 +10,8 @@ use Rattle.std.proofs.lemmas.Bool.{cases_Bool, and_parts, and_from}
 use Rattle.std.proofs.lemmas.Bool.Decides.{eqb_tells, Decides-eqb}
 use Rattle.std.proofs.lemmas.List.Sums.{sum_by-cons}
 use Rattle.std.proofs.lemmas.Map.Keys.{IsDistinct-head, IsDistinct-tail}
-use Rattle.px_spec.specs.Graphs.{Edges, edge_cmp}
-use Rattle.px_spec.proofs.EdgeOrder.{edge_cmp_total, edge_cmp-IsAntisymmetric, eq_pair}
+use Rattle.graph_spec.specs.Graphs.{Edges, edge_cmp}
+use Rattle.graph_spec.proofs.EdgeOrder.{edge_cmp_total, edge_cmp-IsAntisymmetric, eq_pair}
 use Rattle.bisim_spec.proofs.BelowLaws.{bit_of}
 
 abbrev pub eq : ℕ × ℕ → ℕ × ℕ → Bool

@@ -3,11 +3,11 @@ use Rattle.std.proofs.Common.{◌≡◌, ℕ, arith, inl, inr, true, false, Bool
 use Rattle.std.specs.Prelude.{◌||◌, not, codes, nat_eq, slice_get, Decides}
 use Rattle.std.proofs.lemmas.Bool.{both_ways, or_cases, not-true}
 use Rattle.std.proofs.lemmas.Bool.Decides.{Decides-eqb}
-use Rattle.px_spec.specs.Shapes.{Shape, IsShape}
+use Rattle.graph_spec.specs.Shapes.{Shape, IsShape}
 use Rattle.bisim_spec.specs.Bisimilarity.{node_count, Bis, Bisim, Both, FB}
 use Rattle.bisim_spec.specs.Partitions.{IsPartition, Agrees}
 use Rattle.bisim_spec.specs.Stability.{StableBut, Stable, StableBoth, Mergeable, Minimal}
-use Rattle.bisim_spec.specs.Reach.{near, reach, Acyclic}
+use Rattle.bisim_spec.specs.Reach.{within_distance, reach, Acyclic}
 use Rattle.bisim_spec.specs.Targets.{HasOther}
 use Rattle.bisim_spec.specs.Weights.{weight, size_of}
 use Rattle.bisim_spec.specs.Supports.{support}
@@ -17,7 +17,7 @@ use Rattle.bisim_spec.proofs.BelowLaws.{all_get}
 use Rattle.bisim_spec.proofs.Bisimilar.{bis_sym, bis_node, both_sym, both_node}
 use Rattle.bisim_spec.proofs.BisimilarTests.{bis_decides, both_decides}
 use Rattle.bisim_spec.proofs.StabilityTests.{together_decides, partition_decides, stable_decides, stable_but_decides, stable_both_decides, mergeable_decides, minimal_decides, agrees_decides, acyclic_decides}
-use Rattle.bisim_spec.proofs.Drawn.{drawn, drawn_shape}
+use Rattle.bisim_spec.proofs.WrittenShapes.{shape_of_list, shape_from}
 
 -- what a test that fails refutes
 pub refuted : {r : Bool} {P : Type 0} → Decides r P → r ≡ false → P → ⊥
@@ -43,10 +43,10 @@ abbrev chain_labels : List (List ℕ)
 chain_labels = codes "a" ∷ codes "b" ∷ codes "c" ∷ codes "a" ∷ codes "b" ∷ codes "c" ∷ codes "x" ∷ []
 
 abbrev chains : Shape
-chains = drawn chain_labels ((0, 1) ∷ (1, 2) ∷ (3, 4) ∷ (4, 5) ∷ [])
+chains = shape_of_list chain_labels ((0, 1) ∷ (1, 2) ∷ (3, 4) ∷ (4, 5) ∷ [])
 
 chains_shape : IsShape chains
-chains_shape = drawn_shape chain_labels ((0, 1) ∷ (1, 2) ∷ (3, 4) ∷ (4, 5) ∷ []) refl
+chains_shape = shape_from chain_labels ((0, 1) ∷ (1, 2) ∷ (3, 4) ∷ (4, 5) ∷ []) refl
 
 -- by labels alone
 abbrev by_label : List (Option ℕ)
@@ -94,10 +94,10 @@ none_past = (partition_decides chains chains_shape (Some 0 ∷ Some 1 ∷ Some 2
 -- the same chains, with an edge from x to the second a
 
 abbrev hung : Shape
-hung = drawn chain_labels ((0, 1) ∷ (1, 2) ∷ (3, 4) ∷ (4, 5) ∷ (6, 3) ∷ [])
+hung = shape_of_list chain_labels ((0, 1) ∷ (1, 2) ∷ (3, 4) ∷ (4, 5) ∷ (6, 3) ∷ [])
 
 hung_shape : IsShape hung
-hung_shape = drawn_shape chain_labels ((0, 1) ∷ (1, 2) ∷ (3, 4) ∷ (4, 5) ∷ (6, 3) ∷ []) refl
+hung_shape = shape_from chain_labels ((0, 1) ∷ (1, 2) ∷ (3, 4) ∷ (4, 5) ∷ (6, 3) ∷ []) refl
 
 -- each level tells one more pair apart: the second has the two c in one block still, full bisimilarity no two nodes
 hung_first : Agrees hung (Some 0 ∷ Some 1 ∷ Some 2 ∷ Some 3 ∷ Some 1 ∷ Some 2 ∷ Some 6 ∷ []) (Bis hung 1)
@@ -132,14 +132,14 @@ hung_other h =
     ]
 
 -- from the second a one edge leads to its b, and all in all its b and c
-near_none : near hung (nat_eq 3) 0 4 ≡ false
-near_none = refl
+within_none : within_distance hung (nat_eq 3) 0 4 ≡ false
+within_none = refl
 
-near_one : near hung (nat_eq 3) 1 4 ≡ true
-near_one = refl
+within_one : within_distance hung (nat_eq 3) 1 4 ≡ true
+within_one = refl
 
-near_not_two : near hung (nat_eq 3) 1 5 ≡ false
-near_not_two = refl
+within_not_two : within_distance hung (nat_eq 3) 1 5 ≡ false
+within_not_two = refl
 
 reach_two : reach hung (nat_eq 3) 5 ≡ true
 reach_two = refl
@@ -155,13 +155,13 @@ reach_gone_none : reach hung (nat_eq 9) 0 ≡ false
 reach_gone_none = refl
 
 -- the second a has a parent and a child, its b too, and its c a parent alone
-weight_two : weight hung (near hung (nat_eq 3) 2) ≡ 8
+weight_two : weight hung (within_distance hung (nat_eq 3) 2) ≡ 8
 weight_two = refl
 
-weight_one : weight hung (near hung (nat_eq 3) 1) ≡ 6
+weight_one : weight hung (within_distance hung (nat_eq 3) 1) ≡ 6
 weight_one = refl
 
-weight_none : weight hung (near hung (nat_eq 3) 0) ≡ 3
+weight_none : weight hung (within_distance hung (nat_eq 3) 0) ≡ 3
 weight_none = refl
 
 weight_reach : weight hung (reach hung (nat_eq 3)) ≡ 8
@@ -189,10 +189,10 @@ abbrev fan_edges : List (ℕ × ℕ)
 fan_edges = (0, 2) ∷ (1, 2) ∷ (0, 3) ∷ []
 
 abbrev fan : Shape
-fan = drawn fan_labels fan_edges
+fan = shape_of_list fan_labels fan_edges
 
 fan_shape : IsShape fan
-fan_shape = drawn_shape fan_labels fan_edges refl
+fan_shape = shape_from fan_labels fan_edges refl
 
 abbrev two_pairs : List (Option ℕ)
 two_pairs = Some 0 ∷ Some 0 ∷ Some 1 ∷ Some 1 ∷ []
@@ -227,10 +227,10 @@ touching_loop = refl
 -- two nodes with a loop each: their blocks have different parent blocks until the two are counted as one
 
 abbrev loops : Shape
-loops = drawn (codes "a" ∷ codes "a" ∷ []) ((0, 0) ∷ (1, 1) ∷ [])
+loops = shape_of_list (codes "a" ∷ codes "a" ∷ []) ((0, 0) ∷ (1, 1) ∷ [])
 
 loops_shape : IsShape loops
-loops_shape = drawn_shape (codes "a" ∷ codes "a" ∷ []) ((0, 0) ∷ (1, 1) ∷ []) refl
+loops_shape = shape_from (codes "a" ∷ codes "a" ∷ []) ((0, 0) ∷ (1, 1) ∷ []) refl
 
 loops_full : Agrees loops (Some 0 ∷ Some 0 ∷ []) (Bisim loops)
 loops_full = (full_decides loops loops_shape (Some 0 ∷ Some 0 ∷ [])).0 refl
@@ -249,10 +249,10 @@ loops_not_acyclic = refuted (acyclic_decides loops loops_shape) refl
 -- unmergeable too
 
 abbrev rings : Shape
-rings = drawn (codes "a" ∷ codes "b" ∷ codes "a" ∷ codes "b" ∷ []) ((0, 1) ∷ (1, 0) ∷ (2, 3) ∷ (3, 2) ∷ [])
+rings = shape_of_list (codes "a" ∷ codes "b" ∷ codes "a" ∷ codes "b" ∷ []) ((0, 1) ∷ (1, 0) ∷ (2, 3) ∷ (3, 2) ∷ [])
 
 rings_shape : IsShape rings
-rings_shape = drawn_shape (codes "a" ∷ codes "b" ∷ codes "a" ∷ codes "b" ∷ []) ((0, 1) ∷ (1, 0) ∷ (2, 3) ∷ (3, 2) ∷ []) refl
+rings_shape = shape_from (codes "a" ∷ codes "b" ∷ codes "a" ∷ codes "b" ∷ []) ((0, 1) ∷ (1, 0) ∷ (2, 3) ∷ (3, 2) ∷ []) refl
 
 rings_full : Agrees rings (Some 0 ∷ Some 1 ∷ Some 0 ∷ Some 1 ∷ []) (Bisim rings)
 rings_full = (full_decides rings rings_shape (Some 0 ∷ Some 1 ∷ Some 0 ∷ Some 1 ∷ [])).0 refl
@@ -275,10 +275,10 @@ rings_not_acyclic = refuted (acyclic_decides rings rings_shape) refl
 -- a -> b, and an a by itself: children tell the two a apart, parents don't
 
 abbrev lone : Shape
-lone = drawn (codes "a" ∷ codes "b" ∷ codes "a" ∷ []) ((0, 1) ∷ [])
+lone = shape_of_list (codes "a" ∷ codes "b" ∷ codes "a" ∷ []) ((0, 1) ∷ [])
 
 lone_shape : IsShape lone
-lone_shape = drawn_shape (codes "a" ∷ codes "b" ∷ codes "a" ∷ []) ((0, 1) ∷ []) refl
+lone_shape = shape_from (codes "a" ∷ codes "b" ∷ codes "a" ∷ []) ((0, 1) ∷ []) refl
 
 abbrev lone_pair : List (Option ℕ)
 lone_pair = Some 0 ∷ Some 1 ∷ Some 0 ∷ []

@@ -3,18 +3,18 @@ use Rattle.std.proofs.Common.{◌≡◌, ℕ, ◌<◌, zero, suc, true, false, L
 use Rattle.std.specs.Prelude.{codes}
 use Rattle.std.specs.FinSet as set
 use Rattle.std.specs.FinMap as table
-use Rattle.px_spec.specs.Graphs.{Graph, edge_cmp, label_of}
-use Rattle.px_spec.specs.Changes.{node, link, unlink, drop}
-use Rattle.px_spec.specs.Members.{at}
-use Rattle.px_spec.specs.Shapes.{Shape, IsNode, IsParent, IsShape, shape_of}
-use Rattle.px_spec.proofs.EdgeOrder.{edge_cmp_total}
+use Rattle.graph_spec.specs.Graphs.{Graph, edge_cmp, label_of}
+use Rattle.graph_spec.specs.Changes.{node, link, unlink, drop}
+use Rattle.graph_spec.specs.Members.{at}
+use Rattle.graph_spec.specs.Shapes.{Shape, IsNode, IsParent, IsShape, shape_of}
+use Rattle.graph_spec.proofs.EdgeOrder.{edge_cmp_total}
 use Rattle.bisim_spec.specs.declared.kind.Kind.TheVariants.{A, One, Fb}
 use Rattle.bisim_spec.specs.Bisimilarity.{Bis, FB}
 use Rattle.bisim_spec.specs.Partitions.{Together, Agrees}
 use Rattle.bisim_spec.specs.Stability.{Stable, Minimal}
 use Rattle.bisim_spec.specs.Supports.{joins, edges_between}
 use Rattle.bisim_spec.specs.Targets.{target, KeepsParents}
-use Rattle.bisim_spec.specs.Views.{View, ViewFits, support_at}
+use Rattle.bisim_spec.specs.IndexGraphs.{View, ViewFits, support_at}
 use Rattle.bisim_spec.specs.Fits.{Fits, FitsAt, view_at, view_count}
 use Rattle.bisim_spec.proofs.EdgeSets.{kept, same_len}
 use Rattle.bisim_spec.proofs.Ranks.{acyclic_full}
@@ -23,7 +23,7 @@ use Rattle.bisim_spec.proofs.Examples.{level_decides, fb_full_decides}
 
 -- nodes n0 and n1 were given, and n1 is gone
 abbrev one_left : Graph
-one_left = record { given = Some (codes "a") ∷ None ∷ []; edges = set.empty; seen = codes "a" ∷ [] }
+one_left = record { allocated = Some (codes "a") ∷ None ∷ []; edges = set.empty; seen = codes "a" ∷ [] }
 
 -- a new node gets the next number, and none that is gone
 target_node : target (node (codes "b")) one_left 2 ≡ true

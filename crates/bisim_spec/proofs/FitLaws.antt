@@ -1,16 +1,16 @@
 -- What makes a view fit.
 use Rattle.std.proofs.Common.{ℕ, List, Option, refl, arith}
-use Rattle.px_spec.specs.Graphs.{Graph, IsGraph}
-use Rattle.px_spec.specs.Changes.{Change}
-use Rattle.px_spec.specs.Shapes.{shape_of}
-use Rattle.px_spec.proofs.GraphLaws.{is_shape}
+use Rattle.graph_spec.specs.Graphs.{Graph, IsGraph}
+use Rattle.graph_spec.specs.Changes.{Change}
+use Rattle.graph_spec.specs.Shapes.{shape_of}
+use Rattle.graph_spec.proofs.GraphLaws.{is_shape}
 use Rattle.bisim_spec.specs.declared.kind.Kind.{Kind}
 use Rattle.bisim_spec.specs.declared.kind.Kind.TheVariants.{A, One, Fb}
 use Rattle.bisim_spec.specs.Bisimilarity.{Bisim}
 use Rattle.bisim_spec.specs.Partitions.{Agrees}
 use Rattle.bisim_spec.specs.Stability.{Stable, Minimal}
 use Rattle.bisim_spec.specs.OneStep.{OneStep}
-use Rattle.bisim_spec.specs.Views.{View, ViewFits}
+use Rattle.bisim_spec.specs.IndexGraphs.{View, ViewFits}
 use Rattle.bisim_spec.specs.Fits.{FitsOne, HasCount, view_count}
 use Rattle.bisim_spec.proofs.Stable.{bisim_stable, bisim_minimal}
 use Rattle.bisim_spec.proofs.Ranks.{acyclic_full}

@@ -1,6 +1,6 @@
 -- One level from the one below: nodes stay together where their blocks and their parents' blocks are the same.
 use Rattle.std.proofs.Common.{ℕ, suc, List, Option}
-use Rattle.px_spec.specs.Shapes.{Shape, IsNode, IsParent, IsChild}
+use Rattle.graph_spec.specs.Shapes.{Shape, IsNode, IsParent, IsChild}
 use Rattle.bisim_spec.specs.Bisimilarity.{Matched, Bis, Both}
 use Rattle.bisim_spec.specs.Partitions.{Together, Agrees}
 use Rattle.bisim_spec.proofs.Bisimilar.{bis_sym, bis_node, both_sym, both_node}

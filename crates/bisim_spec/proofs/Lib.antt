@@ -1,5 +1,5 @@
 pub mod BelowLaws
-pub mod Levels
+pub mod FinerLevels
 pub mod Bisimilar
 pub mod BisimilarTests
 pub mod Settled
@@ -15,11 +15,11 @@ pub mod EdgeSets
 pub mod Moves
 pub mod Differs
 pub mod Changed
-pub mod Supported
+pub mod EdgeSupports
 pub mod FitLaws
 pub mod StabilityTests
-pub mod Drawn
+pub mod WrittenShapes
 pub mod Examples
 pub mod FitExamples
-pub mod DrawnGraphs
+pub mod WrittenGraphs
 pub mod StepExamples

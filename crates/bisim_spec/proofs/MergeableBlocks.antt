@@ -1,8 +1,8 @@
 -- When two blocks of a stable partition can be merged, and what follows where none can.
 use Rattle.std.proofs.Common.{◌≡◌, ℕ, zero, suc, ◌<◌, List, Option, Some, sym, ◌∙◌, arith, inl, inr, ◌↔◌}
-use Rattle.px_spec.specs.Shapes.{Shape, IsParent, IsShape}
+use Rattle.graph_spec.specs.Shapes.{Shape, IsParent, IsShape}
 use Rattle.bisim_spec.specs.Bisimilarity.{Covers, Matched, IsBisimulation}
-use Rattle.px_spec.specs.Members.{at}
+use Rattle.graph_spec.specs.Members.{at}
 use Rattle.bisim_spec.specs.Partitions.{Together}
 use Rattle.bisim_spec.specs.Stability.{Stable, Mergeable, Minimal, merged}
 use Rattle.bisim_spec.proofs.Bisimilar.{some_of, label_node, label_same, label_sym}

@@ -6,9 +6,9 @@ use Rattle.std.specs.FinSet as set
 use Rattle.std.proofs.Math.Bool.{and-false, or-false}
 use Rattle.std.proofs.lemmas.Bool.{cases_Bool, and_parts}
 use Rattle.std.proofs.lemmas.Bool.Decides.{eqb_tells, Decides-eqb}
-use Rattle.px_spec.specs.Graphs.{Edges}
-use Rattle.px_spec.specs.Members.{has, Lists, is_this}
-use Rattle.px_spec.proofs.EdgeOrder.{edge_cmp_total, edge_cmp-IsAntisymmetric, eq_pair}
+use Rattle.graph_spec.specs.Graphs.{Edges}
+use Rattle.graph_spec.specs.Members.{has, Lists, is_this}
+use Rattle.graph_spec.proofs.EdgeOrder.{edge_cmp_total, edge_cmp-IsAntisymmetric, eq_pair}
 use Rattle.bisim_spec.specs.Supports.{joins, edges_between}
 use Rattle.bisim_spec.specs.NodeEdges.{edges_onto, edges_from, touching_count, DifferAlone}
 use Rattle.bisim_spec.proofs.EdgeSets.{eq, eq_is, eq_self, kept, same_len, kept_len, count_cons, len_more}

@@ -1,16 +1,16 @@
 -- What a change leaves as it was: the nodes that aren't reached from its targets.
 use Rattle.std.proofs.Common.{◌≡◌, ◌≢◌, ◌↔◌, ℕ, zero, suc, List, Option, Some, IsFalse, Bool, sym, ◌∙◌, ap, arith, inl, inr}
 use Rattle.std.proofs.lemmas.Bool.{false_from_ne_true, both_ways}
-use Rattle.px_spec.specs.Shapes.{Shape, IsParent, IsShape}
+use Rattle.graph_spec.specs.Shapes.{Shape, IsParent, IsShape}
 use Rattle.bisim_spec.specs.Bisimilarity.{Covers, Bis}
-use Rattle.px_spec.specs.Members.{at}
+use Rattle.graph_spec.specs.Members.{at}
 use Rattle.bisim_spec.specs.Partitions.{Together, IsPartition}
 use Rattle.bisim_spec.specs.Stability.{StableBut, Stable, Mergeable, Minimal, merged}
-use Rattle.bisim_spec.specs.Reach.{near, reach}
+use Rattle.bisim_spec.specs.Reach.{within_distance, reach}
 use Rattle.bisim_spec.proofs.Stable.{stable_label, stable_parents}
 use Rattle.bisim_spec.proofs.Together.{together_sym, together_at, merged_keeps, merged_a, merged_b, merged_cases}
 use Rattle.bisim_spec.proofs.MergeableBlocks.{mergeable_from}
-use Rattle.bisim_spec.proofs.Reached.{near_next, near_step, near_more, reach_start, unreached_parent}
+use Rattle.bisim_spec.proofs.Reached.{within_next, within_step, within_more, reach_start, unreached_parent}
 
 -- the two shapes differ at the targets alone: in their labels, and in the edges that lead to them
 pub record DiffersAt (target : ℕ → Bool) (s s2 : Shape) : Type 0 where
@@ -79,24 +79,24 @@ bis_carried s s2 Out o (suc i) u v ou ov h = (
   },
 )
 
-outside_near : (target : ℕ → Bool) (s s2 : Shape) → IsShape s2 → DiffersAt target s s2 → IsOutsideBy s s2 (λ i n. IsFalse (near s2 target i n))
-outside_near target s s2 shape d =
-    let apart : (i n : ℕ) → IsFalse (near s2 target i n) → IsFalse (target n) =
-    λ i n h. false_from_ne_true (target n) (λ t. both_ways (near s2 target i n) h (near_more s2 target 0 i n (omega arith) t))
+outside_within : (target : ℕ → Bool) (s s2 : Shape) → IsShape s2 → DiffersAt target s s2 → IsOutsideBy s s2 (λ i n. IsFalse (within_distance s2 target i n))
+outside_within target s s2 shape d =
+    let apart : (i n : ℕ) → IsFalse (within_distance s2 target i n) → IsFalse (target n) =
+    λ i n h. false_from_ne_true (target n) (λ t. both_ways (within_distance s2 target i n) h (within_more s2 target 0 i n (omega arith) t))
     in
     record {
-      lower = λ i n h. false_from_ne_true (near s2 target i n) (λ t. both_ways (near s2 target (suc i) n) h (near_next s2 target i n t));
-      parents = λ i p n h e. false_from_ne_true (near s2 target i p) (λ t. both_ways (near s2 target (suc i) n) h (near_step s2 shape target i p n t e));
+      lower = λ i n h. false_from_ne_true (within_distance s2 target i n) (λ t. both_ways (within_distance s2 target (suc i) n) h (within_next s2 target i n t));
+      parents = λ i p n h e. false_from_ne_true (within_distance s2 target i p) (λ t. both_ways (within_distance s2 target (suc i) n) h (within_step s2 shape target i p n t e));
       label = λ i n h. d.label n (apart i n h);
       edge = λ i p n h. d.edge p n (apart i n h);
     }
 
--- nodes that aren't near the targets by so many edges are bisimilar to that level exactly where they were
+-- nodes that aren't within so many edges of the targets are bisimilar to that level exactly where they were
 pub bis_kept : (target : ℕ → Bool) (s s2 : Shape) → IsShape s2 → DiffersAt target s s2 → (i u v : ℕ)
-    → IsFalse (near s2 target i u) → IsFalse (near s2 target i v) → Bis s i u v ↔ Bis s2 i u v
+    → IsFalse (within_distance s2 target i u) → IsFalse (within_distance s2 target i v) → Bis s i u v ↔ Bis s2 i u v
 bis_kept target s s2 shape d i u v nu nv =
-    let out = outside_near target s s2 shape d in
-    let Out : ℕ → ℕ → Type 0 = λ i n. IsFalse (near s2 target i n) in
+    let out = outside_within target s s2 shape d in
+    let Out : ℕ → ℕ → Type 0 = λ i n. IsFalse (within_distance s2 target i n) in
     (bis_carried s s2 Out out i u v nu nv, bis_carried s2 s Out (outside_back s s2 Out out) i u v nu nv)
 
 -- two partitions group these nodes alike
@@ -109,7 +109,7 @@ outside_merged : (p p2 : List (Option ℕ)) (Out : ℕ → Type 0) → SameOutsi
     → at p2 x ≡ Some a → at p2 y ≡ Some b → at p x ≡ Some a0 → at p y ≡ Some b0
     → (u v : ℕ) → Out u → Out v → Together (merged a b p2) u v → Together (merged a0 b0 p) u v
 outside_merged p p2 Out same x y a b a0 b0 ox oy hx hy kx ky u v ou ov t = elim (merged_cases a b p2 u v t) [
-  | inl near ↦ merged_keeps a0 b0 p u v (same.back u v ou ov near)
+  | inl within_distance ↦ merged_keeps a0 b0 p u v (same.back u v ou ov within_distance)
   | inr (inl (eu, ev)) ↦
       (let pu = together_at p x u a0 (same.back x u ox ou (a, hx, eu)) kx in
       let pv = together_at p y v b0 (same.back y v oy ov (b, hy, ev)) ky in

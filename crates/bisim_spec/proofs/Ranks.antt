@@ -4,8 +4,8 @@ use Rattle.std.specs.Prelude.{nat_eq}
 use Rattle.std.proofs.lemmas.Bool.{false_from_ne_true}
 use Rattle.std.proofs.lemmas.Bool.Decides.{Decides-eqb}
 use Rattle.std.proofs.lemmas.List.{length-append}
-use Rattle.px_spec.specs.Shapes.{Shape, IsParent, IsShape}
-use Rattle.px_spec.proofs.WalkLemmas.{leads_on}
+use Rattle.graph_spec.specs.Shapes.{Shape, IsParent, IsShape}
+use Rattle.graph_spec.proofs.WalkLemmas.{leads_on}
 use Rattle.bisim_spec.specs.Below.{count_below}
 use Rattle.bisim_spec.specs.Bisimilarity.{node_count, Bisim}
 use Rattle.bisim_spec.specs.Partitions.{Agrees}
@@ -16,12 +16,12 @@ use Rattle.bisim_spec.proofs.Bisimilar.{some_of}
 use Rattle.bisim_spec.proofs.Stable.{stable_within}
 use Rattle.bisim_spec.proofs.MergeableBlocks.{related_together}
 use Rattle.bisim_spec.proofs.Settled.{bisim_bisimulation}
-use Rattle.bisim_spec.proofs.Reached.{near_walk, reach_step, reach_start}
+use Rattle.bisim_spec.proofs.Reached.{within_walk, reach_step, reach_start}
 
 -- no edge's beginning is reached from its end
 pub unreached_back : (s : Shape) → IsShape s → Acyclic s → (p u : ℕ) → IsTrue (s.edge p u) → reach s (nat_eq u) p ≡ false
 unreached_back s shape acyclic p u e = false_from_ne_true (reach s (nat_eq u) p) (λ t.
-    let w = near_walk s shape s.size u p (shape.onto p u e) t in
+    let w = within_walk s shape s.size u p (shape.onto p u e) t in
     let l = some_of (s.label u) (shape.onto p u e) in
     let alone = acyclic.alone u (w.first ∷ (w.rest ++ l.0 ∷ [])) (leads_on s u w.first w.rest p u l.0 w.leads e l.1) in
     let long = length-append w.rest (l.0 ∷ []) in

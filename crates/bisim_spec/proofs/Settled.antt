@@ -2,12 +2,12 @@
 use Rattle.std.proofs.Common.{◌≡◌, ℕ, zero, suc, ◌<◌, ◌≤◌, is_some, sym, ◌∙◌, arith, inl, inr, Bool}
 use Rattle.std.specs.Prelude.{Decides}
 use Rattle.std.proofs.lemmas.Bool.{cases_lt, cases_Bool, both_ways, false_from_ne_true}
-use Rattle.px_spec.specs.Shapes.{Shape, IsNode, IsShape}
+use Rattle.graph_spec.specs.Shapes.{Shape, IsNode, IsShape}
 use Rattle.bisim_spec.specs.Below.{count_below}
 use Rattle.bisim_spec.specs.Bisimilarity.{IsBisimulation, node_count, Bis, Both, Bisim, FB}
 use Rattle.bisim_spec.specs.Tests.{bis, both}
 use Rattle.bisim_spec.proofs.BelowLaws.{count_same}
-use Rattle.bisim_spec.proofs.Levels.{Levels, IsNext, steady}
+use Rattle.bisim_spec.proofs.FinerLevels.{Levels, IsNext, steady}
 use Rattle.bisim_spec.proofs.Bisimilar.{matched_map, bis_sym, bis_trans, bis_self, bis_label, bis_node, both_sym, both_trans, both_self, both_node}
 use Rattle.bisim_spec.proofs.BisimilarTests.{bis_decides, both_decides}
 

@@ -4,11 +4,11 @@ use Rattle.std.specs.Prelude.{nat_eq, Decides}
 use mathlib.Core.Bool.{beq}
 use Rattle.std.proofs.lemmas.Bool.{and_parts, and_from, not-true, not_from_false, false_from_ne_true, both_ways}
 use Rattle.std.proofs.lemmas.Bool.Decides.{Decides-eqb}
-use Rattle.px_spec.specs.Shapes.{Shape, IsNode, IsParent, IsShape}
-use Rattle.px_spec.specs.Walks.{Leads}
+use Rattle.graph_spec.specs.Shapes.{Shape, IsNode, IsParent, IsShape}
+use Rattle.graph_spec.specs.Walks.{Leads}
 use Rattle.bisim_spec.specs.Below.{all_below}
 use Rattle.bisim_spec.specs.Bisimilarity.{Covers}
-use Rattle.px_spec.specs.Members.{at}
+use Rattle.graph_spec.specs.Members.{at}
 use Rattle.bisim_spec.specs.Partitions.{Together, IsPartition, Agrees}
 use Rattle.bisim_spec.specs.Stability.{StableBut, Stable, StableBoth, Mergeable, Minimal, merged}
 use Rattle.bisim_spec.specs.Reach.{reach, Acyclic}
@@ -18,7 +18,7 @@ use Rattle.bisim_spec.proofs.Bisimilar.{some_of, is_some_at, label_same}
 use Rattle.bisim_spec.proofs.BisimilarTests.{label_decides, parents_decide, children_decide, if_get, if_from}
 use Rattle.bisim_spec.proofs.Moves.{block_get, block_from}
 use Rattle.bisim_spec.proofs.Together.{together_sym, together_some, block_below}
-use Rattle.bisim_spec.proofs.Reached.{walk_near, near_reach}
+use Rattle.bisim_spec.proofs.Reached.{walk_within, within_reach}
 use Rattle.bisim_spec.proofs.Ranks.{unreached_back}
 
 same_get : (a b : Bool) → beq a b ≡ true → a ≡ b
@@ -199,7 +199,7 @@ ring_found s shape h u (t ∷ []) w = omega arith
 ring_found s shape h u (t ∷ r ∷ ts) w = absurd (
     let pair : ℕ → ℕ → Bool = λ u w. not (s.edge u w && reach s (nat_eq w) u) in
     let ok = pairs_get s.size pair h u w.1 (shape.below u (shape.from u w.1 w.2)) (shape.below w.1 (shape.onto u w.1 w.2)) in
-    let back : reach s (nat_eq w.1) u ≡ true = near_reach s shape (nat_eq w.1) (length ts) u (walk_near s shape (length ts) w.1 u (record { first = r; rest = ts; leads = w.3; few = omega arith })) in
+    let back : reach s (nat_eq w.1) u ≡ true = within_reach s shape (nat_eq w.1) (length ts) u (walk_within s shape (length ts) w.1 u (record { first = r; rest = ts; leads = w.3; few = omega arith })) in
     both_ways (s.edge u w.1 && reach s (nat_eq w.1) u) (not-true (s.edge u w.1 && reach s (nat_eq w.1) u) ok) (and_from (s.edge u w.1) (reach s (nat_eq w.1) u) w.2 back))
 
 pub acyclic_decides : (s : Shape) → IsShape s → Decides (acyclic s) (Acyclic s)

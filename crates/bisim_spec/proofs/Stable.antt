@@ -1,6 +1,6 @@
 -- Full bisimilarity is the coarsest stable partition, and no two of its blocks can be merged.
 use Rattle.std.proofs.Common.{◌≡◌, ℕ, zero, suc, List, Option, refl, sym, ◌∙◌}
-use Rattle.px_spec.specs.Shapes.{Shape, IsParent, IsChild, IsShape}
+use Rattle.graph_spec.specs.Shapes.{Shape, IsParent, IsChild, IsShape}
 use Rattle.bisim_spec.specs.Bisimilarity.{SameLabel, Matched, IsBisimulation, Covers, node_count, Bis, Both, Bisim, FB}
 use Rattle.bisim_spec.specs.Partitions.{Together, Agrees}
 use Rattle.bisim_spec.specs.Stability.{Stable, StableBoth, Minimal, merged}

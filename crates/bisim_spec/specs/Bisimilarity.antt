@@ -3,7 +3,7 @@
 -- Similarity for Indexing Paths in Graph-Structured Data", ICDE 2002. Over parents and children they are those of R.
 -- Kaushik, P. Bohannon, J. Naughton and H. Korth, "Covering Indexes for Branching Path Queries", SIGMOD 2002.
 use Rattle.std.specs.Prelude.{ℕ, zero, suc, ◌≡◌, List, Some, is_some}
-use Rattle.px_spec.specs.Shapes.{Shape, IsParent, IsChild}
+use Rattle.graph_spec.specs.Shapes.{Shape, IsParent, IsChild}
 use Rattle.bisim_spec.specs.Below.{count_below}
 
 -- how many nodes there are
@@ -16,12 +16,12 @@ SameLabel s u v = (t : List ℕ) × (s.label u ≡ Some t) × (s.label v ≡ Som
 
 -- each neighbour of u is related to some neighbour of v
 abbrev pub Covers : (ℕ → ℕ → Type 0) → (ℕ → ℕ → Type 0) → ℕ → ℕ → Type 0
-Covers Near R u v = (p : ℕ) → Near p u → (q : ℕ) × Near q v × R p q
+Covers Neighbour R u v = (p : ℕ) → Neighbour p u → (q : ℕ) × Neighbour q v × R p q
 
 -- each neighbour of the one is related to some neighbour of the other
-pub record Matched (Near : ℕ → ℕ → Type 0) (R : ℕ → ℕ → Type 0) (u v : ℕ) : Type 0 where
-  pub there : Covers Near R u v
-  pub back : Covers Near R v u
+pub record Matched (Neighbour : ℕ → ℕ → Type 0) (R : ℕ → ℕ → Type 0) (u v : ℕ) : Type 0 where
+  pub there : Covers Neighbour R u v
+  pub back : Covers Neighbour R v u
 
 -- Nodes that are bisimilar to this level: at level 0 they have one label; one level up they are bisimilar to the level
 -- below, and each parent of the one is bisimilar to some parent of the other, to the level below.

@@ -3,14 +3,14 @@
 -- 1-index and its minimal partitions), R. Kaushik, P. Bohannon, J. Naughton and H. Korth, SIGMOD 2002 (the forward and
 -- backward index).
 use Rattle.std.specs.Prelude.{⊤, ℕ, ◌+◌, ◌≤◌, ◌<◌, ◌≡◌, List, length, Option, None, Some, slice_index_or}
-use Rattle.px_spec.specs.Graphs.{Graph}
-use Rattle.px_spec.specs.Shapes.{shape_of}
+use Rattle.graph_spec.specs.Graphs.{Graph}
+use Rattle.graph_spec.specs.Shapes.{shape_of}
 use Rattle.bisim_spec.specs.declared.kind.Kind.{Kind}
 use Rattle.bisim_spec.specs.declared.kind.Kind.TheVariants.{A, One, Fb}
 use Rattle.bisim_spec.specs.Bisimilarity.{Bis, FB}
 use Rattle.bisim_spec.specs.Partitions.{Agrees}
 use Rattle.bisim_spec.specs.MinimalIndex.{IsMinimalIndex}
-use Rattle.bisim_spec.specs.Views.{View, ViewFits}
+use Rattle.bisim_spec.specs.IndexGraphs.{View, ViewFits}
 
 -- the view of a level; none where it isn't computed, and past the end
 abbrev pub view_at : List (Option View) → ℕ → Option View

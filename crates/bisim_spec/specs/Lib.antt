@@ -4,7 +4,7 @@ pub mod Partitions
 pub mod Stability
 pub mod Reach
 pub mod Supports
-pub mod Views
+pub mod IndexGraphs
 pub mod Tests
 pub mod Weights
 pub mod Targets

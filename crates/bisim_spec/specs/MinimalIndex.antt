@@ -1,7 +1,7 @@
 -- The partitions of a 1-index that is kept through changes (the minimal 1-indexes of K. Yi, H. He, I. Stanoi and J. Yang,
 -- "Incremental Maintenance of XML Structural Indexes", SIGMOD 2004).
 use Rattle.std.specs.Prelude.{ℕ, List, Option}
-use Rattle.px_spec.specs.Shapes.{Shape}
+use Rattle.graph_spec.specs.Shapes.{Shape}
 use Rattle.bisim_spec.specs.Bisimilarity.{Bisim}
 use Rattle.bisim_spec.specs.Partitions.{Agrees}
 use Rattle.bisim_spec.specs.Stability.{Stable, Minimal}

@@ -1,7 +1,7 @@
 -- The edges at a node, and how many of them lead from one block to another. They are what a move of the node takes from
 -- supports, and gives to them.
 use Rattle.std.specs.Prelude.{◌≡◌, ◌≢◌, ℕ, ◌+◌, ◌&&◌, not, Bool, List, Option, nat_eq, map, count_by}
-use Rattle.px_spec.specs.Members.{at}
+use Rattle.graph_spec.specs.Members.{at}
 use Rattle.bisim_spec.specs.Supports.{joins}
 
 -- the edges from each of these to n

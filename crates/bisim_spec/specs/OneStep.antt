@@ -1,9 +1,9 @@
 -- How the partition of the 1-index moves with a change (K. Yi, H. He, I. Stanoi and J. Yang, "Incremental Maintenance of XML
 -- Structural Indexes", SIGMOD 2004).
 use Rattle.std.specs.Prelude.{◌≡◌, ◌↔◌, ℕ, List, Option, IsFalse}
-use Rattle.px_spec.specs.Graphs.{Graph}
-use Rattle.px_spec.specs.Changes.{Change, after}
-use Rattle.px_spec.specs.Shapes.{IsNode, shape_of}
+use Rattle.graph_spec.specs.Graphs.{Graph}
+use Rattle.graph_spec.specs.Changes.{Change, after}
+use Rattle.graph_spec.specs.Shapes.{IsNode, shape_of}
 use Rattle.bisim_spec.specs.Partitions.{Together}
 use Rattle.bisim_spec.specs.Reach.{reach}
 use Rattle.bisim_spec.specs.MinimalIndex.{IsMinimalIndex}

@@ -1,7 +1,7 @@
 -- Partitions of the nodes into numbered blocks. A partition is a list: at each number the block of that node, or none.
 use Rattle.std.specs.Prelude.{ℕ, ◌≡◌, List, Option, Some, IsSome}
-use Rattle.px_spec.specs.Members.{at}
-use Rattle.px_spec.specs.Shapes.{Shape, IsNode}
+use Rattle.graph_spec.specs.Members.{at}
+use Rattle.graph_spec.specs.Shapes.{Shape, IsNode}
 
 -- two nodes are in one block
 abbrev pub Together : List (Option ℕ) → ℕ → ℕ → Type 0

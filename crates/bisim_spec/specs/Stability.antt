@@ -2,9 +2,9 @@
 -- and K. Yi, H. He, I. Stanoi and J. Yang, "Incremental Maintenance of XML Structural Indexes", SIGMOD 2004 (minimal
 -- 1-indexes, kept by splitting and merging blocks).
 use Rattle.std.specs.Prelude.{ℕ, ◌≡◌, ◌≢◌, Bool, false, List, Option, None, Some, IsFalse, map, nat_eq, if◌then◌else◌}
-use Rattle.px_spec.specs.Shapes.{Shape, IsParent, IsChild}
+use Rattle.graph_spec.specs.Shapes.{Shape, IsParent, IsChild}
 use Rattle.bisim_spec.specs.Bisimilarity.{Covers}
-use Rattle.px_spec.specs.Members.{at}
+use Rattle.graph_spec.specs.Members.{at}
 use Rattle.bisim_spec.specs.Partitions.{Together, IsPartition}
 
 -- Stable except perhaps at some nodes: exactly the nodes have a block, and of any two others in one block the labels

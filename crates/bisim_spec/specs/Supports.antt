@@ -1,13 +1,13 @@
 -- Edges between blocks, and how many there are (support counts: K. Yi, H. He, I. Stanoi and J. Yang, SIGMOD 2004).
 use Rattle.std.specs.Prelude.{ℕ, ◌≡◌, ◌&&◌, Bool, List, Option, Some, count_by}
 use Rattle.std.specs.FinSet as set
-use Rattle.px_spec.specs.Graphs.{Edges}
-use Rattle.px_spec.specs.Shapes.{Shape, IsParent}
-use Rattle.px_spec.specs.Members.{at, is_this}
+use Rattle.graph_spec.specs.Graphs.{Edges}
+use Rattle.graph_spec.specs.Shapes.{Shape, IsParent}
+use Rattle.graph_spec.specs.Members.{at, is_this}
 
 -- some edge leads from a member of a to a member of b
-abbrev pub Joined : Shape → List (Option ℕ) → ℕ → ℕ → Type 0
-Joined s block a b = (u : ℕ) × (v : ℕ) × IsParent s u v × (at block u ≡ Some a) × (at block v ≡ Some b)
+abbrev pub Adjacent : Shape → List (Option ℕ) → ℕ → ℕ → Type 0
+Adjacent s block a b = (u : ℕ) × (v : ℕ) × IsParent s u v × (at block u ≡ Some a) × (at block v ≡ Some b)
 
 -- whether the edge leads from a member of a to a member of b
 abbrev pub joins : List (Option ℕ) → ℕ → ℕ → ℕ × ℕ → Bool

@@ -1,14 +1,14 @@
 -- The nodes at which a change alters a graph, and what it leaves of a partition.
 use Rattle.std.specs.Prelude.{◌≡◌, ◌≢◌, ℕ, Bool, List, Option, length, nat_eq}
-use Rattle.px_spec.specs.Graphs.{Graph}
-use Rattle.px_spec.specs.Changes.{Change, node, link, unlink, drop}
-use Rattle.px_spec.specs.Shapes.{Shape, IsNode, IsParent, shape_of}
-use Rattle.px_spec.specs.Members.{at}
+use Rattle.graph_spec.specs.Graphs.{Graph}
+use Rattle.graph_spec.specs.Changes.{Change, node, link, unlink, drop}
+use Rattle.graph_spec.specs.Shapes.{Shape, IsNode, IsParent, shape_of}
+use Rattle.graph_spec.specs.Members.{at}
 use Rattle.bisim_spec.specs.Partitions.{Together}
 
 -- whether the change alters the graph at the node: a node that comes, the end of an edge that comes or goes, a node that goes
 abbrev pub target : Change → Graph → ℕ → Bool
-target (node t) g n = nat_eq n (length g.given)
+target (node t) g n = nat_eq n (length g.allocated)
 target (link u v) g n = nat_eq n v
 target (unlink u v) g n = nat_eq n v
 target (drop u) g n = nat_eq n u

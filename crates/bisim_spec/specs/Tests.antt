@@ -1,10 +1,10 @@
 -- Tests of the definitions. They decide them for shapes whose nodes are below the size and whose edges join nodes.
 use Rattle.std.specs.Prelude.{ℕ, zero, suc, ◌&&◌, ◌||◌, not, Bool, false, List, length, Option, None, Some, is_some, bytes_eq, nat_eq, max}
 use mathlib.Core.Bool.{beq}
-use Rattle.px_spec.specs.Shapes.{Shape}
+use Rattle.graph_spec.specs.Shapes.{Shape}
 use Rattle.bisim_spec.specs.Below.{any_below, all_below}
 use Rattle.bisim_spec.specs.Bisimilarity.{node_count}
-use Rattle.px_spec.specs.Members.{at, is_this}
+use Rattle.graph_spec.specs.Members.{at, is_this}
 use Rattle.bisim_spec.specs.Stability.{merged}
 use Rattle.bisim_spec.specs.Reach.{reach}
 
@@ -19,10 +19,10 @@ same_label s u v = same_text (s.label u) (s.label v)
 
 -- each neighbour of u below the size is related to some neighbour of v below it
 abbrev pub covers : ℕ → (ℕ → ℕ → Bool) → (ℕ → ℕ → Bool) → ℕ → ℕ → Bool
-covers size near r u v = all_below size (λ p. not (near p u) || any_below size (λ q. near q v && r p q))
+covers size neighbour_of r u v = all_below size (λ p. not (neighbour_of p u) || any_below size (λ q. neighbour_of q v && r p q))
 
 abbrev pub matched : ℕ → (ℕ → ℕ → Bool) → (ℕ → ℕ → Bool) → ℕ → ℕ → Bool
-matched size near r u v = covers size near r u v && covers size near r v u
+matched size neighbour_of r u v = covers size neighbour_of r u v && covers size neighbour_of r v u
 
 abbrev pub is_child : Shape → ℕ → ℕ → Bool
 is_child s c n = s.edge n c

@@ -1,7 +1,7 @@
 -- How much there is to read at the nodes of a set. The costs of upkeep are said in it: K. Yi, H. He, I. Stanoi and J. Yang,
 -- SIGMOD 2004, count what a change reaches.
 use Rattle.std.specs.Prelude.{ℕ, ◌+◌, Bool, if◌then◌else◌}
-use Rattle.px_spec.specs.Shapes.{Shape}
+use Rattle.graph_spec.specs.Shapes.{Shape}
 use Rattle.bisim_spec.specs.Below.{count_below, sum_below}
 
 abbrev pub parent_count : Shape → ℕ → ℕ

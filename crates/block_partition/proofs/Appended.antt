@@ -2,7 +2,7 @@
 use Rattle.std.proofs.Common.{◌≡◌, ℕ, ◌+◌, ◌-◌, ◌<◌, List, [], ◌∷◌, ◌++◌, length, Option, Some, None, IsSome, refl, sym, ◌∙◌, ap, arith, slice_set, slice_index}
 use Rattle.std.proofs.Math.ListN.{replicate}
 use Rattle.std.proofs.lemmas.List.{length-append, get_or_past}
-use Rattle.px_spec.specs.Members.{at}
+use Rattle.graph_spec.specs.Members.{at}
 use Rattle.block_partition.specs.Tables.{Table, Gaps, NumberSet, set_at, grown, IsIn}
 use Rattle.block_partition.specs.Soundness.{IsSoundPartition}
 use Rattle.block_partition.proofs.Growth.{length_grown}
@@ -30,10 +30,10 @@ pub sound_appended : (bl nx pv fs : Table) (lb : List (Option ℕ)) (lc : ℕ) (
     → IsSoundPartition (put_in bl (bl.places ++ Some b ∷ [])) (put_in nx (nx.places ++ at fs.places b ∷ []))
     (put_in pv (set_at (pv.places ++ None ∷ []) (at fs.places b) (Some (length bl.places)))) (put_in fs (slice_set fs.places b (Some (length bl.places))))
     lb lc (slice_set sz b (slice_index sz b + 1)) sc fr lv (nr - 1) br
-sound_appended bl nx pv fs lb lc sz sc fr lv nr br b s room is_block =
+sound_appended bl nx pv fs lb lc sz sc fr lv nr br b s reserved is_block =
     let n = length bl.places in
     let more = length_grown bl.places (n + 1) in
-    let longer = sound_grown bl nx pv fs lb lc sz sc fr lv nr br (n + 1) s (omega (arith, room)) in
+    let longer = sound_grown bl nx pv fs lb lc sz sc fr lv nr br (n + 1) s (omega (arith, reserved)) in
     let free : at (grown bl.places (n + 1)) n ≡ None = at_grown bl.places (n + 1 - n) n ∙ get_or_past bl.places n None (omega arith) in
     let used : nr - (length (grown bl.places (n + 1)) - n) ≡ nr - 1 = omega (arith, more) in
     let all =

@@ -6,7 +6,7 @@ use Rattle.std.proofs.lemmas.List.{get_or-set_same, get_or-set_other, get_or_pas
 use Rattle.std.proofs.lemmas.List.Sums.{sum_by-set, sum_by-append, count_by-le-length}
 use Rattle.std.proofs.lemmas.Bool.Decides.{eqb_tells}
 use Rattle.std.proofs.lemmas.Bool.{cases_lt}
-use Rattle.px_spec.specs.Members.{at, is_this}
+use Rattle.graph_spec.specs.Members.{at, is_this}
 use Rattle.block_partition.specs.Soundness.{AreBlockCounts}
 use Rattle.block_partition.proofs.Links.{some_is}
 use Rattle.block_partition.proofs.Mirrors.{writes_set, within, at_grown}

@@ -6,8 +6,8 @@ use Rattle.std.proofs.lemmas.Bool.{cases_lt}
 use Rattle.std.proofs.lemmas.Bool.Decides.{eqb_tells}
 use Rattle.std.proofs.lemmas.List.Sums.{sum_by-cons, count_by-le-length}
 use Rattle.std.proofs.Math.Nat.{lt-mul-div-succ, mul-div-le, div-eq_of_lt-le, mul-div_cancel_left, one-le-pow, pow-le-pow_right, pow-suc, div-one, one-mul, mul_comm, add-mul}
-use Rattle.px_spec.specs.Members.{at}
-use Rattle.block_partition.specs.Partitions.{IsLeastFree}
+use Rattle.graph_spec.specs.Members.{at}
+use Rattle.block_partition.specs.LabelledPartitions.{IsLeastFree}
 use Rattle.block_partition.proofs.Counts.{some_within}
 use Rattle.block_partition.specs.Tables.{Gaps, full_at, group}
 use Rattle.block_partition.specs.Soundness.{AreGaps, AreFullRuns, IsInGroup}

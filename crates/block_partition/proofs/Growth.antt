@@ -2,7 +2,7 @@
 use Rattle.std.proofs.Common.{◌≡◌, ℕ, zero, suc, ◌+◌, ◌-◌, ◌<◌, ◌≤◌, List, [], ◌∷◌, ◌++◌, length, Option, Some, None, refl, sym, ◌∙◌, ap, arith, slice_set, append_assoc}
 use Rattle.std.proofs.Math.ListN.{replicate}
 use Rattle.std.proofs.lemmas.List.{append-nil, length-append, length-replicate, length-set}
-use Rattle.block_partition.specs.Partitions.{Partition, put, with_member, with_move}
+use Rattle.block_partition.specs.LabelledPartitions.{Partition, put, with_member, with_move}
 use Rattle.block_partition.specs.Tables.{grown, with_length}
 
 -- one none at a time
@@ -53,5 +53,5 @@ member_steps p n b =
     λ i. record {
       block_of = list i;
       labels = p.labels;
-      room = record { nodes = length p.block_of + p.room.nodes - sym len i; blocks = p.room.blocks };
+      reserved = record { nodes = length p.block_of + p.reserved.nodes - sym len i; blocks = p.reserved.blocks };
     }

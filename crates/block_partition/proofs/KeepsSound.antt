@@ -2,13 +2,13 @@
 use Rattle.std.proofs.Common.{◌≡◌, ◌≢◌, ℕ, ◌+◌, ◌-◌, ◌<◌, ◌≤◌, List, [], ◌∷◌, ◌++◌, length, Option, Some, None, IsSome, refl, sym, ◌∙◌, ap, arith, slice_set, slice_index, subst, count_by}
 use Rattle.std.specs.Prelude.{is_some}
 use Rattle.std.proofs.lemmas.List.{length-set, length-append}
-use Rattle.px_spec.specs.Members.{at, has, is_this}
-use Rattle.block_partition.specs.Tables.{Table, Gaps, NumberSet, gap_room, set_at, head_where, grown}
+use Rattle.graph_spec.specs.Members.{at, has, is_this}
+use Rattle.block_partition.specs.Tables.{Table, Gaps, NumberSet, gap_capacity, set_at, head_where, grown}
 use Rattle.block_partition.specs.Soundness.{IsSoundPartition, AreBlockCounts, AreGaps}
 use Rattle.block_partition.proofs.Mirrors.{length-set_at, mirrored_out, mirrored_in, mirrored_same, at_grown}
 use Rattle.block_partition.proofs.Counts.{some_within, counted_out, counted_in, counted_grown, counted_again, counted_next, counted_retired}
 use Rattle.block_partition.proofs.Growth.{length_grown}
-use Rattle.block_partition.specs.Partitions.{IsLeastFree}
+use Rattle.block_partition.specs.LabelledPartitions.{IsLeastFree}
 use Rattle.block_partition.proofs.FreedNumbers.{least_is_next, count_all, no_gaps}
 use Rattle.block_partition.proofs.ListedBlocks.{IsWithout, with_number, listed_retired, listed_again, listed_next}
 
@@ -99,7 +99,7 @@ sound_grown bl nx pv fs lb lc sz sc fr lv nr br len s h =
 -- a block without members is no block any more
 pub sound_retired : (bl nx pv fs : Table) (lb : List (Option ℕ)) (lc : ℕ) (sz : List ℕ) (sc : ℕ) (fr fr' : Gaps) (lv lv' : NumberSet) (nr br b l : ℕ)
     → IsSoundPartition bl nx pv fs lb lc sz sc fr lv nr br → at lb b ≡ Some l → ((n : ℕ) → at bl.places n ≢ Some b)
-    → AreGaps (slice_set lb b None) fr' → gap_room fr' ≡ gap_room fr → IsWithout lv lv' b
+    → AreGaps (slice_set lb b None) fr' → gap_capacity fr' ≡ gap_capacity fr → IsWithout lv lv' b
     → IsSoundPartition bl nx pv fs (slice_set lb b None) lc sz sc fr' lv' nr br
 sound_retired bl nx pv fs lb lc sz sc fr fr' lv lv' nr br b l s is_block empty gaps same without =
     let some : IsSome (at lb b) = subst IsSome (sym is_block) refl in
@@ -145,9 +145,9 @@ sound_retired bl nx pv fs lb lc sz sc fr fr' lv lv' nr br b l s is_block empty g
 -- a number that was freed is a block again
 pub sound_again : (bl nx pv fs : Table) (lb : List (Option ℕ)) (lc : ℕ) (sz : List ℕ) (sc : ℕ) (fr fr' : Gaps) (lv : NumberSet) (nr br b label : ℕ)
     → IsSoundPartition bl nx pv fs lb lc sz sc fr lv nr br → 0 < br
-    → at lb b ≡ None → b < length lb → AreGaps (slice_set lb b (Some label)) fr' → gap_room fr' ≡ gap_room fr
+    → at lb b ≡ None → b < length lb → AreGaps (slice_set lb b (Some label)) fr' → gap_capacity fr' ≡ gap_capacity fr
     → IsSoundPartition bl nx pv fs (slice_set lb b (Some label)) lc sz sc fr' (with_number lv b) nr (br - 1)
-sound_again bl nx pv fs lb lc sz sc fr fr' lv nr br b label s room free within gaps same =
+sound_again bl nx pv fs lb lc sz sc fr fr' lv nr br b label s reserved free within gaps same =
     let t = s.tables in
     let len = length-set lb b (Some label) in
     let f = s.blocks_fit in
@@ -176,13 +176,13 @@ sound_again bl nx pv fs lb lc sz sc fr fr' lv nr br b label s room free within g
       nodes_fit = s.nodes_fit;
       blocks_fit =
           record {
-            few = omega (arith, room, more, x0);
-            first_fits = omega (arith, room, more, x1);
-            labels_fit = omega (arith, room, more, x2);
-            sizes_fit = omega (arith, room, more, x3);
-            freed_fit = rw same (omega (arith, room, more, x4));
-            places_fit = omega (arith, room, more, x5);
-            live_fit = omega (arith, room, more, x6);
+            few = omega (arith, reserved, more, x0);
+            first_fits = omega (arith, reserved, more, x1);
+            labels_fit = omega (arith, reserved, more, x2);
+            sizes_fit = omega (arith, reserved, more, x3);
+            freed_fit = rw same (omega (arith, reserved, more, x4));
+            places_fit = omega (arith, reserved, more, x5);
+            live_fit = omega (arith, reserved, more, x6);
           };
     }
 
@@ -196,9 +196,9 @@ count_full bl nx pv fs lb lc sz sc fr lv nr br b s past least =
 -- the next number is a block
 pub sound_next : (bl nx pv fs : Table) (lb : List (Option ℕ)) (lc : ℕ) (sz : List ℕ) (sc : ℕ) (fr fr' : Gaps) (lv : NumberSet) (nr br b label : ℕ)
     → IsSoundPartition bl nx pv fs lb lc sz sc fr lv nr br → 0 < br
-    → length lv.numbers ≡ length lb → b ≡ length lb → AreGaps (lb ++ Some label ∷ []) fr' → gap_room fr' ≡ gap_room fr
+    → length lv.numbers ≡ length lb → b ≡ length lb → AreGaps (lb ++ Some label ∷ []) fr' → gap_capacity fr' ≡ gap_capacity fr
     → IsSoundPartition bl nx pv (put_in fs (fs.places ++ None ∷ [])) (lb ++ Some label ∷ []) lc (sz ++ 0 ∷ []) sc fr' (with_number lv b) nr (br - 1)
-sound_next bl nx pv fs lb lc sz sc fr fr' lv nr br b label s room full next gaps same =
+sound_next bl nx pv fs lb lc sz sc fr fr' lv nr br b label s reserved full next gaps same =
     let t = s.tables in
     let len = length-append lb (Some label ∷ []) in
     let first = length-append fs.places (None ∷ []) in
@@ -224,22 +224,22 @@ sound_next bl nx pv fs lb lc sz sc fr fr' lv nr br b label s room full next gaps
           record {
             length_first = omega (arith, first, len, lf);
             length_sizes = omega (arith, sizes, len, ls);
-            few = omega (arith, len, full, x0, room);
+            few = omega (arith, len, full, x0, reserved);
             gaps = gaps;
-            all_fit = rw same (omega (arith, len, full, x4, room));
+            all_fit = rw same (omega (arith, len, full, x4, reserved));
             listed = listed_next lb lv.numbers b label t.listed next;
-            all_have_places = omega (arith, len, full, x5, room);
+            all_have_places = omega (arith, len, full, x5, reserved);
           };
       nodes_fit = s.nodes_fit;
       blocks_fit =
           record {
-            few = omega (arith, room, more, x0);
-            first_fits = omega (arith, room, more, x1);
-            labels_fit = omega (arith, room, more, x2);
-            sizes_fit = omega (arith, room, more, x3);
-            freed_fit = rw same (omega (arith, room, more, x4));
-            places_fit = omega (arith, room, more, x5);
-            live_fit = omega (arith, room, more, x6);
+            few = omega (arith, reserved, more, x0);
+            first_fits = omega (arith, reserved, more, x1);
+            labels_fit = omega (arith, reserved, more, x2);
+            sizes_fit = omega (arith, reserved, more, x3);
+            freed_fit = rw same (omega (arith, reserved, more, x4));
+            places_fit = omega (arith, reserved, more, x5);
+            live_fit = omega (arith, reserved, more, x6);
           };
     }
 

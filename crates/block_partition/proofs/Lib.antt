@@ -1,6 +1,6 @@
 mod Links
 mod Mirrors
-mod Chains
+mod MemberLinkLaws
 mod Counts
 pub mod PutNumbers
 mod Growth
@@ -9,3 +9,4 @@ mod NumberSets
 mod ListedBlocks
 mod KeepsSound
 pub mod Appended
+pub mod Filled

@@ -3,10 +3,10 @@ use Rattle.std.proofs.Common.{◌≡◌, ℕ, suc, ◌<◌, ◌≤◌, Bool, tru
 use Rattle.std.proofs.lemmas.Bool.{cases_lt}
 use Rattle.std.proofs.lemmas.Bool.Decides.{eqb_tells}
 use Rattle.std.proofs.lemmas.List.{length-append, get_or-set_same, get_or-set_other, get_or_append_left, get_or_at, get_or_past}
-use Rattle.px_spec.specs.Members.{at, has}
+use Rattle.graph_spec.specs.Members.{at, has}
 use Rattle.block_partition.specs.Tables.{NumberSet}
 use Rattle.block_partition.proofs.Counts.{some_within}
-use Rattle.px_spec.proofs.MemberLaws.{has_push, or_false}
+use Rattle.graph_spec.proofs.MemberLaws.{has_push, or_false}
 use Rattle.block_partition.proofs.NumberSets.{and_none, and_true}
 
 -- one number is taken out

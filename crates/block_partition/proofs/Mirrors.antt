@@ -3,7 +3,7 @@ use Rattle.std.proofs.Common.{◌≡◌, ◌≢◌, ℕ, zero, suc, ◌+◌, ◌
 use Rattle.std.proofs.Math.ListN.{replicate}
 use Rattle.std.proofs.lemmas.List.{get_or-set_same, get_or-set_other, length-set, get_or_past}
 use Rattle.std.proofs.lemmas.Bool.{cases_lt}
-use Rattle.px_spec.specs.Members.{at}
+use Rattle.graph_spec.specs.Members.{at}
 use Rattle.block_partition.specs.Tables.{set_at, head_where, IsIn}
 use Rattle.block_partition.specs.Soundness.{AreMirrored}
 use Rattle.block_partition.proofs.Links.{Writes, unlinked, linked, rank_with, above, rank_bound}

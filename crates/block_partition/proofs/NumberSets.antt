@@ -9,9 +9,9 @@ use Rattle.std.proofs.lemmas.Grind.{get_or_default_zero}
 use Rattle.std.proofs.lemmas.List.{length-set, length-append, get_or-set_same, get_or-set_other, get_or_append_left, get_or_at, get_or-take}
 use Rattle.std.proofs.lemmas.List.Sorted.{IsPermutation-swap_remove, list_any-IsPermutation}
 use Rattle.std.proofs.lemmas.Map.Keys.{IsDistinct-head, IsDistinct-tail, IsDistinct-push, IsDistinct-IsPermutation}
-use Rattle.px_spec.specs.Members.{has}
-use Rattle.px_spec.proofs.ListLemmas.{none-has}
-use Rattle.px_spec.proofs.MemberLaws.{has_at}
+use Rattle.graph_spec.specs.Members.{has}
+use Rattle.graph_spec.proofs.ListLemmas.{none-has}
+use Rattle.graph_spec.proofs.MemberLaws.{has_at}
 use Rattle.block_partition.specs.Soundness.{HavePlaces}
 
 none_once : IsDistinct nat_eq []

@@ -1,6 +1,7 @@
-pub mod Partitions
+pub mod LabelledPartitions
 pub mod Tables
 pub mod Soundness
-pub mod Chains
+pub mod MemberLinks
 pub mod Extensions
 pub mod SplitBlocks
+pub mod FilledTables

@@ -1,8 +1,8 @@
 -- What holds of the tables of each partition.
 use Rattle.std.specs.Prelude.{◌≡◌, ℕ, ◌+◌, ◌*◌, ◌<◌, ◌≤◌, ◌^◌, List, length, Option, None, Some, IsSome, is_some, slice_index, nat_eq, Vec, vec_capacity}
 use Rattle.std.specs.List.{count_by, IsDistinct}
-use Rattle.px_spec.specs.Members.{at, has, is_this}
-use Rattle.block_partition.specs.Tables.{Table, Gaps, NumberSet, full_at, gap_room, group}
+use Rattle.graph_spec.specs.Members.{at, has, is_this}
+use Rattle.block_partition.specs.Tables.{Table, Gaps, NumberSet, full_at, gap_capacity, group}
 
 -- The members of a block form a doubly linked list: the block of a node, the next member and the one before it, and the
 -- first member of a block. Ranks fall along each list, so none runs in a ring
@@ -61,7 +61,7 @@ pub record AreTables (first labels : List (Option ℕ)) (sizes : List ℕ) (free
   pub length_sizes : length sizes ≡ length labels
   pub few : length labels ≤ 2 ^ 31
   pub gaps : AreGaps labels freed
-  pub all_fit : length labels ≤ gap_room freed
+  pub all_fit : length labels ≤ gap_capacity freed
   pub listed : (b : ℕ) → has live.numbers b ≡ is_some (at labels b)
   pub all_have_places : length labels ≤ live.span
 
@@ -84,14 +84,14 @@ pub record BlocksFit (count first labels sizes freed span live more : ℕ) : Typ
 
 -- the tables are those of a partition, with room for that many more nodes and blocks
 pub record IsSoundPartition (block next prev first : Table) (labels : List (Option ℕ)) (labels_capacity : ℕ) (sizes : List ℕ)
-    (sizes_capacity : ℕ) (freed : Gaps) (live : NumberSet) (node_room block_room : ℕ) : Type 0 where
+    (sizes_capacity : ℕ) (freed : Gaps) (live : NumberSet) (nodes_reserved blocks_reserved : ℕ) : Type 0 where
   pub mirrored : AreMirrored block.places next.places prev.places first.places
   pub counted : AreBlockCounts block.places labels sizes (length live.numbers)
   pub tables : AreTables first.places labels sizes freed live
-  pub nodes_fit : NodesFit block next prev node_room
-  pub blocks_fit : BlocksFit (length live.numbers) first.capacity labels_capacity sizes_capacity (gap_room freed) live.span live.capacity block_room
+  pub nodes_fit : NodesFit block next prev nodes_reserved
+  pub blocks_fit : BlocksFit (length live.numbers) first.capacity labels_capacity sizes_capacity (gap_capacity freed) live.span live.capacity blocks_reserved
 
 -- the same, of the vectors of labels and of counts
 abbrev pub AreSoundTables : {Z : Type 0} → Table → Table → Table → Table → Vec (Option ℕ) Z → Vec ℕ Z → Gaps → NumberSet → ℕ → ℕ → Type 0
-AreSoundTables block next prev first labels sizes freed live node_room block_room =
-    IsSoundPartition block next prev first labels.items (vec_capacity labels) sizes.items (vec_capacity sizes) freed live node_room block_room
+AreSoundTables block next prev first labels sizes freed live nodes_reserved blocks_reserved =
+    IsSoundPartition block next prev first labels.items (vec_capacity labels) sizes.items (vec_capacity sizes) freed live nodes_reserved blocks_reserved

@@ -1,11 +1,11 @@
 -- Members of a block that become a block of their own.
 use Rattle.std.specs.Prelude.{ℕ, ◌≡◌, ◌-◌, Bool, length, Some, if◌then◌else◌}
-use Rattle.px_spec.specs.Members.{at}
-use Rattle.block_partition.specs.Partitions.{Partition, put}
+use Rattle.graph_spec.specs.Members.{at}
+use Rattle.block_partition.specs.LabelledPartitions.{Partition, put}
 
--- these nodes are in the block b, which has the label of from and takes the room of one block; all else is as it was
+-- these nodes are in the block b, which has the label of from and takes the capacity reserved for one block; all else is as it was
 pub record IsSplitOff (old new : Partition) (from : ℕ) (nodes : ℕ → Bool) (b : ℕ) : Type 0 where
   pub blocks : (n : ℕ) → at new.block_of n ≡ (if nodes n then Some b else at old.block_of n)
   pub count : length new.block_of ≡ length old.block_of
   pub labels : (label : ℕ) → at old.labels from ≡ Some label → new.labels ≡ put old.labels b label
-  pub room : new.room ≡ record { nodes = old.room.nodes; blocks = old.room.blocks - 1 }
+  pub reserved : new.reserved ≡ record { nodes = old.reserved.nodes; blocks = old.reserved.blocks - 1 }

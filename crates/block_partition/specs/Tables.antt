@@ -1,7 +1,7 @@
 -- The tables in which a partition is kept.
 use Rattle.std.specs.Prelude.{◌≡◌, ℕ, ◌+◌, ◌-◌, ◌*◌, ◌/◌, ◌^◌, ◌<◌, ◌≤◌, slice_index_or, List, ◌++◌, length, Option, None, Some, nat_eq, if◌then◌else◌, slice_set}
 use Rattle.std.proofs.Math.ListN.{replicate}
-use Rattle.block_partition.specs.Partitions.{Partition}
+use Rattle.block_partition.specs.LabelledPartitions.{Partition}
 
 -- for each place a number or none, and how many places fit with no more memory
 pub record Table : Type 0 where
@@ -24,8 +24,8 @@ abbrev pub full_at : List ℕ → ℕ → ℕ
 full_at full k = slice_index_or full k 0
 
 -- so many numbers have entries
-abbrev pub gap_room : Gaps → ℕ
-gap_room g = 64 * length g.full
+abbrev pub gap_capacity : Gaps → ℕ
+gap_capacity g = 64 * length g.full
 
 -- the first run of a run's group of 16 ^ level runs
 abbrev pub group : ℕ → ℕ → ℕ
@@ -64,11 +64,11 @@ abbrev pub head_where : ℕ → Option ℕ → Option ℕ
 head_where b None = Some b
 head_where b (Some p) = None
 
--- the list of blocks grows up to this length, and the room shrinks by as much
+-- the list of blocks grows up to this length, and the reserved capacity shrinks by as much
 abbrev pub with_length : Partition → ℕ → Partition
 with_length p len =
     record {
       block_of = grown p.block_of len;
       labels = p.labels;
-      room = record { nodes = length p.block_of + p.room.nodes - length (grown p.block_of len); blocks = p.room.blocks };
+      reserved = record { nodes = length p.block_of + p.reserved.nodes - length (grown p.block_of len); blocks = p.reserved.blocks };
     }

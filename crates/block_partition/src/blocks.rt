@@ -1,7 +1,7 @@
 // The tables of a partition.
 ghost use Rattle.std.specs.Prelude.{◌≡◌, ◌≢◌, ◌+◌, ◌-◌, ◌<◌, ◌≤◌, ◌^◌, ℕ, nat_eq, if◌then◌else◌, Some, None, IsSome, is_some, IfOk, OnOk, OnErr, IfSome, length, slice_set, slice_index, vec_len, vec_capacity};
-ghost use Rattle.px_spec.specs.Members.{Lists, at};
-ghost use Rattle.block_partition.specs.Partitions.{IsBlock, is_member, block_count, member_count, IsLeastFree, no_blocks, with_room, with_block, with_member, with_move, without_block};
+ghost use Rattle.graph_spec.specs.Members.{Lists, at};
+ghost use Rattle.block_partition.specs.LabelledPartitions.{IsBlock, is_member, block_count, member_count, IsLeastFree, no_blocks, with_reserved, with_block, with_member, with_move, without_block};
 ghost use Rattle.block_partition.specs.Extensions.{with_next};
 ghost use Rattle.block_partition.specs.Tables.{Keeps, head_where, with_length};
 
@@ -19,7 +19,7 @@ use std::marker::Model;
 /// It takes 12 bytes for each node number, and little more than 24 for each block number. A call that takes
 /// 'no memory' asks the allocator for none.
 ///
-/// Two nodes in one block. Only the call that makes room can fail:
+/// Two nodes in one block. Only the call that reserves can fail:
 ///
 ///     let mut blocks = Blocks::new(alloc)?;
 ///     blocks.reserve(2, 1)?;
@@ -35,8 +35,8 @@ pub struct Blocks {
     sizes: Vec<u32>,
     freed: Freed,
     live: Live,
-    node_room: u32,
-    block_room: u32,
+    nodes_reserved: u32,
+    blocks_reserved: u32,
 }
 
 impl Drop for Blocks {
@@ -51,8 +51,8 @@ impl Drop for Blocks {
             sizes,
             freed,
             live,
-            node_room: _,
-            block_room: _,
+            nodes_reserved: _,
+            blocks_reserved: _,
         } = self;
         drop(block);
         drop(next);
@@ -66,14 +66,14 @@ impl Drop for Blocks {
 }
 
 impl Model for Blocks {
-    ghost use Rattle.block_partition.specs.Partitions.{Partition};
+    ghost use Rattle.block_partition.specs.LabelledPartitions.{Partition};
     ghost use Rattle.block_partition.specs.Soundness.{AreSoundTables};
 
     ghost Value = { Partition };
 
-    ghost view = { λ b. record { block_of = b.block.places; labels = b.labels.items; room = record { nodes = b.node_room; blocks = b.block_room } } };
+    ghost view = { λ b. record { block_of = b.block.places; labels = b.labels.items; reserved = record { nodes = b.nodes_reserved; blocks = b.blocks_reserved } } };
 
-    ghost invariant = { λ b. AreSoundTables b.block b.next b.prev b.first b.labels b.sizes b.freed b.live b.node_room b.block_room };
+    ghost invariant = { λ b. AreSoundTables b.block b.next b.prev b.first b.labels b.sizes b.freed b.live b.nodes_reserved b.blocks_reserved };
 }
 
 // Reading.
@@ -167,7 +167,7 @@ impl Blocks {
 
 // Room.
 impl Blocks {
-    /// No blocks. O(1), no memory until room is made.
+    /// No blocks. O(1), no memory until capacity is reserved.
     pub fn new(alloc: Global) -> Result<Blocks, Memory>
         ensures { IfOk result (λ b. b ≡ no_blocks) }
     {
@@ -180,18 +180,18 @@ impl Blocks {
             sizes: Vec::new(alloc),
             freed: Freed::new(alloc),
             live: Live::new(alloc),
-            node_room: 0,
-            block_room: 0,
+            nodes_reserved: 0,
+            blocks_reserved: 0,
         })
     }
 
-    /// Makes room for that many further numbers past the end of the list, and for that many further
-    /// blocks, in place of the room that there was. Where memory runs out, that room stays. O(`blocks`), and
+    /// Reserves capacity for that many further numbers past the end of the list, and for that many further
+    /// blocks, instead of what was reserved. Where memory runs out, that stays. O(`blocks`), and
     /// O(`numbers` + `span`) more where a table moves; it takes 12 bytes a node and little more than 24 a block.
     pub fn reserve(&mut self, nodes: u32, blocks: u32) -> Result<(), Memory>
         requires nodes { length self.old.block_of + nodes ≤ 2 ^ 31 }
         requires blocks { block_count self.old + blocks ≤ 2 ^ 31 }
-        ensures ok { OnOk result (self.new ≡ with_room self.old nodes blocks) }
+        ensures ok { OnOk result (self.new ≡ with_reserved self.old nodes blocks) }
         ensures err { OnErr result (self.new ≡ self.old) }
     {
         reserve_nodes(
@@ -209,18 +209,18 @@ impl Blocks {
         let span = self.labels.len() + blocks as usize;
         self.freed.reserve(span)?;
         self.live.reserve(span, blocks as usize)?;
-        self.node_room = nodes;
-        self.block_room = blocks;
+        self.nodes_reserved = nodes;
+        self.blocks_reserved = blocks;
         Ok(())
     }
 }
 
 // Writing.
 impl Blocks {
-    /// Makes a block without members, by the room of one, and gives its number, the least that isn't a
+    /// Makes a block without members, from the capacity reserved for one, and gives its number, the least that isn't a
     /// block. O(1), no memory: the time of `next_free` twice at most.
     pub fn new_block(&mut self, label: u32) -> u32
-        requires room { 0 < self.old.room.blocks }
+        requires reserved { 0 < self.old.reserved.blocks }
         ensures least { IsLeastFree self.old.labels result }
         ensures added { self.new ≡ with_block self.old result label }
         ensures labels { (c : ℕ) → at self.new.labels c ≡ (if nat_eq c result then Some label else at self.old.labels c) }
@@ -236,7 +236,7 @@ impl Blocks {
 
     // Makes a block under a number of the list.
     fn make_again(&mut self, b: u32, label: u32)
-        requires room { 0 < self.old.room.blocks }
+        requires reserved { 0 < self.old.reserved.blocks }
         requires least { IsLeastFree self.old.labels b }
         requires within { b < length self.old.labels }
         ensures { self.new ≡ with_block self.old b label }
@@ -244,12 +244,12 @@ impl Blocks {
         self.labels[b as usize] = Some(label);
         self.freed.pass(&self.labels, b);
         self.live.push(b);
-        self.block_room -= 1;
+        self.blocks_reserved -= 1;
     }
 
     // Makes a block under the number past the end of the list, where each number of the list is a block.
     fn make_next(&mut self, b: u32, label: u32)
-        requires room { 0 < self.old.room.blocks }
+        requires reserved { 0 < self.old.reserved.blocks }
         requires least { IsLeastFree self.old.labels b }
         requires past { length self.old.labels ≤ b }
         ensures { self.new ≡ with_block self.old b label }
@@ -259,15 +259,15 @@ impl Blocks {
         self.first.push_none();
         self.freed.pass(&self.labels, b);
         self.live.push(b);
-        self.block_room -= 1;
+        self.blocks_reserved -= 1;
     }
 
     /// Puts a node that has no block into one. Where the node stands past the end of the list, the list
-    /// grows to end with it, by the room for numbers. O(g) for g numbers that the list grows by, no memory.
+    /// grows to end with it, from the capacity reserved for numbers. O(g) for g numbers that the list grows by, no memory.
     pub fn place(&mut self, n: NodeId, b: u32)
         requires block { IsBlock self.old b }
         requires free { at self.old.block_of n ≡ None }
-        requires within { n < length self.old.block_of + self.old.room.nodes }
+        requires within { n < length self.old.block_of + self.old.reserved.nodes }
         ensures placed { self.new ≡ with_member self.old n b }
         ensures blocks { (m : ℕ) → at self.new.block_of m ≡ (if nat_eq m n then Some b else at self.old.block_of m) }
     {
@@ -275,11 +275,11 @@ impl Blocks {
         self.link(n, b);
     }
 
-    /// Puts the node with the next number past the end of the list into a block, or into none, by the
-    /// room of one number. O(1), no memory.
+    /// Puts the node with the next number past the end of the list into a block, or into none, from
+    /// the capacity reserved for one number. O(1), no memory.
     pub fn append(&mut self, block: Option<u32>)
         requires block { IfSome block (IsBlock self.old) }
-        requires room { 0 < self.old.room.nodes }
+        requires reserved { 0 < self.old.reserved.nodes }
         ensures { self.new ≡ with_next self.old block }
     {
         let len = self.block.len();
@@ -331,21 +331,21 @@ impl Blocks {
 
     // Lets the list grow up to a length, with none.
     fn grow(&mut self, len: usize)
-        requires { len ≤ length self.old.block_of + self.old.room.nodes }
+        requires { len ≤ length self.old.block_of + self.old.reserved.nodes }
         ensures { self.new ≡ with_length self.old len }
     {
         let old = self.block.len();
         self.block.grow(len);
         self.next.grow(len);
         self.prev.grow(len);
-        self.node_room -= (self.block.len() - old) as u32;
+        self.nodes_reserved -= (self.block.len() - old) as u32;
     }
 
     // Puts the node with the next number before the members of a block.
     #[inline(always)]
     fn append_member(&mut self, b: u32)
         requires block { IsBlock self.old b }
-        requires room { 0 < self.old.room.nodes }
+        requires reserved { 0 < self.old.reserved.nodes }
         ensures { self.new ≡ with_next self.old (Some b) }
     {
         let node = self.block.len() as u32;
@@ -356,7 +356,7 @@ impl Blocks {
         self.first.set(b, Some(node));
         self.block.push(Some(b));
         self.sizes[b as usize] += 1;
-        self.node_room -= 1;
+        self.nodes_reserved -= 1;
     }
 
     // Puts a node of the list that has no block before the members of one.
@@ -393,7 +393,7 @@ fn head_of(block: u32, before: Option<u32>) -> Option<u32>
     }
 }
 
-// Makes room for that many more numbers.
+// Reserves capacity for that many more numbers.
 fn reserve_nodes(
     block: &mut Slots,
     next: &mut Slots,
@@ -413,7 +413,7 @@ fn reserve_nodes(
     Ok(())
 }
 
-// Makes room for that many more blocks.
+// Reserves capacity for that many more blocks.
 fn reserve_blocks(
     first: &mut Slots,
     labels: &mut Vec<Option<u32>>,

@@ -1,7 +1,7 @@
 // Numbers of blocks that are free.
 ghost use Rattle.std.specs.Prelude.{◌≡◌, ◌≢◌, ◌<◌, ◌≤◌, ◌+◌, ◌-◌, ◌*◌, ◌/◌, ◌^◌, ℕ, List, Option, None, true, IsSome, OnOk, [], length, slice_set, slice_index_or, vec_len};
-ghost use Rattle.px_spec.specs.Members.{at};
-ghost use Rattle.block_partition.specs.Tables.{Gaps, full_at, gap_room, group};
+ghost use Rattle.graph_spec.specs.Members.{at};
+ghost use Rattle.block_partition.specs.Tables.{Gaps, full_at, gap_capacity, group};
 ghost use Rattle.block_partition.specs.Soundness.{AreGaps, AreFullRuns};
 
 use px_base::Memory;
@@ -49,22 +49,22 @@ impl Freed {
         }
     }
 
-    /// Makes room for that many numbers in all. Time and memory grow with the runs that come.
+    /// Reserves capacity for that many numbers in all. Time and memory grow with the runs that come.
     pub(crate) fn reserve(&mut self, numbers: usize) -> Result<(), Memory>
         requires few { numbers ≤ 2 ^ 32 }
         ensures full { (k : ℕ) → full_at self.new.full k ≡ full_at self.old.full k }
         ensures low { self.new.low ≡ self.old.low }
-        ensures room { gap_room self.old ≤ gap_room self.new }
-        ensures ok { OnOk result (numbers ≤ gap_room self.new) }
+        ensures reserved { gap_capacity self.old ≤ gap_capacity self.new }
+        ensures ok { OnOk result (numbers ≤ gap_capacity self.new) }
     {
         grow(&mut self.full, numbers / RUN + 1)
     }
 
-    /// Notes that a number, for which there is room, is free. O(1), no memory.
+    /// Notes that a number, for which capacity is reserved, is free. O(1), no memory.
     pub(crate) fn put(&mut self, n: u32)
-        requires { n < gap_room self.old }
+        requires { n < gap_capacity self.old }
         ensures gaps { (labels : List (Option ℕ)) → AreGaps labels self.old → AreGaps (slice_set labels n None) self.new }
-        ensures room { gap_room self.new ≡ gap_room self.old }
+        ensures reserved { gap_capacity self.new ≡ gap_capacity self.old }
     {
         stop_at(&mut self.full, n as usize / RUN);
         self.low = self.low.min(n);
@@ -77,7 +77,7 @@ impl Freed {
         requires passed { (c : ℕ) → c ≤ n → IsSome (at labels.now c) }
         requires few { n < 2 ^ 31 }
         ensures gaps { AreGaps labels.now self.new }
-        ensures room { gap_room self.new ≡ gap_room self.old }
+        ensures reserved { gap_capacity self.new ≡ gap_capacity self.old }
     {
         self.low = n + 1;
         let run = n as usize / RUN;

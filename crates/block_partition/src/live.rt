@@ -1,14 +1,14 @@
 // Numbers that are blocks.
 ghost use Rattle.std.specs.Prelude.{◌≡◌, ◌<◌, ◌≤◌, ◌+◌, ◌^◌, ◌++◌, ◌∷◌, ◌&&◌, ℕ, [], true, false, not, nat_eq, length, suc, OnOk, slice_index, vec_len};
 ghost use Rattle.std.specs.List.{IsDistinct};
-ghost use Rattle.px_spec.specs.Members.{has};
+ghost use Rattle.graph_spec.specs.Members.{has};
 
 use px_base::Memory;
 use std::alloc::Global;
 use std::marker::Model;
 
 /// Numbers in no stated order, as a sparse set (P. Briggs and L. Torczon, LOPLAS 1993): a list of them, and by number
-/// the place in that list. It takes 8 bytes a number of those for which there is room.
+/// the place in that list. It takes 8 bytes a number of those for which capacity is reserved.
 #[derive(Drop)]
 pub(crate) struct Live {
     numbers: Vec<u32>,
@@ -52,7 +52,7 @@ impl Live {
         &self.numbers
     }
 
-    /// Makes room for that many more numbers, and for numbers below that span.
+    /// Reserves capacity for that many more numbers, and for numbers below that span.
     pub(crate) fn reserve(&mut self, span: usize, more: usize) -> Result<(), Memory>
         ensures numbers { self.new.numbers ≡ self.old.numbers }
         ensures span { self.old.span ≤ self.new.span }
@@ -64,9 +64,9 @@ impl Live {
         grow(&mut self.places, span)
     }
 
-    /// Puts a number behind the others, by the room of one. O(1), no memory.
+    /// Puts a number behind the others, from the capacity reserved for one. O(1), no memory.
     pub(crate) fn push(&mut self, n: u32)
-        requires room { length self.old.numbers < self.old.capacity }
+        requires reserved { length self.old.numbers < self.old.capacity }
         requires within { n < self.old.span }
         requires other { has self.old.numbers n ≡ false }
         requires few { length self.old.numbers < 2 ^ 31 }

@@ -1,7 +1,7 @@
 // The members of a block.
 ghost use Rattle.std.specs.Prelude.{◌≡◌};
-ghost use Rattle.px_spec.specs.Members.{at};
-ghost use Rattle.block_partition.specs.Chains.{chain};
+ghost use Rattle.graph_spec.specs.Members.{at};
+ghost use Rattle.block_partition.specs.MemberLinks.{chain};
 ghost use Rattle.std.specs.Iterator.{YieldsFirst, item_count};
 
 use crate::slots::Slots;
@@ -18,8 +18,8 @@ pub struct Members<'a> {
 
 impl<'a> Model for Members<'a> {
     ghost use Rattle.std.specs.Prelude.{ℕ, List};
-    ghost use Rattle.px_spec.specs.Members.{at};
-    ghost use Rattle.block_partition.specs.Chains.{chain};
+    ghost use Rattle.graph_spec.specs.Members.{at};
+    ghost use Rattle.block_partition.specs.MemberLinks.{chain};
 
     ghost Value = { List ℕ };
 

@@ -1,6 +1,6 @@
 // A table of small numbers.
 ghost use Rattle.std.specs.Prelude.{◌≡◌, ◌<◌, ◌≤◌, ◌+◌, ◌++◌, ◌∷◌, [], None, length, OnOk, slice_set};
-ghost use Rattle.px_spec.specs.Members.{at};
+ghost use Rattle.graph_spec.specs.Members.{at};
 ghost use Rattle.block_partition.specs.Tables.{slot_value, IsSmall, IsIn, set_at, grown, Keeps};
 
 use px_base::Memory;
@@ -69,7 +69,7 @@ impl Slots {
         }
     }
 
-    /// Makes room for that many more places.
+    /// Reserves capacity for that many more places.
     pub(crate) fn reserve(&mut self, more: usize) -> Result<(), Memory>
         ensures keeps { Keeps self.old self.new }
         ensures ok { OnOk result (length self.new.places + more ≤ self.new.capacity) }
@@ -80,7 +80,7 @@ impl Slots {
 
     /// Appends one place.
     pub(crate) fn push(&mut self, v: Option<u32>)
-        requires room { length self.old.places < self.old.capacity }
+        requires reserved { length self.old.places < self.old.capacity }
         requires small { IsSmall v }
         ensures { self.new ≡ record self.old { places = self.old.places ++ v ∷ [] } }
     {

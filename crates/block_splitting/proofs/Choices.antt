@@ -7,10 +7,10 @@ use Rattle.std.proofs.lemmas.Bool.Decides.{eqb_tells, Decides-eqb}
 use Rattle.std.proofs.lemmas.List.{get_or_push, get_or_append_left, get_or-set_same, get_or-set_other, length-append}
 use Rattle.std.proofs.lemmas.List.Sums.{sum_by-cons}
 use Rattle.std.proofs.lemmas.Option.{slice_get-get_or, slice_get_within}
-use Rattle.px_spec.specs.Members.{has, Lists, at, is_this}
-use Rattle.block_partition.specs.Partitions.{Partition, block_count, put, with_block}
+use Rattle.graph_spec.specs.Members.{has, Lists, at, is_this}
+use Rattle.block_partition.specs.LabelledPartitions.{Partition, block_count, put, with_block}
 use Rattle.bisim_spec.proofs.Bisimilar.{some_of, none_or_some, is_some_at}
-use Rattle.block_splitting.specs.Chosen.{HasFirst, AllWait, IsKept, IsNotKept, IsPicked, AreChosen, KeepersBelow}
+use Rattle.block_splitting.specs.Chosen.{HasFirst, AreAllActive, IsKept, IsNotKept, IsPicked, AreChosen, RetainedBelow}
 use Rattle.block_splitting.proofs.Lists.{all_get}
 
 -- one more block is counted
@@ -36,14 +36,14 @@ pub begins_same : (key : List ℕ) (a b : ℕ) → HasFirst key a → HasFirst k
 begins_same key a b x y = first_same x.around y.around a b (sym x.is ∙ y.is)
 
 -- one more is looked at
-pub all_step : (waits : ℕ → Bool) (n : ℕ) (first old new : List ℕ) → list_all waits old ≡ list_all waits first → old ≡ n ∷ new → waits n ≡ true → list_all waits new ≡ list_all waits first
-all_step waits n first old new before is w = ap (λ b. b && list_all waits new) (sym w) ∙ ap (list_all waits) (sym is) ∙ before
+pub all_step : (active : ℕ → Bool) (n : ℕ) (first old new : List ℕ) → list_all active old ≡ list_all active first → old ≡ n ∷ new → active n ≡ true → list_all active new ≡ list_all active first
+all_step active n first old new before is w = ap (λ b. b && list_all active new) (sym w) ∙ ap (list_all active) (sym is) ∙ before
 
-pub all_stop : (waits : ℕ → Bool) (n : ℕ) (first old new : List ℕ) → list_all waits old ≡ list_all waits first → old ≡ n ∷ new → waits n ≡ false → false ≡ list_all waits first
-all_stop waits n first old new before is w = ap (λ b. b && list_all waits new) (sym w) ∙ ap (list_all waits) (sym is) ∙ before
+pub all_stop : (active : ℕ → Bool) (n : ℕ) (first old new : List ℕ) → list_all active old ≡ list_all active first → old ≡ n ∷ new → active n ≡ false → false ≡ list_all active first
+all_stop active n first old new before is w = ap (λ b. b && list_all active new) (sym w) ∙ ap (list_all active) (sym is) ∙ before
 
-pub all_done : (waits : ℕ → Bool) (first old : List ℕ) → list_all waits old ≡ list_all waits first → old ≡ [] → true ≡ list_all waits first
-all_done waits first old before is = ap (list_all waits) (sym is) ∙ before
+pub all_done : (active : ℕ → Bool) (first old : List ℕ) → list_all active old ≡ list_all active first → old ≡ [] → true ≡ list_all active first
+all_done active first old before is = ap (list_all active) (sym is) ∙ before
 
 this_here : (c : ℕ) → is_this c (Some c) ≡ true
 this_here c = elim (eqb_tells c c) [ inl s ↦ s.0 | inr d ↦ absurd (d.1 refl) ]
@@ -52,10 +52,10 @@ this_is : (c : ℕ) (o : Option ℕ) → is_this c o ≡ true → o ≡ Some c
 this_is c None h = absurd (true≢false (sym h))
 this_is c (Some b) h = elim (eqb_tells c b) [ inl s ↦ ap Some (sym s.1) | inr d ↦ absurd (both_ways (nat_eq c b) d.0 h) ]
 
-pub all_from_members : (block : List (Option ℕ)) (waits : ℕ → Bool) (b : ℕ) (members : List ℕ) → Lists (λ n. is_this b (at block n)) members → true ≡ list_all waits members
-    → AllWait block waits b
-all_from_members block waits b members l all = record {
-  each = λ n e. all_get waits members n (sym all) (l.members n ∙ ap (is_this b) e ∙ this_here b);
+pub all_from_members : (block : List (Option ℕ)) (active : ℕ → Bool) (b : ℕ) (members : List ℕ) → Lists (λ n. is_this b (at block n)) members → true ≡ list_all active members
+    → AreAllActive block active b
+all_from_members block active b members l all = record {
+  each = λ n e. all_get active members n (sym all) (l.members n ∙ ap (is_this b) e ∙ this_here b);
 }
 
 one_out : (p : ℕ → Bool) (xs : List ℕ) → list_all p xs ≡ false → (q : ℕ) × (has xs q ≡ true) × (p q ≡ false)
@@ -65,22 +65,22 @@ one_out p (x ∷ xs) h = elim (cases_Bool (p x)) [
   | inr f ↦ (x, or_left (nat_eq x x) (has xs x) ((Decides-eqb x x).1 refl), f)
 ]
 
-pub one_from_members : (block : List (Option ℕ)) (waits : ℕ → Bool) (b : ℕ) (members : List ℕ) → Lists (λ n. is_this b (at block n)) members → false ≡ list_all waits members
-    → (n : ℕ) × (at block n ≡ Some b) × (waits n ≡ false)
-one_from_members block waits b members l all =
-    let q = one_out waits members (sym all) in
+pub one_from_members : (block : List (Option ℕ)) (active : ℕ → Bool) (b : ℕ) (members : List ℕ) → Lists (λ n. is_this b (at block n)) members → false ≡ list_all active members
+    → (n : ℕ) × (at block n ≡ Some b) × (active n ≡ false)
+one_from_members block active b members l all =
+    let q = one_out active members (sym all) in
     (q.0, this_is b (at block q.0) (sym (l.members q.0) ∙ q.1), q.2)
 
-pub picked_kept : (p : Partition) (waits : ℕ → Bool) (keeper : List ℕ) (own k : ℕ) → slice_index keeper own ≡ k → AllWait p.block_of waits own → IsPicked p p waits keeper own k own
-picked_kept p waits keeper own k keeps all = record {
+pub picked_kept : (p : Partition) (active : ℕ → Bool) (retained : List ℕ) (own k : ℕ) → slice_index retained own ≡ k → AreAllActive p.block_of active own → IsPicked p p active retained own k own
+picked_kept p active retained own k keeps all = record {
   nodes = refl;
   stay = λ b h. refl;
   choice = inl (record { same = refl; keeps = keeps; all = all }, refl);
 }
 
-pub picked_new : (p q : Partition) (waits : ℕ → Bool) (keeper : List ℕ) (own k c label : ℕ) → at p.labels own ≡ Some label → at p.labels c ≡ None → q ≡ with_block p c label
-    → ((b : ℕ) → at q.labels b ≡ (if nat_eq b c then Some label else at p.labels b)) → IsNotKept p.block_of waits keeper own k → IsPicked p q waits keeper own k c
-picked_new p q waits keeper own k c label own_is free is labels not_kept = record {
+pub picked_new : (p q : Partition) (active : ℕ → Bool) (retained : List ℕ) (own k c label : ℕ) → at p.labels own ≡ Some label → at p.labels c ≡ None → q ≡ with_block p c label
+    → ((b : ℕ) → at q.labels b ≡ (if nat_eq b c then Some label else at p.labels b)) → IsNotKept p.block_of active retained own k → IsPicked p q active retained own k c
+picked_new p q active retained own k c label own_is free is labels not_kept = record {
   nodes = ap (λ (r : Partition). r.block_of) is;
   stay = λ b h. elim (eqb_tells b c) [
     | inl s ↦ absurd (let l = some_of (at p.labels b) h in let e = ap (at p.labels) s.1 in let f = l.1 in cc)
@@ -107,9 +107,9 @@ picked_new p q waits keeper own k c label own_is free is labels not_kept = recor
       | inr d ↦ absurd (d.1 refl)
     ]
 
-pub chosen_none : (p q : Partition) (waits : ℕ → Bool) (keys : List (List ℕ)) (keeper chosen : List ℕ) → q.block_of ≡ p.block_of → q.labels ≡ p.labels → chosen ≡ []
-    → AreChosen p q waits keys 0 keeper chosen
-chosen_none p q waits keys keeper chosen nodes labels none = record {
+pub chosen_none : (p q : Partition) (active : ℕ → Bool) (keys : List (List ℕ)) (retained chosen : List ℕ) → q.block_of ≡ p.block_of → q.labels ≡ p.labels → chosen ≡ []
+    → AreChosen p q active keys 0 retained chosen
+chosen_none p q active keys retained chosen nodes labels none = record {
   count = ap length none;
   nodes = nodes;
   stay = λ b h. ap (λ (ls : List (Option ℕ)). at ls b) labels;
@@ -122,11 +122,11 @@ chosen_none p q waits keys keeper chosen nodes labels none = record {
   none_new = λ e k own key h. absurd (omega (arith, h));
 }
 
-pub chosen_more : (p q r : Partition) (waits : ℕ → Bool) (keys : List (List ℕ)) (i own c : ℕ) (keeper chosen key : List ℕ)
-    → ((k : ℕ) (x : List ℕ) → slice_get keys k ≡ Some x → (o : ℕ) × HasFirst x o × IsSome (at p.labels o)) → AreChosen p q waits keys i keeper chosen
-    → slice_get keys i ≡ Some key → ((n : ℕ) → HasFirst key n → own ≡ n) → IsPicked q r waits keeper own i c
-    → AreChosen p r waits keys (i + 1) keeper (chosen ++ c ∷ [])
-chosen_more p q r waits keys i own c keeper chosen key keyed w at_i begins picked = record {
+pub chosen_more : (p q r : Partition) (active : ℕ → Bool) (keys : List (List ℕ)) (i own c : ℕ) (retained chosen key : List ℕ)
+    → ((k : ℕ) (x : List ℕ) → slice_get keys k ≡ Some x → (o : ℕ) × HasFirst x o × IsSome (at p.labels o)) → AreChosen p q active keys i retained chosen
+    → slice_get keys i ≡ Some key → ((n : ℕ) → HasFirst key n → own ≡ n) → IsPicked q r active retained own i c
+    → AreChosen p r active keys (i + 1) retained (chosen ++ c ∷ [])
+chosen_more p q r active keys i own c retained chosen key keyed w at_i begins picked = record {
   count = length-append chosen (c ∷ []) ∙ ap (λ n. n + 1) w.count;
   nodes = picked.nodes ∙ w.nodes;
   stay = stays_b;
@@ -135,14 +135,14 @@ chosen_more p q r waits keys i own c keeper chosen key keyed w at_i begins picke
     | inr past ↦ (let e : k ≡ i = omega (arith, h, past) in subst (λ x. IsSome (at r.labels x)) (sym (last k e)) live_c)
   ];
   each = λ k o x h e f. elim (cases_lt k i) [
-    | inl l ↦ subst (λ z. IsKept p.block_of waits keeper o k z ⊎ ((at p.labels z ≡ None) × IsNotKept p.block_of waits keeper o k)) (sym (before k l)) (w.each k o x l e f)
+    | inl l ↦ subst (λ z. IsKept p.block_of active retained o k z ⊎ ((at p.labels z ≡ None) × IsNotKept p.block_of active retained o k)) (sym (before k l)) (w.each k o x l e f)
     | inr past ↦ (
         let here : k ≡ i = omega (arith, h, past) in
         let same : x ≡ key = (let a = ap (slice_get keys) here in cc) in
         let number : own ≡ o = begins o (subst (λ z. HasFirst z o) same f) in
-        subst (λ z. IsKept p.block_of waits keeper o k z ⊎ ((at p.labels z ≡ None) × IsNotKept p.block_of waits keeper o k)) (sym (last k here))
-        (subst (λ z. IsKept p.block_of waits keeper o z c ⊎ ((at p.labels c ≡ None) × IsNotKept p.block_of waits keeper o z)) (sym here)
-        (subst (λ z. IsKept p.block_of waits keeper z i c ⊎ ((at p.labels c ≡ None) × IsNotKept p.block_of waits keeper z i)) number choice_c)))
+        subst (λ z. IsKept p.block_of active retained o k z ⊎ ((at p.labels z ≡ None) × IsNotKept p.block_of active retained o k)) (sym (last k here))
+        (subst (λ z. IsKept p.block_of active retained o z c ⊎ ((at p.labels c ≡ None) × IsNotKept p.block_of active retained o z)) (sym here)
+        (subst (λ z. IsKept p.block_of active retained z i c ⊎ ((at p.labels c ≡ None) × IsNotKept p.block_of active retained z i)) number choice_c)))
   ];
   label = λ k o x h e f. elim (cases_lt k i) [
     | inl l ↦ ap (at r.labels) (before k l) ∙ picked.stay (slice_index chosen k) (w.live k l) ∙ w.label k o x l e f
@@ -227,11 +227,11 @@ chosen_more p q r waits keys i own c keeper chosen key keyed w at_i begins picke
       | inr (new, why) ↦ new.only b h
     ]
 
-    choice_c : IsKept p.block_of waits keeper own i c ⊎ ((at p.labels c ≡ None) × IsNotKept p.block_of waits keeper own i)
+    choice_c : IsKept p.block_of active retained own i c ⊎ ((at p.labels c ≡ None) × IsNotKept p.block_of active retained own i)
     choice_c = elim picked.choice [
-      | inl (kept, stays) ↦ inl (subst (λ bs. IsKept bs waits keeper own i c) w.nodes kept)
+      | inl (kept, stays) ↦ inl (subst (λ bs. IsKept bs active retained own i c) w.nodes kept)
       | inr (new, why) ↦ elim (none_or_some (at p.labels c)) [
-        | inl none ↦ inr (none, subst (λ bs. IsNotKept bs waits keeper own i) w.nodes why)
+        | inl none ↦ inr (none, subst (λ bs. IsNotKept bs active retained own i) w.nodes why)
         | inr (x, some) ↦ absurd (let s = some_of (at q.labels c) (was c (is_some_at (at p.labels c) x some)) in let f = new.free in let g = s.1 in cc)
       ]
     ]
@@ -258,7 +258,7 @@ chosen_more p q r waits keys i own c keeper chosen key keyed w at_i begins picke
                 let d = kept.keeps in
                 let f = other.keeps in
                 let own_same : o.0 ≡ own = cc in
-                let g = ap (slice_index keeper) own_same in
+                let g = ap (slice_index retained) own_same in
                 omega (arith, l, g, d, f))
             | inr (free, why) ↦ (
                 let s = some_of (at p.labels own) own_live in
@@ -276,40 +276,40 @@ chosen_more p q r waits keys i own c keeper chosen key keyed w at_i begins picke
           cc)
     ]
 
--- a keeper for one more key
+-- a retained group for one more key
 
-pub keepers_none : (keys : List (List ℕ)) (keeper : List ℕ) → KeepersBelow keys 0 keeper
-keepers_none keys keeper = record { each = λ i own key h. absurd (omega (arith, h)) }
+pub retained_groups_none : (keys : List (List ℕ)) (retained : List ℕ) → RetainedBelow keys 0 retained
+retained_groups_none keys retained = record { each = λ i own key h. absurd (omega (arith, h)) }
 
--- where the keeper stays
-pub keepers_stay : (keys : List (List ℕ)) (k own before : ℕ) (keeper key kept : List ℕ) → KeepersBelow keys k keeper → slice_get keys k ≡ Some key → HasFirst key own
-    → before < k → slice_index keeper own ≡ before → slice_get keys before ≡ Some kept → HasFirst kept own → KeepersBelow keys (k + 1) keeper
-keepers_stay keys k own before keeper key kept w at_k begins less is at_before begins_before = record {
+-- where the retained group stays
+pub retained_groups_stay : (keys : List (List ℕ)) (k own before : ℕ) (retained key kept : List ℕ) → RetainedBelow keys k retained → slice_get keys k ≡ Some key → HasFirst key own
+    → before < k → slice_index retained own ≡ before → slice_get keys before ≡ Some kept → HasFirst kept own → RetainedBelow keys (k + 1) retained
+retained_groups_stay keys k own before retained key kept w at_k begins less is at_before begins_before = record {
   each = λ i o x h e f. elim (cases_lt i k) [
     | inl l ↦ (let r = w.each i o x l e f in (r.0, r.1, (let a = r.2 in omega (arith, a)), r.3, r.4, r.5))
     | inr past ↦ (
         let here : i ≡ k = omega (arith, h, past) in
         let same : x ≡ key = (let a = ap (slice_get keys) here in cc) in
         let number : own ≡ o = begins_same key own o begins (subst (λ z. HasFirst z o) same f) in
-        (before, kept, omega (arith, less), ap (slice_index keeper) (sym number) ∙ is, at_before, subst (HasFirst kept) number begins_before))
+        (before, kept, omega (arith, less), ap (slice_index retained) (sym number) ∙ is, at_before, subst (HasFirst kept) number begins_before))
   ];
 }
 
 -- where this key takes its place
-pub keepers_set : (keys : List (List ℕ)) (k own : ℕ) (keeper key : List ℕ) → KeepersBelow keys k keeper → slice_get keys k ≡ Some key → HasFirst key own → own < length keeper
-    → KeepersBelow keys (k + 1) (slice_set keeper own k)
-keepers_set keys k own keeper key w at_k begins within = record {
+pub retained_groups_set : (keys : List (List ℕ)) (k own : ℕ) (retained key : List ℕ) → RetainedBelow keys k retained → slice_get keys k ≡ Some key → HasFirst key own → own < length retained
+    → RetainedBelow keys (k + 1) (slice_set retained own k)
+retained_groups_set keys k own retained key w at_k begins within = record {
   each = λ i o x h e f. elim (eqb_tells o own) [
     | inl s ↦ (
       k,
       key,
       omega arith,
-      ap (slice_index (slice_set keeper own k)) s.1 ∙ get_or-set_same keeper own k 0 within,
+      ap (slice_index (slice_set retained own k)) s.1 ∙ get_or-set_same retained own k 0 within,
       at_k,
       subst (HasFirst key) (sym s.1) begins,
     )
     | inr d ↦ elim (cases_lt i k) [
-      | inl l ↦ (let r = w.each i o x l e f in (r.0, r.1, (let a = r.2 in omega (arith, a)), get_or-set_other keeper own o k 0 d.1 ∙ r.3, r.4, r.5))
+      | inl l ↦ (let r = w.each i o x l e f in (r.0, r.1, (let a = r.2 in omega (arith, a)), get_or-set_other retained own o k 0 d.1 ∙ r.3, r.4, r.5))
       | inr past ↦ absurd (
           let here : i ≡ k = omega (arith, h, past) in
           let same : x ≡ key = (let a = ap (slice_get keys) here in cc) in

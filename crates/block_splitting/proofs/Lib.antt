@@ -3,6 +3,6 @@ pub mod Grouped
 pub mod Choices
 pub mod Moves
 pub mod Keyed
-pub mod Parts
+pub mod SplitNodes
 pub mod SplitLaws
 pub mod SplitterLaws

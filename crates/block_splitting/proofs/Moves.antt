@@ -4,11 +4,11 @@ use Rattle.std.specs.Prelude.{nat_eq, ◌||◌, if◌then◌else◌, slice_set}
 use Rattle.std.proofs.lemmas.Bool.{cases_Bool, or_cases, or_parts, both_ways}
 use Rattle.std.proofs.lemmas.Bool.Decides.{Decides-eqb, eqb_tells}
 use Rattle.std.proofs.lemmas.List.{get_or-set_same, get_or-set_other}
-use Rattle.px_spec.specs.Members.{has, at}
+use Rattle.graph_spec.specs.Members.{has, at}
 use Rattle.bisim_spec.proofs.Bisimilar.{is_some_at}
 use Rattle.bisim_spec.proofs.Together.{block_below}
 use Rattle.block_splitting.specs.Moved.{AreMoved}
-use Rattle.px_spec.proofs.MemberLaws.{has_push}
+use Rattle.graph_spec.proofs.MemberLaws.{has_push}
 
 -- one place is written
 pub written_at : (block : List (Option ℕ)) (n m : ℕ) (v : Option ℕ) → IsSome (at block n) → at (slice_set block n v) m ≡ (if nat_eq m n then v else at block m)

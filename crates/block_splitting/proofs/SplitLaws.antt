@@ -2,31 +2,31 @@
 use Rattle.std.proofs.Common.{◌≡◌, ℕ, ◌<◌, ◌≤◌, ◌⊎◌, List, [], Option, Some, IsSome, is_some, sym, ◌∙◌, ap, subst, arith, inl, inr, true, false, Bool, slice_get, slice_index, get_or, count_by}
 use Rattle.std.proofs.lemmas.Bool.{cases_lt, cases_Bool}
 use Rattle.std.proofs.lemmas.Option.{slice_get-get_or}
-use Rattle.px_spec.specs.Graphs.{Graph, IsGraph}
-use Rattle.px_spec.specs.Shapes.{shape_of}
-use Rattle.px_spec.specs.Members.{has, at}
+use Rattle.graph_spec.specs.Graphs.{Graph, IsGraph}
+use Rattle.graph_spec.specs.Shapes.{shape_of}
+use Rattle.graph_spec.specs.Members.{has, at}
 use Rattle.bisim_spec.specs.Partitions.{Together, IsPartition}
 use Rattle.bisim_levels.specs.declared.sides.Side.{Side}
-use Rattle.bisim_levels.specs.Sides.{is_near}
+use Rattle.bisim_levels.specs.NeighbourSides.{is_neighbour}
 use Rattle.bisim_levels.specs.Refinement.{StayTogether}
-use Rattle.bisim_levels.proofs.Views.{near_block}
-use Rattle.bisim_levels.proofs.Written.{together_from_key, key_from_together}
-use Rattle.block_partition.specs.Partitions.{Partition, IsBlock, block_count}
+use Rattle.bisim_levels.proofs.LabelledNodes.{neighbour_block}
+use Rattle.bisim_levels.proofs.WrittenKeys.{together_from_key, key_from_together}
+use Rattle.block_partition.specs.LabelledPartitions.{Partition, IsBlock, block_count}
 use Rattle.block_splitting.specs.Groups.{AreGrouped, NeighbourKey}
 use Rattle.block_splitting.specs.Moved.{AreParted}
 use Rattle.block_splitting.specs.Splits.{IsSplit, AreLabelled, AreInhabited}
 use Rattle.block_splitting.proofs.Lists.{none_empty}
 use Rattle.block_splitting.proofs.Keyed.{AreKeys}
-use Rattle.block_splitting.proofs.Parts.{Parts, Placed, OneKey, placed, told, kept_one, waited_of}
+use Rattle.block_splitting.proofs.SplitNodes.{Parts, Placed, OneKey, placed, told, kept_one, was_active_of}
 
 -- the parts, from what each function tells
-pub parts_from : (K : ℕ → List ℕ → Type 0) (p r : Partition) (list waiting moved : List ℕ) (keys : List (List ℕ)) (group group2 : List ℕ) → list ≡ waiting → group2 ≡ group → AreKeys K p.block_of
-    → ((n b : ℕ) → at p.block_of n ≡ Some b → IsBlock p b) → AreGrouped K (has list) keys group → AreParted p r (has waiting) keys group2 (has moved) → Parts K p r (has waiting) moved keys group
-parts_from K p r list waiting moved keys group group2 e eg a live w m = record {
+pub parts_from : (K : ℕ → List ℕ → Type 0) (p r : Partition) (list active_nodes moved : List ℕ) (keys : List (List ℕ)) (group group2 : List ℕ) → list ≡ active_nodes → group2 ≡ group → AreKeys K p.block_of
+    → ((n b : ℕ) → at p.block_of n ≡ Some b → IsBlock p b) → AreGrouped K (has list) keys group → AreParted p r (has active_nodes) keys group2 (has moved) → Parts K p r (has active_nodes) moved keys group
+parts_from K p r list active_nodes moved keys group group2 e eg a live w m = record {
   keys_are = a;
   live = live;
   grouped = subst (λ (xs : List ℕ). AreGrouped K (has xs) keys group) e w;
-  parted = subst (λ (gs : List ℕ). AreParted p r (has waiting) keys gs (has moved)) eg m;
+  parted = subst (λ (gs : List ℕ). AreParted p r (has active_nodes) keys gs (has moved)) eg m;
 }
 
 -- a round by the keys of neighbours' blocks
@@ -37,17 +37,17 @@ split_of g s side p r seen moved keys group part w = record {
   parted = λ u v t. elim (tell u v t) [ inl (un, old) ↦ inl un | inr o ↦ inr (one u v o).neighbours ];
   grouped = λ u v t near su sv.
       kept_one (NeighbourKey g side p.block_of) p r seen moved keys group w u v t
-      (λ x y k l. key_from_together (at p.block_of) p.block_of (is_near side g) u v x y (record { one_number = t; neighbours = near }) k l) su sv;
+      (λ x y k l. key_from_together (at p.block_of) p.block_of (is_neighbour side g) u v x y (record { one_number = t; neighbours = near }) k l) su sv;
   still = w.parted.moved_are.still;
   went = w.parted.moved_are.went;
-  waited = waited_of seen (λ n. slice_index w.parted.chosen (slice_index group n)) p.block_of r.block_of (has moved) w.parted.moved_are;
+  was_active = was_active_of seen (λ n. slice_index w.parted.chosen (slice_index group n)) p.block_of r.block_of (has moved) w.parted.moved_are;
 }
   where
     tell : (u v : ℕ) → Together r.block_of u v → (((seen u ≡ false) × (seen v ≡ false)) × Together p.block_of u v) ⊎ OneKey (NeighbourKey g side p.block_of) seen u v
     tell = told (NeighbourKey g side p.block_of) p r seen moved keys group w
 
-    one : (u v : ℕ) → OneKey (NeighbourKey g side p.block_of) seen u v → StayTogether (at p.block_of) p.block_of (is_near side g) u v
-    one u v o = together_from_key (at p.block_of) p.block_of (is_near side g) u v o.key (near_block g s side p.block_of part) o.first_has o.second_has
+    one : (u v : ℕ) → OneKey (NeighbourKey g side p.block_of) seen u v → StayTogether (at p.block_of) p.block_of (is_neighbour side g) u v
+    one u v o = together_from_key (at p.block_of) p.block_of (is_neighbour side g) u v o.key (neighbour_block g s side p.block_of part) o.first_has o.second_has
 
 -- where no block is new nothing moves
 pub more_of : (K : ℕ → List ℕ → Type 0) (p r : Partition) (seen : ℕ → Bool) (moved : List ℕ) (keys : List (List ℕ)) (group : List ℕ)
@@ -59,7 +59,7 @@ more_of K p r seen moved keys group w = elim (cases_lt (block_count p) (block_co
       | inr f ↦ f
       | inl went ↦ absurd (
           let a = placed K p r seen moved keys group w n
-          (waited_of seen (λ m. slice_index w.parted.chosen (slice_index group m)) p.block_of r.block_of (has moved) w.parted.moved_are n went) in
+          (was_active_of seen (λ m. slice_index w.parted.chosen (slice_index group m)) p.block_of r.block_of (has moved) w.parted.moved_are n went) in
           let same = w.parted.chosen_are.none_new (let l = w.parted.chosen_are.mono in omega (arith, few, l)) (slice_index group n) a.own a.key a.below a.at_key a.begins in
           w.parted.moved_are.went n went (a.there ∙ ap Some same ∙ sym a.own_is))
     ])),
@@ -101,7 +101,7 @@ inhabited_of K p r seen moved keys group w h = record {
               let own = a.own_is in
               let here = m.1 in
               let same : a.own ≡ b = cc in
-              let k = w.parted.keepers.each (slice_index group m.0) a.own a.key a.below a.at_key a.begins in
+              let k = w.parted.retained_groups.each (slice_index group m.0) a.own a.key a.below a.at_key a.begins in
               elim (w.parted.chosen_are.each k.0 a.own k.1 k.2 k.4 k.5) [
                 | inl kept ↦ by_group k.0 b k.1 k.4 (kept.same ∙ same)
                 | inr (free, not_kept) ↦ elim not_kept.why [

@@ -3,20 +3,20 @@ use Rattle.std.proofs.Common.{◌≡◌, ℕ, List, [], ◌∷◌, Option, Some,
 use Rattle.std.specs.Prelude.{◌||◌}
 use Rattle.std.specs.List.{list_any}
 use Rattle.std.proofs.lemmas.Bool.{cases_Bool, or_cases, or_parts}
-use Rattle.px_spec.specs.Graphs.{Graph, IsGraph}
-use Rattle.px_spec.specs.Members.{has, at}
-use Rattle.label_graph.specs.Views.{label_number}
+use Rattle.graph_spec.specs.Graphs.{Graph, IsGraph}
+use Rattle.graph_spec.specs.Members.{has, at}
+use Rattle.label_graph.specs.GraphViews.{label_number}
 use Rattle.bisim_spec.specs.Partitions.{Together, IsPartition}
 use Rattle.bisim_spec.proofs.Bisimilar.{is_some_at}
 use Rattle.bisim_levels.specs.declared.sides.Side.{Side}
 use Rattle.bisim_levels.specs.declared.sides.Side.TheVariants.{Parents, Children}
-use Rattle.px_spec.specs.Shapes.{shape_of}
-use Rattle.bisim_levels.specs.Sides.{is_near}
-use Rattle.block_partition.specs.Partitions.{Partition}
+use Rattle.graph_spec.specs.Shapes.{shape_of}
+use Rattle.bisim_levels.specs.NeighbourSides.{is_neighbour}
+use Rattle.block_partition.specs.LabelledPartitions.{Partition}
 use Rattle.block_splitting.specs.Splitters.{BothOrNeither, IsSplitBy, bit_of, FlagKey, AreTouched, KeepLabels}
 use Rattle.block_splitting.proofs.Lists.{any_get, any_from}
 use Rattle.block_splitting.proofs.Keyed.{AreKeys, around_nodes}
-use Rattle.block_splitting.proofs.Parts.{Parts, OneKey, placed, told, kept_one}
+use Rattle.block_splitting.proofs.SplitNodes.{Parts, OneKey, placed, told, kept_one}
 
 same_bit : (a b : Bool) → bit_of a ≡ bit_of b → a ≡ b
 same_bit true true h = refl
@@ -58,17 +58,17 @@ same_flag false true h k = k refl
 same_flag false false h k = refl
 
 -- two of which both or neither have a neighbour in the splitter
-both_from : (t : Side) (g : Graph) (splitter : List ℕ) (flag : ℕ → Bool) → ((n : ℕ) → flag n ≡ list_any (λ q. is_near t g q n) splitter) → (u v : ℕ) → flag u ≡ flag v → BothOrNeither t g (has splitter) u v
+both_from : (t : Side) (g : Graph) (splitter : List ℕ) (flag : ℕ → Bool) → ((n : ℕ) → flag n ≡ list_any (λ q. is_neighbour t g q n) splitter) → (u v : ℕ) → flag u ≡ flag v → BothOrNeither t g (has splitter) u v
 both_from t g splitter flag is u v same = record {
-  there = λ p near inside. let q = any_get (λ x. is_near t g x v) splitter (sym (is v) ∙ sym same ∙ is u ∙ any_from (λ x. is_near t g x u) splitter p inside near) in (q.0, q.2, q.1);
-  back = λ p near inside. let q = any_get (λ x. is_near t g x u) splitter (sym (is u) ∙ same ∙ is v ∙ any_from (λ x. is_near t g x v) splitter p inside near) in (q.0, q.2, q.1);
+  there = λ p near inside. let q = any_get (λ x. is_neighbour t g x v) splitter (sym (is v) ∙ sym same ∙ is u ∙ any_from (λ x. is_neighbour t g x u) splitter p inside near) in (q.0, q.2, q.1);
+  back = λ p near inside. let q = any_get (λ x. is_neighbour t g x u) splitter (sym (is u) ∙ same ∙ is v ∙ any_from (λ x. is_neighbour t g x v) splitter p inside near) in (q.0, q.2, q.1);
 }
 
-flag_from : (t : Side) (g : Graph) (splitter : List ℕ) (flag : ℕ → Bool) → ((n : ℕ) → flag n ≡ list_any (λ q. is_near t g q n) splitter) → (u v : ℕ) → BothOrNeither t g (has splitter) u v → flag u ≡ flag v
+flag_from : (t : Side) (g : Graph) (splitter : List ℕ) (flag : ℕ → Bool) → ((n : ℕ) → flag n ≡ list_any (λ q. is_neighbour t g q n) splitter) → (u v : ℕ) → BothOrNeither t g (has splitter) u v → flag u ≡ flag v
 flag_from t g splitter flag is u v b =
     same_flag (flag u) (flag v)
-    (λ h. let p = any_get (λ x. is_near t g x u) splitter (sym (is u) ∙ h) in let q = b.there p.0 p.2 p.1 in is v ∙ any_from (λ x. is_near t g x v) splitter q.0 q.2 q.1)
-    (λ h. let p = any_get (λ x. is_near t g x v) splitter (sym (is v) ∙ h) in let q = b.back p.0 p.2 p.1 in is u ∙ any_from (λ x. is_near t g x u) splitter q.0 q.2 q.1)
+    (λ h. let p = any_get (λ x. is_neighbour t g x u) splitter (sym (is u) ∙ h) in let q = b.there p.0 p.2 p.1 in is v ∙ any_from (λ x. is_neighbour t g x v) splitter q.0 q.2 q.1)
+    (λ h. let p = any_get (λ x. is_neighbour t g x v) splitter (sym (is v) ∙ h) in let q = b.back p.0 p.2 p.1 in is u ∙ any_from (λ x. is_neighbour t g x u) splitter q.0 q.2 q.1)
 
 pub split_by_of : (g : Graph) (p r : Partition) (splitter parents children touched moved : List ℕ) (keys : List (List ℕ)) (group : List ℕ) → AreTouched g splitter parents children touched
     → Parts (FlagKey (has parents) (has children) p.block_of) p r (has touched) moved keys group → IsSplitBy g p.block_of r.block_of (has splitter)

@@ -1,11 +1,11 @@
 -- Nodes that are grouped by their keys.
 use Rattle.std.specs.Prelude.{ℕ, ◌≡◌, ◌<◌, Bool, true, List, Option, Some, IsSome, slice_get, slice_index}
-use Rattle.px_spec.specs.Graphs.{Graph}
-use Rattle.px_spec.specs.Members.{at}
-use Rattle.label_graph.specs.Views.{label_number}
+use Rattle.graph_spec.specs.Graphs.{Graph}
+use Rattle.graph_spec.specs.Members.{at}
+use Rattle.label_graph.specs.GraphViews.{label_number}
 use Rattle.key_table.specs.NumberedKeys.{AreDistinct, Interns}
 use Rattle.bisim_levels.specs.declared.sides.Side.{Side}
-use Rattle.bisim_levels.specs.Sides.{is_near}
+use Rattle.bisim_levels.specs.NeighbourSides.{is_neighbour}
 use Rattle.bisim_levels.specs.Keys.{IsKey}
 
 -- the numbers that are seen are nodes with blocks, below a size
@@ -23,7 +23,7 @@ pub record AreGrouped (K : ℕ → List ℕ → Type 0) (seen : ℕ → Bool) (k
 
 -- the key of a node: its own block, and then the blocks of its neighbours on a side, rising, each once
 abbrev pub NeighbourKey : Graph → Side → List (Option ℕ) → ℕ → List ℕ → Type 0
-NeighbourKey g side block n key = IsKey (at block) block (is_near side g) n key
+NeighbourKey g side block n key = IsKey (at block) block (is_neighbour side g) n key
 
 -- the number is that of a key that passes, which is put behind the others where it was absent
 abbrev pub InternsSome : (List ℕ → Type 0) → List (List ℕ) → List (List ℕ) → ℕ → Type 0

@@ -1,8 +1,8 @@
 -- Nodes that went to the blocks of their groups.
 use Rattle.std.specs.Prelude.{ℕ, ◌≡◌, ◌<◌, Bool, true, false, List, length, Option, Some, IsSome, slice_get, slice_index, ◌⊎◌, ◌++◌, ◌∷◌, []}
-use Rattle.px_spec.specs.Members.{at}
-use Rattle.block_partition.specs.Partitions.{Partition, IsBlock}
-use Rattle.block_splitting.specs.Chosen.{HasFirst, AreChosen, KeepersBelow}
+use Rattle.graph_spec.specs.Members.{at}
+use Rattle.block_partition.specs.LabelledPartitions.{Partition, IsBlock}
+use Rattle.block_splitting.specs.Chosen.{HasFirst, AreChosen, RetainedBelow}
 
 -- the nodes that are seen have a block, and one is chosen for their group
 pub record CanMove (p : Partition) (seen : ℕ → Bool) (group chosen : List ℕ) : Type 0 where
@@ -37,9 +37,9 @@ pub record CanPart (p : Partition) (seen : ℕ → Bool) (keys : List (List ℕ)
 pub record AreParted (old new : Partition) (seen : ℕ → Bool) (keys : List (List ℕ)) (group : List ℕ) (moved : ℕ → Bool) : Type 0 where
   -- the partition with the new blocks, before nodes move
   pub middle : Partition
-  pub keeper : List ℕ
+  pub retained : List ℕ
   pub chosen : List ℕ
-  pub keepers : KeepersBelow keys (length keys) keeper
-  pub chosen_are : AreChosen old middle seen keys (length keys) keeper chosen
+  pub retained_groups : RetainedBelow keys (length keys) retained
+  pub chosen_are : AreChosen old middle seen keys (length keys) retained chosen
   pub moved_are : AreMoved seen (λ n. slice_index chosen (slice_index group n)) old.block_of new.block_of moved
   pub labels : new.labels ≡ middle.labels

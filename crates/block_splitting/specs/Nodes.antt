@@ -1,8 +1,8 @@
 -- Sets of nodes.
 use Rattle.std.specs.Prelude.{ℕ, ◌≡◌, true, List, IsSome}
-use Rattle.px_spec.specs.Graphs.{Graph}
-use Rattle.px_spec.specs.Members.{has}
-use Rattle.label_graph.specs.Views.{label_number}
+use Rattle.graph_spec.specs.Graphs.{Graph}
+use Rattle.graph_spec.specs.Members.{has}
+use Rattle.label_graph.specs.GraphViews.{label_number}
 
 -- nodes below a size, each once, in the order in which they came
 pub record NodeList : Type 0 where

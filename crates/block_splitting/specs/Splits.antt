@@ -1,28 +1,28 @@
 -- Blocks that are split by the blocks of their members' neighbours (the refinement step of R. Paige and R. E. Tarjan, "Three
--- Partition Refinement Algorithms", SIAM Journal on Computing 16, 1987, done for all members that wait at once).
+-- Partition Refinement Algorithms", SIAM Journal on Computing 16, 1987, done for all active members at once).
 use Rattle.std.specs.Prelude.{ℕ, ◌≡◌, ◌<◌, ◌≤◌, ◌⊎◌, [], Bool, true, false, List, Option, Some, IsTrue}
-use Rattle.px_spec.specs.Graphs.{Graph}
-use Rattle.px_spec.specs.Members.{at}
-use Rattle.label_graph.specs.Views.{label_number}
+use Rattle.graph_spec.specs.Graphs.{Graph}
+use Rattle.graph_spec.specs.Members.{at}
+use Rattle.label_graph.specs.GraphViews.{label_number}
 use Rattle.bisim_spec.specs.Bisimilarity.{Matched}
 use Rattle.bisim_spec.specs.Partitions.{Together}
 use Rattle.bisim_levels.specs.declared.sides.Side.{Side}
-use Rattle.bisim_levels.specs.Sides.{is_near}
-use Rattle.block_partition.specs.Partitions.{Partition, IsBlock, block_count}
+use Rattle.bisim_levels.specs.NeighbourSides.{is_neighbour}
+use Rattle.block_partition.specs.LabelledPartitions.{Partition, IsBlock, block_count}
 
 -- p is a neighbour of n on this side
 abbrev pub IsNeighbour : Side → Graph → ℕ → ℕ → Type 0
-IsNeighbour t g p n = IsTrue (is_near t g p n)
+IsNeighbour t g p n = IsTrue (is_neighbour t g p n)
 
--- Those that waited are parted by the blocks of their neighbours on the side, and from the others; and which nodes moved.
-pub record IsSplit (g : Graph) (side : Side) (waits : ℕ → Bool) (old new : List (Option ℕ)) (moved : ℕ → Bool) : Type 0 where
+-- Those that were active are parted by the blocks of their neighbours on the side, and from the others; and which nodes moved.
+pub record IsSplit (g : Graph) (side : Side) (active : ℕ → Bool) (old new : List (Option ℕ)) (moved : ℕ → Bool) : Type 0 where
   pub finer : (u v : ℕ) → Together new u v → Together old u v
-  pub parted : (u v : ℕ) → Together new u v → ((waits u ≡ false) × (waits v ≡ false)) ⊎ Matched (IsNeighbour side g) (Together old) u v
-  pub grouped : (u v : ℕ) → Together old u v → Matched (IsNeighbour side g) (Together old) u v → (waits u ≡ true → waits v ≡ true)
-      → (waits v ≡ true → waits u ≡ true) → Together new u v
+  pub parted : (u v : ℕ) → Together new u v → ((active u ≡ false) × (active v ≡ false)) ⊎ Matched (IsNeighbour side g) (Together old) u v
+  pub grouped : (u v : ℕ) → Together old u v → Matched (IsNeighbour side g) (Together old) u v → (active u ≡ true → active v ≡ true)
+      → (active v ≡ true → active u ≡ true) → Together new u v
   pub still : (n : ℕ) → moved n ≡ false → at new n ≡ at old n
   pub went : (n : ℕ) → moved n ≡ true → at new n ≡ at old n → ⊥
-  pub waited : (n : ℕ) → moved n ≡ true → waits n ≡ true
+  pub was_active : (n : ℕ) → moved n ≡ true → active n ≡ true
 
 -- there are more blocks than before, or nothing moved
 abbrev pub HasMore : Partition → Partition → List ℕ → Type 0

@@ -1,13 +1,13 @@
 -- Blocks that are split by a set of nodes, the splitter (R. Paige and R. E. Tarjan, SIAM Journal on Computing 16, 1987).
 use Rattle.std.specs.Prelude.{ℕ, ◌≡◌, [], ◌∷◌, ◌||◌, Bool, true, false, List, Option, Some}
 use Rattle.std.specs.List.{list_any}
-use Rattle.px_spec.specs.Graphs.{Graph}
-use Rattle.px_spec.specs.Members.{has, at}
+use Rattle.graph_spec.specs.Graphs.{Graph}
+use Rattle.graph_spec.specs.Members.{has, at}
 use Rattle.bisim_spec.specs.Partitions.{Together}
 use Rattle.bisim_levels.specs.declared.sides.Side.{Side}
 use Rattle.bisim_levels.specs.declared.sides.Side.TheVariants.{Parents, Children}
-use Rattle.bisim_levels.specs.Sides.{is_near}
-use Rattle.block_partition.specs.Partitions.{Partition}
+use Rattle.bisim_levels.specs.NeighbourSides.{is_neighbour}
+use Rattle.block_partition.specs.LabelledPartitions.{Partition}
 use Rattle.block_splitting.specs.Splits.{IsNeighbour}
 use Rattle.block_splitting.specs.Nodes.{NodeList}
 use Rattle.block_splitting.specs.Groups.{AreGrouped}
@@ -29,8 +29,8 @@ pub record KeepLabels (old new : Partition) : Type 0 where
 
 -- the nodes that have a parent in the splitter, those that have a child there, and both together
 pub record AreTouched (g : Graph) (splitter parents children touched : List ℕ) : Type 0 where
-  pub by_parents : (n : ℕ) → has parents n ≡ list_any (λ q. is_near Parents g q n) splitter
-  pub by_children : (n : ℕ) → has children n ≡ list_any (λ q. is_near Children g q n) splitter
+  pub by_parents : (n : ℕ) → has parents n ≡ list_any (λ q. is_neighbour Parents g q n) splitter
+  pub by_children : (n : ℕ) → has children n ≡ list_any (λ q. is_neighbour Children g q n) splitter
   pub all : (n : ℕ) → has touched n ≡ (has parents n || has children n)
 
 abbrev pub bit_of : Bool → ℕ

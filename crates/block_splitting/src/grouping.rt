@@ -1,8 +1,8 @@
-// Nodes that wait, grouped by their keys.
+// Active nodes, grouped by their keys.
 ghost use Rattle.std.specs.Prelude.{◌≡◌, ◌<◌, ℕ, [], true, OnOk, IsSome, length, vec_len};
-ghost use Rattle.px_spec.specs.Graphs.{IsGraph};
-ghost use Rattle.px_spec.specs.Members.{has};
-ghost use Rattle.label_graph.specs.Views.{label_number};
+ghost use Rattle.graph_spec.specs.Graphs.{IsGraph};
+ghost use Rattle.graph_spec.specs.Members.{has};
+ghost use Rattle.label_graph.specs.GraphViews.{label_number};
 ghost use Rattle.block_splitting.specs.Groups.{AreReady, AreGrouped, NeighbourKey};
 
 use crate::keys::key_number;

@@ -1,10 +1,10 @@
 // The key of a node, read off the tables of a partition.
 ghost use Rattle.std.specs.Prelude.{IfOk, IsSome};
-ghost use Rattle.px_spec.specs.Graphs.{IsGraph};
-ghost use Rattle.px_spec.specs.Members.{Lists, at};
-ghost use Rattle.label_graph.specs.Views.{label_number};
+ghost use Rattle.graph_spec.specs.Graphs.{IsGraph};
+ghost use Rattle.graph_spec.specs.Members.{Lists, at};
+ghost use Rattle.label_graph.specs.GraphViews.{label_number};
 ghost use Rattle.key_table.specs.NumberedKeys.{AreDistinct};
-ghost use Rattle.bisim_levels.specs.Sides.{is_near};
+ghost use Rattle.bisim_levels.specs.NeighbourSides.{is_neighbour};
 ghost use Rattle.block_splitting.specs.Groups.{NeighbourKey, InternsSome};
 
 use bisim_levels::{Side, write_key};
@@ -17,7 +17,7 @@ use px_base::{Memory, NodeId};
 fn neighbours<'a>(view: &'a GraphView<'_>, side: Side, n: NodeId) -> &'a [NodeId]
     requires graph { IsGraph view.now }
     requires node { IsSome (label_number view.now n) }
-    ensures { Lists (λ p. is_near side view.now p n) result.now }
+    ensures { Lists (λ p. is_neighbour side view.now p n) result.now }
 {
     match side {
         Side::Parents => view.parents(n),

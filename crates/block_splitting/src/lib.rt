@@ -3,12 +3,12 @@
 
 mod choosing;
 mod grouping;
-mod keepers;
 mod keys;
 mod moving;
 mod nodes;
 mod parting;
 mod reaching;
+mod retained_groups;
 mod splitter;
 mod splitting;
 

@@ -1,7 +1,7 @@
 // Moving the nodes of groups.
 ghost use Rattle.std.specs.Prelude.{◌≡◌, ◌+◌, ◌<◌, ◌≤◌, ℕ, [], true, Some, IsSome, length, vec_len, vec_capacity, nat_eq, if◌then◌else◌};
-ghost use Rattle.px_spec.specs.Members.{has, at};
-ghost use Rattle.block_partition.specs.Partitions.{IsBlock, with_move};
+ghost use Rattle.graph_spec.specs.Members.{has, at};
+ghost use Rattle.block_partition.specs.LabelledPartitions.{IsBlock, with_move};
 ghost use Rattle.block_splitting.specs.Moved.{CanMove, NotesMove, WentToChosen};
 
 use block_partition::Blocks;
@@ -9,7 +9,7 @@ use px_base::NodeId;
 
 // Moves a node to a block, and puts it behind the nodes that moved, unless it is there.
 fn move_one(blocks: &mut Blocks, moved: &mut Vec<NodeId>, n: NodeId, to: u32)
-    requires room { vec_len moved.old < vec_capacity moved.old }
+    requires reserved { vec_len moved.old < vec_capacity moved.old }
     requires has { IsSome (at blocks.old.block_of n) }
     requires block { IsBlock blocks.old to }
     ensures labels { blocks.new.labels ≡ blocks.old.labels }
@@ -35,7 +35,7 @@ pub(crate) fn move_nodes(
 )
     requires can { CanMove blocks.old (has nodes.now) group.now chosen.now }
     requires none { moved.old.items ≡ [] }
-    requires room { length nodes.now ≤ vec_capacity moved.old }
+    requires reserved { length nodes.now ≤ vec_capacity moved.old }
     ensures labels { blocks.new.labels ≡ blocks.old.labels }
     ensures moved { WentToChosen (has nodes.now) group.now chosen.now blocks.old.block_of blocks.new.block_of (has moved.new.items) }
 {

@@ -1,10 +1,10 @@
 // The nodes that have given ones as neighbours.
 ghost use Rattle.std.specs.Prelude.{◌≡◌, ◌<◌, ◌||◌, ℕ, true, IsSome, OnOk, length};
 ghost use Rattle.std.specs.List.{list_any};
-ghost use Rattle.px_spec.specs.Graphs.{IsGraph};
-ghost use Rattle.px_spec.specs.Members.{has, Lists};
-ghost use Rattle.label_graph.specs.Views.{label_number};
-ghost use Rattle.bisim_levels.specs.Sides.{is_near};
+ghost use Rattle.graph_spec.specs.Graphs.{IsGraph};
+ghost use Rattle.graph_spec.specs.Members.{has, Lists};
+ghost use Rattle.label_graph.specs.GraphViews.{label_number};
+ghost use Rattle.bisim_levels.specs.NeighbourSides.{is_neighbour};
 ghost use Rattle.block_splitting.specs.Nodes.{AreNodes};
 
 use crate::nodes::NodeSet;
@@ -16,7 +16,7 @@ use px_base::{Memory, NodeId};
 pub fn opposite_neighbours<'a>(view: &'a GraphView<'_>, side: Side, q: NodeId) -> &'a [NodeId]
     requires graph { IsGraph view.now }
     requires node { IsSome (label_number view.now q) }
-    ensures { Lists (is_near side view.now q) result.now }
+    ensures { Lists (is_neighbour side view.now q) result.now }
 {
     match side {
         Side::Parents => view.children(q),
@@ -45,9 +45,9 @@ fn add_opposite(
 ) -> Result<(), Memory>
     requires graph { IsGraph view.now }
     requires node { IsSome (label_number view.now q) }
-    requires size { set.old.size ≡ length view.now.given }
+    requires size { set.old.size ≡ length view.now.allocated }
     ensures size { set.new.size ≡ set.old.size }
-    ensures nodes { OnOk result ((m : ℕ) → has set.new.nodes m ≡ (has set.old.nodes m || is_near side view.now q m)) }
+    ensures nodes { OnOk result ((m : ℕ) → has set.new.nodes m ≡ (has set.old.nodes m || is_neighbour side view.now q m)) }
 {
     add_all(set, opposite_neighbours(view, side, q))
 }
@@ -61,9 +61,9 @@ pub(crate) fn add_around(
 ) -> Result<(), Memory>
     requires graph { IsGraph view.now }
     requires nodes { AreNodes view.now nodes.now }
-    requires size { set.old.size ≡ length view.now.given }
+    requires size { set.old.size ≡ length view.now.allocated }
     ensures size { set.new.size ≡ set.old.size }
-    ensures nodes { OnOk result ((m : ℕ) → has set.new.nodes m ≡ (has set.old.nodes m || list_any (λ q. is_near side view.now q m) nodes.now)) }
+    ensures nodes { OnOk result ((m : ℕ) → has set.new.nodes m ≡ (has set.old.nodes m || list_any (λ q. is_neighbour side view.now q m) nodes.now)) }
 {
     for q in nodes {
         add_opposite(set, view, side, *q)?;

@@ -1,8 +1,8 @@
 // Blocks that are split by a set of nodes.
 ghost use Rattle.std.specs.Prelude.{◌≡◌, ◌<◌, ◌≤◌, [], true, IsSome, IfOk, OnOk, OnErr, length, vec_len};
-ghost use Rattle.px_spec.specs.Graphs.{IsGraph};
-ghost use Rattle.px_spec.specs.Shapes.{shape_of};
-ghost use Rattle.px_spec.specs.Members.{has, at};
+ghost use Rattle.graph_spec.specs.Graphs.{IsGraph};
+ghost use Rattle.graph_spec.specs.Shapes.{shape_of};
+ghost use Rattle.graph_spec.specs.Members.{has, at};
 ghost use Rattle.key_table.specs.NumberedKeys.{AreDistinct};
 ghost use Rattle.bisim_spec.specs.Partitions.{IsPartition};
 ghost use Rattle.block_splitting.specs.Nodes.{AreNodes};
@@ -119,7 +119,7 @@ pub fn split_by(
     let mut keys = KeyTable::new(alloc)?;
     let mut group = vec![in alloc; 0; view.size() as usize]?;
     group_touched(&mut keys, &mut group, &touched, view, blocks, nodes)?;
-    let mut keeper = Vec::new(alloc);
-    part(alloc, blocks, &touched.all, &keys, &group, &mut keeper)?;
+    let mut retained = Vec::new(alloc);
+    part(alloc, blocks, &touched.all, &keys, &group, &mut retained)?;
     Ok(())
 }

@@ -1,3 +1,6 @@
-pub mod Labelled
-pub mod Laws
+pub mod ImageLaws
+pub mod Steps
+pub mod Taken
+pub mod LabelNames
+pub mod SetLaws
 pub mod Relaxed

@@ -2,11 +2,11 @@
 use Rattle.std.proofs.Common.{◌≡◌, List, [], ◌∷◌, map, refl, ap}
 use Rattle.branch_spec.specs.Trees as tree
 use Rattle.branch_spec.specs.Relaxed.{relax_step, relax_preds, relax_or, relax_and, relax_cond, relax_chain}
-use Rattle.branch_sets.specs.Axes.{axis_of}
+use Rattle.branch_expr.specs.Axes.{axis_of}
 use Rattle.branch_expr.specs.declared.tree.Cond.{Cond}
 use Rattle.branch_expr.specs.declared.tree.And.{And}
 use Rattle.branch_expr.specs.declared.tree.Hop.{Hop}
-use Rattle.branch_expr.specs.Views.{preds_of, step_of, chain_of, cond_of, and_from, and_of, or_from}
+use Rattle.branch_expr.specs.QueryTrees.{preds_of, step_of, chain_of, cond_of, and_from, and_of, or_from}
 
 pub preds_relaxed : (os ps : List tree.Or) → map (λ o. o) os ≡ map relax_or (map (λ o. o) ps) → preds_of os ≡ relax_preds (preds_of ps)
 preds_relaxed [] [] e = refl

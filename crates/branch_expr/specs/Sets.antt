@@ -1,13 +1,13 @@
 -- Sets of nodes.
 use Rattle.std.specs.Prelude.{ℕ, ◌↔◌, List, Option, IsTrue, IsSome}
-use Rattle.px_spec.specs.Members.{has}
-use Rattle.px_spec.specs.Shapes.{Shape}
+use Rattle.graph_spec.specs.Members.{has}
+use Rattle.graph_spec.specs.Shapes.{Shape}
 use Rattle.branch_spec.specs.Trees as tree
-use Rattle.branch_spec.specs.Answers.{Along, Passes, Meets}
-use Rattle.branch_sets.specs.declared.axis.Axis.{Axis}
-use Rattle.branch_sets.specs.Axes.{axis_of}
+use Rattle.branch_spec.specs.BranchAnswers.{Along, Passes, Meets}
+use Rattle.branch_expr.specs.declared.axis.Axis.{Axis}
+use Rattle.branch_expr.specs.Axes.{axis_of}
 use Rattle.branch_expr.specs.declared.tree.Hop.{Hop}
-use Rattle.branch_expr.specs.Views.{step_of}
+use Rattle.branch_expr.specs.QueryTrees.{step_of}
 
 -- the list has just the nodes at which it holds
 abbrev pub IsSetOf : (ℕ → Option ℕ) → List ℕ → (ℕ → Type 0) → Type 0

@@ -1,11 +1,12 @@
 // The answers of a branching query over a graph.
 ghost use Rattle.std.specs.Prelude.{◌≡◌, ◌<◌, ℕ, Some, length, IfOk};
-ghost use Rattle.path_search.specs.Digraphs.{shape_through};
-ghost use Rattle.branch_spec.specs.Answers.{AreBranchAnswers};
+ghost use Rattle.path_automaton.specs.Digraphs.{shape_through};
+ghost use Rattle.branch_spec.specs.BranchAnswers.{AreBranchAnswers};
 
 use crate::holding::step_set;
+use crate::leading::along;
+use crate::sets::intersect;
 use crate::tree::BranchTree;
-use branch_sets::{along, intersect};
 use label_graph::{Digraph, Labels};
 use px_base::{Bits, Memory};
 use std::alloc::Global;

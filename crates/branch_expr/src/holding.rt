@@ -1,15 +1,16 @@
 // Where the parts of a query hold.
 ghost use Rattle.std.specs.Prelude.{◌≡◌, ◌<◌, ℕ, ◌∷◌, [], Some, length, IsTrue, IsSome, IfOk, OnOk};
-ghost use Rattle.px_spec.specs.Members.{has};
-ghost use Rattle.path_search.specs.Digraphs.{shape_through};
-ghost use Rattle.branch_spec.specs.Answers.{Meets, HoldsOr, HoldsAnd, HoldsCond, Goes};
-ghost use Rattle.branch_sets.specs.Images.{Keeps, Loses};
-ghost use Rattle.branch_expr.specs.Views.{step_of, chain_of, rel_of, cond_of, and_of};
+ghost use Rattle.graph_spec.specs.Members.{has};
+ghost use Rattle.path_automaton.specs.Digraphs.{shape_through};
+ghost use Rattle.branch_spec.specs.BranchAnswers.{Meets, HoldsOr, HoldsAnd, HoldsCond, Goes};
+ghost use Rattle.branch_expr.specs.Images.{Keeps, Loses};
+ghost use Rattle.branch_expr.specs.QueryTrees.{step_of, chain_of, rel_of, cond_of, and_of};
 ghost use Rattle.branch_expr.specs.Sets.{IsSetOf, HopsTo};
 
+use crate::leading::along;
 use crate::meeting::{axis_leading, deny_axis, keep_test, test_set};
+use crate::sets::{intersect, passing, subtract, unite};
 use crate::tree::{And, Cond, Hop, Or, Rel, Step};
-use branch_sets::{along, intersect, passing, subtract, unite};
 use label_graph::{Digraph, Labels};
 use px_base::{Bits, Memory};
 use std::alloc::Global;
@@ -271,8 +272,8 @@ fn deny_cond<G: Digraph>(
     match cond {
         Cond::Rel(rel) => deny_rel(alloc, g, labels, rel, set),
         _ => {
-            let held = cond_set(alloc, g, labels, cond)?;
-            subtract(set, &held);
+            let satisfied = cond_set(alloc, g, labels, cond)?;
+            subtract(set, &satisfied);
             Ok(())
         }
     }
@@ -296,8 +297,8 @@ fn deny_and<G: Digraph>(
     if and.more.is_empty() {
         return deny_cond(alloc, g, labels, &and.first, set);
     }
-    let held = and_set(alloc, g, labels, and)?;
-    subtract(set, &held);
+    let satisfied = and_set(alloc, g, labels, and)?;
+    subtract(set, &satisfied);
     Ok(())
 }
 

@@ -1,12 +1,18 @@
-//! Branching queries as trees: their answers over any graph, and their relaxed forms.
+//! Branching queries as trees: the sets of nodes that they lead through, their answers over any graph, and their relaxed forms.
 #![tactic(auto)]
 
 mod answers;
+mod axis;
 mod holding;
+mod leading;
 mod meeting;
+mod mirror;
 mod relaxing;
+mod runs;
+mod sets;
 mod tree;
 
 pub use answers::eval;
+pub use axis::Axis;
 pub use relaxing::relax;
 pub use tree::{And, BranchTree, Cond, Hop, Or, Rel, Step, Test};

@@ -1,18 +1,18 @@
 // The nodes whose label passes, and where an axis leads from them.
 ghost use Rattle.std.specs.Prelude.{◌≡◌, ◌<◌, ℕ, Some, length, IsTrue, IsSome, IfOk, OnOk};
-ghost use Rattle.px_spec.specs.Members.{has};
-ghost use Rattle.path_search.specs.Digraphs.{shape_through};
+ghost use Rattle.graph_spec.specs.Members.{has};
+ghost use Rattle.path_automaton.specs.Digraphs.{shape_through};
 ghost use Rattle.branch_spec.specs.Trees as tree;
-ghost use Rattle.branch_spec.specs.Answers.{Passes};
-ghost use Rattle.branch_sets.specs.Images.{HasJust, Keeps, Loses};
-ghost use Rattle.branch_expr.specs.Views.{test_of};
+ghost use Rattle.branch_spec.specs.BranchAnswers.{Passes};
+ghost use Rattle.branch_expr.specs.Images.{HasJust, Keeps, Loses};
+ghost use Rattle.branch_expr.specs.QueryTrees.{test_of};
 ghost use Rattle.branch_expr.specs.Sets.{IsSetOf, HasPassingParent, HasPassingSource};
 
+use crate::axis::Axis;
+use crate::leading::{along, passing_children, remove_passing_children};
+use crate::mirror::Mirror;
+use crate::sets::{intersect, keep_labelled, passing, subtract};
 use crate::tree::Test;
-use branch_sets::{
-    Axis, Mirror, along, intersect, keep_labelled, passing, passing_children,
-    remove_passing_children, subtract,
-};
 use label_graph::{Digraph, Labels};
 use px_base::{Bits, Memory, Text};
 use std::alloc::Global;

@@ -1,8 +1,8 @@
 // Relaxed forms of queries.
 ghost use Rattle.std.specs.Prelude.{◌≡◌, IfOk};
 ghost use Rattle.branch_spec.specs.Relaxed.{relax_step, relax_chain, relax_cond, relax_and, relax_or, relax};
-ghost use Rattle.branch_sets.specs.Axes.{axis_of};
-ghost use Rattle.branch_expr.specs.Views.{test_of, step_of, rel_of, cond_of, and_of};
+ghost use Rattle.branch_expr.specs.Axes.{axis_of};
+ghost use Rattle.branch_expr.specs.QueryTrees.{test_of, step_of, rel_of, cond_of, and_of};
 
 use crate::tree::{And, BranchTree, Cond, Hop, Or, Rel, Step, Test};
 use px_base::Memory;

@@ -1,7 +1,7 @@
 // The trees of branching queries.
 ghost use Rattle.std.specs.Prelude.{◌≡◌};
 
-use branch_sets::Axis;
+use crate::axis::Axis;
 use px_base::Text;
 use std::marker::Model;
 
@@ -86,14 +86,14 @@ impl Model for Or {
 
     ghost coded = { coded_or };
 
-    ghost use Rattle.branch_expr.specs.Views.{or_from, and_of};
-    ghost use Rattle.branch_expr.specs.Sizes.{nodes};
+    ghost use Rattle.branch_expr.specs.QueryTrees.{or_from, and_of};
+    ghost use Rattle.branch_expr.specs.QuerySizes.{nodes};
 
     ghost view = { λ e. or_from (and_of e.first) e.more.items };
 
     ghost size = { nodes };
 
-    ghost use Rattle.branch_expr.specs.Falls.{deep_or};
+    ghost use Rattle.branch_expr.specs.QueryMeasures.{deep_or};
 
     ghost size_decreases = { λ e h. deep_or e.first e.more.items };
 }
@@ -110,7 +110,7 @@ pub struct BranchTree {
 impl Model for BranchTree {
     ghost use Rattle.branch_spec.specs.Trees.{Branch, branch};
     ghost use Rattle.branch_expr.specs.TreeCodes.{coded_branch};
-    ghost use Rattle.branch_expr.specs.Views.{step_of, chain_of};
+    ghost use Rattle.branch_expr.specs.QueryTrees.{step_of, chain_of};
 
     ghost Value = { Branch };
 

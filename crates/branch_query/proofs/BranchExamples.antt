@@ -1,11 +1,11 @@
 -- Candidates of a branching query that denies something, at a small graph.
 use Rattle.std.proofs.Common.{ℕ, zero, suc, List, [], ◌∷◌, true, false, IsTrue, refl, sym, subst, true≢false}
 use Rattle.std.specs.Prelude.{codes}
-use Rattle.px_spec.specs.Shapes.{Shape, IsShape}
+use Rattle.graph_spec.specs.Shapes.{Shape, IsShape}
 use Rattle.branch_spec.specs.Trees.{child, label, Step, step, none, pred, Or, one, lone, fails, rel, end, branch}
-use Rattle.branch_spec.specs.Answers.{Meets}
+use Rattle.branch_spec.specs.BranchAnswers.{Meets}
 use Rattle.bisim_spec.specs.Tests.{bis}
-use Rattle.bisim_spec.proofs.Drawn.{drawn, drawn_shape}
+use Rattle.bisim_spec.proofs.WrittenShapes.{shape_of_list, shape_from}
 use Rattle.branch_query.specs.Queries as queries
 use Rattle.branch_query.specs.Queries.{Query, IsQueryAnswer}
 use Rattle.branch_query.specs.Candidates.{loose, IsCandidate}
@@ -18,10 +18,10 @@ abbrev edges : List (ℕ × ℕ)
 edges = (0, 1) ∷ []
 
 abbrev two_heads : Shape
-two_heads = drawn labels edges
+two_heads = shape_of_list labels edges
 
 is_shape : IsShape two_heads
-is_shape = drawn_shape labels edges refl
+is_shape = shape_from labels edges refl
 
 abbrev has_b : Or
 has_b = one (lone (rel child (step (label (codes "b")) none) end))

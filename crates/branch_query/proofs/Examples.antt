@@ -1,13 +1,13 @@
 -- Candidates at a small graph, and near misses.
 use Rattle.std.proofs.Common.{◌≡◌, ◌≢◌, ℕ, zero, suc, List, [], ◌∷◌, ◌++◌, true, false, IsTrue, refl, sym, ap, ◌∙◌, subst, true≢false, Some, arith}
 use Rattle.std.specs.Prelude.{codes, slice_index, unwrap_or}
-use Rattle.px_spec.specs.Shapes.{Shape, IsShape}
-use Rattle.px_spec.specs.Walks.{Leads}
+use Rattle.graph_spec.specs.Shapes.{Shape, IsShape}
+use Rattle.graph_spec.specs.Walks.{Leads}
 use Rattle.path_spec.specs.Trees.{child, Expr, only, last, then, Item, once, label}
 use Rattle.path_spec.specs.Matches.{Matches}
-use Rattle.path_spec.specs.Answers.{IsAnswer}
+use Rattle.path_spec.specs.PathAnswers.{IsAnswer}
 use Rattle.bisim_spec.specs.Tests.{bis}
-use Rattle.bisim_spec.proofs.Drawn.{drawn, drawn_shape}
+use Rattle.bisim_spec.proofs.WrittenShapes.{shape_of_list, shape_from}
 use Rattle.branch_query.specs.Queries.{path, IsQueryAnswer}
 use Rattle.branch_query.specs.Candidates.{loose, IsCandidate}
 
@@ -19,10 +19,10 @@ abbrev edges : List (ℕ × ℕ)
 edges = (0, 1) ∷ (1, 2) ∷ (3, 4) ∷ (4, 5) ∷ []
 
 abbrev two_chains : Shape
-two_chains = drawn labels edges
+two_chains = shape_of_list labels edges
 
 is_shape : IsShape two_chains
-is_shape = drawn_shape labels edges refl
+is_shape = shape_from labels edges refl
 
 abbrev item : List ℕ → Item
 item t = once (label t)

@@ -2,7 +2,7 @@
 -- of T. Milo and D. Suciu, "Index Structures for Path Expressions", ICDT 1999, with the edges of a block seen at each of its
 -- nodes).
 use Rattle.std.specs.Prelude.{ℕ, ◌&&◌, Bool, List, is_some}
-use Rattle.px_spec.specs.Shapes.{Shape}
+use Rattle.graph_spec.specs.Shapes.{Shape}
 use Rattle.bisim_spec.specs.Below.{any_below}
 use Rattle.branch_query.specs.Queries.{Query, IsQueryAnswer, AreQueryAnswers, form_of}
 

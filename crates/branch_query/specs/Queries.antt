@@ -1,12 +1,12 @@
 -- Queries, their answers over any graph, and their relaxed forms.
 use Rattle.std.specs.Prelude.{ℕ, Bool, true, false, List, IsTrue}
 use Rattle.std.specs.List.Sorted.{IsStrictlyIncreasing}
-use Rattle.px_spec.specs.Members.{has}
-use Rattle.px_spec.specs.Shapes.{Shape}
+use Rattle.graph_spec.specs.Members.{has}
+use Rattle.graph_spec.specs.Shapes.{Shape}
 use Rattle.path_spec.specs.Trees.{Expr}
-use Rattle.path_spec.specs.Answers.{IsAnswer}
+use Rattle.path_spec.specs.PathAnswers.{IsAnswer}
 use Rattle.branch_spec.specs.Trees.{Branch}
-use Rattle.branch_spec.specs.Answers.{IsBranchAnswer}
+use Rattle.branch_spec.specs.BranchAnswers.{IsBranchAnswer}
 use Rattle.branch_spec.specs.Relaxed.{relax}
 use Rattle.branch_query.specs.declared.queries.Query.{Query as Asked}
 use Rattle.branch_query.specs.declared.queries.Query.TheVariants as asked

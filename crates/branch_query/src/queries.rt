@@ -1,6 +1,6 @@
 // Queries of every language.
 ghost use Rattle.std.specs.Prelude.{◌≡◌, ◌<◌, ℕ, length, Some, IfOk};
-ghost use Rattle.path_search.specs.Digraphs.{shape_through};
+ghost use Rattle.path_automaton.specs.Digraphs.{shape_through};
 ghost use Rattle.branch_query.specs.Queries.{query_of, relaxed, AreQueryAnswers};
 
 use branch_text::Branch;

@@ -1,9 +1,9 @@
 -- The definitions at a small graph, and near misses.
 use Rattle.std.proofs.Common.{◌≡◌, ℕ, zero, suc, List, refl, sym, Bool, true, false, true≢false, Option, Some, None}
 use Rattle.std.specs.Prelude.{codes}
-use Rattle.px_spec.specs.Shapes.{Shape}
+use Rattle.graph_spec.specs.Shapes.{Shape}
 use Rattle.branch_spec.specs.Trees.{child, below, parent, above, label, any, Step, step, none, pred, Or, one, or, lone, and, Cond, fails, group, rel, always, end, go, Branch, branch}
-use Rattle.branch_spec.specs.Answers.{direct, further, HoldsCond, IsBranchAnswer}
+use Rattle.branch_spec.specs.BranchAnswers.{direct, further, HoldsCond, IsBranchAnswer}
 use Rattle.branch_spec.specs.Relaxed.{relax}
 use Rattle.branch_spec.specs.Spelling.{canonical}
 

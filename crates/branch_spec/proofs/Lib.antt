@@ -1,5 +1,5 @@
 pub mod RelaxedAnswers
-pub mod Alike
+pub mod AnswersAgree
 pub mod OneQuery
 pub mod CanonicalTexts
 pub mod Examples

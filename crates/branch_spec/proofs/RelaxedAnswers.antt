@@ -1,9 +1,9 @@
 -- Where nodes are mapped so that labels and edges are kept, answers are answers of the relaxed query.
 use Rattle.std.proofs.Common.{◌≡◌, ℕ, inl, inr, ap, ◌∙◌, IsTrue}
 use Rattle.std.specs.Prelude.{is_some}
-use Rattle.px_spec.specs.Shapes.{Shape, IsNode}
+use Rattle.graph_spec.specs.Shapes.{Shape, IsNode}
 use Rattle.branch_spec.specs.Trees.{Axis, child, below, parent, above, Test, label, any, Step, step, Preds, none, pred, Or, one, or, And, lone, and, Cond, fails, group, rel, always, Chain, end, go, Branch, branch}
-use Rattle.branch_spec.specs.Answers.{Reaches, direct, further, Along, Passes, Meets, HoldAll, HoldsOr, HoldsAnd, HoldsCond, Goes, Ends, IsBranchAnswer}
+use Rattle.branch_spec.specs.BranchAnswers.{Reaches, direct, further, Along, Passes, Meets, HoldAll, HoldsOr, HoldsAnd, HoldsCond, Goes, Ends, IsBranchAnswer}
 use Rattle.branch_spec.specs.Relaxed.{relax_step, relax_preds, relax_or, relax_and, relax_cond, relax_chain, relax}
 
 module _ (s t : Shape) (f : ℕ → ℕ) where

@@ -1,5 +1,5 @@
 pub mod Trees
-pub mod Answers
+pub mod BranchAnswers
 pub mod Relaxed
 pub mod Tokens
 pub mod Spelling

@@ -1,7 +1,7 @@
 -- How queries are written: their tokens, with blanks between them. How labels are spelled is handed in.
 use Rattle.std.specs.Prelude.{ℕ, ◌≡◌, ◌==◌, false, List, [], ◌∷◌, ◌++◌, codes, IsTrue}
 use Rattle.std.specs.List.{flat_map}
-use Rattle.px_spec.specs.Words.{AreBlanks, is_name}
+use Rattle.graph_spec.specs.Words.{AreBlanks, is_name}
 use Rattle.path_spec.specs.Spelling.{EndsName, EndsSlash}
 use Rattle.branch_spec.specs.Trees.{Axis, child, below, parent, above, Branch}
 use Rattle.branch_spec.specs.Tokens.{Token, lab, underscore, axis, left, right, opening, closing, not_word, and_word, or_word, nothing, tokens}

@@ -6,12 +6,12 @@ use Rattle.std.proofs.lemmas.List.{take_more}
 use Rattle.branch_spec.specs.Trees as tree
 use Rattle.branch_spec.specs.Tokens.{Token, right, closing, and_word, or_word, test_onto, step_onto, preds_onto, or_onto, and_onto, cond_onto, chain_onto}
 use Rattle.branch_spec.specs.Spelling.{axis_text, token_text, canonical}
-use Rattle.branch_sets.specs.Axes.{axis_of}
+use Rattle.branch_expr.specs.Axes.{axis_of}
 use Rattle.branch_expr.specs.declared.tree.Cond.{Cond}
 use Rattle.branch_expr.specs.declared.tree.And.{And}
 use Rattle.branch_expr.specs.declared.tree.Hop.{Hop}
-use Rattle.branch_expr.specs.Views.{preds_of, step_of, chain_of, cond_of, and_from, and_of, or_from}
-use Rattle.branch_text.specs.Written.{branch_text, test_text, step_text, preds_text, or_text, and_text, cond_text, chain_text}
+use Rattle.branch_expr.specs.QueryTrees.{preds_of, step_of, chain_of, cond_of, and_from, and_of, or_from}
+use Rattle.branch_text.specs.BranchTexts.{branch_text, test_text, step_text, preds_text, or_text, and_text, cond_text, chain_text}
 
 abbrev text : List Token → List ℕ
 text ts = flat_map token_text ts
@@ -71,10 +71,10 @@ pub chain_text_more : (hs : List Hop) (h : Hop) → chain_text (chain_of (hs ++ 
 chain_text_more [] h = ap (λ x. axis_text (axis_of h.axis) ++ x) (append-nil (step_text (step_of h.step)))
 chain_text_more (g ∷ hs) h =
     let more : List ℕ = axis_text (axis_of h.axis) ++ step_text (step_of h.step) in
-    let front : List ℕ = step_text (step_of g.step) in
-    ap (λ x. axis_text (axis_of g.axis) ++ (front ++ x)) (chain_text_more hs h)
-    ∙ ap (λ x. axis_text (axis_of g.axis) ++ x) (sym (append_assoc front (chain_text (chain_of hs)) more))
-    ∙ sym (append_assoc (axis_text (axis_of g.axis)) (front ++ chain_text (chain_of hs)) more)
+    let prefix : List ℕ = step_text (step_of g.step) in
+    ap (λ x. axis_text (axis_of g.axis) ++ (prefix ++ x)) (chain_text_more hs h)
+    ∙ ap (λ x. axis_text (axis_of g.axis) ++ x) (sym (append_assoc prefix (chain_text (chain_of hs)) more))
+    ∙ sym (append_assoc (axis_text (axis_of g.axis)) (prefix ++ chain_text (chain_of hs)) more)
 
 pub and_text_more : (c : tree.Cond) (ds : List Cond) (d : Cond) → and_text (and_from c (ds ++ d ∷ [])) ≡ and_text (and_from c ds) ++ (codes " and " ++ cond_text (cond_of d))
 and_text_more c [] d = refl
@@ -89,8 +89,8 @@ or_text_more a (e ∷ bs) b =
     ∙ sym (append_assoc (and_text a) (codes " or " ++ or_text (or_from (and_of e) bs)) (codes " or " ++ and_text (and_of b)))
 
 -- a step of the loops: what was written, and what is written now
-pub written : {X : Type 0} (f : List X → List ℕ) (g : X → List ℕ) → ((xs : List X) (x : X) → f (xs ++ x ∷ []) ≡ f xs ++ g x) → (old front out out2 : List ℕ) (xs : List X) (j : ℕ) (x : X)
-    → j < length xs → x ≡ get_or xs j x → out ≡ old ++ (front ++ f (take j xs)) → out2 ≡ out ++ g x → out2 ≡ old ++ (front ++ f (take (j + 1) xs))
-written f g more old front out out2 xs j x within e h k =
-    k ∙ ap (λ y. y ++ g x) h ∙ append_assoc old (front ++ f (take j xs)) (g x) ∙ ap (λ y. old ++ y) (append_assoc front (f (take j xs)) (g x))
-    ∙ ap (λ y. old ++ (front ++ y)) (sym (more (take j xs) x) ∙ ap f (ap (λ y. take j xs ++ y ∷ []) e ∙ sym (take_more xs j x within)))
+pub written : {X : Type 0} (f : List X → List ℕ) (g : X → List ℕ) → ((xs : List X) (x : X) → f (xs ++ x ∷ []) ≡ f xs ++ g x) → (old prefix out out2 : List ℕ) (xs : List X) (j : ℕ) (x : X)
+    → j < length xs → x ≡ get_or xs j x → out ≡ old ++ (prefix ++ f (take j xs)) → out2 ≡ out ++ g x → out2 ≡ old ++ (prefix ++ f (take (j + 1) xs))
+written f g more old prefix out out2 xs j x within e h k =
+    k ∙ ap (λ y. y ++ g x) h ∙ append_assoc old (prefix ++ f (take j xs)) (g x) ∙ ap (λ y. old ++ y) (append_assoc prefix (f (take j xs)) (g x))
+    ∙ ap (λ y. old ++ (prefix ++ y)) (sym (more (take j xs) x) ∙ ap f (ap (λ y. take j xs ++ y ∷ []) e ∙ sym (take_more xs j x within)))

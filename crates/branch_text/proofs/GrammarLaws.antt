@@ -3,14 +3,14 @@ use Rattle.std.proofs.Common.{◌≡◌, ℕ, List, [], ◌∷◌, ◌++◌, len
 use Rattle.branch_spec.specs.Trees as tree
 use Rattle.branch_spec.specs.Tokens.{Token, lab, underscore, axis, left, right, opening, closing, not_word, and_word, or_word, nothing, test_onto, step_onto, preds_onto, or_onto, and_onto, cond_onto, chain_onto, tokens, EndsOr, EndsAnd, EndsChain, EndsStep}
 use Rattle.branch_spec.proofs.OneQuery.{ends_or_and, ends_and_chain, chain_ends, one_test, one_step, one_or, one_and, one_cond, one_chain}
-use Rattle.branch_sets.specs.Axes.{axis_of}
+use Rattle.branch_expr.specs.Axes.{axis_of}
 use Rattle.branch_expr.specs.declared.tree.Cond.{Cond}
 use Rattle.branch_expr.specs.declared.tree.And.{And}
 use Rattle.branch_expr.specs.declared.tree.Hop.{Hop}
-use Rattle.branch_expr.specs.Views.{preds_of, step_of, chain_of, cond_of, and_from, and_of, or_from}
+use Rattle.branch_expr.specs.QueryTrees.{preds_of, step_of, chain_of, cond_of, and_from, and_of, or_from}
 use Rattle.branch_text.specs.declared.token.Token as token
 use Rattle.branch_text.specs.declared.token.Token.TheVariants.{Label, Any, Along, Left, Right, Open, Close, Not, And as AndWord, Or as OrWord}
-use Rattle.branch_text.specs.Seen.{token_of, seen}
+use Rattle.branch_text.specs.BranchTokens.{token_of, seen}
 
 -- one part more
 pub preds_more : (ps : List tree.Or) (o : tree.Or) (q : List Token) → preds_onto (preds_of (ps ++ o ∷ [])) q ≡ preds_onto (preds_of ps) (left ∷ or_onto o (right ∷ q))

@@ -1,6 +1,6 @@
-pub mod Fronts
+pub mod TokenPrefixLaws
 pub mod LexerLaws
 pub mod OneText
 pub mod GrammarLaws
 pub mod Canon
-pub mod Again
+pub mod BranchRoundTrips

@@ -5,17 +5,17 @@ use Rattle.branch_spec.specs.Tokens.{Token, lab, tokens}
 use Rattle.branch_spec.specs.Spelling.{SpellsTokens}
 use Rattle.branch_spec.proofs.OneQuery.{one_reading}
 use Rattle.path_query.specs.Labels.{SpellsLabel}
-use Rattle.branch_text.specs.Fronts.{IsTokenFront, mark_front, label_len}
+use Rattle.branch_text.specs.BranchTokenPrefixes.{IsTokenPrefix, mark_prefix, label_len}
 use Rattle.branch_text.specs.Parsed.{Spells}
 use Rattle.path_query.proofs.LabelLaws.{label_one}
-use Rattle.branch_text.proofs.Fronts.{mark_only, as_label, front_some}
+use Rattle.branch_text.proofs.TokenPrefixLaws.{mark_only, as_label, prefix_some}
 use Rattle.branch_text.proofs.LexerLaws.{past, blanks_past, first_token}
 
 -- one token stands in front
-token_one : (text : List ℕ) (t u : Token) (r q : List ℕ) → IsTokenFront text t r → IsTokenFront text u q → (t ≡ u) × (r ≡ q)
-token_one text t u r q h k = by (mark_front text) refl
+token_one : (text : List ℕ) (t u : Token) (r q : List ℕ) → IsTokenPrefix text t r → IsTokenPrefix text u q → (t ≡ u) × (r ≡ q)
+token_one text t u r q h k = by (mark_prefix text) refl
   where
-    by : (o : Option (Token × List ℕ)) → mark_front text ≡ o → (t ≡ u) × (r ≡ q)
+    by : (o : Option (Token × List ℕ)) → mark_prefix text ≡ o → (t ≡ u) × (r ≡ q)
     by None e =
         let a = as_label text t r e h in
         let b = as_label text u q e k in
@@ -29,14 +29,14 @@ tokens_one : (us vs : List Token) (text : List ℕ) → SpellsTokens SpellsLabel
 tokens_one [] [] text h k = refl
 tokens_one [] (v ∷ vs) text h k =
     let f = first_token text v vs k in
-    absurd (front_some v f.rest (subst (λ x. IsTokenFront x v f.rest) (blanks_past text h) f.front))
+    absurd (prefix_some v f.rest (subst (λ x. IsTokenPrefix x v f.rest) (blanks_past text h) f.prefix))
 tokens_one (u ∷ us) [] text h k =
     let f = first_token text u us h in
-    absurd (front_some u f.rest (subst (λ x. IsTokenFront x u f.rest) (blanks_past text k) f.front))
+    absurd (prefix_some u f.rest (subst (λ x. IsTokenPrefix x u f.rest) (blanks_past text k) f.prefix))
 tokens_one (u ∷ us) (v ∷ vs) text h k =
     let f = first_token text u us h in
     let g = first_token text v vs k in
-    let same = token_one (past text) u v f.rest g.rest f.front g.front in
+    let same = token_one (past text) u v f.rest g.rest f.prefix g.prefix in
     ap (λ x. x ∷ us) same.0 ∙ ap (λ x. v ∷ x) (tokens_one us vs f.rest f.more (subst (λ x. SpellsTokens SpellsLabel x vs) (sym same.1) g.more))
 
 -- the law

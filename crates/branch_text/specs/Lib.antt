@@ -1,5 +1,5 @@
 pub mod Parsed
-pub mod Seen
-pub mod Fronts
+pub mod BranchTokens
+pub mod BranchTokenPrefixes
 pub mod Heads
-pub mod Written
+pub mod BranchTexts

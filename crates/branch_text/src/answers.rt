@@ -1,7 +1,7 @@
 // The answers of a branching query over a graph.
 ghost use Rattle.std.specs.Prelude.{◌≡◌, ◌<◌, ℕ, length, Some, IfOk};
-ghost use Rattle.path_search.specs.Digraphs.{shape_through};
-ghost use Rattle.branch_spec.specs.Answers.{AreBranchAnswers};
+ghost use Rattle.path_automaton.specs.Digraphs.{shape_through};
+ghost use Rattle.branch_spec.specs.BranchAnswers.{AreBranchAnswers};
 
 use crate::branch::Branch;
 use label_graph::{Digraph, Labels};

@@ -10,9 +10,9 @@ use crate::grammar::ReadError;
 use crate::parsing::read;
 use crate::writing::write_branch;
 use branch_expr::{BranchTree, relax};
+use graph_spec::Limits;
 use path_query::{ExprError, is_past};
 use px_base::{Memory, Text};
-use px_spec::Limits;
 use std::alloc::Global;
 use std::marker::Model;
 

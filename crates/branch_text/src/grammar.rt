@@ -2,8 +2,8 @@
 ghost use Rattle.std.specs.Prelude.{◌≡◌, ◌<◌, ◌≤◌, List, ◌∷◌, length, IfOk, IsErrOf};
 ghost use Rattle.branch_spec.specs.Trees as tree;
 ghost use Rattle.branch_spec.specs.Tokens as tokens;
-ghost use Rattle.branch_expr.specs.Views.{test_of, step_of, chain_of, rel_of, cond_of, and_of};
-ghost use Rattle.branch_text.specs.Seen.{seen};
+ghost use Rattle.branch_expr.specs.QueryTrees.{test_of, step_of, chain_of, rel_of, cond_of, and_of};
+ghost use Rattle.branch_text.specs.BranchTokens.{seen};
 ghost use Rattle.branch_text.specs.Heads.{HasNoTest, HasNoPred, HasNoGroup, HasNoStep, HasNoChain, HasNoRel, HasNoUnit, HasNoCond, HasNoAnd, HasNoOr, EndsUnitBefore, EndsCondBefore};
 
 use crate::token::{

@@ -3,21 +3,21 @@ ghost use Rattle.std.specs.Prelude.{◌≡◌, ◌<◌, ℕ, List, [], length, N
 ghost use Rattle.branch_spec.specs.Tokens as tokens;
 ghost use Rattle.branch_spec.specs.Spelling.{SpellsTokens};
 ghost use Rattle.path_query.specs.Labels.{SpellsLabel};
-ghost use Rattle.branch_text.specs.Seen.{token_of, seen};
-ghost use Rattle.branch_text.specs.Fronts.{IsTokenFront, mark_front};
+ghost use Rattle.branch_text.specs.BranchTokens.{token_of, seen};
+ghost use Rattle.branch_text.specs.BranchTokenPrefixes.{IsTokenPrefix, mark_prefix};
 
 use crate::grammar::ReadError;
-use crate::marks::{label_len, mark_front};
+use crate::marks::{label_len, mark_prefix};
 use crate::token::Token;
 use path_query::skip_blanks;
 use std::alloc::Global;
 
 /// The label at the front, where no other token stands, and what follows it.
 fn read_label(alloc: Global, text: &[u8]) -> Result<(Token, &[u8]), ReadError>
-    requires { mark_front text.now ≡ None }
-    ensures ok { IfOk result (λ r. IsTokenFront text.now (token_of r.0) r.1.now) }
-    ensures only { IfOk result (λ r. (t : tokens.Token) (q : List ℕ) → IsTokenFront text.now t q → (t ≡ token_of r.0) × (q ≡ r.1.now)) }
-    ensures syntax { IsErrOf result ReadError.Syntax → (t : tokens.Token) (q : List ℕ) → IsTokenFront text.now t q → ⊥ }
+    requires { mark_prefix text.now ≡ None }
+    ensures ok { IfOk result (λ r. IsTokenPrefix text.now (token_of r.0) r.1.now) }
+    ensures only { IfOk result (λ r. (t : tokens.Token) (q : List ℕ) → IsTokenPrefix text.now t q → (t ≡ token_of r.0) × (q ≡ r.1.now)) }
+    ensures syntax { IsErrOf result ReadError.Syntax → (t : tokens.Token) (q : List ℕ) → IsTokenPrefix text.now t q → ⊥ }
 {
     let (word, rest) = text.split_at(label_len(text));
     match path_query::read_label(alloc, word)? {
@@ -28,11 +28,11 @@ fn read_label(alloc: Global, text: &[u8]) -> Result<(Token, &[u8]), ReadError>
 
 /// The token at the front, and what follows it.
 fn read_token(alloc: Global, text: &[u8]) -> Result<(Token, &[u8]), ReadError>
-    ensures ok { IfOk result (λ r. IsTokenFront text.now (token_of r.0) r.1.now) }
-    ensures only { IfOk result (λ r. (t : tokens.Token) (q : List ℕ) → IsTokenFront text.now t q → (t ≡ token_of r.0) × (q ≡ r.1.now)) }
-    ensures syntax { IsErrOf result ReadError.Syntax → (t : tokens.Token) (q : List ℕ) → IsTokenFront text.now t q → ⊥ }
+    ensures ok { IfOk result (λ r. IsTokenPrefix text.now (token_of r.0) r.1.now) }
+    ensures only { IfOk result (λ r. (t : tokens.Token) (q : List ℕ) → IsTokenPrefix text.now t q → (t ≡ token_of r.0) × (q ≡ r.1.now)) }
+    ensures syntax { IsErrOf result ReadError.Syntax → (t : tokens.Token) (q : List ℕ) → IsTokenPrefix text.now t q → ⊥ }
 {
-    match mark_front(text) {
+    match mark_prefix(text) {
         Some(found) => Ok(found),
         None => read_label(alloc, text),
     }

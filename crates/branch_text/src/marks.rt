@@ -2,12 +2,12 @@
 ghost use Rattle.std.specs.Prelude.{◌≡◌, ◌≤◌, List, ℕ, Option, length, nat_eq, option_map};
 ghost use Rattle.std.specs.List.{position_or_len};
 ghost use Rattle.triples_read.specs.ByteReaders.{starts_with};
-ghost use Rattle.branch_sets.specs.Axes.{axis_of};
-ghost use Rattle.branch_text.specs.Seen.{token_of};
-ghost use Rattle.branch_text.specs.Fronts.{mark_at, axis_front, sign_front, word_token, word_front, mark_front, iri_len, label_len};
+ghost use Rattle.branch_expr.specs.Axes.{axis_of};
+ghost use Rattle.branch_text.specs.BranchTokens.{token_of};
+ghost use Rattle.branch_text.specs.BranchTokenPrefixes.{mark_at, axis_prefix, sign_prefix, word_token, word_prefix, mark_prefix, iri_len, label_len};
 
 use crate::token::Token;
-use branch_sets::Axis;
+use branch_expr::Axis;
 use path_query::name_len;
 
 /// The token of the byte.
@@ -30,8 +30,8 @@ fn mark_at(byte: u8) -> Option<Token>
 }
 
 /// The token of an axis whose first byte is this one, with what follows it: the far axis where the byte comes twice.
-fn axis_front(byte: u8, near: Axis, far: Axis, rest: &[u8]) -> (Token, &[u8])
-    ensures { (token_of result.0, result.1.now) ≡ axis_front byte (axis_of near) (axis_of far) rest.now }
+fn axis_prefix(byte: u8, near: Axis, far: Axis, rest: &[u8]) -> (Token, &[u8])
+    ensures { (token_of result.0, result.1.now) ≡ axis_prefix byte (axis_of near) (axis_of far) rest.now }
 {
     match rest.split_first() {
         Some((next, after)) if *next == byte => (Token::Along(far), after),
@@ -40,15 +40,15 @@ fn axis_front(byte: u8, near: Axis, far: Axis, rest: &[u8]) -> (Token, &[u8])
 }
 
 /// The token at the front that is no word, and what follows it.
-fn sign_front(text: &[u8]) -> Option<(Token, &[u8])>
-    ensures { option_map (λ r. (token_of r.0, r.1.now)) result ≡ sign_front text.now }
+fn sign_prefix(text: &[u8]) -> Option<(Token, &[u8])>
+    ensures { option_map (λ r. (token_of r.0, r.1.now)) result ≡ sign_prefix text.now }
 {
     let (byte, rest) = text.split_first()?;
     if *byte == b'/' {
-        return Some(axis_front(b'/', Axis::Child, Axis::Below, rest));
+        return Some(axis_prefix(b'/', Axis::Child, Axis::Below, rest));
     }
     if *byte == b'\\' {
-        return Some(axis_front(b'\\', Axis::Parent, Axis::Above, rest));
+        return Some(axis_prefix(b'\\', Axis::Parent, Axis::Above, rest));
     }
     let token = mark_at(*byte)?;
     Some((token, rest))
@@ -70,8 +70,8 @@ fn word_token(word: &[u8]) -> Option<Token>
 }
 
 /// The word at the front that is no label, and what follows it.
-fn word_front(text: &[u8]) -> Option<(Token, &[u8])>
-    ensures { option_map (λ r. (token_of r.0, r.1.now)) result ≡ word_front text.now }
+fn word_prefix(text: &[u8]) -> Option<(Token, &[u8])>
+    ensures { option_map (λ r. (token_of r.0, r.1.now)) result ≡ word_prefix text.now }
 {
     let (word, rest) = text.split_at(name_len(text));
     let token = word_token(word)?;
@@ -79,12 +79,12 @@ fn word_front(text: &[u8]) -> Option<(Token, &[u8])>
 }
 
 /// The token at the front that is no label, and what follows it.
-pub(crate) fn mark_front(text: &[u8]) -> Option<(Token, &[u8])>
-    ensures { option_map (λ r. (token_of r.0, r.1.now)) result ≡ mark_front text.now }
+pub(crate) fn mark_prefix(text: &[u8]) -> Option<(Token, &[u8])>
+    ensures { option_map (λ r. (token_of r.0, r.1.now)) result ≡ mark_prefix text.now }
 {
-    match sign_front(text) {
+    match sign_prefix(text) {
         Some(found) => Some(found),
-        None => word_front(text),
+        None => word_prefix(text),
     }
 }
 

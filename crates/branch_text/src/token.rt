@@ -2,10 +2,10 @@
 ghost use Rattle.std.specs.Prelude.{◌≡◌, ◌↔◌, ◌<◌, [], ◌∷◌, List, length, IsTrue, IfSome, IfNone};
 ghost use Rattle.branch_spec.specs.Trees as tree;
 ghost use Rattle.branch_spec.specs.Tokens as tokens;
-ghost use Rattle.branch_sets.specs.Axes.{axis_of};
-ghost use Rattle.branch_text.specs.Seen.{token_of, seen};
+ghost use Rattle.branch_expr.specs.Axes.{axis_of};
+ghost use Rattle.branch_text.specs.BranchTokens.{token_of, seen};
 
-use branch_sets::Axis;
+use branch_expr::Axis;
 use px_base::Text;
 
 /// A token.

@@ -1,12 +1,11 @@
 // The canonical text of a query.
 ghost use Rattle.std.specs.Prelude.{◌≡◌, [], ◌∷◌, ◌++◌, string_bytes, codes, OnOk};
 ghost use Rattle.branch_spec.specs.Spelling.{axis_text};
-ghost use Rattle.branch_sets.specs.Axes.{axis_of};
-ghost use Rattle.branch_expr.specs.Views.{test_of, step_of, chain_of, cond_of, and_of};
-ghost use Rattle.branch_text.specs.Written.{branch_text, test_text, step_text, or_text, and_text, cond_text, chain_text};
+ghost use Rattle.branch_expr.specs.Axes.{axis_of};
+ghost use Rattle.branch_expr.specs.QueryTrees.{test_of, step_of, chain_of, cond_of, and_of};
+ghost use Rattle.branch_text.specs.BranchTexts.{branch_text, test_text, step_text, or_text, and_text, cond_text, chain_text};
 
-use branch_expr::{And, BranchTree, Cond, Hop, Or, Rel, Step, Test};
-use branch_sets::Axis;
+use branch_expr::{And, Axis, BranchTree, Cond, Hop, Or, Rel, Step, Test};
 use px_base::Memory;
 
 /// How the axis is written.

@@ -1,12 +1,12 @@
 -- A partition with labels and members, as the blocks of an index graph.
 use Rattle.std.proofs.Common.{◌≡◌, ℕ, List, Option, Some, None, refl, ap, ◌∙◌, slice_get}
 use Rattle.std.specs.Prelude.{option_and_then}
-use Rattle.px_spec.specs.Graphs.{Graph, IsGraph, label_of}
-use Rattle.px_spec.specs.Members.{at}
-use Rattle.px_spec.specs.Shapes.{Shape, shape_of}
-use Rattle.label_graph.specs.Views.{label_number}
+use Rattle.graph_spec.specs.Graphs.{Graph, IsGraph, label_of}
+use Rattle.graph_spec.specs.Members.{at}
+use Rattle.graph_spec.specs.Shapes.{Shape, shape_of}
+use Rattle.label_graph.specs.GraphViews.{label_number}
 use Rattle.label_graph.proofs.Viewed.{viewed_shape}
-use Rattle.block_partition.specs.Partitions.{Partition}
+use Rattle.block_partition.specs.LabelledPartitions.{Partition}
 use Rattle.block_splitting.specs.Splits.{AreLabelled, AreInhabited}
 use Rattle.bisim_spec.specs.Partitions.{IsPartition}
 use Rattle.coarsest_partition.specs.IndexBlocks.{FitsWithSupports}

@@ -1,7 +1,7 @@
 pub mod StepLaws
 pub mod RoundLaws
 pub mod BothLaws
-pub mod Alone
+pub mod SingletonLaws
 pub mod Starts
 pub mod IndexBlocks
 pub mod OrderLaws

@@ -6,24 +6,24 @@ use Rattle.std.proofs.lemmas.Bool.Decides.{Decides-eqb, eqb_tells}
 use Rattle.std.proofs.lemmas.List.{get_or-set_same, get_or-set_other, length-append}
 use Rattle.std.proofs.lemmas.Bool.{cases_lt}
 use Rattle.std.proofs.lemmas.Option.{slice_get_within}
-use Rattle.px_spec.specs.Graphs.{Graph, IsGraph, label_of}
-use Rattle.px_spec.specs.Members.{Lists, at}
-use Rattle.px_spec.specs.Shapes.{IsNode, shape_of}
-use Rattle.label_graph.specs.Views.{label_number}
+use Rattle.graph_spec.specs.Graphs.{Graph, IsGraph, label_of}
+use Rattle.graph_spec.specs.Members.{Lists, at}
+use Rattle.graph_spec.specs.Shapes.{IsNode, shape_of}
+use Rattle.label_graph.specs.GraphViews.{label_number}
 use Rattle.key_table.specs.NumberedKeys.{AreDistinct, Interns}
 use Rattle.bisim_spec.specs.Bisimilarity.{SameLabel, Bisim, Matched, node_count}
 use Rattle.bisim_spec.specs.Partitions.{Together, Agrees}
 use Rattle.bisim_spec.proofs.Bisimilar.{some_of, is_some_at, bis_sym, label_node, label_sym}
 use Rattle.bisim_levels.specs.declared.sides.Side.{Side}
 use Rattle.bisim_levels.specs.declared.sides.Side.TheVariants.{Parents, Children}
-use Rattle.bisim_levels.specs.Sides.{is_near}
+use Rattle.bisim_levels.specs.NeighbourSides.{is_neighbour}
 use Rattle.bisim_levels.specs.Keys.{IsKey, IsWritten}
 use Rattle.bisim_levels.specs.Refinement.{Share, StayTogether, AreBlocksBelow}
 use Rattle.bisim_levels.proofs.NumberedNodes.{distinct_none, interned_at, interned_stays}
-use Rattle.bisim_levels.proofs.Views.{label_at, node_number, number_node}
-use Rattle.bisim_levels.proofs.Written.{key_of, key_from_together, together_from_key}
-use Rattle.block_partition.specs.Partitions.{Partition}
-use Rattle.block_filling.specs.FilledTables.{HaveLabels, SameBlocks}
+use Rattle.bisim_levels.proofs.LabelledNodes.{label_at, node_number, number_node}
+use Rattle.bisim_levels.proofs.WrittenKeys.{key_of, key_from_together, together_from_key}
+use Rattle.block_partition.specs.LabelledPartitions.{Partition}
+use Rattle.block_partition.specs.FilledTables.{HaveLabels, SameBlocks}
 use Rattle.block_splitting.specs.Chosen.{HasFirst}
 use Rattle.block_splitting.specs.Splits.{IsNeighbour, AreLabelled}
 use Rattle.block_splitting.proofs.Lists.{all_get}
@@ -44,9 +44,9 @@ labels_same g s u v h =
     (text.0, text.1, one ∙ text.1)
 
 -- a key stays where the blocks of the neighbours do
-key_stays : (own : ℕ → Option ℕ) (old new : List (Option ℕ)) (near : ℕ → ℕ → Bool) (m : ℕ) (key : List ℕ) → ((p : ℕ) → IsTrue (near p m) → at new p ≡ at old p)
-    → IsKey own old near m key → IsKey own new near m key
-key_stays own old new near m key same k = record {
+key_stays : (own : ℕ → Option ℕ) (old new : List (Option ℕ)) (neighbour_of : ℕ → ℕ → Bool) (m : ℕ) (key : List ℕ) → ((p : ℕ) → IsTrue (neighbour_of p m) → at new p ≡ at old p)
+    → IsKey own old neighbour_of m key → IsKey own new neighbour_of m key
+key_stays own old new neighbour_of m key same k = record {
   number = k.number;
   around = k.around;
   is = k.is;
@@ -74,7 +74,7 @@ record IsNext (g : Graph) (block : List (Option ℕ)) (n : ℕ) (key : List ℕ)
   node : IsSome (label_number g n)
   none : at block n ≡ None
   parents : (p : ℕ) → IsNeighbour Parents g p n → IsSome (at block p)
-  is : IsKey (label_number g) block (is_near Parents g) n key
+  is : IsKey (label_number g) block (is_neighbour Parents g) n key
 
 ordered_more : (g : Graph) → IsGraph g → (keys keys2 : List (List ℕ)) (block new : List (Option ℕ)) (n k : ℕ) (key : List ℕ) → IsOrdered g keys block → IsNext g block n key
     → Interns keys keys2 key k → AreDistinct keys2 → ((m : ℕ) → at new m ≡ (if nat_eq m n then Some k else at block m)) → IsOrdered g keys2 new
@@ -84,23 +84,23 @@ ordered_more g s keys keys2 block new n k key w next interned distinct new_is = 
     | inl e ↦ subst (λ x. IsSome (label_number g x)) (sym e.1) next.node
     | inr d ↦ w.node m (before m d.0 h)
   ];
-  closed = λ p m h near. here p (elim (eqb_tells m n) [
-    | inl e ↦ next.parents p (subst (λ x. IsNeighbour Parents g p x) e.1 near)
-    | inr d ↦ w.closed p m (before m d.0 h) near
+  closed = λ p m h neighbour_of. here p (elim (eqb_tells m n) [
+    | inl e ↦ next.parents p (subst (λ x. IsNeighbour Parents g p x) e.1 neighbour_of)
+    | inr d ↦ w.closed p m (before m d.0 h) neighbour_of
   ]);
   keyed = λ m b e. elim (eqb_tells m n) [
     | inl i ↦ (
         let number : k ≡ b = (let f = at_n m i.0 in cc) in (
           key,
           ap (slice_get keys2) (sym number) ∙ interned_at keys keys2 key k interned,
-          subst (λ x. IsKey (label_number g) new (is_near Parents g) x key) (sym i.1) key_n,
+          subst (λ x. IsKey (label_number g) new (is_neighbour Parents g) x key) (sym i.1) key_n,
         ))
     | inr d ↦ (
         let old = w.keyed m b (sym (off_n m d.0) ∙ e) in (
           old.0,
           interned_stays keys keys2 key k interned b old.0 old.1,
-          key_stays (label_number g) block new (is_near Parents g) m old.0
-              (λ p near. same p (w.closed p m (is_some_at (at block m) b (sym (off_n m d.0) ∙ e)) near)) old.2,
+          key_stays (label_number g) block new (is_neighbour Parents g) m old.0
+              (λ p neighbour_of. same p (w.closed p m (is_some_at (at block m) b (sym (off_n m d.0) ∙ e)) neighbour_of)) old.2,
         ))
   ];
   inhabited = λ b h. elim (added b h) [
@@ -149,8 +149,8 @@ ordered_more g s keys keys2 block new n k key w next interned distinct new_is = 
     here : (p : ℕ) → IsSome (at block p) → IsSome (at new p)
     here p h = subst IsSome (sym (same p h)) h
 
-    key_n : IsKey (label_number g) new (is_near Parents g) n key
-    key_n = key_stays (label_number g) block new (is_near Parents g) n key (λ p near. same p (next.parents p near)) next.is
+    key_n : IsKey (label_number g) new (is_neighbour Parents g) n key
+    key_n = key_stays (label_number g) block new (is_neighbour Parents g) n key (λ p neighbour_of. same p (next.parents p neighbour_of)) next.is
 
     -- a key is an old one, or that of the node
     added : (b : ℕ) → b < length keys2 → (b < length keys) ⊎ (b ≡ k)
@@ -171,19 +171,19 @@ ordered_more g s keys keys2 block new n k key w next interned distinct new_is = 
         let m = target.matched Parents refl n v r in
         let old = w.keyed v b e in
         let some_v = is_some_at (at block v) b e in
-        let keys_same = key_from_together (label_number g) block (is_near Parents g) n v key old.0 (record {
+        let keys_same = key_from_together (label_number g) block (is_neighbour Parents g) n v key old.0 (record {
           one_number = numbers_same g s n v (target.label n v r);
           neighbours = record {
-            there = λ p near. let q = m.there p near in (q.0, q.1, w.coarse p q.0 (next.parents p near) (w.closed q.0 v some_v q.1) q.2);
-            back = λ p near. let q = m.back p near in (q.0, q.1, w.coarse p q.0 (w.closed p v some_v near) (next.parents q.0 q.1) q.2);
+            there = λ p neighbour_of. let q = m.there p neighbour_of in (q.0, q.1, w.coarse p q.0 (next.parents p neighbour_of) (w.closed q.0 v some_v q.1) q.2);
+            back = λ p neighbour_of. let q = m.back p neighbour_of in (q.0, q.1, w.coarse p q.0 (w.closed p v some_v neighbour_of) (next.parents q.0 q.1) q.2);
           };
         }) next.is old.2 in
         distinct.apart k b key (interned_at keys keys2 key k interned) (interned_stays keys keys2 key k interned b key (old.1 ∙ ap Some (sym keys_same)))
 
 -- parents that were looked at have numbers
-parents_numbered : (g : Graph) (block : List (Option ℕ)) (n : ℕ) (parents : List ℕ) → Lists (λ p. is_near Parents g p n) parents
+parents_numbered : (g : Graph) (block : List (Option ℕ)) (n : ℕ) (parents : List ℕ) → Lists (λ p. is_neighbour Parents g p n) parents
     → list_all (λ p. is_some (at block p)) parents ≡ true → (p : ℕ) → IsNeighbour Parents g p n → IsSome (at block p)
-parents_numbered g block n parents l all p near = all_get (λ q. is_some (at block q)) parents p all (l.members p ∙ near)
+parents_numbered g block n parents l all p neighbour_of = all_get (λ q. is_some (at block q)) parents p all (l.members p ∙ neighbour_of)
 
 -- a list that is written at one of its places
 set_at : (block : List (Option ℕ)) (n m : ℕ) (v : Option ℕ) → n < length block → at (slice_set block n v) m ≡ (if nat_eq m n then v else at block m)
@@ -194,7 +194,7 @@ set_at block n m v h = elim (eqb_tells m n) [
 
 -- a node that is ready gets the number of its key
 pub numbered_more : (g : Graph) → IsGraph g → (keys keys2 : List (List ℕ)) (block block2 block3 : List (Option ℕ)) (n k label : ℕ) (parents : List ℕ) → block2 ≡ block → block3 ≡ block → n < length block
-    → IsOrdered g keys block → IsSome (label_number g n) → IsReady block2 n parents → Lists (λ p. is_near Parents g p n) parents → label_number g n ≡ Some label
+    → IsOrdered g keys block → IsSome (label_number g n) → IsReady block2 n parents → Lists (λ p. is_neighbour Parents g p n) parents → label_number g n ≡ Some label
     → (key : List ℕ) × IsWritten (at block3) parents label key × Interns keys keys2 key k → AreDistinct keys2 → IsOrdered g keys2 (slice_set block n (Some k))
 numbered_more g s keys keys2 block block2 block3 n k label parents same same3 within w node ready lists label_is (key, written, interned) distinct =
     let r : IsReady block n parents = subst (λ (bs : List (Option ℕ)). IsReady bs n parents) same ready in
@@ -203,7 +203,7 @@ numbered_more g s keys keys2 block block2 block3 n k label parents same same3 wi
       node = node;
       none = r.none;
       parents = parents_numbered g block n parents lists r.numbered;
-      is = key_of (label_number g) block (is_near Parents g) n label parents key lists label_is wr;
+      is = key_of (label_number g) block (is_neighbour Parents g) n label parents key lists label_is wr;
     }) interned distinct (λ m. set_at block n m (Some k) within)
 
 pub push_none : (xs : List (Option ℕ)) → ((n : ℕ) → at xs n ≡ None) → (n : ℕ) → at (xs ++ None ∷ []) n ≡ None
@@ -212,7 +212,7 @@ push_none [] h (suc n) = refl
 push_none (x ∷ xs) h zero = h zero
 push_none (x ∷ xs) h (suc n) = push_none xs (λ m. h (suc m)) n
 
--- where all nodes are numbered, none has to wait
+-- where all nodes are numbered, none has to be active
 ordered_refined : (g : Graph) → IsGraph g → (keys : List (List ℕ)) (block : List (Option ℕ)) → IsOrdered g keys block → AreAllNumbered g block
     → IsRefined g parents_alone (Bisim (shape_of g)) block (λ t n. false)
 ordered_refined g s keys block w all = record {
@@ -230,17 +230,17 @@ ordered_refined g s keys block w all = record {
     numbered : (n : ℕ) → IsNode (shape_of g) n → IsSome (at block n)
     numbered n h = all.each n (node_number g s n h)
 
-    blocks : (p n : ℕ) → IsTrue (is_near Parents g p n) → (b : ℕ) × (at block p ≡ Some b)
+    blocks : (p n : ℕ) → IsTrue (is_neighbour Parents g p n) → (b : ℕ) × (at block p ≡ Some b)
     blocks p n e = some_of (at block p) (numbered p (s.from p n e))
 
-    stay : (u v : ℕ) → Together block u v → StayTogether (label_number g) block (is_near Parents g) u v
+    stay : (u v : ℕ) → Together block u v → StayTogether (label_number g) block (is_neighbour Parents g) u v
     stay u v t =
         let ku = w.keyed u t.0 t.1 in
         let kv = w.keyed v t.0 t.2 in
         let a = ku.1 in
         let c = kv.1 in
         let same : kv.0 ≡ ku.0 = cc in
-        together_from_key (label_number g) block (is_near Parents g) u v ku.0 blocks ku.2 (subst (IsKey (label_number g) block (is_near Parents g) v) same kv.2)
+        together_from_key (label_number g) block (is_neighbour Parents g) u v ku.0 blocks ku.2 (subst (IsKey (label_number g) block (is_neighbour Parents g) v) same kv.2)
 
     settled : (t : Side) → parents_alone t ≡ true → (u v : ℕ) → false ≡ false → false ≡ false → Together block u v → Matched (IsNeighbour t g) (Together block) u v
     settled Children k u v nu nv t = absurd (true≢false (sym k))

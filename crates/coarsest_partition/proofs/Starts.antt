@@ -2,22 +2,22 @@
 use Rattle.std.proofs.Common.{◌≡◌, ℕ, zero, suc, ◌+◌, ◌<◌, ◌≤◌, List, [], ◌∷◌, ◌++◌, length, Option, Some, IsSome, refl, sym, ◌∙◌, ap, subst, arith, inl, inr, slice_get}
 use Rattle.std.proofs.lemmas.Bool.{cases_lt}
 use Rattle.std.proofs.lemmas.Option.{slice_get_within}
-use Rattle.px_spec.specs.Graphs.{Graph, IsGraph}
+use Rattle.graph_spec.specs.Graphs.{Graph, IsGraph}
 use Rattle.label_graph.specs.ViewLaws.{below_span}
-use Rattle.px_spec.specs.Members.{at}
+use Rattle.graph_spec.specs.Members.{at}
 use Rattle.bisim_spec.specs.Partitions.{IsPartition}
 use Rattle.bisim_spec.proofs.Bisimilar.{some_of, none_or_some, is_some_at}
-use Rattle.label_graph.specs.Views.{label_number}
-use Rattle.block_partition.specs.Partitions.{Partition}
-use Rattle.bisim_levels.specs.Sides.{no_neighbours}
+use Rattle.label_graph.specs.GraphViews.{label_number}
+use Rattle.block_partition.specs.LabelledPartitions.{Partition}
+use Rattle.bisim_levels.specs.NeighbourSides.{no_neighbours}
 use Rattle.block_splitting.specs.Chosen.{HasFirst}
 use Rattle.block_splitting.specs.Splits.{AreLabelled, AreInhabited}
-use Rattle.block_filling.specs.FilledTables.{HaveLabels, SameBlocks}
-use Rattle.px_spec.specs.Shapes.{shape_of}
+use Rattle.block_partition.specs.FilledTables.{HaveLabels, SameBlocks}
+use Rattle.graph_spec.specs.Shapes.{shape_of}
 use Rattle.bisim_levels.specs.Refinement.{AreNumbered, AreBlocksBelow}
-use Rattle.bisim_levels.proofs.Views.{node_number}
+use Rattle.bisim_levels.proofs.LabelledNodes.{node_number}
 
-pub nodes_below : (g : Graph) → IsGraph g → (block block2 : List (Option ℕ)) (size : ℕ) → block2 ≡ block → IsPartition (shape_of g) block → size ≡ length g.given
+pub nodes_below : (g : Graph) → IsGraph g → (block block2 : List (Option ℕ)) (size : ℕ) → block2 ≡ block → IsPartition (shape_of g) block → size ≡ length g.allocated
     → (n b : ℕ) → at block2 n ≡ Some b → n < size
 nodes_below g s block block2 size same p is n b e =
     let l = below_span g n (node_number g s n (p.only n (is_some_at (at block n) b (ap (λ (bs : List (Option ℕ)). at bs n) (sym same) ∙ e)))) in

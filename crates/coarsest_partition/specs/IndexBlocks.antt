@@ -1,9 +1,9 @@
 -- Partitions that are the blocks of an index graph.
 use Rattle.std.specs.Prelude.{ℕ, ◌≡◌}
-use Rattle.px_spec.specs.Graphs.{Graph}
-use Rattle.block_partition.specs.Partitions.{Partition}
+use Rattle.graph_spec.specs.Graphs.{Graph}
+use Rattle.block_partition.specs.LabelledPartitions.{Partition}
 use Rattle.bisim_spec.specs.Supports.{edges_between}
-use Rattle.bisim_spec.specs.Views.{SupportTable, ViewFits, support_at}
+use Rattle.bisim_spec.specs.IndexGraphs.{SupportTable, ViewFits, support_at}
 use Rattle.block_splitting.specs.Splits.{AreLabelled, AreInhabited}
 
 -- with the numbers of edges as supports, it is a view of the graph: each block has a member, and its members' label

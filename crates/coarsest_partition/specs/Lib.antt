@@ -1,5 +1,5 @@
 pub mod Refined
-pub mod Sides
-pub mod Alone
+pub mod ActiveSides
+pub mod SingletonBlocks
 pub mod IndexBlocks
 pub mod Ordered

@@ -1,15 +1,15 @@
 -- Nodes that are numbered by their keys after all their parents.
 use Rattle.std.specs.Prelude.{ℕ, ◌≡◌, ◌<◌, List, Option, Some, None, true, IsSome, is_some, length, slice_get}
 use Rattle.std.specs.List.{list_all}
-use Rattle.px_spec.specs.Graphs.{Graph}
-use Rattle.px_spec.specs.Members.{at}
-use Rattle.px_spec.specs.Shapes.{shape_of}
-use Rattle.label_graph.specs.Views.{label_number}
+use Rattle.graph_spec.specs.Graphs.{Graph}
+use Rattle.graph_spec.specs.Members.{at}
+use Rattle.graph_spec.specs.Shapes.{shape_of}
+use Rattle.label_graph.specs.GraphViews.{label_number}
 use Rattle.key_table.specs.NumberedKeys.{AreDistinct}
 use Rattle.bisim_spec.specs.Bisimilarity.{Bisim}
 use Rattle.bisim_spec.specs.Partitions.{Together}
 use Rattle.bisim_levels.specs.declared.sides.Side.TheVariants.{Parents}
-use Rattle.bisim_levels.specs.Sides.{is_near}
+use Rattle.bisim_levels.specs.NeighbourSides.{is_neighbour}
 use Rattle.bisim_levels.specs.Keys.{IsKey}
 use Rattle.block_splitting.specs.Splits.{IsNeighbour}
 
@@ -19,7 +19,7 @@ pub record IsOrdered (g : Graph) (keys : List (List ℕ)) (block : List (Option 
   pub distinct : AreDistinct keys
   pub node : (n : ℕ) → IsSome (at block n) → IsSome (label_number g n)
   pub closed : (p n : ℕ) → IsSome (at block n) → IsNeighbour Parents g p n → IsSome (at block p)
-  pub keyed : (n b : ℕ) → at block n ≡ Some b → (key : List ℕ) × (slice_get keys b ≡ Some key) × IsKey (label_number g) block (is_near Parents g) n key
+  pub keyed : (n b : ℕ) → at block n ≡ Some b → (key : List ℕ) × (slice_get keys b ≡ Some key) × IsKey (label_number g) block (is_neighbour Parents g) n key
   pub inhabited : (b : ℕ) → b < length keys → (n : ℕ) × (at block n ≡ Some b)
   pub coarse : (u v : ℕ) → IsSome (at block u) → IsSome (at block v) → Bisim (shape_of g) u v → Together block u v
 

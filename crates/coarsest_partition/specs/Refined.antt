@@ -1,14 +1,14 @@
 -- Partitions on the way to the coarsest stable one (R. Paige and R. E. Tarjan, "Three Partition Refinement Algorithms", SIAM
 -- Journal on Computing 16, 1987; here a round looks again at the nodes next to those that moved).
 use Rattle.std.specs.Prelude.{ℕ, ◌≡◌, ◌⊎◌, Bool, true, false, List, Option}
-use Rattle.px_spec.specs.Graphs.{Graph}
+use Rattle.graph_spec.specs.Graphs.{Graph}
 use Rattle.bisim_spec.specs.Bisimilarity.{SameLabel, Matched}
-use Rattle.px_spec.specs.Members.{at, has}
+use Rattle.graph_spec.specs.Members.{at, has}
 use Rattle.bisim_spec.specs.Partitions.{Together}
 use Rattle.bisim_levels.specs.declared.sides.Side.{Side}
 use Rattle.block_splitting.specs.Splits.{IsNeighbour}
 use Rattle.bisim_levels.specs.declared.sides.Side.TheVariants.{Parents, Children}
-use Rattle.px_spec.specs.Shapes.{shape_of}
+use Rattle.graph_spec.specs.Shapes.{shape_of}
 
 -- the sides at which bisimilarity looks: by parents
 abbrev pub parents_alone : Side → Bool
@@ -27,32 +27,32 @@ pub record IsTarget (g : Graph) (kept : Side → Bool) (R : ℕ → ℕ → Type
   pub label : (u v : ℕ) → R u v → SameLabel (shape_of g) u v
   pub matched : (t : Side) → kept t ≡ true → (u v : ℕ) → R u v → Matched (IsNeighbour t g) R u v
 
--- A partition on the way to R, and on each side the nodes that wait: it is no finer than R, the nodes that wait are classes
--- of R, and of two nodes in one block that don't wait the neighbours are in the same blocks.
-pub record IsRefined (g : Graph) (kept : Side → Bool) (R : ℕ → ℕ → Type 0) (block : List (Option ℕ)) (waits : Side → ℕ → Bool) : Type 0 where
+-- A partition on the way to R, and on each side the active nodes: it is no finer than R, the active nodes are classes
+-- of R, and of two nodes in one block that aren't active the neighbours are in the same blocks.
+pub record IsRefined (g : Graph) (kept : Side → Bool) (R : ℕ → ℕ → Type 0) (block : List (Option ℕ)) (active : Side → ℕ → Bool) : Type 0 where
   pub coarse : (u v : ℕ) → R u v → Together block u v
   pub label : (u v : ℕ) → Together block u v → SameLabel (shape_of g) u v
-  pub closed : (t : Side) → kept t ≡ true → (u v : ℕ) → R u v → waits t u ≡ true → waits t v ≡ true
-  pub settled : (t : Side) → kept t ≡ true → (u v : ℕ) → waits t u ≡ false → waits t v ≡ false → Together block u v
+  pub closed : (t : Side) → kept t ≡ true → (u v : ℕ) → R u v → active t u ≡ true → active t v ≡ true
+  pub settled : (t : Side) → kept t ≡ true → (u v : ℕ) → active t u ≡ false → active t v ≡ false → Together block u v
       → Matched (IsNeighbour t g) (Together block) u v
 
--- One step, on one side: blocks are only split; two nodes that wait no more were settled, or have neighbours in the same blocks
--- of the old partition; nodes stay together that agree in this and in whether they waited; and those wait that have a neighbour
--- which moved and aren't alone in their block, and on a side that is left those that waited there.
-pub record IsStep (g : Graph) (kept : Side → Bool) (old new : List (Option ℕ)) (waits next : Side → ℕ → Bool) : Type 0 where
+-- One step, on one side: blocks are only split; two nodes that are no longer active were settled, or have neighbours in the same blocks
+-- of the old partition; nodes stay together that agree in this and in whether they were active; and those are active that have a neighbour
+-- which moved and aren't alone in their block, and on a side that is left those that were active there.
+pub record IsStep (g : Graph) (kept : Side → Bool) (old new : List (Option ℕ)) (active next : Side → ℕ → Bool) : Type 0 where
   pub finer : (u v : ℕ) → Together new u v → Together old u v
   pub side : Side
   pub side_kept : kept side ≡ true
-  pub grouped : (u v : ℕ) → Together old u v → Matched (IsNeighbour side g) (Together old) u v → (waits side u ≡ true → waits side v ≡ true)
-      → (waits side v ≡ true → waits side u ≡ true) → Together new u v
+  pub grouped : (u v : ℕ) → Together old u v → Matched (IsNeighbour side g) (Together old) u v → (active side u ≡ true → active side v ≡ true)
+      → (active side v ≡ true → active side u ≡ true) → Together new u v
   pub parted : (t : Side) → kept t ≡ true → (u v : ℕ) → next t u ≡ false → next t v ≡ false → Together new u v
-      → ((waits t u ≡ false) × (waits t v ≡ false)) ⊎ Matched (IsNeighbour t g) (Together old) u v
+      → ((active t u ≡ false) × (active t v ≡ false)) ⊎ Matched (IsNeighbour t g) (Together old) u v
   pub still : (t : Side) → kept t ≡ true → (q n v : ℕ) → next t n ≡ false → Together new n v → (n ≡ v → ⊥) → IsNeighbour t g q n → at new q ≡ at old q
   pub left : Side → Bool
-  pub left_wait : (t : Side) → kept t ≡ true → (n : ℕ) → left t ≡ true → waits t n ≡ true → next t n ≡ true
-  pub wait_why : (t : Side) → kept t ≡ true → (n : ℕ) → next t n ≡ true
-      → ((left t ≡ true) × (waits t n ≡ true)) ⊎ ((q : ℕ) × IsNeighbour t g q n × (at new q ≡ at old q → ⊥))
+  pub left_active : (t : Side) → kept t ≡ true → (n : ℕ) → left t ≡ true → active t n ≡ true → next t n ≡ true
+  pub active_why : (t : Side) → kept t ≡ true → (n : ℕ) → next t n ≡ true
+      → ((left t ≡ true) × (active t n ≡ true)) ⊎ ((q : ℕ) × IsNeighbour t g q n × (at new q ≡ at old q → ⊥))
 
 -- a step by parents, where these nodes waited and those wait next
 abbrev pub IsStepByParents : Graph → List (Option ℕ) → List (Option ℕ) → List ℕ → List ℕ → Type 0
-IsStepByParents g old new waiting next = IsStep g parents_alone old new (λ t. has waiting) (λ t. has next)
+IsStepByParents g old new active_nodes next = IsStep g parents_alone old new (λ t. has active_nodes) (λ t. has next)

@@ -1,18 +1,18 @@
 // Rounds by parents and by children in turn.
 ghost use Rattle.std.specs.Prelude.{◌≡◌, ◌<◌, ◌≤◌, ◌^◌, ◌&&◌, nat_eq, IfOk, OnOk, length, vec_len};
-ghost use Rattle.px_spec.specs.Graphs.{IsGraph};
+ghost use Rattle.graph_spec.specs.Graphs.{IsGraph};
 ghost use Rattle.bisim_spec.specs.Bisimilarity.{SameLabel, FB};
 ghost use Rattle.bisim_spec.specs.Partitions.{Agrees};
-ghost use Rattle.px_spec.specs.Shapes.{shape_of};
-ghost use Rattle.block_partition.specs.Partitions.{block_count};
+ghost use Rattle.graph_spec.specs.Shapes.{shape_of};
+ghost use Rattle.block_partition.specs.LabelledPartitions.{block_count};
 ghost use Rattle.block_splitting.specs.Nodes.{AreNodes};
 ghost use Rattle.block_splitting.specs.Splits.{AreLabelled, AreInhabited};
 ghost use Rattle.coarsest_partition.specs.IndexBlocks.{FitsWithSupports, StayIndexBlocks};
-ghost use Rattle.coarsest_partition.specs.Sides.{other_of, BothSidesWait, AreWaiting, IsStepOn, CanRefine, HasMoreOrSettles};
+ghost use Rattle.coarsest_partition.specs.ActiveSides.{other_of, AreBothSidesActive, AreWaiting, IsStepOn, CanRefine, HasMoreOrSettles};
 
+use crate::activating::activate_moved;
 use crate::labels::by_labels;
-use crate::rounds::all_waiting;
-use crate::waking::wake_moved;
+use crate::rounds::all_active_nodes;
 use bisim_levels::Side;
 use block_partition::Blocks;
 use block_splitting::{NodeSet, Tables, split};
@@ -30,14 +30,14 @@ fn opposite(side: Side) -> Side
     }
 }
 
-// Whether nothing waits on either side.
+// Whether nothing is active on either side.
 fn are_empty(parents: &NodeSet, children: &NodeSet) -> bool
     ensures { result ≡ (nat_eq (length parents.now.nodes) 0 && nat_eq (length children.now.nodes) 0) }
 {
     parents.is_empty() && children.is_empty()
 }
 
-// One round on a side, where some nodes wait on this one and others on the other.
+// One round on a side, where some nodes are active on this one and others on the other.
 fn round_on(
     alloc: Global,
     view: &GraphView<'_>,
@@ -55,21 +55,21 @@ fn round_on(
     ensures other { OnOk result (AreNodes view.now other.new.nodes) }
     ensures own_size { own.new.size ≡ own.old.size }
     ensures other_size { other.new.size ≡ other.old.size }
-    ensures room { vec_len tables.new.group ≡ vec_len tables.old.group }
+    ensures reserved { vec_len tables.new.group ≡ vec_len tables.old.group }
     ensures few { OnOk result (block_count blocks.new ≤ 2 ^ 31) }
     ensures kept { OnOk result (StayIndexBlocks view.now blocks.old blocks.new) }
     ensures more { OnOk result (HasMoreOrSettles blocks.old blocks.new own.new other.old other.new) }
 {
     let moved = split(alloc, view, side, blocks, own, tables)?;
     own.clear();
-    wake_moved(own, blocks, view, side, &moved)?;
-    wake_moved(other, blocks, view, opposite(side), &moved)?;
+    activate_moved(own, blocks, view, side, &moved)?;
+    activate_moved(other, blocks, view, opposite(side), &moved)?;
     // Called for its contract: there are at most 2^31 blocks.
     let _known = blocks.count();
     Ok(())
 }
 
-// Rounds by parents and rounds by children take turns until no node waits, from the partition by labels on.
+// Rounds by parents and rounds by children take turns until no node is active, from the partition by labels on.
 fn take_turns(
     alloc: Global,
     view: &GraphView<'_>,
@@ -78,8 +78,8 @@ fn take_turns(
     children: &mut NodeSet,
     tables: &mut Tables,
 ) -> Result<(), Memory>
-    requires start { BothSidesWait view.now blocks.old.block_of parents.old children.old }
-    requires room { length view.now.given ≤ vec_len tables.old.group }
+    requires start { AreBothSidesActive view.now blocks.old.block_of parents.old children.old }
+    requires reserved { length view.now.allocated ≤ vec_len tables.old.group }
     ensures labelled { OnOk result (AreLabelled view.now blocks.old → AreLabelled view.now blocks.new) }
     ensures inhabited { OnOk result (AreInhabited blocks.old → AreInhabited blocks.new) }
     ensures agrees { OnOk result (Agrees (shape_of view.now) blocks.new.block_of (FB (shape_of view.now))) }
@@ -108,14 +108,14 @@ fn take_turns(
 }
 
 // The same, with tables of its own.
-fn settle_waiting(
+fn settle_active(
     alloc: Global,
     view: &GraphView<'_>,
     blocks: &mut Blocks,
     parents: &mut NodeSet,
     children: &mut NodeSet,
 ) -> Result<(), Memory>
-    requires start { BothSidesWait view.now blocks.old.block_of parents.old children.old }
+    requires start { AreBothSidesActive view.now blocks.old.block_of parents.old children.old }
     ensures labelled { OnOk result (AreLabelled view.now blocks.old → AreLabelled view.now blocks.new) }
     ensures inhabited { OnOk result (AreInhabited blocks.old → AreInhabited blocks.new) }
     ensures agrees { OnOk result (Agrees (shape_of view.now) blocks.new.block_of (FB (shape_of view.now))) }
@@ -132,15 +132,15 @@ fn settle_both_ways(alloc: Global, view: &GraphView<'_>, blocks: &mut Blocks) ->
     ensures inhabited { OnOk result (AreInhabited blocks.old → AreInhabited blocks.new) }
     ensures agrees { OnOk result (Agrees (shape_of view.now) blocks.new.block_of (FB (shape_of view.now))) }
 {
-    let mut parents = all_waiting(alloc, view, blocks)?;
-    let mut children = all_waiting(alloc, view, blocks)?;
-    settle_waiting(alloc, view, blocks, &mut parents, &mut children)
+    let mut parents = all_active_nodes(alloc, view, blocks)?;
+    let mut children = all_active_nodes(alloc, view, blocks)?;
+    settle_active(alloc, view, blocks, &mut parents, &mut children)
 }
 
 /// The coarsest partition that is stable under parents and under children: its blocks are the classes of full
 /// bisimilarity both ways.
 ///
-/// Rounds by parents and rounds by children take turns, each over the nodes that wait on its side: at first all, and then
+/// Rounds by parents and rounds by children take turns, each over the nodes that are active on its side: at first all, and then
 /// those of which a neighbour there went to another block, unless they are alone in their own. There are at most twice as
 /// many rounds as blocks. Expected O(r (n + m log d)) for r rounds, n node numbers, m edges and at most d neighbours of a
 /// node on a side; it takes O(n + m) memory.

@@ -1,15 +1,14 @@
 // The partition by labels, in tables.
 ghost use Rattle.std.specs.Prelude.{◌≡◌, ◌<◌, ◌∷◌, [], ℕ, IfOk, length};
-ghost use Rattle.px_spec.specs.Graphs.{IsGraph};
-ghost use Rattle.px_spec.specs.Shapes.{shape_of};
+ghost use Rattle.graph_spec.specs.Graphs.{IsGraph};
+ghost use Rattle.graph_spec.specs.Shapes.{shape_of};
 ghost use Rattle.bisim_spec.specs.Bisimilarity.{SameLabel};
 ghost use Rattle.bisim_spec.specs.Partitions.{Agrees};
 ghost use Rattle.block_splitting.specs.Chosen.{HasFirst, AreFirstNumbers};
 ghost use Rattle.block_splitting.specs.Splits.{AreLabelled, AreInhabited};
 
 use bisim_levels::label_level;
-use block_filling::fill;
-use block_partition::Blocks;
+use block_partition::{Blocks, fill};
 use key_table::KeyTable;
 use label_graph::GraphView;
 use px_base::Memory;

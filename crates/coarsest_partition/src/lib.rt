@@ -2,6 +2,7 @@
 //! rounds over the nodes whose neighbours moved.
 #![tactic(auto)]
 
+mod activating;
 mod both;
 mod labels;
 mod numbering;
@@ -9,7 +10,6 @@ mod ordered;
 mod rounds;
 #[cfg(test)]
 mod tests;
-mod waking;
 
 pub use both::full_bisimulation_both_ways;
 pub use rounds::full_bisimulation;

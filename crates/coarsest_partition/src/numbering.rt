@@ -1,14 +1,14 @@
 // Nodes that are numbered by their keys once all their parents are.
 ghost use Rattle.std.specs.Prelude.{◌≡◌, ◌<◌, ℕ, List, Some, IsSome, IsTrue, IfOk, OnOk, is_some, length, vec_len};
 ghost use Rattle.std.specs.List.{list_all};
-ghost use Rattle.px_spec.specs.Graphs.{IsGraph};
-ghost use Rattle.px_spec.specs.Members.{at};
-ghost use Rattle.label_graph.specs.Views.{label_number};
+ghost use Rattle.graph_spec.specs.Graphs.{IsGraph};
+ghost use Rattle.graph_spec.specs.Members.{at};
+ghost use Rattle.label_graph.specs.GraphViews.{label_number};
 ghost use Rattle.key_table.specs.NumberedKeys.{AreDistinct, Interns};
 ghost use Rattle.bisim_levels.specs.Keys.{IsWritten};
 ghost use Rattle.coarsest_partition.specs.Ordered.{IsOrdered, IsReady};
 
-use bisim_levels::{block_of, only_block, write_key};
+use bisim_levels::{block_of, single_block, write_key};
 use key_table::KeyTable;
 use label_graph::{Digraph, GraphView};
 use px_base::{Memory, NodeId};
@@ -57,7 +57,7 @@ fn intern_key(
     ensures ok { IfOk result (λ k. (key : List ℕ) × IsWritten (at block.now) parents.now label key × Interns keys.old keys.new key k) }
     ensures distinct { IfOk result (λ k. AreDistinct keys.new) }
 {
-    match only_block(block, parents) {
+    match single_block(block, parents) {
         Some(parent) => keys.intern(&[label, parent]),
         None => intern_written(keys, key, block, parents, label),
     }
@@ -74,7 +74,7 @@ pub(crate) fn number_node(
     requires graph { IsGraph view.now }
     requires node { IsSome (label_number view.now n) }
     requires ordered { IsOrdered view.now keys.old block.old.items }
-    requires long { vec_len block.old ≡ length view.now.given }
+    requires long { vec_len block.old ≡ length view.now.allocated }
     ensures ordered { OnOk result (IsOrdered view.now keys.new block.new.items) }
     ensures long { vec_len block.new ≡ vec_len block.old }
 {

@@ -1,8 +1,8 @@
 // An order in which parents come first, and the partition by the numbers that nodes get in it.
 ghost use Rattle.std.specs.Prelude.{◌≡◌, ◌<◌, ℕ, None, IsTrue, IfOk, IfSome, OnOk, length, vec_len};
-ghost use Rattle.px_spec.specs.Graphs.{IsGraph};
-ghost use Rattle.px_spec.specs.Members.{at};
-ghost use Rattle.px_spec.specs.Shapes.{shape_of};
+ghost use Rattle.graph_spec.specs.Graphs.{IsGraph};
+ghost use Rattle.graph_spec.specs.Members.{at};
+ghost use Rattle.graph_spec.specs.Shapes.{shape_of};
 ghost use Rattle.bisim_spec.specs.Bisimilarity.{Bisim};
 ghost use Rattle.bisim_spec.specs.Partitions.{Agrees};
 ghost use Rattle.block_splitting.specs.Splits.{AreLabelled, AreInhabited};
@@ -11,8 +11,7 @@ ghost use Rattle.coarsest_partition.specs.Ordered.{IsOrdered, AreAllNumbered, Is
 use crate::labels::first_numbers;
 use crate::numbering::number_node;
 use bisim_levels::block_of;
-use block_filling::fill;
-use block_partition::Blocks;
+use block_partition::{Blocks, fill};
 use key_table::KeyTable;
 use label_graph::{Digraph, GraphView};
 use px_base::{Memory, NodeId};
@@ -111,7 +110,7 @@ fn visit(
 ) -> Result<(), Memory>
     requires graph { IsGraph view.now }
     requires ordered { IsOrdered view.now numbers.old.keys numbers.old.block.items }
-    requires long { vec_len numbers.old.block ≡ length view.now.given }
+    requires long { vec_len numbers.old.block ≡ length view.now.allocated }
     ensures ordered { OnOk result (IsOrdered view.now numbers.new.keys numbers.new.block.items) }
     ensures long { vec_len numbers.new.block ≡ vec_len numbers.old.block }
 {
@@ -136,7 +135,7 @@ fn none_numbered(alloc: Global, size: usize) -> Result<Vec<Option<u32>>, Memory>
 
 fn no_numbers(alloc: Global, view: &GraphView<'_>) -> Result<Numbers, Memory>
     ensures ordered { IfOk result (λ n. IsOrdered view.now n.keys n.block.items) }
-    ensures long { IfOk result (λ n. vec_len n.block ≡ length view.now.given) }
+    ensures long { IfOk result (λ n. vec_len n.block ≡ length view.now.allocated) }
 {
     let block = none_numbered(alloc, view.size() as usize)?;
     let keys = KeyTable::new(alloc)?;

@@ -1,6 +1,6 @@
 // Partitions of small graphs.
 ghost use Rattle.std.specs.Prelude.{◌≡◌, ◌<◌, IsSome};
-ghost use Rattle.label_graph.specs.Views.{label_number};
+ghost use Rattle.label_graph.specs.GraphViews.{label_number};
 
 use super::*;
 use crate::labels::by_labels;
@@ -13,7 +13,7 @@ use std::marker::Brand;
 use std::process::Abort;
 use std::sync::ledger::{Blank, Ledger};
 use std::test::Fail;
-use test_graphs::drawn;
+use test_graphs::graph_from;
 
 // Whether there are so many blocks, and the nodes of each pair are in one block. Where all nodes that are to be
 // together are joined by pairs, this says what the partition is.
@@ -61,7 +61,7 @@ fn check_both<L: Ledger>(rt: &impl Abort, alloc: Global, blank: Blank) -> Result
     requires some { 0 < blank.parts }
 {
     let mut steps = Steps::<L>::new(blank);
-    let graph = drawn(alloc, b"llllll", CHAINS, &mut steps)?;
+    let graph = graph_from(alloc, b"llllll", CHAINS, &mut steps)?;
     let view = graph.view(&mut steps);
     check_chains(rt, alloc, &view)?;
     check_splitter(rt, alloc, &view, 1, 3, SPLIT_CHAINS)
@@ -81,7 +81,7 @@ fn check_rings<L: Ledger>(rt: &impl Abort, alloc: Global, blank: Blank) -> Resul
     requires some { 0 < blank.parts }
 {
     let mut steps = Steps::<L>::new(blank);
-    let graph = drawn(alloc, b"aaa", RINGS, &mut steps)?;
+    let graph = graph_from(alloc, b"aaa", RINGS, &mut steps)?;
     let both = full_bisimulation_both_ways(alloc, &graph.view(&mut steps))?;
     assert!(rt; is_parted(&both, 1, &[(0, 1), (1, 2)]));
     Ok(())
@@ -99,7 +99,7 @@ fn check_one_edge<L: Ledger>(rt: &impl Abort, alloc: Global, blank: Blank) -> Re
     requires some { 0 < blank.parts }
 {
     let mut steps = Steps::<L>::new(blank);
-    let graph = drawn(alloc, b"aba", &[(0, 1)], &mut steps)?;
+    let graph = graph_from(alloc, b"aba", &[(0, 1)], &mut steps)?;
     check_splitter(rt, alloc, &graph.view(&mut steps), 2, 3, &[])
 }
 

@@ -8,7 +8,7 @@ use Rattle.clap.specs.declared.error.Error.{Error}
 use Rattle.clap.specs.declared.error.kind.ErrorKind.TheVariants.{OutOfMemory}
 use Rattle.clap.specs.declared.parser.matches.ArgMatches.{ArgMatches}
 use Rattle.clap.proofs.OnLiterals.{clap_on_literals}
-use Rattle.command_line.specs.Shown.{Matches, shown_given}
+use Rattle.command_line.specs.FormValues.{Matches, given_value}
 use Rattle.command_line.specs.Words.{command, given_in, is_accepted, is_no_fault, read}
 use Rattle.command_line.specs.declared.given.Given.{Given as GivenSeen}
 
@@ -51,7 +51,7 @@ read_by : (words : List (List ℕ)) (b : Bool) → is_accepted words ≡ b → (
 read_by words b is = ap (λ t. if t then Some (given_in (matches_of command words)) else None) (sym is)
 
 pub gathered : (words : List (List ℕ)) (o : Option ArgMatches) (m : ArgMatches) (g : GivenSeen) → o ≡ Some m → Matches words o
-    → shown_given g ≡ given_in (rows_of (found_of m)) → Some (shown_given g) ≡ read words
+    → given_value g ≡ given_in (rows_of (found_of m)) → Some (given_value g) ≡ read words
 gathered words o m g is found given =
     let f : Matches words (Some m) = rw is at found in
     ap Some (given ∙ ap given_in f.1) ∙ read_by words true f.0

@@ -2,4 +2,4 @@ pub mod Forms
 pub mod Givens
 pub mod Words
 pub mod Usage
-pub mod Shown
+pub mod FormValues

@@ -6,7 +6,7 @@ ghost use Rattle.command_line.specs.Forms.{neither, HasLevel};
 ghost use Rattle.command_line.specs.Givens.{form_given, form_with, level_or_default as level_given, level_of as level_in};
 ghost use Rattle.command_line.specs.Givens.{has_others as others_given, is_numeral as numeral_given, seed_of as seed_given};
 ghost use Rattle.command_line.specs.Words.{form_of as form_said, form_read, is_accepted};
-ghost use Rattle.command_line.specs.Shown.{shown_form, shown_given, IsReadAs};
+ghost use Rattle.command_line.specs.FormValues.{form_value, given_value, IsReadAs};
 ghost use Rattle.command_line.specs.Usage.{HasPlain, HasPlainTexts, Order, ScriptUsage, Usage, given_by, given_texts, words_in, words_of};
 
 use crate::given::{Given, read_given};
@@ -66,7 +66,7 @@ fn level_or_default(text: Option<&str>) -> Option<u32>
 }
 
 fn run_with<'a>(given: &Given<'a>) -> Form<'a>
-    ensures { shown_form result ≡ form_with None (shown_given given.now) }
+    ensures { form_value result ≡ form_with None (given_value given.now) }
 {
     let Some(script) = given.script else {
         return Form::Neither;
@@ -111,7 +111,7 @@ fn seed_of(text: &str) -> Option<u64>
 
 // Whether anything other than a seed is given.
 fn has_others(given: &Given) -> bool
-    ensures { result ≡ others_given (shown_given given.now) }
+    ensures { result ≡ others_given (given_value given.now) }
 {
     given.script.is_some()
         || given.graph.is_some()
@@ -121,7 +121,7 @@ fn has_others(given: &Given) -> bool
 }
 
 fn make_with<'a>(given: &Given<'a>, text: &str) -> Form<'a>
-    ensures { shown_form result ≡ form_with (Some text.now) (shown_given given.now) }
+    ensures { form_value result ≡ form_with (Some text.now) (given_value given.now) }
 {
     if has_others(given) {
         return Form::Neither;
@@ -133,7 +133,7 @@ fn make_with<'a>(given: &Given<'a>, text: &str) -> Form<'a>
 }
 
 fn form_of<'a>(given: &Given<'a>) -> Form<'a>
-    ensures { shown_form result ≡ form_given (shown_given given.now) }
+    ensures { form_value result ≡ form_given (given_value given.now) }
 {
     match given.make {
         Some(text) => make_with(given, text),
@@ -142,7 +142,7 @@ fn form_of<'a>(given: &Given<'a>) -> Form<'a>
 }
 
 fn judge<'a>(given: Option<Given<'a>>) -> Form<'a>
-    ensures { shown_form result ≡ form_read (option_map shown_given given.entry) }
+    ensures { form_value result ≡ form_read (option_map given_value given.entry) }
 {
     match given {
         Some(given) => form_of(&given),
@@ -156,13 +156,13 @@ fn judge<'a>(given: Option<Given<'a>>) -> Form<'a>
 /// is malformed, and so is a call for help. O(b) for words of b bytes; it takes memory for `clap`'s table of the options and
 /// for what it reads into it.
 pub fn read_words<'a>(alloc: Global, words: &'a [String]) -> Result<Form<'a>, Memory>
-    ensures exact { IfOk result (λ f. shown_form f ≡ form_said (map string_bytes words.entry.now)) }
+    ensures exact { IfOk result (λ f. form_value f ≡ form_said (map string_bytes words.entry.now)) }
     // The words of the usage line, with texts that aren't empty and don't begin with a hyphen, give those texts.
     ensures plain { (u : Usage) → map string_bytes words.entry.now ≡ words_of u → HasPlainTexts u → IsReadAs result (given_by u) }
     // So do those of a script without flags in another order.
     ensures reordered { (u : ScriptUsage) (o : Order) → map string_bytes words.entry.now ≡ words_in o u → HasPlain u → IsReadAs result (given_texts u) }
-    ensures refused { is_accepted (map string_bytes words.entry.now) ≡ false → IfOk result (λ f. shown_form f ≡ neither) }
-    ensures level { IfOk result (λ f. HasLevel (shown_form f)) }
+    ensures refused { is_accepted (map string_bytes words.entry.now) ≡ false → IfOk result (λ f. form_value f ≡ neither) }
+    ensures level { IfOk result (λ f. HasLevel (form_value f)) }
 {
     let given = read_given(alloc, words)?;
     Ok(judge(given))

@@ -2,7 +2,7 @@
 ghost use Rattle.std.specs.Prelude.{◌≡◌, IfOk, map, option_map, string_bytes};
 ghost use Rattle.clap.specs.Words.{first_of, found_of, rows_of};
 ghost use Rattle.command_line.specs.Words.{given_in, is_set, read};
-ghost use Rattle.command_line.specs.Shown.{Matches, shown_given};
+ghost use Rattle.command_line.specs.FormValues.{Matches, given_value};
 
 use crate::rules::make_command;
 use clap::ArgMatches;
@@ -52,7 +52,7 @@ fn has_flag<'a>(matches: &ArgMatches<'a>, id: &str) -> bool
 }
 
 fn gather<'a>(matches: &ArgMatches<'a>) -> Given<'a>
-    ensures { shown_given result ≡ given_in (rows_of (found_of matches.now)) }
+    ensures { given_value result ≡ given_in (rows_of (found_of matches.now)) }
 {
     Given {
         script: text_of(matches, "script"),
@@ -69,7 +69,7 @@ pub(crate) fn read_given<'a>(
     alloc: Global,
     words: &'a [String],
 ) -> Result<Option<Given<'a>>, Memory>
-    ensures { IfOk result (λ g. option_map shown_given g ≡ read (map string_bytes words.entry.now)) }
+    ensures { IfOk result (λ g. option_map given_value g ≡ read (map string_bytes words.entry.now)) }
 {
     match matches(alloc, words)? {
         Some(matches) => Ok(Some(gather(&matches))),

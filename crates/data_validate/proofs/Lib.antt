@@ -1,4 +1,4 @@
-pub mod Kept
+pub mod RisingTests
 pub mod NotedNodes
-pub mod Rounds
-pub mod Walks
+pub mod BackwardRounds
+pub mod BackwardWalks

@@ -1,6 +1,6 @@
 -- What leads to the members of a set by few edges.
 use Rattle.std.specs.Prelude.{◌≡◌, ℕ, zero, suc, ◌≤◌, ◌⊎◌, ◌&&◌, ◌||◌, not, Bool, List, Option, None, Some, is_some, IsTrue, IsSome}
-use Rattle.px_spec.specs.Members.{has}
+use Rattle.graph_spec.specs.Members.{has}
 
 -- so many edges lead from u to v
 abbrev pub HasWalk : (ℕ → ℕ → Bool) → ℕ → ℕ → ℕ → Type 0

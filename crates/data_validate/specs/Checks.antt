@@ -1,8 +1,8 @@
 -- The answers of a query among some nodes.
 use Rattle.std.specs.Prelude.{ℕ, List, IsTrue}
 use Rattle.std.specs.List.Sorted.{IsStrictlyIncreasing}
-use Rattle.px_spec.specs.Members.{has}
-use Rattle.px_spec.specs.Shapes.{Shape}
+use Rattle.graph_spec.specs.Members.{has}
+use Rattle.graph_spec.specs.Shapes.{Shape}
 use Rattle.branch_query.specs.Queries.{Query, IsQueryAnswer, AreQueryAnswers}
 
 -- the nodes are those of the set that answer the query, each once, in the order of their numbers

@@ -1,6 +1,6 @@
 // What leads to the members of a set by few edges.
 ghost use Rattle.std.specs.Prelude.{◌≡◌, ◌<◌, ◌≤◌, ◌+◌, ◌&&◌, ◌⊎◌, [], ℕ, nat_eq, length, IsTrue, IsFalse, IsSome, IfOk, IfSome, OnOk};
-ghost use Rattle.px_spec.specs.Members.{has};
+ghost use Rattle.graph_spec.specs.Members.{has};
 ghost use Rattle.data_validate.specs.Ancestors.{IsFew, AreAncestors, is_node_of, IsNoted, IsSpread};
 
 use label_graph::Digraph;

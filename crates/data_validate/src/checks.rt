@@ -1,10 +1,10 @@
 // The answers among some candidates.
 ghost use Rattle.std.specs.Prelude.{◌≡◌, ◌<◌, ◌&&◌, ◌||◌, ℕ, length, Some, IfOk, nat_eq};
 ghost use Rattle.std.specs.List.Sorted.{IsStrictlyIncreasing};
-ghost use Rattle.px_spec.specs.Members.{has};
-ghost use Rattle.px_spec.specs.Shapes.{shape_of};
-ghost use Rattle.path_search.specs.Digraphs.{shape_through};
-ghost use Rattle.path_spec.specs.Answers.{IsAnswer};
+ghost use Rattle.graph_spec.specs.Members.{has};
+ghost use Rattle.graph_spec.specs.Shapes.{shape_of};
+ghost use Rattle.path_automaton.specs.Digraphs.{shape_through};
+ghost use Rattle.path_spec.specs.PathAnswers.{IsAnswer};
 ghost use Rattle.path_spec.specs.Matches.{Word, Matches};
 ghost use Rattle.branch_query.specs.Queries.{query_of, IsQueryAnswer};
 ghost use Rattle.data_validate.specs.Checks.{AreAnswersAmong, AreAll, AreAllOf, AreAllIfGiven};

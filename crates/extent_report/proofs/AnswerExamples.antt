@@ -3,7 +3,7 @@ use Rattle.std.proofs.Common.{◌≡◌, [], ◌∷◌, true, false, refl, lit<}
 use Rattle.std.specs.Prelude.{codes}
 use Rattle.std.proofs.lemmas.Fmt.{decimal_digit}
 use Rattle.index_api.specs.declared.answers.How.TheVariants.{Data, Exact, Checked}
-use Rattle.extent_report.specs.Answers.{answer_text}
+use Rattle.extent_report.specs.PrintedAnswers.{answer_text}
 
 -- where there are no answers, no second line follows
 no_answers : answer_text Data true [] ≡ codes "answers 0\n"

@@ -2,16 +2,16 @@
 use Rattle.std.proofs.Common.{◌≡◌, ℕ, true, false, List, [], ◌∷◌, refl, Option, None, Some}
 use Rattle.std.specs.Prelude.{codes, slice_get, option_and_then}
 use Rattle.std.specs.Fmt.{digits}
-use Rattle.px_spec.specs.Shapes.{Shape}
+use Rattle.graph_spec.specs.Shapes.{Shape}
 use Rattle.bisim_spec.specs.Tests.{bis, bisim, fb}
-use Rattle.bisim_spec.proofs.Drawn.{drawn}
+use Rattle.bisim_spec.proofs.WrittenShapes.{shape_of_list}
 use Rattle.index_api.specs.declared.kinds.Via.TheVariants.{A, One}
-use Rattle.extent_report.specs.ListedBlocks.{is_first, block_total, joined_total, extents_text, head_line, size_line}
+use Rattle.extent_report.specs.ListedBlocks.{is_first, block_total, adjacent_total, extents_text, head_line, size_line}
 
 -- a -> b, and an a by itself
 
 abbrev lone : Shape
-lone = drawn (codes "a" ∷ codes "b" ∷ codes "a" ∷ []) ((0, 1) ∷ [])
+lone = shape_of_list (codes "a" ∷ codes "b" ∷ codes "a" ∷ []) ((0, 1) ∷ [])
 
 lone_text : extents_text lone (bis lone 2) ≡ codes "blocks 2\na n0 n2\nb n1\n"
 unfolding digits
@@ -27,7 +27,7 @@ lone_both_ways : extents_text lone (fb lone) ≡ codes "blocks 3\na n0\nb n1\na 
 unfolding digits
 lone_both_ways = refl
 
-lone_size : size_line (A 2) (block_total lone (bis lone 2)) (joined_total lone (bis lone 2)) ≡ codes "a2 blocks 2 edges 1\n"
+lone_size : size_line (A 2) (block_total lone (bis lone 2)) (adjacent_total lone (bis lone 2)) ≡ codes "a2 blocks 2 edges 1\n"
 unfolding digits
 lone_size = refl
 
@@ -35,7 +35,7 @@ lone_size = refl
 
 abbrev hung : Shape
 hung =
-    drawn (codes "a" ∷ codes "b" ∷ codes "c" ∷ codes "a" ∷ codes "b" ∷ codes "c" ∷ codes "x" ∷ [])
+    shape_of_list (codes "a" ∷ codes "b" ∷ codes "c" ∷ codes "a" ∷ codes "b" ∷ codes "c" ∷ codes "x" ∷ [])
     ((0, 1) ∷ (1, 2) ∷ (3, 4) ∷ (4, 5) ∷ (6, 3) ∷ [])
 
 hung_text : extents_text hung (bis hung 2) ≡ codes "blocks 6\na n0\nb n1\nc n2 n5\na n3\nb n4\nx n6\n"
@@ -47,7 +47,7 @@ unfolding digits
 hung_labels = refl
 
 -- no node
-nothing_text : extents_text (drawn [] []) (bis (drawn [] []) 1) ≡ codes "blocks 0\n"
+nothing_text : extents_text (shape_of_list [] []) (bis (shape_of_list [] []) 1) ≡ codes "blocks 0\n"
 unfolding digits
 nothing_text = refl
 
@@ -74,17 +74,17 @@ people_labels =
     codes "person" ∷ codes "person" ∷ codes "person" ∷ codes "name" ∷ codes "name" ∷ codes "name" ∷ codes "mbox" ∷ []
 
 abbrev people : Shape
-people = drawn people_labels ((0, 1) ∷ (1, 2) ∷ (2, 1) ∷ (0, 3) ∷ (1, 4) ∷ (2, 5) ∷ (0, 6) ∷ [])
+people = shape_of_list people_labels ((0, 1) ∷ (1, 2) ∷ (2, 1) ∷ (0, 3) ∷ (1, 4) ∷ (2, 5) ∷ (0, 6) ∷ [])
 
-people_labels_size : size_line (A 0) (block_total people (bis people 0)) (joined_total people (bis people 0)) ≡ codes "a0 blocks 3 edges 3\n"
+people_labels_size : size_line (A 0) (block_total people (bis people 0)) (adjacent_total people (bis people 0)) ≡ codes "a0 blocks 3 edges 3\n"
 unfolding digits
 people_labels_size = refl
 
-people_first_size : size_line (A 1) (block_total people (bis people 1)) (joined_total people (bis people 1)) ≡ codes "a1 blocks 4 edges 5\n"
+people_first_size : size_line (A 1) (block_total people (bis people 1)) (adjacent_total people (bis people 1)) ≡ codes "a1 blocks 4 edges 5\n"
 unfolding digits
 people_first_size = refl
 
-people_full_size : size_line One (block_total people (bisim people)) (joined_total people (bisim people)) ≡ codes "one blocks 7 edges 7\n"
+people_full_size : size_line One (block_total people (bisim people)) (adjacent_total people (bisim people)) ≡ codes "one blocks 7 edges 7\n"
 unfolding digits
 people_full_size = refl
 

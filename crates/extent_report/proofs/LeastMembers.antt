@@ -4,20 +4,20 @@ use Rattle.std.specs.Prelude.{nat_eq, option_and_then}
 use Rattle.std.specs.List.Sorted.{IsStrictlyIncreasing}
 use Rattle.std.proofs.lemmas.Bool.{or_left, cases_lt, cases_Bool}
 use Rattle.std.proofs.lemmas.Bool.Decides.{eqb_tells}
-use Rattle.px_spec.specs.Words.{node_word}
-use Rattle.px_spec.specs.Members.{at, has, is_this}
-use Rattle.block_partition.specs.Partitions.{Partition, is_member}
+use Rattle.graph_spec.specs.Words.{node_word}
+use Rattle.graph_spec.specs.Members.{at, has, is_this}
+use Rattle.block_partition.specs.LabelledPartitions.{Partition, is_member}
 use Rattle.bisim_spec.specs.Below.{any_below}
 use Rattle.bisim_spec.specs.Tests.{together}
 use Rattle.bisim_spec.proofs.BelowLaws.{any_get, any_from}
 use Rattle.bisim_spec.proofs.Together.{block_below}
 use Rattle.extent_report.specs.ListedBlocks.{texts_below}
-use Rattle.extent_report.specs.Chains.{leads, word_with}
-use Rattle.extent_report.specs.Leads.{is_head, leads_block}
+use Rattle.extent_report.specs.MemberChains.{is_first_member, word_with}
+use Rattle.extent_report.specs.FirstMembers.{is_head, first_member_block}
 use Rattle.extent_report.proofs.Chained.{with_is_of}
-use Rattle.extent_report.proofs.Texts.{any_same}
+use Rattle.extent_report.proofs.NumberedTexts.{any_same}
 use Rattle.extent_report.proofs.NodeWords.{led_block}
-use Rattle.px_spec.proofs.MemberLaws.{has_push}
+use Rattle.graph_spec.proofs.MemberLaws.{has_push}
 use Rattle.extent_report.proofs.RisingLists.{texts_listed, flat_same, none_before}
 use Rattle.std.specs.List.{flat_map, list_any}
 
@@ -66,7 +66,7 @@ head_least q (x ∷ xs) r h n = elim (eqb_tells n x) [
 
 -- the first of a block's members is the block's least one
 pub least_is : (p : Partition) (b : ℕ) (members shown : List ℕ) → is_some (at p.labels b) ≡ true → IsStrictlyIncreasing members
-    → ((k : ℕ) → has members k ≡ is_member p b k) → shown ≡ members → (n : ℕ) → is_head shown n ≡ leads_block p b n
+    → ((k : ℕ) → has members k ≡ is_member p b k) → shown ≡ members → (n : ℕ) → is_head shown n ≡ first_member_block p b n
 least_is p b members shown live rising same is n =
     ap (λ l. is_head l n) is ∙ head_least (is_member p b) members rising same n
     ∙ ap (λ t. t && (is_member p b n && not (any_below n (is_member p b)))) (sym live)
@@ -99,14 +99,14 @@ and_same : (a b : Bool) → (a && (a && b)) ≡ (a && b)
 and_same true b = refl
 and_same false b = refl
 
--- a node leads its block exactly where it is the least member of some block
-pub leads_some : (p : Partition) (live : List ℕ) (n : ℕ) → ((b : ℕ) → has live b ≡ is_some (at p.labels b)) → list_any (λ b. leads_block p b n) live ≡ leads p n
-leads_some p live n all = by (at p.block_of n) refl
+-- a node are first its block exactly where it is the least member of some block
+pub first_member_some : (p : Partition) (live : List ℕ) (n : ℕ) → ((b : ℕ) → has live b ≡ is_some (at p.labels b)) → list_any (λ b. first_member_block p b n) live ≡ is_first_member p n
+first_member_some p live n all = by (at p.block_of n) refl
   where
     rest : ℕ → Bool
     rest b = not (any_below n (is_member p b))
 
-    block_at : (b : ℕ) (o : Option ℕ) → at p.block_of n ≡ o → leads_block p b n ≡ (is_some (at p.labels b) && (is_this b o && rest b))
+    block_at : (b : ℕ) (o : Option ℕ) → at p.block_of n ≡ o → first_member_block p b n ≡ (is_some (at p.labels b) && (is_this b o && rest b))
     block_at b o e = ap (λ m. is_some (at p.labels b) && (is_this b m && rest b)) e
 
     no_block : (b : ℕ) (t : Bool) → t ≡ false → (is_some (at p.labels b) && (t && rest b)) ≡ false
@@ -115,24 +115,24 @@ leads_some p live n all = by (at p.block_of n) refl
     own_block : (c : ℕ) (t : Bool) → t ≡ true → (is_some (at p.labels c) && (t && rest c)) ≡ (is_some (at p.labels c) && rest c)
     own_block c t e = ap (λ m. is_some (at p.labels c) && (m && rest c)) e
 
-    leads_at : (o : Option ℕ) → at p.block_of n ≡ o → leads p n ≡ (is_some (option_and_then (at p.labels) o) && not (any_below n (together p.block_of n)))
-    leads_at o e = ap (λ m. is_some (option_and_then (at p.labels) m) && not (any_below n (together p.block_of n))) e
+    first_member_at : (o : Option ℕ) → at p.block_of n ≡ o → is_first_member p n ≡ (is_some (option_and_then (at p.labels) o) && not (any_below n (together p.block_of n)))
+    first_member_at o e = ap (λ m. is_some (option_and_then (at p.labels) m) && not (any_below n (together p.block_of n))) e
 
-    by : (o : Option ℕ) → at p.block_of n ≡ o → list_any (λ b. leads_block p b n) live ≡ leads p n
-    by None e = none_any live (λ b. leads_block p b n) (λ b. block_at b None e ∙ no_block b false refl) ∙ sym (leads_at None e)
+    by : (o : Option ℕ) → at p.block_of n ≡ o → list_any (λ b. first_member_block p b n) live ≡ is_first_member p n
+    by None e = none_any live (λ b. first_member_block p b n) (λ b. block_at b None e ∙ no_block b false refl) ∙ sym (first_member_at None e)
     by (Some c) e =
         let apart : (b : ℕ) → b ≢ c → nat_eq b c ≡ false = λ b d. elim (eqb_tells b c) [ inl s ↦ absurd (d s.1) | inr a ↦ a.0 ] in
         let same : nat_eq c c ≡ true = elim (eqb_tells c c) [ inl s ↦ s.0 | inr a ↦ absurd (a.1 refl) ] in
         let equal : any_below n (is_member p c) ≡ any_below n (together p.block_of n) = any_same n (is_member p c) (together p.block_of n) (λ k _. sym (with_is_of p.block_of n c k e)) in
-        any_only live c (λ b. leads_block p b n) (λ b d. block_at b (Some c) e ∙ no_block b (nat_eq b c) (apart b d))
-        ∙ ap (λ m. m && leads_block p c n) (all c)
+        any_only live c (λ b. first_member_block p b n) (λ b d. block_at b (Some c) e ∙ no_block b (nat_eq b c) (apart b d))
+        ∙ ap (λ m. m && first_member_block p c n) (all c)
         ∙ ap (λ m. is_some (at p.labels c) && m) (block_at c (Some c) e ∙ own_block c (nat_eq c c) same)
         ∙ and_same (is_some (at p.labels c)) (rest c)
         ∙ ap (λ m. is_some (at p.labels c) && not m) equal
-        ∙ sym (leads_at (Some c) e)
+        ∙ sym (first_member_at (Some c) e)
 
--- a node that leads its block has a number that was given
-pub led_below : (p : Partition) (n : ℕ) → leads p n ≡ true → n < length p.block_of
+-- a node that are first its block has a number that was given
+pub led_below : (p : Partition) (n : ℕ) → is_first_member p n ≡ true → n < length p.block_of
 led_below p n h = block_below p.block_of n (led_block p n h)
 
 -- the members of the block of a node, as they are written

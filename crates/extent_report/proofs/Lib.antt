@@ -2,12 +2,12 @@ pub mod Examples
 pub mod NodeTextLemmas
 pub mod AnswerExamples
 mod Chained
-mod Texts
+mod NumberedTexts
 mod NodeWords
 mod Summed
 mod RisingLists
 mod LeastMembers
-pub mod Alike
-mod Listed
+pub mod AgreeingShapes
+mod ListedSummaries
 mod PairCounts
 mod Sized

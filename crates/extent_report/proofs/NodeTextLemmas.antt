@@ -6,8 +6,8 @@ use Rattle.std.specs.List.Sorted.{IsStrictlyIncreasing}
 use Rattle.std.proofs.lemmas.Bool.Decides.{nat_tests}
 use Rattle.std.proofs.lemmas.List.Elements.{recursion_from_All}
 use Rattle.std.proofs.lemmas.List.Kept.{AllPairs-from_increasing}
-use Rattle.px_spec.specs.Words.{node_word}
-use Rattle.extent_report.specs.Answers.{nodes_line}
+use Rattle.graph_spec.specs.Words.{node_word}
+use Rattle.extent_report.specs.PrintedAnswers.{nodes_line}
 use Rattle.extent_report.specs.NodeTexts.{members_from, others_text}
 
 -- each number is below all later ones
@@ -72,9 +72,9 @@ others_end members m e = ended (members_from members m) e
     ended [] e = refl
     ended (x ∷ xs) e = cc
 
-joined : (n : ℕ) (ns : List ℕ) → join_with_byte 32 (map node_word (n ∷ ns)) ≡ node_word n ++ others_text ns
-joined n [] = sym (append-nil (node_word n))
-joined n (m ∷ ns) = ap (λ t. node_word n ++ (32 ∷ t)) (joined m ns)
+adjacent : (n : ℕ) (ns : List ℕ) → join_with_byte 32 (map node_word (n ∷ ns)) ≡ node_word n ++ others_text ns
+adjacent n [] = sym (append-nil (node_word n))
+adjacent n (m ∷ ns) = ap (λ t. node_word n ++ (32 ∷ t)) (adjacent m ns)
 
 from_zero : (xs : List ℕ) → members_from xs 0 ≡ xs
 from_zero [] = refl
@@ -90,4 +90,4 @@ line_by_first members inc n e =
     let b = begins (members_from members 0) n e in
     let whole : members ≡ n ∷ b.0 = sym (from_zero members) ∙ b.1 in
     let rest : members_from members (n + 1) ≡ b.0 = next members (rises members (AllPairs-from_increasing members inc)) 0 n b.0 b.1 in
-    ap nodes_line whole ∙ ap (λ t. t ++ 10 ∷ []) (joined n b.0) ∙ ap (λ r. (node_word n ++ others_text r) ++ 10 ∷ []) (sym rest)
+    ap nodes_line whole ∙ ap (λ t. t ++ 10 ∷ []) (adjacent n b.0) ∙ ap (λ r. (node_word n ++ others_text r) ++ 10 ∷ []) (sym rest)

@@ -2,9 +2,9 @@
 use Rattle.std.proofs.Common.{◌≡◌, ℕ, ◌+◌, ◌<◌, List, [], ◌∷◌, ◌++◌, length, Option, Some, None, IsSome, is_some, refl, sym, ◌∙◌, ap, arith, inl, inr, true, false, not, true≢false}
 use Rattle.std.specs.Prelude.{option_and_then}
 use Rattle.std.proofs.lemmas.Bool.{and_parts, not-true}
-use Rattle.px_spec.specs.Words.{node_word}
-use Rattle.px_spec.specs.Members.{at}
-use Rattle.block_partition.specs.Partitions.{Partition}
+use Rattle.graph_spec.specs.Words.{node_word}
+use Rattle.graph_spec.specs.Members.{at}
+use Rattle.block_partition.specs.LabelledPartitions.{Partition}
 use Rattle.bisim_spec.specs.Below.{any_below}
 use Rattle.bisim_spec.specs.Partitions.{Together}
 use Rattle.bisim_spec.specs.Tests.{same_block, together}
@@ -14,8 +14,8 @@ use Rattle.bisim_spec.proofs.Together.{block_below}
 use Rattle.bisim_spec.proofs.StabilityTests.{together_decides}
 use Rattle.extent_report.specs.ListedBlocks.{texts_below}
 use Rattle.extent_report.specs.Summaries.{label_at}
-use Rattle.extent_report.specs.Chains.{IsLeastFrom, leads, word_with}
-use Rattle.extent_report.proofs.Texts.{texts_past, texts_more}
+use Rattle.extent_report.specs.MemberChains.{IsLeastFrom, is_first_member, word_with}
+use Rattle.extent_report.proofs.NumberedTexts.{texts_past, texts_more}
 
 -- nodes in one block
 pub in_one : (block : List (Option ℕ)) (u v : ℕ) → together block u v ≡ true → at block v ≡ at block u
@@ -59,17 +59,17 @@ word_end block first last h l =
     let within = block_below block last (second_live block first last h) in
     texts_past (last + 1) (length block) (word_with block first) (omega (arith, within)) (λ k a b. silent block first k (sym (row_same block first last k h) ∙ l k a))
 
--- the first node, which leads the others
-pub led_block : (p : Partition) (n : ℕ) → leads p n ≡ true → IsSome (at p.block_of n)
+-- the first node, which are first the others
+pub led_block : (p : Partition) (n : ℕ) → is_first_member p n ≡ true → IsSome (at p.block_of n)
 led_block p n h = elim (none_or_some (at p.block_of n)) [
   | inl none ↦ absurd (true≢false (sym (and_parts (is_some (label_at p n)) (not (any_below n (together p.block_of n))) h).0 ∙ ap (λ o. is_some (option_and_then (at p.labels) o)) none))
   | inr (b, e) ↦ is_some_at (at p.block_of n) b e
 ]
 
-pub with_itself : (p : Partition) (n : ℕ) → leads p n ≡ true → together p.block_of n n ≡ true
+pub with_itself : (p : Partition) (n : ℕ) → is_first_member p n ≡ true → together p.block_of n n ≡ true
 with_itself p n h = let b = some_of (at p.block_of n) (led_block p n h) in (together_decides p.block_of n n).1 (b.0, b.1, b.1)
 
-pub word_first : (p : Partition) (n : ℕ) → leads p n ≡ true → texts_below (n + 1) (word_with p.block_of n) ≡ 32 ∷ node_word n
+pub word_first : (p : Partition) (n : ℕ) → is_first_member p n ≡ true → texts_below (n + 1) (word_with p.block_of n) ≡ 32 ∷ node_word n
 word_first p n h =
     let f = word_with p.block_of n in
     let alone = not-true (any_below n (together p.block_of n)) (and_parts (is_some (label_at p n)) (not (any_below n (together p.block_of n))) h).1 in

@@ -8,11 +8,11 @@ use Rattle.std.proofs.lemmas.Cmp.{eq_by_cmp_equiv}
 use Rattle.std.proofs.lemmas.Bool.{cases_lt, cases_Bool, and_parts, or_left}
 use Rattle.std.proofs.lemmas.Bool.Decides.{eqb_tells}
 use Rattle.std.proofs.lemmas.List.Sums.{sum_by-cons}
-use Rattle.px_spec.specs.Graphs.{edge_cmp}
-use Rattle.px_spec.proofs.EdgeOrder.{edge_cmp_total, edge_cmp-IsAntisymmetric, eq_pair}
-use Rattle.px_spec.specs.Members.{at}
+use Rattle.graph_spec.specs.Graphs.{edge_cmp}
+use Rattle.graph_spec.proofs.EdgeOrder.{edge_cmp_total, edge_cmp-IsAntisymmetric, eq_pair}
+use Rattle.graph_spec.specs.Members.{at}
 use Rattle.bisim_spec.specs.Below.{count_below}
-use Rattle.bisim_spec.specs.Views.{SupportTable, support_at}
+use Rattle.bisim_spec.specs.IndexGraphs.{SupportTable, support_at}
 use Rattle.bisim_spec.proofs.BelowLaws.{bit_of, count_same}
 use Rattle.extent_report.specs.ListedBlocks.{pairs_below}
 

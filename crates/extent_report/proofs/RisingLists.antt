@@ -11,13 +11,13 @@ use Rattle.std.proofs.lemmas.Bool.Decides.{Decides-eqb}
 use Rattle.std.proofs.lemmas.List.{take_more}
 use Rattle.std.proofs.lemmas.Grind.{flat_map-append}
 use Rattle.std.proofs.lemmas.Map.Keys.{sorted_from_strictly_increasing}
-use Rattle.px_spec.specs.Members.{has}
-use Rattle.px_spec.proofs.MemberLaws.{or_false, has_cases, has_head, has_tail}
+use Rattle.graph_spec.specs.Members.{has}
+use Rattle.graph_spec.proofs.MemberLaws.{or_false, has_cases, has_head, has_tail}
 use Rattle.key_table.proofs.RisingSets.{below_rest}
 use Rattle.bisim_spec.specs.Below.{count_below}
 use Rattle.bisim_spec.proofs.BelowLaws.{bit_of}
 use Rattle.extent_report.specs.ListedBlocks.{texts_below}
-use Rattle.extent_report.proofs.Texts.{texts_past, texts_more, count_past, count_more}
+use Rattle.extent_report.proofs.NumberedTexts.{texts_past, texts_more, count_past, count_more}
 
 -- a number that goes from one list to another
 pub moved_over : (e r s t : Bool) → ((e || r) || s) ≡ t → (r || (s || e)) ≡ t

@@ -2,16 +2,16 @@
 use Rattle.std.proofs.Common.{◌≡◌, ℕ, zero, suc, ◌<◌, List, [], ◌∷◌, ◌++◌, length, Option, Some, None, is_some, unwrap_or, refl, sym, ◌∙◌, ap, arith, true, false, Bool, not, ◌&&◌, cond, append_assoc}
 use Rattle.std.specs.Prelude.{codes, decimal, option_and_then, slice_get}
 use Rattle.std.proofs.lemmas.Bool.{and_parts}
-use Rattle.px_spec.specs.Words.{node_word}
-use Rattle.px_spec.specs.Members.{at}
-use Rattle.block_partition.specs.Partitions.{Partition}
+use Rattle.graph_spec.specs.Words.{node_word}
+use Rattle.graph_spec.specs.Members.{at}
+use Rattle.block_partition.specs.LabelledPartitions.{Partition}
 use Rattle.bisim_spec.specs.Below.{any_below, count_below}
 use Rattle.bisim_spec.specs.Tests.{together}
 use Rattle.bisim_spec.proofs.BelowLaws.{count_same}
 use Rattle.extent_report.specs.ListedBlocks.{texts_below, is_related, is_first, block_line, block_total, extents_text}
 use Rattle.extent_report.specs.Summaries.{label_at, shape_of_blocks, LabelsHaveTexts, line_at}
-use Rattle.extent_report.specs.Chains.{leads, word_with}
-use Rattle.extent_report.proofs.Texts.{texts_same, any_same}
+use Rattle.extent_report.specs.MemberChains.{is_first_member, word_with}
+use Rattle.extent_report.proofs.NumberedTexts.{texts_same, any_same}
 use Rattle.extent_report.proofs.NodeWords.{in_one}
 
 there : (texts : List (List ℕ)) (l : ℕ) → l < length texts → is_some (slice_get texts l) ≡ true
@@ -47,8 +47,8 @@ related_is : (texts : List (List ℕ)) (p : Partition) → LabelsHaveTexts texts
 related_is texts p h n m =
     guarded (is_some ((shape_of_blocks texts p).label m)) (is_some (label_at p n)) (together p.block_of n m) (λ t. texted texts p h m ∙ label_with p n m t)
 
--- the first node of a block leads it
-pub first_leads : (texts : List (List ℕ)) (p : Partition) → LabelsHaveTexts texts p → (n : ℕ) → is_first (shape_of_blocks texts p) (together p.block_of) n ≡ leads p n
+-- the first node of a block are first it
+pub first_leads : (texts : List (List ℕ)) (p : Partition) → LabelsHaveTexts texts p → (n : ℕ) → is_first (shape_of_blocks texts p) (together p.block_of) n ≡ is_first_member p n
 first_leads texts p h n =
     ap (λ b. b && not (any_below n (is_related (shape_of_blocks texts p) (together p.block_of) n))) (texted texts p h n)
     ∙ ap (λ b. is_some (label_at p n) && not b) (any_same n (is_related (shape_of_blocks texts p) (together p.block_of) n) (λ m. is_some (label_at p n) && together p.block_of n m) (λ m _. related_is texts p h n m))
@@ -58,11 +58,11 @@ first_leads texts p h n =
     by true = refl
     by false = refl
 
-pub total_led : (texts : List (List ℕ)) (p : Partition) → LabelsHaveTexts texts p → block_total (shape_of_blocks texts p) (together p.block_of) ≡ count_below (length p.block_of) (leads p)
-total_led texts p h = count_same (length p.block_of) (is_first (shape_of_blocks texts p) (together p.block_of)) (leads p) (λ n _. first_leads texts p h n)
+pub total_led : (texts : List (List ℕ)) (p : Partition) → LabelsHaveTexts texts p → block_total (shape_of_blocks texts p) (together p.block_of) ≡ count_below (length p.block_of) (is_first_member p)
+total_led texts p h = count_same (length p.block_of) (is_first (shape_of_blocks texts p) (together p.block_of)) (is_first_member p) (λ n _. first_leads texts p h n)
 
 -- the line of a block that is led
-pub line_led : (texts : List (List ℕ)) (p : Partition) → LabelsHaveTexts texts p → (n b l : ℕ) (t : List ℕ) → leads p n ≡ true → at p.block_of n ≡ Some b → at p.labels b ≡ Some l → slice_get texts l ≡ Some t
+pub line_led : (texts : List (List ℕ)) (p : Partition) → LabelsHaveTexts texts p → (n b l : ℕ) (t : List ℕ) → is_first_member p n ≡ true → at p.block_of n ≡ Some b → at p.labels b ≡ Some l → slice_get texts l ≡ Some t
     → block_line (shape_of_blocks texts p) (together p.block_of) n ≡ t ++ texts_below (length p.block_of) (word_with p.block_of n) ++ 10 ∷ []
 line_led texts p h n b l t led e f g =
     let s = shape_of_blocks texts p in
@@ -73,20 +73,20 @@ line_led texts p h n b l t led e f g =
     ∙ ap (λ w. t ++ w ++ 10 ∷ []) (texts_same (length p.block_of) word (word_with p.block_of n) (λ m _.
     ap (λ c. cond c (32 ∷ node_word m) []) (related_is texts p h n m ∙ ap (λ c. c && together p.block_of n m) some)))
 
-pub line_at_led : (texts : List (List ℕ)) (p : Partition) → LabelsHaveTexts texts p → (n : ℕ) → leads p n ≡ true → line_at texts p n ≡ block_line (shape_of_blocks texts p) (together p.block_of) n
+pub line_at_led : (texts : List (List ℕ)) (p : Partition) → LabelsHaveTexts texts p → (n : ℕ) → is_first_member p n ≡ true → line_at texts p n ≡ block_line (shape_of_blocks texts p) (together p.block_of) n
 line_at_led texts p h n led = rw (first_leads texts p h n ∙ led) refl
 
-pub line_at_other : (texts : List (List ℕ)) (p : Partition) → LabelsHaveTexts texts p → (n : ℕ) → leads p n ≡ false → line_at texts p n ≡ []
+pub line_at_other : (texts : List (List ℕ)) (p : Partition) → LabelsHaveTexts texts p → (n : ℕ) → is_first_member p n ≡ false → line_at texts p n ≡ []
 line_at_other texts p h n led = rw (first_leads texts p h n ∙ led) refl
 
 -- the text, written by blocks that are led
 pub text_led : (texts : List (List ℕ)) (p : Partition) → LabelsHaveTexts texts p
     → extents_text (shape_of_blocks texts p) (together p.block_of)
-    ≡ codes "blocks " ++ decimal (count_below (length p.block_of) (leads p)) ++ 10 ∷ texts_below (length p.block_of) (line_at texts p)
+    ≡ codes "blocks " ++ decimal (count_below (length p.block_of) (is_first_member p)) ++ 10 ∷ texts_below (length p.block_of) (line_at texts p)
 text_led texts p h = ap (λ n. codes "blocks " ++ decimal n ++ 10 ∷ texts_below (length p.block_of) (line_at texts p)) (total_led texts p h)
 
 -- what was written, first the number of blocks and then their lines
-pub gathered : (texts : List (List ℕ)) (p : Partition) → LabelsHaveTexts texts p → (n : ℕ) (a b z : List ℕ) → n ≡ count_below (length p.block_of) (leads p)
+pub gathered : (texts : List (List ℕ)) (p : Partition) → LabelsHaveTexts texts p → (n : ℕ) (a b z : List ℕ) → n ≡ count_below (length p.block_of) (is_first_member p)
     → a ≡ [] → b ≡ a ++ (codes "blocks " ++ decimal n ++ 10 ∷ []) → z ≡ b ++ texts_below (length p.block_of) (line_at texts p)
     → z ≡ extents_text (shape_of_blocks texts p) (together p.block_of)
 gathered texts p h n a b z count empty first rest =

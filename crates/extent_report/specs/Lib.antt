@@ -1,7 +1,7 @@
 pub mod ListedBlocks
-pub mod Answers
+pub mod PrintedAnswers
 pub mod NodeTexts
 pub mod Summaries
-pub mod Chains
-pub mod Leads
-pub mod Shown
+pub mod MemberChains
+pub mod FirstMembers
+pub mod PrintedLists

@@ -1,7 +1,7 @@
 -- The blocks of a relation on the nodes of a graph, as they are printed. Each printed line ends with LF (10).
 use Rattle.std.specs.Prelude.{ℕ, zero, suc, ◌+◌, ◌∷◌, ◌++◌, ◌&&◌, not, Bool, List, [], is_some, unwrap_or, if◌then◌else◌, codes, decimal, Decides}
-use Rattle.px_spec.specs.Shapes.{Shape}
-use Rattle.px_spec.specs.Words.{node_word}
+use Rattle.graph_spec.specs.Shapes.{Shape}
+use Rattle.graph_spec.specs.Words.{node_word}
 use Rattle.index_api.specs.declared.kinds.Via.{Via}
 use Rattle.index_api.specs.Spelling.{via_word}
 use Rattle.bisim_spec.specs.Below.{any_below, count_below}
@@ -45,13 +45,13 @@ abbrev pub extents_text : Shape → (ℕ → ℕ → Bool) → List ℕ
 extents_text s r =
     codes "blocks " ++ decimal (block_total s r) ++ 10 ∷ texts_below s.size (λ n. if is_first s r n then block_line s r n else [])
 
--- whether an edge leads from a node of the block of u to a node of the block of v
-abbrev pub are_joined : Shape → (ℕ → ℕ → Bool) → ℕ → ℕ → Bool
-are_joined s r u v = any_below s.size (λ x. is_related s r u x && any_below s.size (λ y. is_related s r v y && s.edge x y))
+-- whether an edge are first from a node of the block of u to a node of the block of v
+abbrev pub are_adjacent : Shape → (ℕ → ℕ → Bool) → ℕ → ℕ → Bool
+are_adjacent s r u v = any_below s.size (λ x. is_related s r u x && any_below s.size (λ y. is_related s r v y && s.edge x y))
 
--- how many pairs of blocks are joined, each block by its first node
-abbrev pub joined_total : Shape → (ℕ → ℕ → Bool) → ℕ
-joined_total s r = pairs_below s.size s.size (λ u v. is_first s r u && (is_first s r v && are_joined s r u v))
+-- how many pairs of blocks are adjacent, each block by its first node
+abbrev pub adjacent_total : Shape → (ℕ → ℕ → Bool) → ℕ
+adjacent_total s r = pairs_below s.size s.size (λ u v. is_first s r u && (is_first s r v && are_adjacent s r u v))
 
 -- how many nodes and edges a graph has
 abbrev pub head_line : ℕ → ℕ → List ℕ

@@ -1,6 +1,6 @@
 -- The texts of nodes that are listed from some number on.
 use Rattle.std.specs.Prelude.{ℕ, List, [], ◌∷◌, ◌++◌, filter, nat_le}
-use Rattle.px_spec.specs.Words.{node_word}
+use Rattle.graph_spec.specs.Words.{node_word}
 
 abbrev pub members_from : List ℕ → ℕ → List ℕ
 members_from members from = filter (λ m. nat_le from m) members

@@ -1,14 +1,14 @@
 -- What a summary alone says of the lists that are printed.
 use Rattle.std.specs.Prelude.{◌≡◌, ℕ, ◌<◌, Bool, false, List, length, Option, Some, IsTrue, [], if◌then◌else◌, option_and_then}
-use Rattle.px_spec.specs.Graphs.{Graph}
-use Rattle.px_spec.specs.Shapes.{Shape, shape_of, shape_by}
-use Rattle.px_spec.specs.Members.{at}
-use Rattle.block_partition.specs.Partitions.{Partition}
+use Rattle.graph_spec.specs.Graphs.{Graph}
+use Rattle.graph_spec.specs.Shapes.{Shape, shape_of, shape_by}
+use Rattle.graph_spec.specs.Members.{at}
+use Rattle.block_partition.specs.LabelledPartitions.{Partition}
 use Rattle.bisim_spec.specs.Partitions.{Agrees}
 use Rattle.bisim_spec.specs.Tests.{together}
-use Rattle.bisim_spec.specs.Views.{ViewFits}
+use Rattle.bisim_spec.specs.IndexGraphs.{ViewFits}
 use Rattle.quotient.specs.Quotients.{Quotient, view_of}
-use Rattle.extent_report.specs.ListedBlocks.{is_first, block_line, extents_text, size_line, block_total, joined_total}
+use Rattle.extent_report.specs.ListedBlocks.{is_first, block_line, extents_text, size_line, block_total, adjacent_total}
 use Rattle.index_api.specs.declared.kinds.Via.{Via}
 
 -- the number of the label of a node's block
@@ -43,4 +43,4 @@ ListsBlocks texts q text = (g : Graph) (r : ℕ → ℕ → Bool) → IsSummaryO
 -- The line says how many blocks the relation has, and how many pairs of them an edge joins: whatever graph and relation the summary is of.
 abbrev pub CountsBlocks : Via → Quotient → List ℕ → Type 0
 CountsBlocks via q line =
-    (g : Graph) (r : ℕ → ℕ → Bool) → IsSummaryOf g r q → line ≡ size_line via (block_total (shape_of g) r) (joined_total (shape_of g) r)
+    (g : Graph) (r : ℕ → ℕ → Bool) → IsSummaryOf g r q → line ≡ size_line via (block_total (shape_of g) r) (adjacent_total (shape_of g) r)

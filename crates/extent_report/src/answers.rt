@@ -1,7 +1,7 @@
 // The answer of a query, as it is printed.
 ghost use Rattle.std.specs.Prelude.{◌≡◌, ◌<◌, ◌++◌, ◌+◌, OnOk, IfOk, codes, decimal, string_bytes};
-ghost use Rattle.extent_report.specs.Answers as printed;
-ghost use Rattle.extent_report.specs.Answers.{how_text, answer_line, nodes_line};
+ghost use Rattle.extent_report.specs.PrintedAnswers as printed;
+ghost use Rattle.extent_report.specs.PrintedAnswers.{how_text, answer_line, nodes_line};
 ghost use Rattle.extent_report.specs.NodeTexts.{members_from, others_text};
 
 use crate::output::{end_line, push_node, push_number};

@@ -1,12 +1,12 @@
 // The members of the blocks, as they are printed.
 ghost use Rattle.std.specs.Prelude.{◌≡◌, ◌++◌, true, Some, IsSome, OnOk, IfOk, length, string_bytes};
-ghost use Rattle.px_spec.specs.Members.{at};
+ghost use Rattle.graph_spec.specs.Members.{at};
 ghost use Rattle.bisim_spec.specs.Tests.{together};
 ghost use Rattle.bisim_spec.specs.Below.{count_below};
 ghost use Rattle.extent_report.specs.ListedBlocks as printed;
 ghost use Rattle.extent_report.specs.ListedBlocks.{texts_below};
 ghost use Rattle.extent_report.specs.Summaries.{shape_of_blocks, LabelsHaveTexts, ListsBlocks, line_of, line_at};
-ghost use Rattle.extent_report.specs.Chains.{leads, word_with};
+ghost use Rattle.extent_report.specs.MemberChains.{is_first_member, word_with};
 
 use crate::chains::Chains;
 use crate::gathered::text_by_members;
@@ -18,7 +18,7 @@ use std::alloc::Global;
 
 // Appends the nodes of a block from its first one on.
 fn push_nodes(out: &mut String, chains: &Chains<'_>, first: NodeId) -> Result<(), Memory>
-    requires { leads chains.now first ≡ true }
+    requires { is_first_member chains.now first ≡ true }
     ensures { OnOk result (string_bytes out.new ≡ string_bytes out.old ++ texts_below (length chains.now.block_of) (word_with chains.now.block_of first)) }
 {
     push_node(out, first)?;
@@ -38,7 +38,7 @@ fn push_block(
     b: u32,
     first: NodeId,
 ) -> Result<(), Memory>
-    requires leads { leads chains.now first ≡ true }
+    requires is_first_member { is_first_member chains.now first ≡ true }
     requires block { at chains.now.block_of first ≡ Some b }
     requires live { IsSome (at chains.now.labels b) }
     requires labelled { LabelsHaveTexts labels.now.texts chains.now }
@@ -75,7 +75,7 @@ fn push_blocks(out: &mut String, chains: &Chains<'_>, labels: &Labels) -> Result
 
 // How many blocks have a first node.
 fn count_led(chains: &Chains<'_>) -> u32
-    ensures { result ≡ count_below (length chains.now.block_of) (leads chains.now) }
+    ensures { result ≡ count_below (length chains.now.block_of) (is_first_member chains.now) }
 {
     let mut count = 0;
     for n in 0..chains.numbers() {
@@ -98,7 +98,7 @@ fn text_by_chains(alloc: Global, summary: &Summary, labels: &Labels) -> Result<T
     Ok(Text::from_string(out))
 }
 
-// Whether fewer than half of the node numbers that were given are those of members.
+// Whether fewer than half of the node numbers that were allocated are those of members.
 fn is_sparse(summary: &Summary) -> bool {
     let mut members: u64 = 0;
     for b in summary.live() {
@@ -122,7 +122,7 @@ fn text_of(alloc: Global, summary: &Summary, labels: &Labels) -> Result<Text, Me
 /// members, with its label and its members, rising, as in `a n0 n2`. Each line ends with LF. A block
 /// without members has no line.
 ///
-/// O(m + s + t) for m members, block numbers below s and t bytes of text where at least half of the node numbers that were given are
+/// O(m + s + t) for m members, block numbers below s and t bytes of text where at least half of the node numbers that were allocated are
 /// those of members, since there is no sort then; it takes 8 bytes for each of these node numbers and block numbers, plus the text.
 /// Else the members are sorted: O(b + m log m + t) for b blocks, however many blocks there once were; where each block has a member, as
 /// those of an index have, that is O(m log m + t). It takes 4 to 8 bytes for each block and for each member of the largest one, plus

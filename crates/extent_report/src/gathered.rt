@@ -1,14 +1,14 @@
 // The lists of the blocks by their members alone, for a graph of whose node numbers few are left.
 ghost use Rattle.std.specs.Prelude.{◌≡◌, ◌++◌, ◌∷◌, ℕ, true, IfOk, OnOk, length, string_bytes};
 ghost use Rattle.std.specs.List.{flat_map};
-ghost use Rattle.px_spec.specs.Members.{has};
-ghost use Rattle.px_spec.specs.Words.{node_word};
+ghost use Rattle.graph_spec.specs.Members.{has};
+ghost use Rattle.graph_spec.specs.Words.{node_word};
 ghost use Rattle.bisim_spec.specs.Tests.{together};
 ghost use Rattle.extent_report.specs.ListedBlocks as printed;
 ghost use Rattle.extent_report.specs.Summaries.{shape_of_blocks, LabelsHaveTexts, line_at};
-ghost use Rattle.extent_report.specs.Chains.{leads};
+ghost use Rattle.extent_report.specs.MemberChains.{is_first_member};
 
-use crate::leads::{fill_members, leading_nodes};
+use crate::is_first_member::{fill_members, first_members};
 use crate::output::{end_line, push_count, push_node};
 use label_graph::{Digraph, Labels};
 use px_base::{Memory, NodeId, Text};
@@ -33,7 +33,7 @@ fn push_block(
     labels: &Labels,
     n: NodeId,
 ) -> Result<(), Memory>
-    requires leads { leads summary.now.blocks n ≡ true }
+    requires is_first_member { is_first_member summary.now.blocks n ≡ true }
     requires labelled { LabelsHaveTexts labels.now.texts summary.now.blocks }
     ensures { OnOk result (string_bytes out.new ≡ string_bytes out.old ++ line_at labels.now.texts summary.now.blocks n) }
 {
@@ -56,7 +56,7 @@ fn push_blocks(
     labels: &Labels,
     nodes: &[NodeId],
 ) -> Result<(), Memory>
-    requires leads { (n : ℕ) → has nodes.now n ≡ true → leads summary.now.blocks n ≡ true }
+    requires is_first_member { (n : ℕ) → has nodes.now n ≡ true → is_first_member summary.now.blocks n ≡ true }
     requires labelled { LabelsHaveTexts labels.now.texts summary.now.blocks }
     ensures { OnOk result (string_bytes out.new ≡ string_bytes out.old ++ flat_map (line_at labels.now.texts summary.now.blocks) nodes.now) }
 {
@@ -77,7 +77,7 @@ pub(crate) fn text_by_members(
     ensures { IfOk result (λ t. t ≡ printed.extents_text (shape_of_blocks labels.now.texts summary.now.blocks) (together summary.now.blocks.block_of)) }
 {
     let mut members = Vec::new(alloc);
-    let nodes = leading_nodes(alloc, &mut members, summary)?;
+    let nodes = first_members(alloc, &mut members, summary)?;
     let mut out = String::new(alloc);
     push_count(&mut out, nodes.len() as u64)?;
     push_blocks(&mut out, &mut members, summary, labels, &nodes)?;

@@ -5,7 +5,7 @@ mod answers;
 mod chains;
 mod extents;
 mod gathered;
-mod leads;
+mod is_first_member;
 mod output;
 mod sizes;
 

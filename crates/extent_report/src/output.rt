@@ -1,6 +1,6 @@
 // Pieces of what is printed.
 ghost use Rattle.std.specs.Prelude.{◌≡◌, ◌++◌, ◌∷◌, [], OnOk, codes, decimal, string_bytes};
-ghost use Rattle.px_spec.specs.Words.{node_word};
+ghost use Rattle.graph_spec.specs.Words.{node_word};
 
 use itoa::Buffer;
 use px_base::{Memory, NodeId};

@@ -2,7 +2,7 @@
 ghost use Rattle.std.specs.Prelude.{◌≡◌, ◌≢◌, ◌++◌, ◌∷◌, [], OnOk, IfOk, string_bytes};
 ghost use Rattle.index_api.specs.Spelling.{via_word};
 ghost use Rattle.index_api.specs.declared.kinds.Via.TheVariants.{Data};
-ghost use Rattle.block_partition.specs.Partitions.{block_count};
+ghost use Rattle.block_partition.specs.LabelledPartitions.{block_count};
 ghost use Rattle.quotient.specs.Quotients.{pair_count};
 ghost use Rattle.extent_report.specs.ListedBlocks.{head_line, size_line};
 ghost use Rattle.extent_report.specs.Summaries.{CountsBlocks};

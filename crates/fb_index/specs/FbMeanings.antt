@@ -1,7 +1,7 @@
 -- What the forward and backward index means to those who use it.
 use Rattle.std.specs.Prelude.{Bool, true, false, List, [], ◌∷◌, Option, Some, None, option_map}
 use Rattle.bisim_spec.specs.declared.kind.Kind.TheVariants.{Fb}
-use Rattle.bisim_spec.specs.Views.{View}
+use Rattle.bisim_spec.specs.IndexGraphs.{View}
 use Rattle.quotient.specs.Quotients.{Quotient, view_of}
 use Rattle.index_api.specs.Meanings.{Meaning}
 use Rattle.fb_index.specs.declared.index.FbIndex.{FbIndex}

@@ -6,15 +6,15 @@ use Rattle.std.specs.Map.{keys_of}
 use Rattle.std.proofs.lemmas.List.{length-map, map-append}
 use Rattle.std.proofs.lemmas.List.Folds.{list_any-append}
 use Rattle.std.proofs.lemmas.List.Quantifiers.{position-Some}
-use Rattle.px_spec.specs.declared.limits.Limits.{Limits}
-use Rattle.px_spec.specs.Changes.{node}
+use Rattle.graph_spec.specs.declared.limits.Limits.{Limits}
+use Rattle.graph_spec.specs.Changes.{node}
 use Rattle.triples_read.specs.declared.term.Term.{Term}
 use Rattle.triples_read.specs.declared.term.Triple.{Triple}
 use Rattle.graph_load.specs.declared.known.Key.{Key}
 use Rattle.graph_load.specs.declared.loader.Loader.{Loader}
-use Rattle.graph_load.specs.TripleGraphs.{same_triple, need, changed, then_do, joined, placed, predicate_label, with_triple}
+use Rattle.graph_load.specs.TripleGraphs.{same_triple, need, changed, then_do, linked, placed, predicate_label, with_triple}
 use Rattle.term_table.specs.Terms.{same_term}
-use Rattle.graph_load.specs.Places.{is_key_of, same_key}
+use Rattle.graph_load.specs.TableIndexes.{is_key_of, same_key}
 use Rattle.term_table.specs.Terms.{place_in}
 use Rattle.graph_load.specs.Loaders.{load_state, is_known, Holds, with_new, PointsInto, IsSoundLoader, Grows, LoaderStep, IsStopped, IsTaken, IsUntaken}
 use Rattle.graph_load.proofs.PlaceLaws.{position_append}
@@ -26,7 +26,7 @@ pub taken_known : (limits : Limits) (t : Triple) (r : Loader) → IsSoundLoader 
 taken_known limits t r sound known = record {
   sound = sound;
   does = λ triples holds.
-      ap (λ b. if b then Ok (load_state r triples) else then_do (need limits t.subject (load_state r triples)) (λ a. then_do (placed limits t (length a.graph.given) a) (λ b. Ok (record b { triples = b.triples ++ t ∷ [] })))) (holds t ∙ known)
+      ap (λ b. if b then Ok (load_state r triples) else then_do (need limits t.subject (load_state r triples)) (λ a. then_do (placed limits t (length a.graph.allocated) a) (λ b. Ok (record b { triples = b.triples ++ t ∷ [] })))) (holds t ∙ known)
       ∙ ap (λ ts. Ok (load_state r ts)) (sym (same triples holds));
   holds = λ triples holds. subst (Holds r) (sym (same triples holds)) holds;
 }
@@ -39,8 +39,8 @@ all_push P [] x h q = (q, tt)
 all_push P (y ∷ ys) x h q = (h.0, all_push P ys x h.1 q)
 
 module _ (limits : Limits) (t : Triple) (old : Loader) (unknown : is_known old t ≡ false) where
-  fresh : (triples : List Triple) → Holds old triples → with_triple limits t (load_state old triples) ≡ then_do (need limits t.subject (load_state old triples)) (λ a. then_do (placed limits t (length a.graph.given) a) (λ b. Ok (record b { triples = b.triples ++ t ∷ [] })))
-  fresh triples holds = ap (λ b. if b then Ok (load_state old triples) else then_do (need limits t.subject (load_state old triples)) (λ a. then_do (placed limits t (length a.graph.given) a) (λ b. Ok (record b { triples = b.triples ++ t ∷ [] })))) (holds t ∙ unknown)
+  fresh : (triples : List Triple) → Holds old triples → with_triple limits t (load_state old triples) ≡ then_do (need limits t.subject (load_state old triples)) (λ a. then_do (placed limits t (length a.graph.allocated) a) (λ b. Ok (record b { triples = b.triples ++ t ∷ [] })))
+  fresh triples holds = ap (λ b. if b then Ok (load_state old triples) else then_do (need limits t.subject (load_state old triples)) (λ a. then_do (placed limits t (length a.graph.allocated) a) (λ b. Ok (record b { triples = b.triples ++ t ∷ [] })))) (holds t ∙ unknown)
 
   new_is : (triples : List Triple) → Holds old triples → with_new triples t ≡ triples ++ t ∷ []
   new_is triples holds = ap (λ b. if b then triples else triples ++ t ∷ []) (holds t ∙ unknown)
@@ -48,31 +48,31 @@ module _ (limits : Limits) (t : Triple) (old : Loader) (unknown : is_known old t
   pub untaken_subject : IsStopped (need limits t.subject) old → IsUntaken limits t old
   untaken_subject stop triples holds =
       let s = stop triples in
-      (s.0, fresh triples holds ∙ ap (λ r. then_do r (λ a. then_do (placed limits t (length a.graph.given) a) (λ b. Ok (record b { triples = b.triples ++ t ∷ [] })))) s.1)
+      (s.0, fresh triples holds ∙ ap (λ r. then_do r (λ a. then_do (placed limits t (length a.graph.allocated) a) (λ b. Ok (record b { triples = b.triples ++ t ∷ [] })))) s.1)
 
   module _ (a : Loader) (needs : LoaderStep (need limits t.subject) old a) where
     first : (triples : List Triple) → Holds old triples
-        → with_triple limits t (load_state old triples) ≡ then_do (placed limits t (length a.graph.graph.given) (load_state a triples)) (λ b. Ok (record b { triples = b.triples ++ t ∷ [] }))
-    first triples holds = fresh triples holds ∙ ap (λ r. then_do r (λ a. then_do (placed limits t (length a.graph.given) a) (λ b. Ok (record b { triples = b.triples ++ t ∷ [] })))) (needs.does triples)
+        → with_triple limits t (load_state old triples) ≡ then_do (placed limits t (length a.graph.graph.allocated) (load_state a triples)) (λ b. Ok (record b { triples = b.triples ++ t ∷ [] }))
+    first triples holds = fresh triples holds ∙ ap (λ r. then_do r (λ a. then_do (placed limits t (length a.graph.allocated) a) (λ b. Ok (record b { triples = b.triples ++ t ∷ [] })))) (needs.does triples)
 
     pub untaken_node : IsStopped (changed limits (node (predicate_label t.predicate))) a → IsUntaken limits t old
     untaken_node stop triples holds =
         let s = stop triples in
-        (s.0, first triples holds ∙ ap (λ r. then_do (then_do r (joined limits t.subject (length a.graph.graph.given) t.object)) (λ b. Ok (record b { triples = b.triples ++ t ∷ [] }))) s.1)
+        (s.0, first triples holds ∙ ap (λ r. then_do (then_do r (linked limits t.subject (length a.graph.graph.allocated) t.object)) (λ b. Ok (record b { triples = b.triples ++ t ∷ [] }))) s.1)
 
-    module _ (n : ℕ) (number : n ≡ length a.graph.graph.given) (b : Loader) (adds : LoaderStep (changed limits (node (predicate_label t.predicate))) a b) where
+    module _ (n : ℕ) (number : n ≡ length a.graph.graph.allocated) (b : Loader) (adds : LoaderStep (changed limits (node (predicate_label t.predicate))) a b) where
       second : (triples : List Triple) → Holds old triples
-          → with_triple limits t (load_state old triples) ≡ then_do (joined limits t.subject n t.object (load_state b triples)) (λ b. Ok (record b { triples = b.triples ++ t ∷ [] }))
+          → with_triple limits t (load_state old triples) ≡ then_do (linked limits t.subject n t.object (load_state b triples)) (λ b. Ok (record b { triples = b.triples ++ t ∷ [] }))
       second triples holds =
-          first triples holds ∙ ap (λ r. then_do (then_do r (joined limits t.subject (length a.graph.graph.given) t.object)) (λ b. Ok (record b { triples = b.triples ++ t ∷ [] }))) (adds.does triples)
-          ∙ ap (λ m. then_do (joined limits t.subject m t.object (load_state b triples)) (λ b. Ok (record b { triples = b.triples ++ t ∷ [] }))) (sym number)
+          first triples holds ∙ ap (λ r. then_do (then_do r (linked limits t.subject (length a.graph.graph.allocated) t.object)) (λ b. Ok (record b { triples = b.triples ++ t ∷ [] }))) (adds.does triples)
+          ∙ ap (λ m. then_do (linked limits t.subject m t.object (load_state b triples)) (λ b. Ok (record b { triples = b.triples ++ t ∷ [] }))) (sym number)
 
-      pub untaken_joined : IsStopped (joined limits t.subject n t.object) b → IsUntaken limits t old
-      untaken_joined stop triples holds =
+      pub untaken_linked : IsStopped (linked limits t.subject n t.object) b → IsUntaken limits t old
+      untaken_linked stop triples holds =
           let s = stop triples in
           (s.0, second triples holds ∙ ap (λ r. then_do r (λ b. Ok (record b { triples = b.triples ++ t ∷ [] }))) s.1)
 
-      module _ (c : Loader) (joins : LoaderStep (joined limits t.subject n t.object) b c) (sound : IsSoundLoader old) where
+      module _ (c : Loader) (joins : LoaderStep (linked limits t.subject n t.object) b c) (sound : IsSoundLoader old) where
         grown : Grows old c
         grown = grows_trans old b c (grows_trans old a b needs.grows adds.grows) joins.grows
 
@@ -84,7 +84,7 @@ module _ (limits : Limits) (t : Triple) (old : Loader) (unknown : is_known old t
             → place_in c.terms t.object ≡ Some key.object → known ≡ c.known ++ key ∷ [] → IsTaken limits t old (record c { known = known })
         taken_new key known s p o added = record {
           sound = record {
-            room = joins.sound.room;
+            reserved = joins.sound.reserved;
             terms = joins.sound.terms;
             predicates = joins.sound.predicates;
             known = subst (AllByRecursion (PointsInto (length c.terms) (length c.predicates))) (sym added) (all_push (PointsInto (length c.terms) (length c.predicates)) c.known key joins.sound.known within);

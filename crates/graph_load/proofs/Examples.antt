@@ -4,13 +4,13 @@ use Rattle.std.specs.Prelude.{codes, nat_lt, if◌then◌else◌}
 use Rattle.std.specs.FinSet as set
 use Rattle.std.proofs.Math.Bool.{or-true}
 use Rattle.std.proofs.Math.Utf8.{encode}
-use Rattle.px_spec.specs.declared.limits.Limits.{Limits}
-use Rattle.px_spec.specs.declared.refusal.Refusal.{Refusal}
-use Rattle.px_spec.specs.declared.refusal.Refusal.TheVariants.{Limit}
-use Rattle.px_spec.specs.ProgramLimits.{program_limits}
-use Rattle.px_spec.specs.Graphs.{Graph, edge_cmp, has_edge}
-use Rattle.px_spec.specs.Changes.{with_edge, edge_fits}
-use Rattle.px_spec.proofs.EdgeOrder.{edge_cmp_total}
+use Rattle.graph_spec.specs.declared.limits.Limits.{Limits}
+use Rattle.graph_spec.specs.declared.refusal.Refusal.{Refusal}
+use Rattle.graph_spec.specs.declared.refusal.Refusal.TheVariants.{Limit}
+use Rattle.graph_spec.specs.ProgramLimits.{program_limits}
+use Rattle.graph_spec.specs.Graphs.{Graph, edge_cmp, has_edge}
+use Rattle.graph_spec.specs.Changes.{with_edge, edge_fits}
+use Rattle.graph_spec.proofs.EdgeOrder.{edge_cmp_total}
 use Rattle.triples_read.specs.Lines.{xsd_string}
 use Rattle.triples_read.specs.declared.term.Term.{Term}
 use Rattle.triples_read.specs.declared.term.Term.TheVariants.{Iri, Blank, Literal}
@@ -30,7 +30,7 @@ one = record { subject = a; predicate = codes "p"; object = b }
 -- the nodes of the triple: its subject, the triple itself, its object
 abbrev nodes : Graph
 nodes = record {
-  given = Some (codes "iri") ∷ Some (predicate_label (codes "p")) ∷ Some (codes "iri") ∷ [];
+  allocated = Some (codes "iri") ∷ Some (predicate_label (codes "p")) ∷ Some (codes "iri") ∷ [];
   edges = set.empty;
   seen = codes "iri" ∷ predicate_label (codes "p") ∷ [];
 }

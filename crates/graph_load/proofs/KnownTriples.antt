@@ -11,7 +11,7 @@ use Rattle.graph_load.specs.declared.known.Key.{Key}
 use Rattle.graph_load.specs.declared.loader.Loader.{Loader}
 use Rattle.graph_load.specs.TripleGraphs.{same_triple}
 use Rattle.term_table.specs.Terms.{same_term}
-use Rattle.graph_load.specs.Places.{stands, is_key_of, same_key}
+use Rattle.graph_load.specs.TableIndexes.{stands, is_key_of, same_key}
 use Rattle.term_table.specs.Terms.{place_in}
 use Rattle.graph_load.specs.Loaders.{is_known, PointsInto, IsSoundLoader, Grows}
 use Rattle.graph_load.proofs.PlaceLaws.{is_at, stands_at, stands_append, stands_same}

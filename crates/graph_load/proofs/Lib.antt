@@ -4,7 +4,7 @@ pub mod SoundSteps
 pub mod EdgeSteps
 pub mod KnownTriples
 pub mod AddTriple
-pub mod Again
+pub mod FoundAgain
 pub mod LineSteps
 pub mod OneOutcome
 mod Examples

@@ -7,8 +7,8 @@ use Rattle.std.proofs.lemmas.List.{drop_more}
 use Rattle.px_base.specs.declared.lines.TheConstants.{LINE_BYTES, GRAPH_BYTES}
 use Rattle.px_base.specs.Files.{File, Finds}
 use Rattle.px_base.specs.ReaderStates.{ReaderState, ReadsLine, IsFirst, IsOver, IsPast, stream, IsReadable as MayTake}
-use Rattle.px_spec.specs.Lines.{Line, cut}
-use Rattle.px_spec.specs.declared.limits.Limits.{Limits}
+use Rattle.graph_spec.specs.Lines.{Line, cut}
+use Rattle.graph_spec.specs.declared.limits.Limits.{Limits}
 use Rattle.triples_read.specs.Lines.{Spells, Empty}
 use Rattle.triples_read.specs.declared.term.Triple.{Triple}
 use Rattle.graph_load.specs.declared.files.LoadError.{LoadError}
@@ -18,11 +18,11 @@ use Rattle.graph_load.specs.declared.batch.Next.TheVariants.{Lines, End, Syntax,
 use Rattle.graph_load.specs.declared.batch.Waiting.{Waiting}
 use Rattle.graph_load.specs.Hashed.{triple_of, hashed}
 use Rattle.graph_load.specs.declared.loader.Loader.{Loader}
-use Rattle.px_spec.specs.declared.refusal.Refusal.{Refusal}
+use Rattle.graph_spec.specs.declared.refusal.Refusal.{Refusal}
 use Rattle.graph_load.specs.TripleGraphs.{LoadState, nothing_loaded, with_triple}
 use Rattle.graph_load.specs.Loads.{Outcome, loaded, syntax, limit, Place, at_start, past, IsWithinFile, LoadsLine, empty, takes, refuses, neither, LoadsFrom}
 use Rattle.graph_load.specs.Loaders.{load_state, Holds, with_new, IsSoundLoader, IsTaken}
-use Rattle.graph_load.specs.LoadSteps.{LoadsTold, LoadsAhead, TellsOutcome, place, OnLines, at_line, then_load, with_one, with_all, LoadsBehind, LoadsThen, AddsLine, ReadsLines, IsNearer, AreLoaded, Stops, OneStops}
+use Rattle.graph_load.specs.LoadSteps.{LoadsObservable, LoadsAhead, TellsOutcome, place, OnLines, at_line, then_load, with_one, with_all, LoadsBehind, LoadsThen, AddsLine, ReadsLines, IsNearer, AreLoaded, Stops, OneStops}
 
 -- the outcome of the first line decides
 follows : (limits : Limits) (p : Place) (l : Line) (before after : Option (List ℕ)) (q : Place) (o : Outcome) → IsFirst l before after → IsWithinFile p l
@@ -107,7 +107,7 @@ module _ (r q : ReaderState) (before after : Option (List ℕ)) (reads : ReadsLi
     -- a line is empty
     past_empty : Empty q.line → (l : LoadState) (o : Outcome) → LoadsAhead limits after (place q l) o → LoadsAhead limits before (place r l) o
     past_empty is_empty l o =
-        follows limits (place r l) reads.first before after (place q l) o reads.told (within l) (λ rest h.
+        follows limits (place r l) reads.first before after (place q l) o reads.observable (within l) (λ rest h.
         empty (subst Empty text_is is_empty) o (subst (λ p. LoadsFrom limits rest p o) (sym (behind l l)) h))
 
     -- a line spells a triple
@@ -116,17 +116,17 @@ module _ (r q : ReaderState) (before after : Option (List ℕ)) (reads : ReadsLi
       where
         by : (x : Result LoadState Refusal) → with_triple limits t l ≡ x → LoadsThen limits Lines q after (at_line q.number x) o → LoadsAhead limits before (place r l) o
         by (Ok m) is h =
-            follows limits (place r l) reads.first before after (place q m) o reads.told (within l) (λ rest k.
+            follows limits (place r l) reads.first before after (place q m) o reads.observable (within l) (λ rest k.
             takes t (subst (λ x. Spells x t) text_is spells) m is o (subst (λ p. LoadsFrom limits rest p o) (sym (behind l m)) k)) h
         by (Err e) is h =
             subst (LoadsAhead limits before (place r l)) (ap limit (sym number_is) ∙ sym h)
-            (stops limits (place r l) reads.first before after (limit (r.number + 1)) reads.told (within l) (λ rest. refuses t (subst (λ x. Spells x t) text_is spells) e is))
+            (stops limits (place r l) reads.first before after (limit (r.number + 1)) reads.observable (within l) (λ rest. refuses t (subst (λ x. Spells x t) text_is spells) e is))
 
     -- a line is neither
     past_neither : (¬ Empty q.line) → ((t : Triple) → Spells q.line t → ⊥) → (l : LoadState) (o : Outcome) → o ≡ syntax q.number → LoadsAhead limits before (place r l) o
     past_neither none nothing l o is =
         subst (LoadsAhead limits before (place r l)) (ap syntax (sym number_is) ∙ sym is)
-        (stops limits (place r l) reads.first before after (syntax (r.number + 1)) reads.told (within l)
+        (stops limits (place r l) reads.first before after (syntax (r.number + 1)) reads.observable (within l)
         (λ rest. neither (λ t s. nothing t (subst (λ x. Spells x t) (sym text_is) s)) (λ e. none (subst Empty (sym text_is) e))))
 
   -- a line was read
@@ -164,7 +164,7 @@ pub reads_past : (r q : ReaderState) (before after : Option (List ℕ)) → IsPa
 reads_past r q before after is_past line text n number waited limits l o h =
     each limits r before (Limit n) q after (λ m o is. subst (LoadsAhead limits before (place r m)) (sym is) (past_there limits m before is_past)) (with_all limits waited l) o h
   where
-    past_there : (limits : Limits) (m : LoadState) (told : Option (List ℕ)) → IsPast r told → LoadsAhead limits told (place r m) (limit n)
+    past_there : (limits : Limits) (m : LoadState) (observable : Option (List ℕ)) → IsPast r observable → LoadsAhead limits observable (place r m) (limit n)
     past_there limits m None is_past = tt
     past_there limits m (Some text_ahead) (l, rest, lines, long) =
         subst (λ ls. LoadsFrom limits ls (place r m) (limit n)) (sym lines) (inl (
@@ -177,7 +177,7 @@ pub reads_over : (r q : ReaderState) (before after : Option (List ℕ)) → IsOv
 reads_over r q before after over waited limits l o h =
     each limits r before End q after (λ m o is. subst (LoadsAhead limits before (place r m)) (sym is) (over_there limits m before over)) (with_all limits waited l) o h
   where
-    over_there : (limits : Limits) (m : LoadState) (told : Option (List ℕ)) → IsOver told → LoadsAhead limits told (place r m) (loaded m.graph)
+    over_there : (limits : Limits) (m : LoadState) (observable : Option (List ℕ)) → IsOver observable → LoadsAhead limits observable (place r m) (loaded m.graph)
     over_there limits m None over = tt
     over_there limits m (Some text) over = subst (λ t. LoadsFrom limits (cut t) (place r m) (loaded m.graph)) (sym over) refl
 
@@ -251,11 +251,11 @@ pub tells_none : (Q : Outcome → Type 0) → (e : LoadError) → TellsOutcome (
 tells_none Q = tells_map (λ _. ⊥) Q (λ o h. absurd h)
 
 -- what the open file loads to, its name loads to
-pub told_there : (limits : Limits) (files : Option (List File)) (name : List ℕ) (left : Option (List ℕ)) → Finds files name true left
-    → (o : Outcome) → LoadsAhead limits left at_start o → LoadsTold limits files name o
-told_there limits None name left finds o h = tt
-told_there limits (Some files) name None finds o h = absurd (none finds.0)
+pub observable_there : (limits : Limits) (files : Option (List File)) (name : List ℕ) (left : Option (List ℕ)) → Finds files name true left
+    → (o : Outcome) → LoadsAhead limits left at_start o → LoadsObservable limits files name o
+observable_there limits None name left finds o h = tt
+observable_there limits (Some files) name None finds o h = absurd (none finds.0)
   where
     none : IsSome {T = List ℕ} None → ⊥
     none p = absurd (cc)
-told_there limits (Some files) name (Some text) finds o h = (text, sym finds.1, h)
+observable_there limits (Some files) name (Some text) finds o h = (text, sym finds.1, h)

@@ -12,7 +12,7 @@ use Rattle.graph_update.specs.declared.changes.Change.{Change}
 use Rattle.graph_update.specs.declared.changes.Change.TheVariants.{Node}
 use Rattle.term_table.proofs.Positions.{position-cons}
 use Rattle.graph_load.specs.TripleGraphs.{predicate_label}
-use Rattle.graph_load.specs.Places.{stands, AddLabels, predicate_at, with_predicate}
+use Rattle.graph_load.specs.TableIndexes.{stands, AddLabels, predicate_at, with_predicate}
 use Rattle.term_table.proofs.SameTerms.{same_bytes}
 
 -- whether the place is this one

@@ -4,15 +4,15 @@ use Rattle.std.specs.Prelude.{is_some, OnOk, if◌then◌else◌, position, byte
 use Rattle.std.specs.List.{list_any, AllByRecursion}
 use Rattle.std.specs.Map.{keys_of}
 use Rattle.std.proofs.lemmas.List.{length-map, length_push}
-use Rattle.px_spec.specs.declared.limits.Limits.{Limits}
-use Rattle.px_spec.specs.Changes.{node, link, apply}
-use Rattle.label_graph.specs.Held.{Held, no_room}
+use Rattle.graph_spec.specs.declared.limits.Limits.{Limits}
+use Rattle.graph_spec.specs.Changes.{node, link, apply}
+use Rattle.label_graph.specs.ReservedGraphs.{ReservedGraph, none_reserved}
 use Rattle.triples_read.specs.declared.term.Term.{Term}
 use Rattle.graph_load.specs.declared.known.Key.{Key}
 use Rattle.graph_load.specs.declared.loader.Loader.{Loader}
 use Rattle.graph_load.specs.TripleGraphs.{need, changed, with_graph, term_label, predicate_label}
 use Rattle.term_table.specs.Terms.{number_of, same_term}
-use Rattle.graph_load.specs.Places.{with_predicate}
+use Rattle.graph_load.specs.TableIndexes.{with_predicate}
 use Rattle.term_table.specs.Terms.{place_in}
 use Rattle.graph_load.specs.Loaders.{load_state, PointsInto, IsSoundLoader, LoaderStep}
 use Rattle.term_table.specs.Entries.{Begins}
@@ -29,21 +29,21 @@ more_within m n p q mp nq (k ∷ ks) h = (
 )
 
 -- a term becomes a node
-pub term_steps : (limits : Limits) (x : Term) (old : Loader) (h : Held) (n : ℕ) (terms : List (Term × ℕ)) → IsSoundLoader old → number_of old.terms x ≡ None
-    → apply (node (term_label x)) old.graph.graph limits ≡ Ok h.graph → h.room ≡ no_room → n ≡ length old.graph.graph.given → terms ≡ old.terms ++ (x, n) ∷ []
+pub term_steps : (limits : Limits) (x : Term) (old : Loader) (h : ReservedGraph) (n : ℕ) (terms : List (Term × ℕ)) → IsSoundLoader old → number_of old.terms x ≡ None
+    → apply (node (term_label x)) old.graph.graph limits ≡ Ok h.graph → h.reserved ≡ none_reserved → n ≡ length old.graph.graph.allocated → terms ≡ old.terms ++ (x, n) ∷ []
     → LoaderStep (need limits x) old (record old { graph = h; terms = terms })
-term_steps limits x old h n terms sound none made room number added =
-    let exact : terms ≡ old.terms ++ (x, length old.graph.graph.given) ∷ [] = added ∙ ap (λ m. old.terms ++ (x, m) ∷ []) number in
-    let given = node_made (term_label x) old.graph.graph limits h.graph made in
+term_steps limits x old h n terms sound none made reserved number added =
+    let exact : terms ≡ old.terms ++ (x, length old.graph.graph.allocated) ∷ [] = added ∙ ap (λ m. old.terms ++ (x, m) ∷ []) number in
+    let allocated = node_made (term_label x) old.graph.graph limits h.graph made in
     let longer = ap length added ∙ length_push old.terms (x, n) in
     let few = sound.terms in
     let fewer = sound.predicates in
     record {
       does = λ triples. need_new limits x (load_state old triples) h.graph none made ∙ ap (λ ts. Ok (record { graph = h.graph; terms = ts; triples = triples })) (sym exact);
       sound = record {
-        room = room;
-        terms = omega (arith, given, longer, few);
-        predicates = omega (arith, given, fewer);
+        reserved = reserved;
+        terms = omega (arith, allocated, longer, few);
+        predicates = omega (arith, allocated, fewer);
         known = more_within (length old.terms) (length old.predicates) (length terms) (length old.predicates) (omega (arith, longer)) (omega arith) old.known sound.known;
       };
       grows = record { terms = ((x, n) ∷ [], added); predicates = ([], sym (append-nil old.predicates)); known = refl };
@@ -68,12 +68,12 @@ interned true xs x = record { begins = ([], sym (append-nil xs)); more = omega a
 interned false xs x = let longer = length_push xs x in record { begins = (x ∷ [], refl); more = omega (arith, longer); few = omega (arith, longer) }
 
 -- the node of a triple is added
-pub node_steps : (limits : Limits) (iri : List ℕ) (old : Loader) (h : Held) (predicates : List (List ℕ)) → IsSoundLoader old
-    → apply (node (predicate_label iri)) old.graph.graph limits ≡ Ok h.graph → h.room ≡ no_room → predicates ≡ with_predicate old.predicates iri
+pub node_steps : (limits : Limits) (iri : List ℕ) (old : Loader) (h : ReservedGraph) (predicates : List (List ℕ)) → IsSoundLoader old
+    → apply (node (predicate_label iri)) old.graph.graph limits ≡ Ok h.graph → h.reserved ≡ none_reserved → predicates ≡ with_predicate old.predicates iri
     → LoaderStep (changed limits (node (predicate_label iri))) old (record old { graph = h; predicates = predicates })
-node_steps limits iri old h predicates sound made room added =
+node_steps limits iri old h predicates sound made reserved added =
     let is : Interned old.predicates predicates = subst (Interned old.predicates) (sym added) (interned (list_any (bytes_eq iri) old.predicates) old.predicates iri) in
-    let given = node_made (predicate_label iri) old.graph.graph limits h.graph made in
+    let allocated = node_made (predicate_label iri) old.graph.graph limits h.graph made in
     let few = sound.terms in
     let fewer = sound.predicates in
     let more = is.more in
@@ -81,25 +81,25 @@ node_steps limits iri old h predicates sound made room added =
     record {
       does = λ triples. ap (with_graph (load_state old triples)) made;
       sound = record {
-        room = room;
-        terms = omega (arith, given, few);
-        predicates = omega (arith, given, next, fewer);
+        reserved = reserved;
+        terms = omega (arith, allocated, few);
+        predicates = omega (arith, allocated, next, fewer);
         known = more_within (length old.terms) (length old.predicates) (length old.terms) (length predicates) (omega arith) more old.known sound.known;
       };
       grows = record { terms = ([], sym (append-nil old.terms)); predicates = is.begins; known = refl };
     }
 
 -- an edge is added
-pub link_steps : (limits : Limits) (u v : ℕ) (old : Loader) (h : Held) → IsSoundLoader old → apply (link u v) old.graph.graph limits ≡ Ok h.graph → h.room ≡ no_room
+pub link_steps : (limits : Limits) (u v : ℕ) (old : Loader) (h : ReservedGraph) → IsSoundLoader old → apply (link u v) old.graph.graph limits ≡ Ok h.graph → h.reserved ≡ none_reserved
     → LoaderStep (changed limits (link u v)) old (record old { graph = h })
-link_steps limits u v old h sound made room =
+link_steps limits u v old h sound made reserved =
     let same = link_made u v old.graph.graph limits h.graph made in
     let few = sound.terms in
     let fewer = sound.predicates in
     record {
       does = λ triples. ap (with_graph (load_state old triples)) made;
       sound = record {
-        room = room;
+        reserved = reserved;
         terms = omega (arith, few, ap length same);
         predicates = omega (arith, fewer, ap length same);
         known = sound.known;

@@ -4,9 +4,9 @@ use Rattle.px_base.specs.Causes.{Rose}
 use Rattle.px_base.specs.declared.lines.TheConstants.{LINE_BYTES, GRAPH_BYTES}
 use Rattle.px_base.specs.Files.{File, content_of}
 use Rattle.px_base.specs.ReaderStates.{ReaderState, stream}
-use Rattle.px_spec.specs.Lines.{cut}
-use Rattle.px_spec.specs.declared.limits.Limits.{Limits}
-use Rattle.px_spec.specs.declared.refusal.Refusal.{Refusal}
+use Rattle.graph_spec.specs.Lines.{cut}
+use Rattle.graph_spec.specs.declared.limits.Limits.{Limits}
+use Rattle.graph_spec.specs.declared.refusal.Refusal.{Refusal}
 use Rattle.triples_read.specs.Lines.{Spells, Empty}
 use Rattle.triples_read.specs.declared.term.Triple.{Triple}
 use Rattle.graph_load.specs.declared.files.LoadError.{LoadError}
@@ -20,12 +20,12 @@ use Rattle.graph_load.specs.Hashed.{triple_of, hashed}
 use Rattle.graph_load.specs.Loads.{Outcome, loaded, syntax, limit, Place, LoadsFrom, Loads}
 use Rattle.graph_load.specs.Loaders.{load_state, Holds, IsSoundLoader, IsUntaken}
 
--- The name is that of a told file whose text loads to this; of files that aren't told it says nothing.
-abbrev pub LoadsTold : Limits → Option (List File) → List ℕ → Outcome → Type 0
-LoadsTold limits None name o = ⊤
-LoadsTold limits (Some files) name o = (text : List ℕ) × (content_of files name ≡ Some text) × Loads limits text o
+-- The name is that of an observable file whose text loads to this; of opaque files it says nothing.
+abbrev pub LoadsObservable : Limits → Option (List File) → List ℕ → Outcome → Type 0
+LoadsObservable limits None name o = ⊤
+LoadsObservable limits (Some files) name o = (text : List ℕ) × (content_of files name ≡ Some text) × Loads limits text o
 
--- told files lack the name
+-- observable files lack the name
 abbrev pub LacksFile : Option (List File) → List ℕ → Type 0
 LacksFile None name = ⊤
 LacksFile (Some files) name = content_of files name ≡ None
@@ -38,7 +38,7 @@ TellsOutcome P error.Missing = ⊤
 TellsOutcome P error.Fault = ⊤
 TellsOutcome P error.Memory = ⊤
 
--- what lies ahead loads to this, where it is told
+-- what lies ahead loads to this, where it is observable
 abbrev pub LoadsAhead : Limits → Option (List ℕ) → Place → Outcome → Type 0
 LoadsAhead limits None p o = ⊤
 LoadsAhead limits (Some text) p o = LoadsFrom limits (cut text) p o

@@ -1,9 +1,9 @@
 -- What a loader keeps of what is loaded.
 use Rattle.std.specs.Prelude.{◌≡◌, ℕ, ◌<◌, ◌≤◌, Bool, List, [], ◌∷◌, ◌++◌, length, position, bytes_eq, Some, Result, Ok, Err, if◌then◌else◌}
 use Rattle.std.specs.List.{list_any, AllByRecursion}
-use Rattle.px_spec.specs.declared.limits.Limits.{Limits}
-use Rattle.px_spec.specs.declared.refusal.Refusal.{Refusal}
-use Rattle.label_graph.specs.Held.{no_room}
+use Rattle.graph_spec.specs.declared.limits.Limits.{Limits}
+use Rattle.graph_spec.specs.declared.refusal.Refusal.{Refusal}
+use Rattle.label_graph.specs.ReservedGraphs.{none_reserved}
 use Rattle.triples_read.specs.declared.term.Term.{Term}
 use Rattle.triples_read.specs.declared.term.Triple.{Triple}
 use Rattle.term_table.specs.Terms.{number_of}
@@ -13,7 +13,7 @@ use Rattle.graph_load.specs.declared.loader.Places.{Places}
 use Rattle.term_table.specs.Entries.{Begins}
 use Rattle.term_table.specs.FoundTerms.{IsFoundAs}
 use Rattle.graph_load.specs.TripleGraphs.{LoadState, same_triple, with_triple}
-use Rattle.graph_load.specs.Places.{is_key_of}
+use Rattle.graph_load.specs.TableIndexes.{is_key_of}
 
 -- what is loaded, where these are the triples
 abbrev pub load_state : Loader → List Triple → LoadState
@@ -48,9 +48,9 @@ pub record PointsInto (terms predicates : ℕ) (k : Key) : Type 0 where
 
 -- what each loader keeps
 pub record IsSoundLoader (r : Loader) : Type 0 where
-  pub room : r.graph.room ≡ no_room
-  pub terms : length r.terms ≤ length r.graph.graph.given
-  pub predicates : length r.predicates ≤ length r.graph.graph.given
+  pub reserved : r.graph.reserved ≡ none_reserved
+  pub terms : length r.terms ≤ length r.graph.graph.allocated
+  pub predicates : length r.predicates ≤ length r.graph.graph.allocated
   pub known : AllByRecursion (PointsInto (length r.terms) (length r.predicates)) r.known
 
 -- nothing is taken out of a table, and no triple is known that wasn't

@@ -1,10 +1,10 @@
 -- What the lines of a graph file load to.
 use Rattle.std.specs.Prelude.{ℕ, ◌+◌, ◌≡◌, ◌≤◌, ◌⊎◌, List, [], ◌∷◌, length, Ok, Err}
 use Rattle.px_base.specs.declared.lines.TheConstants.{LINE_BYTES, GRAPH_BYTES}
-use Rattle.px_spec.specs.declared.limits.Limits.{Limits}
-use Rattle.px_spec.specs.declared.refusal.Refusal.{Refusal}
-use Rattle.px_spec.specs.Lines.{Line, cut}
-use Rattle.px_spec.specs.Graphs.{Graph}
+use Rattle.graph_spec.specs.declared.limits.Limits.{Limits}
+use Rattle.graph_spec.specs.declared.refusal.Refusal.{Refusal}
+use Rattle.graph_spec.specs.Lines.{Line, cut}
+use Rattle.graph_spec.specs.Graphs.{Graph}
 use Rattle.triples_read.specs.declared.term.Triple.{Triple}
 use Rattle.triples_read.specs.Lines.{Spells, Empty}
 use Rattle.graph_load.specs.TripleGraphs.{LoadState, nothing_loaded, with_triple}

@@ -3,10 +3,10 @@
 -- in the order of first need: of a new triple its subject, the triple, its object.
 use Rattle.std.specs.Prelude.{ℕ, Bool, ◌&&◌, List, [], ◌∷◌, ◌++◌, length, codes, bytes_eq, is_some, unwrap_or, if◌then◌else◌, Result, Ok, Err}
 use Rattle.std.specs.List.{list_any}
-use Rattle.px_spec.specs.declared.limits.Limits.{Limits}
-use Rattle.px_spec.specs.declared.refusal.Refusal.{Refusal}
-use Rattle.px_spec.specs.Graphs.{Graph, empty_graph}
-use Rattle.px_spec.specs.Changes.{Change, node, link, apply}
+use Rattle.graph_spec.specs.declared.limits.Limits.{Limits}
+use Rattle.graph_spec.specs.declared.refusal.Refusal.{Refusal}
+use Rattle.graph_spec.specs.Graphs.{Graph, empty_graph}
+use Rattle.graph_spec.specs.Changes.{Change, node, link, apply}
 use Rattle.term_table.specs.Terms.{same_term, number_of}
 use Rattle.triples_read.specs.declared.term.Term.{Term}
 use Rattle.triples_read.specs.declared.term.Term.TheVariants.{Iri, Blank, Literal}
@@ -60,7 +60,7 @@ numbered x n l = record l { terms = l.terms ++ (x, n) ∷ [] }
 abbrev pub need : Limits → Term → LoadState → Result LoadState Refusal
 need limits x l =
     if is_some (number_of l.terms x) then Ok l
-    else changed limits (node (term_label x)) (numbered x (length l.graph.given) l)
+    else changed limits (node (term_label x)) (numbered x (length l.graph.allocated) l)
 
 -- an edge between the node of a triple and that of a term, one way or the other
 abbrev pub from_term : Limits → Term → ℕ → LoadState → Result LoadState Refusal
@@ -70,16 +70,16 @@ abbrev pub onto_term : Limits → ℕ → Term → LoadState → Result LoadStat
 onto_term limits n x l = changed limits (link n (unwrap_or (number_of l.terms x) 0)) l
 
 -- the object of a triple is a node too, and edges lead from the subject to the triple's node n and on to the object
-abbrev pub joined : Limits → Term → ℕ → Term → LoadState → Result LoadState Refusal
-joined limits x n y l = then_do (need limits y l) (λ a. then_do (from_term limits x n a) (onto_term limits n y))
+abbrev pub linked : Limits → Term → ℕ → Term → LoadState → Result LoadState Refusal
+linked limits x n y l = then_do (need limits y l) (λ a. then_do (from_term limits x n a) (onto_term limits n y))
 
 -- the nodes and edges of a new triple, whose own node has the number n
 abbrev pub placed : Limits → Triple → ℕ → LoadState → Result LoadState Refusal
-placed limits t n l = then_do (changed limits (node (predicate_label t.predicate)) l) (joined limits t.subject n t.object)
+placed limits t n l = then_do (changed limits (node (predicate_label t.predicate)) l) (linked limits t.subject n t.object)
 
 -- The triple is loaded: it is already, or its nodes and edges are added. It is refused where one of them passes a limit.
 abbrev pub with_triple : Limits → Triple → LoadState → Result LoadState Refusal
 with_triple limits t l =
     if is_loaded l t then Ok l
     else then_do (need limits t.subject l)
-    (λ a. then_do (placed limits t (length a.graph.given) a) (λ b. Ok (record b { triples = b.triples ++ t ∷ [] })))
+    (λ a. then_do (placed limits t (length a.graph.allocated) a) (λ b. Ok (record b { triples = b.triples ++ t ∷ [] })))

@@ -1,10 +1,10 @@
 // A graph file, in batches of triples.
 ghost use Rattle.std.specs.Prelude.{◌≡◌, ◌≢◌, ℕ, List, [], IfOk, OnOk, IfErr, IsErrOf, IsTrue, Err};
 ghost use Rattle.px_base.specs.Causes.{Rose};
-ghost use Rattle.label_graph.specs.Held.{no_room};
+ghost use Rattle.label_graph.specs.ReservedGraphs.{none_reserved};
 ghost use Rattle.graph_load.specs.Loads.{Outcome, Loads, loaded, at_start};
 ghost use Rattle.graph_load.specs.Loaders.{Holds, IsSoundLoader};
-ghost use Rattle.graph_load.specs.LoadSteps.{LoadsTold, LacksFile, TellsOutcome, LoadsAhead, LoadsRest, CanRead};
+ghost use Rattle.graph_load.specs.LoadSteps.{LoadsObservable, LacksFile, TellsOutcome, LoadsAhead, LoadsRest, CanRead};
 ghost use Rattle.graph_load.specs.declared.files.LoadError.TheVariants.{Memory as NoMemory};
 
 use crate::batch::{Next, Waiting, give_back, read_batch};
@@ -88,7 +88,7 @@ fn load_batches<H: Shelf>(
 fn load_lines<H: Shelf>(alloc: Global, limits: &Limits, shelf: &mut H) -> Result<Graph, LoadError>
     requires { IsTrue (H.is_open shelf.old) }
     ensures loaded { IfOk result (λ g. LoadsAhead limits.now (H.left shelf.old) at_start (loaded g.graph)) }
-    ensures room { IfOk result (λ g. g.room ≡ no_room) }
+    ensures reserved { IfOk result (λ g. g.reserved ≡ none_reserved) }
     ensures refused { IfErr result (TellsOutcome (LoadsAhead limits.now (H.left shelf.old) at_start)) }
     ensures found { result ≢ Err LoadError.Missing }
     ensures files { H.files shelf.new ≡ H.files shelf.old }
@@ -130,11 +130,11 @@ pub fn load<H: Shelf>(
     limits: &Limits,
 ) -> Result<Graph, LoadError>
     // A graph comes only where the text of the file loads to it.
-    ensures loaded { IfOk result (λ g. LoadsTold limits.now (H.files shelf.old) name.now (loaded g.graph)) }
-    // It has no room for an addition.
-    ensures room { IfOk result (λ g. g.room ≡ no_room) }
+    ensures loaded { IfOk result (λ g. LoadsObservable limits.now (H.files shelf.old) name.now (loaded g.graph)) }
+    // It has nothing reserved.
+    ensures reserved { IfOk result (λ g. g.reserved ≡ none_reserved) }
     // The number of a line comes only where the text of the file is refused there, for that reason.
-    ensures refused { IfErr result (TellsOutcome (LoadsTold limits.now (H.files shelf.old) name.now)) }
+    ensures refused { IfErr result (TellsOutcome (LoadsObservable limits.now (H.files shelf.old) name.now)) }
     // A text loads to one outcome at most.
     ensures once { (text : List ℕ) (a b : Outcome) → Loads limits.now text a → Loads limits.now text b → a ≡ b }
     ensures missing { IsErrOf result LoadError.Missing → LacksFile (H.files shelf.old) name.now }

@@ -1,7 +1,7 @@
 // The triples that are loaded.
 ghost use Rattle.std.specs.Prelude.{◌≡◌, ◌++◌, ◌∷◌, [], false, OnOk};
 ghost use Rattle.std.specs.List.{list_any};
-ghost use Rattle.graph_load.specs.Places.{same_key};
+ghost use Rattle.graph_load.specs.TableIndexes.{same_key};
 
 use indexmap::IndexSet;
 use px_base::Memory;

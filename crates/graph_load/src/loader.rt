@@ -1,7 +1,7 @@
 // What a load has taken.
 ghost use Rattle.std.specs.Prelude.{◌≡◌, ℕ, List, [], length, position, bytes_eq, Some, None, Ok, OnOk, IfOk, IfSome, IsErrOf, false};
-ghost use Rattle.px_spec.specs.Changes.{node, link};
-ghost use Rattle.graph_load.specs.TripleGraphs.{need, changed, joined, with_triple, nothing_loaded, predicate_label};
+ghost use Rattle.graph_spec.specs.Changes.{node, link};
+ghost use Rattle.graph_load.specs.TripleGraphs.{need, changed, linked, with_triple, nothing_loaded, predicate_label};
 ghost use Rattle.term_table.specs.Terms.{number_of, place_in};
 ghost use Rattle.term_table.specs.FoundTerms.{IsFound, IsFoundAs};
 ghost use Rattle.triples_read.specs.declared.term.Term.{Term as TermSeen};
@@ -71,13 +71,13 @@ impl Loader {
         Places {
             subject: self
                 .terms
-                .find_near(&triple.subject, hints.map(|h| h.subject)),
+                .find_hinted(&triple.subject, hints.map(|h| h.subject)),
             predicate: self
                 .predicates
-                .find_near(&triple.predicate, hints.and_then(|h| h.predicate)),
+                .find_hinted(&triple.predicate, hints.and_then(|h| h.predicate)),
             object: self
                 .terms
-                .find_near(&triple.object, hints.map(|h| h.object)),
+                .find_hinted(&triple.object, hints.map(|h| h.object)),
         }
     }
 
@@ -167,7 +167,7 @@ impl Loader {
         requires found { IfSome found (λ p. position (bytes_eq predicate.now) self.old.predicates ≡ Some p) }
         ensures steps { OnOk result (LoaderStep (changed limits.now (node (predicate_label predicate.now))) self.old self.new) }
         ensures place { IfOk result (λ f. position (bytes_eq predicate.now) self.new.predicates ≡ Some f.0) }
-        ensures number { IfOk result (λ f. f.1 ≡ length self.old.graph.graph.given) }
+        ensures number { IfOk result (λ f. f.1 ≡ length self.old.graph.graph.allocated) }
         ensures limit { IsErrOf result Stop.Limit → IsStopped (changed limits.now (node (predicate_label predicate.now))) self.old }
     {
         if self.graph.created() >= limits.nodes {
@@ -201,9 +201,9 @@ impl Loader {
     ) -> Result<u32, Stop>
         requires sound { IsSoundLoader self.old }
         requires found { IfSome found (IsFound self.old.terms object.now) }
-        ensures steps { (x : TermSeen) → IsNumbered self.old x from → OnOk result (LoaderStep (joined limits.now x node object.now) self.old self.new) }
+        ensures steps { (x : TermSeen) → IsNumbered self.old x from → OnOk result (LoaderStep (linked limits.now x node object.now) self.old self.new) }
         ensures place { IfOk result (λ p. place_in self.new.terms object.now ≡ Some p) }
-        ensures limit { IsErrOf result Stop.Limit → (x : TermSeen) → IsNumbered self.old x from → IsStopped (joined limits.now x node object.now) self.old }
+        ensures limit { IsErrOf result Stop.Limit → (x : TermSeen) → IsNumbered self.old x from → IsStopped (linked limits.now x node object.now) self.old }
     {
         let found = self.find_again(object, found);
         let onto = self.need(alloc, limits, object, found)?;

@@ -2,7 +2,7 @@
 ghost use Rattle.std.specs.Prelude.{◌≡◌, ◌<◌, ◌^◌, ◌++◌, ◌∷◌, [], length, position, bytes_eq, Some, None, OnOk, IfOk, IfSome, false, true};
 ghost use Rattle.std.specs.List.{list_any};
 ghost use Rattle.graph_load.specs.TripleGraphs.{predicate_label};
-ghost use Rattle.graph_load.specs.Places.{predicate_at, with_predicate};
+ghost use Rattle.graph_load.specs.TableIndexes.{predicate_at, with_predicate};
 
 use graph_update::Change;
 use indexmap::IndexMap;
@@ -21,7 +21,7 @@ pub(crate) struct Predicates {
 impl Model for Predicates {
     ghost use Rattle.std.specs.Prelude.{List, ℕ, ◌≤◌, ◌^◌, length};
     ghost use Rattle.std.specs.Map.{keys_of};
-    ghost use Rattle.graph_load.specs.Places.{AddLabels};
+    ghost use Rattle.graph_load.specs.TableIndexes.{AddLabels};
 
     ghost Value = { List (List ℕ) };
 
@@ -76,7 +76,7 @@ impl Predicates {
     }
 
     /// The place of the predicate. A place where it may stand is tried first.
-    pub(crate) fn find_near(&self, iri: &Text, hint: Option<u32>) -> Option<u32>
+    pub(crate) fn find_hinted(&self, iri: &Text, hint: Option<u32>) -> Option<u32>
         ensures { result ≡ position (bytes_eq iri.now) self.now }
     {
         match hint {

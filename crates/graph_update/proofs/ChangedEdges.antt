@@ -1,13 +1,13 @@
 -- The edges of a graph after a change.
 use Rattle.std.proofs.Common.{◌≡◌, ◌≢◌, ℕ, Bool, true, false, List, [], ◌∷◌, ◌++◌, refl, sym, ap, ◌∙◌, nat_eq, rules}
 use Rattle.std.specs.Prelude.{◌||◌, ◌&&◌, not}
-use Rattle.px_spec.specs.Graphs.{Graph, has_edge}
-use Rattle.px_spec.specs.Changes.{with_edge, without_edge, after}
+use Rattle.graph_spec.specs.Graphs.{Graph, has_edge}
+use Rattle.graph_spec.specs.Changes.{with_edge, without_edge, after}
 use Rattle.graph_update.specs.Verdicts.{change_of}
 use Rattle.graph_update.specs.declared.changes.Change.{Change as Asked}
 use Rattle.graph_update.specs.declared.changes.Change.TheVariants.{Node, Link, Unlink, Drop}
-use Rattle.px_spec.specs.Members.{has, Lists}
-use Rattle.px_spec.proofs.GraphLaws.{edge_with, edge_without}
+use Rattle.graph_spec.specs.Members.{has, Lists}
+use Rattle.graph_spec.proofs.GraphLaws.{edge_with, edge_without}
 use Rattle.graph_update.proofs.NeighbourLists.{and_one}
 use Rattle.std.proofs.Math.Bool.{and-true, and-false}
 

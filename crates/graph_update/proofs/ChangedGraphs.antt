@@ -1,7 +1,7 @@
 -- The graph that a change will leave is one.
-use Rattle.px_spec.specs.Graphs.{Graph, IsGraph}
-use Rattle.px_spec.specs.Changes.{Change, node, link, unlink, drop, after}
-use Rattle.px_spec.proofs.GraphLaws.{graph_with_node, graph_with_edge, graph_without_edge, graph_without_node}
+use Rattle.graph_spec.specs.Graphs.{Graph, IsGraph}
+use Rattle.graph_spec.specs.Changes.{Change, node, link, unlink, drop, after}
+use Rattle.graph_spec.proofs.GraphLaws.{graph_with_node, graph_with_edge, graph_without_edge, graph_without_node}
 use Rattle.graph_update.specs.NewChanges.{IsNew}
 
 pub graph_changed : (c : Change) (g : Graph) → IsGraph g → IsNew c g → IsGraph (after c g)

@@ -6,19 +6,19 @@ use Rattle.std.proofs.lemmas.Bool.Decides.{nat_tests}
 use Rattle.std.proofs.lemmas.List.Quantifiers.{position-Some}
 use Rattle.std.proofs.lemmas.Option.{slice_get_within, slice_get-get_or, slice_get_past}
 use Rattle.std.proofs.lemmas.Slice.Eq.{bytes_eq-Decides}
-use Rattle.px_spec.specs.Graphs.{Graph, is_live, label_of, is_seen}
-use Rattle.px_spec.specs.Changes.{with_node, with_label, after}
-use Rattle.label_graph.specs.Views.{label_number}
+use Rattle.graph_spec.specs.Graphs.{Graph, is_live, label_of, is_seen}
+use Rattle.graph_spec.specs.Changes.{with_node, with_label, after}
+use Rattle.label_graph.specs.GraphViews.{label_number}
 use Rattle.graph_update.specs.Verdicts.{change_of}
 use Rattle.graph_update.specs.declared.changes.Change.{Change as Asked}
 use Rattle.graph_update.specs.declared.changes.Change.TheVariants.{Node, Link, Unlink, Drop}
 use Rattle.graph_update.proofs.Links.{is_some-position}
-use Rattle.px_spec.proofs.ListLemmas.{get_seam, found, is_found}
+use Rattle.graph_spec.proofs.ListLemmas.{get_seam, found, is_found}
 
-get_front : {X : Type 0} (front : List X) (x : X) (i : ℕ) → i < length front → slice_get (front ++ x ∷ []) i ≡ slice_get front i
-get_front [] x i h = absurd (omega arith)
-get_front (y ∷ ys) x zero h = refl
-get_front (y ∷ ys) x (suc i) h = get_front ys x i (omega arith)
+get_prefix : {X : Type 0} (front : List X) (x : X) (i : ℕ) → i < length front → slice_get (front ++ x ∷ []) i ≡ slice_get front i
+get_prefix [] x i h = absurd (omega arith)
+get_prefix (y ∷ ys) x zero h = refl
+get_prefix (y ∷ ys) x (suc i) h = get_prefix ys x i (omega arith)
 
 prefix-front : (p : List ℕ → Bool) (xs ys : List (List ℕ)) → prefix_len p xs < length xs → prefix_len p (xs ++ ys) ≡ prefix_len p xs
 prefix-front p [] ys h = absurd (omega arith)
@@ -76,7 +76,7 @@ module _ (seen : List (List ℕ)) (t : List ℕ) where
   kept-text : (l : ℕ) (s : List ℕ) → slice_get seen l ≡ Some s → slice_get (with_label seen t) l ≡ Some s
   kept-text l s e = elim (is_seen seen t) as (λ b. slice_get (if b then seen else (seen ++ t ∷ [])) l ≡ Some s) [
     | true ↦ e
-    | false ↦ get_front seen t l (slice_get_within seen l s e) ∙ e
+    | false ↦ get_prefix seen t l (slice_get_within seen l s e) ∙ e
   ]
 
   kept-number : (p : List ℕ → Bool) (l : ℕ) → position p seen ≡ Some l → position p (with_label seen t) ≡ Some l
@@ -95,26 +95,26 @@ module _ (seen : List (List ℕ)) (t : List ℕ) where
 
 -- nodes that were there before the last one
 module _ (g : Graph) (t : List ℕ) (n : ℕ) where
-  pub label-new : n ≡ length g.given → label_of (with_node g t) n ≡ Some t
-  label-new e = ap (λ o. option_and_then (λ l. l) o) (ap (slice_get (g.given ++ Some t ∷ [])) e ∙ get_seam g.given (Some t))
+  pub label-new : n ≡ length g.allocated → label_of (with_node g t) n ≡ Some t
+  label-new e = ap (λ o. option_and_then (λ l. l) o) (ap (slice_get (g.allocated ++ Some t ∷ [])) e ∙ get_seam g.allocated (Some t))
 
-  past : n ≢ length g.given → length g.given ≤ n → slice_get (g.given ++ Some t ∷ []) n ≡ slice_get g.given n
-  past d l = slice_get_past (g.given ++ Some t ∷ []) n (omega (arith, d, l, length-append g.given (Some t ∷ []))) ∙ sym (slice_get_past g.given n l)
+  past : n ≢ length g.allocated → length g.allocated ≤ n → slice_get (g.allocated ++ Some t ∷ []) n ≡ slice_get g.allocated n
+  past d l = slice_get_past (g.allocated ++ Some t ∷ []) n (omega (arith, d, l, length-append g.allocated (Some t ∷ []))) ∙ sym (slice_get_past g.allocated n l)
 
-  pub label-old : n ≢ length g.given → label_of (with_node g t) n ≡ label_of g n
-  label-old d = ap (λ o. option_and_then (λ l. l) o) (split (nat_lt n (length g.given)) refl)
+  pub label-old : n ≢ length g.allocated → label_of (with_node g t) n ≡ label_of g n
+  label-old d = ap (λ o. option_and_then (λ l. l) o) (split (nat_lt n (length g.allocated)) refl)
     where
-      split : (b : Bool) → nat_lt n (length g.given) ≡ b → slice_get (g.given ++ Some t ∷ []) n ≡ slice_get g.given n
-      split true e = get_front g.given (Some t) n (grind (arith, nat_tests))
+      split : (b : Bool) → nat_lt n (length g.allocated) ≡ b → slice_get (g.allocated ++ Some t ∷ []) n ≡ slice_get g.allocated n
+      split true e = get_prefix g.allocated (Some t) n (grind (arith, nat_tests))
       split false e = past d (grind (arith, nat_tests))
 
-  pub live-old : n ≢ length g.given → IsTrue (is_live (with_node g t) n) → IsTrue (is_live g n)
+  pub live-old : n ≢ length g.allocated → IsTrue (is_live (with_node g t) n) → IsTrue (is_live g n)
   live-old d h = sym (ap is_some (label-old d)) ∙ h
 
-  pub text-old : n ≢ length g.given → IsTrue (is_live (with_node g t) n) → (r : ℕ) → slice_get g.seen r ≡ label_of g n → slice_get (with_node g t).seen r ≡ label_of (with_node g t) n
+  pub text-old : n ≢ length g.allocated → IsTrue (is_live (with_node g t) n) → (r : ℕ) → slice_get g.seen r ≡ label_of g n → slice_get (with_node g t).seen r ≡ label_of (with_node g t) n
   text-old d h r e = kept-option g.seen t (label_of g n) r (live-old d h) e ∙ sym (label-old d)
 
-  pub number-old : n ≢ length g.given → (r : ℕ) → label_number g n ≡ Some r → label_number (with_node g t) n ≡ Some r
+  pub number-old : n ≢ length g.allocated → (r : ℕ) → label_number g n ≡ Some r → label_number (with_node g t) n ≡ Some r
   number-old d r e = ap (option_and_then (λ s. position (bytes_eq s) (with_label g.seen t))) (label-old d) ∙ kept-label g.seen t (label_of g n) r e
 
 -- a place that is not set is as it was
@@ -130,7 +130,7 @@ pub label-kept : (a : Asked) (g : Graph) (n : ℕ) → ((t : List ℕ) → a ≢
 label-kept (Node t) g n d h = absurd (d t refl)
 label-kept (Link u v) g n d h = refl
 label-kept (Unlink u v) g n d h = refl
-label-kept (Drop u) g n d h = ap (λ o. option_and_then (λ l. l) o) (unset g.given u n h)
+label-kept (Drop u) g n d h = ap (λ o. option_and_then (λ l. l) o) (unset g.allocated u n h)
 
 pub seen-kept : (a : Asked) (g : Graph) → ((t : List ℕ) → a ≢ Node t) → (after (change_of a) g).seen ≡ g.seen
 seen-kept (Node t) g d = absurd (d t refl)

@@ -2,8 +2,8 @@
 use Rattle.std.proofs.Common.{◌≡◌, ℕ, ◌+◌, ◌-◌, ◌<◌, ◌∙◌, ap, arith, inl, inr, true, false, cond}
 use Rattle.std.specs.FinSet as set
 use Rattle.std.proofs.lemmas.Bool.Decides.{eqb_tells}
-use Rattle.px_spec.specs.Graphs.{Edges, edge_cmp}
-use Rattle.px_spec.proofs.EdgeOrder.{edge_cmp_total}
+use Rattle.graph_spec.specs.Graphs.{Edges, edge_cmp}
+use Rattle.graph_spec.proofs.EdgeOrder.{edge_cmp_total}
 
 pub more_edges : (edges : Edges) (e : ℕ × ℕ) → set.contains edges e ≡ false → set.len (set.insert edges e) ≡ set.len edges + 1
 more_edges edges e absent = set.len-insert edge_cmp_total edges e ∙ ap (λ b. cond b (set.len edges) (set.len edges + 1)) absent

@@ -7,11 +7,11 @@ use Rattle.std.specs.declared.cmp.Ordering.{Ordering}
 use Rattle.std.specs.Ordering.{eq_by_cmp, is_eq}
 use Rattle.std.specs.declared.cmp.Ordering.TheVariants.{Less, Equal, Greater}
 use Rattle.std.specs.FinSet as set
-use Rattle.px_spec.specs.declared.limits.Limits.{Limits}
-use Rattle.px_spec.specs.declared.refusal.Refusal.TheVariants.{Limit, NoNode}
-use Rattle.px_spec.specs.Graphs.{Graph, Edges, edge_cmp, is_live, has_edge}
-use Rattle.px_spec.specs.Changes.{link, apply, with_edge, edge_fits}
-use Rattle.px_spec.proofs.EdgeOrder.{edge_cmp_total, edge_cmp-IsAntisymmetric}
+use Rattle.graph_spec.specs.declared.limits.Limits.{Limits}
+use Rattle.graph_spec.specs.declared.refusal.Refusal.TheVariants.{Limit, NoNode}
+use Rattle.graph_spec.specs.Graphs.{Graph, Edges, edge_cmp, is_live, has_edge}
+use Rattle.graph_spec.specs.Changes.{link, apply, with_edge, edge_fits}
+use Rattle.graph_spec.proofs.EdgeOrder.{edge_cmp_total, edge_cmp-IsAntisymmetric}
 
 tied_is : (o : Ordering) → is_eq o ≡ true → o ≡ Equal
 tied_is Less e = cc

@@ -6,8 +6,8 @@ use Rattle.std.proofs.lemmas.Bool.{eqb-true}
 use Rattle.std.proofs.lemmas.List.Quantifiers.{position-Some}
 use Rattle.std.proofs.lemmas.Cmp.{nat_eq_equiv}
 use Rattle.std.proofs.lemmas.Map.Keys.{IsDistinct-head, IsDistinct-tail, IsDistinct-cons, IsDistinct-push}
-use Rattle.px_spec.specs.Members.{has, Lists}
-use Rattle.px_spec.proofs.ListLemmas.{none-has}
+use Rattle.graph_spec.specs.Members.{has, Lists}
+use Rattle.graph_spec.proofs.ListLemmas.{none-has}
 
 swap : (x y z : Bool) → (x || (y || z)) ≡ (y || (x || z))
 swap true true z = refl

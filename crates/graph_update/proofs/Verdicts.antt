@@ -3,11 +3,11 @@ use Rattle.std.proofs.Common.{◌≡◌, ◌≢◌, ℕ, ◌<◌, ◌≤◌, ◌
 use Rattle.std.specs.Prelude.{◌&&◌, ◌||◌, nat_lt, if◌then◌else◌, Result}
 use Rattle.std.proofs.lemmas.Bool.Decides.{nat_tests}
 use Rattle.std.specs.FinSet as set
-use Rattle.px_spec.specs.declared.limits.Limits.{Limits}
-use Rattle.px_spec.specs.declared.refusal.Refusal.{Refusal}
-use Rattle.px_spec.specs.declared.refusal.Refusal.TheVariants.{NoNode, NoEdge, InUse, Limit, NoIndex}
-use Rattle.px_spec.specs.Graphs.{Graph, is_live, has_edge, is_seen}
-use Rattle.px_spec.specs.Changes.{Change, node, link, unlink, drop, apply, with_node, with_edge, without_edge, without_node, is_used, node_fits, edge_fits, after}
+use Rattle.graph_spec.specs.declared.limits.Limits.{Limits}
+use Rattle.graph_spec.specs.declared.refusal.Refusal.{Refusal}
+use Rattle.graph_spec.specs.declared.refusal.Refusal.TheVariants.{NoNode, NoEdge, InUse, Limit, NoIndex}
+use Rattle.graph_spec.specs.Graphs.{Graph, is_live, has_edge, is_seen}
+use Rattle.graph_spec.specs.Changes.{Change, node, link, unlink, drop, apply, with_node, with_edge, without_edge, without_node, is_used, node_fits, edge_fits, after}
 use Rattle.graph_update.specs.NewChanges.{is_same, IsNew, AreHighest}
 use Rattle.graph_update.specs.Verdicts.{Judges}
 use Rattle.graph_update.specs.declared.changes.Verdict.{Verdict}
@@ -43,10 +43,10 @@ absent false to edge p q h = cc
 
 pub new_of : (c : Change) (g : Graph) (limits : Limits) → is_same c g ≡ false → apply c g limits ≡ Ok (after c g) → IsNew c g
 new_of (node t) g limits s h =
-    let fits = and_parts (nat_lt (length g.given) limits.nodes) (is_seen g.seen t || nat_lt (length g.seen) limits.labels)
+    let fits = and_parts (nat_lt (length g.allocated) limits.nodes) (is_seen g.seen t || nat_lt (length g.seen) limits.labels)
     (passes (node_fits g limits t) (Ok (with_node g t)) Limit (with_node g t) h).0 in
     record {
-      few_nodes = below (length g.given) limits.nodes (2 ^ 30) limits.nodes_bounded fits.0;
+      few_nodes = below (length g.allocated) limits.nodes (2 ^ 30) limits.nodes_bounded fits.0;
       few_labels = wider (is_seen g.seen t) (length g.seen) limits.labels (2 ^ 30) limits.labels_bounded fits.1;
     }
 new_of (link u v) g limits s h =
@@ -106,7 +106,7 @@ within a b m e h = grind (arith, nat_tests)
 -- what is new is accepted within the highest limits
 accepted : (c : Change) (g : Graph) (limits : Limits) → AreHighest limits → IsNew c g → (is_same c g ≡ false) × (apply c g limits ≡ Ok (after c g))
 accepted (node t) g limits a n =
-    let few : nat_lt (length g.given) limits.nodes ≡ true = within (length g.given) limits.nodes (2 ^ 30) a.nodes n.few_nodes in
+    let few : nat_lt (length g.allocated) limits.nodes ≡ true = within (length g.allocated) limits.nodes (2 ^ 30) a.nodes n.few_nodes in
     let labels : (is_seen g.seen t || nat_lt (length g.seen) limits.labels) ≡ true = ap (λ m. is_seen g.seen t || nat_lt (length g.seen) m) a.labels ∙ n.few_labels in (
       refl,
       ap (λ b. if b && (is_seen g.seen t || nat_lt (length g.seen) limits.labels) then Ok (with_node g t) else Err Limit) few

@@ -1,9 +1,9 @@
 -- Changes that alter a graph.
 use Rattle.std.specs.Prelude.{◌≡◌, ℕ, ◌<◌, ◌^◌, Bool, true, false, ◌&&◌, ◌||◌, List, length, nat_lt, IsTrue}
 use Rattle.std.specs.FinSet as set
-use Rattle.px_spec.specs.declared.limits.Limits.{Limits}
-use Rattle.px_spec.specs.Graphs.{Graph, IsGraph, is_live, has_edge, is_seen}
-use Rattle.px_spec.specs.Changes.{Change, node, link, unlink, drop, is_used}
+use Rattle.graph_spec.specs.declared.limits.Limits.{Limits}
+use Rattle.graph_spec.specs.Graphs.{Graph, IsGraph, is_live, has_edge, is_seen}
+use Rattle.graph_spec.specs.Changes.{Change, node, link, unlink, drop, is_used}
 
 -- the change is a link of an edge that is there already, between live nodes
 abbrev pub is_same : Change → Graph → Bool
@@ -14,7 +14,7 @@ is_same (drop u) g = false
 
 -- one more number can be given, and the label is seen or can be
 pub record IsNewNode (g : Graph) (t : List ℕ) : Type 0 where
-  pub few_nodes : length g.given < 2 ^ 30
+  pub few_nodes : length g.allocated < 2 ^ 30
   pub few_labels : IsTrue (is_seen g.seen t || nat_lt (length g.seen) (2 ^ 30))
 
 -- the nodes are live, and there is no edge between them, but there can be

@@ -2,8 +2,8 @@
 use Rattle.std.specs.Prelude.{ℕ, ◌≡◌, ◌⊎◌, nat_eq, if◌then◌else◌, List, Option, Some, None, refl}
 use Rattle.std.specs.Coded.{Coded, code_by, coded×, coded⊎, coded_ℕ, coded_list}
 use Rattle.std.proofs.Common.{inl, inr}
-use Rattle.px_spec.specs.Graphs.{Graph, graph_code}
-use Rattle.px_spec.specs.Changes.{Change, node, link, unlink, drop, after}
+use Rattle.graph_spec.specs.Graphs.{Graph, graph_code}
+use Rattle.graph_spec.specs.Changes.{Change, node, link, unlink, drop, after}
 
 pub record Pending : Type 0 where
   -- the graph as it is

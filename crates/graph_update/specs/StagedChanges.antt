@@ -1,8 +1,8 @@
 -- A change that is staged, and what it does once it is made.
 use Rattle.std.specs.Prelude.{◌≡◌, length}
-use Rattle.px_spec.specs.Graphs.{Graph}
-use Rattle.px_spec.specs.Changes.{Change, node, link, unlink, drop}
-use Rattle.label_graph.specs.Held.{Held, Room, label_room, pair_room}
+use Rattle.graph_spec.specs.Graphs.{Graph}
+use Rattle.graph_spec.specs.Changes.{Change, node, link, unlink, drop}
+use Rattle.label_graph.specs.ReservedGraphs.{ReservedGraph, Reservation, label_reserved, pair_reserved}
 use Rattle.graph_update.specs.declared.changes.Applied.{Applied}
 use Rattle.graph_update.specs.declared.changes.Applied.TheVariants.{Added, Done}
 use Rattle.graph_update.specs.declared.staging.Plan.{Plan}
@@ -16,20 +16,20 @@ plan_of (unlink u v) = Unlink u v
 plan_of (drop u) = Drop u
 
 -- the room is that of the change; to take something away needs none
-abbrev pub IsRoomOf : Change → Room → Type 0
-IsRoomOf (node t) room = room ≡ label_room t
-IsRoomOf (link u v) room = room ≡ pair_room u v
-IsRoomOf (unlink u v) room = Unit {0}
-IsRoomOf (drop u) room = Unit {0}
+abbrev pub IsReservedFor : Change → Reservation → Type 0
+IsReservedFor (node t) reserved = reserved ≡ label_reserved t
+IsReservedFor (link u v) reserved = reserved ≡ pair_reserved u v
+IsReservedFor (unlink u v) reserved = Unit {0}
+IsReservedFor (drop u) reserved = Unit {0}
 
 -- the change is staged in the graph
-pub record IsStaged (c : Change) (held : Held) (plan : Plan) : Type 0 where
+pub record IsStaged (c : Change) (held : ReservedGraph) (plan : Plan) : Type 0 where
   pub plan_is : plan ≡ plan_of c
-  pub room : IsRoomOf c held.room
+  pub reserved : IsReservedFor c held.reserved
 
 -- a new node has the next number
 abbrev pub applied_of : Change → Graph → Applied
-applied_of (node t) g = Added (length g.given)
+applied_of (node t) g = Added (length g.allocated)
 applied_of (link u v) g = Done
 applied_of (unlink u v) g = Done
 applied_of (drop u) g = Done

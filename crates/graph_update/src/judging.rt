@@ -1,7 +1,7 @@
 // Whether a change is accepted.
 ghost use Rattle.std.specs.Prelude.{◌≡◌, ◌≢◌, ◌<◌, ◌||◌, ◌↔◌, Ok, Err, IsTrue, false, length, nat_lt};
-ghost use Rattle.px_spec.specs.Graphs.{is_seen, has_edge};
-ghost use Rattle.px_spec.specs.Changes.{node, link, unlink, drop, node_fits, is_used};
+ghost use Rattle.graph_spec.specs.Graphs.{is_seen, has_edge};
+ghost use Rattle.graph_spec.specs.Changes.{node, link, unlink, drop, node_fits, is_used};
 ghost use Rattle.graph_update.specs.NewChanges.{IsNew, AreHighest};
 ghost use Rattle.graph_update.specs.Verdicts.{change_of, Judges};
 

@@ -1,7 +1,7 @@
 // The neighbours of a node in a graph that is shown.
 ghost use Rattle.std.specs.Prelude.{◌≡◌, ◌++◌, ◌+◌, ◌∷◌, ◌&&◌, not, [], length, true, nat_eq, position};
 ghost use Rattle.std.specs.List.{IsDistinct};
-ghost use Rattle.px_spec.specs.Members.{has, Lists};
+ghost use Rattle.graph_spec.specs.Members.{has, Lists};
 
 use px_base::NodeId;
 use std::marker::Model;

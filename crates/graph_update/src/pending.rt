@@ -1,9 +1,9 @@
 // A graph as a change will leave it.
 ghost use Rattle.std.specs.Prelude.{◌≡◌, ◌≤◌, ◌+◌, ◌^◌, length, IsTrue, Some, slice_get, position, bytes_eq};
-ghost use Rattle.px_spec.specs.Graphs.{IsGraph, is_live, label_of, has_edge};
-ghost use Rattle.px_spec.specs.Changes.{with_label};
-ghost use Rattle.px_spec.specs.Members.{Lists};
-ghost use Rattle.label_graph.specs.Views.{label_number, edge_count};
+ghost use Rattle.graph_spec.specs.Graphs.{IsGraph, is_live, label_of, has_edge};
+ghost use Rattle.graph_spec.specs.Changes.{with_label};
+ghost use Rattle.graph_spec.specs.Members.{Lists};
+ghost use Rattle.label_graph.specs.GraphViews.{label_number, edge_count};
 ghost use Rattle.graph_update.specs.NewChanges.{IsNew};
 ghost use Rattle.graph_update.specs.Verdicts.{change_of};
 ghost use Rattle.graph_update.specs.PendingChanges.{graph_after, lost_edge, lost_from, lost_onto};
@@ -89,7 +89,7 @@ impl<'a> After<'a> {
 
     /// How many node numbers will have been given: at most 2^30. O(1), no memory.
     pub fn created(&self) -> u32
-        ensures count { result ≡ length (graph_after self.now).given }
+        ensures count { result ≡ length (graph_after self.now).allocated }
         ensures few { result ≤ 2 ^ 30 }
         ensures new { IsNew self.now.change self.now.before }
         ensures before { IsGraph self.now.before }

@@ -1,8 +1,8 @@
 // Making a change in two steps.
 ghost use Rattle.std.specs.Prelude.{◌≡◌, OnErr, IfOk};
-ghost use Rattle.px_spec.specs.Changes.{after};
-ghost use Rattle.px_spec.specs.Changes as change;
-ghost use Rattle.label_graph.specs.Held.{no_room};
+ghost use Rattle.graph_spec.specs.Changes.{after};
+ghost use Rattle.graph_spec.specs.Changes as change;
+ghost use Rattle.label_graph.specs.ReservedGraphs.{none_reserved};
 ghost use Rattle.graph_update.specs.NewChanges.{IsNew};
 ghost use Rattle.graph_update.specs.Verdicts.{change_of};
 ghost use Rattle.graph_update.specs.StagedChanges.{IsStaged, applied_of};
@@ -22,7 +22,7 @@ enum Plan {
     Drop(NodeId),
 }
 
-/// A change for which the graph has room. Nothing has happened to the graph yet, and nothing does where this is
+/// A change for which the graph has reserved capacity. Nothing has happened to the graph yet, and nothing does where this is
 /// dropped.
 ///
 /// A change that `judge` accepts as new is made in two calls, of which only the first can fail:
@@ -66,12 +66,12 @@ pub fn stage(alloc: Global, graph: &mut Graph, change: &Change) -> Result<Staged
     Ok(Staged { plan })
 }
 
-/// Makes a change that is staged in the graph, which is as `stage` left it, and leaves the graph with no room.
+/// Makes a change that is staged in the graph, which is as `stage` left it, and leaves nothing reserved.
 /// It can't fail. O(1), but O(c + p) for an edge that is taken away from a node with c children to one with p
 /// parents; no memory.
 pub fn commit(graph: &mut Graph, staged: Staged) -> Applied
     requires staged { (c : change.Change) × IsStaged c graph.old staged × IsNew c graph.old.graph }
-    ensures made { (c : change.Change) → IsStaged c graph.old staged → graph.new ≡ record { graph = after c graph.old.graph; room = no_room } }
+    ensures made { (c : change.Change) → IsStaged c graph.old staged → graph.new ≡ record { graph = after c graph.old.graph; reserved = none_reserved } }
     ensures applied { (c : change.Change) → IsStaged c graph.old staged → result ≡ applied_of c graph.old.graph }
 {
     match staged.plan {

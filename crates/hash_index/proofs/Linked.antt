@@ -3,7 +3,7 @@ use Rattle.std.proofs.Common.{◌≡◌, ◌≢◌, ℕ, ◌+◌, ◌-◌, ◌<�
 use Rattle.std.proofs.lemmas.List.{length-set, get_or-set_same, get_or-set_other, get_or_append_left}
 use Rattle.std.proofs.Math.Seq.{get_or-append_seam}
 use Rattle.hash_index.specs.Items.{hash_at}
-use Rattle.hash_index.specs.Chains.{IsLinked, AreChains, bucket_of, head_at, link_at}
+use Rattle.hash_index.specs.HashChains.{IsLinked, AreChains, bucket_of, head_at, link_at}
 
 -- g is f with v written at one place
 record Writes (f g : ℕ → ℕ) (place v : ℕ) : Type 0 where

@@ -1,3 +1,3 @@
 pub mod Items
 pub mod Slots
-pub mod Chains
+pub mod HashChains

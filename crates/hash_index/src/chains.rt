@@ -2,7 +2,7 @@
 ghost use Rattle.std.specs.Prelude.{◌≡◌, ℕ, ◌+◌, ◌^◌, ◌<◌, ◌≤◌, length, slice_set, IfSome};
 ghost use Rattle.hash_index.specs.Items.{hash_at};
 ghost use Rattle.hash_index.specs.Slots.{hashes_of, links_of, items_of};
-ghost use Rattle.hash_index.specs.Chains.{head_at, link_at, bucket_of, AreChains, FindsNewest};
+ghost use Rattle.hash_index.specs.HashChains.{head_at, link_at, bucket_of, AreChains, FindsNewest};
 
 use crate::slots::{Slot, read_hash, read_link, set_link};
 use px_base::Memory;

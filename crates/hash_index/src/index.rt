@@ -2,7 +2,7 @@
 ghost use Rattle.std.specs.Prelude.{◌≡◌, ◌<◌, ◌^◌, ◌++◌, ◌∷◌, [], length, slice_get, Some, IfSome, IfOk, OnOk, OnErr};
 ghost use Rattle.hash_index.specs.Items.{no_items, with_item, hash_at, IsNewest};
 ghost use Rattle.hash_index.specs.Slots.{hashes_of, links_of, items_of};
-ghost use Rattle.hash_index.specs.Chains.{IsIndex};
+ghost use Rattle.hash_index.specs.HashChains.{IsIndex};
 
 use crate::chains::{along, bucket, make_room, read_head, set_head};
 use crate::slots::{Slot, push_slot, read_hash, read_item, read_link};
@@ -35,7 +35,7 @@ pub struct HashIndex<T: Copy> {
 impl<T: Copy> Model for HashIndex<T> {
     ghost use Rattle.hash_index.specs.Items.{Items};
     ghost use Rattle.hash_index.specs.Slots.{hashes_of, items_of};
-    ghost use Rattle.hash_index.specs.Chains.{IsIndex};
+    ghost use Rattle.hash_index.specs.HashChains.{IsIndex};
 
     ghost Value = { Items T };
 

@@ -1,4 +1,4 @@
-pub mod Places
+pub mod IndexOrder
 pub mod Spelling
 pub mod Meanings
-pub mod Kept
+pub mod IndexKinds

@@ -23,7 +23,7 @@ pub enum How {
 ///     }
 #[derive(Drop)]
 pub struct Answer {
-    /// The nodes, as a set of numbers below the count of the node numbers given.
+    /// The nodes, as a set of numbers below the count of the node numbers allocated.
     pub nodes: Bits,
     /// How they were found.
     pub how: How,

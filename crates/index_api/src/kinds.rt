@@ -1,6 +1,6 @@
 // Through what a query is asked.
 ghost use Rattle.std.specs.Prelude.{◌≡◌, ◌≤◌, slice_get};
-ghost use Rattle.index_api.specs.Places.{place_of, all_indexes};
+ghost use Rattle.index_api.specs.IndexOrder.{place_of, all_indexes};
 
 use bisim_spec::Kind;
 

@@ -1,6 +1,6 @@
 // The interface of an index that is kept while its graph changes.
 ghost use Rattle.std.specs.Prelude.{◌≡◌, ◌≤◌, List, OnOk, OnErr, IsSome, option_map};
-ghost use Rattle.px_spec.specs.Changes.{after};
+ghost use Rattle.graph_spec.specs.Changes.{after};
 ghost use Rattle.graph_update.specs.NewChanges.{IsNew};
 ghost use Rattle.graph_update.specs.Verdicts.{change_of};
 ghost use Rattle.quotient.specs.Quotients.{view_of};
@@ -37,7 +37,7 @@ pub trait PathIndex: Drop {
 
     /// Stages what a change will make of the index. The graph is as it was, and `judge` accepts the change as new within some limits. The
     /// partition of the 1-index moves by one step (Yi, He, Stanoi and Yang 2004): nodes that the change doesn't reach stay together or apart.
-    /// The cost and the memory are the index's, and grow with what is near the change: `AkIndex::prepare_counted` and
+    /// The cost and the memory are the index's, and grow with what the change affects: `AkIndex::prepare_counted` and
     /// `OneKept::prepare_counted` say theirs, and `FbIndex` takes O(1), no memory.
     fn prepare(&mut self, graph: &Graph, change: &Change) -> Result<(), Memory>
         requires ready { IsReady (meaning self.old) graph.now.graph }

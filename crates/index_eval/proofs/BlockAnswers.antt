@@ -1,13 +1,13 @@
 -- The members of the blocks that answer over an index graph are the candidates, and all answers of the graph are among them.
 use Rattle.std.proofs.Common.{◌≡◌, ℕ, List, ap, refl, sym, ◌∙◌, subst, Option, None, Some, IsTrue, IsSome, Bool, false, true≢false}
 use Rattle.std.specs.Prelude.{is_some, option_and_then, slice_get}
-use Rattle.px_spec.specs.Graphs.{Graph, IsGraph}
-use Rattle.px_spec.specs.Shapes.{Shape, IsNode, IsShape, shape_of}
-use Rattle.px_spec.specs.Members.{has, at}
-use Rattle.px_spec.proofs.GraphLaws.{is_shape}
+use Rattle.graph_spec.specs.Graphs.{Graph, IsGraph}
+use Rattle.graph_spec.specs.Shapes.{Shape, IsNode, IsShape, shape_of}
+use Rattle.graph_spec.specs.Members.{has, at}
+use Rattle.graph_spec.proofs.GraphLaws.{is_shape}
 use Rattle.bisim_spec.specs.Partitions.{IsPartition, Agrees}
 use Rattle.bisim_spec.specs.Tests.{together}
-use Rattle.bisim_spec.specs.Views.{View, ViewFits, shape_of_view}
+use Rattle.bisim_spec.specs.IndexGraphs.{View, ViewFits, shape_of_view}
 use Rattle.bisim_spec.proofs.Bisimilar.{some_of}
 use Rattle.bisim_spec.proofs.StabilityTests.{together_decides}
 use Rattle.branch_query.specs.Queries.{Query, path, branch, IsQueryAnswer, relaxed, form_of}

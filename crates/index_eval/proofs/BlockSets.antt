@@ -4,7 +4,7 @@ use Rattle.std.specs.Prelude.{nat_lt, IsTrue}
 use Rattle.std.proofs.lemmas.Bool.{cases_lt}
 use Rattle.std.proofs.lemmas.Bool.Decides.{eqb_tells, nat_tests}
 use Rattle.std.specs.List.Sorted.{IsStrictlyIncreasing}
-use Rattle.px_spec.specs.Members.{has, at, is_this}
+use Rattle.graph_spec.specs.Members.{has, at, is_this}
 use Rattle.px_base.specs.BitSets.{IsNext}
 use Rattle.index_eval.specs.Extents.{is_in_blocks, AreOfBlocks}
 

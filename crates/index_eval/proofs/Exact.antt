@@ -1,15 +1,15 @@
 -- Where an index is exact for a query, the candidates are the answers.
 use Rattle.std.proofs.Common.{ℕ, ◌+◌, List, Option, Bool, true}
-use Rattle.px_spec.specs.Graphs.{Graph, IsGraph}
-use Rattle.px_spec.specs.Shapes.{Shape, IsNode, IsShape, shape_of}
-use Rattle.px_spec.specs.Members.{at}
-use Rattle.px_spec.proofs.GraphLaws.{is_shape}
+use Rattle.graph_spec.specs.Graphs.{Graph, IsGraph}
+use Rattle.graph_spec.specs.Shapes.{Shape, IsNode, IsShape, shape_of}
+use Rattle.graph_spec.specs.Members.{at}
+use Rattle.graph_spec.proofs.GraphLaws.{is_shape}
 use Rattle.path_spec.specs.Trees.{Expr}
 use Rattle.bisim_spec.specs.Bisimilarity.{Bis}
 use Rattle.bisim_spec.specs.Partitions.{Together, IsPartition, Agrees}
 use Rattle.bisim_spec.specs.Stability.{Stable, StableBoth}
 use Rattle.bisim_spec.specs.Tests.{together}
-use Rattle.bisim_spec.specs.Views.{View, ViewFits, shape_of_view}
+use Rattle.bisim_spec.specs.IndexGraphs.{View, ViewFits, shape_of_view}
 use Rattle.bisim_spec.proofs.Bisimilar.{some_of, bis_self}
 use Rattle.bisim_spec.proofs.Stable.{stable_label, stable_parents, stable_bisimulation, fb_stable}
 use Rattle.bisim_spec.proofs.StabilityTests.{together_decides}
@@ -17,7 +17,7 @@ use Rattle.bisim_spec.proofs.Together.{together_sym, together_trans}
 use Rattle.index_api.specs.declared.kinds.Via.{Via}
 use Rattle.index_api.specs.declared.kinds.Via.TheVariants.{Data, A, One, Fb}
 use Rattle.branch_spec.specs.Trees.{Branch}
-use Rattle.branch_spec.proofs.Alike.{Follows}
+use Rattle.branch_spec.proofs.AnswersAgree.{Follows}
 use Rattle.branch_query.specs.Queries.{Query, path, branch, IsQueryAnswer, AreQueryAnswers}
 use Rattle.branch_query.specs.Candidates.{loose, AreCandidates}
 use Rattle.index_eval.specs.Exactness.{IsExact, HasLongestWithin, FitsVia}

@@ -2,9 +2,9 @@
 use Rattle.std.proofs.Common.{◌≡◌, ℕ, Bool, true, false, List, Option, Result, Ok, Err, IsTrue, sym, subst}
 use Rattle.std.specs.Prelude.{IfOk}
 use Rattle.std.specs.List.Sorted.{IsStrictlyIncreasing}
-use Rattle.px_spec.specs.Members.{has, at}
+use Rattle.graph_spec.specs.Members.{has, at}
 use Rattle.px_base.specs.BitSets.{BitSet}
-use Rattle.bisim_spec.specs.Views.{View, shape_of_view}
+use Rattle.bisim_spec.specs.IndexGraphs.{View, shape_of_view}
 use Rattle.branch_query.specs.Queries.{Query, form_of, IsQueryAnswer}
 use Rattle.index_eval.specs.Extents.{is_in_blocks, AreOfBlocks}
 use Rattle.index_eval.specs.Candidates.{AreOfAnsweringBlocks, AreCandidatesOfEach, HaveAnswersOfEach, AreAnswersOfEach}

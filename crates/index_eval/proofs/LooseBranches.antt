@@ -1,12 +1,12 @@
 -- Branching queries over the loose graph of a relation.
 use Rattle.std.proofs.Common.{◌≡◌, ℕ, ap, sym, ◌∙◌, subst, IsTrue}
 use Rattle.std.specs.Prelude.{is_some}
-use Rattle.px_spec.specs.Shapes.{Shape, IsNode, IsShape}
+use Rattle.graph_spec.specs.Shapes.{Shape, IsNode, IsShape}
 use Rattle.branch_spec.specs.Trees.{Test, label, any, Step, step, Chain, end, go, Branch, branch}
-use Rattle.branch_spec.specs.Answers.{Passes, Meets, Ends, IsBranchAnswer}
+use Rattle.branch_spec.specs.BranchAnswers.{Passes, Meets, Ends, IsBranchAnswer}
 use Rattle.branch_spec.specs.Relaxed.{relax}
 use Rattle.branch_spec.proofs.RelaxedAnswers.{relaxed}
-use Rattle.branch_spec.proofs.Alike.{Follows, alike}
+use Rattle.branch_spec.proofs.AnswersAgree.{Follows, alike}
 use Rattle.index_eval.proofs.LooseWalks.{IsLoose}
 
 passing_node : (s : Shape) (t : Test) (v : ℕ) → Passes s t v → IsNode s v

@@ -2,10 +2,10 @@
 use Rattle.std.proofs.Common.{◌≡◌, ℕ, suc, ◌+◌, ◌≤◌, List, [], ◌∷◌, length, refl, sym, ◌∙◌, subst, Some, Bool, IsTrue, arith}
 use Rattle.std.specs.Prelude.{is_some, ◌&&◌}
 use Rattle.std.proofs.lemmas.Bool.{and_parts, and_from}
-use Rattle.px_spec.specs.Shapes.{Shape, IsNode, IsShape}
-use Rattle.px_spec.specs.Walks.{Leads}
+use Rattle.graph_spec.specs.Shapes.{Shape, IsNode, IsShape}
+use Rattle.graph_spec.specs.Walks.{Leads}
 use Rattle.path_spec.specs.Trees.{Expr}
-use Rattle.path_spec.specs.Answers.{IsAnswer}
+use Rattle.path_spec.specs.PathAnswers.{IsAnswer}
 use Rattle.bisim_spec.specs.Below.{any_below}
 use Rattle.bisim_spec.specs.Bisimilarity.{Bis, IsBisimulation}
 use Rattle.bisim_spec.proofs.BelowLaws.{any_get, any_from}

@@ -2,20 +2,20 @@
 use Rattle.std.proofs.Common.{◌≡◌, ℕ, length, ap, sym, ◌∙◌, subst, None, Some, IsTrue, Bool, true≢false, unwrap_or, inl, inr, arith}
 use Rattle.std.specs.Prelude.{is_some, slice_get, option_and_then}
 use Rattle.std.proofs.lemmas.List.{get_or_past}
-use Rattle.px_spec.specs.Graphs.{Graph, IsGraph}
-use Rattle.px_spec.specs.Shapes.{IsNode, shape_of}
-use Rattle.px_spec.specs.Members.{at}
-use Rattle.px_spec.proofs.GraphLaws.{is_shape}
+use Rattle.graph_spec.specs.Graphs.{Graph, IsGraph}
+use Rattle.graph_spec.specs.Shapes.{IsNode, shape_of}
+use Rattle.graph_spec.specs.Members.{at}
+use Rattle.graph_spec.proofs.GraphLaws.{is_shape}
 use Rattle.path_spec.specs.Trees.{Expr}
-use Rattle.path_spec.specs.Answers.{IsAnswer}
+use Rattle.path_spec.specs.PathAnswers.{IsAnswer}
 use Rattle.branch_spec.specs.Trees.{Branch}
-use Rattle.branch_spec.specs.Answers.{IsBranchAnswer}
-use Rattle.branch_spec.proofs.Alike.{Alike, alike}
+use Rattle.branch_spec.specs.BranchAnswers.{IsBranchAnswer}
+use Rattle.branch_spec.proofs.AnswersAgree.{AnswersAgree, alike}
 use Rattle.bisim_spec.specs.Partitions.{Agrees}
-use Rattle.bisim_spec.specs.Supports.{Joined}
-use Rattle.bisim_spec.specs.Views.{View, ViewFits, shape_of_view}
+use Rattle.bisim_spec.specs.Supports.{Adjacent}
+use Rattle.bisim_spec.specs.IndexGraphs.{View, ViewFits, shape_of_view}
 use Rattle.bisim_spec.proofs.Bisimilar.{none_or_some, some_of, is_some_at}
-use Rattle.bisim_spec.proofs.Supported.{view_edges}
+use Rattle.bisim_spec.proofs.EdgeSupports.{view_edges}
 use Rattle.branch_query.specs.Candidates.{loose}
 use Rattle.index_eval.proofs.LooseWalks.{IsLoose, loose_is}
 use Rattle.index_eval.proofs.MappedWalks.{answer_kept, answer_back}
@@ -73,7 +73,7 @@ module _ (g : Graph) (is_graph : IsGraph g) (v : View) (fits : ViewFits g v) (r 
       let shape = is_shape g is_graph in
       let tx = agrees.grouped x h.0 ends.0 (shape.from h.0 h.1 h.4) h.2 in
       let ty = agrees.grouped y h.1 ends.1 (shape.onto h.0 h.1 h.4) h.3 in
-      let joined : Joined (shape_of g) v.block_of tx.0 ty.0 = (h.0, h.1, h.4, tx.2, ty.2) in
+      let joined : Adjacent (shape_of g) v.block_of tx.0 ty.0 = (h.0, h.1, h.4, tx.2, ty.2) in
       let edge = (view_edges g.seen g v fits tx.0 ty.0).1 joined in
       subst (λ a. IsTrue ((shape_of_view g.seen v).edge a (block_or_past v y))) (sym (block_is x tx.0 tx.1))
       (subst (λ b. IsTrue ((shape_of_view g.seen v).edge tx.0 b)) (sym (block_is y ty.0 ty.1)) edge)
@@ -108,7 +108,7 @@ module _ (g : Graph) (is_graph : IsGraph g) (v : View) (fits : ViewFits g v) (r 
   label_in n b e = sym (labels n) ∙ ap (shape_of_view g.seen v).label (block_is n b e)
 
   -- a node has the neighbours over the loose graph that its block has over the index graph
-  blocks_alike : Alike (loose (shape_of g) r) (shape_of_view g.seen v) In
+  blocks_alike : AnswersAgree (loose (shape_of g) r) (shape_of_view g.seen v) In
   blocks_alike = record {
     there = record {
       labels = label_in;

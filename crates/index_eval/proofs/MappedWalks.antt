@@ -1,10 +1,10 @@
 -- Walks of a graph and of its image under a mapping of the nodes.
 use Rattle.std.proofs.Common.{◌≡◌, ℕ, List, [], ◌∷◌, ap, refl, sym, ◌∙◌, subst, Some, IsTrue}
 use Rattle.std.specs.Prelude.{is_some}
-use Rattle.px_spec.specs.Shapes.{Shape, IsNode}
-use Rattle.px_spec.specs.Walks.{Leads}
+use Rattle.graph_spec.specs.Shapes.{Shape, IsNode}
+use Rattle.graph_spec.specs.Walks.{Leads}
 use Rattle.path_spec.specs.Trees.{Expr}
-use Rattle.path_spec.specs.Answers.{IsAnswer}
+use Rattle.path_spec.specs.PathAnswers.{IsAnswer}
 
 -- a walk ends in a node
 pub ends_in_node : (s : Shape) (u : ℕ) (w : List (List ℕ)) (v : ℕ) → Leads s u w v → IsNode s v

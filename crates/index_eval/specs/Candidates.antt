@@ -1,10 +1,10 @@
 -- What the members of blocks of an index are for a graph, whatever graph the index fits.
 use Rattle.std.specs.Prelude.{ℕ, ◌≡◌, Bool, true, false, List, IsTrue}
-use Rattle.px_spec.specs.Graphs.{Graph, IsGraph}
-use Rattle.px_spec.specs.Shapes.{shape_of}
-use Rattle.px_spec.specs.Members.{has}
+use Rattle.graph_spec.specs.Graphs.{Graph, IsGraph}
+use Rattle.graph_spec.specs.Shapes.{shape_of}
+use Rattle.graph_spec.specs.Members.{has}
 use Rattle.bisim_spec.specs.Partitions.{Agrees, IsPartition}
-use Rattle.bisim_spec.specs.Views.{View, ViewFits, shape_of_view}
+use Rattle.bisim_spec.specs.IndexGraphs.{View, ViewFits, shape_of_view}
 use Rattle.index_api.specs.declared.kinds.Via.{Via}
 use Rattle.branch_query.specs.Queries.{Query, form_of, IsQueryAnswer, AreQueryAnswers}
 use Rattle.branch_query.specs.Candidates.{AreCandidates}

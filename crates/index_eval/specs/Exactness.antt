@@ -2,12 +2,12 @@
 -- Kaushik, P. Shenoy, P. Bohannon and E. Gudes, ICDE 2002 (short ones through an A(k)-index), R. Kaushik, P. Bohannon, J.
 -- Naughton and H. Korth, SIGMOD 2002 (all queries through the forward and backward index).
 use Rattle.std.specs.Prelude.{ℕ, ◌+◌, ◌≤◌, Some}
-use Rattle.px_spec.specs.Graphs.{Graph}
+use Rattle.graph_spec.specs.Graphs.{Graph}
 use Rattle.path_spec.specs.Trees.{Expr}
 use Rattle.path_spec.specs.Matches.{Matches}
 use Rattle.path_spec.specs.Longest.{IsLongest}
 use Rattle.bisim_spec.specs.declared.kind.Kind.TheVariants as kind
-use Rattle.bisim_spec.specs.Views.{View}
+use Rattle.bisim_spec.specs.IndexGraphs.{View}
 use Rattle.bisim_spec.specs.Fits.{FitsAt}
 use Rattle.index_api.specs.declared.kinds.Via.{Via}
 use Rattle.index_api.specs.declared.kinds.Via.TheVariants.{Data, A, One, Fb}

@@ -1,7 +1,7 @@
 -- The members of some blocks of a partition.
 use Rattle.std.specs.Prelude.{ℕ, ◌≡◌, Bool, false, List, Option, None, Some, IsTrue}
 use Rattle.std.specs.List.Sorted.{IsStrictlyIncreasing}
-use Rattle.px_spec.specs.Members.{has, at}
+use Rattle.graph_spec.specs.Members.{has, at}
 
 -- whether this is one of the blocks
 abbrev pub is_in_blocks : List ℕ → Option ℕ → Bool

@@ -1,9 +1,9 @@
 // The candidates of a query through an index.
 ghost use Rattle.std.specs.Prelude.{◌≡◌, ◌<◌, ◌||◌, ℕ, length, Some, IsSome, IsTrue, IfOk};
 ghost use Rattle.std.specs.List.Sorted.{IsStrictlyIncreasing};
-ghost use Rattle.px_spec.specs.Members.{has, at};
-ghost use Rattle.block_partition.specs.Partitions.{is_member};
-ghost use Rattle.bisim_spec.specs.Views.{shape_of_view};
+ghost use Rattle.graph_spec.specs.Members.{has, at};
+ghost use Rattle.block_partition.specs.LabelledPartitions.{is_member};
+ghost use Rattle.bisim_spec.specs.IndexGraphs.{shape_of_view};
 ghost use Rattle.quotient.specs.Quotients.{view_of};
 ghost use Rattle.branch_query.specs.Queries.{query_of, form_of, AreQueryAnswers};
 ghost use Rattle.index_eval.specs.Extents.{is_in_blocks};

@@ -9,8 +9,8 @@ use Rattle.std.specs.declared.cmp.Ordering.TheVariants.{Less}
 use Rattle.std.proofs.lemmas.List.Sorted.{list_any-IsPermutation}
 use Rattle.std.proofs.lemmas.List.Kept.{Contains-dedup_nat, Contains-from_dedup}
 use Rattle.std.proofs.lemmas.Map.Keys.{IsStrictlyIncreasing-dedup, sorted_from_strictly_increasing}
-use Rattle.px_spec.specs.Members.{has}
-use Rattle.px_spec.proofs.MemberLaws.{has_cases, has_at}
+use Rattle.graph_spec.specs.Members.{has}
+use Rattle.graph_spec.proofs.MemberLaws.{has_cases, has_at}
 
 has_from : (xs : List ℕ) (x : ℕ) → Contains xs x → has xs x ≡ true
 has_from xs x h = subst (λ n. has xs n ≡ true) h.2 (has_at xs h.0 x h.1)

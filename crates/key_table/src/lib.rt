@@ -10,4 +10,4 @@ mod spans;
 mod tests;
 
 pub use keys::KeyTable;
-pub use sorted::sort_once;
+pub use sorted::sort_dedup;

@@ -51,7 +51,7 @@ fn many_keys_stay(rt: HostRuntime) -> Result<(), Fail> {
 #[test]
 fn numbers_stand_once(rt: HostRuntime) -> Result<(), Fail> {
     let mut numbers = vec![in rt.alloc(); 3, 1, 3, 2, 1]?;
-    sort_once(&mut numbers);
+    sort_dedup(&mut numbers);
     assert_eq!(rt; &numbers[..], &[1, 2, 3][..]);
     Ok(())
 }

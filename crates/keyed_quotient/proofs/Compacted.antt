@@ -4,13 +4,13 @@ use Rattle.std.proofs.lemmas.Bool.{cases_lt}
 use Rattle.std.proofs.lemmas.List.Sums.{count_by_more_yes, count_by_more_no}
 use Rattle.std.proofs.lemmas.Option.{slice_get_within}
 use Rattle.std.proofs.Math.Seq.{take-length}
-use Rattle.px_spec.specs.Members.{at}
+use Rattle.graph_spec.specs.Members.{at}
 use Rattle.bisim_spec.proofs.Bisimilar.{some_of}
 use Rattle.key_table.specs.NumberedKeys.{AreDistinct, Interns}
-use Rattle.keyed_quotient.specs.Levels.{key_at}
+use Rattle.keyed_quotient.specs.KeyedQuotients.{key_at}
 use Rattle.keyed_quotient.specs.Numberings.{Numbering, numbered_key, block_keys, Leads, IsNumbering, Grows, Gives}
 use Rattle.keyed_quotient.specs.CarriedKeys.{AreCarried, AreFew}
-use Rattle.keyed_quotient.proofs.Given.{set_length, given_here, given_there}
+use Rattle.keyed_quotient.proofs.AddedKeys.{set_length, given_here, given_there}
 use Rattle.keyed_quotient.proofs.Grown.{keys_alike, leads_grown}
 use Rattle.keyed_quotient.proofs.Numbered.{same_some, led_key, block_there, key_there, numbering_keyed}
 

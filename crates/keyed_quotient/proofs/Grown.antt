@@ -5,9 +5,9 @@ use Rattle.std.proofs.lemmas.Bool.{cases_lt}
 use Rattle.std.proofs.lemmas.Cmp.{nat_eq_equiv}
 use Rattle.std.proofs.lemmas.Map.Entries.{lookup_from_place}
 use Rattle.std.specs.Option.{option_or}
-use Rattle.px_spec.specs.Members.{at}
+use Rattle.graph_spec.specs.Members.{at}
 use Rattle.key_table.specs.NumberedKeys.{AreDistinct}
-use Rattle.keyed_quotient.specs.Levels.{KeyedQuotient, key_at}
+use Rattle.keyed_quotient.specs.KeyedQuotients.{KeyedQuotient, key_at}
 use Rattle.keyed_quotient.specs.Changes.{KeyedChanges, labels_as_shown, IsKeyedOver, IsKnown}
 use Rattle.keyed_quotient.specs.Numberings.{Numbering, numbered_key, keys_from, block_keys, Leads, IsNumbering, Grows}
 use Rattle.keyed_quotient.proofs.Numbered.{led_key}

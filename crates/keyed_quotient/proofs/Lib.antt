@@ -1,7 +1,7 @@
 pub mod Lists
 pub mod Numbered
-pub mod Given
-pub mod Shown
+pub mod AddedKeys
+pub mod DraftedKeys
 pub mod SettledKeys
 pub mod Grown
 pub mod Compacted

@@ -1,10 +1,10 @@
 -- Keys lead to blocks, and blocks to their keys.
 use Rattle.std.proofs.Common.{◌≡◌, ◌↔◌, ℕ, zero, suc, ◌+◌, ◌≤◌, List, [], ◌∷◌, length, Option, Some, None, IsSome, is_some, Bool, true, false, true≢false, cond, slice_get, refl, sym, ◌∙◌, ap, subst, arith, inl, inr, ◌⊎◌}
 use Rattle.std.specs.Prelude.{option_and_then}
-use Rattle.px_spec.specs.Members.{at}
+use Rattle.graph_spec.specs.Members.{at}
 use Rattle.bisim_spec.proofs.Bisimilar.{some_of}
 use Rattle.key_table.specs.NumberedKeys.{IsAbsent, AreDistinct}
-use Rattle.keyed_quotient.specs.Levels.{key_at, AreKeyed}
+use Rattle.keyed_quotient.specs.KeyedQuotients.{key_at, AreKeyed}
 use Rattle.keyed_quotient.specs.Numberings.{Numbering, numbered_key, keys_from, block_keys, Leads, IsNumbering}
 
 pub test_is : (b : Bool) → (b ≡ true) ⊎ (b ≡ false)

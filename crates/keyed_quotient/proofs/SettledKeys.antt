@@ -7,16 +7,16 @@ use Rattle.std.proofs.lemmas.Cmp.{nat_eq_equiv}
 use Rattle.std.proofs.lemmas.Map.Entries.{lookup_from_place, place_from_lookup}
 use Rattle.std.proofs.lemmas.Map.Keys.{IsDistinct-head, IsDistinct-tail}
 use Rattle.std.proofs.lemmas.Option.{slice_get_within}
-use Rattle.px_spec.specs.Members.{at}
+use Rattle.graph_spec.specs.Members.{at}
 use Rattle.key_table.specs.NumberedKeys.{AreDistinct}
 use Rattle.bisim_spec.proofs.Bisimilar.{some_of}
-use Rattle.quotient_draft.proofs.Written.{absent_key}
+use Rattle.quotient_draft.proofs.DraftedMoves.{absent_key}
 use Rattle.quotient_draft.specs.Drafts.{has_member, inhabited_from}
-use Rattle.keyed_quotient.specs.Levels.{KeyedQuotient, key_at}
+use Rattle.keyed_quotient.specs.KeyedQuotients.{KeyedQuotient, key_at}
 use Rattle.keyed_quotient.specs.Changes.{KeyedChanges, blocks_as_shown, labels_as_shown, shown_key, settled_key, IsKeyedOver}
 use Rattle.keyed_quotient.specs.Numberings.{Numbering, numbered_key, block_keys, Leads, IsNumbering, AreApart, GivenBelow, IsNoneBelow}
 use Rattle.keyed_quotient.proofs.Numbered.{test_is, block_key, led_key, leads_there}
-use Rattle.keyed_quotient.proofs.Shown.{number_is}
+use Rattle.keyed_quotient.proofs.DraftedKeys.{number_is}
 
 none_left : (t : Bool) (o : Option ℕ) → o ≡ None → cond t o None ≡ o
 none_left true o e = refl

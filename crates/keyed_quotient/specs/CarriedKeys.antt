@@ -1,7 +1,7 @@
 -- Keys that are carried over to new numbers.
 use Rattle.std.specs.Prelude.{ℕ, ◌≡◌, ◌+◌, ◌*◌, ◌/◌, ◌<◌, ◌≤◌, ◌⊎◌, List, length, take, Option, Some, is_some, count_by, slice_get}
 use Rattle.key_table.specs.NumberedKeys.{AreDistinct}
-use Rattle.keyed_quotient.specs.Levels.{key_at}
+use Rattle.keyed_quotient.specs.KeyedQuotients.{key_at}
 use Rattle.keyed_quotient.specs.Numberings.{Numbering, block_keys, Leads}
 
 -- The new numbers have the keys of the blocks below b, each once and leading to its block, and no other keys.

@@ -4,12 +4,12 @@ use Rattle.std.specs.Coded.{Coded, code_by, coded×, coded_ℕ, coded_list}
 use Rattle.std.specs.List.{IsDistinct}
 use Rattle.std.specs.Option.{option_or}
 use Rattle.std.specs.Map.{lookup, keys_of}
-use Rattle.px_spec.specs.Members.{at}
+use Rattle.graph_spec.specs.Members.{at}
 use Rattle.quotient.specs.Quotients.{view_of}
 use Rattle.quotient_draft.specs.Drafts.{Drafted, drafted_code, no_changes, has_member, shown_blocks, shown_labels, shown_support, settled_view}
 use Rattle.quotient_draft.specs.Basis.{IsOver}
-use Rattle.quotient_draft.specs.Rooms.{HasRoomFor}
-use Rattle.keyed_quotient.specs.Levels.{KeyedQuotient, key_at, AreKeyed}
+use Rattle.quotient_draft.specs.ReservedCapacity.{HasRoomFor}
+use Rattle.keyed_quotient.specs.KeyedQuotients.{KeyedQuotient, key_at, AreKeyed}
 
 pub record KeyedChanges : Type 0 where
   pub drafted : Drafted
@@ -51,11 +51,11 @@ pub record IsKeyedOver (q : KeyedQuotient) (d : KeyedChanges) : Type 0 where
 abbrev pub IsKnown : List (List ℕ) → List ℕ → Type 0
 IsKnown known key = (k : ℕ) × (slice_get known k ≡ Some key)
 
--- the base has room for what the draft shows
-pub record HasKeyRoom (q : KeyedQuotient) (d : KeyedChanges) : Type 0 where
+-- the base has capacity reserved for what the draft shows
+pub record HasReservedKeys (q : KeyedQuotient) (d : KeyedChanges) : Type 0 where
   pub quotient : HasRoomFor q.quotient d.drafted
-  pub known : (i b : ℕ) (key : List ℕ) → slice_get d.keys i ≡ Some (b, key) → IsKnown q.room.known key
-  pub span : (i b : ℕ) (key : List ℕ) → slice_get d.keys i ≡ Some (b, key) → b < q.room.span
+  pub known : (i b : ℕ) (key : List ℕ) → slice_get d.keys i ≡ Some (b, key) → IsKnown q.reserved.known key
+  pub span : (i b : ℕ) (key : List ℕ) → slice_get d.keys i ≡ Some (b, key) → b < q.reserved.span
 
 -- the key of a block once the draft is settled: as it is shown, and none where the block has no members
 abbrev pub settled_key : KeyedQuotient → KeyedChanges → ℕ → Option (List ℕ)

@@ -1,4 +1,4 @@
-pub mod Levels
+pub mod KeyedQuotients
 pub mod Changes
 pub mod Numberings
 pub mod CarriedKeys

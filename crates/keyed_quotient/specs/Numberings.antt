@@ -1,8 +1,8 @@
 -- How keys lead to blocks, and back.
 use Rattle.std.specs.Prelude.{ℕ, ◌≡◌, ◌≢◌, ◌+◌, ◌<◌, ◌≤◌, List, [], ◌∷◌, length, Option, None, Some, IsSome, is_some, option_and_then, cond, slice_get, slice_set}
-use Rattle.px_spec.specs.Members.{at}
+use Rattle.graph_spec.specs.Members.{at}
 use Rattle.key_table.specs.NumberedKeys.{AreDistinct}
-use Rattle.keyed_quotient.specs.Levels.{KeyRoom}
+use Rattle.keyed_quotient.specs.KeyedQuotients.{ReservedKeys}
 
 pub record Numbering : Type 0 where
   -- the keys, by their numbers
@@ -12,8 +12,8 @@ pub record Numbering : Type 0 where
   -- the number of the key of each block
   pub number_of : List ℕ
 
--- what there is room for
-abbrev pub key_room : Numbering → KeyRoom
+-- what is reserved
+abbrev pub key_room : Numbering → ReservedKeys
 key_room t = record { known = t.table; span = length t.number_of }
 
 -- the key of the number that is kept for a block

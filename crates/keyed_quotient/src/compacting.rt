@@ -1,6 +1,6 @@
 // Renumbering of keys, without those that no block has.
 ghost use Rattle.std.specs.Prelude.{◌≡◌, ◌<◌, ◌≤◌, ◌+◌, IsTrue, IsFalse, IfOk, OnOk, OnErr, length};
-ghost use Rattle.block_partition.specs.Partitions.{block_count};
+ghost use Rattle.block_partition.specs.LabelledPartitions.{block_count};
 ghost use Rattle.keyed_quotient.specs.Numberings.{block_keys, IsNumbering};
 ghost use Rattle.keyed_quotient.specs.CarriedKeys.{AreCarried, AreFew};
 

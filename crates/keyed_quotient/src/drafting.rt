@@ -3,25 +3,25 @@ ghost use Rattle.std.specs.Prelude.{◌≡◌, ◌+◌, ◌<◌, ◌≤◌, ◌^
 ghost use Rattle.std.specs.List.{IsDistinct};
 ghost use Rattle.std.specs.Map.{lookup, keys_of};
 ghost use Rattle.key_table.specs.NumberedKeys.{IsAbsent};
-ghost use Rattle.px_spec.specs.Members.{at, Lists};
-ghost use Rattle.px_spec.specs.Graphs.{is_live, has_edge};
-ghost use Rattle.px_spec.specs.Shapes.{shape_of};
+ghost use Rattle.graph_spec.specs.Members.{at, Lists};
+ghost use Rattle.graph_spec.specs.Graphs.{is_live, has_edge};
+ghost use Rattle.graph_spec.specs.Shapes.{shape_of};
 ghost use Rattle.bisim_spec.specs.Partitions.{IsPartition};
-ghost use Rattle.upkeep_spec.specs.Supported.{AreEdgeCounts};
+ghost use Rattle.one_spec.specs.EdgeCounts.{AreEdgeCounts};
 ghost use Rattle.graph_update.specs.PendingChanges.{graph_after};
-ghost use Rattle.block_partition.specs.Partitions.{IsLeastFree, put};
-ghost use Rattle.quotient.specs.Joined.{RaisesPair, LowersPair};
+ghost use Rattle.block_partition.specs.LabelledPartitions.{IsLeastFree, put};
+ghost use Rattle.quotient.specs.QuotientNeighbours.{RaisesPair, LowersPair};
 ghost use Rattle.quotient_draft.specs.Drafts.{with_left, PutsNode};
-ghost use Rattle.node_moves.specs.Costs.{parents_cost, children_cost};
-ghost use Rattle.keyed_quotient.specs.Levels.{KeyedQuotient, AreKeyed, key_at};
+ghost use Rattle.quotient_moves.specs.NeighbourCosts.{parents_cost, children_cost};
+ghost use Rattle.keyed_quotient.specs.KeyedQuotients.{KeyedQuotient, AreKeyed, key_at};
 ghost use Rattle.keyed_quotient.specs.Changes.{no_keyed_changes, blocks_as_shown, labels_as_shown, support_as_shown, shown_key, IsKeyedOver, SetsKey};
 
 use crate::keyed::KeyedSummary;
 use graph_update::After;
 use key_table::KeyTable;
-use node_moves::{Near, move_node};
 use px_base::{Memory, NodeId, Steps};
 use quotient_draft::Draft;
+use quotient_moves::{NodeNeighbours, move_node};
 use std::alloc::Global;
 use std::marker::Model;
 use std::sync::ledger::Ledger;
@@ -231,7 +231,7 @@ impl KeyedDraft {
     }
 
     /// Drafts the move of a node to a block as shown, with the supports of its edges. Its parents and its children are read once, and its
-    /// children stay in `near`. After `Memory` the draft must be cleared before it is used again. Expected O(p + c) for p parents and c
+    /// children stay in `neighbours`. After `Memory` the draft must be cleared before it is used again. Expected O(p + c) for p parents and c
     /// children; it takes the memory of one move and of two pairs for each.
     pub fn move_node<L: Ledger>(
         &mut self,
@@ -239,7 +239,7 @@ impl KeyedDraft {
         after: &After<'_>,
         n: NodeId,
         b: u32,
-        near: &mut Near,
+        neighbours: &mut NodeNeighbours,
         steps: &mut Steps<L>,
     ) -> Result<(), Memory>
         requires over { IsKeyedOver base.now self.old }
@@ -251,11 +251,19 @@ impl KeyedDraft {
         ensures added { self.new.drafted.added ≡ self.old.drafted.added }
         ensures keys { self.new.keys ≡ self.old.keys }
         ensures supports { OnOk result (AreEdgeCounts (graph_after after.now) (blocks_as_shown base.now self.new) (support_as_shown base.now self.new)) }
-        ensures children { OnOk result (Lists (has_edge (graph_after after.now) n) near.new) }
+        ensures children { OnOk result (Lists (has_edge (graph_after after.now) n) neighbours.new) }
         ensures over { OnOk result (IsKeyedOver base.now self.new) }
         ensures cost { steps.new ≤ steps.old + parents_cost after.now n + children_cost after.now n }
     {
-        move_node(&base.summary, &mut self.draft, after, n, b, near, steps)?;
+        move_node(
+            &base.summary,
+            &mut self.draft,
+            after,
+            n,
+            b,
+            neighbours,
+            steps,
+        )?;
         Ok(())
     }
 

@@ -1,8 +1,8 @@
 // A quotient whose blocks have keys.
 ghost use Rattle.std.specs.Prelude.{◌≡◌, ◌↔◌, ℕ, List, Some, IsSome, IsTrue, IsFalse, IfOk, IfSome, slice_get};
-ghost use Rattle.px_spec.specs.Members.{at};
-ghost use Rattle.block_partition.specs.Partitions.{IsBlock};
-ghost use Rattle.keyed_quotient.specs.Levels.{HasKey, AreKeyed, key_at};
+ghost use Rattle.graph_spec.specs.Members.{at};
+ghost use Rattle.block_partition.specs.LabelledPartitions.{IsBlock};
+ghost use Rattle.keyed_quotient.specs.KeyedQuotients.{HasKey, AreKeyed, key_at};
 ghost use Rattle.keyed_quotient.specs.Numberings.{block_keys, numbered_key, IsNumbering, Leads};
 
 use crate::numbering::KeyNumbers;
@@ -41,14 +41,14 @@ impl Drop for KeyedSummary {
 }
 
 impl Model for KeyedSummary {
-    ghost use Rattle.keyed_quotient.specs.Levels.{KeyedQuotient, keyed_code};
+    ghost use Rattle.keyed_quotient.specs.KeyedQuotients.{KeyedQuotient, keyed_code};
     ghost use Rattle.keyed_quotient.specs.Numberings.{block_keys, key_room, IsNumbering};
 
     ghost Value = { KeyedQuotient };
 
     ghost coded = { keyed_code };
 
-    ghost view = { λ s. record { quotient = s.summary; keys = block_keys s.summary.blocks.labels s.numbers; room = key_room s.numbers } };
+    ghost view = { λ s. record { quotient = s.summary; keys = block_keys s.summary.blocks.labels s.numbers; reserved = key_room s.numbers } };
 
     ghost invariant = { λ s. IsNumbering s.summary.blocks.labels s.numbers };
 }

@@ -168,7 +168,7 @@ impl KeyNumbers {
         self.words <= self.words_anew.saturating_add(more)
     }
 
-    /// Makes room for blocks with numbers below this one.
+    /// Reserves capacity for blocks with numbers below this one.
     pub(crate) fn reach(&mut self, span: u32) -> Result<(), Memory>
         ensures grows { Grows self.old self.new }
         ensures table { self.new.table ≡ self.old.table }

@@ -4,7 +4,7 @@ ghost use Rattle.std.specs.List.{zip};
 ghost use Rattle.key_table.specs.NumberedKeys.{AreDistinct};
 ghost use Rattle.keyed_quotient.specs.Numberings.{Grows, AreApart, GivenBelow};
 ghost use Rattle.quotient.specs.Quotients.{view_of};
-ghost use Rattle.keyed_quotient.specs.Changes.{no_keyed_changes, blocks_as_shown, support_as_shown, IsKeyedOver, IsKnown, HasKeyRoom, IsSettled, AreInhabited, AreUnsupported};
+ghost use Rattle.keyed_quotient.specs.Changes.{no_keyed_changes, blocks_as_shown, support_as_shown, IsKeyedOver, IsKnown, HasReservedKeys, IsSettled, AreInhabited, AreUnsupported};
 
 use crate::compacting::compact;
 use crate::drafting::{KeyedDraft, read};
@@ -14,7 +14,7 @@ use key_table::KeyTable;
 use px_base::Memory;
 
 impl KeyedDraft {
-    /// Makes the room in the base that settling this draft needs. It leaves the base as it is seen. Expected O(d + l) for d entries that
+    /// Reserves the capacity in the base that settling this draft needs. It leaves the base as it is seen. Expected O(d + l) for d entries that
     /// are drafted, with keys of l numbers together, and linear in a table of the base where that moves; it takes what the drafted entries
     /// take there. Where many keys have no block, or may be long, it first rebuilds the table of keys without them, in expected O(s + m)
     /// for a span s of block numbers and keys of the blocks of m numbers together. The keys that came before pay for that: it happens again
@@ -23,7 +23,7 @@ impl KeyedDraft {
         requires over { IsKeyedOver base.old self.now }
         ensures view { view_of base.new.quotient ≡ view_of base.old.quotient }
         ensures keys { base.new.keys ≡ base.old.keys }
-        ensures room { OnOk result (HasKeyRoom base.new self.now) }
+        ensures reserved { OnOk result (HasReservedKeys base.new self.now) }
     {
         self.draft.reserve(&mut base.summary)?;
         compact(base.alloc, &base.summary, &mut base.numbers)?;
@@ -37,7 +37,7 @@ impl KeyedDraft {
     /// Expected O(d + l) for d entries that are drafted, with keys of l numbers together, and what `clear` takes; no memory.
     pub fn settle(&mut self, base: &mut KeyedSummary)
         requires over { IsKeyedOver base.old self.old }
-        requires room { HasKeyRoom base.old self.old }
+        requires reserved { HasReservedKeys base.old self.old }
         requires inhabited { AreInhabited base.old.quotient.blocks.labels base.old.quotient.blocks.block_of }
         requires unsupported { AreUnsupported (blocks_as_shown base.old self.old) (support_as_shown base.old self.old) }
         ensures settled { IsSettled base.old self.old base.new }

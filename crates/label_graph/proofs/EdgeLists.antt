@@ -6,8 +6,8 @@ use Rattle.std.specs.Ordering.{eq_by_cmp}
 use Rattle.std.specs.FinSet as set
 use Rattle.std.proofs.lemmas.Bool.{ne_eqb}
 use Rattle.std.proofs.lemmas.List.Folds.{list_any-append}
-use Rattle.px_spec.specs.Graphs.{edge_cmp}
-use Rattle.px_spec.proofs.EdgeOrder.{edge_cmp_total, edge_cmp-IsAntisymmetric, eq_pair}
+use Rattle.graph_spec.specs.Graphs.{edge_cmp}
+use Rattle.graph_spec.proofs.EdgeOrder.{edge_cmp_total, edge_cmp-IsAntisymmetric, eq_pair}
 use Rattle.label_graph.specs.Nodes.{Node, children_of, parents_of, pairs_from, edges_of, Mirrors}
 use Rattle.std.proofs.Math.Bool.{and-false, or-false}
 

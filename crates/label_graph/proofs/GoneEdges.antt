@@ -5,19 +5,19 @@ use Rattle.std.specs.List.{IsDistinct}
 use Rattle.std.specs.Ordering.{eq_by_cmp}
 use Rattle.std.specs.FinSet as set
 use Rattle.std.proofs.lemmas.Bool.{eqb-true, eqb-false}
-use Rattle.px_spec.specs.Graphs.{Edges, edge_cmp}
-use Rattle.px_spec.specs.Changes.{without_edge}
-use Rattle.px_spec.specs.Members.{has}
-use Rattle.px_spec.proofs.EdgeOrder.{edge_cmp_total, edge_cmp-IsAntisymmetric}
+use Rattle.graph_spec.specs.Graphs.{Edges, edge_cmp}
+use Rattle.graph_spec.specs.Changes.{without_edge}
+use Rattle.graph_spec.specs.Members.{has}
+use Rattle.graph_spec.proofs.EdgeOrder.{edge_cmp_total, edge_cmp-IsAntisymmetric}
 use Rattle.label_graph.specs.Nodes.{Node, labels_of, number_at, texts_of, children_of, parents_of, edges_of, Mirrors, LacksEdge}
 use Rattle.label_graph.specs.declared.node.Reserved.{Reserved}
 use Rattle.label_graph.specs.declared.node.Reserved.TheVariants.{Nothing}
-use Rattle.label_graph.specs.Held.{graph_by}
+use Rattle.label_graph.specs.ReservedGraphs.{graph_by}
 use Rattle.label_graph.specs.LabelTable.{LabelTable}
 use Rattle.label_graph.specs.Soundness.{IsSoundGraph, AreSound, HaveLabelNumbers, IsLive}
 use Rattle.label_graph.proofs.EdgeLists.{has_edge-children, and_comm}
 use Rattle.label_graph.proofs.KeepsSound.{labels-cleared}
-use Rattle.px_spec.proofs.EdgeOrder.{eq_pair}
+use Rattle.graph_spec.proofs.EdgeOrder.{eq_pair}
 
 -- a set with an edge isn't empty
 pub some-edge : (s : Edges) (u v : ℕ) → set.contains s (u, v) ≡ true → 0 < set.len s
@@ -100,9 +100,9 @@ module _ (old new : List Node) (u v : ℕ) (l : LacksEdge old new u v) where
     sound-less capacity edges count r more o there = record {
       lists = lists-taken edges o.lists there;
       labels = subst (λ ls. HaveLabelNumbers (record { texts = table.texts; ahead = None }) ls count) (sym l.labels) (labels-cleared table (labels_of old) count o.labels);
-      room = refl;
+      reserved = refl;
     }
 
     -- the graph has one edge less
     pub edge-taken : graph_by (record { texts = table.texts; ahead = None }) new ≡ without_edge (graph_by table old) u v
-    edge-taken i = record { given = texts_of table.texts (l.labels i); edges = edges-taken i; seen = table.texts }
+    edge-taken i = record { allocated = texts_of table.texts (l.labels i); edges = edges-taken i; seen = table.texts }

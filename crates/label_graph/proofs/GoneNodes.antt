@@ -4,18 +4,18 @@ use Rattle.std.specs.Prelude.{slice_get, slice_set, is_some, option_and_then}
 use Rattle.std.specs.List.{count_by}
 use Rattle.std.proofs.lemmas.List.{map-set}
 use Rattle.std.proofs.lemmas.List.Sums.{sum_by-cons}
-use Rattle.px_spec.specs.Graphs.{is_live}
-use Rattle.px_spec.specs.Changes.{without_node}
-use Rattle.px_spec.specs.Members.{has}
+use Rattle.graph_spec.specs.Graphs.{is_live}
+use Rattle.graph_spec.specs.Changes.{without_node}
+use Rattle.graph_spec.specs.Members.{has}
 use Rattle.label_graph.specs.Nodes.{Node, labels_of, number_at, texts_of, children_of, parents_of}
 use Rattle.label_graph.specs.declared.node.Reserved.{Reserved}
 use Rattle.label_graph.specs.declared.node.Reserved.TheVariants.{Nothing}
-use Rattle.label_graph.specs.Held.{graph_by}
+use Rattle.label_graph.specs.ReservedGraphs.{graph_by}
 use Rattle.label_graph.specs.LabelTable.{LabelTable}
 use Rattle.label_graph.specs.Soundness.{IsSoundGraph, HaveLabelNumbers, IsLive}
 use Rattle.label_graph.proofs.EdgeLists.{has_edge-children}
 use Rattle.label_graph.proofs.KeepsSound.{edges-same, lists-as, labels-cleared}
-use Rattle.px_spec.proofs.Uses.{IsBare}
+use Rattle.graph_spec.proofs.Uses.{IsBare}
 
 -- the other numbers stay
 number-other : (numbers : List (Option ℕ)) (i n : ℕ) → n ≢ i → number_at (slice_set numbers i None) n ≡ number_at numbers n
@@ -81,13 +81,13 @@ module _ (table : LabelTable) (old new : List Node) (u : ℕ) (live : IsTrue (is
           }) o.lists;
       labels = subst (λ ls. HaveLabelNumbers (record { texts = table.texts; ahead = None }) ls (count - 1)) (sym labels)
           (labels-cleared table (slice_set (labels_of old) u None) (count - 1) (labels-less table (labels_of old) count u o.labels live));
-      room = refl;
+      reserved = refl;
     }
 
   -- the graph has one node less
   pub node-taken : graph_by (record { texts = table.texts; ahead = None }) new ≡ without_node (graph_by table old) u
   node-taken i = record {
-    given = (ap (texts_of table.texts) labels ∙ map-set (option_and_then (slice_get table.texts)) (labels_of old) u None) i;
+    allocated = (ap (texts_of table.texts) labels ∙ map-set (option_and_then (slice_get table.texts)) (labels_of old) u None) i;
     edges = edges-same old new children i;
     seen = table.texts;
   }

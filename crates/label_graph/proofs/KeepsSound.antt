@@ -9,10 +9,10 @@ use Rattle.std.proofs.lemmas.List.{length-map}
 use Rattle.std.proofs.lemmas.List.Folds.{list_any-append}
 use Rattle.std.proofs.lemmas.Map.Keys.{IsDistinct-push}
 use Rattle.std.proofs.lemmas.Bool.{eqb-true}
-use Rattle.px_spec.specs.Graphs.{edge_cmp, is_seen}
-use Rattle.px_spec.specs.Members.{has}
-use Rattle.px_spec.proofs.EdgeOrder.{edge_cmp_total, edge_cmp-IsAntisymmetric}
-use Rattle.label_graph.specs.Nodes.{Node, labels_of, number_at, children_of, parents_of, edges_of, SameNodes, HasRoom}
+use Rattle.graph_spec.specs.Graphs.{edge_cmp, is_seen}
+use Rattle.graph_spec.specs.Members.{has}
+use Rattle.graph_spec.proofs.EdgeOrder.{edge_cmp_total, edge_cmp-IsAntisymmetric}
+use Rattle.label_graph.specs.Nodes.{Node, labels_of, number_at, children_of, parents_of, edges_of, SameNodes, HasReserved}
 use Rattle.label_graph.specs.declared.node.Reserved.{Reserved}
 use Rattle.label_graph.specs.declared.node.Reserved.TheVariants.{Nothing, Label, Pair}
 use Rattle.label_graph.specs.LabelTable.{LabelTable, entries, with_ahead}
@@ -56,7 +56,7 @@ fits-same table old new capacity more (Pair u v) h s f = record {
   none_ahead = f.none_ahead;
   from = subst (λ l. IsSome (number_at l u)) (sym s.labels) f.from;
   onto = subst (λ l. IsSome (number_at l v)) (sym s.labels) f.onto;
-  room = record { child = omega (arith, f.room.child, s.child_rooms u); parent = omega (arith, f.room.parent, s.parent_rooms v) };
+  reserved = record { child = omega (arith, f.reserved.child, s.child_reserves u); parent = omega (arith, f.reserved.parent, s.parent_reserves v) };
 }
 
 -- nothing lies ahead of the labels
@@ -70,21 +70,21 @@ labels-cleared table numbers count a = record {
 }
 
 module _ (table : LabelTable) (edges count : ℕ) where
-  -- the same nodes, with no less room
+  -- the same nodes, with no less reserved
   pub sound-same : (old new : List Node) (capacity more : ℕ) (r : Reserved) → capacity ≤ more → SameNodes old new → IsSoundGraph table old capacity edges count r → IsSoundGraph table new more edges count r
   sound-same old new capacity more r h s o = record {
     lists = lists-kept old new edges s.children s.parents (λ w l. subst (λ ls. IsSome (number_at ls w)) (sym s.labels) l) o.lists;
     labels = subst (λ ls. HaveLabelNumbers table ls count) (sym s.labels) o.labels;
-    room = fits-same table old new capacity more r h s o.room;
+    reserved = fits-same table old new capacity more r h s o.reserved;
   }
 
   module _ (nodes : List Node) (capacity : ℕ) (r : Reserved) (o : IsSoundGraph table nodes capacity edges count r) where
     -- an edge has the room
-    pub sound-pair : (u v : ℕ) → IsLive nodes u → IsLive nodes v → HasRoom nodes u v → IsSoundGraph (record { texts = table.texts; ahead = None }) nodes capacity edges count (Pair u v)
-    sound-pair u v from onto room = record {
+    pub sound-pair : (u v : ℕ) → IsLive nodes u → IsLive nodes v → HasReserved nodes u v → IsSoundGraph (record { texts = table.texts; ahead = None }) nodes capacity edges count (Pair u v)
+    sound-pair u v from onto reserved = record {
       lists = o.lists;
       labels = labels-cleared table (labels_of nodes) count o.labels;
-      room = record { none_ahead = refl; from = from; onto = onto; room = room };
+      reserved = record { none_ahead = refl; from = from; onto = onto; reserved = reserved };
     }
 
     ahead-once : (t : List ℕ) (b : Bool) → is_seen table.texts t ≡ b → IsDistinct bytes_eq (entries (record { texts = table.texts; ahead = if b then None else Some t }))
@@ -103,7 +103,7 @@ module _ (table : LabelTable) (edges count : ℕ) where
         below = o.labels.below;
         node_count_is = o.labels.node_count_is;
       };
-      room = record { next = n; spare = h };
+      reserved = record { next = n; spare = h };
     }
 
 nat_laws : IsEquivalence nat_eq
@@ -176,7 +176,7 @@ empty capacity = record {
     below = λ n l e. cc;
     node_count_is = refl;
   };
-  room = refl;
+  reserved = refl;
 }
 
 pub sound-empty : (table : LabelTable) (nodes : List Node) (capacity : ℕ) → table ≡ record { texts = []; ahead = None } → nodes ≡ [] → IsSoundGraph table nodes capacity 0 0 Nothing

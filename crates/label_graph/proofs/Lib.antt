@@ -1,11 +1,11 @@
 pub mod Positions
-pub mod Pieces
+pub mod SearchedPieces
 pub mod Tables
 pub mod EdgeLists
 pub mod ListWithout
 pub mod SetNodes
 pub mod GetNodes
-pub mod NodeRooms
+pub mod NodeReserves
 pub mod SegmentLemmas
 pub mod RowLemmas
 pub mod RowEdges

@@ -7,10 +7,10 @@ use Rattle.std.proofs.lemmas.Bool.{eqb-true}
 use Rattle.std.proofs.lemmas.List.Quantifiers.{position-Some}
 use Rattle.std.proofs.lemmas.List.Sorted.{IsPermutation-swap_remove, list_any-IsPermutation}
 use Rattle.std.proofs.lemmas.Map.Keys.{IsDistinct-IsPermutation, IsDistinct-head, IsDistinct-tail}
-use Rattle.px_spec.specs.Members.{has}
+use Rattle.graph_spec.specs.Members.{has}
 use Rattle.label_graph.specs.Nodes.{IsWithout}
 use Rattle.label_graph.proofs.Positions.{position-none}
-use Rattle.px_spec.proofs.ListLemmas.{none-has}
+use Rattle.graph_spec.proofs.ListLemmas.{none-has}
 
 -- what was one number and others has just the others
 others : (n : ℕ) (old new : List ℕ) → has new n ≡ false → ((m : ℕ) → has old m ≡ (nat_eq m n || has new m)) → (m : ℕ) → has new m ≡ (not (nat_eq m n) && has old m)

@@ -7,17 +7,17 @@ use Rattle.std.proofs.lemmas.List.{map-append}
 use Rattle.std.proofs.lemmas.List.Sums.{sum_by-append}
 use Rattle.std.proofs.lemmas.Map.Keys.{any_passes_from_place}
 use Rattle.std.proofs.lemmas.Option.{slice_get-get_or}
-use Rattle.px_spec.specs.Graphs.{is_seen}
-use Rattle.px_spec.specs.Changes.{with_label, with_node}
+use Rattle.graph_spec.specs.Graphs.{is_seen}
+use Rattle.graph_spec.specs.Changes.{with_label, with_node}
 use Rattle.label_graph.specs.Nodes.{Node, labels_of, number_at, texts_of, children_of, parents_of}
 use Rattle.label_graph.specs.declared.node.Reserved.{Reserved}
 use Rattle.label_graph.specs.declared.node.Reserved.TheVariants.{Nothing, Label, Pair}
-use Rattle.label_graph.specs.Held.{graph_by, room_by, label_room, pair_room}
-use Rattle.label_graph.specs.LabelTable.{LabelTable, entries, with_ahead_shown}
+use Rattle.label_graph.specs.ReservedGraphs.{graph_by, reserved_by, label_reserved, pair_reserved}
+use Rattle.label_graph.specs.LabelTable.{LabelTable, entries, with_ahead_effective}
 use Rattle.label_graph.specs.Soundness.{IsSoundGraph, HaveLabelNumbers, IsNext}
 use Rattle.label_graph.proofs.KeepsSound.{edges-same, lists-kept}
 use Rattle.label_graph.proofs.Tables.{bytes_laws}
-use Rattle.px_spec.proofs.ListLemmas.{get_seam}
+use Rattle.graph_spec.proofs.ListLemmas.{get_seam}
 
 -- what holds of each item holds of the last
 all_last : {X : Type 0} (P : X → Type 0) (xs : List X) (y : X) → AllByRecursion P (xs ++ y ∷ []) → P y
@@ -95,7 +95,7 @@ module _ (table : LabelTable) (numbers : List (Option ℕ)) (count l : ℕ) (a :
   texts-pushed : (t : List ℕ) → slice_get (entries table) l ≡ Some t → texts_of (entries table) (numbers ++ Some l ∷ []) ≡ texts_of table.texts numbers ++ Some t ∷ []
   texts-pushed t e = pushed ∙ ap (λ x. texts_of table.texts numbers ++ x ∷ []) e
 
-  pub labels-pushed : length numbers < 2 ^ 30 → HaveLabelNumbers (with_ahead_shown table) (numbers ++ Some l ∷ []) (count + 1)
+  pub labels-pushed : length numbers < 2 ^ 30 → HaveLabelNumbers (with_ahead_effective table) (numbers ++ Some l ∷ []) (count + 1)
   labels-pushed few = record {
     few_nodes = omega (arith, length-append numbers (Some l ∷ []));
     few_labels = omega (arith, length-append numbers (Some l ∷ []), few-entries table.texts table.ahead, a.few_labels);
@@ -113,19 +113,19 @@ module _ (table : LabelTable) (numbers : List (Option ℕ)) (count l : ℕ) (a :
 module _ (table : LabelTable) (old new : List Node) (capacity edges count l : ℕ) (o : IsSoundGraph table old capacity edges count (Label l))
     (labels : labels_of new ≡ labels_of old ++ Some l ∷ [])
     (children : (w : ℕ) → children_of new w ≡ children_of old w) (parents : (w : ℕ) → parents_of new w ≡ parents_of old w) where
-  pub sound-node : (more : ℕ) → length (labels_of old) < 2 ^ 30 → IsSoundGraph (with_ahead_shown table) new more edges (count + 1) Nothing
+  pub sound-node : (more : ℕ) → length (labels_of old) < 2 ^ 30 → IsSoundGraph (with_ahead_effective table) new more edges (count + 1) Nothing
   sound-node more few = record {
     lists = lists-kept old new edges children parents (λ w h. subst (λ ls. IsSome (number_at ls w)) (sym labels) (number-kept (labels_of old) (Some l) w h)) o.lists;
-    labels = subst (λ ls. HaveLabelNumbers (with_ahead_shown table) ls (count + 1)) (sym labels) (labels-pushed table (labels_of old) count l o.labels o.room.next few);
-    room = refl;
+    labels = subst (λ ls. HaveLabelNumbers (with_ahead_effective table) ls (count + 1)) (sym labels) (labels-pushed table (labels_of old) count l o.labels o.reserved.next few);
+    reserved = refl;
   }
 
   -- the graph has one more node
-  pub node-added : (t : List ℕ) → slice_get (entries table) l ≡ Some t → graph_by (with_ahead_shown table) new ≡ with_node (graph_by table old) t
+  pub node-added : (t : List ℕ) → slice_get (entries table) l ≡ Some t → graph_by (with_ahead_effective table) new ≡ with_node (graph_by table old) t
   node-added t e i = record {
-    given = (ap (texts_of (entries table)) labels ∙ texts-pushed table (labels_of old) count l o.labels o.room.next t e) i;
+    allocated = (ap (texts_of (entries table)) labels ∙ texts-pushed table (labels_of old) count l o.labels o.reserved.next t e) i;
     edges = edges-same old new children i;
-    seen = entries-are table.texts table.ahead l t o.labels.once o.room.next e i;
+    seen = entries-are table.texts table.ahead l t o.labels.once o.reserved.next e i;
   }
 
 only : (o : Option (List ℕ)) (t : List ℕ) → option_to_list o ≡ t ∷ [] → o ≡ Some t
@@ -133,13 +133,13 @@ only None t e = cc
 only (Some x) t e = let same : x ≡ t = cc in ap Some same
 
 -- which room a graph shows
-pub label-shown : (table : LabelTable) (l : ℕ) (t : List ℕ) → room_by table (Label l) ≡ label_room t → slice_get (entries table) l ≡ Some t
-label-shown table l t e = only (slice_get (entries table) l) t (ap (λ r. r.labels) e)
+pub label-effective : (table : LabelTable) (l : ℕ) (t : List ℕ) → reserved_by table (Label l) ≡ label_reserved t → slice_get (entries table) l ≡ Some t
+label-effective table l t e = only (slice_get (entries table) l) t (ap (λ r. r.labels) e)
 
-pub pair-shown : (table : LabelTable) (r : Reserved) (u v : ℕ) → room_by table r ≡ pair_room u v → r ≡ Pair u v
-pair-shown table Nothing u v e = let p = ap (λ r. r.pairs) e in cc
-pair-shown table (Label l) u v e = let p = ap (λ r. r.pairs) e in cc
-pair-shown table (Pair a b) u v e =
+pub pair-effective : (table : LabelTable) (r : Reserved) (u v : ℕ) → reserved_by table r ≡ pair_reserved u v → r ≡ Pair u v
+pair-effective table Nothing u v e = let p = ap (λ r. r.pairs) e in cc
+pair-effective table (Label l) u v e = let p = ap (λ r. r.pairs) e in cc
+pair-effective table (Pair a b) u v e =
     let p = ap (λ r. r.pairs) e in
     let first : a ≡ u = ap (λ (l : List (ℕ × ℕ)). (get_or l 0 (0, 0)).0) p in
     let second : b ≡ v = ap (λ (l : List (ℕ × ℕ)). (get_or l 0 (0, 0)).1) p in

@@ -10,7 +10,7 @@ use Rattle.std.proofs.lemmas.Map.Keys.{apart_from_distinct}
 use Rattle.std.proofs.lemmas.Slice.Eq.{bytes_eq-Decides}
 use Rattle.std.proofs.lemmas.Option.{slice_get_within, slice_get-get_or, get_or_from_slice_get}
 use Rattle.label_graph.proofs.Tables.{bytes_laws}
-use Rattle.px_spec.proofs.ListLemmas.{found, is_found}
+use Rattle.graph_spec.proofs.ListLemmas.{found, is_found}
 
 pub prefix_len-take : {X : Type 0} (p : X → Bool) (n : ℕ) (xs : List X) → prefix_len p (take n xs) ≡ min n (prefix_len p xs)
 prefix_len-take p zero xs = omega arith

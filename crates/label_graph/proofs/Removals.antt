@@ -3,7 +3,7 @@ use Rattle.std.proofs.Common.{◌≡◌, ℕ, ◌<◌, List, length, sym, ap, �
 use Rattle.std.specs.List.{IsDistinct}
 use Rattle.label_graph.specs.Nodes.{Node, children_of, parents_of, IsWithout, LacksEdge}
 use Rattle.label_graph.proofs.SetNodes.{children-at, parents-at, children-set_same, parents-set_same, children-set_other, parents-set_other, children-set_kept, parents-set_kept}
-use Rattle.label_graph.proofs.NodeRooms.{labels-both}
+use Rattle.label_graph.proofs.NodeReserves.{labels-both}
 
 without-by : (old new old2 new2 : List ℕ) (n : ℕ) → old2 ≡ old → new2 ≡ new → IsWithout old new n → IsWithout old2 new2 n
 without-by old new old2 new2 n o w s = subst (λ l. IsWithout l new2 n) (sym o) (subst (λ l. IsWithout old l n) (sym w) s)

@@ -5,11 +5,11 @@ use Rattle.std.specs.List.{IsDistinct}
 use Rattle.std.proofs.lemmas.List.{length-map}
 use Rattle.label_graph.specs.declared.segment.Segment.{Segment}
 use Rattle.label_graph.specs.declared.node.Row.{Row}
-use Rattle.label_graph.specs.Nodes.{Node, labels_of, children_of, parents_of, SameNodes, HasRoom, IsWithout, LacksEdge}
+use Rattle.label_graph.specs.Nodes.{Node, labels_of, children_of, parents_of, SameNodes, HasReserved, IsWithout, LacksEdge}
 use Rattle.label_graph.specs.Segments.{items_in, LiesWithin, Writes}
-use Rattle.label_graph.specs.Rows.{AreHeld, list_in, node_in, nodes_in}
+use Rattle.label_graph.specs.NodeRows.{AreHeld, list_in, node_in, nodes_in}
 use Rattle.label_graph.proofs.SetNodes.{edge-children, edge-parents}
-use Rattle.label_graph.proofs.NodeRooms.{Keeps, same-set, same-both, room-both, child-fits, parent-fits, labels-both}
+use Rattle.label_graph.proofs.NodeReserves.{Keeps, same-set, same-both, reserved-both, child-fits, parent-fits, labels-both}
 use Rattle.label_graph.proofs.Removals.{children-once, parents-once, lacks-edge}
 use Rattle.label_graph.proofs.SegmentLemmas.{items-length}
 use Rattle.label_graph.proofs.RowLemmas.{child-within, parent-within, row-seen, below-seen, child-seen, held-child, parent-seen, held-parent}
@@ -22,8 +22,8 @@ module _ (cells : List ℕ) (rows : List Row) (u : ℕ) (a : Row) (from : u < le
   node_a : node_in cells a ≡ get_or (nodes_in cells rows) u (node_in cells a)
   node_a = row-seen cells rows u a from is_a
 
-  pub child-room : (v : ℕ) → HasRoom (nodes_in cells rows) u v → a.children.len < a.children.room
-  child-room v r = omega (arith, child-fits (nodes_in cells rows) u v (node_in cells a) below_a node_a r, items-length cells a.children (child-within cells rows u a from is_a h))
+  pub child-reserved : (v : ℕ) → HasReserved (nodes_in cells rows) u v → a.children.len < a.children.reserved
+  child-reserved v r = omega (arith, child-fits (nodes_in cells rows) u v (node_in cells a) below_a node_a r, items-length cells a.children (child-within cells rows u a from is_a h))
 
   pub child-distinct : IsDistinct nat_eq (children_of (nodes_in cells rows) u) → IsDistinct nat_eq (items_in cells a.children)
   child-distinct = children-once (nodes_in cells rows) u (node_in cells a) below_a node_a
@@ -41,11 +41,11 @@ module _ (cells : List ℕ) (rows : List Row) (u : ℕ) (a : Row) (from : u < le
     seen_once : nodes_in one once ≡ set (nodes_in cells rows) u first
     seen_once = child-seen cells one rows u a s from is_a h w
 
-    -- the list has the same numbers, and no less room
-    pub same-first : items_in one s ≡ items_in cells a.children → a.children.room ≤ s.room → SameNodes (nodes_in cells rows) (nodes_in one once)
+    -- the list has the same numbers, and no less reserved
+    pub same-first : items_in one s ≡ items_in cells a.children → a.children.reserved ≤ s.reserved → SameNodes (nodes_in cells rows) (nodes_in one once)
     same-first e more =
         subst (SameNodes (nodes_in cells rows)) (sym seen_once)
-        (same-set (nodes_in cells rows) u (node_in cells a) first below_a node_a (record { label = refl; children = e; parents = refl; child_room = more; parent_room = omega arith }))
+        (same-set (nodes_in cells rows) u (node_in cells a) first below_a node_a (record { label = refl; children = e; parents = refl; child_reserved = more; parent_reserved = omega arith }))
 
     -- the row of the parents
     module _ (v : ℕ) (b : Row) (onto : v < length rows) (is_b : b ≡ get_or once v b) where
@@ -61,8 +61,8 @@ module _ (cells : List ℕ) (rows : List Row) (u : ℕ) (a : Row) (from : u < le
       pub second-within : LiesWithin (length one) b.parents
       second-within = parent-within one once v b within_b is_b held-once
 
-      pub parent-room : HasRoom (nodes_in cells rows) u v → b.parents.len < b.parents.room
-      parent-room r = omega (
+      pub parent-reserved : HasReserved (nodes_in cells rows) u v → b.parents.len < b.parents.reserved
+      parent-reserved r = omega (
         arith,
         parent-fits (nodes_in cells rows) u v first first (node_in cells a) (node_in one b) below_a below_b node_a node_b r refl,
         items-length one b.parents second-within,
@@ -90,23 +90,23 @@ module _ (cells : List ℕ) (rows : List Row) (u : ℕ) (a : Row) (from : u < le
         pub labels-same : labels_of (nodes_in two twice) ≡ labels_of (nodes_in cells rows)
         labels-same = ap labels_of seen_twice ∙ labels_kept
 
-        -- both lists have the same numbers, and no less room
-        module _ (e : items_in one s ≡ items_in cells a.children) (more : a.children.room ≤ s.room) (f : items_in two t ≡ items_in one b.parents) (most : b.parents.room ≤ t.room) where
+        -- both lists have the same numbers, and no less reserved
+        module _ (e : items_in one s ≡ items_in cells a.children) (more : a.children.reserved ≤ s.reserved) (f : items_in two t ≡ items_in one b.parents) (most : b.parents.reserved ≤ t.reserved) where
           keeps_a : Keeps (node_in cells a) first
-          keeps_a = record { label = refl; children = e; parents = refl; child_room = more; parent_room = omega arith }
+          keeps_a = record { label = refl; children = e; parents = refl; child_reserved = more; parent_reserved = omega arith }
 
           keeps_b : Keeps (node_in one b) second
-          keeps_b = record { label = refl; children = refl; parents = f; child_room = omega arith; parent_room = most }
+          keeps_b = record { label = refl; children = refl; parents = f; child_reserved = omega arith; parent_reserved = most }
 
           pub same-second : SameNodes (nodes_in cells rows) (nodes_in two twice)
           same-second =
               subst (SameNodes (nodes_in cells rows)) (sym seen_twice)
               (same-both (nodes_in cells rows) u v first second (node_in cells a) (node_in one b) below_a below_b node_a node_b keeps_a keeps_b)
 
-          pub edge-room : s.len < s.room → t.len < t.room → HasRoom (nodes_in two twice) u v
-          edge-room c p =
-              subst (λ l. HasRoom l u v) (sym seen_twice)
-              (room-both (nodes_in cells rows) u v first second (node_in cells a) (node_in one b) below_a below_b node_a node_b keeps_b
+          pub edge-reserved : s.len < s.reserved → t.len < t.reserved → HasReserved (nodes_in two twice) u v
+          edge-reserved c p =
+              subst (λ l. HasReserved l u v) (sym seen_twice)
+              (reserved-both (nodes_in cells rows) u v first second (node_in cells a) (node_in one b) below_a below_b node_a node_b keeps_b
               (omega (arith, c, items-length one s w.within)) (omega (arith, p, items-length two t x.within)))
 
         -- each list has one number more

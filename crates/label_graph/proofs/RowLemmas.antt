@@ -7,7 +7,7 @@ use Rattle.label_graph.specs.declared.segment.Segment.{Segment}
 use Rattle.label_graph.specs.declared.node.Row.{Row}
 use Rattle.label_graph.specs.Nodes.{Node, labels_of, number_at, children_of, parents_of}
 use Rattle.label_graph.specs.Segments.{items_in, LiesWithin, IsApart, Writes}
-use Rattle.label_graph.specs.Rows.{segments_of, AreHeld, list_in, node_in, nodes_in}
+use Rattle.label_graph.specs.NodeRows.{segments_of, AreHeld, list_in, node_in, nodes_in}
 use Rattle.label_graph.proofs.SetNodes.{children-at, parents-at}
 
 abbrev pub twice : ℕ → ℕ
@@ -105,8 +105,8 @@ module _ (cells more : List ℕ) (rows : List Row) (n : ℕ) (r : Row) (t : Segm
   row-same : (x : Row) → items_in more x.children ≡ items_in cells x.children → items_in more x.parents ≡ items_in cells x.parents → node_in more x ≡ node_in cells x
   row-same x c p i = record {
     label = x.label;
-    children = record { items = c i; capacity = x.children.room };
-    parents = record { items = p i; capacity = x.parents.room };
+    children = record { items = c i; capacity = x.children.reserved };
+    parents = record { items = p i; capacity = x.parents.reserved };
   }
 
   module _ (w : Writes cells more r.children t) where
@@ -128,7 +128,7 @@ module _ (cells more : List ℕ) (rows : List Row) (n : ℕ) (r : Row) (t : Segm
     pub child-seen : nodes_in more (set rows n (record r { children = t })) ≡ set (nodes_in cells rows) n (record { label = r.label; children = list_in more t; parents = list_in cells r.parents })
     child-seen =
         map-set (node_in more) rows n (record r { children = t })
-        ∙ ap (λ l. set (nodes_in more rows) n (record { label = r.label; children = list_in more t; parents = record { items = l; capacity = r.parents.room } }))
+        ∙ ap (λ l. set (nodes_in more rows) n (record { label = r.label; children = list_in more t; parents = record { items = l; capacity = r.parents.reserved } }))
         (kept (suc (twice n)) r.parents (λ q. absurd (omega (arith, q, twice-is n))) (parents-list rows n r below ∙ ap (λ x. Some x.parents) (sym is)))
         ∙ set-others (node_in more) (node_in cells) rows n _ r other
 
@@ -151,7 +151,7 @@ module _ (cells more : List ℕ) (rows : List Row) (n : ℕ) (r : Row) (t : Segm
     pub parent-seen : nodes_in more (set rows n (record r { parents = t })) ≡ set (nodes_in cells rows) n (record { label = r.label; children = list_in cells r.children; parents = list_in more t })
     parent-seen =
         map-set (node_in more) rows n (record r { parents = t })
-        ∙ ap (λ l. set (nodes_in more rows) n (record { label = r.label; children = record { items = l; capacity = r.children.room }; parents = list_in more t }))
+        ∙ ap (λ l. set (nodes_in more rows) n (record { label = r.label; children = record { items = l; capacity = r.children.reserved }; parents = list_in more t }))
         (kept-too (twice n) r.children (λ q. absurd (omega (arith, q, twice-is n))) (children-list rows n r below ∙ ap (λ x. Some x.children) (sym is)))
         ∙ set-others (node_in more) (node_in cells) rows n _ r other-too
 
@@ -198,7 +198,7 @@ held-label cells rows n r l below is h =
 -- a list that takes no cell
 pub record IsNowhere (s : Segment) : Type 0 where
   pub len : s.len ≡ 0
-  pub room : s.room ≡ 1
+  pub reserved : s.reserved ≡ 1
 
 nowhere-by : (s t : Segment) → IsNowhere s → Some s ≡ Some t → IsNowhere t
 nowhere-by s t n e = subst IsNowhere (only s t e) n
@@ -214,12 +214,12 @@ segments-push (x ∷ xs) r (suc (suc i)) s c p e = segments-push xs r i s c p e
 module _ (cells : List ℕ) (rows : List Row) (r : Row) (children : IsNowhere r.children) (parents : IsNowhere r.parents) (h : AreHeld cells rows) where
   within-push : (i : ℕ) (s : Segment) → (slice_get (segments_of rows) i ≡ Some s) ⊎ IsNowhere s → LiesWithin (length cells) s
   within-push i s (inl e) = h.within i s e
-  within-push i s (inr n) = record { fits = omega (arith, n.len); ends = λ l. absurd (omega (arith, n.room, l)) }
+  within-push i s (inr n) = record { fits = omega (arith, n.len); ends = λ l. absurd (omega (arith, n.reserved, l)) }
 
   apart-push : (i j : ℕ) (s t : Segment) → i ≢ j → (slice_get (segments_of rows) i ≡ Some s) ⊎ IsNowhere s → (slice_get (segments_of rows) j ≡ Some t) ⊎ IsNowhere t → IsApart s t
   apart-push i j s t ne (inl e) (inl f) = h.apart i j s t ne e f
-  apart-push i j s t ne (inr n) f = λ a b. absurd (omega (arith, n.room, a))
-  apart-push i j s t ne (inl e) (inr n) = λ a b. absurd (omega (arith, n.room, b))
+  apart-push i j s t ne (inr n) f = λ a b. absurd (omega (arith, n.reserved, a))
+  apart-push i j s t ne (inl e) (inr n) = λ a b. absurd (omega (arith, n.reserved, b))
 
   pub held-push : AreHeld cells (rows ++ r ∷ [])
   held-push = record {

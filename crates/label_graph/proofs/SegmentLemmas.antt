@@ -66,32 +66,32 @@ short-is n h = grind (arith, nat_tests, h)
 pub long-is : (n : ℕ) → nat_lt n 2 ≡ false → 2 ≤ n
 long-is n h = grind (arith, nat_tests, h)
 
-room-cases : (n : ℕ) → (n < 2) ⊎ (2 ≤ n)
-room-cases zero = inl (omega arith)
-room-cases (suc zero) = inl (omega arith)
-room-cases (suc (suc n)) = inr (omega arith)
+reserved-cases : (n : ℕ) → (n < 2) ⊎ (2 ≤ n)
+reserved-cases zero = inl (omega arith)
+reserved-cases (suc zero) = inl (omega arith)
+reserved-cases (suc (suc n)) = inr (omega arith)
 
 -- a list in the segment itself, and one among the cells
-pub short-items : (cells : List ℕ) (s : Segment) → s.room < 2 → items_in cells s ≡ take s.len (s.first ∷ [])
+pub short-items : (cells : List ℕ) (s : Segment) → s.reserved < 2 → items_in cells s ≡ take s.len (s.first ∷ [])
 short-items cells s h =
-    let e : nat_lt s.room 2 ≡ true = grind (arith, nat_tests) in
+    let e : nat_lt s.reserved 2 ≡ true = grind (arith, nat_tests) in
     ap (λ b. if b then take s.len (s.first ∷ []) else take s.len (drop s.first cells)) e
 
-pub long-items : (cells : List ℕ) (s : Segment) → 2 ≤ s.room → items_in cells s ≡ take s.len (drop s.first cells)
+pub long-items : (cells : List ℕ) (s : Segment) → 2 ≤ s.reserved → items_in cells s ≡ take s.len (drop s.first cells)
 long-items cells s h =
-    let e : nat_lt s.room 2 ≡ false = grind (arith, nat_tests) in
+    let e : nat_lt s.reserved 2 ≡ false = grind (arith, nat_tests) in
     ap (λ b. if b then take s.len (s.first ∷ []) else take s.len (drop s.first cells)) e
 
 -- the length of a list
 pub items-length : (cells : List ℕ) (s : Segment) → LiesWithin (length cells) s → length (items_in cells s) ≡ s.len
-items-length cells s w = elim (room-cases s.room) [
+items-length cells s w = elim (reserved-cases s.reserved) [
   | inl h ↦ omega (arith, ap length (short-items cells s h), length-take s.len (s.first ∷ []), w.fits)
   | inr h ↦ omega (arith, ap length (long-items cells s h), length-take s.len (drop s.first cells), length-drop s.first cells, w.fits, w.ends h)
 ]
 
 -- lists before cells that are put behind
 pub items-more : (cells new : List ℕ) (s : Segment) → Begins cells new → LiesWithin (length cells) s → items_in new s ≡ items_in cells s
-items-more cells new s (more, is) w = elim (room-cases s.room) [
+items-more cells new s (more, is) w = elim (reserved-cases s.reserved) [
   | inl h ↦ short-items new s h ∙ sym (short-items cells s h)
   | inr h ↦ long-items new s h ∙ ap (λ l. take s.len (drop s.first l)) is ∙ part-more s.first s.len cells more (omega (arith, w.fits, w.ends h)) ∙ sym (long-items cells s h)
 ]
@@ -120,7 +120,7 @@ writes-moved old new s t b m = record {
 }
 
 -- the list in a segment is written
-pub writes-short : (cells : List ℕ) (s t : Segment) → t.room < 2 → t.len ≤ t.room → Writes cells cells s t
+pub writes-short : (cells : List ℕ) (s t : Segment) → t.reserved < 2 → t.len ≤ t.reserved → Writes cells cells s t
 writes-short cells s t h fits = record {
   within = record { fits = fits; ends = λ l. absurd (omega (arith, h, l)) };
   longer = omega arith;
@@ -129,8 +129,8 @@ writes-short cells s t h fits = record {
 }
 
 -- a list apart from the room in which a cell is written
-set-apart : (cells : List ℕ) (s u : Segment) (k v : ℕ) → LiesWithin (length cells) u → IsApart s u → 2 ≤ s.room → s.first ≤ k → k < s.first + s.room → items_in (set cells k v) u ≡ items_in cells u
-set-apart cells s u k v w a long low high = elim (room-cases u.room) [
+set-apart : (cells : List ℕ) (s u : Segment) (k v : ℕ) → LiesWithin (length cells) u → IsApart s u → 2 ≤ s.reserved → s.first ≤ k → k < s.first + s.reserved → items_in (set cells k v) u ≡ items_in cells u
+set-apart cells s u k v w a long low high = elim (reserved-cases u.reserved) [
   | inl h ↦ short-items (set cells k v) u h ∙ sym (short-items cells u h)
   | inr h ↦ long-items (set cells k v) u h ∙ elim (a long h) [
     | inl e ↦ ap (take u.len) (drop-set-before u.first k cells v (omega (arith, e, high)))
@@ -139,28 +139,28 @@ set-apart cells s u k v w a long low high = elim (room-cases u.room) [
 ]
 
 -- a cell of the room of a list is written, which then has another length
-pub writes-set : (cells : List ℕ) (s t : Segment) (k v : ℕ) → LiesWithin (length cells) s → 2 ≤ s.room → s.first ≤ k → k < s.first + s.room
-    → t.first ≡ s.first → t.room ≡ s.room → t.len ≤ s.room → Writes cells (set cells k v) s t
-writes-set cells s t k v w long low high at room len = record {
-  within = record { fits = omega (arith, len, room); ends = λ l. omega (arith, w.ends long, at, room, length-set cells k v) };
+pub writes-set : (cells : List ℕ) (s t : Segment) (k v : ℕ) → LiesWithin (length cells) s → 2 ≤ s.reserved → s.first ≤ k → k < s.first + s.reserved
+    → t.first ≡ s.first → t.reserved ≡ s.reserved → t.len ≤ s.reserved → Writes cells (set cells k v) s t
+writes-set cells s t k v w long low high at reserved len = record {
+  within = record { fits = omega (arith, len, reserved); ends = λ l. omega (arith, w.ends long, at, reserved, length-set cells k v) };
   longer = omega (arith, length-set cells k v);
   apart = λ u within apart i j. elim (apart long j) [
-    | inl h ↦ inl (omega (arith, at, room, h))
-    | inr h ↦ inr (omega (arith, at, room, h))
+    | inl h ↦ inl (omega (arith, at, reserved, h))
+    | inr h ↦ inr (omega (arith, at, reserved, h))
   ];
   others = λ u within apart. set-apart cells s u k v within apart long low high;
 }
 
 -- a number is put behind the others of a list
-pub short-pushed : (cells : List ℕ) (s t : Segment) (v : ℕ) → s.room < 2 → s.len ≡ 0 → t.room ≡ s.room → t.first ≡ v → t.len ≡ 1 → items_in cells t ≡ items_in cells s ++ v ∷ []
-short-pushed cells s t v h none room at len =
-    short-items cells t (omega (arith, h, room)) ∙ ap (λ n. take n (t.first ∷ [])) len ∙ ap (λ n. n ∷ []) at
+pub short-pushed : (cells : List ℕ) (s t : Segment) (v : ℕ) → s.reserved < 2 → s.len ≡ 0 → t.reserved ≡ s.reserved → t.first ≡ v → t.len ≡ 1 → items_in cells t ≡ items_in cells s ++ v ∷ []
+short-pushed cells s t v h none reserved at len =
+    short-items cells t (omega (arith, h, reserved)) ∙ ap (λ n. take n (t.first ∷ [])) len ∙ ap (λ n. n ∷ []) at
     ∙ ap (λ l. l ++ v ∷ []) (sym (short-items cells s h ∙ ap (λ n. take n (s.first ∷ [])) none))
 
-pub items-pushed : (cells : List ℕ) (s t : Segment) (v : ℕ) → LiesWithin (length cells) s → 2 ≤ s.room → s.len < s.room → t.first ≡ s.first → t.room ≡ s.room → t.len ≡ s.len + 1
+pub items-pushed : (cells : List ℕ) (s t : Segment) (v : ℕ) → LiesWithin (length cells) s → 2 ≤ s.reserved → s.len < s.reserved → t.first ≡ s.first → t.reserved ≡ s.reserved → t.len ≡ s.len + 1
     → items_in (set cells (s.first + s.len) v) t ≡ items_in cells s ++ v ∷ []
-items-pushed cells s t v w long h at room len =
-    long-items (set cells (s.first + s.len) v) t (omega (arith, long, room))
+items-pushed cells s t v w long h at reserved len =
+    long-items (set cells (s.first + s.len) v) t (omega (arith, long, reserved))
     ∙ ap (λ a. take t.len (drop a (set cells (s.first + s.len) v))) at
     ∙ ap (take t.len) (drop-set s.first s.len (s.first + s.len) cells v refl)
     ∙ take-next s.len t.len (drop s.first cells) v len (omega (arith, w.ends long, length-drop s.first cells))
@@ -188,16 +188,16 @@ take-less (suc m) (suc n) [] h = refl
 take-less (suc m) (suc n) (x ∷ xs) h = ap (λ l. x ∷ l) (take-less m n xs (omega arith))
 
 -- the last number comes to another's place
-items-taken : (cells : List ℕ) (s t : Segment) (k d x : ℕ) → LiesWithin (length cells) s → 2 ≤ s.room → k < s.len → t.first ≡ s.first → t.room ≡ s.room → t.len ≡ s.len - 1
+items-taken : (cells : List ℕ) (s t : Segment) (k d x : ℕ) → LiesWithin (length cells) s → 2 ≤ s.reserved → k < s.len → t.first ≡ s.first → t.reserved ≡ s.reserved → t.len ≡ s.len - 1
     → x ≡ get_or cells (s.first + (s.len - 1)) d → items_in (set cells (s.first + k) x) t ≡ swap_remove (items_in cells s) k d
-items-taken cells s t k d x w long h at room len is =
+items-taken cells s t k d x w long h at reserved len is =
     let n = items-length cells s w in
     let e = long-items cells s long in
     let ys = drop s.first cells in
     let last : get_or (items_in cells s) (length (items_in cells s) - 1) d ≡ x =
     ap (λ m. get_or (items_in cells s) (m - 1) d) n ∙ ap (λ l. get_or l (s.len - 1) d) e
     ∙ get-part s.first s.len (s.len - 1) (s.first + (s.len - 1)) cells d (omega arith) refl ∙ sym is in
-    long-items (set cells (s.first + k) x) t (omega (arith, long, room))
+    long-items (set cells (s.first + k) x) t (omega (arith, long, reserved))
     ∙ ap (λ a. take t.len (drop a (set cells (s.first + k) x))) at
     ∙ ap (take t.len) (drop-set s.first k (s.first + k) cells x refl)
     ∙ sym (take-less t.len s.len (set ys k x) (omega (arith, len)))
@@ -211,21 +211,21 @@ module _ (cells : List ℕ) (s : Segment) (k n : ℕ) (w : LiesWithin (length ce
   pub place-within : k < s.len
   place-within = omega (arith, (position-Some (nat_eq n) (items_in cells s) k 0 at).0, items-length cells s w)
 
-  pub items-without : (t : Segment) (x : ℕ) → 2 ≤ s.room → IsDistinct nat_eq (items_in cells s) → t.first ≡ s.first → t.room ≡ s.room → t.len ≡ s.len - 1
+  pub items-without : (t : Segment) (x : ℕ) → 2 ≤ s.reserved → IsDistinct nat_eq (items_in cells s) → t.first ≡ s.first → t.reserved ≡ s.reserved → t.len ≡ s.len - 1
       → x ≡ get_or cells (s.first + (s.len - 1)) x → IsWithout (items_in cells s) (items_in (set cells (s.first + k) x) t) n
-  items-without t x long once from room len is =
+  items-without t x long once from reserved len is =
       let there = place-within in
       let d = get_or (items_in cells s) k 0 in
       taken (items_in cells s) _ n k d once at (get_or_default (items_in cells s) k 0 d (omega (arith, there, items-length cells s w)))
-      (items-taken cells s t k d x w long there from room len (is ∙ get_or_default cells (s.first + (s.len - 1)) x d (omega (arith, w.ends long, w.fits, there))))
+      (items-taken cells s t k d x w long there from reserved len (is ∙ get_or_default cells (s.first + (s.len - 1)) x d (omega (arith, w.ends long, w.fits, there))))
 
   -- the number of a list in a segment
-  pub short-without : (t : Segment) → s.room < 2 → IsDistinct nat_eq (items_in cells s) → t.room ≡ s.room → t.len ≡ s.len - 1 → IsWithout (items_in cells s) (items_in cells t) n
-  short-without t h once room len =
+  pub short-without : (t : Segment) → s.reserved < 2 → IsDistinct nat_eq (items_in cells s) → t.reserved ≡ s.reserved → t.len ≡ s.len - 1 → IsWithout (items_in cells s) (items_in cells t) n
+  short-without t h once reserved len =
       let there = place-within in
       let d = get_or (items_in cells s) k 0 in
       let one : s.len ≡ 1 = omega (arith, there, w.fits, h) in
       let nothing : t.len ≡ 0 = omega (arith, len, one) in
-      let none : items_in cells t ≡ [] = short-items cells t (omega (arith, h, room)) ∙ ap (λ m. take m (t.first ∷ [])) nothing in
+      let none : items_in cells t ≡ [] = short-items cells t (omega (arith, h, reserved)) ∙ ap (λ m. take m (t.first ∷ [])) nothing in
       taken (items_in cells s) _ n k d once at (get_or_default (items_in cells s) k 0 d (omega (arith, there, items-length cells s w)))
       (none ∙ ap (λ m. take (m - 1) (set (items_in cells s) k (get_or (items_in cells s) (length (items_in cells s) - 1) d))) (sym (items-length cells s w ∙ one)))

@@ -6,15 +6,15 @@ use Rattle.std.specs.Option.{option_to_list}
 use Rattle.std.proofs.Math.Seq.{take-append_seam}
 use Rattle.std.proofs.lemmas.Option.{slice_get-get_or, get_or_from_slice_get}
 use Rattle.std.proofs.lemmas.List.Folds.{list_any_at}
-use Rattle.px_spec.specs.Graphs.{Graph, IsGraph, label_of, has_edge, is_seen}
-use Rattle.px_spec.specs.Members.{Lists}
-use Rattle.px_spec.specs.Shapes.{IsNode, shape_of}
+use Rattle.graph_spec.specs.Graphs.{Graph, IsGraph, label_of, has_edge, is_seen}
+use Rattle.graph_spec.specs.Members.{Lists}
+use Rattle.graph_spec.specs.Shapes.{IsNode, shape_of}
 use Rattle.label_graph.specs.Nodes.{Node, labels_of, number_at, texts_of, children_of, parents_of}
 use Rattle.label_graph.specs.declared.node.Reserved.{Reserved}
 use Rattle.label_graph.specs.LabelTable.{LabelTable, entries}
-use Rattle.label_graph.specs.Held.{graph_by}
+use Rattle.label_graph.specs.ReservedGraphs.{graph_by}
 use Rattle.label_graph.specs.Soundness.{IsSoundGraph, HaveLabelNumbers, IsLive}
-use Rattle.label_graph.specs.Views.{label_number, is_linked}
+use Rattle.label_graph.specs.GraphViews.{label_number, is_linked}
 use Rattle.label_graph.proofs.EdgeLists.{has_edge-children}
 use Rattle.label_graph.proofs.Positions.{position-at}
 use Rattle.label_graph.proofs.Tables.{texts-distinct, bytes_laws}
@@ -49,7 +49,7 @@ some-first : {X Y : Type 0} (f : X → Option Y) (o : Option X) → IsSome (opti
 some-first f None h = h
 some-first f (Some x) h = refl
 
-module _ (table : LabelTable) (nodes : List Node) (capacity edges count : ℕ) (reserved : Reserved) (s : IsSoundGraph table nodes capacity edges count reserved) where
+module _ (table : LabelTable) (nodes : List Node) (capacity edges count : ℕ) (addition : Reserved) (s : IsSoundGraph table nodes capacity edges count addition) where
   g : Graph
   g = graph_by table nodes
 

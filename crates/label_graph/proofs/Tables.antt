@@ -12,9 +12,9 @@ use Rattle.std.proofs.lemmas.Slice.Eq.{bytes_eq-Decides}
 use Rattle.indexmap.proofs.MapLemmas.{distinct-take}
 use Rattle.indexmap.proofs.SetLemmas.{set_all_distinct}
 use Rattle.indexmap.specs.IndexSet.{insert_key}
-use Rattle.px_spec.specs.Graphs.{is_seen}
+use Rattle.graph_spec.specs.Graphs.{is_seen}
 use Rattle.std.proofs.Math.Bool.{or-false, or-true}
-use Rattle.px_spec.proofs.ListLemmas.{get_seam}
+use Rattle.graph_spec.proofs.ListLemmas.{get_seam}
 
 pub bytes_laws : IsEquivalence bytes_eq
 bytes_laws = search (comparing, rules)
@@ -107,36 +107,36 @@ take_next [] n x e = absurd (cc)
 take_next (y ∷ ys) zero x e = ap (λ o. unwrap_or o y ∷ []) e
 take_next (y ∷ ys) (suc n) x e = ap (λ r. y ∷ r) (take_next ys n x e)
 
-get_front : {X : Type 0} (xs : List X) (n shown : ℕ) (x : X) → n < shown → slice_get xs n ≡ Some x → slice_get (take shown xs) n ≡ Some x
-get_front xs n zero x h e = absurd (omega (arith, h))
-get_front [] n (suc shown) x h e = e
-get_front (y ∷ ys) zero (suc shown) x h e = e
-get_front (y ∷ ys) (suc n) (suc shown) x h e = get_front ys n shown x (omega (arith, h)) e
+get_prefix : {X : Type 0} (xs : List X) (n effective : ℕ) (x : X) → n < effective → slice_get xs n ≡ Some x → slice_get (take effective xs) n ≡ Some x
+get_prefix xs n zero x h e = absurd (omega (arith, h))
+get_prefix [] n (suc effective) x h e = e
+get_prefix (y ∷ ys) zero (suc effective) x h e = e
+get_prefix (y ∷ ys) (suc n) (suc effective) x h e = get_prefix ys n effective x (omega (arith, h)) e
 
-pub put_next : (keys : List (List ℕ)) (shown n : ℕ) (t : List ℕ) → IsDistinct bytes_eq keys → n < shown → slice_get keys n ≡ Some t
-    → insert_key bytes_eq (take n (take shown keys)) t ≡ take (n + 1) (take shown keys)
-put_next keys shown n t once h e =
-    let texts = take shown keys in
-    let next = take_next texts n t (get_front keys n shown t h e) in
+pub put_next : (keys : List (List ℕ)) (effective n : ℕ) (t : List ℕ) → IsDistinct bytes_eq keys → n < effective → slice_get keys n ≡ Some t
+    → insert_key bytes_eq (take n (take effective keys)) t ≡ take (n + 1) (take effective keys)
+put_next keys effective n t once h e =
+    let texts = take effective keys in
+    let next = take_next texts n t (get_prefix keys n effective t h e) in
     let more : suc n ≡ n + 1 = omega arith in
-    set_all_distinct bytes_laws (take n texts) (t ∷ []) (subst (IsDistinct bytes_eq) next (texts-distinct (suc n) texts (texts-distinct shown keys once)))
+    set_all_distinct bytes_laws (take n texts) (t ∷ []) (subst (IsDistinct bytes_eq) next (texts-distinct (suc n) texts (texts-distinct effective keys once)))
     ∙ sym next
     ∙ ap (λ m. take m texts) more
 
 -- all labels were put
-pub record AreAllPut (texts keys : List (List ℕ)) (shown : ℕ) : Type 0 where
-  pub count : length keys ≡ shown
+pub record AreAllPut (texts keys : List (List ℕ)) (effective : ℕ) : Type 0 where
+  pub count : length keys ≡ effective
   pub same : keys ≡ texts
 
-pub all_put : (texts keys old : List (List ℕ)) (shown n : ℕ) → texts ≡ take shown old → shown ≤ length old → n ≡ shown → keys ≡ take n texts → AreAllPut texts keys shown
-all_put texts keys old shown n is h e put =
-    let long : length texts ≡ shown = ap length is ∙ length-take-le shown old h in
+pub all_put : (texts keys old : List (List ℕ)) (effective n : ℕ) → texts ≡ take effective old → effective ≤ length old → n ≡ effective → keys ≡ take n texts → AreAllPut texts keys effective
+all_put texts keys old effective n is h e put =
+    let long : length texts ≡ effective = ap length is ∙ length-take-le effective old h in
     let same : keys ≡ texts = put ∙ ap (λ m. take m texts) (omega (arith, e, long)) ∙ take-length texts in
     record { count = ap length same ∙ long; same = same }
 
 -- all the entries are labels
-pub all_shown : (keys : List (List ℕ)) (n : ℕ) → n ≤ length keys → length keys ≤ n + 1 → take (length keys) keys ≡ take n keys ++ option_to_list (slice_get keys n)
-all_shown keys n h l = take-length keys ∙ parted keys n h l
+pub all_effective : (keys : List (List ℕ)) (n : ℕ) → n ≤ length keys → length keys ≤ n + 1 → take (length keys) keys ≡ take n keys ++ option_to_list (slice_get keys n)
+all_effective keys n h l = take-length keys ∙ parted keys n h l
 
 get_at_seam : {X : Type 0} (front : List X) (x : X) (rest : List X) → slice_get (front ++ x ∷ rest) (length front) ≡ Some x
 get_at_seam [] x rest = refl

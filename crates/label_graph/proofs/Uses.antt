@@ -3,10 +3,10 @@ use Rattle.std.proofs.Common.{◌≡◌, ℕ, true, false, List, [], ◌∷◌, 
 use Rattle.std.specs.Prelude.{◌||◌, ◌==◌}
 use Rattle.std.proofs.lemmas.Bool.{eqb-true}
 use Rattle.std.proofs.lemmas.Cmp.{nat_eq_equiv}
-use Rattle.px_spec.specs.Graphs.{Graph, has_edge}
-use Rattle.px_spec.specs.Changes.{is_used}
-use Rattle.px_spec.specs.Members.{has, Lists}
-use Rattle.px_spec.proofs.Uses.{bare_unused, unused_bare}
+use Rattle.graph_spec.specs.Graphs.{Graph, has_edge}
+use Rattle.graph_spec.specs.Changes.{is_used}
+use Rattle.graph_spec.specs.Members.{has, Lists}
+use Rattle.graph_spec.proofs.Uses.{bare_unused, unused_bare}
 
 none : (xs : List ℕ) → ((m : ℕ) → has xs m ≡ false) → xs ≡ []
 none [] h = refl

@@ -1,9 +1,9 @@
 -- A graph as its view shows it is the graph itself.
 use Rattle.std.proofs.Common.{◌≡◌, ℕ, Bool, true, false, List, length, Option, None, Some, refl, sym, ap, ◌∙◌, true≢false}
 use Rattle.std.specs.Prelude.{IsSome, IsTrue, slice_get, is_some, option_and_then, position, bytes_eq, ◌&&◌}
-use Rattle.px_spec.specs.Graphs.{Graph, IsGraph, label_of, has_edge, is_seen}
-use Rattle.px_spec.specs.Shapes.{shape_of, shape_by}
-use Rattle.label_graph.specs.Views.{label_number, is_linked}
+use Rattle.graph_spec.specs.Graphs.{Graph, IsGraph, label_of, has_edge, is_seen}
+use Rattle.graph_spec.specs.Shapes.{shape_of, shape_by}
+use Rattle.label_graph.specs.GraphViews.{label_number, is_linked}
 use Rattle.label_graph.proofs.Positions.{position-none, text-at}
 
 -- a label that is seen has a number, at which it stands
@@ -31,5 +31,5 @@ linked_is g s u v =
     and_all (has_edge g u v) (is_some (label_number g u)) (is_some (label_number g v))
     (λ h. (numbered g s u (label_of g u) refl (s.from u v h), numbered g s v (label_of g v) refl (s.onto u v h)))
 
-pub viewed_shape : (g : Graph) → IsGraph g → shape_by g.seen (length g.given) (label_number g) (is_linked g) ≡ shape_of g
-viewed_shape g s i = record { size = length g.given; label = λ n. text_is g s n (label_of g n) refl i; edge = λ u v. linked_is g s u v i }
+pub viewed_shape : (g : Graph) → IsGraph g → shape_by g.seen (length g.allocated) (label_number g) (is_linked g) ≡ shape_of g
+viewed_shape g s i = record { size = length g.allocated; label = λ n. text_is g s n (label_of g n) refl i; edge = λ u v. linked_is g s u v i }

@@ -1,8 +1,8 @@
 pub mod LabelTable
 pub mod Nodes
 pub mod Segments
-pub mod Rows
-pub mod Held
+pub mod NodeRows
+pub mod ReservedGraphs
 pub mod Soundness
-pub mod Views
+pub mod GraphViews
 pub mod ViewLaws

@@ -3,8 +3,8 @@ use Rattle.std.specs.Prelude.{◌≡◌, ◌≢◌, ℕ, zero, suc, ◌+◌, ◌
 use Rattle.std.specs.Coded.{Coded, code_by, coded×, coded_ℕ, coded_list, coded_option}
 use Rattle.std.specs.List.{IsDistinct}
 use Rattle.std.specs.FinSet as set
-use Rattle.px_spec.specs.Graphs.{Edges}
-use Rattle.px_spec.specs.Members.{has}
+use Rattle.graph_spec.specs.Graphs.{Edges}
+use Rattle.graph_spec.specs.Members.{has}
 
 -- a list of neighbours, and how many fit with no more memory
 pub record NeighbourList : Type 0 where
@@ -59,16 +59,16 @@ parents_of (x ∷ xs) zero = x.parents.items
 parents_of (x ∷ xs) (suc n) = parents_of xs n
 
 -- how many more children of a node fit with no more memory
-abbrev pub child_room : List Node → ℕ → ℕ
-child_room [] n = 0
-child_room (x ∷ xs) zero = x.children.capacity - length x.children.items
-child_room (x ∷ xs) (suc n) = child_room xs n
+abbrev pub child_reserved : List Node → ℕ → ℕ
+child_reserved [] n = 0
+child_reserved (x ∷ xs) zero = x.children.capacity - length x.children.items
+child_reserved (x ∷ xs) (suc n) = child_reserved xs n
 
 -- how many more parents of a node fit with no more memory
-abbrev pub parent_room : List Node → ℕ → ℕ
-parent_room [] n = 0
-parent_room (x ∷ xs) zero = x.parents.capacity - length x.parents.items
-parent_room (x ∷ xs) (suc n) = parent_room xs n
+abbrev pub parent_reserved : List Node → ℕ → ℕ
+parent_reserved [] n = 0
+parent_reserved (x ∷ xs) zero = x.parents.capacity - length x.parents.items
+parent_reserved (x ∷ xs) (suc n) = parent_reserved xs n
 
 -- each edge, by where it begins, from the node u on
 abbrev pub pairs_from : ℕ → List Node → List (ℕ × ℕ)
@@ -82,18 +82,18 @@ edges_of nodes = set.from_list (pairs_from 0 nodes)
 abbrev pub Mirrors : List Node → Type 0
 Mirrors nodes = (u v : ℕ) → has (children_of nodes u) v ≡ has (parents_of nodes v) u
 
--- the nodes are the same, and none has less room
+-- the nodes are the same, and none has less reserved
 pub record SameNodes (old new : List Node) : Type 0 where
   pub labels : labels_of new ≡ labels_of old
   pub children : (w : ℕ) → children_of new w ≡ children_of old w
   pub parents : (w : ℕ) → parents_of new w ≡ parents_of old w
-  pub child_rooms : (w : ℕ) → child_room old w ≤ child_room new w
-  pub parent_rooms : (w : ℕ) → parent_room old w ≤ parent_room new w
+  pub child_reserves : (w : ℕ) → child_reserved old w ≤ child_reserved new w
+  pub parent_reserves : (w : ℕ) → parent_reserved old w ≤ parent_reserved new w
 
 -- one more child of u and one more parent of v fit
-pub record HasRoom (nodes : List Node) (u v : ℕ) : Type 0 where
-  pub child : 0 < child_room nodes u
-  pub parent : 0 < parent_room nodes v
+pub record HasReserved (nodes : List Node) (u v : ℕ) : Type 0 where
+  pub child : 0 < child_reserved nodes u
+  pub parent : 0 < parent_reserved nodes v
 
 -- the list has the others that it had, each once, and not that number
 pub record IsWithout (old new : List ℕ) (n : ℕ) : Type 0 where

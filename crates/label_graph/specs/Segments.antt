@@ -4,16 +4,16 @@ use Rattle.label_graph.specs.declared.segment.Segment.{Segment}
 
 -- the numbers of a list: it lies among the cells, or in the segment itself where there is room for one number alone
 abbrev pub items_in : List ℕ → Segment → List ℕ
-items_in cells s = if nat_lt s.room 2 then take s.len (s.first ∷ []) else take s.len (drop s.first cells)
+items_in cells s = if nat_lt s.reserved 2 then take s.len (s.first ∷ []) else take s.len (drop s.first cells)
 
 -- a list with its room lies among that many cells
 pub record LiesWithin (size : ℕ) (s : Segment) : Type 0 where
-  pub fits : s.len ≤ s.room
-  pub ends : 2 ≤ s.room → s.first + s.room ≤ size
+  pub fits : s.len ≤ s.reserved
+  pub ends : 2 ≤ s.reserved → s.first + s.reserved ≤ size
 
 -- no cell is in the room of both
 abbrev pub IsApart : Segment → Segment → Type 0
-IsApart s t = 2 ≤ s.room → 2 ≤ t.room → (s.first + s.room ≤ t.first) ⊎ (t.first + t.room ≤ s.first)
+IsApart s t = 2 ≤ s.reserved → 2 ≤ t.reserved → (s.first + s.reserved ≤ t.first) ⊎ (t.first + t.reserved ≤ s.first)
 
 abbrev pub Begins : List ℕ → List ℕ → Type 0
 Begins old new = (more : List ℕ) × (new ≡ old ++ more)
@@ -29,7 +29,7 @@ pub record Writes (old new : List ℕ) (s t : Segment) : Type 0 where
 pub record IsMoved (old new : List ℕ) (s t : Segment) : Type 0 where
   pub within : LiesWithin (length new) t
   pub behind : t.first ≡ length old
-  pub long : 2 ≤ t.room
+  pub long : 2 ≤ t.reserved
   pub items : items_in new t ≡ items_in old s
   pub len : t.len ≡ s.len
-  pub room : s.room < t.room
+  pub reserved : s.reserved < t.reserved

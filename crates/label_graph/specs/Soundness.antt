@@ -2,9 +2,9 @@
 use Rattle.std.specs.Prelude.{◌≡◌, ℕ, ◌<◌, ◌≤◌, ◌^◌, List, Option, None, Some, length, is_some, IsTrue, IsSome, bytes_eq, nat_eq}
 use Rattle.std.specs.List.{IsDistinct, count_by}
 use Rattle.std.specs.FinSet as set
-use Rattle.px_spec.specs.Members.{has}
+use Rattle.graph_spec.specs.Members.{has}
 use Rattle.label_graph.specs.LabelTable.{LabelTable, entries}
-use Rattle.label_graph.specs.Nodes.{Node, labels_of, number_at, texts_of, children_of, parents_of, edges_of, Mirrors, HasRoom}
+use Rattle.label_graph.specs.Nodes.{Node, labels_of, number_at, texts_of, children_of, parents_of, edges_of, Mirrors, HasReserved}
 use Rattle.label_graph.specs.declared.node.Reserved.{Reserved}
 use Rattle.label_graph.specs.declared.node.Reserved.TheVariants.{Nothing, Label, Pair}
 
@@ -26,7 +26,7 @@ pub record PairFits (table : LabelTable) (nodes : List Node) (u v : ℕ) : Type 
   pub none_ahead : table.ahead ≡ None
   pub from : IsLive nodes u
   pub onto : IsLive nodes v
-  pub room : HasRoom nodes u v
+  pub reserved : HasReserved nodes u v
 
 abbrev pub ReservedFits : LabelTable → List Node → ℕ → Reserved → Type 0
 ReservedFits table nodes capacity Nothing = table.ahead ≡ None
@@ -55,7 +55,7 @@ pub record HaveLabelNumbers (table : LabelTable) (numbers : List (Option ℕ)) (
   pub below : (n l : ℕ) → number_at numbers n ≡ Some l → l < length table.texts
   pub node_count_is : node_count ≡ count_by is_some (texts_of table.texts numbers)
 
-pub record IsSoundGraph (table : LabelTable) (nodes : List Node) (capacity edge_count node_count : ℕ) (reserved : Reserved) : Type 0 where
+pub record IsSoundGraph (table : LabelTable) (nodes : List Node) (capacity edge_count node_count : ℕ) (addition : Reserved) : Type 0 where
   pub lists : AreSound nodes edge_count
   pub labels : HaveLabelNumbers table (labels_of nodes) node_count
-  pub room : ReservedFits table nodes capacity reserved
+  pub reserved : ReservedFits table nodes capacity addition

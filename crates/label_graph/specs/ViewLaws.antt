@@ -2,17 +2,17 @@
 use Rattle.std.specs.Prelude.{◌≡◌, ℕ, ◌<◌, Bool, true, false, List, length, Option, None, Some, refl, IsTrue, IsSome, slice_get, is_some, option_and_then, position, bytes_eq, ◌&&◌}
 use Rattle.std.proofs.Common.{sym, true≢false}
 use Rattle.std.proofs.lemmas.Option.{slice_get_within}
-use Rattle.px_spec.specs.Graphs.{Graph, has_edge}
-use Rattle.label_graph.specs.Views.{label_number, is_linked}
+use Rattle.graph_spec.specs.Graphs.{Graph, has_edge}
+use Rattle.label_graph.specs.GraphViews.{label_number, is_linked}
 
-within : (g : Graph) (n : ℕ) (l : Option (Option (List ℕ))) → slice_get g.given n ≡ l
-    → IsSome (option_and_then (λ t. position (bytes_eq t) g.seen) (option_and_then (λ l. l) l)) → n < length g.given
+within : (g : Graph) (n : ℕ) (l : Option (Option (List ℕ))) → slice_get g.allocated n ≡ l
+    → IsSome (option_and_then (λ t. position (bytes_eq t) g.seen) (option_and_then (λ l. l) l)) → n < length g.allocated
 within g n None e h = absurd (true≢false (sym h))
-within g n (Some l) e h = slice_get_within g.given n l e
+within g n (Some l) e h = slice_get_within g.allocated n l e
 
--- nodes are below the count of numbers given
-pub below_span : (g : Graph) (n : ℕ) → IsSome (label_number g n) → n < length g.given
-below_span g n h = within g n (slice_get g.given n) refl h
+-- nodes are below the count of allocated numbers
+pub below_span : (g : Graph) (n : ℕ) → IsSome (label_number g n) → n < length g.allocated
+below_span g n h = within g n (slice_get g.allocated n) refl h
 
 last_two : (a b c : Bool) → IsTrue (a && (b && c)) → IsTrue b × IsTrue c
 last_two true true true h = (h, h)

@@ -1,6 +1,6 @@
 // A graph as queries and indexes read it.
 ghost use Rattle.std.specs.Prelude.{◌≡◌, ◌<◌, ℕ, Bool, Option, Some, is_some, IsTrue, IsSome};
-ghost use Rattle.px_spec.specs.Members.{Lists};
+ghost use Rattle.graph_spec.specs.Members.{Lists};
 
 /// A directed graph whose nodes are numbers and whose labels are numbers of a table. Each read is O(1), no memory: a
 /// list is lent where it lies.

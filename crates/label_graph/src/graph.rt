@@ -1,12 +1,12 @@
 // The graph.
 ghost use Rattle.std.specs.Prelude.{◌≡◌, ◌<◌, ◌≤◌, ◌+◌, ◌^◌, ◌↔◌, length, IsTrue, IfOk, OnOk, OnErr, IfSome, IfNone, Some, slice_get, true, false, List, ℕ, is_some};
 ghost use Rattle.std.specs.FinSet as set;
-ghost use Rattle.px_spec.specs.Graphs.{IsGraph, empty_graph, is_live, label_of, has_edge};
-ghost use Rattle.px_spec.specs.Changes.{with_node, with_edge, without_edge, without_node, is_used};
-ghost use Rattle.px_spec.specs.Members.{Lists};
-ghost use Rattle.px_spec.specs.Shapes.{shape_of};
-ghost use Rattle.label_graph.specs.Held.{no_room, label_room, pair_room};
-ghost use Rattle.label_graph.specs.Views.{label_number, is_linked, numbered_shape, live_count, edge_count};
+ghost use Rattle.graph_spec.specs.Graphs.{IsGraph, empty_graph, is_live, label_of, has_edge};
+ghost use Rattle.graph_spec.specs.Changes.{with_node, with_edge, without_edge, without_node, is_used};
+ghost use Rattle.graph_spec.specs.Members.{Lists};
+ghost use Rattle.graph_spec.specs.Shapes.{shape_of};
+ghost use Rattle.label_graph.specs.ReservedGraphs.{none_reserved, label_reserved, pair_reserved};
+ghost use Rattle.label_graph.specs.GraphViews.{label_number, is_linked, numbered_shape, live_count, edge_count};
 
 use crate::labels::Labels;
 use crate::node::{Nodes, Reserved};
@@ -16,7 +16,7 @@ use std::alloc::Global;
 use std::marker::Model;
 use std::sync::ledger::Ledger;
 
-/// A directed graph with a label on each node, and room for at most one addition. Nodes have the
+/// A directed graph with a label on each node, and capacity reserved for at most one addition. Nodes have the
 /// numbers from 0 in the order in which they were added; at most 2^30 nodes and 2^30 edges.
 ///
 /// An addition is made in two calls, of which only the first can fail:
@@ -33,7 +33,7 @@ pub struct Graph {
     nodes: Nodes,
     node_count: u32,
     edge_count: u32,
-    room: Reserved,
+    reserved: Reserved,
 }
 
 impl Drop for Graph {
@@ -44,7 +44,7 @@ impl Drop for Graph {
             nodes,
             node_count: _,
             edge_count: _,
-            room: _,
+            reserved: _,
         } = self;
         drop(labels);
         drop(nodes);
@@ -52,18 +52,18 @@ impl Drop for Graph {
 }
 
 impl Model for Graph {
-    ghost use Rattle.label_graph.specs.Held.{Held, held_code};
+    ghost use Rattle.label_graph.specs.ReservedGraphs.{ReservedGraph, reserved_graph_code};
 
-    ghost Value = { Held };
+    ghost Value = { ReservedGraph };
 
-    ghost coded = { held_code };
+    ghost coded = { reserved_graph_code };
 
-    ghost use Rattle.label_graph.specs.Held.{graph_by, room_by};
+    ghost use Rattle.label_graph.specs.ReservedGraphs.{graph_by, reserved_by};
     ghost use Rattle.label_graph.specs.Soundness.{IsSoundGraph};
 
-    ghost view = { λ g. record { graph = graph_by g.labels g.nodes.nodes; room = room_by g.labels g.room } };
+    ghost view = { λ g. record { graph = graph_by g.labels g.nodes.nodes; reserved = reserved_by g.labels g.reserved } };
 
-    ghost invariant = { λ g. IsSoundGraph g.labels g.nodes.nodes g.nodes.capacity g.edge_count g.node_count g.room };
+    ghost invariant = { λ g. IsSoundGraph g.labels g.nodes.nodes g.nodes.capacity g.edge_count g.node_count g.reserved };
 }
 
 // Reading.
@@ -94,9 +94,9 @@ impl Graph {
         self.nodes.label(n).unwrap()
     }
 
-    /// How many node numbers were given, those of gone nodes too: at most 2^30. O(1), no memory.
+    /// How many node numbers were allocated, those of gone nodes too: at most 2^30. O(1), no memory.
     pub fn created(&self) -> u32
-        ensures count { result ≡ length self.now.graph.given }
+        ensures count { result ≡ length self.now.graph.allocated }
         ensures few { result ≤ 2 ^ 30 }
         ensures graph { IsGraph self.now.graph }
     {
@@ -221,7 +221,7 @@ impl Graph {
 impl Graph {
     /// A graph with no nodes. O(1); it takes 16 KiB.
     pub fn new(alloc: Global) -> Result<Graph, Memory>
-        ensures { IfOk result (λ g. g ≡ record { graph = empty_graph; room = no_room }) }
+        ensures { IfOk result (λ g. g ≡ record { graph = empty_graph; reserved = none_reserved }) }
     {
         let labels = Labels::new(alloc)?;
         Ok(Graph {
@@ -229,95 +229,95 @@ impl Graph {
             nodes: Nodes::new(alloc),
             node_count: 0,
             edge_count: 0,
-            room: Reserved::Nothing,
+            reserved: Reserved::Nothing,
         })
     }
 
-    /// Makes room for a node with that label, in place of the room that there was. Where memory runs out that
-    /// room stays. Expected O(b) for a label of b bytes, amortized. A node takes 32 bytes, and a
+    /// Reserves capacity for a node with that label, instead of what was reserved. Where
+    /// memory runs out that reservation stays. Expected O(b) for a label of b bytes, amortized. A node takes 32 bytes, and a
     /// label that is new its text and its entry in the table.
     pub fn reserve_node(&mut self, alloc: Global, label: &Text) -> Result<(), Memory>
         ensures graph { self.new.graph ≡ self.old.graph }
-        ensures ok { OnOk result (self.new.room ≡ label_room label.now) }
+        ensures ok { OnOk result (self.new.reserved ≡ label_reserved label.now) }
         ensures err { OnErr result (self.new ≡ self.old) }
     {
         self.nodes.reserve_node()?;
         let number = self.labels.reserve(alloc, label)?;
-        self.room = Reserved::Label(number);
+        self.reserved = Reserved::Label(number);
         Ok(())
     }
 
-    /// Makes room for an edge between live nodes, in place of the room that there was. Where memory runs out
-    /// that room stays. O(1), amortized. An edge takes none to 32 bytes: a node's first child and
+    /// Reserves capacity for an edge between live nodes, instead of what was reserved. Where
+    /// memory runs out that reservation stays. O(1), amortized. An edge takes none to 32 bytes: a node's first child and
     /// its first parent lie in the node, and each other takes 4 to 16.
     pub fn reserve_edge(&mut self, u: NodeId, v: NodeId) -> Result<(), Memory>
         requires from { IsTrue (is_live self.old.graph u) }
         requires onto { IsTrue (is_live self.old.graph v) }
         ensures graph { self.new.graph ≡ self.old.graph }
-        ensures ok { OnOk result (self.new.room ≡ pair_room u v) }
+        ensures ok { OnOk result (self.new.reserved ≡ pair_reserved u v) }
         ensures err { OnErr result (self.new ≡ self.old) }
     {
         self.nodes.reserve_edge(u, v)?;
         self.labels.clear();
-        self.room = Reserved::Pair(u, v);
+        self.reserved = Reserved::Pair(u, v);
         Ok(())
     }
 
-    /// Adds the node for which there is room, and gives its number, the next one. O(1), no memory.
+    /// Adds the node for which capacity is reserved, and gives its number, the next one. O(1), no memory.
     pub fn add_node(&mut self) -> NodeId
-        requires room { (t : List ℕ) × (self.old.room ≡ label_room t) }
-        requires few { length self.old.graph.given < 2 ^ 30 }
-        ensures number { result ≡ length self.old.graph.given }
-        ensures added { (t : List ℕ) → self.old.room ≡ label_room t → self.new ≡ record { graph = with_node self.old.graph t; room = no_room } }
+        requires reserved { (t : List ℕ) × (self.old.reserved ≡ label_reserved t) }
+        requires few { length self.old.graph.allocated < 2 ^ 30 }
+        ensures number { result ≡ length self.old.graph.allocated }
+        ensures added { (t : List ℕ) → self.old.reserved ≡ label_reserved t → self.new ≡ record { graph = with_node self.old.graph t; reserved = none_reserved } }
     {
-        let Reserved::Label(label) = self.room else {
+        let Reserved::Label(label) = self.reserved else {
             unreachable!()
         };
         let added = self.nodes.len() as u32;
         self.labels.show();
         self.nodes.push_node(label);
         self.node_count += 1;
-        self.room = Reserved::Nothing;
+        self.reserved = Reserved::Nothing;
         added
     }
 
-    /// Adds the edge for which there is room, and which isn't there yet. O(1), no memory.
+    /// Adds the edge for which capacity is reserved, and which isn't there yet. O(1), no memory.
     pub fn add_edge(&mut self, u: NodeId, v: NodeId)
-        requires room { self.old.room ≡ pair_room u v }
+        requires reserved { self.old.reserved ≡ pair_reserved u v }
         requires absent { has_edge self.old.graph u v ≡ false }
         requires few { set.len self.old.graph.edges < 2 ^ 30 }
-        ensures { self.new ≡ record { graph = with_edge self.old.graph u v; room = no_room } }
+        ensures { self.new ≡ record { graph = with_edge self.old.graph u v; reserved = none_reserved } }
     {
         self.nodes.push_edge(u, v);
         self.edge_count += 1;
-        self.room = Reserved::Nothing;
+        self.reserved = Reserved::Nothing;
     }
 }
 
 // The removals.
 impl Graph {
-    /// Takes away an edge that is there, and any room. The order of `u`'s children and of `v`'s parents may
+    /// Takes away an edge that is there, and any reservation. The order of `u`'s children and of `v`'s parents may
     /// change. O(c + p) for c children of `u` and p parents of `v`, no memory.
     pub fn remove_edge(&mut self, u: NodeId, v: NodeId)
         requires present { has_edge self.old.graph u v ≡ true }
-        ensures { self.new ≡ record { graph = without_edge self.old.graph u v; room = no_room } }
+        ensures { self.new ≡ record { graph = without_edge self.old.graph u v; reserved = none_reserved } }
     {
         self.nodes.remove_edge(u, v);
         self.labels.clear();
         self.edge_count -= 1;
-        self.room = Reserved::Nothing;
+        self.reserved = Reserved::Nothing;
     }
 
-    /// Takes away a live node at which no edge begins or ends, and any room. Its number is never given again,
+    /// Takes away a live node at which no edge begins or ends, and any reservation. Its number is never allocated again,
     /// and its label stays among those seen. O(1), no memory.
     pub fn remove_node(&mut self, u: NodeId)
         requires live { IsTrue (is_live self.old.graph u) }
         requires unused { is_used self.old.graph u ≡ false }
-        ensures { self.new ≡ record { graph = without_node self.old.graph u; room = no_room } }
+        ensures { self.new ≡ record { graph = without_node self.old.graph u; reserved = none_reserved } }
     {
         self.nodes.clear_label(u);
         self.labels.clear();
         self.node_count -= 1;
-        self.room = Reserved::Nothing;
+        self.reserved = Reserved::Nothing;
     }
 }

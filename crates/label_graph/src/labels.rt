@@ -1,8 +1,8 @@
 // The table of labels.
 ghost use Rattle.std.specs.Prelude.{◌≡◌, ◌<◌, ◌≤◌, ◌+◌, ◌^◌, [], length, slice_get, Some, bytes_eq, position, None, false, IfOk, IsTrue, OnOk, OnErr};
 ghost use Rattle.std.specs.List.{IsDistinct};
-ghost use Rattle.px_spec.specs.Graphs.{is_seen};
-ghost use Rattle.label_graph.specs.LabelTable.{DropsPrevious, entries, with_ahead, with_ahead_shown};
+ghost use Rattle.graph_spec.specs.Graphs.{is_seen};
+ghost use Rattle.label_graph.specs.LabelTable.{DropsPrevious, entries, with_ahead, with_ahead_effective};
 ghost use Rattle.label_graph.specs.Soundness.{IsNext};
 
 use indexmap::IndexSet;
@@ -20,7 +20,7 @@ use std::marker::Model;
 #[derive(Drop)]
 pub struct Labels {
     table: IndexSet<Text>,
-    shown: usize,
+    effective: usize,
     recent: Recent,
 }
 
@@ -30,9 +30,9 @@ impl Model for Labels {
 
     ghost Value = { LabelTable };
 
-    ghost view = { λ l. record { texts = take l.shown l.table.keys; ahead = slice_get l.table.keys l.shown } };
+    ghost view = { λ l. record { texts = take l.effective l.table.keys; ahead = slice_get l.table.keys l.effective } };
 
-    ghost invariant = { λ l. IsLabelTable l.table.keys l.shown };
+    ghost invariant = { λ l. IsLabelTable l.table.keys l.effective };
 }
 
 impl Labels {
@@ -41,7 +41,7 @@ impl Labels {
     {
         Ok(Labels {
             table: IndexSet::new(alloc),
-            shown: 0,
+            effective: 0,
             recent: Recent::new(alloc)?,
         })
     }
@@ -51,7 +51,7 @@ impl Labels {
         ensures count { result ≡ length self.now.texts }
         ensures distinct { IsDistinct bytes_eq self.now.texts }
     {
-        self.shown as u32
+        self.effective as u32
     }
 
     /// The text of a label, by its number. O(1), no memory.
@@ -69,7 +69,7 @@ impl Labels {
         ensures distinct { IsDistinct bytes_eq self.now.texts }
     {
         let at = self.table.get_index_of(t)?;
-        if at < self.shown {
+        if at < self.effective {
             Some(at as u32)
         } else {
             None
@@ -81,7 +81,7 @@ impl Labels {
     fn is_at(&self, l: u32, t: &Text) -> bool
         ensures { IsTrue result → position (bytes_eq t.now) self.now.texts ≡ Some l }
     {
-        (l as usize) < self.shown && self.table.as_slice()[l as usize] == *t
+        (l as usize) < self.effective && self.table.as_slice()[l as usize] == *t
     }
 
     // The number of the label, as `find` gives it. It is looked up at hand first, and is at hand afterwards.
@@ -99,7 +99,7 @@ impl Labels {
         Some(l)
     }
 
-    /// Makes room for a label, in place of the text that was ahead, and gives the number that it has
+    /// Reserves capacity for a label, instead of the text that was ahead, and gives the number that it has
     /// or would have.
     pub(crate) fn reserve(&mut self, alloc: Global, text: &Text) -> Result<u32, Memory>
         ensures ahead { OnOk result (self.new ≡ with_ahead self.old text.now) }
@@ -124,17 +124,17 @@ impl Labels {
     pub(crate) fn clear(&mut self)
         ensures { self.new ≡ record self.old { ahead = None } }
     {
-        if self.table.len() > self.shown {
-            self.table.truncate(self.shown);
+        if self.table.len() > self.effective {
+            self.table.truncate(self.effective);
         }
     }
 
     /// Makes a label of the text that is ahead.
     pub(crate) fn show(&mut self)
         requires few { length self.old.texts < 2 ^ 30 }
-        ensures { self.new ≡ with_ahead_shown self.old }
+        ensures { self.new ≡ with_ahead_effective self.old }
     {
-        self.shown = self.table.len();
+        self.effective = self.table.len();
     }
 
     // Puts a text that is no label ahead of the labels, in place of the one that was there.
@@ -145,7 +145,7 @@ impl Labels {
     {
         let key = text.copy(alloc)?;
         self.table.insert(key)?;
-        drop_previous(&mut self.table, self.shown);
+        drop_previous(&mut self.table, self.effective);
         Ok(())
     }
 }
@@ -159,13 +159,13 @@ fn last_bytes(t: &Text) -> (u32, u32) {
 }
 
 // Where two entries stand behind the first ones, only the last of them stays.
-fn drop_previous(table: &mut IndexSet<Text>, shown: usize)
-    requires { shown ≤ length table.old.keys }
-    ensures dropped { DropsPrevious shown table.old.keys table.new.keys }
-    ensures kept { length table.old.keys ≤ shown + 1 → table.new.keys ≡ table.old.keys }
+fn drop_previous(table: &mut IndexSet<Text>, effective: usize)
+    requires { effective ≤ length table.old.keys }
+    ensures dropped { DropsPrevious effective table.old.keys table.new.keys }
+    ensures kept { length table.old.keys ≤ effective + 1 → table.new.keys ≡ table.old.keys }
     ensures once { IsDistinct bytes_eq table.new.keys }
 {
-    if table.len() > shown + 1 {
-        table.swap_remove_index(shown);
+    if table.len() > effective + 1 {
+        table.swap_remove_index(effective);
     }
 }

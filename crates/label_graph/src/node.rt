@@ -1,8 +1,8 @@
 // The nodes of a graph, and their lists of neighbours.
 ghost use Rattle.std.specs.Prelude.{◌≡◌, ◌<◌, ◌==◌, ◌++◌, ◌∷◌, [], ℕ, if◌then◌else◌, Some, None, IfOk, OnOk, OnErr, length, slice_set, nat_eq, IsTrue, true};
 ghost use Rattle.std.specs.List.{IsDistinct};
-ghost use Rattle.px_spec.specs.Members.{has};
-ghost use Rattle.label_graph.specs.Nodes.{labels_of, number_at, children_of, parents_of, Mirrors, SameNodes, HasRoom, LacksEdge};
+ghost use Rattle.graph_spec.specs.Members.{has};
+ghost use Rattle.label_graph.specs.Nodes.{labels_of, number_at, children_of, parents_of, Mirrors, SameNodes, HasReserved, LacksEdge};
 
 use crate::segment::{EMPTY, Segment, items, make_place, push, take_out};
 use px_base::{Memory, NodeId};
@@ -18,7 +18,7 @@ pub(crate) struct Row {
     pub(crate) parents: Segment,
 }
 
-/// What a graph has room for: a node, by the number of its label in the table, or an edge.
+/// What a graph has reserved: a node, by the number of its label in the table, or an edge.
 #[derive(Clone, Copy, Drop)]
 pub(crate) enum Reserved {
     Nothing,
@@ -39,7 +39,7 @@ pub(crate) struct Nodes {
 impl Model for Nodes {
     ghost use Rattle.std.specs.Prelude.{vec_capacity};
     ghost use Rattle.label_graph.specs.Nodes.{NodeTable, node_table_code};
-    ghost use Rattle.label_graph.specs.Rows.{nodes_in, AreHeld};
+    ghost use Rattle.label_graph.specs.NodeRows.{nodes_in, AreHeld};
 
     ghost Value = { NodeTable };
 
@@ -118,7 +118,7 @@ impl Nodes {
         }
     }
 
-    /// Makes room for a node.
+    /// Reserves capacity for a node.
     pub(crate) fn reserve_node(&mut self) -> Result<(), Memory>
         ensures same { self.new.nodes ≡ self.old.nodes }
         ensures ok { OnOk result (length self.new.nodes < self.new.capacity) }
@@ -130,7 +130,7 @@ impl Nodes {
 
     /// Appends a node with no neighbours.
     pub(crate) fn push_node(&mut self, label: u32)
-        requires room { length self.old.nodes < self.old.capacity }
+        requires reserved { length self.old.nodes < self.old.capacity }
         ensures labels { labels_of self.new.nodes ≡ labels_of self.old.nodes ++ Some label ∷ [] }
         ensures children { (w : ℕ) → children_of self.new.nodes w ≡ children_of self.old.nodes w }
         ensures parents { (w : ℕ) → parents_of self.new.nodes w ≡ parents_of self.old.nodes w }
@@ -142,13 +142,13 @@ impl Nodes {
         });
     }
 
-    /// Makes room for an edge.
+    /// Reserves capacity for an edge.
     pub(crate) fn reserve_edge(&mut self, u: NodeId, v: NodeId) -> Result<(), Memory>
         requires from { u < length self.old.nodes }
         requires onto { v < length self.old.nodes }
         ensures same { SameNodes self.old.nodes self.new.nodes }
         ensures capacity { self.new.capacity ≡ self.old.capacity }
-        ensures room { OnOk result (HasRoom self.new.nodes u v) }
+        ensures reserved { OnOk result (HasReserved self.new.nodes u v) }
     {
         make_place(&mut self.cells, &mut self.rows[u as usize].children)?;
         make_place(&mut self.cells, &mut self.rows[v as usize].parents)?;
@@ -159,7 +159,7 @@ impl Nodes {
     pub(crate) fn push_edge(&mut self, u: NodeId, v: NodeId)
         requires from { u < length self.old.nodes }
         requires onto { v < length self.old.nodes }
-        requires room { HasRoom self.old.nodes u v }
+        requires reserved { HasReserved self.old.nodes u v }
         ensures children { (w : ℕ) → children_of self.new.nodes w ≡ children_of self.old.nodes w ++ (if w == u then v ∷ [] else []) }
         ensures parents { (w : ℕ) → parents_of self.new.nodes w ≡ parents_of self.old.nodes w ++ (if w == v then u ∷ [] else []) }
         ensures labels { labels_of self.new.nodes ≡ labels_of self.old.nodes }

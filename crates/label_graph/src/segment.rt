@@ -1,7 +1,7 @@
 // Lists of numbers that lie among the cells of one array, or in a segment itself.
 ghost use Rattle.std.specs.Prelude.{◌≡◌, ◌<◌, ◌≤◌, ◌++◌, ◌∷◌, [], length, position, nat_eq, nat_lt, take, false, IfOk, OnOk};
 ghost use Rattle.std.specs.List.{IsDistinct};
-ghost use Rattle.px_spec.specs.Members.{has};
+ghost use Rattle.graph_spec.specs.Members.{has};
 ghost use Rattle.label_graph.specs.Nodes.{IsWithout};
 ghost use Rattle.label_graph.specs.Segments.{items_in, LiesWithin, Writes, IsMoved, Begins};
 
@@ -21,22 +21,22 @@ const MOST_CELLS: usize = 0xFFFF_FFFF;
 pub(crate) struct Segment {
     pub(crate) first: u32,
     pub(crate) len: u32,
-    pub(crate) room: u32,
+    pub(crate) reserved: u32,
 }
 
 /// Whether the list takes no cell.
 #[inline(always)]
 fn is_short(segment: &Segment) -> bool
-    ensures { result ≡ nat_lt segment.now.room 2 }
+    ensures { result ≡ nat_lt segment.now.reserved 2 }
 {
-    segment.room < 2
+    segment.reserved < 2
 }
 
 /// A list without numbers, and with room for one.
 pub(crate) const EMPTY: Segment = Segment {
     first: 0,
     len: 0,
-    room: 1,
+    reserved: 1,
 };
 
 /// The numbers of a list.
@@ -53,16 +53,16 @@ pub(crate) fn items<'a>(cells: &'a [u32], segment: &'a Segment) -> &'a [u32]
     &cells[from..from + len]
 }
 
-/// Makes room for one more number, where there is none. The list then lies behind all others.
+/// Reserves capacity for one more number, where there is none. The list then lies behind all others.
 #[inline(always)]
 pub(crate) fn make_place(cells: &mut Vec<u32>, segment: &mut Segment) -> Result<(), Memory>
     requires { LiesWithin (length cells.old.items) segment.old }
     ensures writes { Writes cells.old.items cells.new.items segment.old segment.new }
     ensures items { items_in cells.new.items segment.new ≡ items_in cells.old.items segment.old }
-    ensures capacity { segment.old.room ≤ segment.new.room }
-    ensures ok { OnOk result (segment.new.len < segment.new.room) }
+    ensures capacity { segment.old.reserved ≤ segment.new.reserved }
+    ensures ok { OnOk result (segment.new.len < segment.new.reserved) }
 {
-    if segment.len < segment.room {
+    if segment.len < segment.reserved {
         return Ok(());
     }
     *segment = moved(cells, *segment)?;
@@ -70,11 +70,15 @@ pub(crate) fn make_place(cells: &mut Vec<u32>, segment: &mut Segment) -> Result<
 }
 
 // How many numbers a list of that room has room for once it is moved: twice as many, and at least four.
-fn more_room(room: u32) -> usize
-    ensures more { room < result }
+fn more_reserved(reserved: u32) -> usize
+    ensures more { reserved < result }
     ensures long { 2 ≤ result }
 {
-    if room < 2 { 4 } else { 2 * room as usize }
+    if reserved < 2 {
+        4
+    } else {
+        2 * reserved as usize
+    }
 }
 
 // Puts the numbers of a list behind all cells.
@@ -100,17 +104,17 @@ fn moved(cells: &mut Vec<u32>, segment: Segment) -> Result<Segment, Memory>
     ensures moved { IfOk result (IsMoved cells.old.items cells.new.items segment) }
 {
     let at = cells.len();
-    let room = more_room(segment.room);
-    if at > MOST_CELLS || room > MOST_CELLS - at {
+    let reserved = more_reserved(segment.reserved);
+    if at > MOST_CELLS || reserved > MOST_CELLS - at {
         return Err(Memory);
     }
-    cells.reserve(room)?;
+    cells.reserve(reserved)?;
     put_behind(cells, segment)?;
-    cells.resize(at + room, 0)?;
+    cells.resize(at + reserved, 0)?;
     Ok(Segment {
         first: at as u32,
         len: segment.len,
-        room: room as u32,
+        reserved: reserved as u32,
     })
 }
 
@@ -118,7 +122,7 @@ fn moved(cells: &mut Vec<u32>, segment: Segment) -> Result<Segment, Memory>
 #[inline(always)]
 pub(crate) fn push(cells: &mut Vec<u32>, segment: &mut Segment, n: u32)
     requires within { LiesWithin (length cells.old.items) segment.old }
-    requires room { segment.old.len < segment.old.room }
+    requires reserved { segment.old.len < segment.old.reserved }
     ensures writes { Writes cells.old.items cells.new.items segment.old segment.new }
     ensures items { items_in cells.new.items segment.new ≡ items_in cells.old.items segment.old ++ n ∷ [] }
 {

@@ -1,8 +1,8 @@
 // A graph as queries and indexes read it.
 ghost use Rattle.std.specs.Prelude.{◌≡◌, ◌≤◌, ◌^◌, length};
-ghost use Rattle.px_spec.specs.Graphs.{IsGraph};
-ghost use Rattle.px_spec.specs.Shapes.{shape_of};
-ghost use Rattle.label_graph.specs.Views.{numbered_shape, edge_count};
+ghost use Rattle.graph_spec.specs.Graphs.{IsGraph};
+ghost use Rattle.graph_spec.specs.Shapes.{shape_of};
+ghost use Rattle.label_graph.specs.GraphViews.{numbered_shape, edge_count};
 
 use crate::digraph::Digraph;
 use crate::graph::Graph;
@@ -23,7 +23,7 @@ pub struct GraphView<'a> {
 }
 
 impl<'a> Model for GraphView<'a> {
-    ghost use Rattle.px_spec.specs.Graphs.{Graph as Value_of_graph, graph_code};
+    ghost use Rattle.graph_spec.specs.Graphs.{Graph as Value_of_graph, graph_code};
 
     ghost Value = { Value_of_graph };
 
@@ -39,10 +39,10 @@ impl<'a> GraphView<'a> {
         GraphView { graph }
     }
 
-    /// How many node numbers were given, those of gone nodes too: at most 2^30. O(1), no memory.
+    /// How many node numbers were allocated, those of gone nodes too: at most 2^30. O(1), no memory.
     #[tactic(auto, using(crate::proofs::Viewed::viewed_shape))]
     pub fn created(&self) -> u32
-        ensures count { result ≡ length self.now.given }
+        ensures count { result ≡ length self.now.allocated }
         ensures few { result ≤ 2 ^ 30 }
         ensures graph { IsGraph self.now }
         ensures shape { numbered_shape self.now ≡ shape_of self.now }
@@ -64,10 +64,10 @@ impl<'a> GraphView<'a> {
 
 impl<'a> Digraph for GraphView<'a> {
     ghost use Rattle.std.specs.Prelude.{length};
-    ghost use Rattle.label_graph.specs.Views.{label_number, is_linked};
+    ghost use Rattle.label_graph.specs.GraphViews.{label_number, is_linked};
     ghost use Rattle.label_graph.specs.ViewLaws.{below_span, ends_seen};
 
-    ghost span = { λ g. length g.given };
+    ghost span = { λ g. length g.allocated };
 
     ghost label_at = { label_number };
 
@@ -75,7 +75,7 @@ impl<'a> Digraph for GraphView<'a> {
 
     #[tactic(auto, using(crate::proofs::Viewed::viewed_shape))]
     fn size(&self) -> u32
-        ensures size { result ≡ length self.now.given }
+        ensures size { result ≡ length self.now.allocated }
         ensures few { result ≤ 2 ^ 30 }
         ensures graph { IsGraph self.now }
         ensures shape { numbered_shape self.now ≡ shape_of self.now }

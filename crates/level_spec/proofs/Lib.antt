@@ -1,6 +1,6 @@
-pub mod Moved
-pub mod Weighed
-pub mod Lowest
-pub mod Upheld
-pub mod Linked
-pub mod Lone
+pub mod AffectedLevels
+pub mod AffectedWeights
+pub mod LowestLevel
+pub mod SupportedKeys
+pub mod EdgeLevels
+pub mod LoneNodes

@@ -1,13 +1,13 @@
 -- Blocks that have keys, and nodes that are in the blocks of their keys.
 use Rattle.std.specs.Prelude.{◌≡◌, ℕ, Bool, List, [], ◌∷◌, Option, Some, IsFalse, option_and_then, slice_get}
-use Rattle.px_spec.specs.Graphs.{Graph}
-use Rattle.px_spec.specs.Shapes.{Shape, shape_of}
-use Rattle.px_spec.specs.Members.{at}
-use Rattle.label_graph.specs.Views.{label_number}
+use Rattle.graph_spec.specs.Graphs.{Graph}
+use Rattle.graph_spec.specs.Shapes.{Shape, shape_of}
+use Rattle.graph_spec.specs.Members.{at}
+use Rattle.label_graph.specs.GraphViews.{label_number}
 use Rattle.bisim_spec.specs.Partitions.{IsPartition}
-use Rattle.bisim_spec.specs.Reach.{near}
-use Rattle.upkeep_spec.specs.Named.{AreNamed}
-use Rattle.upkeep_spec.specs.Supported.{AreEdgeCounts}
+use Rattle.bisim_spec.specs.Reach.{within_distance}
+use Rattle.one_spec.specs.Named.{AreNamed}
+use Rattle.one_spec.specs.EdgeCounts.{AreEdgeCounts}
 use Rattle.bisim_levels.specs.Keys.{IsKey}
 
 -- the node's block, if it has one, has the key that the node has over the partition one level below
@@ -24,7 +24,7 @@ pub record KeysStay (key key2 : ℕ → Option (List ℕ)) : Type 0 where
 
 -- nodes that aren't within so many edges of the targets have the blocks that they had
 pub record SameFar (target : ℕ → Bool) (s : Shape) (i : ℕ) (block block2 : List (Option ℕ)) : Type 0 where
-  pub same : (n : ℕ) → IsFalse (near s target i n) → at block2 n ≡ at block n
+  pub same : (n : ℕ) → IsFalse (within_distance s target i n) → at block2 n ≡ at block n
 
 -- the first number of a key: above the lowest level it is the block of the members one level below
 abbrev pub first_number : Option (List ℕ) → Option ℕ

@@ -1,4 +1,4 @@
-//! Definitions of how the levels of bisimilarity are kept while a graph changes, by the keys of the nodes near the change, with the laws
+//! Definitions of how the levels of bisimilarity are kept while a graph changes, by the keys of the affected nodes, with the laws
 //! about them.
 //!
 //! Laws in `proofs/`: a node farther than i + 1 edges from the targets keeps its key at level i + 1 if nodes farther than i edges keep

@@ -1,13 +1,13 @@
 -- The classes of full bisimilarity as an index that fits.
 use Rattle.std.proofs.Common.{◌≡◌, sym, subst}
-use Rattle.px_spec.specs.Graphs.{Graph, IsGraph}
-use Rattle.px_spec.specs.Shapes.{shape_of}
+use Rattle.graph_spec.specs.Graphs.{Graph, IsGraph}
+use Rattle.graph_spec.specs.Shapes.{shape_of}
 use Rattle.bisim_spec.specs.Bisimilarity.{Bisim}
 use Rattle.bisim_spec.specs.Partitions.{Agrees}
-use Rattle.bisim_spec.specs.Views.{ViewFits}
+use Rattle.bisim_spec.specs.IndexGraphs.{ViewFits}
 use Rattle.bisim_spec.specs.Fits.{FitsOne}
 use Rattle.bisim_spec.proofs.FitLaws.{fits_full}
-use Rattle.block_partition.specs.Partitions.{Partition}
+use Rattle.block_partition.specs.LabelledPartitions.{Partition}
 use Rattle.quotient.specs.Quotients.{Quotient, AreSupports, view_of}
 use Rattle.coarsest_partition.specs.IndexBlocks.{FitsWithSupports}
 

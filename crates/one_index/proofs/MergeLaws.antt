@@ -4,23 +4,23 @@ use Rattle.std.proofs.Common.{◌≡◌, ◌≢◌, ℕ, ◌<◌, ◌⊎◌, ◌
 use Rattle.std.specs.Prelude.{nat_eq, ◌||◌, ◌&&◌, is_some, slice_get}
 use Rattle.std.proofs.lemmas.Bool.{cases_Bool, cases_lt, and_parts, and_from, or_cases, or_left, or_right, both_ways}
 use Rattle.std.proofs.lemmas.Bool.Decides.{Decides-eqb}
-use Rattle.px_spec.specs.Graphs.{Graph, IsGraph, label_of}
-use Rattle.px_spec.specs.Shapes.{IsParent, shape_of}
-use Rattle.px_spec.specs.Members.{at}
-use Rattle.px_spec.proofs.GraphLaws.{is_shape}
+use Rattle.graph_spec.specs.Graphs.{Graph, IsGraph, label_of}
+use Rattle.graph_spec.specs.Shapes.{IsParent, shape_of}
+use Rattle.graph_spec.specs.Members.{at}
+use Rattle.graph_spec.proofs.GraphLaws.{is_shape}
 use Rattle.bisim_spec.specs.Bisimilarity.{Covers}
 use Rattle.bisim_spec.specs.Partitions.{Together}
 use Rattle.bisim_spec.specs.Stability.{Mergeable, Minimal, merged}
-use Rattle.bisim_spec.specs.Supports.{Joined}
-use Rattle.bisim_spec.specs.Views.{SupportTable, support_at}
+use Rattle.bisim_spec.specs.Supports.{Adjacent}
+use Rattle.bisim_spec.specs.IndexGraphs.{SupportTable, support_at}
 use Rattle.bisim_spec.proofs.Bisimilar.{some_of, is_some_at}
 use Rattle.bisim_spec.proofs.Stable.{stable_label, stable_parents}
-use Rattle.bisim_spec.proofs.Supported.{support_joined, joined_support}
+use Rattle.bisim_spec.proofs.EdgeSupports.{support_adjacent, adjacent_support}
 use Rattle.bisim_spec.proofs.Together.{together_at, merged_keeps, merged_a, merged_b, merged_cases, merged_partition}
 use Rattle.bisim_spec.proofs.MergeableBlocks.{mergeable_from, merges_from}
-use Rattle.quotient.specs.Quotients.{Quotient, is_joined, view_of}
-use Rattle.quotient.specs.Joined.{is_supported}
-use Rattle.quotient.specs.Laws.{below_span}
+use Rattle.quotient.specs.Quotients.{Quotient, is_adjacent, view_of}
+use Rattle.quotient.specs.QuotientNeighbours.{is_supported}
+use Rattle.quotient.specs.DigraphLaws.{below_span}
 use Rattle.one_index.specs.StableViews.{IsStableView}
 use Rattle.one_index.specs.MergeTest.{is_parent_of_one, IsCovered, CanMerge, HasNoMergeable}
 use Rattle.one_index.proofs.LabelPlaces.{one_place}
@@ -109,28 +109,28 @@ pub merge_swapped : (q : Quotient) (a b : ℕ) → CanMerge q a b → CanMerge q
 merge_swapped q a b m = record { label = sym m.label; there = m.back; back = m.there }
 
 module _ (g : Graph) (q : Quotient) (graph : IsGraph g) (viewed : IsStableView g (view_of q)) where
-  supported_joined : (x y : ℕ) → is_supported q.supports x y ≡ true → Joined (shape_of g) q.blocks.block_of x y
-  supported_joined x y h =
+  supported_adjacent : (x y : ℕ) → is_supported q.supports x y ≡ true → Adjacent (shape_of g) q.blocks.block_of x y
+  supported_adjacent x y h =
       let same = viewed.supports x y in
       let some : 0 < support_at q.supports x y = ltb-true 0 (support_at q.supports x y) h in
-      support_joined g q.blocks.block_of x y (omega (arith, same, some))
+      support_adjacent g q.blocks.block_of x y (omega (arith, same, some))
 
-  joined_supported : (x y : ℕ) → Joined (shape_of g) q.blocks.block_of x y → is_supported q.supports x y ≡ true
-  joined_supported x y j =
+  adjacent_supported : (x y : ℕ) → Adjacent (shape_of g) q.blocks.block_of x y → is_supported q.supports x y ≡ true
+  adjacent_supported x y j =
       let same = viewed.supports x y in
-      let some = joined_support g q.blocks.block_of x y j in
+      let some = adjacent_support g q.blocks.block_of x y j in
       lt-ltb 0 (support_at q.supports x y) (omega (arith, same, some))
 
   block_labelled : (n b : ℕ) → at q.blocks.block_of n ≡ Some b → is_some (at q.blocks.labels b) ≡ true
   block_labelled n b h = let l = viewed.labelled n b h in is_some_at (at q.blocks.labels b) l.0 l.2
 
-  joined_is : (x y : ℕ) → Joined (shape_of g) q.blocks.block_of x y → is_joined q x y ≡ true
-  joined_is x y j =
-      and_from (is_supported q.supports x y) (is_some (at q.blocks.labels x) && is_some (at q.blocks.labels y)) (joined_supported x y j)
+  adjacent_is : (x y : ℕ) → Adjacent (shape_of g) q.blocks.block_of x y → is_adjacent q x y ≡ true
+  adjacent_is x y j =
+      and_from (is_supported q.supports x y) (is_some (at q.blocks.labels x) && is_some (at q.blocks.labels y)) (adjacent_supported x y j)
       (and_from (is_some (at q.blocks.labels x)) (is_some (at q.blocks.labels y)) (block_labelled j.0 x j.3) (block_labelled j.1 y j.4))
 
-  is_joined_by : (x y : ℕ) → is_joined q x y ≡ true → Joined (shape_of g) q.blocks.block_of x y
-  is_joined_by x y h = supported_joined x y (and_parts (is_supported q.supports x y) (is_some (at q.blocks.labels x) && is_some (at q.blocks.labels y)) h).0
+  is_adjacent_by : (x y : ℕ) → is_adjacent q x y ≡ true → Adjacent (shape_of g) q.blocks.block_of x y
+  is_adjacent_by x y h = supported_adjacent x y (and_parts (is_supported q.supports x y) (is_some (at q.blocks.labels x) && is_some (at q.blocks.labels y)) h).0
 
   -- covered parent blocks cover the parents of each two members
   covers_from : (c d u v : ℕ) (R : ℕ → ℕ → Type 0) → at q.blocks.block_of u ≡ Some c → at q.blocks.block_of v ≡ Some d → IsCovered q c d
@@ -140,8 +140,8 @@ module _ (g : Graph) (q : Quotient) (graph : IsGraph g) (viewed : IsStableView g
       let shape = is_shape g graph in
       let block = q.blocks.block_of in
       let x = some_of (at block p) (viewed.stable.partition.live p (shape.from p u e)) in
-      let z = parent_some q.supports c d x.0 (covered.each x.0 (joined_is x.0 c (p, u, e, x.1, hu))) in
-      let k = supported_joined z.0 d z.1 in
+      let z = parent_some q.supports c d x.0 (covered.each x.0 (adjacent_is x.0 c (p, u, e, x.1, hu))) in
+      let k = supported_adjacent z.0 d z.1 in
       let r = stable_parents (shape_of g) block viewed.stable k.1 v (d, k.4, hv) k.0 k.2 in
       (r.0, r.1, into p r.0 x.0 z.0 x.1 (together_at block k.0 r.0 z.0 r.2 k.3) z.2)
 
@@ -151,10 +151,10 @@ module _ (g : Graph) (q : Quotient) (graph : IsGraph g) (viewed : IsStableView g
       → IsCovered q c d
   covered_from c d v R hv covers out = record {
     each = λ x j.
-        let k = is_joined_by x c j in
+        let k = is_adjacent_by x c j in
         let r = covers k.1 k.4 k.0 k.2 in
         let z = out k.0 r.0 x k.3 r.2 in
-        some_parent q.supports c d x z.0 (joined_supported z.0 d (r.0, v, r.1, z.1, hv)) z.2;
+        some_parent q.supports c d x z.0 (adjacent_supported z.0 d (r.0, v, r.1, z.1, hv)) z.2;
   }
 
   same_label : (a b u v : ℕ) → at q.blocks.block_of u ≡ Some a → at q.blocks.block_of v ≡ Some b → at q.blocks.labels a ≡ at q.blocks.labels b → label_of g u ≡ label_of g v
@@ -218,9 +218,9 @@ module _ (g : Graph) (q : Quotient) (graph : IsGraph g) (viewed : IsStableView g
       ]
 
   -- an answer that tells that of two blocks tells whether they can be merged
-  pub told_mergeable : (a b u v : ℕ) → at q.blocks.block_of u ≡ Some a → at q.blocks.block_of v ≡ Some b → (r : Bool) → (IsTrue r → CanMerge q a b)
+  pub known_mergeable : (a b u v : ℕ) → at q.blocks.block_of u ≡ Some a → at q.blocks.block_of v ≡ Some b → (r : Bool) → (IsTrue r → CanMerge q a b)
       → (IsFalse r → CanMerge q a b → ⊥) → IsTrue r ↔ Mergeable (shape_of g) q.blocks.block_of a b
-  told_mergeable a b u v hu hv r there back = (
+  known_mergeable a b u v hu hv r there back = (
     λ h. can_mergeable a b u v hu hv (there h),
     λ can. elim (cases_Bool r) [ inl on ↦ on | inr off ↦ absurd (back off (mergeable_can a b u v hu hv can)) ],
   )

@@ -4,11 +4,11 @@ use mathlib.Core.Bool.{beq}
 use Rattle.std.specs.Prelude.{option_and_then, slice_get}
 use Rattle.std.specs.List.{list_all}
 use Rattle.std.proofs.lemmas.Bool.{cases_Bool, both_ways}
-use Rattle.px_spec.proofs.GraphLaws.{is_shape}
-use Rattle.px_spec.specs.Graphs.{Graph, IsGraph, label_of}
-use Rattle.px_spec.specs.Shapes.{Shape, IsNode, IsParent, shape_of}
-use Rattle.px_spec.specs.Members.{Lists, at, has}
-use Rattle.label_graph.specs.Views.{label_number, is_linked}
+use Rattle.graph_spec.proofs.GraphLaws.{is_shape}
+use Rattle.graph_spec.specs.Graphs.{Graph, IsGraph, label_of}
+use Rattle.graph_spec.specs.Shapes.{Shape, IsNode, IsParent, shape_of}
+use Rattle.graph_spec.specs.Members.{Lists, at, has}
+use Rattle.label_graph.specs.GraphViews.{label_number, is_linked}
 use Rattle.label_graph.proofs.Viewed.{viewed_shape, linked_is}
 use Rattle.bisim_spec.specs.Bisimilarity.{Covers}
 use Rattle.bisim_spec.specs.Partitions.{IsPartition, Together}
@@ -17,9 +17,9 @@ use Rattle.bisim_spec.proofs.Bisimilar.{none_or_some, is_some_at, matched_sym, m
 use Rattle.bisim_spec.proofs.Stable.{stable_label, stable_parents}
 use Rattle.bisim_spec.proofs.Together.{together_sym, together_trans, block_below}
 use Rattle.bisim_spec.proofs.Moves.{block_get, block_from}
-use Rattle.block_partition.specs.Partitions.{Partition, is_member}
+use Rattle.block_partition.specs.LabelledPartitions.{Partition, is_member}
 use Rattle.quotient.specs.Quotients.{Quotient}
-use Rattle.quotient.specs.Laws.{below_span}
+use Rattle.quotient.specs.DigraphLaws.{below_span}
 use Rattle.one_index.specs.Alike.{AreAlike, IsUniform, is_among}
 use Rattle.one_index.proofs.Neighbours.{all_get, all_from, any_get, any_from}
 
@@ -40,8 +40,8 @@ node_same g graph n = elim (none_or_some (label_of g n)) [
   | inr (t, e) ↦ (let node = is_some_at (label_of g n) t e in node_number g graph n node ∙ sym node)
 ]
 
-pub label_told : (g : Graph) → IsGraph g → (u v : ℕ) → label_number g u ≡ label_number g v → label_of g u ≡ label_of g v
-label_told g graph u v e = sym (label_shown g graph u) ∙ ap (option_and_then (λ l. slice_get g.seen l)) e ∙ label_shown g graph v
+pub label_known : (g : Graph) → IsGraph g → (u v : ℕ) → label_number g u ≡ label_number g v → label_of g u ≡ label_of g v
+label_known g graph u v e = sym (label_shown g graph u) ∙ ap (option_and_then (λ l. slice_get g.seen l)) e ∙ label_shown g graph v
 
 -- nodes that are in one block with one of some others
 
@@ -125,10 +125,10 @@ partition_same s block p n = elim (cases_Bool (is_some (s.label n))) [
 ]
 
 -- if so below a number from which on there are none of either
-pub partition_from : (g : Graph) → IsGraph g → (block : List (Option ℕ)) (most : ℕ) → length g.given ≤ most → length block ≤ most
+pub partition_from : (g : Graph) → IsGraph g → (block : List (Option ℕ)) (most : ℕ) → length g.allocated ≤ most → length block ≤ most
     → ((n : ℕ) → n < most → is_some (at block n) ≡ is_some (label_of g n)) → IsPartition (shape_of g) block
-partition_from g graph block most given longest same = record {
-  live = λ n node. let below = (is_shape g graph).below n node in same n (omega (arith, below, given)) ∙ node;
+partition_from g graph block most allocated longest same = record {
+  live = λ n node. let below = (is_shape g graph).below n node in same n (omega (arith, below, allocated)) ∙ node;
   only = λ n has. let below = block_below block n has in sym (same n (omega (arith, below, longest))) ∙ has;
 }
 

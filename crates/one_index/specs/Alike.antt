@@ -1,11 +1,11 @@
 -- What makes a partition stable, block by block.
 use Rattle.std.specs.Prelude.{◌≡◌, ℕ, Bool, false, List, Option, None, Some}
 use Rattle.std.specs.List.{list_any}
-use Rattle.px_spec.specs.Shapes.{Shape, IsParent}
-use Rattle.px_spec.specs.Members.{at}
+use Rattle.graph_spec.specs.Shapes.{Shape, IsParent}
+use Rattle.graph_spec.specs.Members.{at}
 use Rattle.bisim_spec.specs.Bisimilarity.{Matched}
 use Rattle.bisim_spec.specs.Partitions.{Together}
-use Rattle.block_partition.specs.Partitions.{Partition, is_member}
+use Rattle.block_partition.specs.LabelledPartitions.{Partition, is_member}
 
 -- two nodes have one label, and parents in the same blocks
 pub record AreAlike (s : Shape) (block : List (Option ℕ)) (u v : ℕ) : Type 0 where

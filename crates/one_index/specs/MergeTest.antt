@@ -1,10 +1,10 @@
 -- Which blocks can be merged, by labels and supports. Source: K. Yi, H. He, I. Stanoi and J. Yang, "Incremental Maintenance of
 -- XML Structural Indexes", SIGMOD 2004.
 use Rattle.std.specs.Prelude.{◌≡◌, ◌<◌, ℕ, ◌||◌, Bool, Some, IsSome, IsTrue, nat_eq, if◌then◌else◌}
-use Rattle.px_spec.specs.Members.{at}
-use Rattle.bisim_spec.specs.Views.{SupportTable}
-use Rattle.quotient.specs.Quotients.{Quotient, is_joined}
-use Rattle.quotient.specs.Joined.{is_supported}
+use Rattle.graph_spec.specs.Members.{at}
+use Rattle.bisim_spec.specs.IndexGraphs.{SupportTable}
+use Rattle.quotient.specs.Quotients.{Quotient, is_adjacent}
+use Rattle.quotient.specs.QuotientNeighbours.{is_supported}
 
 -- whether x has support to d, where c and d count as one
 abbrev pub is_parent_of_one : SupportTable → ℕ → ℕ → ℕ → Bool
@@ -12,7 +12,7 @@ is_parent_of_one t c d x = if nat_eq x c || nat_eq x d then is_supported t c d |
 
 -- the parent blocks of c are parent blocks of d too, where the two count as one
 pub record IsCovered (q : Quotient) (c d : ℕ) : Type 0 where
-  pub each : (x : ℕ) → IsTrue (is_joined q x c) → IsTrue (is_parent_of_one q.supports c d x)
+  pub each : (x : ℕ) → IsTrue (is_adjacent q x c) → IsTrue (is_parent_of_one q.supports c d x)
 
 -- two blocks have one label, and the same parent blocks where they count as one
 pub record CanMerge (q : Quotient) (a b : ℕ) : Type 0 where

@@ -1,11 +1,11 @@
 -- Index graphs of stable partitions.
 use Rattle.std.specs.Prelude.{ℕ, ◌≡◌, List, Some, slice_get}
-use Rattle.px_spec.specs.Graphs.{Graph, label_of}
-use Rattle.px_spec.specs.Shapes.{shape_of}
-use Rattle.px_spec.specs.Members.{at}
+use Rattle.graph_spec.specs.Graphs.{Graph, label_of}
+use Rattle.graph_spec.specs.Shapes.{shape_of}
+use Rattle.graph_spec.specs.Members.{at}
 use Rattle.bisim_spec.specs.Stability.{Stable}
 use Rattle.bisim_spec.specs.Supports.{edges_between}
-use Rattle.bisim_spec.specs.Views.{View, support_at}
+use Rattle.bisim_spec.specs.IndexGraphs.{View, support_at}
 
 -- The partition is stable, members have their block's label, and supports are the numbers of edges. Blocks may have no members.
 pub record IsStableView (g : Graph) (v : View) : Type 0 where

@@ -1,6 +1,6 @@
 // The 1-index of a graph.
 ghost use Rattle.std.specs.Prelude.{IfOk};
-ghost use Rattle.px_spec.specs.Shapes.{shape_of};
+ghost use Rattle.graph_spec.specs.Shapes.{shape_of};
 ghost use Rattle.bisim_spec.specs.Bisimilarity.{Bisim};
 ghost use Rattle.bisim_spec.specs.Partitions.{Agrees};
 ghost use Rattle.bisim_spec.specs.Fits.{FitsOne};
@@ -27,8 +27,8 @@ impl OneIndex {
     ///
     /// Expected O(n + m log d) for n node numbers, m edges and at most d parents of a node where the graph has no cycle: one pass in
     /// which parents come first, and one over the edges. One cycle anywhere loses that pass, and all blocks are found by rounds over
-    /// nodes that wait: in the first round all, in each later one those of which a parent moved in the round before, except those alone
-    /// in their blocks. A round is expected O(w + p log d + c) for w nodes that wait, with p parents, and c children of those that move.
+    /// active nodes: in the first round all, in each later one those of which a parent moved in the round before, except those alone
+    /// in their blocks. A round is expected O(w + p log d + c) for w active nodes, with p parents, and c children of those that move.
     /// There are at most as many rounds as blocks, so r rounds are O(r (n + m log d)) at most.
     ///
     /// It takes O(n + m) memory. On a graph of triples that `tools/make_triples.py` makes in the shape `deep`, the tables by which blocks

@@ -1,6 +1,6 @@
 // Members of blocks.
 ghost use Rattle.std.specs.Prelude.{◌≡◌, ◌≢◌, ℕ, Some, IsSome, IsTrue, IsFalse, IfSome, IfNone};
-ghost use Rattle.px_spec.specs.Members.{at};
+ghost use Rattle.graph_spec.specs.Members.{at};
 
 use px_base::NodeId;
 use quotient::Summary;

@@ -1,9 +1,9 @@
 // Which blocks can be merged.
 ghost use Rattle.std.specs.Prelude.{◌≡◌, ◌≢◌, ◌↔◌, ◌<◌, ℕ, Some, IsSome, IsTrue, IsFalse, length};
 ghost use Rattle.std.specs.List.{list_all};
-ghost use Rattle.px_spec.specs.Graphs.{Graph, IsGraph};
-ghost use Rattle.px_spec.specs.Shapes.{shape_of};
-ghost use Rattle.px_spec.specs.Members.{at};
+ghost use Rattle.graph_spec.specs.Graphs.{Graph, IsGraph};
+ghost use Rattle.graph_spec.specs.Shapes.{shape_of};
+ghost use Rattle.graph_spec.specs.Members.{at};
 ghost use Rattle.bisim_spec.specs.Stability.{Mergeable, Minimal};
 ghost use Rattle.quotient.specs.Quotients.{view_of};
 ghost use Rattle.one_index.specs.StableViews.{IsStableView};

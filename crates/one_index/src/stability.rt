@@ -1,13 +1,13 @@
 // Whether a partition is stable.
 ghost use Rattle.std.specs.Prelude.{◌≡◌, ◌↔◌, ℕ, Some, IsSome, IsTrue, IsFalse};
 ghost use Rattle.std.specs.List.{list_any, list_all};
-ghost use Rattle.px_spec.specs.Graphs.{IsGraph};
-ghost use Rattle.px_spec.specs.Shapes.{IsNode, IsParent, shape_of};
-ghost use Rattle.px_spec.specs.Members.{at};
+ghost use Rattle.graph_spec.specs.Graphs.{IsGraph};
+ghost use Rattle.graph_spec.specs.Shapes.{IsNode, IsParent, shape_of};
+ghost use Rattle.graph_spec.specs.Members.{at};
 ghost use Rattle.bisim_spec.specs.Bisimilarity.{Covers};
 ghost use Rattle.bisim_spec.specs.Partitions.{IsPartition, Together};
 ghost use Rattle.bisim_spec.specs.Stability.{Stable};
-ghost use Rattle.block_partition.specs.Partitions.{is_member};
+ghost use Rattle.block_partition.specs.LabelledPartitions.{is_member};
 ghost use Rattle.one_index.specs.Alike.{AreAlike, IsUniform, is_among};
 
 use crate::members::some_member;

@@ -11,12 +11,12 @@ use std::marker::Brand;
 use std::process::Abort;
 use std::sync::ledger::{Blank, Ledger};
 use std::test::Fail;
-use test_graphs::drawn;
+use test_graphs::graph_from;
 
 // Makes blocks with these labels.
 fn put_blocks(blocks: &mut Blocks, labels: &[u32])
-    requires { length labels.now ≤ blocks.old.room.blocks }
-    ensures { blocks.new.room.nodes ≡ blocks.old.room.nodes }
+    requires { length labels.now ≤ blocks.old.reserved.blocks }
+    ensures { blocks.new.reserved.nodes ≡ blocks.old.reserved.nodes }
 {
     for label in labels {
         let _ = blocks.new_block(*label);
@@ -25,7 +25,7 @@ fn put_blocks(blocks: &mut Blocks, labels: &[u32])
 
 // Puts the next nodes into these blocks.
 fn put_members(rt: &impl Abort, blocks: &mut Blocks, members: &[u32])
-    requires { length members.now ≤ blocks.old.room.nodes }
+    requires { length members.now ≤ blocks.old.reserved.nodes }
 {
     for b in members {
         assert!(rt; blocks.is_block(*b));
@@ -190,7 +190,7 @@ fn check_row<L: Ledger>(
     requires some { 0 < blank.parts }
 {
     let mut steps = Steps::<L>::new(blank);
-    let graph = drawn(alloc, row.nodes, row.edges, &mut steps)?;
+    let graph = graph_from(alloc, row.nodes, row.edges, &mut steps)?;
     let view = graph.view(&mut steps);
     let summary = Summary::of(alloc, parted(rt, alloc, row.labels, row.members)?, &view)?;
     assert!(rt;

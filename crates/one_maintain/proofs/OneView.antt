@@ -1,8 +1,8 @@
 -- A 1-index of a graph as an index that fits.
 use Rattle.std.proofs.Common.{ℕ, zero, suc, ◌<◌, arith, refl}
-use Rattle.px_spec.specs.Graphs.{Graph}
+use Rattle.graph_spec.specs.Graphs.{Graph}
 use Rattle.bisim_spec.specs.declared.kind.Kind.TheVariants.{One}
-use Rattle.bisim_spec.specs.Views.{View}
+use Rattle.bisim_spec.specs.IndexGraphs.{View}
 use Rattle.std.proofs.Common.{[], ◌∷◌, Some}
 use Rattle.bisim_spec.specs.Fits.{Fits, FitsAt, FitsOne, view_at}
 

@@ -1,12 +1,12 @@
 -- What is staged, and what is in force once it is committed.
 use Rattle.std.proofs.Common.{◌≡◌, ℕ, zero, suc, ◌+◌, cond, List, [], ◌∷◌, Option, Some, None, IsSome, refl, sym, ◌∙◌, ap, subst, arith, true, false, Bool, true≢false}
-use Rattle.px_spec.specs.Graphs.{Graph}
-use Rattle.px_spec.specs.Changes.{Change, after}
+use Rattle.graph_spec.specs.Graphs.{Graph}
+use Rattle.graph_spec.specs.Changes.{Change, after}
 use Rattle.std.specs.Prelude.{unwrap_or}
-use Rattle.px_spec.specs.Members.{at}
-use Rattle.px_spec.specs.Shapes.{shape_of}
+use Rattle.graph_spec.specs.Members.{at}
+use Rattle.graph_spec.specs.Shapes.{shape_of}
 use Rattle.bisim_spec.specs.declared.kind.Kind.TheVariants.{One}
-use Rattle.bisim_spec.specs.Views.{View, support_at}
+use Rattle.bisim_spec.specs.IndexGraphs.{View, support_at}
 use Rattle.bisim_spec.specs.Fits.{FitsOne, view_at}
 use Rattle.bisim_spec.specs.Bisimilarity.{Bisim}
 use Rattle.bisim_spec.specs.Partitions.{Agrees}
@@ -14,12 +14,12 @@ use Rattle.bisim_spec.specs.OneStep.{OneStep}
 use Rattle.quotient.specs.Quotients.{Quotient, view_of}
 use Rattle.quotient_draft.specs.Drafts.{Drafted, no_changes, has_member, shown_labels, shown_blocks, shown_support, settled_view, inhabited_from, with_moves, with_added, with_supports}
 use Rattle.quotient_draft.specs.Basis.{IsOver}
-use Rattle.quotient_draft.specs.Rooms.{HasRoomFor}
+use Rattle.quotient_draft.specs.ReservedCapacity.{HasRoomFor}
 use Rattle.quotient_draft.proofs.Gone.{member_there}
-use Rattle.one_merging.specs.Roots.{RootLists, CoversRoots, CoversBase, CoversShown}
+use Rattle.one_merge.specs.ParentlessBlocks.{ParentlessLists, CoversParentless, CoversBase, CoversShown}
 use Rattle.index_api.specs.Meanings.{IsReady, IsBuilt, IsPrepared, IsCommitted, unstaged}
 use Rattle.one_maintain.specs.KeptQuotients.{KeptQuotient, CanSettle, meaning_of, staged_views}
-use Rattle.one_drafting.specs.OneDrafts.{IsSupported}
+use Rattle.one_update.specs.OneDrafts.{IsSupported}
 use Rattle.one_maintain.proofs.OneView.{one_fits}
 
 -- the view that a draft will leave, from the view that it is over
@@ -42,11 +42,11 @@ onto_by v d = (b c : ℕ) → has_member (with_moves v.block_of d.moves) b ≡ f
 pub can_settle : (g : Graph) (q q2 : Quotient) (d : Drafted) → view_of q2 ≡ view_of q → FitsOne g (view_of q) → IsOver q.blocks.block_of q.blocks.labels d → HasRoomFor q2 d
     → ((b c : ℕ) → has_member (shown_blocks q d) b ≡ false → shown_support q d b c ≡ 0) → ((b c : ℕ) → has_member (shown_blocks q d) b ≡ false → shown_support q d c b ≡ 0)
     → CanSettle q2 d
-can_settle g q q2 d same fits over room from onto =
+can_settle g q q2 d same fits over reserved from onto =
     let fits2 = subst (FitsOne g) (sym same) fits in
     record {
       over = subst (λ (v : View). IsOver v.block_of v.labels d) (sym same) over;
-      room = room;
+      reserved = reserved;
       inhabited = λ b h. let m = fits2.view.inhabited b h in member_there q2.blocks.block_of b m.0 m.1;
       from = subst (λ v. from_by v d) (sym same) from;
       onto = subst (λ v. onto_by v d) (sym same) onto;
@@ -146,17 +146,17 @@ labels_kept block n (x ∷ xs) zero l h = by (has_member block n) h
 labels_kept block n (x ∷ xs) (suc b) l h = labels_kept block (n + 1) xs b l h
 
 -- those that the base has once a draft is settled
-pub covers_settled : (q q2 : Quotient) (d : Drafted) (roots : RootLists) → view_of q2 ≡ settled_view q d → CoversShown q d roots → CoversBase q2 roots
-covers_settled q q2 d roots view covers = subst (λ (v : View). CoversRoots (at v.labels) (support_at v.supports) roots) (sym view) covers
+pub covers_settled : (q q2 : Quotient) (d : Drafted) (parentless : ParentlessLists) → view_of q2 ≡ settled_view q d → CoversShown q d parentless → CoversBase q2 parentless
+covers_settled q q2 d parentless view covers = subst (λ (v : View). CoversParentless (at v.labels) (support_at v.supports) parentless) (sym view) covers
 
 -- and they are the same over a base that is seen the same
-pub covers_same : (q q2 : Quotient) (roots : RootLists) → view_of q2 ≡ view_of q → CoversBase q roots → CoversBase q2 roots
-covers_same q q2 roots same covers = subst (λ (v : View). CoversRoots (at v.labels) (support_at v.supports) roots) (sym same) covers
+pub covers_same : (q q2 : Quotient) (parentless : ParentlessLists) → view_of q2 ≡ view_of q → CoversBase q parentless → CoversBase q2 parentless
+covers_same q q2 parentless same covers = subst (λ (v : View). CoversParentless (at v.labels) (support_at v.supports) parentless) (sym same) covers
 
-pub shown_same : (q q2 : Quotient) (d : Drafted) (roots : RootLists) → view_of q2 ≡ view_of q → CoversShown q d roots → CoversShown q2 d roots
-shown_same q q2 d roots same covers = subst (λ (v : View). CoversRoots (at (settled_by v d).labels) (support_at (with_supports v.supports d.supports)) roots) (sym same) covers
+pub shown_same : (q q2 : Quotient) (d : Drafted) (parentless : ParentlessLists) → view_of q2 ≡ view_of q → CoversShown q d parentless → CoversShown q2 d parentless
+shown_same q q2 d parentless same covers = subst (λ (v : View). CoversParentless (at (settled_by v d).labels) (support_at (with_supports v.supports d.supports)) parentless) (sym same) covers
 
 -- where nothing is drafted
-pub covers_cleared : (q : Quotient) (d : Drafted) (roots : RootLists) → d ≡ no_changes → CoversBase q roots → CoversShown q d roots
-covers_cleared q d roots empty covers =
-    subst (λ x. CoversShown q x roots) (sym empty) (record { each = λ b l h k. covers.each b l (labels_kept (shown_blocks q no_changes) 0 (shown_labels q no_changes) b l h) k })
+pub covers_cleared : (q : Quotient) (d : Drafted) (parentless : ParentlessLists) → d ≡ no_changes → CoversBase q parentless → CoversShown q d parentless
+covers_cleared q d parentless empty covers =
+    subst (λ x. CoversShown q x parentless) (sym empty) (record { each = λ b l h k. covers.each b l (labels_kept (shown_blocks q no_changes) 0 (shown_labels q no_changes) b l h) k })

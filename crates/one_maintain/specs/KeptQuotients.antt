@@ -1,20 +1,20 @@
 -- A 1-index that is kept: the quotient in force, and a draft over it of what a change to come will make of it.
 use Rattle.std.specs.Prelude.{◌≡◌, ℕ, Bool, true, false, IsTrue, IsSome, List, [], ◌∷◌, Option, Some, None, refl}
 use Rattle.std.specs.Coded.{Coded, code_by, coded×, coded_bool}
-use Rattle.px_spec.specs.Members.{at}
-use Rattle.px_spec.specs.Graphs.{Graph}
-use Rattle.px_spec.specs.Changes.{Change, after, link}
+use Rattle.graph_spec.specs.Members.{at}
+use Rattle.graph_spec.specs.Graphs.{Graph}
+use Rattle.graph_spec.specs.Changes.{Change, after, link}
 use Rattle.bisim_spec.specs.declared.kind.Kind.TheVariants.{One}
-use Rattle.bisim_spec.specs.Views.{View}
+use Rattle.bisim_spec.specs.IndexGraphs.{View}
 use Rattle.bisim_spec.specs.OneStep.{OneStep}
 use Rattle.bisim_spec.specs.Fits.{view_at}
 use Rattle.quotient.specs.Quotients.{Quotient, quotient_code, view_of}
 use Rattle.quotient_draft.specs.Drafts.{Drafted, drafted_code, no_changes, has_member, shown_blocks, shown_support, settled_view}
 use Rattle.quotient_draft.specs.Basis.{IsOver}
-use Rattle.quotient_draft.specs.Rooms.{HasRoomFor}
+use Rattle.quotient_draft.specs.ReservedCapacity.{HasRoomFor}
 use Rattle.index_api.specs.Meanings.{Meaning}
-use Rattle.one_merging.specs.Roots.{RootLists, CoversBase, CoversShown}
-use Rattle.one_drafting.specs.OneDrafts.{IsSupported}
+use Rattle.one_merge.specs.ParentlessBlocks.{ParentlessLists, CoversBase, CoversShown}
+use Rattle.one_update.specs.OneDrafts.{IsSupported}
 
 pub record KeptQuotient : Type 0 where
   pub base : Quotient
@@ -28,10 +28,10 @@ kept_code =
     code_by (Quotient × (Drafted × Bool)) (coded× quotient_code (coded× drafted_code coded_bool)) (λ k. (k.base, (k.draft, k.staged)))
     (λ p. record { base = p.0; draft = p.1.0; staged = p.1.1 }) (λ _. refl)
 
--- what the draft needs to be settled in its base: room, and members and supports that agree
+-- what the draft needs to be settled in its base: reserved capacity, and members and supports that agree
 pub record CanSettle (q : Quotient) (d : Drafted) : Type 0 where
   pub over : IsOver q.blocks.block_of q.blocks.labels d
-  pub room : HasRoomFor q d
+  pub reserved : HasRoomFor q d
   pub inhabited : (b : ℕ) → IsSome (at q.blocks.labels b) → IsTrue (has_member q.blocks.block_of b)
   pub from : (b c : ℕ) → has_member (shown_blocks q d) b ≡ false → shown_support q d b c ≡ 0
   pub onto : (b c : ℕ) → has_member (shown_blocks q d) b ≡ false → shown_support q d c b ≡ 0
@@ -56,12 +56,12 @@ meaning_of None = record { kind = One; views = []; staged = None }
 meaning_of (Some k) = record { kind = One; views = views_of k.base; staged = staged_views k.base k.draft k.staged }
 
 -- what is kept: a draft that can be settled, or none, and the blocks without other parents, those of the base and those as shown
-pub record IsSoundKept (base : Quotient) (draft : Drafted) (staged : Bool) (noted : RootLists) : Type 0 where
+pub record IsSoundKept (base : Quotient) (draft : Drafted) (staged : Bool) (noted : ParentlessLists) : Type 0 where
   -- a staged draft can be settled, else nothing is drafted
   pub kept : IsKeptDraft base draft staged
-  -- the base's roots are noted
-  pub roots : CoversBase base noted
-  -- the roots as shown are noted
+  -- the base's parentless blocks are noted
+  pub parentless : CoversBase base noted
+  -- the parentless blocks as shown are noted
   pub shown : CoversShown base draft noted
 
 -- the upkeep of a 1-index leads from the partition of the base to that of the view

@@ -3,7 +3,7 @@ ghost use Rattle.std.specs.Prelude.{◌≡◌, ◌+◌, ◌≤◌, ◌<◌, IfOk
 ghost use Rattle.graph_update.specs.NewChanges.{IsNew};
 ghost use Rattle.graph_update.specs.Verdicts.{change_of};
 ghost use Rattle.index_api.specs.Meanings.{IsReady, IsPrepared};
-ghost use Rattle.one_drafting.specs.OneDrafts.{most_steps};
+ghost use Rattle.one_update.specs.OneDrafts.{most_steps};
 ghost use Rattle.one_maintain.specs.KeptQuotients.{meaning_of, IsFreeLink};
 
 use crate::kept::Kept;
@@ -55,7 +55,7 @@ impl OneKept {
     /// change reaches `r` nodes, and `w` is one for each of them, one for each of its parents and one for each of its children. A
     /// link takes none where the blocks of its ends have support already, and then expected O(1) time and memory.
     ///
-    /// The time and the memory are those of `one_drafting::draft_change`. A new search for the blocks without other parents passes
+    /// The time and the memory are those of `one_update::draft_change`. A new search for the blocks without other parents passes
     /// over all blocks: O(b) more, for b blocks.
     pub fn prepare_counted<L: Ledger>(
         &mut self,

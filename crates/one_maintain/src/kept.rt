@@ -1,19 +1,19 @@
 // A quotient in force, with what a change to come will make of it.
 ghost use Rattle.std.specs.Prelude.{◌≡◌, ◌+◌, ◌≤◌, ℕ, Bool, true, false, IsTrue, IfOk, OnOk, OnErr};
-ghost use Rattle.px_spec.specs.Changes.{after, link};
+ghost use Rattle.graph_spec.specs.Changes.{after, link};
 ghost use Rattle.bisim_spec.specs.Fits.{FitsOne};
 ghost use Rattle.graph_update.specs.NewChanges.{IsNew};
 ghost use Rattle.graph_update.specs.Verdicts.{change_of};
 ghost use Rattle.quotient.specs.Quotients.{view_of};
 ghost use Rattle.quotient_draft.specs.Drafts.{no_changes, settled_view};
-ghost use Rattle.one_merging.specs.Roots.{CoversBase, CoversShown};
-ghost use Rattle.one_drafting.specs.OneDrafts.{IsSupported, most_steps};
+ghost use Rattle.one_merge.specs.ParentlessBlocks.{CoversBase, CoversShown};
+ghost use Rattle.one_update.specs.OneDrafts.{IsSupported, most_steps};
 ghost use Rattle.one_maintain.specs.KeptQuotients.{CanSettle, IsNextOf};
 
 use graph_update::Change;
 use label_graph::Graph;
-use one_drafting::draft_change;
-use one_merging::Roots;
+use one_merge::ParentlessBlocks;
+use one_update::draft_change;
 use px_base::{Memory, Steps};
 use quotient::Summary;
 use quotient_draft::Draft;
@@ -25,7 +25,7 @@ use std::sync::ledger::Ledger;
 /// no other has support are known, those of the base and those as shown.
 pub(crate) struct Kept {
     base: Summary,
-    roots: Roots,
+    parentless: ParentlessBlocks,
     draft: Draft,
     staged: bool,
 }
@@ -35,7 +35,7 @@ impl Drop for Kept {
     fn drop(self) {
         let Kept {
             base: _base,
-            roots: _roots,
+            parentless: _parentless,
             draft: _draft,
             staged: _staged,
         } = self;
@@ -51,15 +51,15 @@ impl Model for Kept {
 
     ghost view = { λ k. record { base = k.base; draft = k.draft; staged = k.staged } };
 
-    ghost invariant = { λ k. IsSoundKept k.base k.draft k.staged k.roots };
+    ghost invariant = { λ k. IsSoundKept k.base k.draft k.staged k.parentless };
 }
 
-// Drafts what a change will make of a quotient, notes the blocks to which no other has support then, and makes the room that settling it
-// needs.
+// Drafts what a change will make of a quotient, notes the blocks to which no other has support then, and
+// reserves the capacity that settling it needs.
 fn fill<L: Ledger>(
     alloc: Global,
     base: &mut Summary,
-    roots: &mut Roots,
+    parentless: &mut ParentlessBlocks,
     draft: &mut Draft,
     graph: &Graph,
     change: &Change,
@@ -68,18 +68,18 @@ fn fill<L: Ledger>(
     requires fits { FitsOne graph.now.graph (view_of base.old) }
     requires new { IsNew (change_of change.now) graph.now.graph }
     requires empty { draft.old ≡ no_changes }
-    requires covers { CoversBase base.old roots.old }
+    requires covers { CoversBase base.old parentless.old }
     ensures same { view_of base.new ≡ view_of base.old }
-    ensures covers { CoversBase base.new roots.new }
-    ensures shown { OnOk result (CoversShown base.new draft.new roots.new) }
+    ensures covers { CoversBase base.new parentless.new }
+    ensures shown { OnOk result (CoversShown base.new draft.new parentless.new) }
     ensures ready { OnOk result (CanSettle base.new draft.new) }
     ensures step { OnOk result (IsNextOf graph.now.graph (change_of change.now) base.old (settled_view base.new draft.new)) }
     ensures fits { OnOk result (FitsOne (after (change_of change.now) graph.now.graph) (settled_view base.new draft.new)) }
     ensures cost { steps.new ≤ steps.old + most_steps graph.now.graph (change_of change.now) }
     ensures free { (u v : ℕ) → change_of change.now ≡ link u v → IsSupported (view_of base.old) u v → steps.new ≡ steps.old }
 {
-    draft_change(alloc, base, draft, roots, graph, change, steps)?;
-    roots.note_touched(alloc, base, draft)?;
+    draft_change(alloc, base, draft, parentless, graph, change, steps)?;
+    parentless.note_touched(alloc, base, draft)?;
     draft.reserve(base)?;
     Ok(())
 }
@@ -103,30 +103,30 @@ fn renew(alloc: Global, draft: &mut Draft)
     }
 }
 
-// Makes the roots again from the base where far more were noted since they were made than there were then, so that numbers that are
-// no longer blocks go. It passes over all blocks; where memory for it runs out, the roots stay.
-fn renew_roots(alloc: Global, base: &Summary, roots: &mut Roots)
-    requires covers { CoversBase base.now roots.old }
-    ensures covers { CoversBase base.now roots.new }
+// Makes the parentless blocks again from the base where far more were noted since they were made than there were then, so that numbers that are
+// no longer blocks go. It passes over all blocks; where memory for it runs out, the parentless blocks stay.
+fn renew_parentless(alloc: Global, base: &Summary, parentless: &mut ParentlessBlocks)
+    requires covers { CoversBase base.now parentless.old }
+    ensures covers { CoversBase base.now parentless.new }
 {
-    if !roots.are_many() {
+    if !parentless.are_many() {
         return;
     }
-    if let Ok(fresh) = Roots::of(alloc, base) {
-        *roots = fresh;
+    if let Ok(fresh) = ParentlessBlocks::of(alloc, base) {
+        *parentless = fresh;
     }
 }
 
-// A quotient with its roots and an empty draft.
-fn unstaged(base: Summary, roots: Roots, draft: Draft) -> Kept
-    requires covers { CoversBase base roots }
+// A quotient with its parentless blocks and an empty draft.
+fn unstaged(base: Summary, parentless: ParentlessBlocks, draft: Draft) -> Kept
+    requires covers { CoversBase base parentless }
     requires empty { draft ≡ no_changes }
     ensures base { result.base ≡ base }
     ensures unstaged { result.staged ≡ false }
 {
     Kept {
         base,
-        roots,
+        parentless,
         draft,
         staged: false,
     }
@@ -138,9 +138,9 @@ impl Kept {
         ensures base { IfOk result (λ k. k.base ≡ base) }
         ensures unstaged { IfOk result (λ k. k.staged ≡ false) }
     {
-        let roots = Roots::of(alloc, &base)?;
+        let parentless = ParentlessBlocks::of(alloc, &base)?;
         let draft = Draft::new(alloc)?;
-        Ok(unstaged(base, roots, draft))
+        Ok(unstaged(base, parentless, draft))
     }
 
     /// The quotient in force.
@@ -169,11 +169,11 @@ impl Kept {
         ensures cost { steps.new ≤ steps.old + most_steps graph.now.graph (change_of change.now) }
         ensures free { (u v : ℕ) → change_of change.now ≡ link u v → IsSupported (view_of self.old.base) u v → steps.new ≡ steps.old }
     {
-        renew_roots(alloc, &self.base, &mut self.roots);
+        renew_parentless(alloc, &self.base, &mut self.parentless);
         match fill(
             alloc,
             &mut self.base,
-            &mut self.roots,
+            &mut self.parentless,
             &mut self.draft,
             graph,
             change,

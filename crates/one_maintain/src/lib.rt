@@ -5,4 +5,4 @@ mod index;
 mod kept;
 
 pub use index::OneKept;
-pub use one_drafting::{merge, split};
+pub use one_update::{merge, split};

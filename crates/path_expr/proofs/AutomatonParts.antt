@@ -3,17 +3,17 @@ use Rattle.std.proofs.Common.{◌≡◌, ℕ, ◌+◌, ◌-◌, ◌<◌, ◌≤�
 use Rattle.std.specs.Prelude.{slice_get, Result, Ok, Err, IfOk, OnOk}
 use Rattle.std.proofs.lemmas.Option.{slice_get_within}
 use Rattle.std.proofs.lemmas.List.{length_push, drop_more}
-use Rattle.path_search.specs.declared.state.State.{State}
-use Rattle.path_search.specs.declared.state.State.TheVariants.{Fork, Any}
+use Rattle.path_automaton.specs.declared.state.State.{State}
+use Rattle.path_automaton.specs.declared.state.State.TheVariants.{Fork, Any}
 use Rattle.path_spec.specs.Trees as tree
-use Rattle.path_expr.specs.Automata.{Stands, StandsSeq, StandsItem, StandsAtom}
+use Rattle.path_expr.specs.ExprAutomata.{Stands, StandsSeq, StandsItem, StandsAtom}
 use Rattle.path_expr.proofs.MovedParts.{moved, moved_seq, moved_item, moved_atom}
-use Rattle.path_search.proofs.Inside.{get_push, get_last, get_set, get_set_other}
+use Rattle.path_automaton.proofs.Inside.{get_push, get_last, get_set, get_set_other}
 use Rattle.path_expr.specs.declared.tree.Sep.{Sep}
 use Rattle.path_expr.specs.declared.tree.Sep.TheVariants.{Child, Below}
 use Rattle.path_expr.specs.declared.tree.Following.{Following}
 use Rattle.path_expr.specs.declared.tree.Seq.{Seq}
-use Rattle.path_expr.specs.Views.{sep_of, item_of, seq_of, seq_from, expr_from}
+use Rattle.path_expr.specs.ExprTrees.{sep_of, item_of, seq_of, seq_from, expr_from}
 use Rattle.path_spec.specs.Trimmed.{trimmed_seq, trimmed}
 use Rattle.path_expr.specs.Compiled.{Grows, HasFork, HasSep, expr_by, StandMore, StandSep, StandRest}
 

@@ -2,11 +2,11 @@
 use Rattle.std.proofs.Common.{◌≡◌, ℕ, zero, suc, ◌≤◌, ◌⊎◌, inl, inr, List, [], ◌∷◌, ◌++◌, refl, sym, ap, ◌∙◌, subst, append-nil, append_assoc, arith, Option, Some}
 use Rattle.std.specs.List.{AllByRecursion}
 use Rattle.std.proofs.lemmas.Option.{same_Some}
-use Rattle.path_search.specs.declared.state.State.{State}
-use Rattle.path_search.specs.declared.state.State.TheVariants.{End, Stuck, Any, Label, Fork}
+use Rattle.path_automaton.specs.declared.state.State.{State}
+use Rattle.path_automaton.specs.declared.state.State.TheVariants.{End, Stuck, Any, Label, Fork}
 use Rattle.path_spec.specs.Trees.{star, plus, opt, child, below, Expr, only, or, Seq, last, then, Item, once, signed, Atom, label, any, group}
 use Rattle.path_spec.specs.Matches.{Word, joined, AnyWord, Then, Pieces, Matches, MatchesSeq, MatchesItem, MatchesAtom}
-use Rattle.path_expr.specs.Automata.{ReadsFrom, Run, Known, ReadsLabel, Stands, StandsSeq, StandsItem, StandsAtom}
+use Rattle.path_expr.specs.ExprAutomata.{ReadsFrom, Run, Known, ReadsLabel, Stands, StandsSeq, StandsItem, StandsAtom}
 
 module _ (texts : List (List ℕ)) where
   known_front : (a b : Word) → AllByRecursion (Known texts) (a ++ b) → AllByRecursion (Known texts) a

@@ -7,7 +7,7 @@ pub mod AutomatonParts
 pub mod LongestLaws
 pub mod LongestWords
 pub mod LongestExamples
-pub mod Places
+pub mod SingleSlots
 pub mod PartLists
 pub mod NullableLaws
-pub mod Fronts
+pub mod TrimmedPrefixes

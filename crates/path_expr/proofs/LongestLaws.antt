@@ -8,7 +8,7 @@ use Rattle.path_expr.specs.declared.tree.Sep.TheVariants.{Child, Below}
 use Rattle.path_expr.specs.declared.tree.Following.{Following}
 use Rattle.path_expr.specs.declared.tree.Seq.{Seq}
 use Rattle.path_expr.specs.Capped.{capped, greatest_length}
-use Rattle.path_expr.specs.Views.{sep_of, item_of, seq_of, seq_from, expr_from}
+use Rattle.path_expr.specs.ExprTrees.{sep_of, item_of, seq_of, seq_from, expr_from}
 
 together_assoc : (a b c : Option ℕ) → together a (together b c) ≡ together (together a b) c
 together_assoc None b c = refl

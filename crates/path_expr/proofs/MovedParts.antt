@@ -1,9 +1,9 @@
 -- A part stands where it stood, while states are added and others are written.
 use Rattle.std.proofs.Common.{◌≡◌, ℕ, ◌≤◌, inl, inr, List, arith, Option, Some}
-use Rattle.path_search.specs.declared.state.State.{State}
-use Rattle.path_search.specs.declared.state.State.TheVariants.{Stuck, Any, Label, Fork}
+use Rattle.path_automaton.specs.declared.state.State.{State}
+use Rattle.path_automaton.specs.declared.state.State.TheVariants.{Stuck, Any, Label, Fork}
 use Rattle.path_spec.specs.Trees.{star, plus, opt, child, below, Expr, only, or, Seq, last, then, Item, once, signed, Atom, label, any, group}
-use Rattle.path_expr.specs.Automata.{ReadsLabel, Stands, StandsSeq, StandsItem, StandsAtom}
+use Rattle.path_expr.specs.ExprAutomata.{ReadsLabel, Stands, StandsSeq, StandsItem, StandsAtom}
 
 module _ (texts : List (List ℕ)) (at at2 : ℕ → Option State) where
   -- the states from `low` on are kept

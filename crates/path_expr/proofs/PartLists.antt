@@ -4,7 +4,7 @@ use Rattle.std.specs.Prelude.{slice_get}
 use Rattle.path_spec.specs.Trees as tree
 use Rattle.path_expr.specs.declared.tree.Following.{Following}
 use Rattle.path_expr.specs.declared.tree.Seq.{Seq}
-use Rattle.path_expr.specs.Views.{item_of, sep_of, seq_of, seq_from, expr_from}
+use Rattle.path_expr.specs.ExprTrees.{item_of, sep_of, seq_of, seq_from, expr_from}
 use Rattle.path_expr.specs.TreeParts.{alternatives, items, separators}
 
 pub alternatives_len : (s : tree.Seq) (more : List Seq) → length (alternatives (expr_from s more)) ≡ length more + 1

@@ -4,16 +4,16 @@ use Rattle.std.specs.Prelude.{slice_get, option_and_then, is_some, IsSome, bytes
 use Rattle.std.specs.List.{AllByRecursion, IsDistinct}
 use Rattle.std.proofs.lemmas.Bool.{ne_eqb, eq-eqb}
 use Rattle.std.proofs.lemmas.Option.{slice_get-get_or}
-use Rattle.px_spec.specs.Shapes.{Shape, shape_by}
-use Rattle.px_spec.specs.Walks.{Leads}
-use Rattle.path_search.specs.declared.state.State.{State}
-use Rattle.path_search.specs.declared.state.State.TheVariants.{End, Stuck, Any, Label, Fork}
+use Rattle.graph_spec.specs.Shapes.{Shape, shape_by}
+use Rattle.graph_spec.specs.Walks.{Leads}
+use Rattle.path_automaton.specs.declared.state.State.{State}
+use Rattle.path_automaton.specs.declared.state.State.TheVariants.{End, Stuck, Any, Label, Fork}
 use Rattle.path_spec.specs.Trees.{Expr}
 use Rattle.path_spec.specs.Matches.{Word}
-use Rattle.path_expr.specs.Automata.{Run, Known, Stands}
-use Rattle.px_spec.specs.Members.{has}
-use Rattle.path_spec.specs.Answers.{IsAnswer, AreAnswers}
-use Rattle.path_search.specs.Searches.{Succeeds, leads, Reached, begin, onward, AreEnds}
+use Rattle.path_expr.specs.ExprAutomata.{Run, Known, Stands}
+use Rattle.graph_spec.specs.Members.{has}
+use Rattle.path_spec.specs.PathAnswers.{IsAnswer, AreAnswers}
+use Rattle.path_automaton.specs.ProductSteps.{Succeeds, leads, Reached, begin, onward, AreEnds}
 use Rattle.path_expr.proofs.AutomatonWords.{reads_by, read_by, read_matches, matches_read}
 use Rattle.path_expr.proofs.LabelNumbers.{number_one}
 

@@ -1,13 +1,13 @@
 -- The answers over the members of a set.
 use Rattle.std.proofs.Common.{◌≡◌, ℕ, List, [], ◌∷◌, refl, sym, ap, ◌∙◌, Option, Some, None, Bool, true, false, cond, true≢false}
 use Rattle.std.specs.Prelude.{◌&&◌, slice_get, option_and_then, IsSome, is_some}
-use Rattle.px_spec.specs.Shapes.{Shape, shape_by}
-use Rattle.px_spec.specs.Walks.{Leads}
+use Rattle.graph_spec.specs.Shapes.{Shape, shape_by}
+use Rattle.graph_spec.specs.Walks.{Leads}
 use Rattle.path_spec.specs.Trees.{Expr}
 use Rattle.path_spec.specs.Matches.{Word}
-use Rattle.path_spec.specs.Answers.{AreAnswers}
-use Rattle.path_spec.specs.Parts.{part_of}
-use Rattle.path_search.specs.Searches.{label_in, edge_in}
+use Rattle.path_spec.specs.PathAnswers.{AreAnswers}
+use Rattle.path_spec.specs.PartialGraphs.{part_of}
+use Rattle.path_automaton.specs.ProductSteps.{label_in, edge_in}
 use Rattle.path_expr.proofs.ProductSearch.{IsTabled}
 
 both_true : (a b : Bool) → (a && b) ≡ true → (a ≡ true) × (b ≡ true)

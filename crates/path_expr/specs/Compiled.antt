@@ -1,14 +1,14 @@
 -- How an automaton grows by the states of a part.
 use Rattle.std.specs.Prelude.{◌≡◌, ℕ, ◌≤◌, ◌<◌, List, [], ◌∷◌, length, slice_get, Option, None, Some}
-use Rattle.path_search.specs.declared.state.State.{State}
-use Rattle.path_search.specs.declared.state.State.TheVariants.{Fork, Any}
+use Rattle.path_automaton.specs.declared.state.State.{State}
+use Rattle.path_automaton.specs.declared.state.State.TheVariants.{Fork, Any}
 use Rattle.path_spec.specs.Trees as tree
-use Rattle.path_expr.specs.Automata.{Stands, StandsSeq}
+use Rattle.path_expr.specs.ExprAutomata.{Stands, StandsSeq}
 use Rattle.path_expr.specs.declared.tree.Sep.{Sep}
 use Rattle.path_expr.specs.declared.tree.Sep.TheVariants.{Child, Below}
 use Rattle.path_expr.specs.declared.tree.Following.{Following}
 use Rattle.path_expr.specs.declared.tree.Seq.{Seq}
-use Rattle.path_expr.specs.Views.{item_of, seq_of, seq_from}
+use Rattle.path_expr.specs.ExprTrees.{item_of, seq_of, seq_from}
 
 -- the states that were there are there still
 pub record Grows (old new : List State) : Type 0 where

@@ -1,9 +1,9 @@
 pub mod TreeCodes
-pub mod Sizes
-pub mod Views
-pub mod Falls
+pub mod ExprSizes
+pub mod ExprTrees
+pub mod ExprMeasures
 pub mod TreeParts
-pub mod Automata
+pub mod ExprAutomata
 pub mod Compiled
 pub mod Capped
 pub mod WordLengths

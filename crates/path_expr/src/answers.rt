@@ -1,21 +1,21 @@
 // The answers of a path expression over a graph.
 ghost use Rattle.std.specs.Prelude.{◌≡◌, ◌<◌, ℕ, length, Some, IfOk};
-ghost use Rattle.px_spec.specs.Members.{has};
-ghost use Rattle.path_search.specs.Digraphs.{shape_through};
-ghost use Rattle.path_spec.specs.Answers.{AreAnswers};
-ghost use Rattle.path_spec.specs.Parts.{part_of};
+ghost use Rattle.graph_spec.specs.Members.{has};
+ghost use Rattle.path_automaton.specs.Digraphs.{shape_through};
+ghost use Rattle.path_spec.specs.PathAnswers.{AreAnswers};
+ghost use Rattle.path_spec.specs.PartialGraphs.{part_of};
 
 use crate::front::compile_trimmed;
 use crate::tree::Expr;
 use label_graph::{Digraph, Labels};
-use path_search::{Program, search, search_within};
+use path_automaton::{Program, search, search_within};
 use px_base::{Bits, Memory};
 use std::alloc::Global;
 
 /// The nodes in which a walk ends whose labels, in order, match the expression: a set of numbers below
 /// the graph's size. `Memory` comes only where memory runs out. O(m (n + e)) for m tokens, n node numbers and e
 /// edges, and each label is looked up at most once for each place where it stands, in expected O(1) for each of its bytes; it takes
-/// memory as `path_search::search` does, and O(m) for the automaton.
+/// memory as `path_automaton::search` does, and O(m) for the automaton.
 pub fn eval<G: Digraph>(alloc: Global, g: &G, labels: &Labels, expr: &Expr) -> Result<Bits, Memory>
     requires labelled { (n l : ℕ) → G.label_at g.now n ≡ Some l → l < length labels.now.texts }
     ensures size { IfOk result (λ b. b.size ≡ G.span g.now) }

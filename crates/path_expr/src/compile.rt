@@ -1,13 +1,13 @@
 // The automaton of an expression.
 ghost use Rattle.std.specs.Prelude.{◌≡◌, ◌<◌, ◌≤◌, ℕ, List, length, drop, Option, Some, IfSome, IfOk, OnOk};
-ghost use Rattle.path_search.specs.Programs.{state_at};
-ghost use Rattle.path_expr.specs.Automata.{Stands, StandsSeq, StandsItem, StandsAtom, ReadsLabel};
-ghost use Rattle.path_expr.specs.Views.{seq_of, signed_by, atom_of};
+ghost use Rattle.path_automaton.specs.Programs.{state_at};
+ghost use Rattle.path_expr.specs.ExprAutomata.{Stands, StandsSeq, StandsItem, StandsAtom, ReadsLabel};
+ghost use Rattle.path_expr.specs.ExprTrees.{seq_of, signed_by, atom_of};
 ghost use Rattle.path_expr.specs.Compiled.{Grows, HasFork, HasSep, StandRest};
 
 use crate::tree::{Atom, Expr, Sep, Seq, Sign};
 use label_graph::Labels;
-use path_search::{Program, State};
+use path_automaton::{Program, State};
 use px_base::{Memory, Text};
 
 /// The state that reads the label and goes on to the next one.

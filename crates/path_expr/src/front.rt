@@ -2,9 +2,9 @@
 ghost use Rattle.std.specs.Prelude.{◌≡◌, ◌<◌, ◌≤◌, length, slice_get, Some, IfOk, OnOk};
 ghost use Rattle.path_spec.specs.Trees.{Atom as TreeAtom};
 ghost use Rattle.path_spec.specs.Trimmed.{trimmed_item, first_trimmed, from_required, trimmed_seq, trimmed};
-ghost use Rattle.path_search.specs.Programs.{state_at};
-ghost use Rattle.path_expr.specs.Automata.{Stands, StandsSeq};
-ghost use Rattle.path_expr.specs.Views.{signed_by, item_of, seq_of};
+ghost use Rattle.path_automaton.specs.Programs.{state_at};
+ghost use Rattle.path_expr.specs.ExprAutomata.{Stands, StandsSeq};
+ghost use Rattle.path_expr.specs.ExprTrees.{signed_by, item_of, seq_of};
 ghost use Rattle.path_expr.specs.TreeParts.{items, separators, without_first};
 ghost use Rattle.path_expr.specs.Compiled.{Grows};
 
@@ -12,7 +12,7 @@ use crate::compile::{compile_item, compile_rest, join};
 use crate::nullable::{item_is_nullable, seq_is_nullable};
 use crate::tree::{Expr, Item, Seq, Sign};
 use label_graph::Labels;
-use path_search::Program;
+use path_automaton::Program;
 use px_base::Memory;
 
 /// The sign that a first item keeps.

@@ -1,7 +1,7 @@
 // Whether the empty word matches.
 ghost use Rattle.std.specs.Prelude.{◌≡◌, []};
 ghost use Rattle.path_spec.specs.Tests.{matches, seq_matches, item_matches, atom_matches};
-ghost use Rattle.path_expr.specs.Views.{atom_of, item_of, seq_of};
+ghost use Rattle.path_expr.specs.ExprTrees.{atom_of, item_of, seq_of};
 
 use crate::tree::{Atom, Expr, Item, Seq, Sign};
 

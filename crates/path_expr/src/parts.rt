@@ -1,6 +1,6 @@
 // The parts of a tree.
 ghost use Rattle.std.specs.Prelude.{◌≡◌, ◌<◌, ◌+◌, length, slice_get, Some};
-ghost use Rattle.path_expr.specs.Views.{sep_of, item_of, seq_of};
+ghost use Rattle.path_expr.specs.ExprTrees.{sep_of, item_of, seq_of};
 ghost use Rattle.path_expr.specs.TreeParts.{alternatives, items, separators};
 
 use crate::tree::{Expr, Item, Sep, Seq};

@@ -84,14 +84,14 @@ impl Model for Expr {
 
     ghost coded = { coded_tree };
 
-    ghost use Rattle.path_expr.specs.Views.{expr_from, seq_of};
-    ghost use Rattle.path_expr.specs.Sizes.{nodes};
+    ghost use Rattle.path_expr.specs.ExprTrees.{expr_from, seq_of};
+    ghost use Rattle.path_expr.specs.ExprSizes.{nodes};
 
     ghost view = { λ e. expr_from (seq_of e.first) e.more.items };
 
     ghost size = { nodes };
 
-    ghost use Rattle.path_expr.specs.Falls.{deep_expr};
+    ghost use Rattle.path_expr.specs.ExprMeasures.{deep_expr};
 
     ghost size_decreases = { λ e h. deep_expr e.first e.more.items };
 }

@@ -7,8 +7,8 @@ use Rattle.path_spec.specs.Spelling.{sign_byte, token_text, canonical}
 use Rattle.std.proofs.lemmas.List.{take_more}
 use Rattle.path_expr.specs.declared.tree.Seq as code
 use Rattle.path_expr.specs.declared.tree.Following.{Following}
-use Rattle.path_expr.specs.Views.{sep_of, item_of, seq_of, seq_from, expr_from}
-use Rattle.path_query.specs.Written.{expr_text, seq_text, item_text, atom_text}
+use Rattle.path_expr.specs.ExprTrees.{sep_of, item_of, seq_of, seq_from, expr_from}
+use Rattle.path_query.specs.PathTexts.{expr_text, seq_text, item_text, atom_text}
 
 abbrev text : List Token → List ℕ
 text ts = flat_map token_text ts

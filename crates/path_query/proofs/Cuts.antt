@@ -16,28 +16,28 @@ prefix_len-cut p (x ∷ xs) b h s =
     let k = both (p x) (list_all p xs) h in
     ap (λ t. cond t (1 + prefix_len p (xs ++ b)) 0) k.0 ∙ omega (arith, prefix_len-cut p xs b k.1 s)
 
-pub drop_front : (a b : List ℕ) → drop (length a) (a ++ b) ≡ b
-drop_front [] b = refl
-drop_front (x ∷ xs) b = drop_front xs b
+pub drop_prefix : (a b : List ℕ) → drop (length a) (a ++ b) ≡ b
+drop_prefix [] b = refl
+drop_prefix (x ∷ xs) b = drop_prefix xs b
 
 -- where the first part passes and the second begins with what fails, they are the parts at the cut
 pub record IsCut (p : ℕ → Bool) (a b text : List ℕ) : Type 0 where
-  pub front : take (prefix_len p text) text ≡ a
+  pub prefix : take (prefix_len p text) text ≡ a
   pub back : drop (prefix_len p text) text ≡ b
 
 pub cut_at : (p : ℕ → Bool) (a b text : List ℕ) → text ≡ a ++ b → list_all p a ≡ true → Stops p b → IsCut p a b text
 cut_at p a b text e h s =
     subst (IsCut p a b) (sym e)
     (record {
-      front = ap (λ n. take n (a ++ b)) (prefix_len-cut p a b h s) ∙ take-append_seam a b;
-      back = ap (λ n. drop n (a ++ b)) (prefix_len-cut p a b h s) ∙ drop_front a b;
+      prefix = ap (λ n. take n (a ++ b)) (prefix_len-cut p a b h s) ∙ take-append_seam a b;
+      back = ap (λ n. drop n (a ++ b)) (prefix_len-cut p a b h s) ∙ drop_prefix a b;
     })
 
-pub front_passes : (p : ℕ → Bool) (xs : List ℕ) → list_all p (take (prefix_len p xs) xs) ≡ true
-front_passes p [] = refl
-front_passes p (x ∷ xs) =
+pub prefix_passes : (p : ℕ → Bool) (xs : List ℕ) → list_all p (take (prefix_len p xs) xs) ≡ true
+prefix_passes p [] = refl
+prefix_passes p (x ∷ xs) =
     elim (p x) as (λ t. p x ≡ t → list_all p (take (cond t (1 + prefix_len p xs) 0) (x ∷ xs)) ≡ true) [
-      | true ↦ λ e. rw (one_more (prefix_len p xs)) (rw e (front_passes p xs))
+      | true ↦ λ e. rw (one_more (prefix_len p xs)) (rw e (prefix_passes p xs))
       | false ↦ λ e. refl
     ] refl
   where

@@ -7,8 +7,8 @@ use Rattle.std.proofs.Math.Utf8.{encodes, scalar, scalars}
 use Rattle.std.proofs.lemmas.Bool.Decides.{nat_tests}
 use Rattle.std.proofs.lemmas.List.{append_cancel_right}
 use Rattle.std.proofs.lemmas.Str.{encodes_same, chars-encodes}
-use Rattle.px_spec.specs.Members.{has}
-use Rattle.px_spec.specs.Words.{is_name_byte}
+use Rattle.graph_spec.specs.Members.{has}
+use Rattle.graph_spec.specs.Words.{is_name_byte}
 use Rattle.triples_read.specs.Characters.{is_iri_char}
 use Rattle.triples_read.specs.Terminals.{Many, IriPiece}
 use Rattle.triples_read.specs.Canonical.{iri_text, iri_spelling}
@@ -112,8 +112,8 @@ pieces_after (x ∷ cs) more v h m =
 no_blank_inside : (t : List ℕ) → SpellsLabel (codes "<http://e/a b>") t → ⊥
 unfolding lib.Utf8.encode
 no_blank_inside t (inl (l, e)) = true≢false (sym l.0)
-no_blank_inside t (inr (iri, (le, s, front, (v, (body, spelled, m), is)), e)) =
-    let whole : 60 ∷ (body ++ 62 ∷ []) ≡ codes "<http://e/a b>" = sym spelled ∙ encodes_same s (codes "<http://e/a b>") (sym front) in
+no_blank_inside t (inr (iri, (le, s, prefix, (v, (body, spelled, m), is)), e)) =
+    let whole : 60 ∷ (body ++ 62 ∷ []) ≡ codes "<http://e/a b>" = sym spelled ∙ encodes_same s (codes "<http://e/a b>") (sym prefix) in
     let inside : body ≡ codes "http://e/a b" = append_cancel_right body (codes "http://e/a b") (62 ∷ []) (cons-tail whole) in
     let p = pieces_after (codes "http://e/a") (codes " b") v refl (subst (λ x. Many IriPiece x v) inside m) in
     true≢false (sym (piece_first 32 (codes "b") p.0 refl p.1).0)
@@ -122,8 +122,8 @@ no_blank_inside t (inr (iri, (le, s, front, (v, (body, spelled, m), is)), e)) =
 no_open_bracket : (t : List ℕ) → SpellsLabel (codes "<http://e/a") t → ⊥
 unfolding lib.Utf8.encode
 no_open_bracket t (inl (l, e)) = true≢false (sym l.0)
-no_open_bracket t (inr (iri, (le, s, front, (v, (body, spelled, m), is)), e)) =
-    let whole : 60 ∷ (body ++ 62 ∷ []) ≡ codes "<http://e/a" = sym spelled ∙ encodes_same s (codes "<http://e/a") (sym front) in
+no_open_bracket t (inr (iri, (le, s, prefix, (v, (body, spelled, m), is)), e)) =
+    let whole : 60 ∷ (body ++ 62 ∷ []) ≡ codes "<http://e/a" = sym spelled ∙ encodes_same s (codes "<http://e/a") (sym prefix) in
     true≢false (sym (closed (60 ∷ body)) ∙ ap (list_any (λ c. c == 62)) whole)
   where
     either : (a b : Bool) → b ≡ true → (a || b) ≡ true

@@ -5,11 +5,11 @@ use Rattle.path_spec.specs.Tokens.{Token, lab, underscore, slash, slashes, bar, 
 use Rattle.path_spec.proofs.OneTree.{ends_expr_seq, ends_seq_item, sep_ends, sep_goes_on, sep_one, one_expr, one_seq, one_item, one_atom}
 use Rattle.path_expr.specs.declared.tree.Following.{Following}
 use Rattle.path_expr.specs.declared.tree.Seq.{Seq}
-use Rattle.path_expr.specs.Views.{sign_of, sep_of, signed_by, item_of, seq_from, seq_of, expr_from}
+use Rattle.path_expr.specs.ExprTrees.{sign_of, sep_of, signed_by, item_of, seq_from, seq_of, expr_from}
 use Rattle.path_expr.specs.declared.tree.Sep.TheVariants.{Child, Below}
 use Rattle.path_query.specs.declared.token.Token as token
 use Rattle.path_query.specs.declared.token.Token.TheVariants.{Label, Any, Sep, Bar, Open, Close, Sign}
-use Rattle.path_query.specs.Seen.{token_of, seen}
+use Rattle.path_query.specs.PathTokens.{token_of, seen}
 
 -- one alternative more
 pub expr_more : (s : tree.Seq) (rs : List Seq) (r : Seq) (q : List Token) → onto (expr_from s (rs ++ r ∷ [])) q ≡ onto (expr_from s rs) (bar ∷ seq_onto (seq_of r) q)

@@ -4,7 +4,7 @@ use Rattle.std.specs.Prelude.{◌&&◌, not, ◌==◌, slice_index, IsUtf8}
 use Rattle.std.specs.List.{list_all}
 use Rattle.std.proofs.lemmas.Bool.Decides.{nat_tests}
 use Rattle.std.proofs.lemmas.Str.{IsUtf8-from_ascii}
-use Rattle.px_spec.specs.Words.{is_blank, is_letter, is_name_byte, is_name}
+use Rattle.graph_spec.specs.Words.{is_blank, is_letter, is_name_byte, is_name}
 use Rattle.path_query.specs.Labels.{IsPlainLabel}
 
 pub both : (x y : Bool) → (x && y) ≡ true → (x ≡ true) × (y ≡ true)

@@ -1,4 +1,4 @@
--- At most one front of a text is a label behind which no name goes on.
+-- At most one prefix of a text is a label behind which no name goes on.
 use Rattle.std.proofs.Common.{◌≡◌, ◌≤◌, inl, inr, ℕ, zero, suc, true, List, [], ◌∷◌, ◌++◌, length, take, drop, sym, ap, ◌∙◌, subst, true≢false, arith, ◌+◌, append-nil, length-append, eqb-true}
 use Rattle.std.proofs.Math.Seq.{take-length}
 use Rattle.std.proofs.Math.Utf8.{encodes, scalars}
@@ -6,16 +6,16 @@ use Rattle.std.specs.Prelude.{IsUtf8, nat_eq}
 use Rattle.std.specs.List.{prefix_len, position_or_len}
 use Rattle.std.proofs.lemmas.List.{take-append-drop, length-take-le}
 use Rattle.std.proofs.lemmas.Str.{encodes_same}
-use Rattle.px_spec.specs.Words.{is_blank, is_letter, is_name_byte, is_name}
-use Rattle.triples_read.specs.Lines.{IsIri, IsIriFront}
+use Rattle.graph_spec.specs.Words.{is_blank, is_letter, is_name_byte, is_name}
+use Rattle.triples_read.specs.Lines.{IsIri, IsIriPrefix}
 use Rattle.triples_read.specs.Canonical.{iri_spelling}
-use Rattle.triples_read.specs.Fronts.{IsText}
+use Rattle.triples_read.specs.SpelledPrefixes.{IsText}
 use Rattle.triples_read.specs.ByteReaders.{starts_with}
-use Rattle.triples_read.proofs.OpeningQuotes.{front-quoted}
-use Rattle.triples_read.proofs.IriFronts.{front-cut, end-found, cut-there}
+use Rattle.triples_read.proofs.OpeningQuotes.{prefix-quoted}
+use Rattle.triples_read.proofs.IriPrefixes.{prefix-cut, end-found, cut-there}
 use Rattle.triples_read.proofs.OneTriple.{iri-unique}
 use Rattle.path_spec.specs.Spelling.{EndsName}
-use Rattle.path_query.specs.Labels.{IsPlainLabel, SpellsLabel, IsNameFront}
+use Rattle.path_query.specs.Labels.{IsPlainLabel, SpellsLabel, IsNamePrefix}
 use Rattle.path_query.proofs.LabelBytes.{named, name_bytes, letter_is_no_blank}
 use Rattle.path_query.proofs.Cuts.{Stops, prefix_len-cut}
 
@@ -31,16 +31,16 @@ name_end text n le name ends =
     ∙ length-take-le n text le
 
 -- an IRIREF at the front is one of the front alone
-pub iri_alone : (text : List ℕ) (n : ℕ) (iri : List ℕ) → IsIriFront text n iri → IsIriFront (take n text) (length (take n text)) iri
-iri_alone text n iri (le, s, front, is) = (omega arith, s, take-length (take n text) ∙ front, is)
+pub iri_alone : (text : List ℕ) (n : ℕ) (iri : List ℕ) → IsIriPrefix text n iri → IsIriPrefix (take n text) (length (take n text)) iri
+iri_alone text n iri (le, s, prefix, is) = (omega arith, s, take-length (take n text) ∙ prefix, is)
 
-pub iri_in_front : (text : List ℕ) (n : ℕ) (iri : List ℕ) → n ≤ length text → IsIriFront (take n text) (length (take n text)) iri → IsIriFront text n iri
-iri_in_front text n iri le (within, s, front, is) = (le, s, sym (take-length (take n text)) ∙ front, is)
+pub iri_in_prefix : (text : List ℕ) (n : ℕ) (iri : List ℕ) → n ≤ length text → IsIriPrefix (take n text) (length (take n text)) iri → IsIriPrefix text n iri
+iri_in_prefix text n iri le (within, s, prefix, is) = (le, s, sym (take-length (take n text)) ∙ prefix, is)
 
 -- it begins with '<'
-pub iri_opens : (text : List ℕ) (n : ℕ) (iri : List ℕ) → IsIriFront text n iri → starts_with 60 text ≡ true
-iri_opens text n iri front =
-    let (v, tail, is, len, quoted) = front-quoted text n iri front in
+pub iri_opens : (text : List ℕ) (n : ℕ) (iri : List ℕ) → IsIriPrefix text n iri → starts_with 60 text ≡ true
+iri_opens text n iri prefix =
+    let (v, tail, is, len, quoted) = prefix-quoted text n iri prefix in
     ap (starts_with 60) quoted.1
 
 -- where it ends, at its first '>', and its text
@@ -50,9 +50,9 @@ record Cut (text : List ℕ) (n : ℕ) : Type 0 where
   len_is : n ≡ end + 1
   utf8 : IsUtf8 (take n text)
 
-iri_cut : (text : List ℕ) (n : ℕ) (iri : List ℕ) → IsIriFront text n iri → Cut text n
-iri_cut text n iri front =
-    let (xs, ys, v, parts, lacks, len, is, utf8, quoted) = front-cut text n iri front in
+iri_cut : (text : List ℕ) (n : ℕ) (iri : List ℕ) → IsIriPrefix text n iri → Cut text n
+iri_cut text n iri prefix =
+    let (xs, ys, v, parts, lacks, len, is, utf8, quoted) = prefix-cut text n iri prefix in
     let size : n ≡ length xs + 1 = len ∙ length-append xs (62 ∷ []) in
     record {
       end = length xs;
@@ -67,7 +67,7 @@ iri_read s i j (cs, (ok, e)) h k =
     let text : IsText (encodes s) (s ++ []) = (ap encodes (sym (append-nil s)), ap scalars (append-nil s ∙ encodes_same s cs (sym e)) ∙ ok) in
     (iri-unique (encodes s) s [] i s [] j text text h k).0
 
-pub iri_one : (text : List ℕ) (m n : ℕ) (i j : List ℕ) → IsIriFront text m i → IsIriFront text n j → (m ≡ n) × (i ≡ j)
+pub iri_one : (text : List ℕ) (m n : ℕ) (i j : List ℕ) → IsIriPrefix text m i → IsIriPrefix text n j → (m ≡ n) × (i ≡ j)
 iri_one text m n i j h k =
     let a = iri_cut text m i h in
     let b = iri_cut text n j k in
@@ -86,16 +86,16 @@ plain_opens (x ∷ xs) (suc n) e l =
 -- which kind of label stands in front
 pub data Kind (text : List ℕ) (n : ℕ) (t : List ℕ) : Type 0 where
   plain : IsPlainLabel (take n text) → t ≡ take n text → Kind text n t
-  bracketed : (iri : List ℕ) → IsIriFront text n iri → t ≡ iri_spelling iri → Kind text n t
+  bracketed : (iri : List ℕ) → IsIriPrefix text n iri → t ≡ iri_spelling iri → Kind text n t
 
-pub kind : (text : List ℕ) (n : ℕ) (t : List ℕ) → IsNameFront text n t → Kind text n t
+pub kind : (text : List ℕ) (n : ℕ) (t : List ℕ) → IsNamePrefix text n t → Kind text n t
 kind text n t (le, inl (l, e)) = plain l e
-kind text n t (le, inr (iri, h, e)) = bracketed iri (iri_in_front text n iri le h) e
+kind text n t (le, inr (iri, h, e)) = bracketed iri (iri_in_prefix text n iri le h) e
 
--- the law of one front
-pub front_one : (text : List ℕ) (m n : ℕ) (a b : List ℕ) → IsNameFront text m a → EndsName (drop m text) → IsNameFront text n b → EndsName (drop n text)
+-- the law of one prefix
+pub prefix_one : (text : List ℕ) (m n : ℕ) (a b : List ℕ) → IsNamePrefix text m a → EndsName (drop m text) → IsNamePrefix text n b → EndsName (drop n text)
     → (m ≡ n) × (a ≡ b)
-front_one text m n a b h p k q =
+prefix_one text m n a b h p k q =
     elim (kind text m a h) [
       | plain l e ↦ elim (kind text n b k) [
         | plain l2 e2 ↦ (
@@ -109,21 +109,21 @@ front_one text m n a b h p k q =
       ]
     ]
 
--- a whole text is its own front
-pub whole_front : (text t : List ℕ) → SpellsLabel text t → IsNameFront text (length text) t
-whole_front text t h = (omega arith, subst (λ x. SpellsLabel x t) (sym (take-length text)) h)
+-- a whole text is its own prefix
+pub whole_prefix : (text t : List ℕ) → SpellsLabel text t → IsNamePrefix text (length text) t
+whole_prefix text t h = (omega arith, subst (λ x. SpellsLabel x t) (sym (take-length text)) h)
 
 pub whole_ends : (text : List ℕ) → EndsName (drop (length text) text)
 whole_ends [] = tt
 whole_ends (x ∷ xs) = whole_ends xs
 
-pub front_whole : (text : List ℕ) (n : ℕ) (t : List ℕ) → n ≡ length text → IsNameFront text n t → SpellsLabel text t
-front_whole text n t e h = subst (λ x. SpellsLabel x t) (ap (λ i. take i text) e ∙ take-length text) h.1
+pub prefix_whole : (text : List ℕ) (n : ℕ) (t : List ℕ) → n ≡ length text → IsNamePrefix text n t → SpellsLabel text t
+prefix_whole text n t e h = subst (λ x. SpellsLabel x t) (ap (λ i. take i text) e ∙ take-length text) h.1
 
 -- a word spells at most one label
 pub label_one : (text t u : List ℕ) → SpellsLabel text t → SpellsLabel text u → t ≡ u
 label_one text t u h k =
-    (front_one text (length text) (length text) t u (whole_front text t h) (whole_ends text) (whole_front text u k) (whole_ends text)).1
+    (prefix_one text (length text) (length text) t u (whole_prefix text t h) (whole_ends text) (whole_prefix text u k) (whole_ends text)).1
 
 -- a label begins with no blank
 pub label_stops : (text t more : List ℕ) → SpellsLabel text t → Stops is_blank (text ++ more)

@@ -7,15 +7,15 @@ use Rattle.std.proofs.lemmas.Bool.{and_from}
 use Rattle.std.proofs.lemmas.Bool.Decides.{nat_tests}
 use Rattle.std.proofs.lemmas.List.{take-append-drop}
 use Rattle.std.proofs.lemmas.Option.{same_Some, some_pair_parts}
-use Rattle.px_spec.specs.Words.{is_blank, AreBlanks, is_letter}
+use Rattle.graph_spec.specs.Words.{is_blank, AreBlanks, is_letter}
 use Rattle.path_spec.specs.Trees.{star, plus, opt}
 use Rattle.path_spec.specs.Tokens.{Token, lab, underscore, slash, slashes, bar, opening, closing, sign}
 use Rattle.path_spec.specs.Spelling.{EndsName, EndsSlash, EndsToken, SpellsToken, SpellsTokens}
-use Rattle.path_query.specs.Labels.{SpellsLabel, IsNameFront}
+use Rattle.path_query.specs.Labels.{SpellsLabel, IsNamePrefix}
 use Rattle.path_query.proofs.LabelBytes.{both, named, letter_is_no_blank}
 use Rattle.path_query.proofs.LabelLaws.{iri_opens}
-use Rattle.path_query.proofs.Cuts.{Stops, cut_at, drop_front, front_passes}
-use Rattle.path_query.specs.Fronts.{IsTokenFront, mark_at, slash_front, mark_front}
+use Rattle.path_query.proofs.Cuts.{Stops, cut_at, drop_prefix, prefix_passes}
+use Rattle.path_query.specs.PathTokenPrefixes.{IsTokenPrefix, mark_at, slash_prefix, mark_prefix}
 
 -- the first byte of a label: a letter, or '<'
 pub record First (w : List ℕ) : Type 0 where
@@ -61,47 +61,47 @@ word_begins w (sign star) h = record { byte = 42; others = []; is = h; no_blank 
 word_begins w (sign plus) h = record { byte = 43; others = []; is = h; no_blank = refl }
 word_begins w (sign opt) h = record { byte = 63; others = []; is = h; no_blank = refl }
 
-pub front_shorter : (text : List ℕ) (t : Token) (rest : List ℕ) → IsTokenFront text t rest → length rest < length text
-front_shorter text t rest (w, spelled, ends, e) =
+pub prefix_shorter : (text : List ℕ) (t : Token) (rest : List ℕ) → IsTokenPrefix text t rest → length rest < length text
+prefix_shorter text t rest (w, spelled, ends, e) =
     let b = word_begins w t spelled in
     omega (arith, ap length e, length-append w rest, ap length b.is)
 
 -- no token stands in front of nothing
-pub front_some : (t : Token) (rest : List ℕ) → IsTokenFront [] t rest → ⊥
-front_some t rest h = let l : length rest < 0 = front_shorter [] t rest h in absurd (omega arith)
+pub prefix_some : (t : Token) (rest : List ℕ) → IsTokenPrefix [] t rest → ⊥
+prefix_some t rest h = let l : length rest < 0 = prefix_shorter [] t rest h in absurd (omega arith)
 
 -- which token that is no label stands in front
-slash_found : (rest : List ℕ) → EndsSlash rest → slash_front rest ≡ (slash, rest)
+slash_found : (rest : List ℕ) → EndsSlash rest → slash_prefix rest ≡ (slash, rest)
 slash_found [] h = refl
 slash_found (b ∷ bs) h = ap (λ c. cond c (slashes, bs) (slash, b ∷ bs)) h
 
-pub mark_found : (text : List ℕ) (t : Token) (rest : List ℕ) → IsTokenFront text t rest → ((u : List ℕ) → t ≡ lab u → ⊥) → mark_front text ≡ Some (t, rest)
+pub mark_found : (text : List ℕ) (t : Token) (rest : List ℕ) → IsTokenPrefix text t rest → ((u : List ℕ) → t ≡ lab u → ⊥) → mark_prefix text ≡ Some (t, rest)
 mark_found text (lab u) rest h other = absurd (other u refl)
-mark_found text underscore rest (w, is, ends, e) other = ap mark_front (e ∙ ap (λ x. x ++ rest) is)
-mark_found text slash rest (w, is, ends, e) other = ap mark_front (e ∙ ap (λ x. x ++ rest) is) ∙ ap Some (slash_found rest ends)
-mark_found text slashes rest (w, is, ends, e) other = ap mark_front (e ∙ ap (λ x. x ++ rest) is)
-mark_found text bar rest (w, is, ends, e) other = ap mark_front (e ∙ ap (λ x. x ++ rest) is)
-mark_found text opening rest (w, is, ends, e) other = ap mark_front (e ∙ ap (λ x. x ++ rest) is)
-mark_found text closing rest (w, is, ends, e) other = ap mark_front (e ∙ ap (λ x. x ++ rest) is)
-mark_found text (sign star) rest (w, is, ends, e) other = ap mark_front (e ∙ ap (λ x. x ++ rest) is)
-mark_found text (sign plus) rest (w, is, ends, e) other = ap mark_front (e ∙ ap (λ x. x ++ rest) is)
-mark_found text (sign opt) rest (w, is, ends, e) other = ap mark_front (e ∙ ap (λ x. x ++ rest) is)
+mark_found text underscore rest (w, is, ends, e) other = ap mark_prefix (e ∙ ap (λ x. x ++ rest) is)
+mark_found text slash rest (w, is, ends, e) other = ap mark_prefix (e ∙ ap (λ x. x ++ rest) is) ∙ ap Some (slash_found rest ends)
+mark_found text slashes rest (w, is, ends, e) other = ap mark_prefix (e ∙ ap (λ x. x ++ rest) is)
+mark_found text bar rest (w, is, ends, e) other = ap mark_prefix (e ∙ ap (λ x. x ++ rest) is)
+mark_found text opening rest (w, is, ends, e) other = ap mark_prefix (e ∙ ap (λ x. x ++ rest) is)
+mark_found text closing rest (w, is, ends, e) other = ap mark_prefix (e ∙ ap (λ x. x ++ rest) is)
+mark_found text (sign star) rest (w, is, ends, e) other = ap mark_prefix (e ∙ ap (λ x. x ++ rest) is)
+mark_found text (sign plus) rest (w, is, ends, e) other = ap mark_prefix (e ∙ ap (λ x. x ++ rest) is)
+mark_found text (sign opt) rest (w, is, ends, e) other = ap mark_prefix (e ∙ ap (λ x. x ++ rest) is)
 
-label_found : (text u rest : List ℕ) → IsTokenFront text (lab u) rest → mark_front text ≡ None
+label_found : (text u rest : List ℕ) → IsTokenPrefix text (lab u) rest → mark_prefix text ≡ None
 label_found text u rest (w, spelled, ends, e) =
     let f = label_first w u spelled in
-    ap mark_front (e ∙ ap (λ x. x ++ rest) f.is)
-    ∙ ap (λ c. cond c (Some (slash_front (f.others ++ rest))) (option_map (λ t. (t, f.others ++ rest)) (mark_at f.byte))) f.no_slash
+    ap mark_prefix (e ∙ ap (λ x. x ++ rest) f.is)
+    ∙ ap (λ c. cond c (Some (slash_prefix (f.others ++ rest))) (option_map (λ t. (t, f.others ++ rest)) (mark_at f.byte))) f.no_slash
     ∙ ap (option_map (λ t. (t, f.others ++ rest))) f.no_mark
 
 -- where a mark stands no other token does
-pub mark_only : (text : List ℕ) (t u : Token) (rest q : List ℕ) → mark_front text ≡ Some (t, rest) → IsTokenFront text u q → (u ≡ t) × (q ≡ rest)
+pub mark_only : (text : List ℕ) (t u : Token) (rest q : List ℕ) → mark_prefix text ≡ Some (t, rest) → IsTokenPrefix text u q → (u ≡ t) × (q ≡ rest)
 mark_only text t u rest q e h = by u h
   where
-    same : (u : Token) → mark_front text ≡ Some (u, q) → (u ≡ t) × (q ≡ rest)
+    same : (u : Token) → mark_prefix text ≡ Some (u, q) → (u ≡ t) × (q ≡ rest)
     same u k = let both : ◌≡◌ {A = Option (Token × List ℕ)} (Some (u, q)) (Some (t, rest)) = sym k ∙ e in some_pair_parts u t q rest both
 
-    by : (u : Token) → IsTokenFront text u q → (u ≡ t) × (q ≡ rest)
+    by : (u : Token) → IsTokenPrefix text u q → (u ≡ t) × (q ≡ rest)
     by (lab v) h = let k : ◌≡◌ {A = Option (Token × List ℕ)} None (Some (t, rest)) = sym (label_found text v q h) ∙ e in cc
     by underscore h = same underscore (mark_found text underscore q h (λ v k. cc))
     by slash h = same slash (mark_found text slash q h (λ v k. cc))
@@ -112,13 +112,13 @@ mark_only text t u rest q e h = by u h
     by (sign g) h = same (sign g) (mark_found text (sign g) q h (λ v k. cc))
 
 -- where none stands the token is a label
-pub no_mark_label : (text : List ℕ) (u : Token) (q : List ℕ) → mark_front text ≡ None → IsTokenFront text u q → (v : List ℕ) × (u ≡ lab v)
+pub no_mark_label : (text : List ℕ) (u : Token) (q : List ℕ) → mark_prefix text ≡ None → IsTokenPrefix text u q → (v : List ℕ) × (u ≡ lab v)
 no_mark_label text u q e h = by u h
   where
-    clash : (u : Token) → mark_front text ≡ Some (u, q) → (v : List ℕ) × (u ≡ lab v)
+    clash : (u : Token) → mark_prefix text ≡ Some (u, q) → (v : List ℕ) × (u ≡ lab v)
     clash u k = let both : ◌≡◌ {A = Option (Token × List ℕ)} None (Some (u, q)) = sym e ∙ k in cc
 
-    by : (u : Token) → IsTokenFront text u q → (v : List ℕ) × (u ≡ lab v)
+    by : (u : Token) → IsTokenPrefix text u q → (v : List ℕ) × (u ≡ lab v)
     by (lab v) h = (v, refl)
     by underscore h = clash underscore (mark_found text underscore q h (λ v k. cc))
     by slash h = clash slash (mark_found text slash q h (λ v k. cc))
@@ -133,11 +133,11 @@ chosen : {X : Type 0} (c : Bool) (x o y : Option X) → cond c x o ≡ y → ((c
 chosen true x o y e = inl (refl, e)
 chosen false x o y e = inr (refl, e)
 
-made : (b k : ℕ) (bs : List ℕ) (u t : Token) → (b == k) ≡ true → Some u ≡ Some t → SpellsToken SpellsLabel (k ∷ []) u → EndsToken u bs → IsTokenFront (b ∷ bs) t bs
+made : (b k : ℕ) (bs : List ℕ) (u t : Token) → (b == k) ≡ true → Some u ≡ Some t → SpellsToken SpellsLabel (k ∷ []) u → EndsToken u bs → IsTokenPrefix (b ∷ bs) t bs
 made b k bs u t h same spelled ends =
-    subst (λ x. IsTokenFront (b ∷ bs) x bs) (same_Some u t same) (k ∷ [], spelled, ends, ap (λ x. x ∷ bs) (eqb-true b k h))
+    subst (λ x. IsTokenPrefix (b ∷ bs) x bs) (same_Some u t same) (k ∷ [], spelled, ends, ap (λ x. x ∷ bs) (eqb-true b k h))
 
-mark_spelled : (b : ℕ) (bs : List ℕ) (t : Token) → mark_at b ≡ Some t → IsTokenFront (b ∷ bs) t bs
+mark_spelled : (b : ℕ) (bs : List ℕ) (t : Token) → mark_at b ≡ Some t → IsTokenPrefix (b ∷ bs) t bs
 mark_spelled b bs t e = elim (chosen (b == 95) (Some underscore) _ (Some t) e) [
   | inl (h, s) ↦ made b 95 bs underscore t h s refl tt
   | inr (n1, e1) ↦ elim (chosen (b == 124) (Some bar) _ (Some t) e1) [
@@ -161,10 +161,10 @@ mark_spelled b bs t e = elim (chosen (b == 95) (Some underscore) _ (Some t) e) [
   ]
 ]
 
-slash_spelled : (b : ℕ) (bs : List ℕ) → (b == 47) ≡ true → IsTokenFront (b ∷ bs) (slash_front bs).0 (slash_front bs).1
+slash_spelled : (b : ℕ) (bs : List ℕ) → (b == 47) ≡ true → IsTokenPrefix (b ∷ bs) (slash_prefix bs).0 (slash_prefix bs).1
 slash_spelled b [] h = (47 ∷ [], refl, tt, ap (λ x. x ∷ []) (eqb-true b 47 h))
 slash_spelled b (x ∷ xs) h =
-    let F : Token × List ℕ → Type 0 = λ p. IsTokenFront (b ∷ x ∷ xs) p.0 p.1 in
+    let F : Token × List ℕ → Type 0 = λ p. IsTokenPrefix (b ∷ x ∷ xs) p.0 p.1 in
     elim (x == 47) as (λ c. (x == 47) ≡ c → F (cond c (slashes, xs) (slash, x ∷ xs))) [
       | true ↦ λ e. (47 ∷ 47 ∷ [], refl, tt, ap (λ y. y ∷ x ∷ xs) (eqb-true b 47 h) ∙ ap (λ y. 47 ∷ y ∷ xs) (eqb-true x 47 e))
       | false ↦ λ e. (47 ∷ [], refl, e, ap (λ y. y ∷ x ∷ xs) (eqb-true b 47 h))
@@ -174,37 +174,37 @@ mapped : (o : Option Token) (bs : List ℕ) (t : Token) (rest : List ℕ) → op
 mapped None bs t rest e = cc
 mapped (Some u) bs t rest e = let p = some_pair_parts u t bs rest e in (ap Some p.0, p.1)
 
-pub mark_is_front : (text : List ℕ) (t : Token) (rest : List ℕ) → mark_front text ≡ Some (t, rest) → IsTokenFront text t rest
-mark_is_front [] t rest e = cc
-mark_is_front (b ∷ bs) t rest e = elim (chosen (b == 47) (Some (slash_front bs)) _ (Some (t, rest)) e) [
+pub mark_is_prefix : (text : List ℕ) (t : Token) (rest : List ℕ) → mark_prefix text ≡ Some (t, rest) → IsTokenPrefix text t rest
+mark_is_prefix [] t rest e = cc
+mark_is_prefix (b ∷ bs) t rest e = elim (chosen (b == 47) (Some (slash_prefix bs)) _ (Some (t, rest)) e) [
   | inl (h, s) ↦ (
-      let same : slash_front bs ≡ (t, rest) = same_Some (slash_front bs) (t, rest) s in
-      subst (λ p. IsTokenFront (b ∷ bs) p.0 p.1) same (slash_spelled b bs h))
+      let same : slash_prefix bs ≡ (t, rest) = same_Some (slash_prefix bs) (t, rest) s in
+      subst (λ p. IsTokenPrefix (b ∷ bs) p.0 p.1) same (slash_spelled b bs h))
   | inr (h, s) ↦ (
       let p = mapped (mark_at b) bs t rest s in
-      subst (λ x. IsTokenFront (b ∷ bs) t x) p.1 (mark_spelled b bs t p.0))
+      subst (λ x. IsTokenPrefix (b ∷ bs) t x) p.1 (mark_spelled b bs t p.0))
 ]
 
 -- a label in front
 pub record LabelAt (text v q : List ℕ) : Type 0 where
   pub len : ℕ
-  pub front : IsNameFront text len v
+  pub prefix : IsNamePrefix text len v
   pub ends : EndsName (drop len text)
   pub rest : q ≡ drop len text
 
-pub label_at : (text v q : List ℕ) → IsTokenFront text (lab v) q → LabelAt text v q
+pub label_at : (text v q : List ℕ) → IsTokenPrefix text (lab v) q → LabelAt text v q
 label_at text v q (w, spelled, ends, e) =
-    let back : drop (length w) text ≡ q = ap (drop (length w)) e ∙ drop_front w q in
-    let front : take (length w) text ≡ w = ap (take (length w)) e ∙ take-append_seam w q in
+    let back : drop (length w) text ≡ q = ap (drop (length w)) e ∙ drop_prefix w q in
+    let prefix : take (length w) text ≡ w = ap (take (length w)) e ∙ take-append_seam w q in
     record {
       len = length w;
-      front = (omega (arith, ap length e, length-append w q), subst (λ x. SpellsLabel x v) (sym front) spelled);
+      prefix = (omega (arith, ap length e, length-append w q), subst (λ x. SpellsLabel x v) (sym prefix) spelled);
       ends = subst EndsName (sym back) ends;
       rest = sym back;
     }
 
-pub as_label : (text : List ℕ) (t : Token) (q : List ℕ) → mark_front text ≡ None → IsTokenFront text t q → (v : List ℕ) × (t ≡ lab v) × LabelAt text v q
-as_label text t q none h = let v = no_mark_label text t q none h in (v.0, v.1, label_at text v.0 q (subst (λ x. IsTokenFront text x q) v.1 h))
+pub as_label : (text : List ℕ) (t : Token) (q : List ℕ) → mark_prefix text ≡ None → IsTokenPrefix text t q → (v : List ℕ) × (t ≡ lab v) × LabelAt text v q
+as_label text t q none h = let v = no_mark_label text t q none h in (v.0, v.1, label_at text v.0 q (subst (λ x. IsTokenPrefix text x q) v.1 h))
 
 -- blanks in front
 abbrev pub past : List ℕ → List ℕ
@@ -222,12 +222,12 @@ blanks_more before rest (t ∷ ts) h (b, w, q, blanks, spelled, ends, more, e) =
 pub past_spells : (text : List ℕ) (ts : List Token) → SpellsTokens SpellsLabel (past text) ts → SpellsTokens SpellsLabel text ts
 past_spells text ts h =
     subst (λ x. SpellsTokens SpellsLabel x ts) (take-append-drop (prefix_len is_blank text) text)
-    (blanks_more (take (prefix_len is_blank text) text) (past text) ts (front_passes is_blank text) h)
+    (blanks_more (take (prefix_len is_blank text) text) (past text) ts (prefix_passes is_blank text) h)
 
 -- the first token stands behind the blanks
 pub record FirstToken (text : List ℕ) (t : Token) (ts : List Token) : Type 0 where
   pub rest : List ℕ
-  pub front : IsTokenFront (past text) t rest
+  pub prefix : IsTokenPrefix (past text) t rest
   pub more : SpellsTokens SpellsLabel rest ts
 
 begins_stops : (w : List ℕ) (rest : List ℕ) → Begins w → Stops is_blank (w ++ rest)
@@ -236,7 +236,7 @@ begins_stops w rest b = subst (λ x. Stops is_blank (x ++ rest)) (sym b.is) b.no
 pub first_token : (text : List ℕ) (t : Token) (ts : List Token) → SpellsTokens SpellsLabel text (t ∷ ts) → FirstToken text t ts
 first_token text t ts (b, w, q, blanks, spelled, ends, more, e) =
     let cut = cut_at is_blank b (w ++ q) text e blanks (begins_stops w q (word_begins w t spelled)) in
-    record { rest = q; front = (w, spelled, ends, cut.back); more = more }
+    record { rest = q; prefix = (w, spelled, ends, cut.back); more = more }
 
 pub blanks_past : (text : List ℕ) → AreBlanks text → past text ≡ []
 blanks_past text h = (cut_at is_blank text [] text (sym (append-nil text)) h tt).back
@@ -272,7 +272,7 @@ to_past : (text : List ℕ) (us : List Token) → SpellsTokens SpellsLabel text 
 to_past text [] h = subst AreBlanks (sym (blanks_past text h)) refl
 to_past text (t ∷ ts) h =
     let f = first_token text t ts h in
-    ([], f.front.0, f.rest, refl, f.front.1, f.front.2, f.more, f.front.3)
+    ([], f.prefix.0, f.rest, refl, f.prefix.1, f.prefix.2, f.more, f.prefix.3)
 
 pub lexed_none : (text left : List ℕ) → left ≡ past text → Lexed text left []
 lexed_none text left e = subst (λ x. Lexed text x []) (sym e) (record {
@@ -281,12 +281,12 @@ lexed_none text left e = subst (λ x. Lexed text x []) (sym e) (record {
   needs = λ us h. (us, refl, to_past text us h);
 })
 
-pub lexed_more : (text left next rest : List ℕ) (ts : List Token) (t : Token) → 0 < length left → IsTokenFront left t rest
-    → ((u : Token) (q : List ℕ) → IsTokenFront left u q → (u ≡ t) × (q ≡ rest)) → next ≡ past rest → Lexed text left ts → Lexed text next (ts ++ t ∷ [])
-lexed_more text left next rest ts t some front only e k = subst (λ x. Lexed text x (ts ++ t ∷ [])) (sym e) (record {
+pub lexed_more : (text left next rest : List ℕ) (ts : List Token) (t : Token) → 0 < length left → IsTokenPrefix left t rest
+    → ((u : Token) (q : List ℕ) → IsTokenPrefix left u q → (u ≡ t) × (q ≡ rest)) → next ≡ past rest → Lexed text left ts → Lexed text next (ts ++ t ∷ [])
+lexed_more text left next rest ts t some prefix only e k = subst (λ x. Lexed text x (ts ++ t ∷ [])) (sym e) (record {
   begun = past_begun rest;
   so_far = λ us h.
-      let more : SpellsTokens SpellsLabel left (t ∷ us) = ([], front.0, rest, refl, front.1, front.2, past_spells rest us h, front.3) in
+      let more : SpellsTokens SpellsLabel left (t ∷ us) = ([], prefix.0, rest, refl, prefix.1, prefix.2, past_spells rest us h, prefix.3) in
       subst (SpellsTokens SpellsLabel text) (sym (append_assoc ts (t ∷ []) us)) (k.so_far (t ∷ us) more);
   needs = λ us h. let v = k.needs us h in go us v.0 v.1 v.2;
 })
@@ -295,19 +295,19 @@ lexed_more text left next rest ts t some front only e k = subst (λ x. Lexed tex
     go us [] h s = let l : length left ≡ 0 = ap length (sym k.begun ∙ blanks_past left s) in absurd (omega arith)
     go us (v ∷ vs) h s =
         let f = first_token left v vs s in
-        let same = only v f.rest (subst (λ x. IsTokenFront x v f.rest) k.begun f.front) in (
+        let same = only v f.rest (subst (λ x. IsTokenPrefix x v f.rest) k.begun f.prefix) in (
           vs,
           h ∙ ap (λ x. ts ++ x ∷ vs) same.0 ∙ sym (append_assoc ts (t ∷ []) vs),
           to_past rest vs (subst (λ x. SpellsTokens SpellsLabel x vs) same.1 f.more),
         )
 
-pub lexed_bad : (text left : List ℕ) (ts : List Token) → 0 < length left → ((u : Token) (q : List ℕ) → IsTokenFront left u q → ⊥) → Lexed text left ts
+pub lexed_bad : (text left : List ℕ) (ts : List Token) → 0 < length left → ((u : Token) (q : List ℕ) → IsTokenPrefix left u q → ⊥) → Lexed text left ts
     → (us : List Token) → SpellsTokens SpellsLabel text us → ⊥
 lexed_bad text left ts some bad k us h = let v = k.needs us h in go v.0 v.2
   where
     go : (vs : List Token) → SpellsTokens SpellsLabel left vs → ⊥
     go [] s = let l : length left ≡ 0 = ap length (sym k.begun ∙ blanks_past left s) in absurd (omega arith)
-    go (v ∷ vs) s = let f = first_token left v vs s in bad v f.rest (subst (λ x. IsTokenFront x v f.rest) k.begun f.front)
+    go (v ∷ vs) s = let f = first_token left v vs s in bad v f.rest (subst (λ x. IsTokenPrefix x v f.rest) k.begun f.prefix)
 
 pub lexed_all : (text left : List ℕ) (ts : List Token) → left ≡ [] → Lexed text left ts → SpellsTokens SpellsLabel text ts
 lexed_all text left ts e k = subst (SpellsTokens SpellsLabel text) (append-nil ts) (k.so_far [] (subst AreBlanks (sym e) refl))
@@ -317,7 +317,7 @@ lexed_only text left ts us e k h = let v = k.needs us h in go v.0 v.1 (subst (λ
   where
     go : (vs : List Token) → us ≡ ts ++ vs → SpellsTokens SpellsLabel [] vs → us ≡ ts
     go [] p s = p ∙ append-nil ts
-    go (v ∷ vs) p s = let f = first_token [] v vs s in absurd (front_some v f.rest f.front)
+    go (v ∷ vs) p s = let f = first_token [] v vs s in absurd (prefix_some v f.rest f.prefix)
 
 pub past_shorter : (text : List ℕ) → length (past text) ≤ length text
 past_shorter text = omega (arith, length-drop (prefix_len is_blank text) text)

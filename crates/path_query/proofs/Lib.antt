@@ -6,5 +6,5 @@ pub mod LexerLaws
 pub mod OneText
 pub mod Shortness
 pub mod Canon
-pub mod Again
+pub mod PathRoundTrips
 pub mod Examples

@@ -2,7 +2,7 @@
 use Rattle.std.proofs.Common.{◌≡◌, ℕ, ◌+◌, ◌≤◌, ◌<◌, ◌^◌, List, [], ◌∷◌, length, Option, None, Some, false, inl, inr, refl, sym, ap, min, ◌∙◌, arith, lt-ltb, true≢false}
 use Rattle.std.specs.Prelude.{nat_lt, ◌||◌}
 use Rattle.std.proofs.lemmas.Bool.{cases_lt}
-use Rattle.px_spec.specs.declared.limits.Limits.{Limits}
+use Rattle.graph_spec.specs.declared.limits.Limits.{Limits}
 use Rattle.path_spec.specs.Trees.{star, plus, opt, child, below, Expr, only, or, Seq, last, then, Item, once, signed, Atom, label, any, group}
 use Rattle.path_spec.specs.Tokens.{Token, slash, slashes, bar, opening, closing, sign, onto, seq_onto, item_onto, atom_onto, tokens}
 use Rattle.path_spec.specs.Spelling.{SpellsTokens}
@@ -12,7 +12,7 @@ use Rattle.path_query.specs.Labels.{SpellsLabel}
 use Rattle.path_query.specs.Lengths.{IsBounded, IsNarrow}
 use Rattle.path_query.specs.Depths.{depth}
 use Rattle.path_query.specs.Parsed.{Spells, is_past}
-use Rattle.path_query.proofs.LexerLaws.{past, first_token, front_shorter, past_shorter}
+use Rattle.path_query.proofs.LexerLaws.{past, first_token, prefix_shorter, past_shorter}
 
 -- the tokens in front of the others are at least as many as the labels of the longest word
 abbrev Adds : Option ℕ → List Token → List Token → Type 0
@@ -78,7 +78,7 @@ tokens_few : (ts : List Token) (text : List ℕ) → SpellsTokens SpellsLabel te
 tokens_few [] text h = omega arith
 tokens_few (t ∷ ts) text h =
     let f = first_token text t ts h in
-    let less : length f.rest < length (past text) = front_shorter (past text) t f.rest f.front in
+    let less : length f.rest < length (past text) = prefix_shorter (past text) t f.rest f.prefix in
     let cut : length (past text) ≤ length text = past_shorter text in
     let more : length ts ≤ length f.rest = tokens_few ts f.rest f.more in
     omega arith

@@ -1,7 +1,7 @@
 -- Labels, as they are written: names, and IRIs in brackets.
 use Rattle.std.specs.Prelude.{ℕ, ◌≡◌, ◌≢◌, ◌≤◌, ◌⊎◌, List, length, take, codes, Option, IsTrue, IsSomeAnd}
-use Rattle.px_spec.specs.Words.{is_name}
-use Rattle.triples_read.specs.Lines.{IsIriFront}
+use Rattle.graph_spec.specs.Words.{is_name}
+use Rattle.triples_read.specs.Lines.{IsIriPrefix}
 use Rattle.triples_read.specs.Canonical.{iri_spelling}
 
 -- a name, but none of the words of the query languages
@@ -12,11 +12,11 @@ IsPlainLabel w = IsTrue (is_name w) × (w ≢ codes "and") × (w ≢ codes "or")
 -- spelling of its IRI, brackets included.
 abbrev pub SpellsLabel : List ℕ → List ℕ → Type 0
 SpellsLabel text t =
-    (IsPlainLabel text × (t ≡ text)) ⊎ ((iri : List ℕ) × IsIriFront text (length text) iri × (t ≡ iri_spelling iri))
+    (IsPlainLabel text × (t ≡ text)) ⊎ ((iri : List ℕ) × IsIriPrefix text (length text) iri × (t ≡ iri_spelling iri))
 
 -- the first n bytes spell the label
-abbrev pub IsNameFront : List ℕ → ℕ → List ℕ → Type 0
-IsNameFront text n t = (n ≤ length text) × SpellsLabel (take n text) t
+abbrev pub IsNamePrefix : List ℕ → ℕ → List ℕ → Type 0
+IsNamePrefix text n t = (n ≤ length text) × SpellsLabel (take n text) t
 
 -- this label is read from so many bytes
 abbrev pub IsRead : List ℕ → ℕ → Option (List ℕ × ℕ) → Type 0

@@ -2,7 +2,7 @@ pub mod Labels
 pub mod Depths
 pub mod Parsed
 pub mod Lengths
-pub mod Seen
-pub mod Fronts
+pub mod PathTokens
+pub mod PathTokenPrefixes
 pub mod Heads
-pub mod Written
+pub mod PathTexts

@@ -1,6 +1,6 @@
 -- What a text spells, and what passes a limit.
 use Rattle.std.specs.Prelude.{ℕ, ◌<◌, ◌||◌, Bool, List, length, nat_lt}
-use Rattle.px_spec.specs.declared.limits.Limits.{Limits}
+use Rattle.graph_spec.specs.declared.limits.Limits.{Limits}
 use Rattle.path_spec.specs.Trees.{Expr}
 use Rattle.path_spec.specs.Spelling as spelling
 use Rattle.path_query.specs.Labels.{SpellsLabel}

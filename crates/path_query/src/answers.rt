@@ -1,9 +1,9 @@
 // The answers of a path expression over a graph.
 ghost use Rattle.std.specs.Prelude.{◌≡◌, ◌<◌, ℕ, length, Some, IfOk};
-ghost use Rattle.px_spec.specs.Members.{has};
-ghost use Rattle.path_search.specs.Digraphs.{shape_through};
-ghost use Rattle.path_spec.specs.Answers.{AreAnswers};
-ghost use Rattle.path_spec.specs.Parts.{part_of};
+ghost use Rattle.graph_spec.specs.Members.{has};
+ghost use Rattle.path_automaton.specs.Digraphs.{shape_through};
+ghost use Rattle.path_spec.specs.PathAnswers.{AreAnswers};
+ghost use Rattle.path_spec.specs.PartialGraphs.{part_of};
 
 use crate::expr::PathExpr;
 use label_graph::{Digraph, Labels};
@@ -13,7 +13,7 @@ use std::alloc::Global;
 /// The nodes in which a walk ends whose labels, in order, match the expression: a set of numbers below
 /// the graph's size. `Memory` comes only where memory runs out. O(m (n + e)) for m tokens, n node numbers and e
 /// edges, and each label is looked up at most once for each place where it stands, in expected O(1) for each of its bytes. At most 2 m
-/// states are entered: it takes a bit for each of these and each number, at most 20 bytes for each place at which a state waits, a few
+/// states are entered: it takes a bit for each of these and each number, at most 20 bytes for each place at which a state is listed, a few
 /// bytes for each number, and O(m) for the automaton and the heads of rows.
 pub fn eval<G: Digraph>(
     alloc: Global,

@@ -10,9 +10,9 @@ ghost use Rattle.path_query.specs.Parsed.{Spells, is_past};
 use crate::grammar::ReadError;
 use crate::parsing::{is_past, read};
 use crate::writing::write_expr;
+use graph_spec::Limits;
 use path_expr::{Expr, longest};
 use px_base::{Memory, Text};
-use px_spec::Limits;
 use std::alloc::Global;
 use std::marker::Model;
 

@@ -2,8 +2,8 @@
 ghost use Rattle.std.specs.Prelude.{◌≡◌, ◌<◌, ◌≤◌, length, IfOk, IsErrOf};
 ghost use Rattle.path_spec.specs.Trees as tree;
 ghost use Rattle.path_spec.specs.Tokens as tokens;
-ghost use Rattle.path_expr.specs.Views.{atom_of, signed_by, item_of, seq_of};
-ghost use Rattle.path_query.specs.Seen.{seen};
+ghost use Rattle.path_expr.specs.ExprTrees.{atom_of, signed_by, item_of, seq_of};
+ghost use Rattle.path_query.specs.PathTokens.{seen};
 ghost use Rattle.path_query.specs.Heads.{HasNoAtom, HasNoItem, HasNoSeq, HasNoExpr, EndsItemBefore};
 
 use crate::token::{Token, after_bar, after_close, ends_item, first_sep, first_sign, first_token};

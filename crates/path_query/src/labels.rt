@@ -1,16 +1,16 @@
 // Labels, as they are written.
 ghost use Rattle.std.specs.Prelude.{◌≡◌, ◌↔◌, ◌≤◌, ℕ, List, length, take, drop, IsTrue, IfOk, IfSome, IfNone};
 ghost use Rattle.std.specs.List.{list_all, prefix_len};
-ghost use Rattle.px_spec.specs.Words.{is_letter, is_name_byte, is_name};
-ghost use Rattle.triples_read.specs.Lines.{IsIriFront};
+ghost use Rattle.graph_spec.specs.Words.{is_letter, is_name_byte, is_name};
+ghost use Rattle.triples_read.specs.Lines.{IsIriPrefix};
 ghost use Rattle.triples_read.specs.Canonical.{iri_spelling};
 ghost use Rattle.triples_read.specs.ByteReaders.{starts_with};
 ghost use Rattle.path_spec.specs.Spelling.{EndsName};
-ghost use Rattle.path_query.specs.Labels.{IsPlainLabel, SpellsLabel, IsNameFront, IsRead};
+ghost use Rattle.path_query.specs.Labels.{IsPlainLabel, SpellsLabel, IsNamePrefix, IsRead};
 
 use px_base::{Memory, Text, TextError};
 use std::alloc::Global;
-use triples_read::{Term, read_iri_front, write_term};
+use triples_read::{Term, read_iri_prefix, write_term};
 
 fn is_letter(byte: u8) -> bool
     ensures { result ≡ is_letter byte }
@@ -73,10 +73,10 @@ fn read_name(alloc: Global, text: &[u8]) -> Result<Option<(Text, usize)>, Memory
 
 /// The one spelling of the IRI whose IRIREF is at the front, and the length of that IRIREF.
 fn read_iri(alloc: Global, text: &[u8]) -> Result<Option<(Text, usize)>, Memory>
-    ensures found { IfOk result (λ r. IfSome r (λ f. (iri : List ℕ) × IsIriFront text.now f.1 iri × (f.0 ≡ iri_spelling iri))) }
-    ensures only { (n : ℕ) (iri : List ℕ) → IsIriFront text.now n iri → IfOk result (IsRead (iri_spelling iri) n) }
+    ensures found { IfOk result (λ r. IfSome r (λ f. (iri : List ℕ) × IsIriPrefix text.now f.1 iri × (f.0 ≡ iri_spelling iri))) }
+    ensures only { (n : ℕ) (iri : List ℕ) → IsIriPrefix text.now n iri → IfOk result (IsRead (iri_spelling iri) n) }
 {
-    let Some((iri, len)) = read_iri_front(alloc, text)? else {
+    let Some((iri, len)) = read_iri_prefix(alloc, text)? else {
         return Ok(None);
     };
     let label = write_term(alloc, &Term::Iri(iri))?;
@@ -92,9 +92,9 @@ fn opens_iri(text: &[u8]) -> bool
 
 /// The label at the front of the text, and how many bytes spell it. Where a label stands there and no
 /// name goes on behind it, that one is read. None where no label stands there. Linear in what it reads.
-pub(crate) fn read_front(alloc: Global, text: &[u8]) -> Result<Option<(Text, usize)>, Memory>
-    ensures found { IfOk result (λ r. IfSome r (λ f. IsNameFront text.now f.1 f.0)) }
-    ensures only { (n : ℕ) (t : List ℕ) → IsNameFront text.now n t → EndsName (drop n text.now) → IfOk result (IsRead t n) }
+pub(crate) fn read_prefix(alloc: Global, text: &[u8]) -> Result<Option<(Text, usize)>, Memory>
+    ensures found { IfOk result (λ r. IfSome r (λ f. IsNamePrefix text.now f.1 f.0)) }
+    ensures only { (n : ℕ) (t : List ℕ) → IsNamePrefix text.now n t → EndsName (drop n text.now) → IfOk result (IsRead t n) }
 {
     if opens_iri(text) {
         read_iri(alloc, text)
@@ -111,7 +111,7 @@ pub fn read_label(alloc: Global, word: &[u8]) -> Result<Option<Text>, Memory>
     ensures none { IfOk result (λ r. IfNone r ((t : List ℕ) → SpellsLabel word.now t → ⊥)) }
     ensures once { (t u : List ℕ) → SpellsLabel word.now t → SpellsLabel word.now u → t ≡ u }
 {
-    match read_front(alloc, word)? {
+    match read_prefix(alloc, word)? {
         Some((label, len)) if len == word.len() => Ok(Some(label)),
         _ => Ok(None),
     }

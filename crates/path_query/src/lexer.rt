@@ -3,24 +3,24 @@ ghost use Rattle.std.specs.Prelude.{◌≡◌, ◌<◌, ℕ, List, [], length, N
 ghost use Rattle.path_spec.specs.Tokens as tokens;
 ghost use Rattle.path_spec.specs.Spelling.{SpellsTokens};
 ghost use Rattle.path_query.specs.Labels.{SpellsLabel};
-ghost use Rattle.path_query.specs.Seen.{token_of, seen};
-ghost use Rattle.path_query.specs.Fronts.{IsTokenFront, mark_front};
+ghost use Rattle.path_query.specs.PathTokens.{token_of, seen};
+ghost use Rattle.path_query.specs.PathTokenPrefixes.{IsTokenPrefix, mark_prefix};
 
 use crate::grammar::ReadError;
-use crate::labels::read_front;
-use crate::marks::{ends_name, mark_front};
+use crate::labels::read_prefix;
+use crate::marks::{ends_name, mark_prefix};
 use crate::token::Token;
 use crate::words::skip_blanks;
 use std::alloc::Global;
 
 /// The label at the front, where no other token stands, and what follows it.
 fn read_label(alloc: Global, text: &[u8]) -> Result<(Token, &[u8]), ReadError>
-    requires { mark_front text.now ≡ None }
-    ensures ok { IfOk result (λ r. IsTokenFront text.now (token_of r.0) r.1.now) }
-    ensures only { IfOk result (λ r. (t : tokens.Token) (q : List ℕ) → IsTokenFront text.now t q → (t ≡ token_of r.0) × (q ≡ r.1.now)) }
-    ensures syntax { IsErrOf result ReadError.Syntax → (t : tokens.Token) (q : List ℕ) → IsTokenFront text.now t q → ⊥ }
+    requires { mark_prefix text.now ≡ None }
+    ensures ok { IfOk result (λ r. IsTokenPrefix text.now (token_of r.0) r.1.now) }
+    ensures only { IfOk result (λ r. (t : tokens.Token) (q : List ℕ) → IsTokenPrefix text.now t q → (t ≡ token_of r.0) × (q ≡ r.1.now)) }
+    ensures syntax { IsErrOf result ReadError.Syntax → (t : tokens.Token) (q : List ℕ) → IsTokenPrefix text.now t q → ⊥ }
 {
-    let Some((label, len)) = read_front(alloc, text)? else {
+    let Some((label, len)) = read_prefix(alloc, text)? else {
         return Err(ReadError::Syntax);
     };
     let (_, rest) = text.split_at(len);
@@ -33,11 +33,11 @@ fn read_label(alloc: Global, text: &[u8]) -> Result<(Token, &[u8]), ReadError>
 
 /// The token at the front, and what follows it.
 fn read_token(alloc: Global, text: &[u8]) -> Result<(Token, &[u8]), ReadError>
-    ensures ok { IfOk result (λ r. IsTokenFront text.now (token_of r.0) r.1.now) }
-    ensures only { IfOk result (λ r. (t : tokens.Token) (q : List ℕ) → IsTokenFront text.now t q → (t ≡ token_of r.0) × (q ≡ r.1.now)) }
-    ensures syntax { IsErrOf result ReadError.Syntax → (t : tokens.Token) (q : List ℕ) → IsTokenFront text.now t q → ⊥ }
+    ensures ok { IfOk result (λ r. IsTokenPrefix text.now (token_of r.0) r.1.now) }
+    ensures only { IfOk result (λ r. (t : tokens.Token) (q : List ℕ) → IsTokenPrefix text.now t q → (t ≡ token_of r.0) × (q ≡ r.1.now)) }
+    ensures syntax { IsErrOf result ReadError.Syntax → (t : tokens.Token) (q : List ℕ) → IsTokenPrefix text.now t q → ⊥ }
 {
-    match mark_front(text) {
+    match mark_prefix(text) {
         Some(found) => Ok(found),
         None => read_label(alloc, text),
     }

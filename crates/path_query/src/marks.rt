@@ -1,8 +1,8 @@
 // The tokens that are no labels.
 ghost use Rattle.std.specs.Prelude.{◌≡◌, ◌↔◌, List, ℕ, Option, option_map, IsTrue};
 ghost use Rattle.path_spec.specs.Spelling.{EndsName};
-ghost use Rattle.path_query.specs.Seen.{token_of};
-ghost use Rattle.path_query.specs.Fronts.{mark_at, slash_front, mark_front};
+ghost use Rattle.path_query.specs.PathTokens.{token_of};
+ghost use Rattle.path_query.specs.PathTokenPrefixes.{mark_at, slash_prefix, mark_prefix};
 
 use crate::labels::is_name_byte;
 use crate::token::Token;
@@ -32,8 +32,8 @@ fn mark_at(byte: u8) -> Option<Token>
 }
 
 /// The token of a '/' with what follows it.
-fn slash_front(rest: &[u8]) -> (Token, &[u8])
-    ensures { (token_of result.0, result.1.now) ≡ slash_front rest.now }
+fn slash_prefix(rest: &[u8]) -> (Token, &[u8])
+    ensures { (token_of result.0, result.1.now) ≡ slash_prefix rest.now }
 {
     match rest.split_first() {
         Some((byte, after)) if *byte == b'/' => (Token::Sep(Sep::Below), after),
@@ -42,12 +42,12 @@ fn slash_front(rest: &[u8]) -> (Token, &[u8])
 }
 
 /// The token at the front that is no label, and what follows it.
-pub(crate) fn mark_front(text: &[u8]) -> Option<(Token, &[u8])>
-    ensures { option_map (λ r. (token_of r.0, r.1.now)) result ≡ mark_front text.now }
+pub(crate) fn mark_prefix(text: &[u8]) -> Option<(Token, &[u8])>
+    ensures { option_map (λ r. (token_of r.0, r.1.now)) result ≡ mark_prefix text.now }
 {
     let (byte, rest) = text.split_first()?;
     if *byte == b'/' {
-        return Some(slash_front(rest));
+        return Some(slash_prefix(rest));
     }
     let token = mark_at(*byte)?;
     Some((token, rest))

@@ -6,8 +6,8 @@ ghost use Rattle.path_query.specs.Parsed.{Spells, is_past};
 use crate::depth::depth_of;
 use crate::grammar::{ReadError, read_tokens};
 use crate::lexer::lex;
+use graph_spec::Limits;
 use path_expr::Expr;
-use px_spec::Limits;
 use std::alloc::Global;
 
 /// Whether the text has more bytes than `expr_bytes`, or its brackets nest deeper than `expr_depth`. O(n)

@@ -2,8 +2,8 @@
 ghost use Rattle.std.specs.Prelude.{◌≡◌, ◌↔◌, ◌<◌, [], ◌∷◌, ℕ, List, length, IsTrue, IfSome, IfNone};
 ghost use Rattle.path_spec.specs.Trees as tree;
 ghost use Rattle.path_spec.specs.Tokens as tokens;
-ghost use Rattle.path_expr.specs.Views.{sign_of, sep_of};
-ghost use Rattle.path_query.specs.Seen.{token_of, seen};
+ghost use Rattle.path_expr.specs.ExprTrees.{sign_of, sep_of};
+ghost use Rattle.path_query.specs.PathTokens.{token_of, seen};
 
 use path_expr::{Sep, Sign};
 use px_base::Text;

@@ -1,7 +1,7 @@
 // Blanks, and the words between them.
 ghost use Rattle.std.specs.Prelude.{◌≡◌, ◌≤◌, ◌-◌, length, take, drop};
 ghost use Rattle.std.specs.List.{position_or_len, prefix_len, suffix_len};
-ghost use Rattle.px_spec.specs.Words.{is_blank};
+ghost use Rattle.graph_spec.specs.Words.{is_blank};
 
 fn is_blank(byte: u8) -> bool
     ensures { result ≡ is_blank byte }

@@ -2,8 +2,8 @@
 ghost use Rattle.std.specs.Prelude.{◌≡◌, [], ◌∷◌, ◌++◌, string_bytes, OnOk};
 ghost use Rattle.path_spec.specs.Spelling.{sign_byte, token_text};
 ghost use Rattle.path_spec.specs.Tokens.{sep_token};
-ghost use Rattle.path_expr.specs.Views.{atom_of, item_of, seq_of, sep_of, sign_of};
-ghost use Rattle.path_query.specs.Written.{expr_text, seq_text, item_text, atom_text};
+ghost use Rattle.path_expr.specs.ExprTrees.{atom_of, item_of, seq_of, sep_of, sign_of};
+ghost use Rattle.path_query.specs.PathTexts.{expr_text, seq_text, item_text, atom_text};
 
 use path_expr::{Atom, Expr, Item, Sep, Seq, Sign};
 use px_base::Memory;

@@ -1,12 +1,12 @@
 -- The definitions at worked values, and at near misses. `says` makes each of them one of the relation.
 use Rattle.std.proofs.Common.{◌≡◌, List, [], ◌∷◌, ℕ, zero, suc, refl, Bool, true, false, sym, ap, true≢false, ◌∙◌, Option, Some, None}
 use Rattle.std.specs.Prelude.{codes, unwrap_or}
-use Rattle.px_spec.specs.Shapes.{Shape}
+use Rattle.graph_spec.specs.Shapes.{Shape}
 use Rattle.path_spec.specs.Trees.{star, plus, opt, child, below, Expr, only, or, last, then, Item, once, signed, Atom, label, any, group}
 use Rattle.path_spec.specs.Matches.{Word, Matches}
 use Rattle.path_spec.specs.Tests.{matches}
 use Rattle.path_spec.specs.Trimmed.{trimmed}
-use Rattle.path_spec.specs.Answers.{IsAnswer}
+use Rattle.path_spec.specs.PathAnswers.{IsAnswer}
 use Rattle.path_spec.specs.Spelling.{canonical}
 use Rattle.path_spec.proofs.WordTests.{says}
 

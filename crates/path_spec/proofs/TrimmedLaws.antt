@@ -2,13 +2,13 @@
 use Rattle.std.proofs.Common.{◌≡◌, ℕ, ◌⊎◌, inl, inr, List, [], ◌∷◌, ◌++◌, refl, sym, ap, ◌∙◌, subst, true, false, Bool, cond, true≢false, append-nil, append_assoc}
 use Rattle.std.specs.Prelude.{◌↔◌, ◌&&◌}
 use Rattle.std.specs.List.{AllByRecursion}
-use Rattle.px_spec.specs.Shapes.{Shape}
-use Rattle.px_spec.specs.Walks.{Leads}
+use Rattle.graph_spec.specs.Shapes.{Shape}
+use Rattle.graph_spec.specs.Walks.{Leads}
 use Rattle.path_spec.specs.Trees.{star, plus, opt, child, below, Sep, Expr, only, or, Seq, last, then, Item, once, signed}
 use Rattle.path_spec.specs.Matches.{Word, joined, AnyWord, Then, Pieces, Matches, MatchesSeq, MatchesItem, MatchesAtom}
 use Rattle.path_spec.specs.Tests.{seq_matches, item_matches}
 use Rattle.path_spec.specs.Trimmed.{trimmed_item, first_trimmed, from_required, trimmed_seq, trimmed}
-use Rattle.path_spec.specs.Answers.{IsAnswer, AreAnswers}
+use Rattle.path_spec.specs.PathAnswers.{IsAnswer, AreAnswers}
 use Rattle.path_spec.proofs.WordTests.{says_seq, says_item}
 
 -- the word ends in one of the kind that isn't empty

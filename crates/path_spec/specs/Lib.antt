@@ -2,8 +2,8 @@ pub mod Trees
 pub mod Matches
 pub mod Tests
 pub mod Trimmed
-pub mod Answers
-pub mod Parts
+pub mod PathAnswers
+pub mod PartialGraphs
 pub mod Longest
 pub mod Tokens
 pub mod Spelling

@@ -1,7 +1,7 @@
 -- What the calls of an engine make of it: it is e before and f after.
 use Rattle.std.specs.Prelude.{ℕ, ◌≡◌, ◌≢◌, ◌≤◌, ◌↔◌, List, true, false, not, Result, Err, IfOk, OnOk}
 use Rattle.std.specs.List.{filter}
-use Rattle.px_spec.specs.Changes.{Change}
+use Rattle.graph_spec.specs.Changes.{Change}
 use Rattle.px_base.specs.declared.allocation.Memory.{Memory}
 use Rattle.graph_update.specs.declared.changes.Applied.{Applied}
 use Rattle.graph_update.specs.NewChanges.{is_same}
@@ -10,8 +10,8 @@ use Rattle.bisim_spec.specs.declared.kind.Kind.{Kind}
 use Rattle.index_api.specs.declared.kinds.Via.{Via}
 use Rattle.index_api.specs.declared.kinds.Via.TheVariants.{Fb}
 use Rattle.index_api.specs.Meanings.{KeepsViews}
-use Rattle.index_api.specs.Kept.{is_kind, is_kept, kinds_of}
-use Rattle.extent_report.specs.Shown.{ListsIndex, ListsSizes}
+use Rattle.index_api.specs.IndexKinds.{is_kind, is_kept, kinds_of}
+use Rattle.extent_report.specs.PrintedLists.{ListsIndex, ListsSizes}
 use Rattle.pathindex_core.specs.declared.errors.AskError.{AskError}
 use Rattle.pathindex_core.specs.declared.errors.AskError.TheVariants.{NoIndex}
 use Rattle.pathindex_core.specs.Boxes.{IsFbComputed}

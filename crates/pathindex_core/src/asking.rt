@@ -1,14 +1,14 @@
 // Queries that are asked of an engine.
 ghost use Rattle.std.specs.Prelude.{◌≡◌, ◌≢◌, ◌+◌, ◌↔◌, ℕ, Bool, Err, false, map, All, IfOk, IsTrue};
-ghost use Rattle.px_spec.specs.Graphs.{IsGraph};
-ghost use Rattle.px_spec.specs.Shapes.{shape_of};
-ghost use Rattle.label_graph.specs.Views.{live_count, edge_count};
+ghost use Rattle.graph_spec.specs.Graphs.{IsGraph};
+ghost use Rattle.graph_spec.specs.Shapes.{shape_of};
+ghost use Rattle.label_graph.specs.GraphViews.{live_count, edge_count};
 ghost use Rattle.bisim_spec.specs.Partitions.{Agrees};
 ghost use Rattle.quotient.specs.Quotients.{view_of};
 ghost use Rattle.index_api.specs.declared.kinds.Via.TheVariants.{Data, Fb};
 ghost use Rattle.index_api.specs.declared.answers.How.TheVariants.{Data as InGraph};
 ghost use Rattle.index_api.specs.Meanings.{KeepsViews};
-ghost use Rattle.index_api.specs.Kept.{is_kept, kept_of};
+ghost use Rattle.index_api.specs.IndexKinds.{is_kept, kept_of};
 ghost use Rattle.branch_query.specs.Queries.{query_of, AreQueryAnswers};
 ghost use Rattle.index_eval.specs.Exactness.{FitsVia, IsExact};
 ghost use Rattle.extent_report.specs.Summaries.{LabelsHaveTexts};

@@ -4,7 +4,7 @@ ghost use Rattle.std.specs.List.{AllPairs, filter};
 ghost use Rattle.graph_update.specs.NewChanges.{IsNew};
 ghost use Rattle.graph_update.specs.Verdicts.{change_of};
 ghost use Rattle.index_api.specs.Meanings.{IsReady, IsBuilt, IsPrepared, IsCommitted, unstaged};
-ghost use Rattle.index_api.specs.Kept.{is_kind, kinds_of, has_kind};
+ghost use Rattle.index_api.specs.IndexKinds.{is_kind, kinds_of, has_kind};
 ghost use Rattle.pathindex_core.specs.Engines.{EachBecomes};
 ghost use Rattle.pathindex_core.specs.Boxes.{StandsAt};
 

@@ -7,7 +7,7 @@ ghost use Rattle.branch_query.specs.Queries.{query_of, path, branch};
 ghost use Rattle.pathindex_core.specs.QueryAnswers.{IsQueried};
 ghost use Rattle.index_api.specs.declared.kinds.Via.TheVariants.{Data as TheGraph};
 ghost use Rattle.index_api.specs.Meanings.{IsBuilt};
-ghost use Rattle.index_api.specs.Kept.{kinds_of, has_kind};
+ghost use Rattle.index_api.specs.IndexKinds.{kinds_of, has_kind};
 ghost use Rattle.pathindex_core.specs.Calls.{IsMade, IsForgotten, IsAsked, IsListed, IsMeasured};
 ghost use Rattle.pathindex_core.specs.Engines.{graph_in, EachBecomes, IsSound, seen};
 ghost use Rattle.pathindex_core.specs.Updates.{outcome_in};
@@ -41,7 +41,7 @@ use std::sync::ledger::{Blank, Ledger};
 ///     engine.update(alloc, Change::Link(3, 0))?;
 ///     let answer = engine.path(alloc, Via::One, &expr, &mut steps)?;
 ///
-/// `crates/library_use` is a whole caller.
+/// `crates/example_library` is a whole caller.
 #[derive(Drop)]
 pub struct Engine<B = Box<dyn PathIndex>> {
     boxes: Vec<B>,
@@ -246,7 +246,7 @@ impl<B: PathIndex> Engine<B> {
     /// `FbIndex` takes; of the graph it reads one view. Else nothing of the graph is read. An error leaves the graph and each view that is
     /// computed.
     ///
-    /// O(m log m + t) for m nodes and t bytes of text where fewer than half of the node numbers ever given are still live; it takes O(m)
+    /// O(m log m + t) for m nodes and t bytes of text where fewer than half of the node numbers ever allocated are still live; it takes O(m)
     /// memory beside the text. Else O(m + s + t) for block numbers of the index below s; it takes O(m + s) memory.
     pub fn extents<L: Ledger>(
         &mut self,

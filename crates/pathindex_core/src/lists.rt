@@ -1,10 +1,10 @@
 // The lists of the indexes that are kept.
 ghost use Rattle.std.specs.Prelude.{◌≡◌, ◌≤◌, ◌++◌, ◌↔◌, Err, false, List, ℕ, map, All, OnOk, IfOk, string_bytes};
-ghost use Rattle.px_spec.specs.Graphs.{IsGraph};
+ghost use Rattle.graph_spec.specs.Graphs.{IsGraph};
 ghost use Rattle.index_api.specs.declared.kinds.Via.TheVariants.{Fb};
 ghost use Rattle.index_api.specs.Meanings.{KeepsViews};
-ghost use Rattle.index_api.specs.Kept.{is_kept, kept_of};
-ghost use Rattle.extent_report.specs.Shown.{ListsIndex, ListsSizes, ShowsSize};
+ghost use Rattle.index_api.specs.IndexKinds.{is_kept, kept_of};
+ghost use Rattle.extent_report.specs.PrintedLists.{ListsIndex, ListsSizes, ShowsSize};
 ghost use Rattle.pathindex_core.specs.Engines.{EachBecomes, IsKeptFor, opened, open_seen};
 ghost use Rattle.pathindex_core.specs.Boxes.{IsFbComputed};
 ghost use Rattle.pathindex_core.specs.Calls.{IsListed, IsMeasured};

@@ -1,7 +1,7 @@
 // Making a change in a graph and in each of its indexes.
 ghost use Rattle.std.specs.Prelude.{◌≡◌, ℕ, ◌↔◌, Ok, Err, true, false, map, All, OnOk, OnErr, IfOk};
-ghost use Rattle.px_spec.specs.declared.refusal.Refusal.{Refusal};
-ghost use Rattle.px_spec.specs.Changes.{after, apply};
+ghost use Rattle.graph_spec.specs.declared.refusal.Refusal.{Refusal};
+ghost use Rattle.graph_spec.specs.Changes.{after, apply};
 ghost use Rattle.graph_update.specs.NewChanges.{IsNew, is_same};
 ghost use Rattle.graph_update.specs.Verdicts.{change_of};
 ghost use Rattle.graph_update.specs.StagedChanges.{applied_of};

@@ -2,7 +2,7 @@
 #![tactic(auto)]
 
 ghost use Rattle.std.specs.Prelude.{◌≡◌, [], ◌∷◌, None};
-ghost use Rattle.index_api.specs.Kept.{kinds_of};
+ghost use Rattle.index_api.specs.IndexKinds.{kinds_of};
 ghost use Rattle.pathindex_core.specs.Engines.{IsSound, seen};
 
 use ak_maintain::AkIndex;

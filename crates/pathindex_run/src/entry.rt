@@ -1,16 +1,16 @@
 // The top call.
 ghost use Rattle.std.specs.Prelude.{ℕ, List, ◌≡◌, ◌≢◌, ◌≤◌, ◌⊎◌, map, string_bytes, option_map, None, Some};
 ghost use Rattle.command_line.specs.Forms.{makes, runs};
-ghost use Rattle.command_line.specs.Shown.{shown_settings};
+ghost use Rattle.command_line.specs.FormValues.{settings_value};
 ghost use Rattle.command_line.specs.Words.{form_of};
 ghost use Rattle.bisim_spec.specs.declared.kind.Kind.{Kind};
-ghost use Rattle.index_api.specs.Kept.{kinds_of};
+ghost use Rattle.index_api.specs.IndexKinds.{kinds_of};
 ghost use Rattle.pathindex_core.specs.Engines.{IsSound, seen};
-ghost use Rattle.script_run.specs.EngineStates.{state_of, IsOpen, IsIn};
-ghost use Rattle.script_run.specs.States.{BeginsRun, left_out};
+ghost use Rattle.script_interpreter.specs.EngineStates.{state_of, IsOpen, IsIn};
+ghost use Rattle.script_interpreter.specs.States.{BeginsRun, left_out};
 ghost use Rattle.pathindex_run.specs.Headline.{Meets, HasStatus, Completes, NamesScript, NoFault, kinds_for};
 ghost use Rattle.pathindex_run.specs.StatusCodes.{code_of};
-ghost use Rattle.pathindex_run.specs.ToldFiles.{BeginsTold};
+ghost use Rattle.pathindex_run.specs.ObservableFiles.{BeginsObservable};
 
 use crate::made::run_made;
 use crate::output::{show_refusal, show_usage};
@@ -21,7 +21,7 @@ use index_api::{Kind, PathIndex};
 use label_graph::Graph;
 use pathindex_core::Engine;
 use px_base::{Limits, Shelf, Sink};
-use script_run::{Printing, Stop, run_lines};
+use script_interpreter::{Printing, Stop, run_lines};
 use std::alloc::Global;
 
 /// Carries out what the words ask for, and answers the exit status. The words are those after the
@@ -116,11 +116,11 @@ fn run_settings<B: PathIndex, H: Shelf, K: Sink>(
     requires sound { IsSound (seen B.meaning engine.old) }
     requires level { settings.now.k ≤ 8 }
     ensures sound { IsSound (seen B.meaning engine.new) }
-    ensures meets { Meets (runs (shown_settings settings.now)) (kinds_of (map B.meaning engine.old.boxes)) (H.files shelf.old) (K.written sink.old)
+    ensures meets { Meets (runs (settings_value settings.now)) (kinds_of (map B.meaning engine.old.boxes)) (H.files shelf.old) (K.written sink.old)
         (K.written sink.new) (code_of result) (IsIn (seen B.meaning engine.new)) }
-    ensures status { HasStatus (runs (shown_settings settings.now)) (H.files shelf.old) (H.faults shelf.old) (H.faults shelf.new) (K.faults sink.old)
+    ensures status { HasStatus (runs (settings_value settings.now)) (H.files shelf.old) (H.faults shelf.old) (H.faults shelf.new) (K.faults sink.old)
         (K.faults sink.new) (code_of result) }
-    ensures complete { Completes (runs (shown_settings settings.now)) (H.files shelf.old) (H.faults shelf.old) (H.faults shelf.new)
+    ensures complete { Completes (runs (settings_value settings.now)) (H.files shelf.old) (H.faults shelf.old) (H.faults shelf.new)
         (K.faults sink.old) (K.faults sink.new) (code_of result) }
     ensures files { H.files shelf.new ≡ H.files shelf.old }
 {
@@ -147,11 +147,11 @@ fn run_loaded<B: PathIndex, H: Shelf, K: Sink>(
     requires sound { IsSound (seen B.meaning engine.old) }
     requires level { settings.now.k ≤ 8 }
     ensures sound { IsSound (seen B.meaning engine.new) }
-    ensures meets { Meets (runs (shown_settings settings.now)) (kinds_of (map B.meaning engine.old.boxes)) (H.files shelf.old) (K.written sink.old)
+    ensures meets { Meets (runs (settings_value settings.now)) (kinds_of (map B.meaning engine.old.boxes)) (H.files shelf.old) (K.written sink.old)
         (K.written sink.new) (code_of result) (IsIn (seen B.meaning engine.new)) }
-    ensures status { HasStatus (runs (shown_settings settings.now)) (H.files shelf.old) (H.faults shelf.old) (H.faults shelf.new) (K.faults sink.old)
+    ensures status { HasStatus (runs (settings_value settings.now)) (H.files shelf.old) (H.faults shelf.old) (H.faults shelf.new) (K.faults sink.old)
         (K.faults sink.new) (code_of result) }
-    ensures complete { Completes (runs (shown_settings settings.now)) (H.files shelf.old) (H.faults shelf.old) (H.faults shelf.new)
+    ensures complete { Completes (runs (settings_value settings.now)) (H.files shelf.old) (H.faults shelf.old) (H.faults shelf.new)
         (K.faults sink.old) (K.faults sink.new) (code_of result) }
     ensures files { H.files shelf.new ≡ H.files shelf.old }
 {
@@ -187,16 +187,16 @@ fn run_script<B: PathIndex, H: Shelf, K: Sink>(
     shelf: &mut H,
     sink: &mut K,
 ) -> Status
-    requires begins { BeginsTold (shown_settings settings.now).graph (H.files shelf.old) graph.graph }
+    requires begins { BeginsObservable (settings_value settings.now).graph (H.files shelf.old) graph.graph }
     requires closed { engine.old.opened ≡ None }
     requires sound { IsSound (seen B.meaning engine.old) }
     requires level { settings.now.k ≤ 8 }
     ensures sound { IsSound (seen B.meaning engine.new) }
-    ensures meets { Meets (runs (shown_settings settings.now)) (kinds_of (map B.meaning engine.old.boxes)) (H.files shelf.old) (K.written sink.old)
+    ensures meets { Meets (runs (settings_value settings.now)) (kinds_of (map B.meaning engine.old.boxes)) (H.files shelf.old) (K.written sink.old)
         (K.written sink.new) (code_of result) (IsIn (seen B.meaning engine.new)) }
-    ensures status { HasStatus (runs (shown_settings settings.now)) (H.files shelf.old) (H.faults shelf.old) (H.faults shelf.new) (K.faults sink.old)
+    ensures status { HasStatus (runs (settings_value settings.now)) (H.files shelf.old) (H.faults shelf.old) (H.faults shelf.new) (K.faults sink.old)
         (K.faults sink.new) (code_of result) }
-    ensures complete { Completes (runs (shown_settings settings.now)) (H.files shelf.old) (H.faults shelf.old) (H.faults shelf.new)
+    ensures complete { Completes (runs (settings_value settings.now)) (H.files shelf.old) (H.faults shelf.old) (H.faults shelf.new)
         (K.faults sink.old) (K.faults sink.new) (code_of result) }
     ensures files { H.files shelf.new ≡ H.files shelf.old }
 {
@@ -216,16 +216,16 @@ fn run_open<B: PathIndex, H: Shelf, K: Sink>(
     shelf: &mut H,
     sink: &mut K,
 ) -> Status
-    requires begins { BeginsTold (shown_settings settings.now).graph (H.files shelf.old) (state_of B.meaning engine.old).graph }
+    requires begins { BeginsObservable (settings_value settings.now).graph (H.files shelf.old) (state_of B.meaning engine.old).graph }
     requires ready { IsOpen (seen B.meaning engine.old) }
     ensures sound { IsSound (seen B.meaning engine.new) }
-    ensures meets { (kinds : List Kind) → BeginsRun (state_of B.meaning engine.old).graph (kinds_for (shown_settings settings.now) kinds)
+    ensures meets { (kinds : List Kind) → BeginsRun (state_of B.meaning engine.old).graph (kinds_for (settings_value settings.now) kinds)
         settings.now.k (state_of B.meaning engine.old)
-        → Meets (runs (shown_settings settings.now)) kinds (H.files shelf.old) (K.written sink.old) (K.written sink.new) (code_of result)
+        → Meets (runs (settings_value settings.now)) kinds (H.files shelf.old) (K.written sink.old) (K.written sink.new) (code_of result)
         (IsIn (seen B.meaning engine.new)) }
-    ensures status { HasStatus (runs (shown_settings settings.now)) (H.files shelf.old) (H.faults shelf.old) (H.faults shelf.new) (K.faults sink.old)
+    ensures status { HasStatus (runs (settings_value settings.now)) (H.files shelf.old) (H.faults shelf.old) (H.faults shelf.new) (K.faults sink.old)
         (K.faults sink.new) (code_of result) }
-    ensures complete { Completes (runs (shown_settings settings.now)) (H.files shelf.old) (H.faults shelf.old) (H.faults shelf.new)
+    ensures complete { Completes (runs (settings_value settings.now)) (H.files shelf.old) (H.faults shelf.old) (H.faults shelf.new)
         (K.faults sink.old) (K.faults sink.new) (code_of result) }
     ensures files { H.files shelf.new ≡ H.files shelf.old }
 {

@@ -1,14 +1,14 @@
 // The run of the texts that are made from a seed.
 ghost use Rattle.std.specs.Prelude.{◌≡◌, ◌≢◌, Err, map, None, Some, IfOk, IfErr};
-ghost use Rattle.px_spec.specs.ProgramLimits.{program_limits};
+ghost use Rattle.graph_spec.specs.ProgramLimits.{program_limits};
 ghost use Rattle.graph_load.specs.Loads.{Loads, loaded};
 ghost use Rattle.graph_load.specs.LoadSteps.{TellsOutcome};
-ghost use Rattle.made_texts.specs.MadeTexts.{made_graph_text};
-ghost use Rattle.index_api.specs.Kept.{kinds_of};
+ghost use Rattle.workload.specs.MadeTexts.{made_graph_text};
+ghost use Rattle.index_api.specs.IndexKinds.{kinds_of};
 ghost use Rattle.pathindex_core.specs.Engines.{IsSound, seen};
-ghost use Rattle.script_run.specs.declared.printing.Printing.TheVariants.{Brief};
-ghost use Rattle.script_run.specs.EngineStates.{state_of, IsOpen, IsIn};
-ghost use Rattle.script_run.specs.Rules.{rules_for};
+ghost use Rattle.script_interpreter.specs.declared.printing.Printing.TheVariants.{Brief};
+ghost use Rattle.script_interpreter.specs.EngineStates.{state_of, IsOpen, IsIn};
+ghost use Rattle.script_interpreter.specs.Rules.{rules_for};
 ghost use Rattle.pathindex_run.specs.Headline.{RunsFrom, RunsLoaded, RunsScript, made_task};
 ghost use Rattle.pathindex_run.specs.MadeSteps.{HasSinkStatus, text_task};
 ghost use Rattle.pathindex_run.specs.StatusCodes.{code_of};
@@ -19,11 +19,11 @@ use crate::text_shelf::TextShelf;
 use graph_load::{LoadError, load};
 use index_api::PathIndex;
 use label_graph::Graph;
-use made_texts::{made_graph, made_script};
 use pathindex_core::Engine;
 use px_base::{Limits, Sink};
-use script_run::{Printing, Stop, run_lines};
+use script_interpreter::{Printing, Stop, run_lines};
 use std::alloc::Global;
+use workload::{made_graph, made_script};
 
 /// Loads a graph file that has this text.
 fn load_text(alloc: Global, text: &[u8]) -> Result<Graph, LoadError>

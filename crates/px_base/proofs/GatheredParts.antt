@@ -20,7 +20,7 @@ abbrev pub steps_left : ℕ → List ℕ → List ℕ → ℕ
 steps_left room line [] = suc (room - length line)
 steps_left room line (b ∷ ahead) = room - length line
 
--- the front of a window is the front of what is ahead
+-- the first bytes of a window are the first of what is ahead
 pub consumes-part : (left : Option (List ℕ)) (ahead part more : List ℕ) → ahead ≡ part ++ more → Consumes (prepend_known ahead left) (prepend_known more left) part
 consumes-part None ahead part more e = tt
 consumes-part (Some y) ahead part more e = ap (λ r. r ++ y) e ∙ append_assoc part more y
@@ -33,7 +33,7 @@ keeps-filled (Some x) None ahead bytes e p = absurd p
 keeps-filled (Some x) (Some y) ahead bytes e p = sym p ∙ ap (λ r. r ++ x) (sym e)
 
 pub gathers-kept : {room : ℕ} {line new : List ℕ} {a b : Option (List ℕ)} → Gathers room line new a b → (c : Option (List ℕ)) → Keeps b c → Gathers room line new a c
-gathers-kept {a = a} {b = b} g c k = record { part = g.part; plain = g.plain; line_is = g.line_is; short = g.short; told = Consumes-kept a b c g.part g.told k }
+gathers-kept {a = a} {b = b} g c k = record { part = g.part; plain = g.plain; line_is = g.line_is; short = g.short; observable = Consumes-kept a b c g.part g.observable k }
 
 -- one gathering after another
 pub gathers-on : {room : ℕ} {line mid new : List ℕ} {a b c : Option (List ℕ)} → Gathers room line mid a b → Gathers room mid new b c → Gathers room line new a c
@@ -42,29 +42,29 @@ gathers-on {line = line} {a = a} {b = b} {c = c} g t = record {
   plain = plain-append g.part t.part g.plain t.plain;
   line_is = t.line_is ∙ ap (λ l. l ++ t.part) g.line_is ∙ append_assoc line g.part t.part;
   short = t.short;
-  told = Consumes-trans a b c g.part t.part g.told t.told;
+  observable = Consumes-trans a b c g.part t.part g.observable t.observable;
 }
 
 -- the window up to its first LF or CR
 pub gathers-part : {room : ℕ} {line mid new ahead rest : List ℕ} {a : Option (List ℕ)} (left : Option (List ℕ))
     → Gathers room line mid a (prepend_known ahead left) → TakesPart room ahead mid rest new → Gathers room line new a (prepend_known rest left)
 gathers-part {ahead = ahead} {rest = rest} left g t =
-    gathers-on g (record { part = t.part; plain = t.plain; line_is = t.line_is; short = t.short; told = consumes-part left ahead t.part rest t.ahead_is })
+    gathers-on g (record { part = t.part; plain = t.plain; line_is = t.line_is; short = t.short; observable = consumes-part left ahead t.part rest t.ahead_is })
 
--- what is too long after a front was put together is too long from the start
+-- what is too long after a prefix was put together is too long from the start
 pub too-long-on : {room : ℕ} {line mid : List ℕ} {a b : Option (List ℕ)}
     → Gathers room line mid a b → IsTooLong room mid b → IsTooLong room line a
 too-long-on {line = line} {a = a} {b = b} g t =
     let e = ap length g.line_is ∙ length-append line g.part in
     record {
-      front = g.part ++ t.front;
+      prefix = g.part ++ t.prefix;
       rest = t.rest;
-      plain = plain-append g.part t.front g.plain t.plain;
+      plain = plain-append g.part t.prefix g.plain t.plain;
       long = simp length-append (omega (arith, t.long));
-      told = Consumes-trans a b t.rest g.part t.front g.told t.told;
+      observable = Consumes-trans a b t.rest g.part t.prefix g.observable t.observable;
     }
 
 pub too-long : {room : ℕ} {line mid ahead : List ℕ} {a : Option (List ℕ)} (left : Option (List ℕ))
     → Gathers room line mid a (prepend_known ahead left) → Overfills room ahead mid → IsTooLong room line a
 too-long {ahead = ahead} left g t =
-    too-long-on g (record { front = t.front; rest = prepend_known t.rest left; plain = t.plain; long = t.long; told = consumes-part left ahead t.front t.rest t.ahead_is })
+    too-long-on g (record { prefix = t.prefix; rest = prepend_known t.rest left; plain = t.plain; long = t.long; observable = consumes-part left ahead t.prefix t.rest t.ahead_is })

@@ -1,7 +1,7 @@
-pub mod Ends
+pub mod LineEndLaws
 pub mod GatheredParts
-pub mod Places
+pub mod FlagIndexes
 pub mod Shelves
 pub mod TakenLines
 pub mod Windows
-pub mod WrittenFronts
+pub mod WrittenPrefixes

@@ -3,7 +3,7 @@ use Rattle.std.proofs.Common.{◌≡◌, ◌≢◌, ℕ, zero, suc, get_or, leng
 use Rattle.std.specs.Prelude.{slice_get, slice_index_or, nat_eq}
 use Rattle.std.proofs.lemmas.List.{drop-take, drop-drop, take-append-drop}
 use Rattle.std.proofs.lemmas.Bool.Decides.{nat_tests}
-use Rattle.px_spec.specs.Lines.{IsUncut}
+use Rattle.graph_spec.specs.Lines.{IsUncut}
 use Rattle.px_base.specs.LineEnds.{has_end, IsStopped}
 use Rattle.px_base.specs.GatheredLines.{TakesPart}
 

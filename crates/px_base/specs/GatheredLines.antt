@@ -1,7 +1,7 @@
 -- A line that is put together from the bytes ahead.
 use Rattle.std.specs.Prelude.{◌≡◌, ℕ, ◌+◌, ◌<◌, ◌≤◌, ◌++◌, ⊤, List, [], ◌∷◌, length, Option, None, Some}
 use Rattle.std.specs.Io.KnownBytes.{Consumes, prepend_known}
-use Rattle.px_spec.specs.Lines.{Line, cut, IsUncut}
+use Rattle.graph_spec.specs.Lines.{Line, cut, IsUncut}
 use Rattle.px_base.specs.declared.line_end.LineEnd.{LineEnd}
 use Rattle.px_base.specs.LineEnds.{end_bytes, IsStopped}
 use Rattle.px_base.specs.ReaderStates.{IsFirst, IsOver}
@@ -17,11 +17,11 @@ pub record TakesPart (room : ℕ) (ahead line rest new : List ℕ) : Type 0 wher
 
 -- more of what is ahead stands before the first LF or CR than the line has room for
 pub record Overfills (room : ℕ) (ahead line : List ℕ) : Type 0 where
-  pub front : List ℕ
+  pub prefix : List ℕ
   pub rest : List ℕ
-  pub plain : IsUncut front
-  pub long : room < length line + length front
-  pub ahead_is : ahead ≡ front ++ rest
+  pub plain : IsUncut prefix
+  pub long : room < length line + length prefix
+  pub ahead_is : ahead ≡ prefix ++ rest
 
 -- some of the text ahead, none of it LF or CR, went behind the line
 pub record Gathers (room : ℕ) (line new : List ℕ) (before after : Option (List ℕ)) : Type 0 where
@@ -29,7 +29,7 @@ pub record Gathers (room : ℕ) (line new : List ℕ) (before after : Option (Li
   pub plain : IsUncut part
   pub line_is : new ≡ line ++ part
   pub short : length new ≤ room
-  pub told : Consumes before after part
+  pub observable : Consumes before after part
 
 -- the same, where the text ahead is what the window holds and then what the shelf has left
 abbrev pub GathersAhead : ℕ → List ℕ → List ℕ → List ℕ → Option (List ℕ) → List ℕ → Option (List ℕ) → Type 0
@@ -37,11 +37,11 @@ GathersAhead room line new window left window2 left2 = Gathers room line new (pr
 
 -- more stands before the first LF or CR than the line has room for
 pub record IsTooLong (room : ℕ) (line : List ℕ) (before : Option (List ℕ)) : Type 0 where
-  pub front : List ℕ
+  pub prefix : List ℕ
   pub rest : Option (List ℕ)
-  pub plain : IsUncut front
-  pub long : room < length line + length front
-  pub told : Consumes before rest front
+  pub plain : IsUncut prefix
+  pub long : room < length line + length prefix
+  pub observable : Consumes before rest prefix
 
 -- the text was over before the line, and nothing was taken
 pub record IsDone (line window : List ℕ) (before after : Option (List ℕ)) : Type 0 where
@@ -61,7 +61,7 @@ pub record GathersLine (line_limit room : ℕ) (line : List ℕ) (end : LineEnd)
 abbrev pub TakesWhole : ℕ → ℕ → List ℕ → LineEnd → List ℕ → Option (List ℕ) → List ℕ → Option (List ℕ) → Type 0
 TakesWhole line_limit room line end window left window2 left2 = GathersLine line_limit room line end window2 (prepend_known window left) (prepend_known window2 left2)
 
--- the first line of a told text has more bytes than the line's limit, or with its end more than the room
+-- the first line of an observable text has more bytes than the line's limit, or with its end more than the room
 abbrev pub IsLong : ℕ → ℕ → Option (List ℕ) → Type 0
 IsLong line_limit room None = ⊤
 IsLong line_limit room (Some text) =

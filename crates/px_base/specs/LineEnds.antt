@@ -28,7 +28,7 @@ IsWhole Over after = IsAtEnd after
 -- an end was taken, of at most so many bytes
 pub record TakesEnd (room : ℕ) (end : LineEnd) (before after : Option (List ℕ)) : Type 0 where
   pub fits : length (end_bytes end) ≤ room
-  pub told : Consumes before after (end_bytes end)
+  pub observable : Consumes before after (end_bytes end)
   pub whole : IsWhole end after
 
 -- the end ahead has more bytes than the room
@@ -36,7 +36,7 @@ pub record EndPasses (room : ℕ) (before : Option (List ℕ)) : Type 0 where
   pub end : LineEnd
   pub rest : Option (List ℕ)
   pub long : room < length (end_bytes end)
-  pub told : Consumes before rest (end_bytes end)
+  pub observable : Consumes before rest (end_bytes end)
 
 -- no byte is there, or the first begins an end
 abbrev pub IsStopped : List ℕ → Type 0

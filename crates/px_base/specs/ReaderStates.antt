@@ -1,7 +1,7 @@
 -- What a reader of lines keeps, and what a call of `next` makes of the text that lies ahead.
 use Rattle.std.specs.Prelude.{◌≡◌, ℕ, ◌+◌, ◌^◌, ◌<◌, ◌≤◌, ⊤, Bool, false, List, [], ◌∷◌, length, Option, None, Some}
 use Rattle.std.specs.Io.KnownBytes.{prepend_known}
-use Rattle.px_spec.specs.Lines.{Line, cut}
+use Rattle.graph_spec.specs.Lines.{Line, cut}
 
 pub record ReaderState : Type 0 where
   -- the bytes that were read and belong to no line yet
@@ -34,18 +34,18 @@ stream r left = prepend_known r.ahead left
 abbrev pub IsReadable : ReaderState → Line → Type 0
 IsReadable r l = (length l.text ≤ r.line_limit) × (r.taken + length l.text + length l.end ≤ r.text_limit)
 
--- the line is the first of a told text, and the others are those of what is ahead after it
+-- the line is the first of an observable text, and the others are those of what is ahead after it
 abbrev pub IsFirst : Line → Option (List ℕ) → Option (List ℕ) → Type 0
 IsFirst l None after = ⊤
 IsFirst l (Some text) None = ⊥
 IsFirst l (Some text) (Some rest) = cut text ≡ l ∷ cut rest
 
--- A line was taken from the text ahead: its first, if the text is told.
+-- A line was taken from the text ahead: its first, if the text is observable.
 pub record ReadsLine (old new : ReaderState) (before after : Option (List ℕ)) : Type 0 where
   pub first : Line
   pub some : 0 < length first.text + length first.end
   pub within : IsReadable old first
-  pub told : IsFirst first before after
+  pub observable : IsFirst first before after
   pub passed : new ≡ record old {
     ahead = new.ahead;
     line = first.text;
@@ -72,7 +72,7 @@ TakesLine old left new left2 = ReadsLine old new (stream old left) (stream new l
 abbrev pub TakesNone : ReaderState → Option (List ℕ) → ReaderState → Option (List ℕ) → Type 0
 TakesNone old left new left2 = Finishes old new (stream old left) (stream new left2)
 
--- a line passes a limit, the first of the text where that is told
+-- a line passes a limit, the first of the text where that is observable
 abbrev pub IsPast : ReaderState → Option (List ℕ) → Type 0
 IsPast r None = ⊤
 IsPast r (Some text) = (l : Line) × (rest : List Line) × (cut text ≡ l ∷ rest) × ¬ IsReadable r l

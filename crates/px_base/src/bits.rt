@@ -2,7 +2,7 @@
 ghost use Rattle.std.specs.Prelude.{◌≡◌, ℕ, ◌<◌, ◌≤◌, ◌^◌, ◌&&◌, ◌||◌, not, nat_eq, nat_le, true, false, [], length, filter, slice_get, IfOk, MatchOption};
 ghost use Rattle.std.specs.List.{position};
 ghost use Rattle.std.specs.List.Sorted.{IsStrictlyIncreasing};
-ghost use Rattle.px_spec.specs.Members.{has};
+ghost use Rattle.graph_spec.specs.Members.{has};
 ghost use Rattle.px_base.specs.BitSets.{IsNext};
 
 use crate::Memory;

@@ -1,10 +1,10 @@
-// A shelf and a sink in memory, which tell everything and fail when they are told to.
+// A shelf and a sink in memory, of which everything is observable, and which fail when they are told to.
 ghost use Rattle.std.specs.Prelude.{◌≡◌, ◌-◌, ◌<◌, ◌≤◌, ◌↔◌, ◌||◌, ◌==◌, [], length, take, map, min, Some, None, is_some, is_err, Ok, true, IfOk, OnOk, IsOk, IsTrue, unwrap_or, if◌then◌else◌};
 ghost use Rattle.std.specs.Io.{ReadsAtMost};
 ghost use Rattle.std.specs.Io.KnownBytes.{ReadConsumes, WriteAppends};
 ghost use Rattle.std.specs.List.{position};
 ghost use Rattle.std.specs.Str.{bytes_eq};
-ghost use Rattle.px_spec.specs.Members.{has};
+ghost use Rattle.graph_spec.specs.Members.{has};
 ghost use Rattle.px_base.specs.Causes.{HasCause, one_more};
 ghost use Rattle.px_base.specs.Files.{Finds};
 ghost use Rattle.px_base.specs.InMemory.{ShelfInMemory, SinkInMemory, file_of};
@@ -124,7 +124,7 @@ impl Shelf for MemShelf {
         match self.current {
             Some(at) => {
                 let (_, bytes) = &self.files[at];
-                let count = copy_front(&bytes[self.next..], self.piece as usize, buf);
+                let count = copy_prefix(&bytes[self.next..], self.piece as usize, buf);
                 self.next += count;
                 Ok(count)
             }
@@ -141,10 +141,10 @@ fn find(files: &[(Text, Vec<u8>)], name: &str) -> Option<usize>
 }
 
 /// Copies the first bytes, as many as fit and at most `most`, and answers how many.
-fn copy_front(bytes: &[u8], most: usize, buf: &mut [u8]) -> usize
+fn copy_prefix(bytes: &[u8], most: usize, buf: &mut [u8]) -> usize
     ensures count { result ≡ min (min (length bytes.now) (length buf.old)) most }
     ensures len { length buf.new ≡ length buf.old }
-    ensures front { take result buf.new ≡ take result bytes.now }
+    ensures prefix { take result buf.new ≡ take result bytes.now }
 {
     let count = bytes.len().min(buf.len()).min(most);
     buf[..count].copy_from_slice(&bytes[..count]);

@@ -21,9 +21,9 @@ mod window;
 
 pub use allocation::Memory;
 pub use bits::Bits;
+pub use graph_spec::{Limits, Refusal};
 pub use in_memory::{MemShelf, MemSink};
 pub use lines::{GRAPH_BYTES, LINE_BYTES, LineFault, LineReader, SCRIPT_BYTES};
-pub use px_spec::{Limits, Refusal};
 pub use recent::Recent;
 pub use steps::Steps;
 pub use streams::{Failed, Shelf, Sink, put_all};

@@ -1,6 +1,6 @@
 // Calls that fail because they were told to.
 ghost use Rattle.std.specs.Prelude.{◌≡◌, is_err, if◌then◌else◌};
-ghost use Rattle.px_spec.specs.Members.{has};
+ghost use Rattle.graph_spec.specs.Members.{has};
 ghost use Rattle.px_base.specs.Causes.{HasCause, Rose, one_more};
 
 use crate::Failed;

@@ -3,7 +3,7 @@ ghost use Rattle.std.specs.Prelude.{◌≡◌, ◌<◌, ◌≤◌, ◌↔◌, �
 ghost use Rattle.std.specs.Io.{ReadsAtMost};
 ghost use Rattle.std.specs.Io.KnownBytes.{ReadConsumes, WriteAppends, Appends};
 ghost use Rattle.px_base.specs.Causes.{HasCause};
-ghost use Rattle.px_base.specs.Files.{File, Finds, AppendsFront};
+ghost use Rattle.px_base.specs.Files.{File, Finds, AppendsPrefix};
 
 /// A call on a shelf or a sink failed.
 #[derive(Clone, Copy, Debug, PartialEq, Eq)]
@@ -11,7 +11,7 @@ pub struct Failed;
 
 /// Files that are read, one at a time, from the first byte on.
 ///
-/// What the files hold is told by files in memory, and not by those of a system.
+/// What the files hold is observable for files in memory, and not by those of a system.
 ///
 /// The bytes of a file, where it is there:
 ///
@@ -23,13 +23,13 @@ pub struct Failed;
 ///         }
 ///     }
 pub trait Shelf {
-    /// The files, where they are told. Of several of one name the first counts.
+    /// The files, where they are observable. Of several of one name the first counts.
     ghost files: { Self → Option (List File) };
 
     /// Whether a file is open.
     ghost is_open: { Self → Bool };
 
-    /// What is left to read of the open file, where it is told.
+    /// What is left to read of the open file, where it is observable.
     ghost left: { Self → Option (List ℕ) };
 
     /// How often a call has failed, up to the last value of a u64.
@@ -58,9 +58,9 @@ pub trait Shelf {
 
 /// A stream of bytes that is written.
 ///
-/// What was written is told by a sink in memory, and not by one of a system.
+/// What was written is observable for a sink in memory, and not by one of a system.
 pub trait Sink {
-    /// The bytes that were written, where they are told.
+    /// The bytes that were written, where they are observable.
     ghost written: { Self → Option (List ℕ) };
 
     /// How often a call has failed, up to the last value of a u64.
@@ -75,11 +75,11 @@ pub trait Sink {
         ensures cause { HasCause (faults self.old) (faults self.new) result };
 }
 
-/// Writes all the bytes. Where a write fails, some front of them was written, and nothing more is tried. O(w) for w
+/// Writes all the bytes. Where a write fails, some prefix of them was written, and nothing more is tried. O(w) for w
 /// writes, beside what each of them takes; no memory.
 pub fn put_all<K: Sink>(sink: &mut K, bytes: &[u8]) -> Result<(), Failed>
     ensures all { OnOk result (Appends (K.written sink.old) (K.written sink.new) bytes.now) }
-    ensures part { OnErr result (AppendsFront (K.written sink.old) (K.written sink.new) bytes.now) }
+    ensures part { OnErr result (AppendsPrefix (K.written sink.old) (K.written sink.new) bytes.now) }
     ensures cause { HasCause (K.faults sink.old) (K.faults sink.new) result }
 {
     let mut rest = bytes;

@@ -4,7 +4,7 @@ ghost use Rattle.std.specs.Io.KnownBytes.{Keeps, Consumes, IsAtEnd, prepend_know
 ghost use Rattle.px_base.specs.Causes.{HasCause};
 ghost use Rattle.px_base.specs.LineEnds as ends;
 ghost use Rattle.px_base.specs.LineEnds.{IsStopped};
-ghost use Rattle.px_spec.specs.Lines.{IsUncut};
+ghost use Rattle.graph_spec.specs.Lines.{IsUncut};
 
 use crate::{Failed, Shelf};
 use memchr::memchr2;

@@ -6,15 +6,15 @@ use Rattle.std.specs.FinSet as set
 use Rattle.std.proofs.Math.Bool.{and-false, or-false}
 use Rattle.std.proofs.lemmas.Bool.{cases_Bool}
 use Rattle.std.proofs.lemmas.Bool.Decides.{eqb_tells, nat_tests}
-use Rattle.px_spec.specs.Graphs.{Graph, IsGraph, Edges, edge_cmp}
-use Rattle.label_graph.specs.Views.{is_linked}
+use Rattle.graph_spec.specs.Graphs.{Graph, IsGraph, Edges, edge_cmp}
+use Rattle.label_graph.specs.GraphViews.{is_linked}
 use Rattle.label_graph.proofs.Viewed.{linked_is}
-use Rattle.px_spec.specs.Members.{has, Lists}
+use Rattle.graph_spec.specs.Members.{has, Lists}
 use Rattle.bisim_spec.specs.Supports.{joins, edges_between}
 use Rattle.bisim_spec.specs.NodeEdges.{edges_from}
 use Rattle.bisim_spec.proofs.EdgeSets.{eq, kept, same_len, kept_len, len_more}
 use Rattle.bisim_spec.proofs.Moves.{from_has, from_distinct}
-use Rattle.quotient.specs.Joined.{pairs_between, edges_below}
+use Rattle.quotient.specs.QuotientNeighbours.{pairs_between, edges_below}
 
 -- a node is at no place before its own
 at_own : (c t : Bool) (m n : ℕ) (x : Bool) → (nat_eq m n && x) ≡ true → (c && (nat_lt m n && t)) ≡ false

@@ -3,12 +3,12 @@ use Rattle.std.proofs.Common.{◌≡◌, ℕ, zero, suc, ◌+◌, ◌<◌, ◌�
 use Rattle.std.specs.Prelude.{nat_eq}
 use Rattle.std.proofs.lemmas.Bool.{cases_lt}
 use Rattle.std.proofs.lemmas.List.{get_or_past}
-use Rattle.px_spec.specs.Members.{at}
-use Rattle.block_partition.specs.Partitions.{Partition, put, with_member}
-use Rattle.bisim_spec.specs.Views.{SupportTable, support_at}
+use Rattle.graph_spec.specs.Members.{at}
+use Rattle.block_partition.specs.LabelledPartitions.{Partition, put, with_member}
+use Rattle.bisim_spec.specs.IndexGraphs.{SupportTable, support_at}
 use Rattle.quotient.specs.Quotients.{with_support}
-use Rattle.quotient.specs.Joined.{AreLive, IsSoundQuotient}
-use Rattle.quotient.specs.Kept.{KeptPairs, KeptLists, IsWritten}
+use Rattle.quotient.specs.QuotientNeighbours.{AreLive, IsSoundQuotient}
+use Rattle.quotient.specs.QuotientTables.{KeptPairs, KeptLists, IsWritten}
 use Rattle.quotient.proofs.Looked.{same, same_is, test_is}
 use Rattle.quotient.proofs.Taken.{support_written}
 
@@ -32,11 +32,11 @@ put_length (x ∷ xs) zero v top l h = l
 put_length (x ∷ xs) (suc n) v zero l h = absurd (omega (arith, h))
 put_length (x ∷ xs) (suc n) v (suc top) l h = (let r = put_length xs n v top (omega (arith, l)) (omega (arith, h)) in omega (arith, r))
 
-pub member_room : (p new : Partition) (n b : ℕ) → new ≡ with_member p n b → n < length p.block_of + p.room.nodes
-    → length new.block_of + new.room.nodes ≡ length p.block_of + p.room.nodes
-member_room p new n b e h =
-    let l = put_length p.block_of n b (length p.block_of + p.room.nodes) (omega arith) h in
-    ap (λ (q : Partition). length q.block_of + q.room.nodes) e ∙ (omega (arith, l))
+pub member_reserved : (p new : Partition) (n b : ℕ) → new ≡ with_member p n b → n < length p.block_of + p.reserved.nodes
+    → length new.block_of + new.reserved.nodes ≡ length p.block_of + p.reserved.nodes
+member_reserved p new n b e h =
+    let l = put_length p.block_of n b (length p.block_of + p.reserved.nodes) (omega arith) h in
+    ap (λ (q : Partition). length q.block_of + q.reserved.nodes) e ∙ (omega (arith, l))
 
 -- a further block
 pub sound_more : (p new : Partition) (t : SupportTable) (cs ps : List (List ℕ)) (b l : ℕ) → IsSoundQuotient p t cs ps → new.labels ≡ put p.labels b l
@@ -49,7 +49,7 @@ sound_more p new t cs ps b l s e labels h =
     let len = put_length p.labels b l (length cs) s.length_children h in
     let is = ap (λ (ls : List (Option ℕ)). length ls) e in
     record {
-      near = s.near;
+      neighbour_lists = s.neighbour_lists;
       live = λ x y some. (let both = s.live x y some in (stays x both.0, stays y both.1));
       length_children = omega (arith, len, is);
       length_parents = s.length_parents;
@@ -74,7 +74,7 @@ sound_written p a b n old new cs cs2 ps ps2 s from onto w =
     let few = s.length_children in
     let more = s.length_parents in
     record {
-      near = w.near;
+      neighbour_lists = w.neighbour_lists;
       live = subst (AreLive p) (sym w.pairs) (live_written p old.pairs a b n s.live from onto);
       length_children = omega (arith, lc, few);
       length_parents = omega (arith, lc, lp, more);

@@ -1,8 +1,8 @@
 mod Looked
-mod Near
+mod NeighbourListLaws
 mod Pairs
 mod Between
-mod Listed
-mod Rooms
+mod EdgeLists
+mod ReservedCapacity
 mod Taken
 mod Edited

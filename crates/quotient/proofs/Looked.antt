@@ -9,11 +9,11 @@ use Rattle.std.specs.FinMap as map
 use Rattle.std.specs.Cmp.{tied_then, unsigned_tied, eq_by_cmp_equiv, IsEquivalence}
 use Rattle.std.proofs.lemmas.Bool.Decides.{eqb_tells, nat_tests}
 use Rattle.indexmap.specs.IndexMap.{insert_entry}
-use Rattle.px_spec.specs.Graphs.{edge_cmp}
-use Rattle.px_spec.proofs.EdgeOrder.{edge_cmp_total}
-use Rattle.bisim_spec.specs.Views.{SupportTable, support_at}
+use Rattle.graph_spec.specs.Graphs.{edge_cmp}
+use Rattle.graph_spec.proofs.EdgeOrder.{edge_cmp_total}
+use Rattle.bisim_spec.specs.IndexGraphs.{SupportTable, support_at}
 use Rattle.quotient.specs.Quotients.{pair_count}
-use Rattle.quotient.specs.Joined.{with_one_more, one_if, IsPositive}
+use Rattle.quotient.specs.QuotientNeighbours.{with_one_more, one_if, IsPositive}
 
 abbrev pub same : ℕ × ℕ → ℕ × ℕ → Bool
 same x y = nat_eq x.0 y.0 && nat_eq x.1 y.1

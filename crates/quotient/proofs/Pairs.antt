@@ -4,7 +4,7 @@ use Rattle.std.proofs.Math.ListN.{replicate}
 use Rattle.std.proofs.lemmas.List.{map-set}
 use Rattle.std.proofs.lemmas.Option.{slice_get-map, slice_get-get_or, get_or_from_slice_get}
 use Rattle.std.specs.Prelude.{option_map, Some, None, slice_get}
-use Rattle.quotient.specs.Joined.{pairs_with, AreBelow, list_at}
+use Rattle.quotient.specs.QuotientNeighbours.{pairs_with, AreBelow, list_at}
 
 -- the list that a value of a table of lists gives
 pub item_at : {X : Type 0} (f : X → List ℕ) (xs : List X) (n : ℕ) (v : X) → n < length xs → v ≡ get_or xs n v → list_at (map_list f xs) n ≡ f v

@@ -9,15 +9,15 @@ use Rattle.std.proofs.lemmas.Option.{none-some}
 use Rattle.std.proofs.lemmas.List.{get_or-set_same, get_or-set_other}
 use Rattle.std.proofs.lemmas.List.Sorted.{list_any-IsPermutation}
 use Rattle.std.proofs.lemmas.Map.Keys.{IsDistinct-IsPermutation, IsDistinct-head, IsDistinct-tail}
-use Rattle.px_spec.specs.Graphs.{edge_cmp}
-use Rattle.px_spec.specs.Members.{has, Lists}
-use Rattle.px_spec.proofs.EdgeOrder.{edge_cmp_total}
-use Rattle.px_spec.proofs.ListLemmas.{none-has}
-use Rattle.bisim_spec.specs.Views.{SupportTable, support_at}
+use Rattle.graph_spec.specs.Graphs.{edge_cmp}
+use Rattle.graph_spec.specs.Members.{has, Lists}
+use Rattle.graph_spec.proofs.EdgeOrder.{edge_cmp_total}
+use Rattle.graph_spec.proofs.ListLemmas.{none-has}
+use Rattle.bisim_spec.specs.IndexGraphs.{SupportTable, support_at}
 use Rattle.quotient.specs.Quotients.{with_support}
-use Rattle.quotient.specs.Joined.{AreNear, IsPositive, list_at, is_supported}
+use Rattle.quotient.specs.QuotientNeighbours.{AreNeighbourLists, IsPositive, list_at, is_supported}
 use Rattle.quotient.proofs.Looked.{same, same_is, same_refl, test_is, tied, found, got, edge_cmp-IsAntisymmetric}
-use Rattle.quotient.proofs.Near.{lists_same, lists_pushed, apart_first, apart_second}
+use Rattle.quotient.proofs.NeighbourListLaws.{lists_same, lists_pushed, apart_first, apart_second}
 
 got_removed : (t : SupportTable) (k q : ℕ × ℕ) → map.get (map.remove t k) q ≡ cond (same q k) None (map.get t q)
 got_removed t k q = map.get-remove edge_cmp_total t k q ∙ ap (λ b. cond b None (map.get t q)) (tied q k)
@@ -96,8 +96,8 @@ lists_taken p q xs ys b l taken out other =
     flips x y = grind arith
 
 -- where a pair's support is written as it was, 0 or not, the lists stay
-pub near_still : (t : SupportTable) (cs ps : List (List ℕ)) (a b n : ℕ) → nat_lt 0 n ≡ is_supported t a b → AreNear t cs ps → AreNear (with_support t (a, b) n) cs ps
-near_still t cs ps a b n is near =
+pub neighbour_lists_still : (t : SupportTable) (cs ps : List (List ℕ)) (a b n : ℕ) → nat_lt 0 n ≡ is_supported t a b → AreNeighbourLists t cs ps → AreNeighbourLists (with_support t (a, b) n) cs ps
+neighbour_lists_still t cs ps a b n is neighbour_lists =
     let still : (x y : ℕ) → is_supported (with_support t (a, b) n) x y ≡ is_supported t x y = λ x y. elim (test_is (same (x, y) (a, b))) [
       | inl s ↦ (
           let pair = same_is (x, y) (a, b) s in
@@ -105,24 +105,24 @@ near_still t cs ps a b n is near =
       | inr d ↦ others t a b n x y d
     ] in
     record {
-      children_are = λ x. lists_same (is_supported t x) (is_supported (with_support t (a, b) n) x) (list_at cs x) (still x) (near.children_are x);
-      parents_are = λ y. lists_same (λ x. is_supported t x y) (λ x. is_supported (with_support t (a, b) n) x y) (list_at ps y) (λ x. still x y) (near.parents_are y);
+      children_are = λ x. lists_same (is_supported t x) (is_supported (with_support t (a, b) n) x) (list_at cs x) (still x) (neighbour_lists.children_are x);
+      parents_are = λ y. lists_same (λ x. is_supported t x y) (λ x. is_supported (with_support t (a, b) n) x y) (list_at ps y) (λ x. still x y) (neighbour_lists.parents_are y);
     }
 
 -- where other lists than those of the two blocks stay
-near_written : (t : SupportTable) (cs ps cs2 ps2 : List (List ℕ)) (a b n : ℕ) → ((x : ℕ) → x ≢ a → list_at cs2 x ≡ list_at cs x) → ((y : ℕ) → y ≢ b → list_at ps2 y ≡ list_at ps y)
+neighbour_lists_written : (t : SupportTable) (cs ps cs2 ps2 : List (List ℕ)) (a b n : ℕ) → ((x : ℕ) → x ≢ a → list_at cs2 x ≡ list_at cs x) → ((y : ℕ) → y ≢ b → list_at ps2 y ≡ list_at ps y)
     → Lists (is_supported (with_support t (a, b) n) a) (list_at cs2 a) → Lists (λ x. is_supported (with_support t (a, b) n) x b) (list_at ps2 b)
-    → AreNear t cs ps → AreNear (with_support t (a, b) n) cs2 ps2
-near_written t cs ps cs2 ps2 a b n cs_stay ps_stay own_children own_parents near = record {
+    → AreNeighbourLists t cs ps → AreNeighbourLists (with_support t (a, b) n) cs2 ps2
+neighbour_lists_written t cs ps cs2 ps2 a b n cs_stay ps_stay own_children own_parents neighbour_lists = record {
   children_are = λ x. elim (eqb_tells x a) [
     | inl s ↦ subst (λ z. Lists (is_supported (with_support t (a, b) n) z) (list_at cs2 z)) (sym s.1) own_children
     | inr d ↦ subst (Lists (is_supported (with_support t (a, b) n) x)) (sym (cs_stay x d.1))
-        (lists_same (is_supported t x) (is_supported (with_support t (a, b) n) x) (list_at cs x) (λ m. others t a b n x m (apart_first a b x m d.1)) (near.children_are x))
+        (lists_same (is_supported t x) (is_supported (with_support t (a, b) n) x) (list_at cs x) (λ m. others t a b n x m (apart_first a b x m d.1)) (neighbour_lists.children_are x))
   ];
   parents_are = λ y. elim (eqb_tells y b) [
     | inl s ↦ subst (λ z. Lists (λ x. is_supported (with_support t (a, b) n) x z) (list_at ps2 z)) (sym s.1) own_parents
     | inr d ↦ subst (Lists (λ x. is_supported (with_support t (a, b) n) x y)) (sym (ps_stay y d.1))
-        (lists_same (λ x. is_supported t x y) (λ x. is_supported (with_support t (a, b) n) x y) (list_at ps y) (λ m. others t a b n m y (apart_second a b m y d.1)) (near.parents_are y))
+        (lists_same (λ x. is_supported t x y) (λ x. is_supported (with_support t (a, b) n) x y) (list_at ps y) (λ m. others t a b n m y (apart_second a b m y d.1)) (neighbour_lists.parents_are y))
   ];
 }
 
@@ -133,33 +133,33 @@ own_list : (lists lists2 : List (List ℕ)) (n : ℕ) (l : List ℕ) → lists2 
 own_list lists lists2 n l e h = ap (λ ls. list_at ls n) e ∙ get_or-set_same lists n l [] h
 
 -- a pair gets support
-pub near_added : (t : SupportTable) (cs ps cs2 ps2 : List (List ℕ)) (a b n : ℕ) → support_at t a b ≡ 0 → 0 < n → a < length cs → b < length ps
-    → cs2 ≡ slice_set cs a (list_at cs a ++ b ∷ []) → ps2 ≡ slice_set ps b (list_at ps b ++ a ∷ []) → AreNear t cs ps → AreNear (with_support t (a, b) n) cs2 ps2
-near_added t cs ps cs2 ps2 a b n none some in_cs in_ps ec ep near =
+pub neighbour_lists_added : (t : SupportTable) (cs ps cs2 ps2 : List (List ℕ)) (a b n : ℕ) → support_at t a b ≡ 0 → 0 < n → a < length cs → b < length ps
+    → cs2 ≡ slice_set cs a (list_at cs a ++ b ∷ []) → ps2 ≡ slice_set ps b (list_at ps b ++ a ∷ []) → AreNeighbourLists t cs ps → AreNeighbourLists (with_support t (a, b) n) cs2 ps2
+neighbour_lists_added t cs ps cs2 ps2 a b n none some in_cs in_ps ec ep neighbour_lists =
     let out : is_supported t a b ≡ false = ap (nat_lt 0) none in
     let yes : nat_lt 0 n ≡ true = grind (arith, nat_tests, some) in
-    near_written t cs ps cs2 ps2 a b n (λ x. other_list cs cs2 a x (list_at cs a ++ b ∷ []) ec) (λ y. other_list ps ps2 b y (list_at ps b ++ a ∷ []) ep)
+    neighbour_lists_written t cs ps cs2 ps2 a b n (λ x. other_list cs cs2 a x (list_at cs a ++ b ∷ []) ec) (λ y. other_list ps ps2 b y (list_at ps b ++ a ∷ []) ep)
     (subst (Lists (is_supported (with_support t (a, b) n) a)) (sym (own_list cs cs2 a (list_at cs a ++ b ∷ []) ec in_cs))
-    (lists_pushed (is_supported t a) (is_supported (with_support t (a, b) n) a) (list_at cs a) b (near.children_are a) out (here t a b n ∙ yes)
+    (lists_pushed (is_supported t a) (is_supported (with_support t (a, b) n) a) (list_at cs a) b (neighbour_lists.children_are a) out (here t a b n ∙ yes)
     (λ m d. others t a b n a m (apart_second a b a m d))))
     (subst (Lists (λ x. is_supported (with_support t (a, b) n) x b)) (sym (own_list ps ps2 b (list_at ps b ++ a ∷ []) ep in_ps))
-    (lists_pushed (λ x. is_supported t x b) (λ x. is_supported (with_support t (a, b) n) x b) (list_at ps b) a (near.parents_are b) out (here t a b n ∙ yes)
-    (λ m d. others t a b n m b (apart_first a b m b d)))) near
+    (lists_pushed (λ x. is_supported t x b) (λ x. is_supported (with_support t (a, b) n) x b) (list_at ps b) a (neighbour_lists.parents_are b) out (here t a b n ∙ yes)
+    (λ m d. others t a b n m b (apart_first a b m b d)))) neighbour_lists
 
 -- a pair loses its support
-pub near_taken : (t : SupportTable) (cs ps cs2 ps2 : List (List ℕ)) (a b n : ℕ) → n ≡ 0
+pub neighbour_lists_taken : (t : SupportTable) (cs ps cs2 ps2 : List (List ℕ)) (a b n : ℕ) → n ≡ 0
     → cs2 ≡ slice_set cs a (list_at cs2 a) → IsPermutation (list_at cs a) (b ∷ list_at cs2 a)
-    → ps2 ≡ slice_set ps b (list_at ps2 b) → IsPermutation (list_at ps b) (a ∷ list_at ps2 b) → AreNear t cs ps → AreNear (with_support t (a, b) n) cs2 ps2
-near_taken t cs ps cs2 ps2 a b n none ec tc ep tp near =
+    → ps2 ≡ slice_set ps b (list_at ps2 b) → IsPermutation (list_at ps b) (a ∷ list_at ps2 b) → AreNeighbourLists t cs ps → AreNeighbourLists (with_support t (a, b) n) cs2 ps2
+neighbour_lists_taken t cs ps cs2 ps2 a b n none ec tc ep tp neighbour_lists =
     let no : nat_lt 0 n ≡ false = grind (arith, nat_tests, none) in
-    near_written t cs ps cs2 ps2 a b n (λ x. other_list cs cs2 a x (list_at cs2 a) ec) (λ y. other_list ps ps2 b y (list_at ps2 b) ep)
-    (lists_taken (is_supported t a) (is_supported (with_support t (a, b) n) a) (list_at cs a) (list_at cs2 a) b (near.children_are a) tc (here t a b n ∙ no)
+    neighbour_lists_written t cs ps cs2 ps2 a b n (λ x. other_list cs cs2 a x (list_at cs2 a) ec) (λ y. other_list ps ps2 b y (list_at ps2 b) ep)
+    (lists_taken (is_supported t a) (is_supported (with_support t (a, b) n) a) (list_at cs a) (list_at cs2 a) b (neighbour_lists.children_are a) tc (here t a b n ∙ no)
     (λ m d. others t a b n a m (apart_second a b a m d)))
-    (lists_taken (λ x. is_supported t x b) (λ x. is_supported (with_support t (a, b) n) x b) (list_at ps b) (list_at ps2 b) a (near.parents_are b) tp (here t a b n ∙ no)
-    (λ m d. others t a b n m b (apart_first a b m b d))) near
+    (lists_taken (λ x. is_supported t x b) (λ x. is_supported (with_support t (a, b) n) x b) (list_at ps b) (list_at ps2 b) a (neighbour_lists.parents_are b) tp (here t a b n ∙ no)
+    (λ m d. others t a b n m b (apart_first a b m b d))) neighbour_lists
 
 -- so both are neighbours
-pub near_there : (t : SupportTable) (cs ps : List (List ℕ)) (a b : ℕ) → 0 < support_at t a b → AreNear t cs ps → (has (list_at cs a) b ≡ true) × (has (list_at ps b) a ≡ true)
-near_there t cs ps a b some near =
+pub neighbour_lists_there : (t : SupportTable) (cs ps : List (List ℕ)) (a b : ℕ) → 0 < support_at t a b → AreNeighbourLists t cs ps → (has (list_at cs a) b ≡ true) × (has (list_at ps b) a ≡ true)
+neighbour_lists_there t cs ps a b some neighbour_lists =
     let yes : is_supported t a b ≡ true = grind (arith, nat_tests, some) in
-    ((near.children_are a).members b ∙ yes, (near.parents_are b).members a ∙ yes)
+    ((neighbour_lists.children_are a).members b ∙ yes, (neighbour_lists.parents_are b).members a ∙ yes)

@@ -1,4 +1,4 @@
 pub mod Quotients
-pub mod Laws
-pub mod Joined
-pub mod Kept
+pub mod DigraphLaws
+pub mod QuotientNeighbours
+pub mod QuotientTables

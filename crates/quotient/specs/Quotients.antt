@@ -3,15 +3,15 @@
 use Rattle.std.specs.Prelude.{ℕ, ◌≡◌, ◌&&◌, Bool, List, [], Option, None, Some, is_some, cond, slice_set, nat_eq, nat_lt, refl, length}
 use Rattle.std.specs.Coded.{Coded, code_by, coded×, coded_ℕ, coded_list, coded_option}
 use Rattle.std.specs.FinMap as table
-use Rattle.px_spec.specs.Graphs.{Edges, edge_cmp}
-use Rattle.px_spec.specs.Members.{at}
-use Rattle.px_spec.specs.Shapes.{shape_by}
-use Rattle.block_partition.specs.Partitions.{Partition, put}
+use Rattle.graph_spec.specs.Graphs.{Edges, edge_cmp}
+use Rattle.graph_spec.specs.Members.{at}
+use Rattle.graph_spec.specs.Shapes.{shape_by}
+use Rattle.block_partition.specs.LabelledPartitions.{Partition, put}
 use Rattle.bisim_spec.specs.Supports.{edges_between}
-use Rattle.bisim_spec.specs.Views.{View, SupportTable, support_at, shape_of_view}
+use Rattle.bisim_spec.specs.IndexGraphs.{View, SupportTable, support_at, shape_of_view}
 
--- what there is room for
-pub record PairRoom : Type 0 where
+-- what is reserved
+pub record ReservedPairs : Type 0 where
   -- blocks with numbers below this one
   pub span : ℕ
   -- that many more pairs with support
@@ -23,10 +23,10 @@ pub record PairRoom : Type 0 where
 pub record Quotient : Type 0 where
   pub blocks : Partition
   pub supports : SupportTable
-  pub room : PairRoom
+  pub reserved : ReservedPairs
 
-abbrev pub no_pair_room : PairRoom
-no_pair_room = record { span = 0; pairs = 0; children = []; parents = [] }
+abbrev pub no_reserved_pairs : ReservedPairs
+no_reserved_pairs = record { span = 0; pairs = 0; children = []; parents = [] }
 
 -- a quotient is stored as its parts
 abbrev pub quotient_code : Coded Quotient
@@ -34,15 +34,15 @@ quotient_code =
     code_by ((List (Option ℕ) × (List (Option ℕ) × (ℕ × ℕ))) × (SupportTable × ((ℕ × ℕ) × (List ℕ × List ℕ))))
     (coded× (coded× (coded_list (coded_option coded_ℕ)) (coded× (coded_list (coded_option coded_ℕ)) (coded× coded_ℕ coded_ℕ)))
     (coded× (table.code {R = edge_cmp} (coded× coded_ℕ coded_ℕ) coded_ℕ) (coded× (coded× coded_ℕ coded_ℕ) (coded× (coded_list coded_ℕ) (coded_list coded_ℕ)))))
-    (λ q. ((q.blocks.block_of, (q.blocks.labels, (q.blocks.room.nodes, q.blocks.room.blocks))), (q.supports, ((q.room.span, q.room.pairs), (q.room.children, q.room.parents)))))
+    (λ q. ((q.blocks.block_of, (q.blocks.labels, (q.blocks.reserved.nodes, q.blocks.reserved.blocks))), (q.supports, ((q.reserved.span, q.reserved.pairs), (q.reserved.children, q.reserved.parents)))))
     (λ p. record {
-      blocks = record { block_of = p.0.0; labels = p.0.1.0; room = record { nodes = p.0.1.1.0; blocks = p.0.1.1.1 } };
+      blocks = record { block_of = p.0.0; labels = p.0.1.0; reserved = record { nodes = p.0.1.1.0; blocks = p.0.1.1.1 } };
       supports = p.1.0;
-      room = record { span = p.1.1.0.0; pairs = p.1.1.0.1; children = p.1.1.1.0; parents = p.1.1.1.1 };
+      reserved = record { span = p.1.1.0.0; pairs = p.1.1.0.1; children = p.1.1.1.0; parents = p.1.1.1.1 };
     })
     (λ _. refl)
 
--- the quotient without the room in its tables
+-- the quotient without the reserved capacity of its tables
 abbrev pub view_of : Quotient → View
 view_of q = record { block_of = q.blocks.block_of; labels = q.blocks.labels; supports = q.supports }
 
@@ -55,12 +55,12 @@ abbrev pub pair_count : SupportTable → ℕ
 pair_count supports = table.len (table.retain_keys supports (λ p. nat_lt 0 (support_at supports p.0 p.1)))
 
 -- whether an edge of the index graph leads from a to b: both are blocks, and they have support
-abbrev pub is_joined : Quotient → ℕ → ℕ → Bool
-is_joined q a b = nat_lt 0 (support_at q.supports a b) && (is_some (at q.blocks.labels a) && is_some (at q.blocks.labels b))
+abbrev pub is_adjacent : Quotient → ℕ → ℕ → Bool
+is_adjacent q a b = nat_lt 0 (support_at q.supports a b) && (is_some (at q.blocks.labels a) && is_some (at q.blocks.labels b))
 
 -- whatever the texts of the labels: as a graph, the quotient has the shape of its view
 abbrev pub HasShapeOfView : Quotient → Type 0
-HasShapeOfView q = (texts : List (List ℕ)) → shape_by texts (length q.blocks.labels) (at q.blocks.labels) (is_joined q) ≡ shape_of_view texts (view_of q)
+HasShapeOfView q = (texts : List (List ℕ)) → shape_by texts (length q.blocks.labels) (at q.blocks.labels) (is_adjacent q) ≡ shape_of_view texts (view_of q)
 
 -- the supports, with this one for the pair; a pair without support isn't in the table
 abbrev pub with_support : SupportTable → ℕ × ℕ → ℕ → SupportTable

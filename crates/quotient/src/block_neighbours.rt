@@ -2,9 +2,9 @@
 ghost use Rattle.std.specs.Prelude.{◌≡◌, ◌++◌, ◌∷◌, ◌<◌, ◌≤◌, [], ℕ, false, Some, IsTrue, IfOk, OnOk, OnErr, IfSome, IfNone, length, max, slice_set, slice_index, slice_get, nat_eq, position};
 ghost use Rattle.std.proofs.Math.ListN.{replicate};
 ghost use Rattle.std.specs.List.Sorted.{IsPermutation};
-ghost use Rattle.px_spec.specs.Members.{has};
-ghost use Rattle.quotient.specs.Joined.{list_at};
-ghost use Rattle.quotient.specs.Kept.{UsesOne, GivesMore};
+ghost use Rattle.graph_spec.specs.Members.{has};
+ghost use Rattle.quotient.specs.QuotientNeighbours.{list_at};
+ghost use Rattle.quotient.specs.QuotientTables.{UsesOne, GivesMore};
 
 use px_base::Memory;
 use smallvec::SmallVec;
@@ -20,11 +20,11 @@ pub(crate) struct BlockNeighbours {
 impl Model for BlockNeighbours {
     ghost use Rattle.std.specs.Prelude.{◌-◌, map};
     ghost use Rattle.smallvec.specs.SmallVec.{small_vec_len};
-    ghost use Rattle.quotient.specs.Kept.{KeptLists};
+    ghost use Rattle.quotient.specs.QuotientTables.{KeptLists};
 
     ghost Value = { KeptLists };
 
-    ghost view = { λ n. record { lists = map (λ list. list.items) n.lists.items; room = map (λ list. list.capacity - small_vec_len list) n.lists.items } };
+    ghost view = { λ n. record { lists = map (λ list. list.items) n.lists.items; reserved = map (λ list. list.capacity - small_vec_len list) n.lists.items } };
 }
 
 impl BlockNeighbours {
@@ -69,7 +69,7 @@ impl BlockNeighbours {
         ensures len { length self.old.lists ≤ length self.new.lists }
         ensures most { length self.new.lists ≤ max len (length self.old.lists) }
         ensures ok { OnOk result (len ≤ length self.new.lists) }
-        ensures room { GivesMore self.old.room self.new.room }
+        ensures reserved { GivesMore self.old.reserved self.new.reserved }
     {
         while self.lists.len() < len {
             self.push_empty()?;
@@ -79,7 +79,7 @@ impl BlockNeighbours {
 
     fn push_empty(&mut self) -> Result<(), Memory>
         ensures lists { OnOk result (self.new.lists ≡ self.old.lists ++ [] ∷ []) }
-        ensures room { OnOk result (GivesMore self.old.room self.new.room) }
+        ensures reserved { OnOk result (GivesMore self.old.reserved self.new.reserved) }
         ensures err { OnErr result (self.new ≡ self.old) }
     {
         let list = SmallVec::new(*self.lists.allocator());
@@ -87,23 +87,23 @@ impl BlockNeighbours {
         Ok(())
     }
 
-    /// Makes room for that many further neighbours in the list with this number.
+    /// Reserves capacity for that many further neighbours in the list with this number.
     pub(crate) fn reserve(&mut self, n: u32, more: usize) -> Result<(), Memory>
         requires { n < length self.old.lists }
         ensures lists { self.new.lists ≡ self.old.lists }
-        ensures room { GivesMore self.old.room self.new.room }
-        ensures ok { OnOk result (more ≤ slice_index self.new.room n) }
+        ensures reserved { GivesMore self.old.reserved self.new.reserved }
+        ensures ok { OnOk result (more ≤ slice_index self.new.reserved n) }
     {
         self.lists[n as usize].reserve(more)?;
         Ok(())
     }
 
-    /// Puts a neighbour behind the list with this number, by the room of one. It takes no memory.
+    /// Puts a neighbour behind the list with this number, from the capacity reserved for one. It takes no memory.
     pub(crate) fn add(&mut self, n: u32, b: u32)
         requires within { n < length self.old.lists }
-        requires room { 0 < slice_index self.old.room n }
+        requires reserved { 0 < slice_index self.old.reserved n }
         ensures lists { self.new.lists ≡ slice_set self.old.lists n (list_at self.old.lists n ++ b ∷ []) }
-        ensures room { UsesOne n self.old.room self.new.room }
+        ensures reserved { UsesOne n self.old.reserved self.new.reserved }
     {
         self.lists[n as usize].push_reserved(b);
     }
@@ -116,7 +116,7 @@ impl BlockNeighbours {
         requires member { IsTrue (has (list_at self.old.lists n) b) }
         ensures lists { self.new.lists ≡ slice_set self.old.lists n (list_at self.new.lists n) }
         ensures taken { IsPermutation (list_at self.old.lists n) (b ∷ list_at self.new.lists n) }
-        ensures room { UsesOne n self.old.room self.new.room }
+        ensures reserved { UsesOne n self.old.reserved self.new.reserved }
     {
         let Some(i) = find_in(self.get(n), b, place as usize) else {
             unreachable!()

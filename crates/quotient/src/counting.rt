@@ -1,9 +1,9 @@
 // Counting edges between the blocks of their ends.
 ghost use Rattle.std.specs.Prelude.{◌≡◌, ◌-◌, ◌<◌, ◌≤◌, ◌^◌, ◌&&◌, ℕ, IfOk, IfSome, OnOk, length, nat_eq};
-ghost use Rattle.px_spec.specs.Members.{is_this};
+ghost use Rattle.graph_spec.specs.Members.{is_this};
 ghost use Rattle.bisim_spec.specs.Supports.{joins, support};
-ghost use Rattle.bisim_spec.specs.Views.{support_at};
-ghost use Rattle.quotient.specs.Joined.{AreNear, AreLive, AreBelow, AreFew, AddsPairIf, CountsPairs, SameTotals, support_with};
+ghost use Rattle.bisim_spec.specs.IndexGraphs.{support_at};
+ghost use Rattle.quotient.specs.QuotientNeighbours.{AreNeighbourLists, AreLive, AreBelow, AreFew, AddsPairIf, CountsPairs, SameTotals, support_with};
 
 use crate::joins::Joins;
 use block_partition::Blocks;
@@ -53,10 +53,10 @@ fn gather_edge(
 fn count_pairs(joins: &mut Joins, pairs: &[(u32, u32)]) -> Result<(), Memory>
     requires few { (x y : ℕ) → support_with joins.old.supports.pairs pairs.now x y ≤ 2 ^ 30 }
     requires below { AreBelow (length joins.old.children.lists) pairs.now }
-    requires near { AreNear joins.old.supports.pairs joins.old.children.lists joins.old.parents.lists }
+    requires neighbour_lists { AreNeighbourLists joins.old.supports.pairs joins.old.children.lists joins.old.parents.lists }
     requires lengths { length joins.old.parents.lists ≡ length joins.old.children.lists }
     ensures supports { OnOk result (CountsPairs pairs.now joins.old.supports.pairs joins.new.supports.pairs) }
-    ensures near { OnOk result (AreNear joins.new.supports.pairs joins.new.children.lists joins.new.parents.lists) }
+    ensures neighbour_lists { OnOk result (AreNeighbourLists joins.new.supports.pairs joins.new.children.lists joins.new.parents.lists) }
     ensures children { OnOk result (length joins.new.children.lists ≡ length joins.old.children.lists) }
     ensures parents { OnOk result (length joins.new.parents.lists ≡ length joins.old.parents.lists) }
 {
@@ -71,11 +71,11 @@ fn count_pairs(joins: &mut Joins, pairs: &[(u32, u32)]) -> Result<(), Memory>
 fn count_batch(joins: &mut Joins, pairs: &mut Vec<(u32, u32)>) -> Result<(), Memory>
     requires few { (x y : ℕ) → support_with joins.old.supports.pairs pairs.old.items x y ≤ 2 ^ 30 }
     requires below { AreBelow (length joins.old.children.lists) pairs.old.items }
-    requires near { AreNear joins.old.supports.pairs joins.old.children.lists joins.old.parents.lists }
+    requires neighbour_lists { AreNeighbourLists joins.old.supports.pairs joins.old.children.lists joins.old.parents.lists }
     requires lengths { length joins.old.parents.lists ≡ length joins.old.children.lists }
     ensures supports { OnOk result (SameTotals joins.old.supports.pairs pairs.old.items joins.new.supports.pairs pairs.new.items) }
     ensures below { OnOk result (AreBelow (length joins.new.children.lists) pairs.new.items) }
-    ensures near { OnOk result (AreNear joins.new.supports.pairs joins.new.children.lists joins.new.parents.lists) }
+    ensures neighbour_lists { OnOk result (AreNeighbourLists joins.new.supports.pairs joins.new.children.lists joins.new.parents.lists) }
     ensures children { OnOk result (length joins.new.children.lists ≡ length joins.old.children.lists) }
     ensures parents { OnOk result (length joins.new.parents.lists ≡ length joins.old.parents.lists) }
 {
@@ -98,7 +98,7 @@ pub(crate) fn count_edges(
     requires few { AreFew edges.now }
     ensures supports { IfOk result (λ j. (a b : ℕ) → support_at j.supports.pairs a b ≡ support edges.now blocks.now.block_of a b) }
     ensures live { IfOk result (λ j. AreLive blocks.now j.supports.pairs) }
-    ensures near { IfOk result (λ j. AreNear j.supports.pairs j.children.lists j.parents.lists) }
+    ensures neighbour_lists { IfOk result (λ j. AreNeighbourLists j.supports.pairs j.children.lists j.parents.lists) }
     ensures children { IfOk result (λ j. length j.children.lists ≡ length blocks.now.labels) }
     ensures parents { IfOk result (λ j. length j.parents.lists ≡ length blocks.now.labels) }
 {

@@ -1,8 +1,8 @@
 // The edges of a graph, in a list.
 ghost use Rattle.std.specs.Prelude.{◌≡◌, ◌++◌, suc, IfOk, OnOk};
-ghost use Rattle.px_spec.specs.Graphs.{IsGraph};
+ghost use Rattle.graph_spec.specs.Graphs.{IsGraph};
 ghost use Rattle.bisim_spec.specs.NodeEdges.{edges_from};
-ghost use Rattle.quotient.specs.Joined.{AreListed, AreListedBelow, AreFew};
+ghost use Rattle.quotient.specs.QuotientNeighbours.{AreListed, AreListedBelow, AreFew};
 
 use label_graph::{Digraph, GraphView};
 use px_base::{Memory, NodeId};
@@ -29,7 +29,7 @@ impl Model for EdgeList {
 
     ghost Value = { List (ℕ × ℕ) };
 
-    ghost use Rattle.quotient.specs.Joined.{AreFew};
+    ghost use Rattle.quotient.specs.QuotientNeighbours.{AreFew};
 
     ghost view = { λ e. e.edges.items };
 

@@ -1,10 +1,10 @@
 // Changing a quotient piece by piece. Room is made first; the changes then take no memory.
 ghost use Rattle.std.specs.Prelude.{◌≡◌, ◌≢◌, ◌+◌, ◌<◌, ◌≤◌, ◌^◌, ℕ, Some, IsSome, OnOk, IfSome, None, length, slice_index, nat_eq, max};
-ghost use Rattle.px_spec.specs.Members.{at};
-ghost use Rattle.block_partition.specs.Partitions.{IsBlock, IsLeastFree, block_count, with_block, without_block};
-ghost use Rattle.bisim_spec.specs.Views.{support_at};
+ghost use Rattle.graph_spec.specs.Members.{at};
+ghost use Rattle.block_partition.specs.LabelledPartitions.{IsBlock, IsLeastFree, block_count, with_block, without_block};
+ghost use Rattle.bisim_spec.specs.IndexGraphs.{support_at};
 ghost use Rattle.quotient.specs.Quotients.{view_of, with_put, with_support};
-ghost use Rattle.quotient.specs.Kept.{UsesOne, GivesMore};
+ghost use Rattle.quotient.specs.QuotientTables.{UsesOne, GivesMore};
 
 use crate::summary::Summary;
 use block_partition::Blocks;
@@ -12,65 +12,65 @@ use px_base::{Memory, NodeId};
 
 // Room.
 impl Summary {
-    /// Makes room for that many further numbers of nodes past the end of the list and for that many further
-    /// blocks, in place of the room that there was, and for that many further pairs with support. It leaves
+    /// Reserves capacity for that many further numbers of nodes past the end of the list and for that many further
+    /// blocks, instead of what was reserved, and for that many further pairs with support. It leaves
     /// the quotient as it is seen. O(`blocks`), and linear in all node numbers, block numbers and pairs where a
     /// table moves; it takes 12 bytes a number, little more than 24 a block, and what a pair takes.
     pub fn reserve(&mut self, nodes: u32, blocks: u32, pairs: usize) -> Result<(), Memory>
         requires nodes { length self.old.blocks.block_of + nodes ≤ 2 ^ 31 }
         requires blocks { block_count self.old.blocks + blocks ≤ 2 ^ 31 }
         ensures same { view_of self.new ≡ view_of self.old }
-        ensures nodes { OnOk result (self.new.blocks.room.nodes ≡ nodes) }
-        ensures blocks { OnOk result (self.new.blocks.room.blocks ≡ blocks) }
-        ensures pairs { OnOk result (pairs ≤ self.new.room.pairs) }
-        ensures span { self.new.room.span ≡ self.old.room.span }
-        ensures children { self.new.room.children ≡ self.old.room.children }
-        ensures parents { self.new.room.parents ≡ self.old.room.parents }
+        ensures nodes { OnOk result (self.new.blocks.reserved.nodes ≡ nodes) }
+        ensures blocks { OnOk result (self.new.blocks.reserved.blocks ≡ blocks) }
+        ensures pairs { OnOk result (pairs ≤ self.new.reserved.pairs) }
+        ensures span { self.new.reserved.span ≡ self.old.reserved.span }
+        ensures children { self.new.reserved.children ≡ self.old.reserved.children }
+        ensures parents { self.new.reserved.parents ≡ self.old.reserved.parents }
     {
         self.joins.supports.reserve(pairs)?;
         self.blocks.reserve(nodes, blocks)?;
         Ok(())
     }
 
-    /// Makes room for blocks with numbers below this one. It leaves the quotient as it is seen. O(g) for g
+    /// Reserves capacity for blocks with numbers below this one. It leaves the quotient as it is seen. O(g) for g
     /// numbers that come, and linear in all where a table moves; it takes two short lists a number.
     pub fn reserve_span(&mut self, span: u32) -> Result<(), Memory>
         ensures same { view_of self.new ≡ view_of self.old }
-        ensures blocks { self.new.blocks.room ≡ self.old.blocks.room }
-        ensures pairs { self.new.room.pairs ≡ self.old.room.pairs }
-        ensures span { OnOk result (span ≤ self.new.room.span) }
-        ensures labels { length self.new.blocks.labels ≤ self.new.room.span }
+        ensures blocks { self.new.blocks.reserved ≡ self.old.blocks.reserved }
+        ensures pairs { self.new.reserved.pairs ≡ self.old.reserved.pairs }
+        ensures span { OnOk result (span ≤ self.new.reserved.span) }
+        ensures labels { length self.new.blocks.labels ≤ self.new.reserved.span }
     {
         self.joins.grow(span as usize)?;
         Ok(())
     }
 
-    /// Makes room for that many further children of a block. It leaves the quotient as it is seen. O(1), and O(c)
+    /// Reserves capacity for that many further children of a block. It leaves the quotient as it is seen. O(1), and O(c)
     /// for c children where their list moves; it takes 4 bytes a child.
     pub fn reserve_children(&mut self, b: u32, more: usize) -> Result<(), Memory>
-        requires within { b < self.old.room.span }
+        requires within { b < self.old.reserved.span }
         ensures same { view_of self.new ≡ view_of self.old }
-        ensures blocks { self.new.blocks.room ≡ self.old.blocks.room }
-        ensures pairs { self.new.room.pairs ≡ self.old.room.pairs }
-        ensures span { self.new.room.span ≡ self.old.room.span }
-        ensures children { GivesMore self.old.room.children self.new.room.children }
-        ensures parents { self.new.room.parents ≡ self.old.room.parents }
-        ensures ok { OnOk result (more ≤ slice_index self.new.room.children b) }
+        ensures blocks { self.new.blocks.reserved ≡ self.old.blocks.reserved }
+        ensures pairs { self.new.reserved.pairs ≡ self.old.reserved.pairs }
+        ensures span { self.new.reserved.span ≡ self.old.reserved.span }
+        ensures children { GivesMore self.old.reserved.children self.new.reserved.children }
+        ensures parents { self.new.reserved.parents ≡ self.old.reserved.parents }
+        ensures ok { OnOk result (more ≤ slice_index self.new.reserved.children b) }
     {
         self.joins.children.reserve(b, more)
     }
 
-    /// Makes room for that many further parents of a block. It leaves the quotient as it is seen. O(1), and O(p)
+    /// Reserves capacity for that many further parents of a block. It leaves the quotient as it is seen. O(1), and O(p)
     /// for p parents where their list moves; it takes 4 bytes a parent.
     pub fn reserve_parents(&mut self, b: u32, more: usize) -> Result<(), Memory>
-        requires within { b < self.old.room.span }
+        requires within { b < self.old.reserved.span }
         ensures same { view_of self.new ≡ view_of self.old }
-        ensures blocks { self.new.blocks.room ≡ self.old.blocks.room }
-        ensures pairs { self.new.room.pairs ≡ self.old.room.pairs }
-        ensures span { self.new.room.span ≡ self.old.room.span }
-        ensures children { self.new.room.children ≡ self.old.room.children }
-        ensures parents { GivesMore self.old.room.parents self.new.room.parents }
-        ensures ok { OnOk result (more ≤ slice_index self.new.room.parents b) }
+        ensures blocks { self.new.blocks.reserved ≡ self.old.blocks.reserved }
+        ensures pairs { self.new.reserved.pairs ≡ self.old.reserved.pairs }
+        ensures span { self.new.reserved.span ≡ self.old.reserved.span }
+        ensures children { self.new.reserved.children ≡ self.old.reserved.children }
+        ensures parents { GivesMore self.old.reserved.parents self.new.reserved.parents }
+        ensures ok { OnOk result (more ≤ slice_index self.new.reserved.parents b) }
     {
         self.joins.parents.reserve(b, more)
     }
@@ -78,28 +78,28 @@ impl Summary {
 
 // Changes.
 impl Summary {
-    /// Makes a block without members, by the room of one, and gives its number, the least that isn't a block.
+    /// Makes a block without members, from the capacity reserved for one, and gives its number, the least that isn't a block.
     /// O(1), no memory.
     pub fn new_block(&mut self, label: u32) -> u32
-        requires room { 0 < self.old.blocks.room.blocks }
-        requires span { (b : ℕ) → IsLeastFree self.old.blocks.labels b → b < self.old.room.span }
+        requires reserved { 0 < self.old.blocks.reserved.blocks }
+        requires span { (b : ℕ) → IsLeastFree self.old.blocks.labels b → b < self.old.reserved.span }
         ensures least { IsLeastFree self.old.blocks.labels result }
         ensures added { self.new ≡ record self.old { blocks = with_block self.old.blocks result label } }
     {
         self.blocks.new_block(label)
     }
 
-    /// Puts a node into a block, or takes it out of its block. A node past the end of the list takes room for
+    /// Puts a node into a block, or takes it out of its block. A node past the end of the list takes reserved capacity for
     /// numbers. O(1), and O(g) where the list grows by g numbers; no memory.
     pub fn put(&mut self, n: NodeId, b: Option<u32>)
         requires block { IfSome b (IsBlock self.old.blocks) }
-        requires within { IsSome b → n < length self.old.blocks.block_of + self.old.blocks.room.nodes }
+        requires within { IsSome b → n < length self.old.blocks.block_of + self.old.blocks.reserved.nodes }
         ensures blocks { self.new.blocks.block_of ≡ with_put self.old.blocks.block_of n b }
         ensures labels { self.new.blocks.labels ≡ self.old.blocks.labels }
-        ensures nodes { length self.new.blocks.block_of + self.new.blocks.room.nodes ≡ length self.old.blocks.block_of + self.old.blocks.room.nodes }
-        ensures room { self.new.blocks.room.blocks ≡ self.old.blocks.room.blocks }
+        ensures nodes { length self.new.blocks.block_of + self.new.blocks.reserved.nodes ≡ length self.old.blocks.block_of + self.old.blocks.reserved.nodes }
+        ensures reserved { self.new.blocks.reserved.blocks ≡ self.old.blocks.reserved.blocks }
         ensures supports { self.new.supports ≡ self.old.supports }
-        ensures pairs { self.new.room ≡ self.old.room }
+        ensures pairs { self.new.reserved ≡ self.old.reserved }
     {
         match b {
             Some(b) => put_in(&mut self.blocks, n, b),
@@ -107,20 +107,20 @@ impl Summary {
         }
     }
 
-    /// Writes the support of a pair of blocks, by the room of one pair, one child and one parent.
+    /// Writes the support of a pair of blocks, from the capacity reserved for one pair, one child and one parent.
     /// Expected O(1), no memory.
     pub fn set_support(&mut self, a: u32, b: u32, n: u32)
         requires from { IsBlock self.old.blocks a }
         requires onto { IsBlock self.old.blocks b }
-        requires pairs { 0 < self.old.room.pairs }
-        requires children { 0 < slice_index self.old.room.children a }
-        requires parents { 0 < slice_index self.old.room.parents b }
+        requires pairs { 0 < self.old.reserved.pairs }
+        requires children { 0 < slice_index self.old.reserved.children a }
+        requires parents { 0 < slice_index self.old.reserved.parents b }
         ensures blocks { self.new.blocks ≡ self.old.blocks }
         ensures supports { self.new.supports ≡ with_support self.old.supports (a, b) n }
-        ensures span { self.new.room.span ≡ self.old.room.span }
-        ensures pairs { self.old.room.pairs ≤ self.new.room.pairs + 1 }
-        ensures children { UsesOne a self.old.room.children self.new.room.children }
-        ensures parents { UsesOne b self.old.room.parents self.new.room.parents }
+        ensures span { self.new.reserved.span ≡ self.old.reserved.span }
+        ensures pairs { self.old.reserved.pairs ≤ self.new.reserved.pairs + 1 }
+        ensures children { UsesOne a self.old.reserved.children self.new.reserved.children }
+        ensures parents { UsesOne b self.old.reserved.parents self.new.reserved.parents }
     {
         self.joins.set(a, b, n);
     }
@@ -140,11 +140,11 @@ impl Summary {
 // Puts a node into a block.
 fn put_in(blocks: &mut Blocks, n: NodeId, b: u32)
     requires block { IsBlock blocks.old b }
-    requires within { n < length blocks.old.block_of + blocks.old.room.nodes }
+    requires within { n < length blocks.old.block_of + blocks.old.reserved.nodes }
     ensures put { blocks.new.block_of ≡ with_put blocks.old.block_of n (Some b) }
     ensures labels { blocks.new.labels ≡ blocks.old.labels }
-    ensures nodes { length blocks.new.block_of + blocks.new.room.nodes ≡ length blocks.old.block_of + blocks.old.room.nodes }
-    ensures room { blocks.new.room.blocks ≡ blocks.old.room.blocks }
+    ensures nodes { length blocks.new.block_of + blocks.new.reserved.nodes ≡ length blocks.old.block_of + blocks.old.reserved.nodes }
+    ensures reserved { blocks.new.reserved.blocks ≡ blocks.old.reserved.blocks }
 {
     if blocks.block_of(n).is_some() {
         blocks.move_node(n, b);
@@ -157,8 +157,8 @@ fn put_in(blocks: &mut Blocks, n: NodeId, b: u32)
 fn put_out(blocks: &mut Blocks, n: NodeId)
     ensures put { blocks.new.block_of ≡ with_put blocks.old.block_of n None }
     ensures labels { blocks.new.labels ≡ blocks.old.labels }
-    ensures nodes { length blocks.new.block_of + blocks.new.room.nodes ≡ length blocks.old.block_of + blocks.old.room.nodes }
-    ensures room { blocks.new.room.blocks ≡ blocks.old.room.blocks }
+    ensures nodes { length blocks.new.block_of + blocks.new.reserved.nodes ≡ length blocks.old.block_of + blocks.old.reserved.nodes }
+    ensures reserved { blocks.new.reserved.blocks ≡ blocks.old.reserved.blocks }
 {
     if blocks.block_of(n).is_some() {
         blocks.take_out(n);

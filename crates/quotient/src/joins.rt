@@ -1,9 +1,9 @@
 // Edges between blocks: how many there are, and which blocks they join.
 ghost use Rattle.std.specs.Prelude.{◌≡◌, ◌-◌, ◌<◌, ◌≤◌, ◌^◌, ℕ, IfOk, OnOk, length, slice_index};
 ghost use Rattle.std.specs.FinMap as table;
-ghost use Rattle.bisim_spec.specs.Views.{support_at};
-ghost use Rattle.quotient.specs.Joined.{AreNear, list_at, RaisesPair};
-ghost use Rattle.quotient.specs.Kept.{IsWritten};
+ghost use Rattle.bisim_spec.specs.IndexGraphs.{support_at};
+ghost use Rattle.quotient.specs.QuotientNeighbours.{AreNeighbourLists, list_at, RaisesPair};
+ghost use Rattle.quotient.specs.QuotientTables.{IsWritten};
 
 use crate::block_neighbours::BlockNeighbours;
 use crate::places::Place;
@@ -20,15 +20,15 @@ pub(crate) struct Joins {
 }
 
 impl Joins {
-    /// No edges, between that many blocks, and room for that many pairs.
+    /// No edges, between that many blocks, and capacity for that many pairs.
     pub(crate) fn new(alloc: Global, blocks: usize, pairs: usize) -> Result<Joins, Memory>
         ensures supports { IfOk result (λ j. j.supports.pairs ≡ table.empty) }
-        ensures near { IfOk result (λ j. AreNear j.supports.pairs j.children.lists j.parents.lists) }
+        ensures neighbour_lists { IfOk result (λ j. AreNeighbourLists j.supports.pairs j.children.lists j.parents.lists) }
         ensures children { IfOk result (λ j. length j.children.lists ≡ blocks) }
         ensures parents { IfOk result (λ j. length j.parents.lists ≡ blocks) }
     {
         Ok(Joins {
-            supports: Supports::with_room(alloc, pairs)?,
+            supports: Supports::with_reserved(alloc, pairs)?,
             children: BlockNeighbours::new(alloc, blocks)?,
             parents: BlockNeighbours::new(alloc, blocks)?,
         })
@@ -40,9 +40,9 @@ impl Joins {
         requires from { a < length self.old.children.lists }
         requires onto { b < length self.old.parents.lists }
         requires few { support_at self.old.supports.pairs a b < 2 ^ 32 - 1 }
-        requires near { AreNear self.old.supports.pairs self.old.children.lists self.old.parents.lists }
+        requires neighbour_lists { AreNeighbourLists self.old.supports.pairs self.old.children.lists self.old.parents.lists }
         ensures supports { OnOk result (RaisesPair a b (support_at self.old.supports.pairs) (support_at self.new.supports.pairs)) }
-        ensures near { OnOk result (AreNear self.new.supports.pairs self.new.children.lists self.new.parents.lists) }
+        ensures neighbour_lists { OnOk result (AreNeighbourLists self.new.supports.pairs self.new.children.lists self.new.parents.lists) }
         ensures children { OnOk result (length self.new.children.lists ≡ length self.old.children.lists) }
         ensures parents { OnOk result (length self.new.parents.lists ≡ length self.old.parents.lists) }
     {
@@ -70,14 +70,14 @@ impl Joins {
         Ok(())
     }
 
-    /// Writes the support of a pair of blocks, for which there is room. O(1), but for hashing; it takes no memory.
+    /// Writes the support of a pair of blocks, for which capacity is reserved. O(1), but for hashing; it takes no memory.
     pub(crate) fn set(&mut self, a: u32, b: u32, n: u32)
         requires from { a < length self.old.children.lists }
         requires onto { b < length self.old.parents.lists }
-        requires pairs { 0 < self.old.supports.room }
-        requires children { 0 < slice_index self.old.children.room a }
-        requires parents { 0 < slice_index self.old.parents.room b }
-        requires near { AreNear self.old.supports.pairs self.old.children.lists self.old.parents.lists }
+        requires pairs { 0 < self.old.supports.reserved }
+        requires children { 0 < slice_index self.old.children.reserved a }
+        requires parents { 0 < slice_index self.old.parents.reserved b }
+        requires neighbour_lists { AreNeighbourLists self.old.supports.pairs self.old.children.lists self.old.parents.lists }
         ensures { IsWritten a b n self.old.supports self.new.supports self.old.children self.new.children self.old.parents self.new.parents }
     {
         if self.supports.get(a, b) == 0 {
@@ -91,10 +91,10 @@ impl Joins {
     fn set_first(&mut self, a: u32, b: u32, n: u32)
         requires from { a < length self.old.children.lists }
         requires onto { b < length self.old.parents.lists }
-        requires pairs { 0 < self.old.supports.room }
-        requires children { 0 < slice_index self.old.children.room a }
-        requires parents { 0 < slice_index self.old.parents.room b }
-        requires near { AreNear self.old.supports.pairs self.old.children.lists self.old.parents.lists }
+        requires pairs { 0 < self.old.supports.reserved }
+        requires children { 0 < slice_index self.old.children.reserved a }
+        requires parents { 0 < slice_index self.old.parents.reserved b }
+        requires neighbour_lists { AreNeighbourLists self.old.supports.pairs self.old.children.lists self.old.parents.lists }
         requires none { support_at self.old.supports.pairs a b ≡ 0 }
         ensures { IsWritten a b n self.old.supports self.new.supports self.old.children self.new.children self.old.parents self.new.parents }
     {
@@ -111,8 +111,8 @@ impl Joins {
     fn set_more(&mut self, a: u32, b: u32, n: u32)
         requires from { a < length self.old.children.lists }
         requires onto { b < length self.old.parents.lists }
-        requires pairs { 0 < self.old.supports.room }
-        requires near { AreNear self.old.supports.pairs self.old.children.lists self.old.parents.lists }
+        requires pairs { 0 < self.old.supports.reserved }
+        requires neighbour_lists { AreNeighbourLists self.old.supports.pairs self.old.children.lists self.old.parents.lists }
         requires some { 0 < support_at self.old.supports.pairs a b }
         ensures { IsWritten a b n self.old.supports self.new.supports self.old.children self.new.children self.old.parents self.new.parents }
     {
@@ -128,7 +128,7 @@ impl Joins {
     fn part(&mut self, a: u32, b: u32)
         requires from { a < length self.old.children.lists }
         requires onto { b < length self.old.parents.lists }
-        requires near { AreNear self.old.supports.pairs self.old.children.lists self.old.parents.lists }
+        requires neighbour_lists { AreNeighbourLists self.old.supports.pairs self.old.children.lists self.old.parents.lists }
         requires some { 0 < support_at self.old.supports.pairs a b }
         ensures { IsWritten a b 0 self.old.supports self.new.supports self.old.children self.new.children self.old.parents self.new.parents }
     {

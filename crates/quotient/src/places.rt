@@ -38,7 +38,7 @@ impl Places {
         }
     }
 
-    /// Makes room for that many further pairs.
+    /// Reserves capacity for that many further pairs.
     pub(crate) fn reserve(&mut self, more: usize) -> Result<(), Memory> {
         self.list.reserve(more)?;
         Ok(())
@@ -50,7 +50,7 @@ impl Places {
         Ok(())
     }
 
-    /// Notes the place of a further pair, if there is room for it. It takes no memory.
+    /// Notes the place of a further pair, if capacity is reserved for it. It takes no memory.
     pub(crate) fn add(&mut self, place: Place) {
         if self.list.len() < self.list.capacity() {
             self.list.push_reserved(place);

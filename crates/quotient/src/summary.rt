@@ -1,10 +1,10 @@
 // The index graph of a partition.
 ghost use Rattle.std.specs.Prelude.{◌≡◌, ◌<◌, ◌≤◌, ◌^◌, ℕ, Some, None, true, is_some, IsSome, IfOk, IfSome, length};
-ghost use Rattle.px_spec.specs.Members.{Lists, at};
-ghost use Rattle.block_partition.specs.Partitions.{is_member, member_count, block_count};
+ghost use Rattle.graph_spec.specs.Members.{Lists, at};
+ghost use Rattle.block_partition.specs.LabelledPartitions.{is_member, member_count, block_count};
 ghost use Rattle.bisim_spec.specs.Supports.{support};
-ghost use Rattle.bisim_spec.specs.Views.{support_at};
-ghost use Rattle.quotient.specs.Quotients.{AreSupports, pair_count, is_joined, HasShapeOfView};
+ghost use Rattle.bisim_spec.specs.IndexGraphs.{support_at};
+ghost use Rattle.quotient.specs.Quotients.{AreSupports, pair_count, is_adjacent, HasShapeOfView};
 
 use crate::counting::count_edges;
 use crate::edges::EdgeList;
@@ -45,10 +45,10 @@ impl Model for Summary {
 
     ghost coded = { quotient_code };
 
-    ghost use Rattle.quotient.specs.Joined.{IsSoundQuotient};
-    ghost use Rattle.quotient.specs.Kept.{room_of};
+    ghost use Rattle.quotient.specs.QuotientNeighbours.{IsSoundQuotient};
+    ghost use Rattle.quotient.specs.QuotientTables.{room_of};
 
-    ghost view = { λ s. record { blocks = s.blocks; supports = s.joins.supports.pairs; room = room_of s.joins.supports s.joins.children s.joins.parents } };
+    ghost view = { λ s. record { blocks = s.blocks; supports = s.joins.supports.pairs; reserved = room_of s.joins.supports s.joins.children s.joins.parents } };
 
     ghost invariant = { λ s. IsSoundQuotient s.blocks s.joins.supports.pairs s.joins.children.lists s.joins.parents.lists };
 }
@@ -161,15 +161,15 @@ impl Summary {
 
 impl Digraph for Summary {
     ghost use Rattle.std.specs.Prelude.{length};
-    ghost use Rattle.px_spec.specs.Members.{at};
-    ghost use Rattle.quotient.specs.Quotients.{is_joined};
-    ghost use Rattle.quotient.specs.Laws.{below_span, ends_live};
+    ghost use Rattle.graph_spec.specs.Members.{at};
+    ghost use Rattle.quotient.specs.Quotients.{is_adjacent};
+    ghost use Rattle.quotient.specs.DigraphLaws.{below_span, ends_live};
 
     ghost span = { λ q. length q.blocks.labels };
 
     ghost label_at = { λ q. at q.blocks.labels };
 
-    ghost edge = { is_joined };
+    ghost edge = { is_adjacent };
 
     fn size(&self) -> u32 {
         self.blocks.span()

@@ -1,9 +1,9 @@
 // How many edges lead from one block to another.
 ghost use Rattle.std.specs.Prelude.{◌≡◌, ◌+◌, ◌-◌, ◌<◌, ◌≤◌, ◌^◌, IfOk, OnOk, nat_eq};
 ghost use Rattle.std.specs.FinMap as map;
-ghost use Rattle.bisim_spec.specs.Views.{support_at};
+ghost use Rattle.bisim_spec.specs.IndexGraphs.{support_at};
 ghost use Rattle.quotient.specs.Quotients.{pair_count, with_support};
-ghost use Rattle.quotient.specs.Joined.{with_one_more};
+ghost use Rattle.quotient.specs.QuotientNeighbours.{with_one_more};
 
 use crate::places::{Place, Places};
 use indexmap::IndexMap;
@@ -22,14 +22,14 @@ pub(crate) struct Supports {
 impl Model for Supports {
     ghost use Rattle.std.specs.FinMap as map;
     ghost use Rattle.indexmap.specs.IndexMap.{spare};
-    ghost use Rattle.quotient.specs.Kept.{KeptPairs, pairs_code};
-    ghost use Rattle.quotient.specs.Joined.{IsPositive};
+    ghost use Rattle.quotient.specs.QuotientTables.{KeptPairs, pairs_code};
+    ghost use Rattle.quotient.specs.QuotientNeighbours.{IsPositive};
 
     ghost Value = { KeptPairs };
 
     ghost coded = { pairs_code };
 
-    ghost view = { λ s. record { pairs = map.from_entries s.table.entries; room = spare s.table } };
+    ghost view = { λ s. record { pairs = map.from_entries s.table.entries; reserved = spare s.table } };
 
     ghost invariant = { λ s. IsPositive (map.from_entries s.table.entries) };
 }
@@ -44,8 +44,8 @@ impl Supports {
         }
     }
 
-    /// No supports, and room for that many pairs.
-    pub(crate) fn with_room(alloc: Global, pairs: usize) -> Result<Supports, Memory>
+    /// No supports, and capacity for that many pairs.
+    pub(crate) fn with_reserved(alloc: Global, pairs: usize) -> Result<Supports, Memory>
         ensures { IfOk result (λ s. s.pairs ≡ map.empty) }
     {
         let mut supports = Supports::new(alloc);
@@ -70,20 +70,20 @@ impl Supports {
         self.table.len()
     }
 
-    /// Makes room for that many further pairs.
+    /// Reserves capacity for that many further pairs.
     pub(crate) fn reserve(&mut self, more: usize) -> Result<(), Memory>
         ensures pairs { self.new.pairs ≡ self.old.pairs }
-        ensures room { OnOk result (more ≤ self.new.room) }
+        ensures reserved { OnOk result (more ≤ self.new.reserved) }
     {
         self.table.reserve(more)?;
         self.places.reserve(more)
     }
 
-    /// Writes the support of a pair, for which there is room. It takes no memory.
+    /// Writes the support of a pair, for which capacity is reserved. It takes no memory.
     pub(crate) fn set(&mut self, a: u32, b: u32, n: u32)
-        requires room { 0 < self.old.room }
+        requires reserved { 0 < self.old.reserved }
         ensures pairs { self.new.pairs ≡ with_support self.old.pairs (a, b) n }
-        ensures room { self.old.room ≤ self.new.room + 1 }
+        ensures reserved { self.old.reserved ≤ self.new.reserved + 1 }
     {
         if n == 0 {
             self.remove(a, b);
@@ -95,7 +95,7 @@ impl Supports {
     /// Takes a pair out, where it is in, and gives the place that was noted for it. It takes no memory.
     pub(crate) fn remove(&mut self, a: u32, b: u32) -> Place
         ensures pairs { self.new.pairs ≡ map.remove self.old.pairs (a, b) }
-        ensures room { self.old.room ≤ self.new.room }
+        ensures reserved { self.old.reserved ≤ self.new.reserved }
     {
         match self.table.swap_remove_full(&(a, b)) {
             Some((i, _, _)) => self.places.take(i),
@@ -106,9 +106,9 @@ impl Supports {
     // Writes the support of a pair, which isn't 0.
     fn write(&mut self, a: u32, b: u32, n: u32)
         requires some { 0 < n }
-        requires room { 0 < self.old.room }
+        requires reserved { 0 < self.old.reserved }
         ensures pairs { self.new.pairs ≡ map.insert self.old.pairs (a, b) n }
-        ensures room { self.old.room ≤ self.new.room + 1 }
+        ensures reserved { self.old.reserved ≤ self.new.reserved + 1 }
     {
         match self.table.insert((a, b), n) {
             Ok(_) => {}
@@ -123,7 +123,7 @@ impl Supports {
         self.places.push(place)
     }
 
-    /// Notes the place of the pair that came last into the table, by the room of one. It takes no memory.
+    /// Notes the place of the pair that came last into the table, from the capacity reserved for one. It takes no memory.
     pub(crate) fn add_place(&mut self, place: Place)
         ensures { self.new ≡ self.old }
     {

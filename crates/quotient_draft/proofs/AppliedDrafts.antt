@@ -7,9 +7,9 @@ use Rattle.std.proofs.lemmas.Bool.Decides.{eqb_tells}
 use Rattle.std.proofs.lemmas.List.{take_more}
 use Rattle.std.proofs.lemmas.Map.Entries.{place_from_lookup}
 use Rattle.std.proofs.lemmas.Option.{slice_get_within, get_or_from_slice_get}
-use Rattle.px_spec.specs.Members.{at}
-use Rattle.block_partition.specs.Partitions.{put, IsLeastFree}
-use Rattle.bisim_spec.specs.Views.{SupportTable}
+use Rattle.graph_spec.specs.Members.{at}
+use Rattle.block_partition.specs.LabelledPartitions.{put, IsLeastFree}
+use Rattle.bisim_spec.specs.IndexGraphs.{SupportTable}
 use Rattle.quotient.specs.Quotients.{with_put, with_support}
 use Rattle.quotient_draft.specs.Drafts.{with_added, with_moves, with_supports}
 use Rattle.quotient_draft.specs.Basis.{AreLeastFree}

@@ -1,16 +1,16 @@
 -- Worked values.
 use Rattle.std.proofs.Common.{◌≡◌, [], ◌∷◌, Some, None, refl}
 use Rattle.std.specs.FinMap as map
-use Rattle.px_spec.specs.Graphs.{edge_cmp}
-use Rattle.quotient.specs.Quotients.{Quotient, no_pair_room}
+use Rattle.graph_spec.specs.Graphs.{edge_cmp}
+use Rattle.quotient.specs.Quotients.{Quotient, no_reserved_pairs}
 use Rattle.quotient_draft.specs.Drafts.{Drafted, shown_blocks, shown_labels}
 
 -- two blocks of one label, a gap at number 1; three edges from block 0 to block 2
 abbrev base : Quotient
 base = record {
-  blocks = record { block_of = Some 0 ∷ (Some 2 ∷ (Some 2 ∷ [])); labels = Some 7 ∷ (None ∷ (Some 8 ∷ [])); room = record { nodes = 0; blocks = 0 } };
+  blocks = record { block_of = Some 0 ∷ (Some 2 ∷ (Some 2 ∷ [])); labels = Some 7 ∷ (None ∷ (Some 8 ∷ [])); reserved = record { nodes = 0; blocks = 0 } };
   supports = map.insert {R = edge_cmp} map.empty (0, 2) 3;
-  room = no_pair_room;
+  reserved = no_reserved_pairs;
 }
 
 -- a block more, under number 1; node 2 goes to it, node 1 out, and node 4 comes; one edge goes to the new block

@@ -4,8 +4,8 @@ use Rattle.std.proofs.lemmas.List.{length-append}
 use Rattle.std.proofs.Math.Seq.{take-append_seam}
 use Rattle.std.specs.Prelude.{take}
 
-same_front : {X : Type 0} (xs ys : List X) (x y : X) → xs ++ x ∷ [] ≡ ys ++ y ∷ [] → xs ≡ ys
-same_front xs ys x y e =
+same_prefix : {X : Type 0} (xs ys : List X) (x y : X) → xs ++ x ∷ [] ≡ ys ++ y ∷ [] → xs ≡ ys
+same_prefix xs ys x y e =
     let left = length-append xs (x ∷ []) in
     let right = length-append ys (y ∷ []) in
     let both = ap length e in
@@ -16,4 +16,4 @@ pub last_gone : {X : Type 0} (old new es : List X) (e : X) (last : Option X) →
 last_gone old new es e None split some list =
     let len = ap length list ∙ length-append es (e ∷ []) in
     absurd (true≢false (sym (some (omega (arith, len)))))
-last_gone old new es e (Some x) split some list = same_front new es x e (sym split ∙ list)
+last_gone old new es e (Some x) split some list = same_prefix new es x e (sym split ∙ list)

@@ -5,14 +5,14 @@ use Rattle.std.proofs.lemmas.Bool.Decides.{eqb_tells}
 use Rattle.std.proofs.lemmas.List.{get_or-set_other, length-set, take_all}
 use Rattle.std.proofs.lemmas.List.Folds.{list_any-append}
 use Rattle.std.proofs.lemmas.List.Sums.{sum_by-append}
-use Rattle.px_spec.specs.Members.{at, has, is_this}
+use Rattle.graph_spec.specs.Members.{at, has, is_this}
 use Rattle.quotient.specs.Quotients.{Quotient}
-use Rattle.block_partition.specs.Partitions.{without_block}
+use Rattle.block_partition.specs.LabelledPartitions.{without_block}
 use Rattle.quotient_draft.specs.Drafts.{has_member}
 use Rattle.quotient_draft.specs.Retired.{IsRetired}
 use Rattle.quotient_draft.proofs.AppliedDrafts.{take_next}
 use Rattle.quotient_draft.proofs.PutLists.{at_with_put}
-use Rattle.quotient_draft.proofs.Written.{test_is}
+use Rattle.quotient_draft.proofs.DraftedMoves.{test_is}
 
 -- whether a block has members is told by their number
 pub member_first : (x : Option ℕ) (xs : List (Option ℕ)) (b : ℕ) → count_by (is_this b) (x ∷ xs) ≡ cond (is_this b x) 1 0 + count_by (is_this b) xs

@@ -1,7 +1,7 @@
 pub mod PutLists
 pub mod Scanned
 mod Spans
-pub mod Written
+pub mod DraftedMoves
 mod Over
 mod Examples
 pub mod AppliedDrafts
@@ -12,7 +12,7 @@ mod Linked
 mod ListedMembers
 pub mod Settled
 mod Noted
-mod Supported
+mod SupportLists
 mod Forgotten
 mod Touched
 mod Nearest

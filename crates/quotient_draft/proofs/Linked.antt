@@ -6,12 +6,12 @@ use Rattle.std.proofs.lemmas.Bool.{cases_lt}
 use Rattle.std.proofs.lemmas.List.{take_all, length-append}
 use Rattle.std.proofs.lemmas.List.Folds.{list_any-append}
 use Rattle.std.proofs.lemmas.Option.{slice_get_past, slice_get-get_or}
-use Rattle.px_spec.specs.Members.{has}
+use Rattle.graph_spec.specs.Members.{has}
 use Rattle.quotient_draft.specs.Drafts.{is_pair}
-use Rattle.quotient_draft.specs.Kept.{counted}
-use Rattle.quotient_draft.specs.PutLogs.{has_put, goes_to, last_put, AreLinked, is_goal, is_moved_to}
+use Rattle.quotient_draft.specs.MoveTables.{counted}
+use Rattle.quotient_draft.specs.PutLogs.{has_put, goes_to, last_put, AreLinked, is_target, is_moved_to}
 use Rattle.quotient_draft.proofs.AppliedDrafts.{take_next}
-use Rattle.quotient_draft.proofs.Written.{test_is, number_is, or_else}
+use Rattle.quotient_draft.proofs.DraftedMoves.{test_is, number_is, or_else}
 
 pub last_below : (puts : List (ℕ × ℕ)) (b k : ℕ) → last_put puts b k ≤ k
 last_below puts b zero = omega arith
@@ -144,9 +144,9 @@ moved_is : (moves : List (ℕ × Option ℕ)) (b n : ℕ) → is_moved_to moves 
 moved_is moves b n h = by (lookup (nat_eq n) moves) refl
   where
     by : (u : Option (Option ℕ)) → lookup (nat_eq n) moves ≡ u → lookup (nat_eq n) moves ≡ Some (Some b)
-    by None e = absurd (true≢false (sym h ∙ ap (is_goal b) e))
-    by (Some None) e = absurd (true≢false (sym h ∙ ap (is_goal b) e))
-    by (Some (Some c)) e = e ∙ ap (λ m. Some (Some m)) (sym (number_is b c (sym (ap (is_goal b) e) ∙ h)))
+    by None e = absurd (true≢false (sym h ∙ ap (is_target b) e))
+    by (Some None) e = absurd (true≢false (sym h ∙ ap (is_target b) e))
+    by (Some (Some c)) e = e ∙ ap (λ m. Some (Some m)) (sym (number_is b c (sym (ap (is_target b) e) ∙ h)))
 
 pub list_start : (moves : List (ℕ × Option ℕ)) (puts : List (ℕ × ℕ)) (list : List ℕ) (b : ℕ)
     → ((m c : ℕ) → lookup (nat_eq m) moves ≡ Some (Some c) → has_put puts m c ≡ true)

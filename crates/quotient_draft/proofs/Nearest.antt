@@ -2,7 +2,7 @@
 use Rattle.std.proofs.Common.{◌≡◌, ℕ, ◌<◌, ◌≤◌, ◌+◌, List, Option, None, Some, refl, sym, ◌∙◌, ap, subst, true, false, Bool, ◌&&◌, ◌||◌, take, length, get_or}
 use Rattle.std.specs.Prelude.{nat_eq}
 use Rattle.std.proofs.lemmas.List.{take_all}
-use Rattle.px_spec.specs.Members.{has, Lists}
+use Rattle.graph_spec.specs.Members.{has, Lists}
 use Rattle.quotient_draft.specs.Nexts.{IsNext}
 use Rattle.quotient_draft.proofs.Spans.{has_more}
 

@@ -4,12 +4,12 @@ use Rattle.std.specs.Prelude.{nat_eq}
 use Rattle.std.specs.List.{cons_option}
 use Rattle.std.specs.Map.{lookup, keys_of}
 use Rattle.std.proofs.lemmas.List.Elements.{filter_map-append}
-use Rattle.px_spec.specs.Members.{has}
-use Rattle.quotient.specs.Joined.{one_if}
+use Rattle.graph_spec.specs.Members.{has}
+use Rattle.quotient.specs.QuotientNeighbours.{one_if}
 use Rattle.quotient_draft.specs.Drafts.{is_pair}
-use Rattle.quotient_draft.specs.Ends.{ends_from, ends_onto}
+use Rattle.quotient_draft.specs.PairEnds.{ends_from, ends_onto}
 use Rattle.quotient_draft.proofs.PairCounts.{counts_cons}
-use Rattle.quotient_draft.proofs.Written.{test_is}
+use Rattle.quotient_draft.proofs.DraftedMoves.{test_is}
 
 none_first : (a b : Bool) → (a || b) ≡ false → a ≡ false
 none_first true b h = h

@@ -3,16 +3,16 @@ use Rattle.std.proofs.Common.{◌≡◌, ℕ, zero, suc, ◌+◌, ◌<◌, ◌�
 use Rattle.std.specs.Prelude.{nat_eq, IfSome, Bool, true, false, ◌||◌}
 use Rattle.std.specs.Map.{lookup}
 use Rattle.std.proofs.lemmas.Bool.Decides.{eqb_tells}
-use Rattle.px_spec.specs.Members.{at, has}
+use Rattle.graph_spec.specs.Members.{at, has}
 use Rattle.std.proofs.lemmas.List.Folds.{list_any-append}
-use Rattle.block_partition.specs.Partitions.{put, IsLeastFree}
+use Rattle.block_partition.specs.LabelledPartitions.{put, IsLeastFree}
 use Rattle.quotient_draft.specs.Drafts.{Drafted, with_added, with_left, is_pair}
 use Rattle.quotient_draft.specs.Basis.{AreLeastFree, IsOver}
-use Rattle.quotient_draft.specs.Kept.{AreTaken}
+use Rattle.quotient_draft.specs.MoveTables.{AreTaken}
 use Rattle.block_partition.proofs.PutNumbers.{same_number}
 use Rattle.quotient_draft.proofs.PutLists.{some_put}
 use Rattle.quotient_draft.proofs.Scanned.{count_some, count_none, added_some, added_more, least_more}
-use Rattle.quotient_draft.proofs.Written.{test_is, pair_is}
+use Rattle.quotient_draft.proofs.DraftedMoves.{test_is, pair_is}
 
 -- one block more
 count_put : (xs : List (Option ℕ)) (b l : ℕ) → count_by is_some (put xs b l) ≤ count_by is_some xs + 1

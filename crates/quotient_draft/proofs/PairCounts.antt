@@ -7,8 +7,8 @@ use Rattle.std.proofs.lemmas.Bool.Decides.{eqb_tells}
 use Rattle.std.proofs.lemmas.List.{take_all}
 use Rattle.std.proofs.lemmas.List.Sums.{sum_by-append}
 use Rattle.std.proofs.lemmas.Option.{slice_get-map}
-use Rattle.quotient.specs.Joined.{one_if}
-use Rattle.quotient.specs.Kept.{UsesOne, GivesMore}
+use Rattle.quotient.specs.QuotientNeighbours.{one_if}
+use Rattle.quotient.specs.QuotientTables.{UsesOne, GivesMore}
 use Rattle.quotient_draft.proofs.AppliedDrafts.{take_next}
 
 -- the key of an entry
@@ -39,12 +39,12 @@ counts_most f (q ∷ ps) (suc i) x =
     let b = counts_cons f q ps x in
     omega (arith, rest, a, b)
 
--- room is made for each block of which a pair was met
-pub room_met : (f : ℕ × ℕ → ℕ) (ps : List (ℕ × ℕ)) (i : ℕ) (p : ℕ × ℕ) (before after : List ℕ) → slice_get ps i ≡ Some p
+-- capacity is reserved for each block of which a pair was met
+pub reserved_met : (f : ℕ × ℕ → ℕ) (ps : List (ℕ × ℕ)) (i : ℕ) (p : ℕ × ℕ) (before after : List ℕ) → slice_get ps i ≡ Some p
     → ((x : ℕ) → 0 < count_by (λ q. nat_eq x (f q)) (take i ps) → count_by (λ q. nat_eq x (f q)) ps ≤ slice_index before x)
     → GivesMore before after → count_by (λ q. nat_eq (f p) (f q)) ps ≤ slice_index after (f p)
     → (x : ℕ) → 0 < count_by (λ q. nat_eq x (f q)) (take (i + 1) ps) → count_by (λ q. nat_eq x (f q)) ps ≤ slice_index after x
-room_met f ps i p before after e met more here x some = elim (eqb_tells x (f p)) [
+reserved_met f ps i p before after e met more here x some = elim (eqb_tells x (f p)) [
   | inl s ↦ subst (λ z. count_by (λ q. nat_eq z (f q)) ps ≤ slice_index after z) (sym s.1) here
   | inr d ↦ (
       let next = counts_take f ps i p x e in
@@ -54,17 +54,17 @@ room_met f ps i p before after e met more here x some = elim (eqb_tells x (f p))
       omega (arith, old, rest))
 ]
 
-pub room_all : (f : ℕ × ℕ → ℕ) (ps : List (ℕ × ℕ)) (i : ℕ) (room : List ℕ) → length ps ≤ i
-    → ((x : ℕ) → 0 < count_by (λ q. nat_eq x (f q)) (take i ps) → count_by (λ q. nat_eq x (f q)) ps ≤ slice_index room x) → (x : ℕ) → count_by (λ q. nat_eq x (f q)) ps ≤ slice_index room x
-room_all f ps i room all met x = elim (cases_lt 0 (count_by (λ (q : ℕ × ℕ). nat_eq x (f q)) ps)) [
+pub reserved_all : (f : ℕ × ℕ → ℕ) (ps : List (ℕ × ℕ)) (i : ℕ) (reserved : List ℕ) → length ps ≤ i
+    → ((x : ℕ) → 0 < count_by (λ q. nat_eq x (f q)) (take i ps) → count_by (λ q. nat_eq x (f q)) ps ≤ slice_index reserved x) → (x : ℕ) → count_by (λ q. nat_eq x (f q)) ps ≤ slice_index reserved x
+reserved_all f ps i reserved all met x = elim (cases_lt 0 (count_by (λ (q : ℕ × ℕ). nat_eq x (f q)) ps)) [
   | inl some ↦ met x (subst (λ (qs : List (ℕ × ℕ)). 0 < count_by (λ q. nat_eq x (f q)) qs) (sym (take_all i ps all)) some)
   | inr none ↦ omega (arith, none)
 ]
 
--- room that is used pair by pair
-pub room_here : (f : ℕ × ℕ → ℕ) (ps : List (ℕ × ℕ)) (i : ℕ) (p : ℕ × ℕ) (room : List ℕ) → slice_get ps i ≡ Some p
-    → ((x : ℕ) → count_by (λ q. nat_eq x (f q)) ps ≤ slice_index room x + count_by (λ q. nat_eq x (f q)) (take i ps)) → 0 < slice_index room (f p)
-room_here f ps i p room e enough =
+-- capacity that is used pair by pair
+pub reserved_here : (f : ℕ × ℕ → ℕ) (ps : List (ℕ × ℕ)) (i : ℕ) (p : ℕ × ℕ) (reserved : List ℕ) → slice_get ps i ≡ Some p
+    → ((x : ℕ) → count_by (λ q. nat_eq x (f q)) ps ≤ slice_index reserved x + count_by (λ q. nat_eq x (f q)) (take i ps)) → 0 < slice_index reserved (f p)
+reserved_here f ps i p reserved e enough =
     let next = counts_take f ps i p (f p) e in
     let most = counts_most f ps (i + 1) (f p) in
     let have = enough (f p) in
@@ -72,10 +72,10 @@ room_here f ps i p room e enough =
     let one : one_if (nat_eq (f p) (f p)) ≡ 1 = ap one_if same in
     omega (arith, next, most, have, one)
 
-pub room_used : (f : ℕ × ℕ → ℕ) (ps : List (ℕ × ℕ)) (i : ℕ) (p : ℕ × ℕ) (room room2 : List ℕ) → slice_get ps i ≡ Some p
-    → ((x : ℕ) → count_by (λ q. nat_eq x (f q)) ps ≤ slice_index room x + count_by (λ q. nat_eq x (f q)) (take i ps)) → UsesOne (f p) room room2
-    → (x : ℕ) → count_by (λ q. nat_eq x (f q)) ps ≤ slice_index room2 x + count_by (λ q. nat_eq x (f q)) (take (i + 1) ps)
-room_used f ps i p room room2 e enough used x =
+pub reserved_used : (f : ℕ × ℕ → ℕ) (ps : List (ℕ × ℕ)) (i : ℕ) (p : ℕ × ℕ) (reserved reserved2 : List ℕ) → slice_get ps i ≡ Some p
+    → ((x : ℕ) → count_by (λ q. nat_eq x (f q)) ps ≤ slice_index reserved x + count_by (λ q. nat_eq x (f q)) (take i ps)) → UsesOne (f p) reserved reserved2
+    → (x : ℕ) → count_by (λ q. nat_eq x (f q)) ps ≤ slice_index reserved2 x + count_by (λ q. nat_eq x (f q)) (take (i + 1) ps)
+reserved_used f ps i p reserved reserved2 e enough used x =
     let next = counts_take f ps i p x e in
     let have = enough x in
     let rest = used.rest x in

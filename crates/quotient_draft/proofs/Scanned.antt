@@ -5,8 +5,8 @@ use Rattle.std.specs.Map.{lookup}
 use Rattle.std.proofs.lemmas.Bool.{cases_lt}
 use Rattle.std.proofs.lemmas.Bool.Decides.{eqb_tells}
 use Rattle.std.proofs.lemmas.List.Sums.{sum_by-append}
-use Rattle.px_spec.specs.Members.{at}
-use Rattle.block_partition.specs.Partitions.{put, IsLeastFree}
+use Rattle.graph_spec.specs.Members.{at}
+use Rattle.block_partition.specs.LabelledPartitions.{put, IsLeastFree}
 use Rattle.quotient_draft.specs.Drafts.{with_added}
 use Rattle.quotient_draft.specs.Basis.{AreLeastFree}
 use Rattle.quotient_draft.specs.Scans.{from_after}

@@ -6,8 +6,8 @@ use Rattle.std.proofs.lemmas.Bool.{cases_lt}
 use Rattle.std.proofs.lemmas.Bool.Decides.{eqb_tells}
 use Rattle.std.proofs.lemmas.List.{get_or_past}
 use Rattle.std.proofs.lemmas.List.Folds.{list_any-append}
-use Rattle.px_spec.specs.Members.{at, has}
-use Rattle.block_partition.specs.Partitions.{put}
+use Rattle.graph_spec.specs.Members.{at, has}
+use Rattle.block_partition.specs.LabelledPartitions.{put}
 use Rattle.quotient.specs.Quotients.{Quotient, view_of}
 use Rattle.quotient_draft.specs.Drafts.{Drafted, has_member, inhabited_from, with_added, is_pair, shown_blocks, shown_labels, shown_supports, settled_view}
 use Rattle.quotient_draft.specs.Basis.{AreLeastFree, IsOver}
@@ -15,10 +15,10 @@ use Rattle.quotient_draft.specs.Scans.{from_after}
 use Rattle.quotient_draft.specs.Retired.{IsRetired}
 use Rattle.quotient_draft.proofs.Scanned.{count_some, count_none, from_few, added_absent}
 use Rattle.quotient_draft.proofs.AppliedDrafts.{all_below, none_yet, added_length}
-use Rattle.quotient_draft.proofs.Written.{moves_absent}
+use Rattle.quotient_draft.proofs.DraftedMoves.{moves_absent}
 use Rattle.quotient_draft.proofs.Gone.{member_at, member_there, retired_both}
 
--- ---- room
+-- ---- reserved capacity
 
 count_free : (xs : List (Option ℕ)) (b l : ℕ) → at xs b ≡ None → count_by is_some (put xs b l) ≡ count_by is_some xs + 1
 count_free [] zero l e = (let more = count_some [] l in omega (arith, more))

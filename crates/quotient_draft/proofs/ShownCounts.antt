@@ -8,16 +8,16 @@ use Rattle.std.proofs.lemmas.List.{length-set}
 use Rattle.std.proofs.lemmas.List.Sums.{sum_by-append, count_by-le-length}
 use Rattle.std.proofs.lemmas.Map.Keys.{IsDistinct-head, IsDistinct-tail}
 use Rattle.indexmap.specs.IndexMap.{insert_entry}
-use Rattle.px_spec.specs.Members.{at, is_this}
-use Rattle.block_partition.specs.Partitions.{put}
-use Rattle.quotient.specs.Joined.{one_if}
+use Rattle.graph_spec.specs.Members.{at, is_this}
+use Rattle.block_partition.specs.LabelledPartitions.{put}
+use Rattle.quotient.specs.QuotientNeighbours.{one_if}
 use Rattle.quotient.specs.Quotients.{with_put}
 use Rattle.quotient_draft.specs.Drafts.{with_moves}
-use Rattle.quotient_draft.specs.Kept.{into_count, taken_count}
+use Rattle.quotient_draft.specs.MoveTables.{into_count, taken_count}
 use Rattle.quotient_draft.specs.PutLogs.{has_put}
 use Rattle.quotient_draft.proofs.PutLists.{at_with_put}
 use Rattle.quotient_draft.proofs.AppliedDrafts.{put_length}
-use Rattle.quotient_draft.proofs.Written.{test_is, absent_key, number_is, number_turned}
+use Rattle.quotient_draft.proofs.DraftedMoves.{test_is, absent_key, number_is, number_turned}
 use Rattle.quotient_draft.proofs.Gone.{some_counted, member_at}
 
 -- counting goes item by item

@@ -7,14 +7,14 @@ use Rattle.std.proofs.lemmas.Bool.{and_parts, or_left, or_right}
 use Rattle.std.proofs.lemmas.Bool.Decides.{Decides-eqb}
 use Rattle.std.proofs.lemmas.List.Folds.{list_any-append}
 use Rattle.std.proofs.lemmas.Map.Views.{any-filter_same}
-use Rattle.px_spec.specs.Members.{Lists, at, has, is_this}
+use Rattle.graph_spec.specs.Members.{Lists, at, has, is_this}
 use Rattle.quotient_draft.specs.Drafts.{with_moves}
-use Rattle.quotient_draft.specs.PutLogs.{is_goal, is_moved_to, is_kept}
+use Rattle.quotient_draft.specs.PutLogs.{is_target, is_moved_to, is_kept}
 use Rattle.quotient_draft.specs.ShownMembers.{is_unmoved}
 use Rattle.quotient_draft.proofs.ListedMembers.{shown_members}
-use Rattle.quotient_draft.proofs.Supported.{lists_none}
+use Rattle.quotient_draft.proofs.SupportLists.{lists_none}
 use Rattle.quotient_draft.proofs.Touched.{unkeyed}
-use Rattle.quotient_draft.proofs.Written.{number_is}
+use Rattle.quotient_draft.proofs.DraftedMoves.{number_is}
 
 -- a number that is no block has no members
 pub lists_no_members : (block : List (Option ℕ)) (b : ℕ) → ((n : ℕ) → at block n ≡ Some b → false ≡ true) → Lists (λ n. is_this b (at block n)) []
@@ -77,7 +77,7 @@ apart_once (x ∷ xs) ys h k apart =
 stays : (moves : List (ℕ × Option ℕ)) (b n : ℕ) → is_unmoved moves n ≡ true → is_moved_to moves b n ≡ false
 stays moves b n h = by (lookup (nat_eq n) moves) h
   where
-    by : (o : Option (Option ℕ)) → is_none o ≡ true → is_goal b o ≡ false
+    by : (o : Option (Option ℕ)) → is_none o ≡ true → is_target b o ≡ false
     by None h = refl
     by (Some v) h = absurd (true≢false (sym h))
 
@@ -95,7 +95,7 @@ comes moves b n = by (has (keys_of moves) n) refl
 
     by : (t : Bool) → has (keys_of moves) n ≡ t → (is_moved_to moves b n && has (keys_of moves) n) ≡ is_moved_to moves b n
     by true e = ap (λ t. is_moved_to moves b n && t) e ∙ and_on (is_moved_to moves b n)
-    by false e = and_off (is_moved_to moves b n) (has (keys_of moves) n) (ap (is_goal b) (unkeyed moves n e))
+    by false e = and_off (is_moved_to moves b n) (has (keys_of moves) n) (ap (is_target b) (unkeyed moves n e))
 
 pub members_listed : (block : List (Option ℕ)) (moves : List (ℕ × Option ℕ)) (b : ℕ) (kept moved : List ℕ) → Lists (λ n. is_this b (at block n)) kept → moved ≡ keys_of moves → IsDistinct nat_eq moved
     → Lists (λ n. is_this b (at (with_moves block moves) n)) (filter (is_unmoved moves) kept ++ filter (is_moved_to moves b) moved)

@@ -7,12 +7,12 @@ use Rattle.std.specs.Option.{option_map_or}
 use Rattle.std.proofs.lemmas.Bool.{cases_Bool, or_cases, or_left, or_right, and_parts, and_from, both_ways}
 use Rattle.std.proofs.lemmas.Bool.Decides.{Decides-eqb, Decides-ltb, eqb_tells}
 use Rattle.smallvec.specs.SmallVec.{SmallVec}
-use Rattle.px_spec.specs.Members.{has, Lists}
-use Rattle.bisim_spec.specs.Views.{SupportTable, support_at}
+use Rattle.graph_spec.specs.Members.{has, Lists}
+use Rattle.bisim_spec.specs.IndexGraphs.{SupportTable, support_at}
 use Rattle.quotient_draft.specs.Drafts.{with_supports}
-use Rattle.quotient_draft.specs.Ends.{listed, ends_onto}
+use Rattle.quotient_draft.specs.PairEnds.{listed, ends_onto}
 use Rattle.quotient_draft.proofs.Noted.{unlisted_onto}
-use Rattle.quotient_draft.proofs.Written.{supports_absent}
+use Rattle.quotient_draft.proofs.DraftedMoves.{supports_absent}
 
 -- a number that is no key has no entry
 pub unkeyed : {X : Type 0} (es : List (ℕ × X)) (b : ℕ) → has (keys_of es) b ≡ false → lookup (nat_eq b) es ≡ None

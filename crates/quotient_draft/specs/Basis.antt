@@ -1,10 +1,10 @@
 -- What ties a draft to its base.
 use Rattle.std.specs.Prelude.{◌≡◌, ℕ, ◌<◌, ◌≤◌, ◌^◌, List, [], ◌∷◌, length, Option, Some, IsSome, is_some, nat_eq, true, count_by}
 use Rattle.std.specs.Map.{lookup}
-use Rattle.px_spec.specs.Members.{at, has}
-use Rattle.block_partition.specs.Partitions.{put, IsLeastFree}
+use Rattle.graph_spec.specs.Members.{at, has}
+use Rattle.block_partition.specs.LabelledPartitions.{put, IsLeastFree}
 use Rattle.quotient_draft.specs.Drafts.{Drafted, with_added, is_pair}
-use Rattle.quotient_draft.specs.Kept.{AreTaken}
+use Rattle.quotient_draft.specs.MoveTables.{AreTaken}
 
 -- each number was the least that was no block, once those before it were made
 abbrev pub AreLeastFree : List (Option ℕ) → List (ℕ × ℕ) → Type 0

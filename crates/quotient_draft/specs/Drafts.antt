@@ -3,9 +3,9 @@
 use Rattle.std.specs.Prelude.{ℕ, ◌≡◌, ◌+◌, ◌&&◌, Bool, List, [], ◌∷◌, ◌++◌, Option, None, Some, cond, nat_eq, refl, if◌then◌else◌, false}
 use Rattle.std.specs.Coded.{Coded, code_by, coded×, coded_ℕ, coded_list, coded_option}
 use Rattle.std.specs.List.{list_any}
-use Rattle.px_spec.specs.Members.{is_this, at, has}
-use Rattle.block_partition.specs.Partitions.{put}
-use Rattle.bisim_spec.specs.Views.{View, SupportTable, support_at}
+use Rattle.graph_spec.specs.Members.{is_this, at, has}
+use Rattle.block_partition.specs.LabelledPartitions.{put}
+use Rattle.bisim_spec.specs.IndexGraphs.{View, SupportTable, support_at}
 use Rattle.quotient.specs.Quotients.{Quotient, with_put, with_support}
 
 pub record Drafted : Type 0 where

@@ -1,10 +1,10 @@
 pub mod Drafts
 pub mod Basis
 pub mod Scans
-pub mod Rooms
-pub mod Kept
+pub mod ReservedCapacity
+pub mod MoveTables
 pub mod PutLogs
 pub mod Retired
-pub mod Ends
+pub mod PairEnds
 pub mod Nexts
 pub mod ShownMembers

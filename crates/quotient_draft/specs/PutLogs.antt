@@ -2,9 +2,9 @@
 use Rattle.std.specs.Prelude.{◌≡◌, ℕ, zero, suc, ◌≤◌, Bool, true, false, List, length, Option, None, Some, ◌&&◌, is_none, cond, nat_eq, slice_get, slice_index}
 use Rattle.std.specs.List.{list_any, IsDistinct}
 use Rattle.std.specs.Map.{lookup, keys_of}
-use Rattle.px_spec.specs.Members.{at, is_this}
+use Rattle.graph_spec.specs.Members.{at, is_this}
 use Rattle.quotient_draft.specs.Drafts.{is_pair}
-use Rattle.quotient_draft.specs.Kept.{counted, into_count}
+use Rattle.quotient_draft.specs.MoveTables.{counted, into_count}
 
 -- whether the node was put into the block
 abbrev pub has_put : List (ℕ × ℕ) → ℕ → ℕ → Bool
@@ -34,13 +34,13 @@ pub record AreMoves (moves : List (ℕ × Option ℕ)) (into taken : List (ℕ �
   pub few : (b : ℕ) → counted taken b ≤ length moves
   pub put : (n b : ℕ) → lookup (nat_eq n) moves ≡ Some (Some b) → has_put puts n b ≡ true
 
-abbrev pub is_goal : ℕ → Option (Option ℕ) → Bool
-is_goal b None = false
-is_goal b (Some v) = is_this b v
+abbrev pub is_target : ℕ → Option (Option ℕ) → Bool
+is_target b None = false
+is_target b (Some v) = is_this b v
 
 -- whether the node is moved, and into the block
 abbrev pub is_moved_to : List (ℕ × Option ℕ) → ℕ → ℕ → Bool
-is_moved_to moves b n = is_goal b (lookup (nat_eq n) moves)
+is_moved_to moves b n = is_target b (lookup (nat_eq n) moves)
 
 -- whether the node has the block in the base, and isn't moved
 abbrev pub is_kept : List (Option ℕ) → List (ℕ × Option ℕ) → ℕ → ℕ → Bool

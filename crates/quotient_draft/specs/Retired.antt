@@ -1,6 +1,6 @@
 -- Blocks without members that are taken away.
 use Rattle.std.specs.Prelude.{◌≡◌, ℕ, ◌&&◌, not, List, length, None, cond}
-use Rattle.px_spec.specs.Members.{at, has}
+use Rattle.graph_spec.specs.Members.{at, has}
 use Rattle.quotient.specs.Quotients.{Quotient}
 use Rattle.quotient_draft.specs.Drafts.{has_member}
 

@@ -1,9 +1,9 @@
 // Blocks that are drafted.
 ghost use Rattle.std.specs.Prelude.{◌≡◌, ◌+◌, ◌-◌, ◌<◌, ◌≤◌, ◌^◌, ◌++◌, ◌∷◌, [], ℕ, List, Option, Some, None, IsSome, is_some, false, IfOk, OnErr, IfSome, IfNone, length, slice_get, count_by};
 ghost use Rattle.std.specs.Map.{keys_of};
-ghost use Rattle.px_spec.specs.Members.{at, has};
-ghost use Rattle.bisim_spec.specs.Views.{support_at};
-ghost use Rattle.block_partition.specs.Partitions.{IsLeastFree};
+ghost use Rattle.graph_spec.specs.Members.{at, has};
+ghost use Rattle.bisim_spec.specs.IndexGraphs.{support_at};
+ghost use Rattle.block_partition.specs.LabelledPartitions.{IsLeastFree};
 ghost use Rattle.quotient_draft.specs.Drafts.{with_added, has_member};
 ghost use Rattle.quotient_draft.specs.Retired.{IsRetired};
 ghost use Rattle.quotient_draft.specs.Basis.{AreLeastFree};
@@ -85,16 +85,16 @@ impl Added {
         self.blocks.keys().as_slice()
     }
 
-    /// Makes the blocks in the base, which has room for them, under the same numbers.
+    /// Makes the blocks in the base, which has capacity for them, under the same numbers.
     pub(crate) fn make_in(&self, base: &mut Summary)
         requires least { AreLeastFree base.old.blocks.labels self.now }
-        requires room { length self.now ≤ base.old.blocks.room.blocks }
-        requires span { (i : ℕ) (e : ℕ × ℕ) → slice_get self.now i ≡ Some e → e.0 < base.old.room.span }
+        requires reserved { length self.now ≤ base.old.blocks.reserved.blocks }
+        requires span { (i : ℕ) (e : ℕ × ℕ) → slice_get self.now i ≡ Some e → e.0 < base.old.reserved.span }
         ensures labels { base.new.blocks.labels ≡ with_added base.old.blocks.labels self.now }
         ensures blocks { base.new.blocks.block_of ≡ base.old.blocks.block_of }
-        ensures nodes { base.new.blocks.room.nodes ≡ base.old.blocks.room.nodes }
+        ensures nodes { base.new.blocks.reserved.nodes ≡ base.old.blocks.reserved.nodes }
         ensures supports { base.new.supports ≡ base.old.supports }
-        ensures room { base.new.room ≡ base.old.room }
+        ensures reserved { base.new.reserved ≡ base.old.reserved }
     {
         for i in 0..self.blocks.len() {
             let Some((_, label)) = self.blocks.get_index(i) else {

@@ -1,14 +1,14 @@
 // Supports that are drafted.
 ghost use Rattle.std.specs.Prelude.{◌≡◌, ◌<◌, ◌≤◌, [], ℕ, None, Some, IsSome, false, OnOk, OnErr, length, slice_index, if◌then◌else◌};
 ghost use Rattle.std.specs.Map.{lookup, keys_of};
-ghost use Rattle.px_spec.specs.Members.{at, has};
-ghost use Rattle.bisim_spec.specs.Views.{SupportTable, support_at};
+ghost use Rattle.graph_spec.specs.Members.{at, has};
+ghost use Rattle.bisim_spec.specs.IndexGraphs.{SupportTable, support_at};
 ghost use Rattle.quotient.specs.Quotients.{view_of};
 ghost use Rattle.quotient_draft.specs.Drafts.{with_supports, is_pair, SetsPair, SupportsStayBut};
-ghost use Rattle.quotient_draft.specs.Rooms.{from_count, onto_count};
+ghost use Rattle.quotient_draft.specs.ReservedCapacity.{from_count, onto_count};
 ghost use Rattle.quotient_draft.specs.Basis.{ArePairsOfBlocks};
 
-use crate::ends::{Ends, ends_of, make_room, note};
+use crate::ends::{Ends, ends_of, note, reserve_more};
 use indexmap::IndexMap;
 use px_base::Memory;
 use quotient::Summary;
@@ -27,7 +27,7 @@ pub(crate) struct Changed {
 impl Model for Changed {
     ghost use Rattle.std.specs.Prelude.{ℕ, List};
     ghost use Rattle.std.specs.Map.{keys_of};
-    ghost use Rattle.quotient_draft.specs.Ends.{AreNoted};
+    ghost use Rattle.quotient_draft.specs.PairEnds.{AreNoted};
 
     ghost Value = { List ((ℕ × ℕ) × ℕ) };
 
@@ -115,23 +115,23 @@ impl Changed {
         ensures shown { OnOk result ((t : SupportTable) → SetsPair a b n (support_at (with_supports t self.old)) (support_at (with_supports t self.new))) }
         ensures err { OnErr result (self.new ≡ self.old) }
     {
-        make_room(&mut self.from, a)?;
-        make_room(&mut self.onto, b)?;
+        reserve_more(&mut self.from, a)?;
+        reserve_more(&mut self.onto, b)?;
         self.pairs.insert((a, b), n)?;
         note(&mut self.from, a, b);
         note(&mut self.onto, b, a);
         Ok(())
     }
 
-    /// Makes room in the base for the children and the parents that blocks may get.
+    /// Reserves capacity in the base for the children and the parents that blocks may get.
     pub(crate) fn reserve_in(&self, base: &mut Summary) -> Result<(), Memory>
-        requires ends { (p : ℕ × ℕ) (n : ℕ) → lookup (is_pair p) self.now ≡ Some n → (p.0 < base.old.room.span) × (p.1 < base.old.room.span) }
+        requires ends { (p : ℕ × ℕ) (n : ℕ) → lookup (is_pair p) self.now ≡ Some n → (p.0 < base.old.reserved.span) × (p.1 < base.old.reserved.span) }
         ensures same { view_of base.new ≡ view_of base.old }
-        ensures blocks { base.new.blocks.room ≡ base.old.blocks.room }
-        ensures pairs { base.new.room.pairs ≡ base.old.room.pairs }
-        ensures span { base.new.room.span ≡ base.old.room.span }
-        ensures children { OnOk result ((a : ℕ) → from_count (keys_of self.now) a ≤ slice_index base.new.room.children a) }
-        ensures parents { OnOk result ((b : ℕ) → onto_count (keys_of self.now) b ≤ slice_index base.new.room.parents b) }
+        ensures blocks { base.new.blocks.reserved ≡ base.old.blocks.reserved }
+        ensures pairs { base.new.reserved.pairs ≡ base.old.reserved.pairs }
+        ensures span { base.new.reserved.span ≡ base.old.reserved.span }
+        ensures children { OnOk result ((a : ℕ) → from_count (keys_of self.now) a ≤ slice_index base.new.reserved.children a) }
+        ensures parents { OnOk result ((b : ℕ) → onto_count (keys_of self.now) b ≤ slice_index base.new.reserved.parents b) }
     {
         for i in 0..self.pairs.len() {
             let Some((p, _)) = self.pairs.get_index(i) else {
@@ -143,12 +143,12 @@ impl Changed {
         Ok(())
     }
 
-    /// Writes the supports in the base, which has room for them.
+    /// Writes the supports in the base, which has capacity for them.
     pub(crate) fn make_in(&self, base: &mut Summary)
         requires ends { ArePairsOfBlocks base.old.blocks.labels self.now }
-        requires pairs { length self.now ≤ base.old.room.pairs }
-        requires children { (a : ℕ) → from_count (keys_of self.now) a ≤ slice_index base.old.room.children a }
-        requires parents { (b : ℕ) → onto_count (keys_of self.now) b ≤ slice_index base.old.room.parents b }
+        requires pairs { length self.now ≤ base.old.reserved.pairs }
+        requires children { (a : ℕ) → from_count (keys_of self.now) a ≤ slice_index base.old.reserved.children a }
+        requires parents { (b : ℕ) → onto_count (keys_of self.now) b ≤ slice_index base.old.reserved.parents b }
         ensures blocks { base.new.blocks ≡ base.old.blocks }
         ensures supports { base.new.supports ≡ with_supports base.old.supports self.now }
     {

@@ -1,8 +1,8 @@
 // A draft over the quotient of a graph.
 ghost use Rattle.std.specs.Prelude.{◌≡◌, ◌+◌, ◌<◌, ◌^◌, ◌++◌, ◌∷◌, [], ℕ, List, Option, Some, IsSome, is_some, IfOk, OnOk, OnErr, IfSome, count_by};
-ghost use Rattle.px_spec.specs.Members.{at};
-ghost use Rattle.block_partition.specs.Partitions.{IsLeastFree, put};
-ghost use Rattle.quotient.specs.Joined.{RaisesPair, LowersPair};
+ghost use Rattle.graph_spec.specs.Members.{at};
+ghost use Rattle.block_partition.specs.LabelledPartitions.{IsLeastFree, put};
+ghost use Rattle.quotient.specs.QuotientNeighbours.{RaisesPair, LowersPair};
 ghost use Rattle.quotient_draft.specs.Drafts.{no_changes, shown_labels, shown_blocks, shown_support, with_left, PutsNode};
 ghost use Rattle.quotient_draft.specs.Basis.{IsOver};
 

@@ -1,7 +1,7 @@
 // The members of a block of a draft, one after another.
 ghost use Rattle.std.specs.Prelude.{[], unwrap_or};
 ghost use Rattle.std.specs.List.{filter};
-ghost use Rattle.px_spec.specs.Members.{Lists, at, is_this};
+ghost use Rattle.graph_spec.specs.Members.{Lists, at, is_this};
 ghost use Rattle.std.specs.Iterator.{YieldsFirst, item_count};
 ghost use Rattle.quotient_draft.specs.Drafts.{shown_blocks};
 ghost use Rattle.quotient_draft.specs.Basis.{IsOver};

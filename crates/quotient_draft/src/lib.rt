@@ -1,11 +1,12 @@
 //! What is drafted over the quotient of a graph: further blocks, moves of nodes, and supports.
 //!
 //! A draft holds no base: each call is given it. It may be used over a base while that one's blocks stay (`IsOver`). What it shows is the
-//! base with its entries written into it; `reserve` makes room, and `settle` makes the base what was shown, without blocks that have no
+//! base with its entries written into it; `reserve` reserves capacity, and `settle` makes the base what was shown, without blocks that have no
 //! members, without memory and without failing.
 #![tactic(auto)]
 
 mod added;
+mod base_neighbours;
 mod changed;
 mod counts;
 mod draft;
@@ -13,7 +14,6 @@ mod each_member;
 mod ends;
 mod members;
 mod moves;
-mod near;
 mod next;
 mod put_log;
 mod retiring;
@@ -21,6 +21,6 @@ mod settling;
 mod touching;
 mod writing;
 
+pub use base_neighbours::{base_children, base_parents};
 pub use draft::Draft;
 pub use each_member::DraftMembers;
-pub use near::{base_children, base_parents};

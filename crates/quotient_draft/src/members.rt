@@ -1,6 +1,6 @@
 // The blocks of a draft, and their members.
 ghost use Rattle.std.specs.Prelude.{◌≡◌, ℕ, IsSome, is_some, OnOk, count_by};
-ghost use Rattle.px_spec.specs.Members.{Lists, at, is_this};
+ghost use Rattle.graph_spec.specs.Members.{Lists, at, is_this};
 ghost use Rattle.quotient_draft.specs.Drafts.{shown_labels, shown_blocks};
 ghost use Rattle.quotient_draft.specs.Basis.{IsOver};
 
@@ -28,7 +28,7 @@ impl Draft {
 
     /// Lists the members of a block as shown, each once, in place of what the list held; none where the number is
     /// no block. Expected O(m log m) for m members in the base and puts into the block; it takes 4 bytes for each
-    /// where the list has no room.
+    /// where the list has no capacity.
     pub fn fill_members(&self, base: &Summary, b: u32, list: &mut Vec<NodeId>) -> Result<(), Memory>
         requires over { IsOver base.now.blocks.block_of base.now.blocks.labels self.now }
         ensures members { OnOk result (Lists (λ n. is_this b (at (shown_blocks base.now self.now) n)) list.new.items) }

@@ -3,17 +3,17 @@ ghost use Rattle.std.specs.Prelude.{◌≡◌, ◌+◌, ◌-◌, ◌<◌, ◌≤
 ghost use Rattle.std.specs.List.{IsDistinct};
 ghost use Rattle.std.specs.Map.{lookup, keys_of};
 ghost use Rattle.indexmap.specs.IndexMap.{spare};
-ghost use Rattle.px_spec.specs.Members.{Lists, at, has, is_this};
-ghost use Rattle.quotient.specs.Joined.{one_if};
+ghost use Rattle.graph_spec.specs.Members.{Lists, at, has, is_this};
+ghost use Rattle.quotient.specs.QuotientNeighbours.{one_if};
 ghost use Rattle.quotient_draft.specs.Drafts.{with_moves, with_left, PutsNode};
-ghost use Rattle.quotient_draft.specs.Kept.{counted, AreTaken, StayTaken, AreLookedUp, MovedBelow};
+ghost use Rattle.quotient_draft.specs.MoveTables.{counted, AreTaken, StayTaken, AreLookedUp, MovedBelow};
 ghost use Rattle.quotient_draft.specs.PutLogs.{has_put, is_kept, is_moved_to};
 ghost use Rattle.quotient_draft.specs.ShownMembers.{is_unmoved};
 
 use crate::counts::{count_of, count_one};
 use crate::put_log::PutLog;
 use indexmap::IndexMap;
-use key_table::sort_once;
+use key_table::sort_dedup;
 use px_base::{Memory, NodeId};
 use quotient::Summary;
 use std::alloc::Global;
@@ -31,7 +31,7 @@ pub(crate) struct Moves {
 }
 
 impl Model for Moves {
-    ghost use Rattle.quotient_draft.specs.Kept.{KeptMoves};
+    ghost use Rattle.quotient_draft.specs.MoveTables.{KeptMoves};
     ghost use Rattle.quotient_draft.specs.PutLogs.{AreMoves};
 
     ghost Value = { KeptMoves };
@@ -134,7 +134,7 @@ impl Moves {
         Ok(())
     }
 
-    /// For how many numbers past the end of a list of this length the moves need room.
+    /// For how many numbers past the end of a list of this length the moves need reserved capacity.
     pub(crate) fn past(&self, numbers: u32) -> u32
         requires few { numbers ≤ 2 ^ 31 }
         requires numbers { MovedBelow (2 ^ 31) self.now.moves }
@@ -151,14 +151,14 @@ impl Moves {
         end - numbers
     }
 
-    /// Makes the moves in the base, which has room for them.
+    /// Makes the moves in the base, which has capacity for them.
     pub(crate) fn make_in(&self, base: &mut Summary)
         requires blocks { (n b : ℕ) → lookup (nat_eq n) self.now.moves ≡ Some (Some b) → IsSome (at base.old.blocks.labels b) }
-        requires nodes { MovedBelow (length base.old.blocks.block_of + base.old.blocks.room.nodes) self.now.moves }
+        requires nodes { MovedBelow (length base.old.blocks.block_of + base.old.blocks.reserved.nodes) self.now.moves }
         ensures blocks { base.new.blocks.block_of ≡ with_moves base.old.blocks.block_of self.now.moves }
         ensures labels { base.new.blocks.labels ≡ base.old.blocks.labels }
         ensures supports { base.new.supports ≡ base.old.supports }
-        ensures room { base.new.room ≡ base.old.room }
+        ensures reserved { base.new.reserved ≡ base.old.reserved }
     {
         for i in 0..self.moves.len() {
             let Some((n, b)) = self.moves.get_index(i) else {
@@ -192,7 +192,7 @@ impl Moves {
         list.clear();
         self.push_kept(base, b, list)?;
         self.push_moved(b, list)?;
-        sort_once(list);
+        sort_dedup(list);
         Ok(())
     }
 
@@ -282,7 +282,7 @@ fn end_with(end: u32, n: NodeId, b: Option<u32>) -> u32
     if b.is_some() && end <= n { n + 1 } else { end }
 }
 
-// Adds a block, if there is one, to a list that has room for it.
+// Adds a block, if there is one, to a list that has capacity for it.
 fn push_block(left: &mut Vec<u32>, b: Option<u32>)
     requires { vec_len left.old < vec_capacity left.old }
     ensures { left.new.items ≡ with_left left.old.items b }
@@ -316,7 +316,7 @@ fn add_put(puts: &mut PutLog, n: NodeId, b: Option<u32>) -> Result<(), Memory>
 
 // Counts one more node for a block, if there is one, whose count is at most `most` before.
 fn count_block(counts: &mut IndexMap<u32, usize>, b: Option<u32>, most: usize)
-    requires room { 0 < spare counts.old }
+    requires reserved { 0 < spare counts.old }
     requires counted { (x : ℕ) → counted counts.old.entries x ≤ most }
     requires few { most < 2 ^ 63 }
     ensures { (x : ℕ) → counted counts.new.entries x ≡ counted counts.old.entries x + one_if (is_this x b) }

@@ -1,13 +1,13 @@
 // The next block that has support to a block as shown, and the next one to which it has support.
 ghost use Rattle.std.specs.Prelude.{◌≡◌, ◌&&◌, nat_eq, nat_le, nat_lt};
-ghost use Rattle.px_spec.specs.Members.{has};
+ghost use Rattle.graph_spec.specs.Members.{has};
 ghost use Rattle.quotient_draft.specs.Drafts.{shown_support, with_supports};
 ghost use Rattle.quotient_draft.specs.Nexts.{IsNext, is_below, LooksThrough};
-ghost use Rattle.quotient.specs.Joined.{is_supported};
+ghost use Rattle.quotient.specs.QuotientNeighbours.{is_supported};
 
+use crate::base_neighbours::{base_children, base_parents};
 use crate::changed::Changed;
 use crate::draft::Draft;
-use crate::near::{base_children, base_parents};
 use quotient::Summary;
 
 impl Draft {

@@ -1,6 +1,6 @@
 // Taking away blocks without members.
 ghost use Rattle.std.specs.Prelude.{◌≡◌, ◌≢◌, ◌∷◌, [], ℕ, false};
-ghost use Rattle.bisim_spec.specs.Views.{support_at};
+ghost use Rattle.bisim_spec.specs.IndexGraphs.{support_at};
 ghost use Rattle.quotient_draft.specs.Drafts.{has_member};
 ghost use Rattle.quotient_draft.specs.Retired.{IsRetired};
 

@@ -1,12 +1,12 @@
 // Settling a draft in its base.
 ghost use Rattle.std.specs.Prelude.{◌≡◌, ◌+◌, ◌≤◌, ◌^◌, ℕ, Bool, true, false, Some, None, IsSome, IsTrue, OnOk, length};
-ghost use Rattle.px_spec.specs.Members.{at, has};
-ghost use Rattle.block_partition.specs.Partitions.{block_count};
-ghost use Rattle.bisim_spec.specs.Views.{support_at};
+ghost use Rattle.graph_spec.specs.Members.{at, has};
+ghost use Rattle.block_partition.specs.LabelledPartitions.{block_count};
+ghost use Rattle.bisim_spec.specs.IndexGraphs.{support_at};
 ghost use Rattle.quotient.specs.Quotients.{view_of};
 ghost use Rattle.quotient_draft.specs.Drafts.{no_changes, has_member, shown_labels, shown_blocks, shown_support, settled_view};
 ghost use Rattle.quotient_draft.specs.Basis.{IsOver};
-ghost use Rattle.quotient_draft.specs.Rooms.{HasRoomFor};
+ghost use Rattle.quotient_draft.specs.ReservedCapacity.{HasRoomFor};
 
 use crate::draft::Draft;
 use crate::retiring::retire_all;
@@ -14,13 +14,13 @@ use px_base::Memory;
 use quotient::Summary;
 
 impl Draft {
-    /// Makes the room in the base that settling this draft needs. It leaves the base as it is seen. O(d) for d
+    /// Reserves the capacity in the base that settling this draft needs. It leaves the base as it is seen. O(d) for d
     /// entries that are drafted, and linear in a table of the base where that moves; it takes what the drafted blocks,
     /// moves and pairs take there.
     pub fn reserve(&self, base: &mut Summary) -> Result<(), Memory>
         requires over { IsOver base.old.blocks.block_of base.old.blocks.labels self.now }
         ensures same { view_of base.new ≡ view_of base.old }
-        ensures room { OnOk result (HasRoomFor base.new self.now) }
+        ensures reserved { OnOk result (HasRoomFor base.new self.now) }
     {
         let nodes = self.moves.past(base.numbers());
         base.reserve(nodes, self.further(base), self.changed.len())?;
@@ -44,7 +44,7 @@ impl Draft {
     /// has no support as shown. Expected O(d) for d entries that are drafted, and what `clear` takes.
     pub fn settle(&mut self, base: &mut Summary)
         requires over { IsOver base.old.blocks.block_of base.old.blocks.labels self.old }
-        requires room { HasRoomFor base.old self.old }
+        requires reserved { HasRoomFor base.old self.old }
         requires inhabited { (b : ℕ) → IsSome (at base.old.blocks.labels b) → IsTrue (has_member base.old.blocks.block_of b) }
         requires from { (b c : ℕ) → has_member (shown_blocks base.old self.old) b ≡ false → shown_support base.old self.old b c ≡ 0 }
         requires onto { (b c : ℕ) → has_member (shown_blocks base.old self.old) b ≡ false → shown_support base.old self.old c b ≡ 0 }

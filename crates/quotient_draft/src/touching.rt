@@ -1,20 +1,20 @@
 // What a draft touches.
 ghost use Rattle.std.specs.Prelude.{◌≡◌, ◌≢◌, ◌<◌, ◌&&◌, ◌++◌, not, ℕ, IsTrue, IsFalse, OnOk, nat_eq, nat_lt};
 ghost use Rattle.std.specs.List.{list_any};
-ghost use Rattle.px_spec.specs.Members.{at, has};
-ghost use Rattle.bisim_spec.specs.Views.{support_at};
+ghost use Rattle.graph_spec.specs.Members.{at, has};
+ghost use Rattle.bisim_spec.specs.IndexGraphs.{support_at};
 ghost use Rattle.quotient_draft.specs.Drafts.{shown_support, with_supports, LabelsStayBut, SupportsStayBut};
 
+use crate::base_neighbours::base_parents;
 use crate::changed::Changed;
 use crate::draft::Draft;
-use crate::near::base_parents;
 use px_base::Memory;
 use quotient::Summary;
 
 impl Draft {
     /// Adds to the list the blocks that are drafted, and those at which drafted pairs end. All others have, as shown, the
     /// labels and the parents that they have in the base. O(d) for d blocks and pairs that are drafted; it takes 4 bytes for
-    /// each where the list has no room.
+    /// each where the list has no capacity.
     pub fn add_touched(&self, list: &mut Vec<u32>) -> Result<(), Memory>
         ensures kept { OnOk result ((b : ℕ) → IsTrue (has list.old.items b) → IsTrue (has list.new.items b)) }
         ensures labels { OnOk result (LabelsStayBut list.new.items self.now.added) }

@@ -1,6 +1,6 @@
 // Drafting a support, or the move of a node that has a block.
 ghost use Rattle.std.specs.Prelude.{◌≡◌, ◌<◌, ℕ, Some, IsSome, OnOk, OnErr};
-ghost use Rattle.px_spec.specs.Members.{at, has};
+ghost use Rattle.graph_spec.specs.Members.{at, has};
 ghost use Rattle.quotient_draft.specs.Drafts.{shown_labels, shown_blocks, shown_support, with_left, SetsPair, PutsNode};
 ghost use Rattle.quotient_draft.specs.Basis.{IsOver};
 

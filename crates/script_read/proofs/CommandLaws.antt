@@ -2,15 +2,15 @@
 use Rattle.std.proofs.Common.{◌≡◌, ℕ, ◌≢◌, ◌<◌, ◌^◌, List, [], ◌∷◌, refl, sym, ap, ◌∙◌, subst, arith}
 use Rattle.std.specs.Prelude.{codes, slice_index}
 use Rattle.std.proofs.lemmas.Fmt.{decimal_injective}
-use Rattle.px_spec.specs.Changes.{node, link, unlink, drop}
+use Rattle.graph_spec.specs.Changes.{node, link, unlink, drop}
 use Rattle.path_query.specs.Labels.{SpellsLabel}
-use Rattle.px_spec.specs.Words.{node_word}
+use Rattle.graph_spec.specs.Words.{node_word}
 use Rattle.bisim_spec.specs.declared.kind.Kind.{Kind}
 use Rattle.bisim_spec.specs.declared.kind.Kind.TheVariants as kind
 use Rattle.index_api.specs.declared.kinds.Via.{Via}
 use Rattle.index_api.specs.declared.kinds.Via.TheVariants.{Data, A, One, Fb}
 use Rattle.index_api.specs.Spelling.{via_word, kind_word}
-use Rattle.script_read.specs.Parts.{first_word, expression_text}
+use Rattle.script_read.specs.FirstWords.{first_word, expression_text}
 use Rattle.script_read.specs.Commands.{Command, change, path, branch, extents, sizes, forget, IsIndex, IsVia, IsQuiet, IsSpelled, SpellsPair, AsksWith, Asks, NoCommand, SpellsOnce, LabelsOnce, PathsOnce, BranchesOnce}
 use Rattle.script_read.specs.ScannedLines.{SaysNode, SaysQuery}
 use Rattle.script_read.proofs.WordLemmas.{head_word, is_split}

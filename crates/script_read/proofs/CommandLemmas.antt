@@ -1,12 +1,12 @@
 -- From the first word of a line to what the line says.
 use Rattle.std.proofs.Common.{◌≡◌, ◌≢◌, ℕ, ◌<◌, ◌^◌, List, [], ◌∷◌, refl, sym, ap, ◌∙◌, subst, arith, Err, IsTrue, inl, inr}
 use Rattle.std.specs.Prelude.{codes, slice_index, ◌↔◌}
-use Rattle.px_spec.specs.Words.{words}
-use Rattle.px_spec.specs.Changes.{Change, node, link, unlink, drop}
+use Rattle.graph_spec.specs.Words.{words}
+use Rattle.graph_spec.specs.Changes.{Change, node, link, unlink, drop}
 use Rattle.bisim_spec.specs.declared.kind.Kind.{Kind}
 use Rattle.index_api.specs.declared.kinds.Via.{Via}
 use Rattle.index_api.specs.Spelling.{via_word, kind_word}
-use Rattle.px_spec.specs.declared.limits.Limits.{Limits}
+use Rattle.graph_spec.specs.declared.limits.Limits.{Limits}
 use Rattle.path_spec.specs.Trees.{Expr}
 use Rattle.path_query.specs.Labels.{SpellsLabel}
 use Rattle.path_query.specs.Parsed.{Spells, is_past}
@@ -16,9 +16,9 @@ use Rattle.script_read.specs.ScannedLines.{SaysNode, SaysQuery, OpensOther}
 use Rattle.script_read.specs.ReadLines.{ReadsCommand}
 use Rattle.script_read.specs.declared.commands.ScriptError.{ScriptError}
 use Rattle.script_read.specs.declared.commands.ScriptError.TheVariants.{Bad, Limit, Memory}
-use Rattle.px_spec.specs.Words.{node_word}
+use Rattle.graph_spec.specs.Words.{node_word}
 use Rattle.script_read.specs.Commands.{Command, change, path, branch, extents, sizes, forget, IsIndex, IsVia, SaysNothing, IsQuiet, AsksWith, Asks, SpellsPath, SpellsBranch, PassesLimit, IsSpelled, NoCommand}
-use Rattle.script_read.specs.Parts.{IsSplit, OpensNothing, first_word, behind_word}
+use Rattle.script_read.specs.FirstWords.{IsSplit, OpensNothing, first_word, behind_word}
 use Rattle.script_read.proofs.WordLemmas.{head_word, is_split, words-cons}
 
 pub opens_quiet : (line word rest : List ℕ) → IsSplit line word rest → OpensNothing word → SaysNothing (words line)

@@ -2,8 +2,8 @@
 use Rattle.std.proofs.Common.{◌≡◌, ℕ, ◌<◌, ◌^◌, List, [], ◌∷◌, length, drop, refl, sym, ap, ◌∙◌, subst, arith, lit<, ◌⊎◌, inl, inr}
 use Rattle.std.specs.Prelude.{codes, decimal, slice_index}
 use Rattle.std.proofs.lemmas.Fmt.{decimal_digit, first_decimal}
-use Rattle.px_spec.specs.Words.{node_word}
-use Rattle.px_spec.specs.Changes.{node, link, unlink, drop as drop_node}
+use Rattle.graph_spec.specs.Words.{node_word}
+use Rattle.graph_spec.specs.Changes.{node, link, unlink, drop as drop_node}
 use Rattle.path_query.specs.Labels.{SpellsLabel}
 use Rattle.path_spec.specs.Trees.{Expr, only, last, once, label}
 use Rattle.branch_spec.specs.Trees as tree
@@ -13,7 +13,7 @@ use Rattle.bisim_spec.specs.declared.kind.Kind.TheVariants as kind
 use Rattle.index_api.specs.declared.kinds.Via.{Via}
 use Rattle.index_api.specs.declared.kinds.Via.TheVariants.{Data, A, One, Fb}
 use Rattle.script_read.specs.Commands.{Command, change, path, branch, extents, sizes, forget, IsQuiet, IsSpelled, NoCommand}
-use Rattle.script_read.specs.Parts.{expression_text}
+use Rattle.script_read.specs.FirstWords.{expression_text}
 
 -- blanks may stand at both ends and between the words
 node_spelled : IsSpelled (codes " node\ta ") (change (node (codes "a")))

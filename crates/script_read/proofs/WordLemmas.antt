@@ -6,21 +6,21 @@ use Rattle.std.specs.Prelude.{not, ◌==◌, IsTrue, ◌↔◌}
 use Rattle.std.specs.List.{slice_split, position_or_len, prefix_len, onto_first}
 use Rattle.std.proofs.lemmas.List.Splits.{slice_split_first, slice_split_none}
 use Rattle.std.proofs.lemmas.List.Sums.{fails_before_first, prefix_len-le-length}
-use Rattle.px_spec.specs.Words.{is_blank, words}
-use Rattle.px_spec.specs.Words.{node_word}
-use Rattle.script_read.specs.Parts.{after_blanks, first_word, behind_word, IsSplit}
+use Rattle.graph_spec.specs.Words.{is_blank, words}
+use Rattle.graph_spec.specs.Words.{node_word}
+use Rattle.script_read.specs.FirstWords.{after_blanks, first_word, behind_word, IsSplit}
 
 abbrev filled : List ℕ → Bool
 filled w = not (length w == 0)
 
-filter_front : (w : List ℕ) (ws : List (List ℕ)) → filter filled (w ∷ ws) ≡ filter filled (w ∷ []) ++ filter filled ws
-filter_front w ws = elim (filled w) as (λ b. cond b (w ∷ filter filled ws) (filter filled ws) ≡ cond b (w ∷ []) [] ++ filter filled ws) [ true ↦ refl | false ↦ refl ]
+filter_prefix : (w : List ℕ) (ws : List (List ℕ)) → filter filled (w ∷ ws) ≡ filter filled (w ∷ []) ++ filter filled ws
+filter_prefix w ws = elim (filled w) as (λ b. cond b (w ∷ filter filled ws) (filter filled ws) ≡ cond b (w ∷ []) [] ++ filter filled ws) [ true ↦ refl | false ↦ refl ]
 
 words-next : (rest : List ℕ) (n : ℕ) → n ≡ position_or_len is_blank rest → n < length rest
     → filter filled (take n rest ∷ []) ++ words (drop (n + 1) rest) ≡ words rest
 words-next rest n e h =
     let l : position_or_len is_blank rest < length rest = omega arith in
-    sym (filter_front (take n rest) (slice_split is_blank (drop (n + 1) rest)))
+    sym (filter_prefix (take n rest) (slice_split is_blank (drop (n + 1) rest)))
     ∙ ap (λ k. filter filled (take k rest ∷ slice_split is_blank (drop (k + 1) rest))) e
     ∙ ap (filter filled) (sym (slice_split_first is_blank rest 0 l))
 
@@ -42,29 +42,29 @@ words-blank : (b : ℕ) (bs : List ℕ) → is_blank b ≡ true → words (b ∷
 words-blank b bs e = ap (λ t. filter filled (cond t ([] ∷ slice_split is_blank bs) (onto_first b (slice_split is_blank bs)))) e
 
 -- what stands behind the blanks in front: nothing, or a byte that is none
-pub data Front (line : List ℕ) : Type 0 where
-  over : after_blanks line ≡ [] → words line ≡ [] → Front line
-  ink : (b : ℕ) (bs : List ℕ) → after_blanks line ≡ b ∷ bs → is_blank b ≡ false → words line ≡ words (b ∷ bs) → Front line
+pub data Prefix (line : List ℕ) : Type 0 where
+  over : after_blanks line ≡ [] → words line ≡ [] → Prefix line
+  ink : (b : ℕ) (bs : List ℕ) → after_blanks line ≡ b ∷ bs → is_blank b ≡ false → words line ≡ words (b ∷ bs) → Prefix line
 
-front_on : (c : ℕ) (cs : List ℕ) → is_blank c ≡ true → Front cs → Front (c ∷ cs)
-front_on c cs e f =
+prefix_on : (c : ℕ) (cs : List ℕ) → is_blank c ≡ true → Prefix cs → Prefix (c ∷ cs)
+prefix_on c cs e f =
     let skipped : after_blanks (c ∷ cs) ≡ after_blanks cs = ap (λ n. drop n (c ∷ cs)) (prefix_yes is_blank c cs e) in
     elim f [
       | over a w ↦ over (skipped ∙ a) (words-blank c cs e ∙ w)
       | ink b bs a n w ↦ ink b bs (skipped ∙ a) n (words-blank c cs e ∙ w)
     ]
 
-pub front : (line : List ℕ) → Front line
-front [] = over refl refl
-front (c ∷ cs) =
-    elim (is_blank c) as (λ t. is_blank c ≡ t → Front (c ∷ cs)) [
-      | true ↦ λ e. front_on c cs e (front cs)
+pub prefix : (line : List ℕ) → Prefix line
+prefix [] = over refl refl
+prefix (c ∷ cs) =
+    elim (is_blank c) as (λ t. is_blank c ≡ t → Prefix (c ∷ cs)) [
+      | true ↦ λ e. prefix_on c cs e (prefix cs)
       | false ↦ λ e. ink c cs (ap (λ n. drop n (c ∷ cs)) (prefix_no is_blank c cs e)) e refl
     ] refl
 
 -- with no first word there is no word
 pub words-none : (line : List ℕ) → first_word line ≡ [] → words line ≡ []
-words-none line e = elim (front line) [
+words-none line e = elim (prefix line) [
   | over a w ↦ w
   | ink b bs a n w ↦ absurd (
       let k : first_word line ≡ take (position_or_len is_blank (b ∷ bs)) (b ∷ bs) = ap (λ l. take (position_or_len is_blank l) l) a in
@@ -100,7 +100,7 @@ words-parts xs = elim (place_cases (position_or_len is_blank xs) (length xs) (pr
 ]
 
 words-after : (line : List ℕ) → words (after_blanks line) ≡ words line
-words-after line = elim (front line) [ over a w ↦ ap words a ∙ sym w | ink b bs a n w ↦ ap words a ∙ sym w ]
+words-after line = elim (prefix line) [ over a w ↦ ap words a ∙ sym w | ink b bs a n w ↦ ap words a ∙ sym w ]
 
 filled_some : (b : ℕ) (bs : List ℕ) → filled (b ∷ bs) ≡ true
 filled_some b bs = ap not (ne_eqb (length (b ∷ bs)) 0 (omega arith))

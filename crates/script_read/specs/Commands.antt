@@ -1,8 +1,8 @@
 -- What a line of a script spells.
 use Rattle.std.specs.Prelude.{ℕ, ◌≡◌, ◌<◌, ◌^◌, ◌⊎◌, List, [], ◌∷◌, codes, IsTrue}
-use Rattle.px_spec.specs.declared.limits.Limits.{Limits}
-use Rattle.px_spec.specs.Words.{words, node_word}
-use Rattle.px_spec.specs.Changes.{Change, node, link, unlink, drop}
+use Rattle.graph_spec.specs.declared.limits.Limits.{Limits}
+use Rattle.graph_spec.specs.Words.{words, node_word}
+use Rattle.graph_spec.specs.Changes.{Change, node, link, unlink, drop}
 use Rattle.path_spec.specs.Trees.{Expr}
 use Rattle.path_query.specs.Labels.{SpellsLabel}
 use Rattle.path_query.specs.Parsed.{Spells, is_past}
@@ -12,7 +12,7 @@ use Rattle.bisim_spec.specs.declared.kind.Kind.{Kind}
 use Rattle.index_api.specs.declared.kinds.Via.{Via}
 use Rattle.index_api.specs.declared.kinds.Via.TheVariants.{Data, A, One, Fb}
 use Rattle.index_api.specs.Spelling.{via_word, kind_word}
-use Rattle.script_read.specs.Parts.{first_word, behind_word, expression_text}
+use Rattle.script_read.specs.FirstWords.{first_word, behind_word, expression_text}
 
 pub data Command : Type 0 where
   -- a change of the graph

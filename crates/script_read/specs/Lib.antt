@@ -1,4 +1,4 @@
-pub mod Parts
+pub mod FirstWords
 pub mod Commands
 pub mod ScannedLines
 pub mod ReadLines

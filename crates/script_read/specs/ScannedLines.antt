@@ -1,10 +1,10 @@
 -- What a line says, before any memory is taken.
 use Rattle.std.specs.Prelude.{ℕ, ◌≡◌, ◌≢◌, List, [], ◌∷◌, codes}
-use Rattle.px_spec.specs.Words.{words}
-use Rattle.px_spec.specs.Changes.{link, unlink, drop}
+use Rattle.graph_spec.specs.Words.{words}
+use Rattle.graph_spec.specs.Changes.{link, unlink, drop}
 use Rattle.index_api.specs.declared.kinds.Via.{Via}
 use Rattle.script_read.specs.Commands.{change, extents, sizes, forget, AsksWith, Asks, IsQuiet, IsSpelled, NoCommand}
-use Rattle.script_read.specs.Parts.{expression_text, OpensNothing}
+use Rattle.script_read.specs.FirstWords.{expression_text, OpensNothing}
 use Rattle.script_read.specs.declared.scan.ScannedLine.{ScannedLine}
 use Rattle.script_read.specs.declared.scan.ScannedLine.TheVariants.{Quiet, Node, Link, Unlink, Drop, Path, Branch, Extents, Sizes, Forget, Bad}
 

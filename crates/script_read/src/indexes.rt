@@ -1,6 +1,6 @@
 // Indexes and their kinds, as lines name them.
 ghost use Rattle.std.specs.Prelude.{◌≡◌, ◌≢◌, ◌<◌, ◌^◌, ℕ, IfSome, IfNone, [], ◌∷◌, decimal};
-ghost use Rattle.px_spec.specs.Words.{words};
+ghost use Rattle.graph_spec.specs.Words.{words};
 ghost use Rattle.bisim_spec.specs.declared.kind.Kind.{Kind as AnyKind};
 ghost use Rattle.index_api.specs.declared.kinds.Via.{Via as AnyVia};
 ghost use Rattle.index_api.specs.Spelling.{via_word, kind_word};

@@ -1,6 +1,6 @@
 // Nodes, as lines name them.
 ghost use Rattle.std.specs.Prelude.{◌≡◌, ◌≢◌, ◌<◌, ◌^◌, ◌↔◌, ℕ, IsTrue, IfSome, IfNone, Some, [], ◌∷◌, decimal};
-ghost use Rattle.px_spec.specs.Words.{words, node_word};
+ghost use Rattle.graph_spec.specs.Words.{words, node_word};
 
 use crate::words::{is_over, split_word};
 use itoa::Buffer;

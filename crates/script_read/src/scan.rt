@@ -1,10 +1,10 @@
 // What a line of a script says.
 ghost use Rattle.std.specs.Prelude.{◌≡◌, ◌≢◌, ◌↔◌, List, ℕ, IsTrue, IfSome, IfNone, [], ◌∷◌};
-ghost use Rattle.px_spec.specs.Words.{words};
+ghost use Rattle.graph_spec.specs.Words.{words};
 ghost use Rattle.index_api.specs.declared.kinds.Via.{Via as AnyVia};
 ghost use Rattle.index_api.specs.Spelling.{via_word};
 ghost use Rattle.script_read.specs.Commands.{IsVia};
-ghost use Rattle.script_read.specs.Parts.{first_word, behind_word, without_blanks, OpensNothing};
+ghost use Rattle.script_read.specs.FirstWords.{first_word, behind_word, without_blanks, OpensNothing};
 ghost use Rattle.script_read.specs.ScannedLines.{OpensOther, IsScanned};
 
 use crate::indexes::{one_index, one_kind, via_of};

@@ -1,7 +1,7 @@
 // The words of a line, one after another.
 ghost use Rattle.std.specs.Prelude.{◌≡◌, ◌≢◌, ◌↔◌, ℕ, List, IsTrue, IfSome, IfNone, [], ◌∷◌};
-ghost use Rattle.px_spec.specs.Words.{words};
-ghost use Rattle.script_read.specs.Parts.{first_word, behind_word, without_blanks, IsSplit};
+ghost use Rattle.graph_spec.specs.Words.{words};
+ghost use Rattle.script_read.specs.FirstWords.{first_word, behind_word, without_blanks, IsSplit};
 
 use path_query::{skip_blanks, trim_end_blanks};
 

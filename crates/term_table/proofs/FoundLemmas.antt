@@ -9,7 +9,7 @@ use Rattle.triples_read.specs.Lines.{xsd_string}
 use Rattle.term_table.specs.declared.parts.Sort.TheVariants as sort
 use Rattle.term_table.specs.declared.entries.Entry.{Entry}
 use Rattle.term_table.specs.Terms.{same_term}
-use Rattle.term_table.specs.Parts.{parts_of, term_of}
+use Rattle.term_table.specs.TermParts.{parts_of, term_of}
 use Rattle.term_table.specs.Entries.{entry_at, parts_in, terms_of, IsTermTable, LackParts}
 use Rattle.term_table.specs.FoundTerms.{IsFoundAs}
 use Rattle.term_table.proofs.SameTerms.{same_bytes, term_is, term_same}

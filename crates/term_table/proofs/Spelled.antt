@@ -7,7 +7,7 @@ use Rattle.hash_index.specs.Items.{Items, with_item, hash_at, count_to, IsNewest
 use Rattle.triples_read.specs.declared.term.Term.{Term}
 use Rattle.term_table.specs.declared.entries.Entry.{Entry}
 use Rattle.term_table.specs.declared.entries.TermRange.{TermRange}
-use Rattle.term_table.specs.Parts.{Parts, parts_of, term_of, hash_of}
+use Rattle.term_table.specs.TermParts.{Parts, parts_of, term_of, hash_of}
 use Rattle.term_table.specs.Entries.{no_entry, entry_at, AreWithin, HasTexts, parts_in, terms_of, IsTermTable, LackParts}
 use Rattle.term_table.proofs.Stored.{range_kept}
 

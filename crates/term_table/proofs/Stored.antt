@@ -4,7 +4,7 @@ use Rattle.std.specs.Prelude.{slice_range}
 use Rattle.std.proofs.lemmas.List.{length-append, take-append-le, drop-append-le, length-drop}
 use Rattle.std.proofs.Math.Seq.{drop-append_seam, take-length}
 use Rattle.term_table.specs.declared.entries.TermRange.{TermRange}
-use Rattle.term_table.specs.Parts.{Parts}
+use Rattle.term_table.specs.TermParts.{Parts}
 use Rattle.term_table.specs.Entries.{AreWithin, HasTexts, Begins}
 
 -- what lies in front stays

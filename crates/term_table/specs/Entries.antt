@@ -5,7 +5,7 @@ use Rattle.hash_index.specs.Items.{Items, hash_at}
 use Rattle.term_table.specs.declared.entries.Entry.{Entry}
 use Rattle.term_table.specs.declared.entries.TermRange.{TermRange}
 use Rattle.term_table.specs.declared.parts.Sort.TheVariants.{Iri}
-use Rattle.term_table.specs.Parts.{Parts, parts_of, term_of, hash_of}
+use Rattle.term_table.specs.TermParts.{Parts, parts_of, term_of, hash_of}
 
 abbrev pub no_entry : Entry
 no_entry = record { span = record { from = 0; text_end = 0; datatype_end = 0; to = 0 }; sort = Iri; number = 0 }

@@ -1,4 +1,4 @@
 pub mod Terms
-pub mod Parts
+pub mod TermParts
 pub mod Entries
 pub mod FoundTerms

@@ -1,6 +1,6 @@
 // The entries of the table of terms, one for each term.
 ghost use Rattle.std.specs.Prelude.{◌≡◌, ◌≢◌, ◌<◌, ◌≤◌, length, IsTrue, IsFalse};
-ghost use Rattle.term_table.specs.Parts.{shown_parts};
+ghost use Rattle.term_table.specs.TermParts.{parts_value};
 ghost use Rattle.term_table.specs.Entries.{entry_at, parts_in, has_texts, AreWithin};
 
 use crate::parts::{Parts, Sort};
@@ -35,7 +35,7 @@ pub(crate) fn read_entry(index: &HashIndex<Entry>, n: u32) -> Entry
 #[inline(always)]
 fn same_texts(arena: &[u8], s: &TermRange, parts: &Parts<'_>) -> bool
     requires within { AreWithin (length arena.now) s.now }
-    ensures { result ≡ has_texts arena.now s.now (shown_parts parts.now) }
+    ensures { result ≡ has_texts arena.now s.now (parts_value parts.now) }
 {
     &arena[s.from as usize..s.text_end as usize] == parts.text
         && &arena[s.text_end as usize..s.datatype_end as usize] == parts.datatype
@@ -46,8 +46,8 @@ fn same_texts(arena: &[u8], s: &TermRange, parts: &Parts<'_>) -> bool
 #[inline(always)]
 pub(crate) fn has_parts(arena: &[u8], e: &Entry, parts: &Parts<'_>) -> bool
     requires within { AreWithin (length arena.now) e.now.span }
-    ensures same { IsTrue result → parts_in arena.now e.now ≡ shown_parts parts.now }
-    ensures other { IsFalse result → parts_in arena.now e.now ≢ shown_parts parts.now }
+    ensures same { IsTrue result → parts_in arena.now e.now ≡ parts_value parts.now }
+    ensures other { IsFalse result → parts_in arena.now e.now ≢ parts_value parts.now }
 {
     e.sort == parts.sort && same_texts(arena, &e.span, parts)
 }

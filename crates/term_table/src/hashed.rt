@@ -1,6 +1,6 @@
 // Terms with their hashes.
 ghost use Rattle.std.specs.Prelude.{◌≡◌};
-ghost use Rattle.term_table.specs.Parts.{shown_parts, parts_of, hash_of};
+ghost use Rattle.term_table.specs.TermParts.{parts_value, parts_of, hash_of};
 
 use crate::parts::{Parts, hash_parts, parts_of};
 use std::marker::Model;
@@ -16,7 +16,7 @@ pub struct HashedTerm {
 impl Model for HashedTerm {
     ghost use Rattle.std.specs.Prelude.{◌≡◌};
     ghost use Rattle.triples_read.specs.declared.term.Term.{Term as Value_of_term};
-    ghost use Rattle.term_table.specs.Parts.{parts_of, hash_of};
+    ghost use Rattle.term_table.specs.TermParts.{parts_of, hash_of};
 
     ghost Value = { Value_of_term };
 
@@ -51,7 +51,7 @@ impl HashedTerm {
 
     #[inline(always)]
     pub(crate) fn parts(&self) -> Parts<'_>
-        ensures { shown_parts result ≡ parts_of self.now }
+        ensures { parts_value result ≡ parts_of self.now }
     {
         parts_of(&self.term)
     }

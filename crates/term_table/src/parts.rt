@@ -1,7 +1,7 @@
 // The parts of a term, by which it is found.
 ghost use Rattle.std.specs.Prelude.{◌≡◌, [], None, bytes_eq};
 ghost use Rattle.triples_read.specs.Lines.{xsd_string};
-ghost use Rattle.term_table.specs.Parts.{parts_of, literal_parts, shown_parts, hash_of};
+ghost use Rattle.term_table.specs.TermParts.{parts_of, literal_parts, parts_value, hash_of};
 
 use px_base::Text;
 use std::hash::{FoldHasher, Hasher};
@@ -32,7 +32,7 @@ pub(crate) struct Parts<'a> {
 /// The parts of the term.
 #[inline(always)]
 pub(crate) fn parts_of(term: &Term) -> Parts<'_>
-    ensures { shown_parts result ≡ parts_of term.now }
+    ensures { parts_value result ≡ parts_of term.now }
 {
     match term {
         Term::Iri(text) => alone(Sort::Iri, text.as_bytes()),
@@ -57,7 +57,7 @@ pub(crate) fn parts_of(term: &Term) -> Parts<'_>
 
 #[inline(always)]
 fn untagged<'a>(text: &'a Text, datatype: &'a Text) -> Parts<'a>
-    ensures { shown_parts result ≡ literal_parts text.now datatype.now None }
+    ensures { parts_value result ≡ literal_parts text.now datatype.now None }
 {
     if is_xsd_string(datatype.as_str()) {
         return alone(Sort::Simple, text.as_bytes());
@@ -72,7 +72,7 @@ fn untagged<'a>(text: &'a Text, datatype: &'a Text) -> Parts<'a>
 
 #[inline(always)]
 fn alone(sort: Sort, text: &[u8]) -> Parts<'_>
-    ensures { shown_parts result ≡ record { sort = sort; text = text.now; datatype = []; tag = [] } }
+    ensures { parts_value result ≡ record { sort = sort; text = text.now; datatype = []; tag = [] } }
 {
     Parts {
         sort,
@@ -84,7 +84,7 @@ fn alone(sort: Sort, text: &[u8]) -> Parts<'_>
 
 /// A hash of the texts.
 pub(crate) fn hash_parts(parts: &Parts<'_>) -> u32
-    ensures { result ≡ hash_of (shown_parts parts.now) }
+    ensures { result ≡ hash_of (parts_value parts.now) }
 {
     let mut hasher = FoldHasher::default();
     hasher.write(parts.text);

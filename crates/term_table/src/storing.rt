@@ -1,6 +1,6 @@
 // Terms in the arena.
 ghost use Rattle.std.specs.Prelude.{◌≡◌, ◌+◌, ◌≤◌, ◌^◌, ◌<◌, ◌++◌, length, slice_range, IfOk, OnOk};
-ghost use Rattle.term_table.specs.Parts.{shown_parts};
+ghost use Rattle.term_table.specs.TermParts.{parts_value};
 ghost use Rattle.term_table.specs.Entries.{AreWithin, HasTexts};
 ghost use Rattle.term_table.specs.Entries.{Begins};
 
@@ -29,7 +29,7 @@ pub(crate) fn store(arena: &mut Vec<u8>, parts: &Parts<'_>) -> Result<TermRange,
     ensures begins { Begins arena.old.items arena.new.items }
     ensures short { length arena.new.items < 2 ^ 32 }
     ensures within { IfOk result (AreWithin (length arena.new.items)) }
-    ensures texts { IfOk result (λ s. HasTexts arena.new.items s (shown_parts parts.now)) }
+    ensures texts { IfOk result (λ s. HasTexts arena.new.items s (parts_value parts.now)) }
 {
     let from = arena.len() as u32;
     let text_end = store_text(arena, parts.text)?;

@@ -2,7 +2,7 @@
 ghost use Rattle.std.specs.Prelude.{◌≡◌, ◌<◌, ◌++◌, ◌∷◌, [], length, Some, None, OnOk, OnErr, IfOk, IfSome};
 ghost use Rattle.triples_read.specs.declared.term.Term.{Term as Value_of_term};
 ghost use Rattle.term_table.specs.Terms.{number_of};
-ghost use Rattle.term_table.specs.Parts.{parts_of, shown_parts, hash_of};
+ghost use Rattle.term_table.specs.TermParts.{parts_of, parts_value, hash_of};
 ghost use Rattle.term_table.specs.Entries.{IsTermTable, LackParts, terms_of};
 ghost use Rattle.term_table.specs.FoundTerms.{IsFoundAs};
 
@@ -116,7 +116,7 @@ impl TermTable {
     }
 
     /// The same; the place to which the hint leads is tried first. Expected O(b) for texts of b bytes, no memory.
-    pub fn find_near(&self, term: &HashedTerm, hint: Option<Hint>) -> Option<Found>
+    pub fn find_hinted(&self, term: &HashedTerm, hint: Option<Hint>) -> Option<Found>
         ensures { IsFoundAs self.now term.now result }
     {
         if let Some(found) = self.at_hint(term, hint) {
@@ -189,8 +189,8 @@ impl TermTable {
 // Where the term with these parts stands.
 fn search(arena: &[u8], index: &HashIndex<Entry>, parts: &Parts<'_>, hash: u32) -> Option<Found>
     requires table { IsTermTable arena.now index.now }
-    requires hash { hash ≡ hash_of (shown_parts parts.now) }
-    ensures { (x : Value_of_term) → shown_parts parts.now ≡ parts_of x → IsFoundAs (terms_of arena.now index.now.items) x result }
+    requires hash { hash ≡ hash_of (parts_value parts.now) }
+    ensures { (x : Value_of_term) → parts_value parts.now ≡ parts_of x → IsFoundAs (terms_of arena.now index.now.items) x result }
 {
     let mut at = index.newest(hash);
     'walk: while let Some(n) = at {
@@ -209,7 +209,7 @@ fn search(arena: &[u8], index: &HashIndex<Entry>, parts: &Parts<'_>, hash: u32) 
 // The term at the place, where it has these parts.
 fn at_place(arena: &[u8], index: &HashIndex<Entry>, place: u32, parts: &Parts<'_>) -> Option<Found>
     requires { IsTermTable arena.now index.now }
-    ensures { (x : Value_of_term) → shown_parts parts.now ≡ parts_of x → IfSome result (λ f. IsFoundAs (terms_of arena.now index.now.items) x (Some f)) }
+    ensures { (x : Value_of_term) → parts_value parts.now ≡ parts_of x → IfSome result (λ f. IsFoundAs (terms_of arena.now index.now.items) x (Some f)) }
 {
     if place >= index.len() {
         return None;

@@ -26,7 +26,7 @@ fn fill(table: &mut TermTable, terms: &[HashedTerm]) -> Result<Option<u32>, Memo
 fn is_there(table: &TermTable, term: &HashedTerm) -> bool {
     let hint = table.pass_others(table.enter_chain(Hint::of(term)));
     table.find(term.term()).is_some()
-        && table.find_near(term, Some(hint)).is_some()
+        && table.find_hinted(term, Some(hint)).is_some()
         && hint.place().is_some()
         && table.number(hint).is_some()
         && table.first_byte(hint).is_some()

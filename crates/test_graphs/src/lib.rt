@@ -58,7 +58,7 @@ fn put_edges<L: Ledger>(
 /// A graph whose nodes have these labels, a byte each, and these edges. It fails where an edge comes twice or one of its ends is no
 /// node. O(n + e) for n nodes and e edges, but for the reads of `Graph::has_edge`; it takes
 /// the memory of the graph.
-pub fn drawn<L: Ledger>(
+pub fn graph_from<L: Ledger>(
     alloc: Global,
     labels: &[u8],
     edges: &[(NodeId, NodeId)],
@@ -76,13 +76,13 @@ pub fn drawn<L: Ledger>(
 const CHAINS: &[(NodeId, NodeId)] = &[(0, 1), (1, 2), (3, 4), (4, 5)];
 
 /// Two chains of an `a`, a `b` and a `c`, the nodes 0 to 2 and 3 to 5, and an `x`, the node 6, which has just these further edges. It fails as
-/// `drawn` does, and costs as much.
+/// `graph_from` does, and costs as much.
 pub fn two_chains<L: Ledger>(
     alloc: Global,
     further: &[(NodeId, NodeId)],
     steps: &mut Steps<L>,
 ) -> Result<Graph, Fail> {
-    let mut graph = drawn(alloc, b"abcabcx", CHAINS, steps)?;
+    let mut graph = graph_from(alloc, b"abcabcx", CHAINS, steps)?;
     put_edges(&mut graph, further, steps)?;
     Ok(graph)
 }

@@ -76,7 +76,7 @@ fn read_small_graph<L: Ledger>(rt: &impl Abort, alloc: Global, blank: Blank) -> 
     requires some { 0 < blank.parts }
 {
     let mut steps = Steps::<L>::new(blank);
-    let graph = drawn(alloc, LABELS, EDGES, &mut steps)?;
+    let graph = graph_from(alloc, LABELS, EDGES, &mut steps)?;
     check_small(rt, &graph, &mut steps);
     assert!(rt; graph.is_live(3));
     assert!(rt; graph.label(3) == 2);
@@ -159,7 +159,7 @@ fn take_apart<L: Ledger>(rt: &impl Abort, alloc: Global, blank: Blank) -> Result
     requires some { 0 < blank.parts }
 {
     let mut steps = Steps::<L>::new(blank);
-    let mut graph = drawn(alloc, LABELS, EDGES, &mut steps)?;
+    let mut graph = graph_from(alloc, LABELS, EDGES, &mut steps)?;
     take_loop(rt, &mut graph, &mut steps);
     check_any(rt, &graph, &mut steps);
     take_hub(rt, &mut graph, &mut steps);

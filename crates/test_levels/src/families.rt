@@ -1,6 +1,6 @@
 // Levels of small graphs.
 ghost use Rattle.std.specs.Prelude.{◌≡◌, ◌<◌, ◌≤◌, ◌↔◌, IfOk, IsTrue, IsSome, length};
-ghost use Rattle.px_spec.specs.Shapes.{IsNode, shape_of};
+ghost use Rattle.graph_spec.specs.Shapes.{IsNode, shape_of};
 ghost use Rattle.bisim_spec.specs.Bisimilarity.{Bis};
 ghost use Rattle.ak_family.specs.LevelDrafts.{AreOver};
 
@@ -12,7 +12,7 @@ use std::marker::Brand;
 use std::process::Abort;
 use std::sync::ledger::{Blank, Ledger};
 use std::test::Fail;
-use test_graphs::{drawn, two_chains};
+use test_graphs::{graph_from, two_chains};
 
 // Whether two nodes are bisimilar to a level, by a family that is built for it.
 fn is_bisimilar(
@@ -121,7 +121,7 @@ fn check_family<L: Ledger>(rt: &impl Abort, alloc: Global, blank: Blank) -> Resu
     requires some { 0 < blank.parts }
 {
     let mut steps = Steps::<L>::new(blank);
-    let graph = drawn(alloc, b"aabb", &[(0, 2), (1, 2), (0, 3)], &mut steps)?;
+    let graph = graph_from(alloc, b"aabb", &[(0, 2), (1, 2), (0, 3)], &mut steps)?;
     let family = AkFamily::build(alloc, &graph.view(&mut steps), 1)?;
     assert!(rt; has_blocks(&family, &[0, 0, 1, 1]));
     check_keys(rt, alloc, &family)?;
@@ -141,7 +141,7 @@ fn check_loops<L: Ledger>(rt: &impl Abort, alloc: Global, blank: Blank) -> Resul
     requires some { 0 < blank.parts }
 {
     let mut steps = Steps::<L>::new(blank);
-    let loops = drawn(alloc, b"aa", &[(0, 0), (1, 1)], &mut steps)?;
+    let loops = graph_from(alloc, b"aa", &[(0, 0), (1, 1)], &mut steps)?;
     assert!(rt; loops.is_live(0));
     assert!(rt; loops.is_live(1));
     let same = is_bisimilar(alloc, &loops.view(&mut steps), 3, 0, 1)?;

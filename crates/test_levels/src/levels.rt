@@ -9,7 +9,7 @@ use std::marker::Brand;
 use std::process::Abort;
 use std::sync::ledger::{Blank, Ledger};
 use std::test::Fail;
-use test_graphs::{drawn, two_chains};
+use test_graphs::{graph_from, two_chains};
 
 // Whether each node has the block of the same place.
 fn is_parted(block: &[Option<u32>], numbers: &[u32]) -> bool {
@@ -70,7 +70,7 @@ fn check_children<L: Ledger>(rt: &impl Abort, alloc: Global, blank: Blank) -> Re
 {
     let mut steps = Steps::<L>::new(blank);
     // an a with a child b, and an a without
-    let graph = drawn(alloc, b"aba", &[(0, 1)], &mut steps)?;
+    let graph = graph_from(alloc, b"aba", &[(0, 1)], &mut steps)?;
     let (parents, both) = first_levels(alloc, &graph.view(&mut steps))?;
     check_both(rt, &parents, &both);
     Ok(())

@@ -13,7 +13,7 @@ use std::marker::Brand;
 use std::process::Abort;
 use std::sync::ledger::{Blank, Ledger};
 use std::test::Fail;
-use test_graphs::drawn;
+use test_graphs::graph_from;
 
 const MOST: u32 = 1 << 30;
 
@@ -159,7 +159,7 @@ fn check_row<L: Ledger>(
     row: &Row,
     steps: &mut Steps<L>,
 ) -> Result<(), Fail> {
-    let graph = drawn(alloc, row.labels, row.edges, steps)?;
+    let graph = graph_from(alloc, row.labels, row.edges, steps)?;
     let summary = summary_of(rt, alloc, row, &graph.view(steps))?;
     check_texts(rt, alloc, &summary, graph.labels(), row)
 }

@@ -10,7 +10,7 @@ use std::marker::Brand;
 use std::process::Abort;
 use std::sync::ledger::{Blank, Ledger};
 use std::test::Fail;
-use test_graphs::drawn;
+use test_graphs::graph_from;
 
 const MOST: u32 = 1 << 30;
 
@@ -129,7 +129,7 @@ fn read_tree<L: Ledger>(rt: &impl Abort, alloc: Global, blank: Blank) -> Result<
     requires some { 0 < blank.parts }
 {
     let mut steps = Steps::<L>::new(blank);
-    let graph = drawn(alloc, LABELS, EDGES, &mut steps)?;
+    let graph = graph_from(alloc, LABELS, EDGES, &mut steps)?;
     check_tree(rt, alloc, &graph.view(&mut steps))
 }
 
@@ -258,7 +258,7 @@ fn take_spokes<L: Ledger>(rt: &impl Abort, alloc: Global, blank: Blank) -> Resul
     requires some { 0 < blank.parts }
 {
     let mut steps = Steps::<L>::new(blank);
-    let graph = drawn(alloc, HUB, SPOKES, &mut steps)?;
+    let graph = graph_from(alloc, HUB, SPOKES, &mut steps)?;
     write_all(rt, alloc, &graph.view(&mut steps))
 }
 

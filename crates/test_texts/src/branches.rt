@@ -1,19 +1,19 @@
 // Texts of branching queries, good and bad, and the answers over a small graph.
 ghost use Rattle.std.specs.Prelude.{◌≡◌, ◌<◌, ℕ, Some, length, IsTrue};
-ghost use Rattle.label_graph.specs.Views.{label_number};
+ghost use Rattle.label_graph.specs.GraphViews.{label_number};
 ghost use Rattle.branch_text.specs.Parsed.{has_text};
 
 use branch_text::{Branch, eval};
+use graph_spec::Limits;
 use label_graph::{Graph, GraphView};
 use path_query::ExprError;
 use px_base::{Bits, NodeId, Steps};
-use px_spec::Limits;
 use std::alloc::{AllocError, Global};
 use std::marker::Brand;
 use std::process::Abort;
 use std::sync::ledger::{Blank, Ledger};
 use std::test::Fail;
-use test_graphs::drawn;
+use test_graphs::graph_from;
 
 /// Texts, and what they are read as: the canonical text of a query, or the name of another answer.
 const TEXTS: &[(&str, &str)] = &[
@@ -256,7 +256,7 @@ fn check_small_graph<L: Ledger>(rt: &impl Abort, alloc: Global, blank: Blank) ->
     requires some { 0 < blank.parts }
 {
     let mut steps = Steps::<L>::new(blank);
-    let graph = drawn(alloc, NODES, EDGES, &mut steps)?;
+    let graph = graph_from(alloc, NODES, EDGES, &mut steps)?;
     let view = graph.view(&mut steps);
     check_answers(rt, alloc, &graph, &view);
     Ok(())

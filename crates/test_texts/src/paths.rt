@@ -1,20 +1,20 @@
 // Texts of path expressions, good and bad, and the answers over a small graph.
 ghost use Rattle.std.specs.Prelude.{◌≡◌, ◌<◌, ℕ, Some, length};
-ghost use Rattle.label_graph.specs.Views.{label_number};
+ghost use Rattle.label_graph.specs.GraphViews.{label_number};
 
+use graph_spec::Limits;
 use label_graph::{Graph, GraphView};
 use path_query::{
     Atom, Expr, ExprError, Item, PathExpr, Sep, Seq, Sign, eval, eval_within, read_label,
     skip_blanks, split_word, trim_end_blanks,
 };
 use px_base::{Bits, Memory, NodeId, Steps};
-use px_spec::Limits;
 use std::alloc::Global;
 use std::marker::Brand;
 use std::process::Abort;
 use std::sync::ledger::{Blank, Ledger};
 use std::test::Fail;
-use test_graphs::drawn;
+use test_graphs::graph_from;
 
 /// Texts, what they are read as, and the length of the longest word: the canonical text of an expression, or the name of
 /// another answer.
@@ -382,7 +382,7 @@ fn check_small_graph<L: Ledger>(rt: &impl Abort, alloc: Global, blank: Blank) ->
     requires some { 0 < blank.parts }
 {
     let mut steps = Steps::<L>::new(blank);
-    let graph = drawn(alloc, NODES, EDGES, &mut steps)?;
+    let graph = graph_from(alloc, NODES, EDGES, &mut steps)?;
     let view = graph.view(&mut steps);
     check_answers(rt, alloc, &graph, &view);
     Ok(())

@@ -4,7 +4,7 @@ use std::alloc::Global;
 use std::process::Abort;
 use std::test::Fail;
 use triples_read::{
-    LineError, SpareTexts, Term, Triple, is_triple, read_iri_front, read_line, read_line_with,
+    LineError, SpareTexts, Term, Triple, is_triple, read_iri_prefix, read_line, read_line_with,
     write_term, write_triple,
 };
 
@@ -70,22 +70,22 @@ fn worked_lines_are_read(rt: HostRuntime) {
 }
 
 // Whether an IRIREF with this IRI stands at the front, and takes that many bytes.
-fn has_front(alloc: Global, text: &[u8], iri: &str, len: usize) -> bool {
-    match read_iri_front(alloc, text) {
+fn has_prefix(alloc: Global, text: &[u8], iri: &str, len: usize) -> bool {
+    match read_iri_prefix(alloc, text) {
         Ok(Some((read, n))) => read.as_str() == iri && n == len,
         _ => false,
     }
 }
 
-fn has_no_front(alloc: Global, text: &[u8]) -> bool {
-    matches!(read_iri_front(alloc, text), Ok(None))
+fn has_no_prefix(alloc: Global, text: &[u8]) -> bool {
+    matches!(read_iri_prefix(alloc, text), Ok(None))
 }
 
 #[test]
-fn iris_in_front_are_read(rt: HostRuntime) {
+fn iri_prefixes_are_read(rt: HostRuntime) {
     let text = b"<http://e/\\u0061>/x";
-    assert!(rt; has_front(rt.alloc(), text, "http://e/a", 17));
-    assert!(rt; has_no_front(rt.alloc(), b"<http://e/a"));
+    assert!(rt; has_prefix(rt.alloc(), text, "http://e/a", 17));
+    assert!(rt; has_no_prefix(rt.alloc(), b"<http://e/a"));
 }
 
 fn is_triple_of(alloc: Global, line: &[u8], triple: &Triple) -> bool {

@@ -71,11 +71,11 @@ scalars-left (x ∷ xs) ys h =
 pub split-encodes : (s cs rest : List ℕ) → encodes cs ≡ encodes s ++ rest → (r : List ℕ) × (cs ≡ s ++ r) × (rest ≡ encodes r)
 split-encodes [] cs rest e = (cs, refl, sym e)
 split-encodes (x ∷ s) cs rest e =
-    let (es, front, behind) = cons_from_encodes cs (encodes s ++ rest) x (e ∙ append_assoc (encode x) (encodes s) rest) in
+    let (es, prefix, behind) = cons_from_encodes cs (encodes s ++ rest) x (e ∙ append_assoc (encode x) (encodes s) rest) in
     let (r, parts, left) = split-encodes s es rest behind in
-    (r, front ∙ ap (λ (z : List ℕ). x ∷ z) parts, left)
+    (r, prefix ∙ ap (λ (z : List ℕ). x ∷ z) parts, left)
 
--- what follows a front of a text is a text, and begins where a character does
+-- what follows a prefix of a text is a text, and begins where a character does
 pub rest-utf8 : (s rest text : List ℕ) → IsUtf8 text → text ≡ encodes s ++ rest → IsUtf8 rest
 rest-utf8 s rest text (cs, (ok, eq)) is =
     let (r, parts, left) = split-encodes s cs rest (eq ∙ is) in

@@ -12,7 +12,7 @@ use Rattle.std.proofs.lemmas.List.Sums.{prefix_len-le-length}
 use Rattle.triples_read.specs.Characters.{is_blank}
 use Rattle.triples_read.specs.Terminals.{AllOf, Blanks}
 use Rattle.triples_read.specs.ByteReaders.{past_blanks}
-use Rattle.triples_read.specs.Fronts.{Front, IsText}
+use Rattle.triples_read.specs.SpelledPrefixes.{Prefix, IsText}
 use Rattle.triples_read.proofs.Basics.{bool_cases, scalars-right, split-encodes, seam}
 
 -- characters of a class of ASCII are their own bytes
@@ -38,20 +38,20 @@ past-blank b bs e = rw e refl
 pub past-other : (b : ℕ) (bs : List ℕ) → is_blank b ≡ false → past_blanks (b ∷ bs) ≡ b ∷ bs
 past-other b bs e = rw e refl
 
-blanks-front : (bytes : List ℕ) → (gap : List ℕ) × (bytes ≡ gap ++ past_blanks bytes) × Blanks gap
-blanks-front [] = ([], refl, tt)
-blanks-front (b ∷ bs) =
+blanks-prefix : (bytes : List ℕ) → (gap : List ℕ) × (bytes ≡ gap ++ past_blanks bytes) × Blanks gap
+blanks-prefix [] = ([], refl, tt)
+blanks-prefix (b ∷ bs) =
     elim (bool_cases (is_blank b)) [
       | inl e ↦ (
-          let (gap, parts, all) = blanks-front bs in
+          let (gap, parts, all) = blanks-prefix bs in
           (b ∷ gap, ap (λ (z : List ℕ). b ∷ z) parts ∙ ap (λ (z : List ℕ). b ∷ (gap ++ z)) (sym (past-blank b bs e)), ((blank_scalar b e, e), all)))
       | inr e ↦ ([], sym (past-other b bs e), tt)
     ]
 
 -- the blanks that are skipped
-pub skip-found : (b cs : List ℕ) → IsText b cs → Front Blanks cs (past_blanks b)
+pub skip-found : (b cs : List ℕ) → IsText b cs → Prefix Blanks cs (past_blanks b)
 skip-found b cs is =
-    let (gap, parts, all) = blanks-front b in
+    let (gap, parts, all) = blanks-prefix b in
     let (r, split, left) = split-encodes gap cs (past_blanks b) (sym is.0 ∙ parts ∙ ap (λ (z : List ℕ). z ++ past_blanks b) (sym (blanks_bytes gap all))) in
     (gap, r, split, (left, scalars-right gap r (sym (ap scalars split) ∙ is.1)), all)
 
@@ -83,7 +83,7 @@ blanks-counted (b ∷ bs) =
 
 pub blanks-boundary : (text : List ℕ) (n : ℕ) → IsUtf8 text → n ≡ prefix_len is_blank text → IsCharBoundary text n
 blanks-boundary text n utf8 is =
-    let (gap, parts, all) = blanks-front text in
+    let (gap, parts, all) = blanks-prefix text in
     let own : encodes gap ≡ gap = blanks_bytes gap all in
     let size : length text ≡ length gap + length (past_blanks text) = ap length parts ∙ length-append gap (past_blanks text) in
     let left : length (past_blanks text) ≡ length text - n = ap length (blanks-counted text) ∙ ap (λ (i : ℕ). length (drop i text)) (sym is) ∙ length-drop n text in

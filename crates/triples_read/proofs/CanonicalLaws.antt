@@ -15,7 +15,7 @@ use Rattle.std.proofs.lemmas.List.Concat.{flat_map-cons}
 use Rattle.triples_read.specs.Characters.{from_to, is_blank, is_letter, is_letter_or_digit}
 use Rattle.triples_read.specs.Terminals.{Many, StringPiece, STRING_LITERAL_QUOTE, escape_of, IsLabel, EndsIn, AllOf, OneOrMore, LANGTAG}
 use Rattle.triples_read.specs.Lines.{IsIri, IsBlankNode, IsLiteral, IsSubject, IsObject, Suffix, Spells, xsd_string, lang_string}
-use Rattle.triples_read.specs.Fronts.{IsLabelFront}
+use Rattle.triples_read.specs.SpelledPrefixes.{IsLabelPrefix}
 use Rattle.triples_read.specs.Quotes.{inner, Escape, escape_at, PieceIn}
 use Rattle.triples_read.specs.ByteReaders.{past_tag, tag_part}
 use Rattle.triples_read.specs.Canonical.{iri_char, iri_text, string_char, string_text, suffix_text, term_text, triple_text, IsSpelled}
@@ -25,7 +25,7 @@ use Rattle.triples_read.specs.declared.term.Term.{Term}
 use Rattle.triples_read.specs.declared.term.Term.TheVariants.{Iri, Blank, Literal}
 use Rattle.triples_read.specs.declared.term.Triple.{Triple}
 use Rattle.triples_read.proofs.Basics.{bool_cases, and_both, scalars-both, none_some}
-use Rattle.triples_read.proofs.Pieces.{many-scalars}
+use Rattle.triples_read.proofs.BodyPieces.{many-scalars}
 use Rattle.triples_read.proofs.QuotedPieces.{quote_escapes}
 use Rattle.triples_read.proofs.SpellingLaws.{pieces_of}
 use Rattle.triples_read.proofs.TagLaws.{TagRest, dashed, langtag-rest, rest-whole, rest-langtag, rest_bytes, tag-read, past-part, past-empty, past-dash, past-stop, some_same, no_cons}
@@ -262,7 +262,7 @@ suffix_tag s datatype tag (gap, name, sp, before, (main, subs, first, others, na
     ((bytes_eq-Decides datatype lang_string).1 kind, main ++ dashed subs, subst (λ (z : List ℕ). LANGTAG z tag) named (main, subs, first, others, named, lower))
 
 -- a whole label
-pub label_of_text : (text tail : List ℕ) → IsUtf8 text → IsLabelFront text tail → tail ≡ [] → IsBlankNode (95 ∷ 58 ∷ chars text) text
+pub label_of_text : (text tail : List ℕ) → IsUtf8 text → IsLabelPrefix text tail → tail ≡ [] → IsBlankNode (95 ∷ 58 ∷ chars text) text
 label_of_text text tail utf8 (v, good, eq) none =
     let whole : text ≡ encodes v = eq ∙ ap (λ (z : List ℕ). encodes v ++ z) none ∙ append-nil (encodes v) in
     (blank_canonical (95 ∷ 58 ∷ v) text (v, (refl, good), whole)).0

@@ -4,8 +4,8 @@ use Rattle.std.proofs.Math.Utf8.{encodes}
 use Rattle.std.proofs.lemmas.Str.{encode_ascii}
 use Rattle.triples_read.specs.Characters.{is_blank, is_letter_or_digit}
 use Rattle.triples_read.specs.Terminals.{Blanks, Comment, IRIREF}
-use Rattle.triples_read.specs.Fronts.{EndsLabel, EndsTag}
-use Rattle.triples_read.specs.Parts.{AfterObject}
+use Rattle.triples_read.specs.SpelledPrefixes.{EndsLabel, EndsTag}
+use Rattle.triples_read.specs.LineRests.{AfterObject}
 use Rattle.triples_read.proofs.BlankLaws.{blank_is}
 
 ends-blank : (b : ℕ) (x : List ℕ) → is_blank b ≡ true → EndsLabel (b ∷ x)

@@ -1,9 +1,9 @@
 pub mod Basics
 pub mod Digits
-pub mod Pieces
+pub mod BodyPieces
 pub mod Uchars
 pub mod OpeningQuotes
-pub mod IriFronts
+pub mod IriPrefixes
 pub mod LabelEnds
 pub mod StringEscapes
 pub mod QuotedPieces
@@ -13,9 +13,9 @@ pub mod BlankLaws
 pub mod TagLaws
 pub mod LabelParts
 pub mod Follow
-pub mod FrontLaws
+pub mod PrefixLaws
 pub mod LiteralLaws
 pub mod LineLaws
 pub mod OneTriple
-pub mod Written
+pub mod AppendedTexts
 pub mod CanonicalLaws

@@ -7,15 +7,15 @@ use Rattle.std.proofs.lemmas.List.{append-nil}
 use Rattle.triples_read.specs.Terminals.{Blanks, Comment}
 use Rattle.triples_read.specs.ByteReaders.{past_blanks, starts_with, is_over}
 use Rattle.triples_read.specs.Lines.{Suffix, IsIri, IsBlankNode, IsLiteral, IsSubject, IsObject, Spells, Empty}
-use Rattle.triples_read.specs.Fronts.{Front, IsText, EndsLabel}
-use Rattle.triples_read.specs.Parts.{AfterObject, AfterPredicate, AfterSubject, FromSubject}
+use Rattle.triples_read.specs.SpelledPrefixes.{Prefix, IsText, EndsLabel}
+use Rattle.triples_read.specs.LineRests.{AfterObject, AfterPredicate, AfterSubject, FromSubject}
 use Rattle.triples_read.specs.declared.term.Term.{Term}
 use Rattle.triples_read.specs.declared.term.Term.TheVariants.{Iri, Blank, Literal}
 use Rattle.triples_read.specs.declared.term.Triple.{Triple}
 use Rattle.triples_read.proofs.Basics.{cons-tail, scalars-right}
 use Rattle.triples_read.proofs.LabelEnds.{no_chars}
 use Rattle.triples_read.proofs.BlankLaws.{skip-found, skip-whole, skip-end}
-use Rattle.triples_read.proofs.FrontLaws.{first-byte, behind-byte, Starts, skip-to, starts-cons}
+use Rattle.triples_read.proofs.PrefixLaws.{first-byte, behind-byte, Starts, skip-to, starts-cons}
 use Rattle.triples_read.proofs.LiteralLaws.{iri-starts}
 use Rattle.triples_read.proofs.Follow.{subject-ends}
 
@@ -97,7 +97,7 @@ dot-stands bytes after cs is after_is (gap, more, comment, parts, blanks, blanks
     )
 
 -- the object and what follows
-pub last-found : (bytes after cs rest : List ℕ) (object : Term) → IsText bytes cs → after ≡ past_blanks bytes → ((cs2 : List ℕ) → IsText after cs2 → Front (λ s. IsObject s object) cs2 rest) → ((r : List ℕ) → IsText rest r → AfterObject r) → AfterPredicate cs object
+pub last-found : (bytes after cs rest : List ℕ) (object : Term) → IsText bytes cs → after ≡ past_blanks bytes → ((cs2 : List ℕ) → IsText after cs2 → Prefix (λ s. IsObject s object) cs2 rest) → ((r : List ℕ) → IsText rest r → AfterObject r) → AfterPredicate cs object
 last-found bytes after cs rest object is after_is found ends =
     let (gap, cs2, split, text, blanks) = skip-found bytes cs is in
     let (s, r, parts, text2, named) = found cs2 (subst (λ (z : List ℕ). IsText z cs2) (sym after_is) text) in
@@ -109,7 +109,7 @@ last-stands bytes after cs object is after_is (gap, s, r, parts, blanks, named, 
     (s, r, subst (λ (z : List ℕ). IsText z (s ++ r)) (sym after_is) text, named, ends)
 
 -- the predicate and what follows
-pub rest-found : (bytes after cs rest predicate : List ℕ) (object : Term) → IsText bytes cs → after ≡ past_blanks bytes → ((cs2 : List ℕ) → IsText after cs2 → Front (λ s. IsIri s predicate) cs2 rest) → ((r : List ℕ) → IsText rest r → AfterPredicate r object) → AfterSubject cs predicate object
+pub rest-found : (bytes after cs rest predicate : List ℕ) (object : Term) → IsText bytes cs → after ≡ past_blanks bytes → ((cs2 : List ℕ) → IsText after cs2 → Prefix (λ s. IsIri s predicate) cs2 rest) → ((r : List ℕ) → IsText rest r → AfterPredicate r object) → AfterSubject cs predicate object
 rest-found bytes after cs rest predicate object is after_is found ends =
     let (gap, cs2, split, text, blanks) = skip-found bytes cs is in
     let (s, r, parts, text2, named) = found cs2 (subst (λ (z : List ℕ). IsText z cs2) (sym after_is) text) in

@@ -6,15 +6,15 @@ use Rattle.std.proofs.lemmas.Str.{encode_ascii}
 use Rattle.triples_read.specs.Terminals.{Blanks, LANGTAG}
 use Rattle.triples_read.specs.ByteReaders.{past_blanks, starts_with}
 use Rattle.triples_read.specs.Lines.{IsIri, Suffix, IsLiteral, IsObject, xsd_string, lang_string}
-use Rattle.triples_read.specs.Fronts.{Front, IsText, EndsTag}
-use Rattle.triples_read.specs.Parts.{IsDatatype, AfterObject}
+use Rattle.triples_read.specs.SpelledPrefixes.{Prefix, IsText, EndsTag}
+use Rattle.triples_read.specs.LineRests.{IsDatatype, AfterObject}
 use Rattle.triples_read.specs.Quotes.{IsQuoted}
 use Rattle.triples_read.specs.declared.quoted.Quote.TheVariants.{Double}
 use Rattle.triples_read.specs.declared.term.Term.TheVariants.{Literal}
 use Rattle.triples_read.proofs.Basics.{cons-tail, scalars-right}
 use Rattle.triples_read.proofs.OpeningQuotes.{quoted-split, quoted-join, in_quotes}
 use Rattle.triples_read.proofs.BlankLaws.{skip-whole}
-use Rattle.triples_read.proofs.FrontLaws.{first-byte, behind-byte, Starts, skip-to}
+use Rattle.triples_read.proofs.PrefixLaws.{first-byte, behind-byte, Starts, skip-to}
 use Rattle.triples_read.proofs.Follow.{tag-ends}
 
 pub carets_bytes : (v : List ℕ) → encodes (94 ∷ 94 ∷ v) ≡ 94 ∷ 94 ∷ encodes v
@@ -26,8 +26,8 @@ carets-text b after cs eq is =
     let (two, second, text2) = behind-byte 94 (94 ∷ after) after one (omega arith) refl text in
     (two, first ∙ ap (λ (z : List ℕ). 94 ∷ z) second, text2)
 
-pub datatype-front : (cs cs2 gap cs3 rest iri : List ℕ) → cs ≡ 94 ∷ 94 ∷ cs2 → cs2 ≡ gap ++ cs3 → Blanks gap → Front (λ s. IsIri s iri) cs3 rest → Front (λ s. IsDatatype s iri) cs rest
-datatype-front cs cs2 gap cs3 rest iri first second blanks (name, r, parts, text, spelled) = (
+pub datatype-prefix : (cs cs2 gap cs3 rest iri : List ℕ) → cs ≡ 94 ∷ 94 ∷ cs2 → cs2 ≡ gap ++ cs3 → Blanks gap → Prefix (λ s. IsIri s iri) cs3 rest → Prefix (λ s. IsDatatype s iri) cs rest
+datatype-prefix cs cs2 gap cs3 rest iri first second blanks (name, r, parts, text, spelled) = (
   94 ∷ 94 ∷ (gap ++ name),
   r,
   first ∙ ap (λ (z : List ℕ). 94 ∷ 94 ∷ z) (second ∙ ap (λ (z : List ℕ). gap ++ z) parts ∙ sym (append_assoc gap name r)),
@@ -80,7 +80,7 @@ suffix-stands bytes s r datatype (Some tag) is (gap, name, sp, before, (main, su
       tag-ends r over,
     ))
 
-pub suffix-typed : (cs gap cs2 rest datatype : List ℕ) → cs ≡ gap ++ cs2 → Blanks gap → Front (λ s. IsDatatype s datatype) cs2 rest → Front (λ s. Suffix s datatype None) cs rest
+pub suffix-typed : (cs gap cs2 rest datatype : List ℕ) → cs ≡ gap ++ cs2 → Blanks gap → Prefix (λ s. IsDatatype s datatype) cs2 rest → Prefix (λ s. Suffix s datatype None) cs rest
 suffix-typed cs gap cs2 rest datatype first before (u, r, parts, text, (after, name, sp, blanks, spelled)) = (
   gap ++ u,
   r,
@@ -89,7 +89,7 @@ suffix-typed cs gap cs2 rest datatype first before (u, r, parts, text, (after, n
   inr (gap, after, name, ap (λ (z : List ℕ). gap ++ z) sp, before, blanks, spelled),
 )
 
-pub suffix-tagged : (cs gap cs2 cs3 rest tag : List ℕ) → cs ≡ gap ++ cs2 → Blanks gap → cs2 ≡ 64 ∷ cs3 → Front (λ s. LANGTAG (64 ∷ s) tag) cs3 rest → Front (λ s. Suffix s lang_string (Some tag)) cs rest
+pub suffix-tagged : (cs gap cs2 cs3 rest tag : List ℕ) → cs ≡ gap ++ cs2 → Blanks gap → cs2 ≡ 64 ∷ cs3 → Prefix (λ s. LANGTAG (64 ∷ s) tag) cs3 rest → Prefix (λ s. Suffix s lang_string (Some tag)) cs rest
 suffix-tagged cs gap cs2 cs3 rest tag first before second (u, r, parts, text, langtag) = (
   gap ++ (64 ∷ u),
   r,
@@ -98,7 +98,7 @@ suffix-tagged cs gap cs2 cs3 rest tag first before second (u, r, parts, text, la
   (gap, 64 ∷ u, refl, before, langtag, refl),
 )
 
-pub literal-found : (bytes cs v text behind datatype : List ℕ) (tag : Option (List ℕ)) (rest : List ℕ) → IsText bytes cs → text ≡ encodes v → IsQuoted Double bytes v behind → ((r : List ℕ) → IsText behind r → Front (λ s. Suffix s datatype tag) r rest) → Front (λ s. IsObject s (Literal text datatype tag)) cs rest
+pub literal-found : (bytes cs v text behind datatype : List ℕ) (tag : Option (List ℕ)) (rest : List ℕ) → IsText bytes cs → text ≡ encodes v → IsQuoted Double bytes v behind → ((r : List ℕ) → IsText behind r → Prefix (λ s. Suffix s datatype tag) r rest) → Prefix (λ s. IsObject s (Literal text datatype tag)) cs rest
 literal-found bytes cs v text behind datatype tag rest is text_is quoted next =
     let (body, r, parts, left, m) = quoted-split Double bytes cs v behind is.0 quoted in
     let (u, r2, split, text2, suffix) = next r (left, scalars-right (in_quotes Double body) r (sym (ap scalars parts) ∙ is.1)) in (

@@ -7,8 +7,8 @@ use Rattle.std.proofs.lemmas.List.{append_cancel_right}
 use Rattle.triples_read.specs.Terminals.{LANGTAG}
 use Rattle.triples_read.specs.ByteReaders.{past_blanks, past_label, starts_with, is_over}
 use Rattle.triples_read.specs.Lines.{IsIri, IsBlankNode, IsSubject, IsObject, Suffix, Spells, Empty}
-use Rattle.triples_read.specs.Fronts.{IsText, EndsLabel, EndsTag}
-use Rattle.triples_read.specs.Parts.{IsDatatype, AfterObject, AfterPredicate, AfterSubject, FromSubject}
+use Rattle.triples_read.specs.SpelledPrefixes.{IsText, EndsLabel, EndsTag}
+use Rattle.triples_read.specs.LineRests.{IsDatatype, AfterObject, AfterPredicate, AfterSubject, FromSubject}
 use Rattle.triples_read.specs.declared.quoted.Quote.TheVariants.{Angle, Double}
 use Rattle.triples_read.specs.declared.term.Term.{Term}
 use Rattle.triples_read.specs.declared.term.Term.TheVariants.{Iri, Blank, Literal}
@@ -56,9 +56,9 @@ subject-unique b s r t s2 r2 u h h2 is is2 over over2 =
 datatype-unique : (b s r datatype s2 r2 datatype2 : List ℕ) → IsText b (s ++ r) → IsText b (s2 ++ r2) → IsDatatype s datatype → IsDatatype s2 datatype2 → (datatype ≡ datatype2) × (r ≡ r2)
 datatype-unique b s r datatype s2 r2 datatype2 h h2 (gap, name, sp, blanks, spelled) is2 =
     let after : List ℕ = encodes ((gap ++ name) ++ r) in
-    let front : b ≡ 94 ∷ 94 ∷ after = h.0 ∙ ap (λ (z : List ℕ). encodes (z ++ r)) sp ∙ carets_bytes ((gap ++ name) ++ r) in
-    let (n, iri, text) = datatype-stands b after s r datatype front h (gap, name, sp, blanks, spelled) in
-    let (n2, iri2, text2) = datatype-stands b after s2 r2 datatype2 front h2 is2 in
+    let prefix : b ≡ 94 ∷ 94 ∷ after = h.0 ∙ ap (λ (z : List ℕ). encodes (z ++ r)) sp ∙ carets_bytes ((gap ++ name) ++ r) in
+    let (n, iri, text) = datatype-stands b after s r datatype prefix h (gap, name, sp, blanks, spelled) in
+    let (n2, iri2, text2) = datatype-stands b after s2 r2 datatype2 prefix h2 is2 in
     iri-unique (past_blanks after) n r datatype n2 r2 datatype2 text text2 iri iri2
 
 tag-unique : (b s r tag s2 r2 tag2 : List ℕ) → IsText b (s ++ r) → IsText b (s2 ++ r2) → LANGTAG (64 ∷ s) tag → LANGTAG (64 ∷ s2) tag2 → EndsTag (encodes r) → EndsTag (encodes r2) → (tag ≡ tag2) × (r ≡ r2)
@@ -103,9 +103,9 @@ object-unique b s r t s2 r2 u h h2 is is2 over over2 =
         | inl (begins2, text2, datatype2, tag2, same2, named2) ↦ (
             let (v, x, text_is, quoted, suffix, ok) = literal-stands b s r text datatype tag h named in
             let (w, x2, text_is2, quoted2, suffix2, ok2) = literal-stands b s2 r2 text2 datatype2 tag2 h2 named2 in
-            let front = quoted-unique Double b v w (encodes (x ++ r)) (encodes (x2 ++ r2)) quoted quoted2 in
-            let rest = suffix-unique (encodes (x ++ r)) x r datatype tag x2 r2 datatype2 tag2 (refl, ok) (front.1, ok2) suffix suffix2 over over2 in
-            (same ∙ literal_same text text2 datatype datatype2 tag tag2 (text_is ∙ ap encodes front.0 ∙ sym text_is2) rest.0 rest.1 ∙ sym same2, rest.2))
+            let prefix = quoted-unique Double b v w (encodes (x ++ r)) (encodes (x2 ++ r2)) quoted quoted2 in
+            let rest = suffix-unique (encodes (x ++ r)) x r datatype tag x2 r2 datatype2 tag2 (refl, ok) (prefix.1, ok2) suffix suffix2 over over2 in
+            (same ∙ literal_same text text2 datatype datatype2 tag tag2 (text_is ∙ ap encodes prefix.0 ∙ sym text_is2) rest.0 rest.1 ∙ sym same2, rest.2))
         | inr (begins2, named2) ↦ absurd (no_both _ begins begins2)
       ]
       | inr (begins, named) ↦ elim (object-stands b s2 r2 u h2 is2) [

@@ -2,7 +2,7 @@
 use Rattle.triples_read.specs.Quotes.{closing, inner, Escape, escape_at}
 use Rattle.triples_read.specs.declared.quoted.Quote.{Quote}
 use Rattle.triples_read.specs.declared.quoted.Quote.TheVariants.{Angle, Double}
-use Rattle.triples_read.proofs.Pieces.{Kind, Escapes}
+use Rattle.triples_read.proofs.BodyPieces.{Kind, Escapes}
 use Rattle.triples_read.proofs.Uchars.{uchar_escapes, iri_kind}
 use Rattle.triples_read.proofs.StringEscapes.{string_escapes, string_kind}
 

@@ -9,7 +9,7 @@ use Rattle.triples_read.specs.Terminals.{escape_of}
 use Rattle.triples_read.specs.ByteReaders.{uchar_at, escape_or, string_escape_at}
 use Rattle.triples_read.specs.Quotes.{StringEscape}
 use Rattle.triples_read.proofs.Basics.{cons-tail, first_of, second_of}
-use Rattle.triples_read.proofs.Pieces.{Escapes, Kind}
+use Rattle.triples_read.proofs.BodyPieces.{Escapes, Kind}
 use Rattle.triples_read.proofs.Uchars.{uchar_escapes}
 
 wide_none : (x : ℕ) → 128 ≤ x → escape_of x ≡ None

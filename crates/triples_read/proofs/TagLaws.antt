@@ -12,7 +12,7 @@ use Rattle.std.proofs.lemmas.List.Concat.{flat_map-cons}
 use Rattle.triples_read.specs.Characters.{is_letter, is_letter_or_digit}
 use Rattle.triples_read.specs.Terminals.{AllOf, OneOrMore, LANGTAG}
 use Rattle.triples_read.specs.ByteReaders.{past_tag, tag_part}
-use Rattle.triples_read.specs.Fronts.{Front, IsText, EndsTag}
+use Rattle.triples_read.specs.SpelledPrefixes.{Prefix, IsText, EndsTag}
 use Rattle.triples_read.proofs.Basics.{bool_cases, no_both, cons-tail, drop-past, take-past, scalars-right, split-encodes, seam, none_some}
 use Rattle.triples_read.proofs.BlankLaws.{own_bytes}
 
@@ -144,12 +144,12 @@ cut_at bytes s tail is =
     (ap (λ (n : ℕ). take n bytes) count ∙ ap (take (length s)) is ∙ take-past s tail, ap (λ (n : ℕ). drop n bytes) count ∙ ap (drop (length s)) is ∙ drop-past s tail)
 
 -- the tag that is read
-pub tag-found : (b rest front back text cs : List ℕ) → past_tag true true b ≡ Some rest → front ≡ take (length b - length rest) b → back ≡ drop (length b - length rest) b → text ≡ map to_ascii_lowercase front → IsText b cs → Front (λ s. LANGTAG (64 ∷ s) text) cs back
-tag-found b rest front back text cs read front_is back_is text_is is =
+pub tag-found : (b rest prefix back text cs : List ℕ) → past_tag true true b ≡ Some rest → prefix ≡ take (length b - length rest) b → back ≡ drop (length b - length rest) b → text ≡ map to_ascii_lowercase prefix → IsText b cs → Prefix (λ s. LANGTAG (64 ∷ s) text) cs back
+tag-found b rest prefix back text cs read prefix_is back_is text_is is =
     let (s, parts, tag) = tag-read b true true rest read in
     let cut = cut_at b s rest parts in
     let (r, split, left) = split-encodes s cs rest (sym is.0 ∙ parts ∙ ap (λ (z : List ℕ). z ++ rest) (sym (rest_bytes s true true tag))) in
-    (s, r, split, (back_is ∙ cut.1 ∙ left, scalars-right s r (sym (ap scalars split) ∙ is.1)), subst (LANGTAG (64 ∷ s)) (ap (map to_ascii_lowercase) (sym cut.0 ∙ sym front_is) ∙ sym text_is) (rest-langtag s tag))
+    (s, r, split, (back_is ∙ cut.1 ∙ left, scalars-right s r (sym (ap scalars split) ∙ is.1)), subst (LANGTAG (64 ∷ s)) (ap (map to_ascii_lowercase) (sym cut.0 ∙ sym prefix_is) ∙ sym text_is) (rest-langtag s tag))
 
 -- the tag that stands there is read
 pub tag-stands : (b s r tag : List ℕ) → IsText b (s ++ r) → LANGTAG (64 ∷ s) tag → EndsTag (encodes r) → (past_tag true true b ≡ Some (encodes r)) × (tag ≡ map to_ascii_lowercase s) × (b ≡ s ++ encodes r)
@@ -158,12 +158,12 @@ tag-stands b s r tag is langtag ends =
     let bytes : b ≡ s ++ encodes r = is.0 ∙ encodes-append s r ∙ ap (λ (z : List ℕ). z ++ encodes r) (rest_bytes s true true rest) in
     (ap (past_tag true true) bytes ∙ rest-whole s true true (encodes r) rest ends, lower, bytes)
 
-pub tag-only : (b rest s r tag front back text : List ℕ) → past_tag true true b ≡ Some rest → front ≡ take (length b - length rest) b → back ≡ drop (length b - length rest) b → text ≡ map to_ascii_lowercase front → IsText b (s ++ r) → LANGTAG (64 ∷ s) tag → EndsTag (encodes r) → (text ≡ tag) × (back ≡ encodes r)
-tag-only b rest s r tag front back text read front_is back_is text_is is langtag ends =
+pub tag-only : (b rest s r tag prefix back text : List ℕ) → past_tag true true b ≡ Some rest → prefix ≡ take (length b - length rest) b → back ≡ drop (length b - length rest) b → text ≡ map to_ascii_lowercase prefix → IsText b (s ++ r) → LANGTAG (64 ∷ s) tag → EndsTag (encodes r) → (text ≡ tag) × (back ≡ encodes r)
+tag-only b rest s r tag prefix back text read prefix_is back_is text_is is langtag ends =
     let (whole, lower, bytes) = tag-stands b s r tag is langtag ends in
     let same : rest ≡ encodes r = some_same rest (encodes r) (sym read ∙ whole) in
     let cut = cut_at b s rest (bytes ∙ ap (λ (z : List ℕ). s ++ z) (sym same)) in
-    (text_is ∙ ap (map to_ascii_lowercase) (front_is ∙ cut.0) ∙ sym lower, back_is ∙ cut.1 ∙ same)
+    (text_is ∙ ap (map to_ascii_lowercase) (prefix_is ∙ cut.0) ∙ sym lower, back_is ∙ cut.1 ∙ same)
 
 pub tag-none : (b s r tag : List ℕ) → past_tag true true b ≡ None → IsText b (s ++ r) → LANGTAG (64 ∷ s) tag → EndsTag (encodes r) → ⊥
 tag-none b s r tag none is langtag ends = none_some (encodes r) (sym none ∙ (tag-stands b s r tag is langtag ends).0)

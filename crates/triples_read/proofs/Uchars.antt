@@ -11,7 +11,7 @@ use Rattle.triples_read.specs.Characters.{is_hex, is_iri_char}
 use Rattle.triples_read.specs.Terminals.{UCHAR, HEX, hex_number}
 use Rattle.triples_read.specs.ByteReaders.{hex_at, scalar_of, with_len, uchar_at}
 use Rattle.triples_read.proofs.Basics.{bool_cases, first_of, second_of, none_some}
-use Rattle.triples_read.proofs.Pieces.{Escapes, Kind}
+use Rattle.triples_read.proofs.BodyPieces.{Escapes, Kind}
 
 pair_some : (a b c d : ℕ) → ◌≡◌ {A = Option (ℕ × ℕ)} (Some (a, b)) (Some (c, d)) → (a ≡ c) × (b ≡ d)
 pair_some a b c d e = (ap first_of e, ap second_of e)

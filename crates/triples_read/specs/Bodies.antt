@@ -25,5 +25,5 @@ StopsAt class [] = Unit {0}
 StopsAt class (b ∷ bs) = class b ≡ false
 
 -- a body with this text stands at the front, with the tail behind its end
-abbrev pub IsBodyFront : (List ℕ → ℕ → Type 0) → ℕ → List ℕ → List ℕ → List ℕ → Type 0
-IsBodyFront P e bytes text tail = (v : List ℕ) × (text ≡ encodes v) × Body P e bytes v tail
+abbrev pub IsBodyPrefix : (List ℕ → ℕ → Type 0) → ℕ → List ℕ → List ℕ → List ℕ → Type 0
+IsBodyPrefix P e bytes text tail = (v : List ℕ) × (text ≡ encodes v) × Body P e bytes v tail

@@ -1,9 +1,9 @@
 pub mod Characters
 pub mod Terminals
 pub mod Lines
-pub mod Fronts
+pub mod SpelledPrefixes
 pub mod ByteReaders
 pub mod Bodies
 pub mod Quotes
 pub mod Canonical
-pub mod Parts
+pub mod LineRests

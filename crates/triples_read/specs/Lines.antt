@@ -72,5 +72,5 @@ abbrev pub Empty : List ℕ → Type 0
 Empty line = (cs : TextOf line) × (before : List ℕ) × (comment : List ℕ) × (cs.chars ≡ before ++ comment) × Blanks before × Comment comment
 
 -- the first n bytes are an IRIREF for the IRI
-abbrev pub IsIriFront : List ℕ → ℕ → List ℕ → Type 0
-IsIriFront b n iri = (n ≤ length b) × (s : List ℕ) × (take n b ≡ encode_utf8_all s) × IsIri s iri
+abbrev pub IsIriPrefix : List ℕ → ℕ → List ℕ → Type 0
+IsIriPrefix b n iri = (n ≤ length b) × (s : List ℕ) × (take n b ≡ encode_utf8_all s) × IsIri s iri

@@ -1,7 +1,7 @@
 // Blank node labels.
 ghost use Rattle.std.specs.Prelude.{true, ◌≡◌, ◌++◌, [], List, ℕ, MatchOption, IfSome, IsSomeAnd, encode_utf8, encode_utf8_all, ◌∷◌};
 ghost use Rattle.triples_read.specs.ByteReaders.{past_label};
-ghost use Rattle.triples_read.specs.Fronts.{IsLabelFront, EndsLabel, EachLabel, Front, IsText, EachFront, IfRead, IsRead};
+ghost use Rattle.triples_read.specs.SpelledPrefixes.{IsLabelPrefix, EndsLabel, EachLabel, Prefix, IsText, EachPrefix, IfRead, IsRead};
 ghost use Rattle.triples_read.specs.Lines.{IsBlankNode};
 ghost use Rattle.std.specs.Str.{chars};
 
@@ -37,8 +37,8 @@ fn after_label(text: &str) -> &str
 }
 
 // What follows the longest label at the front.
-fn past_front(text: &str) -> Option<&str>
-    ensures found { IfSome result (λ tail. IsLabelFront text.now tail.now) }
+fn past_prefix(text: &str) -> Option<&str>
+    ensures found { IfSome result (λ tail. IsLabelPrefix text.now tail.now) }
     ensures whole { EachLabel text.now (λ tail. IsSomeAnd result (λ left. left.now ≡ encode_utf8_all tail)) }
 {
     let Some((first, after)) = next_char(text) else {
@@ -55,13 +55,13 @@ pub(crate) fn read_label<'a>(
     spare: &mut SpareTexts,
     text: &'a str,
 ) -> Result<Option<(Text, &'a str)>, Memory>
-    ensures found { (cs : List ℕ) → IsText text.now cs → IfRead result (λ f. Front (λ s. IsBlankNode s f.0) cs f.1.now) }
-    ensures whole { EachFront IsBlankNode text.now (λ label r. EndsLabel r → IsRead result (λ f. (f.0 ≡ label) × (f.1.now ≡ encode_utf8_all r))) }
+    ensures found { (cs : List ℕ) → IsText text.now cs → IfRead result (λ f. Prefix (λ s. IsBlankNode s f.0) cs f.1.now) }
+    ensures whole { EachPrefix IsBlankNode text.now (λ label r. EndsLabel r → IsRead result (λ f. (f.0 ≡ label) × (f.1.now ≡ encode_utf8_all r))) }
 {
     let Some(after) = past_two(b'_', b':', text) else {
         return Ok(None);
     };
-    let Some(tail) = past_front(after) else {
+    let Some(tail) = past_prefix(after) else {
         return Ok(None);
     };
     let (label, rest) = after.split_at(after.len() - tail.len());
@@ -73,7 +73,7 @@ pub(crate) fn is_label(text: &str) -> bool
     ensures sound { result ≡ true → IsBlankNode (95 ∷ 58 ∷ chars text.now) text.now }
     ensures complete { (s : List ℕ) → IsBlankNode s text.now → result ≡ true }
 {
-    match past_front(text) {
+    match past_prefix(text) {
         Some(rest) => rest.is_empty(),
         None => false,
     }

@@ -15,7 +15,7 @@ mod term;
 mod triple_test;
 mod writing;
 
-pub use iri::read_iri_front;
+pub use iri::read_iri_prefix;
 pub use line::{LineError, read_line, read_line_with};
 pub use spare::SpareTexts;
 pub use term::{Term, Triple, is_xsd_string};

@@ -1,8 +1,8 @@
 // Lines.
 ghost use Rattle.std.specs.Prelude.{◌≡◌, List, ℕ, true, false, Ok, Some, None, ◌⊎◌, IfOk, IfSome, IfNone, IsErrOf, encode_utf8_all};
 ghost use Rattle.triples_read.specs.Lines.{IsIri, IsBlankNode, IsSubject, IsObject, Spells, Empty};
-ghost use Rattle.triples_read.specs.Fronts.{Front, IsText, EachFront, IfRead, IsRead, EndsLabel};
-ghost use Rattle.triples_read.specs.Parts.{EachRest, AfterObject, AfterPredicate, AfterSubject, FromSubject};
+ghost use Rattle.triples_read.specs.SpelledPrefixes.{Prefix, IsText, EachPrefix, IfRead, IsRead, EndsLabel};
+ghost use Rattle.triples_read.specs.LineRests.{EachRest, AfterObject, AfterPredicate, AfterSubject, FromSubject};
 
 use crate::blanks::{is_over, past_byte, skip_blanks, starts_with};
 use crate::iri::read_iri;
@@ -27,8 +27,8 @@ fn read_iri_term<'a>(
     spare: &mut SpareTexts,
     text: &'a str,
 ) -> Result<Option<(Term, &'a str)>, Memory>
-    ensures found { (cs : List ℕ) → IsText text.now cs → IfRead result (λ f. Front (λ s. IsSubject s f.0) cs f.1.now) }
-    ensures whole { EachFront IsIri text.now (λ iri r. IsRead result (λ f. (f.0 ≡ Term.Iri iri) × (f.1.now ≡ encode_utf8_all r))) }
+    ensures found { (cs : List ℕ) → IsText text.now cs → IfRead result (λ f. Prefix (λ s. IsSubject s f.0) cs f.1.now) }
+    ensures whole { EachPrefix IsIri text.now (λ iri r. IsRead result (λ f. (f.0 ≡ Term.Iri iri) × (f.1.now ≡ encode_utf8_all r))) }
 {
     let Some((iri, rest)) = read_iri(spare, text)? else {
         return Ok(None);
@@ -40,8 +40,8 @@ fn read_blank_node<'a>(
     spare: &mut SpareTexts,
     text: &'a str,
 ) -> Result<Option<(Term, &'a str)>, Memory>
-    ensures found { (cs : List ℕ) → IsText text.now cs → IfRead result (λ f. Front (λ s. IsSubject s f.0) cs f.1.now) }
-    ensures whole { EachFront IsBlankNode text.now (λ label r. EndsLabel r → IsRead result (λ f. (f.0 ≡ Term.Blank label) × (f.1.now ≡ encode_utf8_all r))) }
+    ensures found { (cs : List ℕ) → IsText text.now cs → IfRead result (λ f. Prefix (λ s. IsSubject s f.0) cs f.1.now) }
+    ensures whole { EachPrefix IsBlankNode text.now (λ label r. EndsLabel r → IsRead result (λ f. (f.0 ≡ Term.Blank label) × (f.1.now ≡ encode_utf8_all r))) }
 {
     let Some((label, rest)) = read_label(spare, text)? else {
         return Ok(None);
@@ -54,8 +54,8 @@ fn read_subject<'a>(
     spare: &mut SpareTexts,
     text: &'a str,
 ) -> Result<Option<(Term, &'a str)>, Memory>
-    ensures found { (cs : List ℕ) → IsText text.now cs → IfRead result (λ f. Front (λ s. IsSubject s f.0) cs f.1.now) }
-    ensures whole { EachFront IsSubject text.now (λ t r. EndsLabel r → IsRead result (λ f. (f.0 ≡ t) × (f.1.now ≡ encode_utf8_all r))) }
+    ensures found { (cs : List ℕ) → IsText text.now cs → IfRead result (λ f. Prefix (λ s. IsSubject s f.0) cs f.1.now) }
+    ensures whole { EachPrefix IsSubject text.now (λ t r. EndsLabel r → IsRead result (λ f. (f.0 ≡ t) × (f.1.now ≡ encode_utf8_all r))) }
 {
     if starts_with(b'<', text) {
         return read_iri_term(spare, text);
@@ -65,8 +65,8 @@ fn read_subject<'a>(
 
 // The object at the front, and what follows it.
 fn read_object<'a>(spare: &mut SpareTexts, text: &'a str) -> Result<Option<(Term, &'a str)>, Memory>
-    ensures found { (cs : List ℕ) → IsText text.now cs → IfRead result (λ f. Front (λ s. IsObject s f.0) cs f.1.now) }
-    ensures whole { EachFront IsObject text.now (λ t r. AfterObject r → IsRead result (λ f. (f.0 ≡ t) × (f.1.now ≡ encode_utf8_all r))) }
+    ensures found { (cs : List ℕ) → IsText text.now cs → IfRead result (λ f. Prefix (λ s. IsObject s f.0) cs f.1.now) }
+    ensures whole { EachPrefix IsObject text.now (λ t r. AfterObject r → IsRead result (λ f. (f.0 ≡ t) × (f.1.now ≡ encode_utf8_all r))) }
 {
     if starts_with(b'"', text) {
         return read_literal(spare, text);

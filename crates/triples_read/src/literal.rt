@@ -1,8 +1,8 @@
 // Literals.
 ghost use Rattle.std.specs.Prelude.{◌≡◌, List, ℕ, Option, IfOk, encode_utf8_all};
 ghost use Rattle.triples_read.specs.Lines.{Suffix, IsObject, xsd_string as xsd_string_iri, lang_string as lang_string_iri};
-ghost use Rattle.triples_read.specs.Fronts.{Front, IsText, EachFront, IfRead, IsRead};
-ghost use Rattle.triples_read.specs.Parts.{IsDatatype, EachLiteral, EachSuffix};
+ghost use Rattle.triples_read.specs.SpelledPrefixes.{Prefix, IsText, EachPrefix, IfRead, IsRead};
+ghost use Rattle.triples_read.specs.LineRests.{IsDatatype, EachLiteral, EachSuffix};
 
 use crate::blanks::{past_byte, past_two, skip_blanks, starts_with};
 use crate::iri::read_iri;
@@ -29,8 +29,8 @@ fn read_datatype<'a>(
     spare: &mut SpareTexts,
     text: &'a str,
 ) -> Result<Option<(Text, &'a str)>, Memory>
-    ensures found { (cs : List ℕ) → IsText text.now cs → IfRead result (λ f. Front (λ s. IsDatatype s f.0) cs f.1.now) }
-    ensures whole { EachFront IsDatatype text.now (λ datatype r. IsRead result (λ f. (f.0 ≡ datatype) × (f.1.now ≡ encode_utf8_all r))) }
+    ensures found { (cs : List ℕ) → IsText text.now cs → IfRead result (λ f. Prefix (λ s. IsDatatype s f.0) cs f.1.now) }
+    ensures whole { EachPrefix IsDatatype text.now (λ datatype r. IsRead result (λ f. (f.0 ≡ datatype) × (f.1.now ≡ encode_utf8_all r))) }
 {
     let Some(after) = past_two(b'^', b'^', text) else {
         return Ok(None);
@@ -43,7 +43,7 @@ fn read_suffix<'a>(
     spare: &mut SpareTexts,
     text: &'a str,
 ) -> Result<Option<(Text, Option<Text>, &'a str)>, Memory>
-    ensures found { (cs : List ℕ) → IsText text.now cs → IfRead result (λ f. Front (λ s. Suffix s f.0 f.1) cs f.2.now) }
+    ensures found { (cs : List ℕ) → IsText text.now cs → IfRead result (λ f. Prefix (λ s. Suffix s f.0 f.1) cs f.2.now) }
     ensures whole { EachSuffix text.now (λ datatype tag r. IsRead result (λ f. (f.0 ≡ datatype) × (f.1 ≡ tag) × (f.2.now ≡ encode_utf8_all r))) }
 {
     let after = skip_blanks(text);
@@ -67,7 +67,7 @@ pub(crate) fn read_literal<'a>(
     spare: &mut SpareTexts,
     text: &'a str,
 ) -> Result<Option<(Term, &'a str)>, Memory>
-    ensures found { (cs : List ℕ) → IsText text.now cs → IfRead result (λ f. Front (λ s. IsObject s f.0) cs f.1.now) }
+    ensures found { (cs : List ℕ) → IsText text.now cs → IfRead result (λ f. Prefix (λ s. IsObject s f.0) cs f.1.now) }
     ensures whole { EachLiteral text.now (λ t r. IsRead result (λ f. (f.0 ≡ t) × (f.1.now ≡ encode_utf8_all r))) }
 {
     let Some((string, behind)) = read_quoted(Quote::Double, spare, text)? else {

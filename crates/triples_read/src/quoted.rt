@@ -2,9 +2,9 @@
 ghost use Rattle.std.specs.Prelude.{◌≡◌, ◌<◌, ◌≤◌, ◌+◌, ◌∷◌, List, ℕ, true, false, length, IfOk, IfSome, IfNone, IsUtf8, string_bytes, encode_utf8_all};
 ghost use Rattle.std.specs.List.{position_or_len, position};
 ghost use Rattle.std.proofs.Common.{not};
-ghost use Rattle.triples_read.specs.Bodies.{StopsAt, IsBodyFront};
+ghost use Rattle.triples_read.specs.Bodies.{StopsAt, IsBodyPrefix};
 ghost use Rattle.triples_read.specs.Quotes.{opening as opening_of, closing as closing_of, inner, escape_at, PieceIn, BodyIn, AddsPieces, IsQuoted};
-ghost use Rattle.triples_read.specs.Fronts.{IfRead, IsRead};
+ghost use Rattle.triples_read.specs.SpelledPrefixes.{IfRead, IsRead};
 
 use crate::blanks::past_byte;
 use crate::characters::{is_iri_byte, stands_in_string};
@@ -159,7 +159,7 @@ fn quoted_body<'a>(
     spare: &mut SpareTexts,
     body: &'a str,
 ) -> Result<Option<(String, &'a str)>, AllocError>
-    ensures found { IfRead result (λ f. IsBodyFront (PieceIn quote) (closing_of quote) body.now (string_bytes f.0) f.1.now) }
+    ensures found { IfRead result (λ f. IsBodyPrefix (PieceIn quote) (closing_of quote) body.now (string_bytes f.0) f.1.now) }
     ensures only { (v tail : List ℕ) → BodyIn quote body.now v tail → IsRead result (λ f. (string_bytes f.0 ≡ encode_utf8_all v) × (f.1.now ≡ tail)) }
 {
     let mut text = spare.take();

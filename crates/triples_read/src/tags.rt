@@ -5,7 +5,7 @@ ghost use Rattle.std.specs.List.{list_all};
 ghost use Rattle.std.proofs.Common.{not};
 ghost use Rattle.triples_read.specs.Characters.{from_to};
 ghost use Rattle.triples_read.specs.ByteReaders.{tag_part, past_tag as past};
-ghost use Rattle.triples_read.specs.Fronts.{Front, IsText, EachFront, IfRead, IsRead, IsTag, EndsTag};
+ghost use Rattle.triples_read.specs.SpelledPrefixes.{Prefix, IsText, EachPrefix, IfRead, IsRead, IsTag, EndsTag};
 
 use crate::characters::{is_letter, is_letter_or_digit};
 use crate::spare::SpareTexts;
@@ -63,8 +63,8 @@ pub(crate) fn read_tag<'a>(
     spare: &mut SpareTexts,
     text: &'a str,
 ) -> Result<Option<(Text, &'a str)>, Memory>
-    ensures found { (cs : List ℕ) → IsText text.now cs → IfRead result (λ f. Front (λ s. IsTag s f.0) cs f.1.now) }
-    ensures whole { EachFront IsTag text.now (λ tag r. EndsTag (encode_utf8_all r) → IsRead result (λ f. (f.0 ≡ tag) × (f.1.now ≡ encode_utf8_all r))) }
+    ensures found { (cs : List ℕ) → IsText text.now cs → IfRead result (λ f. Prefix (λ s. IsTag s f.0) cs f.1.now) }
+    ensures whole { EachPrefix IsTag text.now (λ tag r. EndsTag (encode_utf8_all r) → IsRead result (λ f. (f.0 ≡ tag) × (f.1.now ≡ encode_utf8_all r))) }
 {
     let Some(behind) = past_tag(text.as_bytes()) else {
         return Ok(None);

@@ -138,14 +138,14 @@ impl Loader {
     // Reads where the triple would be put: the set of the known triples, and, if it isn't there, the ends of two lists of
     // neighbours. Where those neighbours aren't nodes, the hints are dropped.
     fn compare_ends(&self, triple: &HashedTriple, hints: Hints) -> Hints {
-        if self.is_near(hints) == Some(true) || self.has_ends(hints) {
+        if self.is_neighbour(hints) == Some(true) || self.has_ends(hints) {
             hints
         } else {
             self.hints(triple)
         }
     }
 
-    fn is_near(&self, hints: Hints) -> Option<bool> {
+    fn is_neighbour(&self, hints: Hints) -> Option<bool> {
         Some(
             self.known.contains(Key {
                 subject: hints.subject.place()?,

@@ -1,6 +1,6 @@
 use Rattle.std.proofs.Common.{◌≡◌, refl, sym, subst, ap, ◌∙◌}
 use Rattle.bisim_spec.specs.declared.kind.Kind.TheVariants.{A, One, Fb}
-use Rattle.index_api.specs.Kept.{kinds_of}
+use Rattle.index_api.specs.IndexKinds.{kinds_of}
 use Rattle.any_index.proofs.ThreeBoxes.{three_apart, three_kinds, kept_is_one}
 use Rattle.pathindex_main.proofs.run_words.OwnLists.{own-1}
 use Rattle.pathindex_main.proofs.run_words.Goals as goal

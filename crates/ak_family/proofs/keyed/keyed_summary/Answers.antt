@@ -1,5 +1,5 @@
 use Rattle.std.proofs.Common.{◌∙◌}
-use Rattle.ak_family.proofs.Labelled.{labelled_below}
+use Rattle.ak_family.proofs.LabelledMembers.{labelled_below}
 use Rattle.ak_family.proofs.Filled.{filled_keyed, filled_fits, filled_labels}
 use Rattle.ak_family.proofs.keyed.keyed_summary.Goals as goal
 

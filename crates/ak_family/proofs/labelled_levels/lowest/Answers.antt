@@ -1,4 +1,4 @@
-use Rattle.ak_family.proofs.Labelled.{keys_begin, labelled_lowest}
+use Rattle.ak_family.proofs.LabelledMembers.{keys_begin, labelled_lowest}
 use Rattle.ak_family.proofs.labelled_levels.lowest.Goals as goal
 
 pub own_numbers-requires : goal.own_numbers-requires

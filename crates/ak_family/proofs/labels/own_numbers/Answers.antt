@@ -1,5 +1,5 @@
 use Rattle.std.proofs.Common.{arith, rules}
-use Rattle.ak_family.proofs.Labelled.{first_more, first_all}
+use Rattle.ak_family.proofs.LabelledMembers.{first_more, first_all}
 use Rattle.ak_family.proofs.labels.own_numbers.Goals as goal
 
 pub loop-b-preserved : goal.loop-b-preserved

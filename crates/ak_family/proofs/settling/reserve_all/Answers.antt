@@ -1,6 +1,6 @@
 use Rattle.std.proofs.Common.{◌<◌, sym, subst, length, arith}
-use Rattle.keyed_quotient.specs.Levels.{KeyedQuotient}
-use Rattle.keyed_quotient.specs.Changes.{IsKeyedOver, HasKeyRoom}
+use Rattle.keyed_quotient.specs.KeyedQuotients.{KeyedQuotient}
+use Rattle.keyed_quotient.specs.Changes.{IsKeyedOver, HasReservedKeys}
 use Rattle.ak_family.specs.Families.{level_at}
 use Rattle.ak_family.proofs.Reserved.{IsSeenAs, level_read, reserved_none, reserved_over, reserved_next, reserved_all, seen_set}
 use Rattle.ak_family.proofs.settling.reserve_all.Goals as goal
@@ -30,7 +30,7 @@ levels-preserved c =
     subst (λ (q : KeyedQuotient). IsSeenAs q c.reserve.new.base) (level_read c.levels.levels.items c.levels.i c.index_mut.result.now within c.index_mut.ensures.value)
     (record { view = c.reserve.ensures.view; keys = c.reserve.ensures.keys }) in
     reserved_next c.args.levels.now.items c.levels.levels.items c.args.drafts.now.items c.levels.i c.reserve.new.base c.levels.invariant within seen
-    (subst (HasKeyRoom c.reserve.new.base) c.draft_of.ensures c.in_ok-reserve.ensures.room)
+    (subst (HasReservedKeys c.reserve.new.base) c.draft_of.ensures c.in_ok-reserve.ensures.reserved)
 
 pub returns-in_err-reserve-clause-same : goal.returns-in_err-reserve-clause-same
 returns-in_err-reserve-clause-same c =
@@ -46,8 +46,8 @@ returns-in_err-reserve-clause-same c =
 pub returns-clause-same : goal.returns-clause-same
 returns-clause-same c = c.levels.invariant.seen
 
-pub returns-clause-room : goal.returns-clause-room
-returns-clause-room c =
+pub returns-clause-reserved : goal.returns-clause-reserved
+returns-clause-reserved c =
     let test = c.levels-test.false in
     let end = c.len-i-end.ensures in
     let count = c.levels.invariant.seen.count in

@@ -1,6 +1,6 @@
 use Rattle.std.proofs.Common.{◌<◌, ◌≤◌, length, arith}
-use Rattle.keyed_quotient.specs.Levels.{KeyedQuotient}
-use Rattle.keyed_quotient.specs.Changes.{KeyedChanges, blocks_as_shown, support_as_shown, IsKeyedOver, HasKeyRoom, AreInhabited, AreUnsupported}
+use Rattle.keyed_quotient.specs.KeyedQuotients.{KeyedQuotient}
+use Rattle.keyed_quotient.specs.Changes.{KeyedChanges, blocks_as_shown, support_as_shown, IsKeyedOver, HasReservedKeys, AreInhabited, AreUnsupported}
 use Rattle.ak_family.proofs.SettledBelow.{below_none, below_read, below_next, below_all, below_empty}
 use Rattle.ak_family.proofs.settling.settle_all.Goals as goal
 
@@ -20,8 +20,8 @@ settle-requires c =
     record {
       over = below_read IsKeyedOver c.args.levels.now.items c.args.drafts.now.items c.levels.levels.items c.levels.drafts.items c.levels.i c.index_mut-in-levels.result.now c.index_mut.result.now
           c.levels.invariant within drafted c.index_mut-in-levels.ensures.value c.index_mut.ensures.value (c.requires.shows.over.each c.levels.i before);
-      room = below_read HasKeyRoom c.args.levels.now.items c.args.drafts.now.items c.levels.levels.items c.levels.drafts.items c.levels.i c.index_mut-in-levels.result.now c.index_mut.result.now
-          c.levels.invariant within drafted c.index_mut-in-levels.ensures.value c.index_mut.ensures.value (c.requires.room c.levels.i before);
+      reserved = below_read HasReservedKeys c.args.levels.now.items c.args.drafts.now.items c.levels.levels.items c.levels.drafts.items c.levels.i c.index_mut-in-levels.result.now c.index_mut.result.now
+          c.levels.invariant within drafted c.index_mut-in-levels.ensures.value c.index_mut.ensures.value (c.requires.reserved c.levels.i before);
       inhabited = below_read (λ (q : KeyedQuotient) (y : KeyedChanges). AreInhabited q.quotient.blocks.labels q.quotient.blocks.block_of) c.args.levels.now.items c.args.drafts.now.items
           c.levels.levels.items c.levels.drafts.items c.levels.i c.index_mut-in-levels.result.now c.index_mut.result.now c.levels.invariant within drafted c.index_mut-in-levels.ensures.value
           c.index_mut.ensures.value (c.requires.inhabited c.levels.i before);

@@ -1,6 +1,6 @@
 use Rattle.std.proofs.Common.{sym, subst, refl}
-use Rattle.px_spec.specs.Graphs.{Graph}
-use Rattle.px_spec.specs.Changes.{Change}
+use Rattle.graph_spec.specs.Graphs.{Graph}
+use Rattle.graph_spec.specs.Changes.{Change}
 use Rattle.bisim_spec.specs.Fits.{Fits}
 use Rattle.index_api.specs.Meanings.{Meaning, IsReady, IsPrepared, unstaged}
 use Rattle.ak_maintain.proofs.tests.prepare_in_vain.Goals as goal

@@ -1,7 +1,7 @@
 use Rattle.std.proofs.Common.{arith}
 use Rattle.label_graph.specs.ViewLaws.{below_span}
 use Rattle.bisim_levels.proofs.NumberedNodes.{numbered_more, numbered_all, numbered_refines, numbered_below}
-use Rattle.bisim_levels.proofs.Views.{node_number, near_block}
+use Rattle.bisim_levels.proofs.LabelledNodes.{node_number, neighbour_block}
 use Rattle.bisim_levels.proofs.refining.refine.Goals as goal
 
 pub loop-n-preserved : goal.loop-n-preserved
@@ -12,7 +12,7 @@ loop-n-preserved c = record {
 
 pub returns-clause-refines : goal.returns-clause-refines
 returns-clause-refines c =
-    numbered_refines _ _ _ _ _ (near_block c.args.view.now c.size-n-end.ensures.graph c.args.side c.args.base.now c.requires.base) c.loop-n.invariant.distinct.apart
+    numbered_refines _ _ _ _ _ (neighbour_block c.args.view.now c.size-n-end.ensures.graph c.args.side c.args.base.now c.requires.base) c.loop-n.invariant.distinct.apart
     (numbered_all _ _ _ _ _ _ c.loop-n.invariant.numbered (λ m h.
     let below = below_span c.args.view.now m (node_number c.args.view.now c.size-n-end.ensures.graph m (c.requires.own.only m h)) in
     let end = c.loop-n-test.false in

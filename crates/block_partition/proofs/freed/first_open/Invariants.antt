@@ -1,5 +1,5 @@
 use Rattle.std.proofs.Common.{ℕ, ◌≤◌, ◌<◌, ◌-◌, ◌*◌, List, Option, IsSome, length, vec_len}
-use Rattle.px_spec.specs.Members.{at}
+use Rattle.graph_spec.specs.Members.{at}
 use Rattle.block_partition.specs.Soundness.{AreFullRuns}
 use Rattle.block_partition.proofs.freed.first_open.Given as goal
 

@@ -1,5 +1,5 @@
 use Rattle.std.proofs.Common.{arith}
-use Rattle.px_spec.proofs.MemberLaws.{has_more, has_at}
+use Rattle.graph_spec.proofs.MemberLaws.{has_more, has_at}
 use Rattle.block_splitting.proofs.Grouped.{grouped_more}
 use Rattle.block_splitting.proofs.grouping.group_nodes.Goals as goal
 

@@ -1,5 +1,5 @@
 use Rattle.std.proofs.Common.{◌≡◌, take, vec_len}
-use Rattle.px_spec.specs.Members.{has}
+use Rattle.graph_spec.specs.Members.{has}
 use Rattle.block_splitting.specs.Groups.{AreGrouped, NeighbourKey}
 use Rattle.block_splitting.proofs.grouping.group_nodes.Given as goal
 

@@ -1,5 +1,5 @@
 use Rattle.std.proofs.Common.{◌∙◌, arith}
-use Rattle.px_spec.proofs.MemberLaws.{has_more, has_at}
+use Rattle.graph_spec.proofs.MemberLaws.{has_more, has_at}
 use Rattle.block_splitting.proofs.Moves.{moved_more}
 use Rattle.block_splitting.proofs.moving.move_nodes.Goals as goal
 

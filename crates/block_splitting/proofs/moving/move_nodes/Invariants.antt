@@ -1,6 +1,6 @@
 use Rattle.std.proofs.Common.{◌≡◌, ◌≤◌, take, slice_index, vec_len}
 use Rattle.std.specs.Prelude.{vec_capacity}
-use Rattle.px_spec.specs.Members.{has}
+use Rattle.graph_spec.specs.Members.{has}
 use Rattle.block_splitting.specs.Moved.{AreMoved}
 use Rattle.block_splitting.proofs.moving.move_nodes.Given as goal
 

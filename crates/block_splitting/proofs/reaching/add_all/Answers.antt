@@ -1,5 +1,5 @@
 use Rattle.std.proofs.Common.{arith}
-use Rattle.px_spec.proofs.MemberLaws.{has_at}
+use Rattle.graph_spec.proofs.MemberLaws.{has_at}
 use Rattle.block_splitting.proofs.reaching.add_all.Goals as goal
 
 pub add-requires : goal.add-requires

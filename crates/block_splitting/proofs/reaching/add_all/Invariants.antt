@@ -1,6 +1,6 @@
 use Rattle.std.proofs.Common.{◌≡◌, ℕ, take}
 use Rattle.std.specs.Prelude.{◌||◌}
-use Rattle.px_spec.specs.Members.{has}
+use Rattle.graph_spec.specs.Members.{has}
 use Rattle.block_splitting.proofs.reaching.add_all.Given as goal
 
 abbrev pub invariant-loop-n : goal.invariant-loop-n

@@ -1,8 +1,8 @@
-use Rattle.bisim_levels.proofs.Views.{parents_near, children_near}
+use Rattle.bisim_levels.proofs.LabelledNodes.{parents_neighbours, children_neighbours}
 use Rattle.block_splitting.proofs.reaching.opposite_neighbours.Goals as goal
 
 pub returns-in-Parents : goal.returns-in-Parents
-returns-in-Parents c = rw c.in-Parents.is (children_near c.args.view.now c.requires.graph c.args.q _ c.children.ensures)
+returns-in-Parents c = rw c.in-Parents.is (children_neighbours c.args.view.now c.requires.graph c.args.q _ c.children.ensures)
 
 pub returns-in-Children : goal.returns-in-Children
-returns-in-Children c = rw c.in-Children.is (parents_near c.args.view.now c.requires.graph c.args.q _ c.parents.ensures)
+returns-in-Children c = rw c.in-Children.is (parents_neighbours c.args.view.now c.requires.graph c.args.q _ c.parents.ensures)

@@ -1,11 +1,11 @@
 use Rattle.std.proofs.Common.{◌∙◌, ℕ, subst, arith}
 use Rattle.std.specs.Prelude.{slice_get}
 use Rattle.std.proofs.lemmas.List.{take_all}
-use Rattle.px_spec.specs.Shapes.{shape_by}
-use Rattle.branch_spec.specs.Answers.{Meets, Ends, AreBranchAnswers}
-use Rattle.branch_expr.specs.Views.{step_of, chain_of}
+use Rattle.graph_spec.specs.Shapes.{shape_by}
+use Rattle.branch_spec.specs.BranchAnswers.{Meets, Ends, AreBranchAnswers}
+use Rattle.branch_expr.specs.QueryTrees.{step_of, chain_of}
 use Rattle.branch_expr.specs.Sets.{IsSetOf}
-use Rattle.branch_expr.proofs.Laws.{set_query, end_node, node_label}
+use Rattle.branch_expr.proofs.SetLaws.{set_query, end_node, node_label}
 use Rattle.branch_expr.proofs.answers.eval.Goals as goal
 
 pub loop-j-preserved : goal.loop-j-preserved

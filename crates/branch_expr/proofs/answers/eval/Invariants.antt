@@ -1,7 +1,7 @@
 use Rattle.std.proofs.Common.{◌≡◌, ℕ, take}
-use Rattle.path_search.specs.Digraphs.{shape_through}
-use Rattle.branch_spec.specs.Answers.{Meets, Ends}
-use Rattle.branch_expr.specs.Views.{step_of, chain_of}
+use Rattle.path_automaton.specs.Digraphs.{shape_through}
+use Rattle.branch_spec.specs.BranchAnswers.{Meets, Ends}
+use Rattle.branch_expr.specs.QueryTrees.{step_of, chain_of}
 use Rattle.branch_expr.specs.Sets.{IsSetOf}
 use Rattle.branch_expr.proofs.answers.eval.Given as goal
 

@@ -2,15 +2,15 @@ use Rattle.std.proofs.Common.{◌≡◌, ◌↔◌, ◌∙◌, ◌∷◌, ℕ, s
 use Rattle.std.specs.Prelude.{IfOk, OnOk}
 use Rattle.std.proofs.lemmas.Result.{IfOk-weaker}
 use Rattle.std.proofs.lemmas.Bool.Decides.{Decides-eqb}
-use Rattle.px_spec.specs.Members.{has}
-use Rattle.path_search.specs.Digraphs.{shape_through}
-use Rattle.branch_spec.specs.Answers.{Along, Passes, Meets, HoldsOr, HoldsAnd, Goes}
-use Rattle.branch_sets.specs.Axes.{axis_of}
-use Rattle.branch_expr.specs.Views.{test_of, step_of, chain_of, cond_of, and_from, and_of}
-use Rattle.branch_sets.specs.Images.{Keeps, Loses}
+use Rattle.graph_spec.specs.Members.{has}
+use Rattle.path_automaton.specs.Digraphs.{shape_through}
+use Rattle.branch_spec.specs.BranchAnswers.{Along, Passes, Meets, HoldsOr, HoldsAnd, Goes}
+use Rattle.branch_expr.specs.Axes.{axis_of}
+use Rattle.branch_expr.specs.QueryTrees.{test_of, step_of, chain_of, cond_of, and_from, and_of}
+use Rattle.branch_expr.specs.Images.{Keeps, Loses}
 use Rattle.branch_expr.specs.Sets.{IsSetOf}
-use Rattle.branch_sets.specs.Axes.{turned}
-use Rattle.branch_expr.proofs.Laws.{no_items, IsLed, set_plain, keeps_and, keeps_none, spared_plain, set_and, set_or, set_preds, set_go, set_hop, set_last, drop_back, drop_none}
+use Rattle.branch_expr.specs.Axes.{turned}
+use Rattle.branch_expr.proofs.SetLaws.{no_items, IsLed, set_plain, keeps_and, keeps_none, spared_plain, set_and, set_or, set_preds, set_go, set_hop, set_last, drop_back, drop_none}
 use Rattle.branch_expr.proofs.holding.+holds.Goals as goal
 
 pub rel_set-loop-j-preserved : goal.rel_set-loop-j-preserved

@@ -1,8 +1,8 @@
 use Rattle.std.proofs.Common.{◌≡◌, take, drop}
-use Rattle.path_search.specs.Digraphs.{shape_through}
-use Rattle.branch_spec.specs.Answers.{HoldAll, HoldsOr, HoldsAnd, Goes}
-use Rattle.branch_expr.specs.Views.{preds_of, chain_of, cond_of, and_from, and_of, or_from}
-use Rattle.branch_sets.specs.Images.{Keeps}
+use Rattle.path_automaton.specs.Digraphs.{shape_through}
+use Rattle.branch_spec.specs.BranchAnswers.{HoldAll, HoldsOr, HoldsAnd, Goes}
+use Rattle.branch_expr.specs.QueryTrees.{preds_of, chain_of, cond_of, and_from, and_of, or_from}
+use Rattle.branch_expr.specs.Images.{Keeps}
 use Rattle.branch_expr.specs.Sets.{IsSetOf}
 use Rattle.branch_expr.proofs.holding.+holds.Given as goal
 

@@ -1,10 +1,10 @@
 use Rattle.std.proofs.Common.{◌↔◌, ℕ, IsTrue}
 use Rattle.std.proofs.lemmas.Result.{IfOk-weaker}
-use Rattle.px_spec.specs.Members.{has}
-use Rattle.px_spec.specs.Shapes.{shape_by}
-use Rattle.branch_spec.specs.Answers.{Passes}
-use Rattle.branch_expr.specs.Views.{test_of}
-use Rattle.branch_expr.proofs.Labelled.{passes_by}
+use Rattle.graph_spec.specs.Members.{has}
+use Rattle.graph_spec.specs.Shapes.{shape_by}
+use Rattle.branch_spec.specs.BranchAnswers.{Passes}
+use Rattle.branch_expr.specs.QueryTrees.{test_of}
+use Rattle.branch_expr.proofs.LabelNames.{passes_by}
 use Rattle.branch_expr.proofs.meeting.deny_axis.Goals as goal
 
 pub returns-in-Child-clause-spared : goal.returns-in-Child-clause-spared

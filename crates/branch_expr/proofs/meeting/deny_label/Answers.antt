@@ -1,9 +1,9 @@
 use Rattle.std.proofs.Common.{◌≡◌, ◌↔◌, ◌∙◌, ℕ, sym, ap, subst, Some, IsTrue, true≢false}
 use Rattle.std.specs.Prelude.{slice_get, option_and_then, IsSome}
 use Rattle.std.proofs.lemmas.Result.{IfOk-weaker}
-use Rattle.px_spec.specs.Members.{has}
+use Rattle.graph_spec.specs.Members.{has}
 use Rattle.path_expr.proofs.LabelNumbers.{text_is}
-use Rattle.branch_expr.proofs.Labelled.{number_of}
+use Rattle.branch_expr.proofs.LabelNames.{number_of}
 use Rattle.branch_expr.proofs.meeting.deny_label.Goals as goal
 
 pub returns-in-Some-clause-spared : goal.returns-in-Some-clause-spared

@@ -1,9 +1,9 @@
 use Rattle.std.proofs.Common.{◌↔◌, ℕ, IsTrue}
 use Rattle.std.specs.Prelude.{slice_get, IsSome}
 use Rattle.std.proofs.lemmas.Result.{IfOk-weaker}
-use Rattle.px_spec.specs.Members.{has}
-use Rattle.branch_expr.proofs.Labelled.{label_text}
-use Rattle.branch_expr.proofs.Laws.{node_label}
+use Rattle.graph_spec.specs.Members.{has}
+use Rattle.branch_expr.proofs.LabelNames.{label_text}
+use Rattle.branch_expr.proofs.SetLaws.{node_label}
 use Rattle.branch_expr.proofs.meeting.deny_test.Goals as goal
 
 pub returns-in-Any-clause-spared : goal.returns-in-Any-clause-spared

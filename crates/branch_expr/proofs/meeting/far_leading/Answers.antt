@@ -1,11 +1,11 @@
 use Rattle.std.proofs.Common.{◌↔◌, ℕ, IsTrue}
 use Rattle.std.proofs.lemmas.Result.{IfOk-weaker}
-use Rattle.px_spec.specs.Members.{has}
-use Rattle.px_spec.specs.Shapes.{shape_by}
-use Rattle.branch_spec.specs.Answers.{Along}
-use Rattle.branch_sets.specs.Axes.{axis_of}
-use Rattle.branch_expr.specs.Views.{test_of}
-use Rattle.branch_expr.proofs.Laws.{set_led}
+use Rattle.graph_spec.specs.Members.{has}
+use Rattle.graph_spec.specs.Shapes.{shape_by}
+use Rattle.branch_spec.specs.BranchAnswers.{Along}
+use Rattle.branch_expr.specs.Axes.{axis_of}
+use Rattle.branch_expr.specs.QueryTrees.{test_of}
+use Rattle.branch_expr.proofs.SetLaws.{set_led}
 use Rattle.branch_expr.proofs.meeting.far_leading.Goals as goal
 
 pub returns-clause-image : goal.returns-clause-image

@@ -2,7 +2,7 @@ use Rattle.std.proofs.Common.{ap, arith, map, ◌∙◌}
 use Rattle.std.proofs.lemmas.List.{take_all}
 use Rattle.branch_spec.specs.Trees as tree
 use Rattle.branch_spec.specs.Relaxed.{relax_or, relax_and, relax_cond}
-use Rattle.branch_expr.specs.Views.{cond_of, and_of}
+use Rattle.branch_expr.specs.QueryTrees.{cond_of, and_of}
 use Rattle.branch_expr.proofs.Relaxed.{preds_relaxed, and_relaxed, or_relaxed, chain_relaxed, hop_of, relax_hop}
 use Rattle.branch_expr.proofs.relaxing.+relax.Goals as goal
 

@@ -1,6 +1,6 @@
 use Rattle.std.proofs.Common.{◌≡◌, map, take}
 use Rattle.branch_spec.specs.Relaxed.{relax_or, relax_and, relax_cond}
-use Rattle.branch_expr.specs.Views.{cond_of, and_of}
+use Rattle.branch_expr.specs.QueryTrees.{cond_of, and_of}
 use Rattle.branch_expr.proofs.Relaxed.{hop_of, relax_hop}
 use Rattle.branch_expr.proofs.relaxing.+relax.Given as goal
 

@@ -3,10 +3,10 @@ use Rattle.std.proofs.lemmas.Result.{err_from_is_err_and}
 use Rattle.branch_spec.specs.Tokens.{axis, left, right, opening, closing, and_word, or_word, test_onto, preds_onto, or_onto, and_onto, chain_onto, EndsStep}
 use Rattle.branch_spec.proofs.OneQuery.{chain_ends, one_chain}
 use Rattle.branch_spec.specs.Trees.{go}
-use Rattle.branch_sets.specs.Axes.{axis_of}
-use Rattle.branch_expr.specs.Views.{test_of, preds_of, step_of, chain_of, cond_of, and_from, and_of, or_from}
+use Rattle.branch_expr.specs.Axes.{axis_of}
+use Rattle.branch_expr.specs.QueryTrees.{test_of, preds_of, step_of, chain_of, cond_of, and_from, and_of, or_from}
 use Rattle.branch_text.specs.declared.grammar.ReadError.TheVariants.{Syntax}
-use Rattle.branch_text.specs.Seen.{seen}
+use Rattle.branch_text.specs.BranchTokens.{seen}
 use Rattle.branch_text.proofs.GrammarLaws as readings
 use Rattle.branch_text.proofs.grammar.+read.Goals as goal
 

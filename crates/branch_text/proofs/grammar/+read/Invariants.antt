@@ -1,7 +1,7 @@
 use Rattle.std.proofs.Common.{◌≡◌, ◌<◌, ◌≤◌, ◌+◌, ◌*◌, length}
 use Rattle.branch_spec.specs.Tokens.{test_onto, preds_onto, or_onto, and_onto, chain_onto, EndsAnd, EndsChain, EndsStep}
-use Rattle.branch_expr.specs.Views.{test_of, preds_of, chain_of, cond_of, and_from, and_of, or_from}
-use Rattle.branch_text.specs.Seen.{seen}
+use Rattle.branch_expr.specs.QueryTrees.{test_of, preds_of, chain_of, cond_of, and_from, and_of, or_from}
+use Rattle.branch_text.specs.BranchTokens.{seen}
 use Rattle.branch_text.proofs.grammar.+read.Given as goal
 
 abbrev pub decreases-read_step : goal.decreases-read_step

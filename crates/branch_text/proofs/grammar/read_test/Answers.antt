@@ -1,4 +1,4 @@
-use Rattle.branch_text.specs.Seen.{seen}
+use Rattle.branch_text.specs.BranchTokens.{seen}
 use Rattle.branch_text.proofs.GrammarLaws.{no_test, other_test}
 use Rattle.branch_text.proofs.grammar.read_test.Goals as goal
 

@@ -1,5 +1,5 @@
 use Rattle.std.proofs.Common.{length}
-use Rattle.branch_text.specs.Seen.{seen}
+use Rattle.branch_text.specs.BranchTokens.{seen}
 use Rattle.branch_text.proofs.LexerLaws.{Lexed}
 use Rattle.branch_text.proofs.lexer.lex.Given as goal
 

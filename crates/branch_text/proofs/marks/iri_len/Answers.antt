@@ -1,6 +1,6 @@
 use Rattle.std.proofs.Common.{length, ◌<◌, ◌≤◌, arith}
 use Rattle.std.proofs.lemmas.Bool.Decides.{nat_tests}
-use Rattle.branch_text.proofs.Fronts.{len_to_end, len_of_all}
+use Rattle.branch_text.proofs.TokenPrefixLaws.{len_to_end, len_of_all}
 use Rattle.branch_text.proofs.marks.iri_len.Goals as goal
 
 pub returns-then-before-text-clause-count : goal.returns-then-before-text-clause-count

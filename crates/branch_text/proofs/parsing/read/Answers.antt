@@ -2,7 +2,7 @@ use Rattle.std.proofs.Common.{◌≡◌, ◌∙◌, sym, ap}
 use Rattle.std.proofs.lemmas.Result.{IfOk-weaker}
 use Rattle.branch_spec.specs.Tokens.{tokens}
 use Rattle.branch_spec.proofs.OneQuery.{one_reading}
-use Rattle.branch_text.specs.Seen.{seen}
+use Rattle.branch_text.specs.BranchTokens.{seen}
 use Rattle.branch_text.proofs.parsing.read.Goals as goal
 
 pub returns-clause-only : goal.returns-clause-only

@@ -1,9 +1,9 @@
 use Rattle.std.proofs.Common.{◌++◌, [], ◌∷◌, arith}
 use Rattle.std.specs.Prelude.{string_bytes, codes}
 use Rattle.branch_spec.specs.Spelling.{axis_text}
-use Rattle.branch_sets.specs.Axes.{axis_of}
-use Rattle.branch_expr.specs.Views.{test_of, preds_of, step_of, chain_of, cond_of, and_from, and_of, or_from}
-use Rattle.branch_text.specs.Written.{test_text, step_text, preds_text, or_text, and_text, cond_text, chain_text}
+use Rattle.branch_expr.specs.Axes.{axis_of}
+use Rattle.branch_expr.specs.QueryTrees.{test_of, preds_of, step_of, chain_of, cond_of, and_from, and_of, or_from}
+use Rattle.branch_text.specs.BranchTexts.{test_text, step_text, preds_text, or_text, and_text, cond_text, chain_text}
 use Rattle.branch_text.proofs.Canon.{preds_text_more, chain_text_more, and_text_more, or_text_more, written}
 use Rattle.branch_text.proofs.writing.+write.Goals as goal
 

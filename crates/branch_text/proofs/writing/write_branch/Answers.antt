@@ -1,9 +1,9 @@
 use Rattle.std.proofs.Common.{◌++◌, arith}
 use Rattle.std.specs.Prelude.{string_bytes}
 use Rattle.branch_spec.specs.Spelling.{axis_text}
-use Rattle.branch_sets.specs.Axes.{axis_of}
-use Rattle.branch_expr.specs.Views.{step_of, chain_of}
-use Rattle.branch_text.specs.Written.{step_text, chain_text}
+use Rattle.branch_expr.specs.Axes.{axis_of}
+use Rattle.branch_expr.specs.QueryTrees.{step_of, chain_of}
+use Rattle.branch_text.specs.BranchTexts.{step_text, chain_text}
 use Rattle.branch_text.proofs.Canon.{chain_text_more, written}
 use Rattle.branch_text.proofs.writing.write_branch.Goals as goal
 

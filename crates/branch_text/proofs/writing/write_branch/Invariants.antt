@@ -1,7 +1,7 @@
 use Rattle.std.proofs.Common.{◌≡◌, ◌++◌, take}
 use Rattle.std.specs.Prelude.{string_bytes}
-use Rattle.branch_expr.specs.Views.{step_of, chain_of}
-use Rattle.branch_text.specs.Written.{step_text, chain_text}
+use Rattle.branch_expr.specs.QueryTrees.{step_of, chain_of}
+use Rattle.branch_text.specs.BranchTexts.{step_text, chain_text}
 use Rattle.branch_text.proofs.writing.write_branch.Given as goal
 
 abbrev pub invariant-loop-j : goal.invariant-loop-j

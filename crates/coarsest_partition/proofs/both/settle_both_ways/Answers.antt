@@ -1,7 +1,7 @@
 use Rattle.coarsest_partition.proofs.both.settle_both_ways.Goals as goal
 
-pub settle_waiting-requires : goal.settle_waiting-requires
-settle_waiting-requires c = record {
+pub settle_active-requires : goal.settle_active-requires
+settle_active-requires c = record {
   start = record {
     graph = c.in_ok-parents.ensures.graph;
     labels = c.requires.labels;

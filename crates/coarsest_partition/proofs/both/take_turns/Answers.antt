@@ -1,7 +1,7 @@
 use Rattle.std.proofs.Common.{arith, ◌∙◌, sym, inl, inr, length, nat_eq}
 use Rattle.std.specs.Prelude.{◌&&◌}
 use Rattle.std.proofs.lemmas.Bool.{and_parts}
-use Rattle.block_partition.specs.Partitions.{block_count}
+use Rattle.block_partition.specs.LabelledPartitions.{block_count}
 use Rattle.coarsest_partition.proofs.StepLaws.{start, step, fb_target, fb_part, fb_end}
 use Rattle.coarsest_partition.proofs.BothLaws.{two_all, two_none, turned}
 use Rattle.coarsest_partition.proofs.RoundLaws.{falls, length_empty}
@@ -16,14 +16,14 @@ rounds-init c = record {
   children_size = c.requires.start.children_size;
   labelled = λ h. h;
   inhabited = λ h. h;
-  room = c.requires.room;
+  reserved = c.requires.reserved;
 }
 
 pub round_on-requires-clause-refine : goal.round_on-requires-clause-refine
 round_on-requires-clause-refine c = record {
   graph = c.requires.start.graph;
   partition = fb_part _ c.requires.start.graph _ _ c.rounds.invariant.refined;
-  room = c.rounds.invariant.room;
+  reserved = c.rounds.invariant.reserved;
 }
 
 pub round_on-requires-clause-own : goal.round_on-requires-clause-own
@@ -36,7 +36,7 @@ pub round_on-requires-in-rounds-clause-refine : goal.round_on-requires-in-rounds
 round_on-requires-in-rounds-clause-refine c = record {
   graph = c.requires.start.graph;
   partition = fb_part _ c.requires.start.graph _ _ (step _ _ _ _ _ _ _ (fb_target _ c.requires.start.graph) c.rounds.invariant.refined c.in_ok-round_on.ensures.step);
-  room = let a = c.rounds.invariant.room in let b = c.in_ok-round_on.ensures.room in omega (arith, a, b);
+  reserved = let a = c.rounds.invariant.reserved in let b = c.in_ok-round_on.ensures.reserved in omega (arith, a, b);
 }
 
 pub round_on-requires-in-rounds-clause-own : goal.round_on-requires-in-rounds-clause-own
@@ -61,7 +61,7 @@ rounds-preserved c = record {
   children_size = c.in_ok-round_on-2.ensures.own_size ∙ c.in_ok-round_on.ensures.other_size ∙ c.rounds.invariant.children_size;
   labelled = λ h. c.in_ok-round_on-2.ensures.kept.labelled (c.in_ok-round_on.ensures.kept.labelled (c.rounds.invariant.labelled h));
   inhabited = λ h. c.in_ok-round_on-2.ensures.kept.inhabited (c.in_ok-round_on.ensures.kept.inhabited (c.rounds.invariant.inhabited h));
-  room = (let a = c.rounds.invariant.room in let b = c.in_ok-round_on.ensures.room in let d = c.in_ok-round_on-2.ensures.room in omega (arith, a, b, d));
+  reserved = (let a = c.rounds.invariant.reserved in let b = c.in_ok-round_on.ensures.reserved in let d = c.in_ok-round_on-2.ensures.reserved in omega (arith, a, b, d));
 }
 
 pub returns-clause-agrees : goal.returns-clause-agrees

@@ -1,13 +1,13 @@
 use Rattle.std.proofs.Common.{◌≡◌, ◌≤◌, ◌+◌, ◌*◌, ◌-◌, ◌^◌, length, vec_len, cond}
 use Rattle.std.specs.Prelude.{nat_eq, ◌&&◌}
-use Rattle.px_spec.specs.Members.{has}
+use Rattle.graph_spec.specs.Members.{has}
 use Rattle.block_splitting.specs.Nodes.{AreNodes}
 use Rattle.bisim_spec.specs.Bisimilarity.{FB}
-use Rattle.px_spec.specs.Shapes.{shape_of}
-use Rattle.block_partition.specs.Partitions.{block_count}
+use Rattle.graph_spec.specs.Shapes.{shape_of}
+use Rattle.block_partition.specs.LabelledPartitions.{block_count}
 use Rattle.block_splitting.specs.Splits.{AreLabelled, AreInhabited}
 use Rattle.coarsest_partition.specs.Refined.{both_sides, IsRefined}
-use Rattle.coarsest_partition.specs.Sides.{two}
+use Rattle.coarsest_partition.specs.ActiveSides.{two}
 use Rattle.coarsest_partition.proofs.both.take_turns.Given as goal
 
 abbrev pub invariant-rounds : goal.invariant-rounds
@@ -15,11 +15,11 @@ invariant-rounds l = record {
   refined : IsRefined l.view both_sides (FB (shape_of l.view)) l.blocks.block_of (two (has l.parents.nodes) (has l.children.nodes));
   parents_are : AreNodes l.view l.parents.nodes;
   children_are : AreNodes l.view l.children.nodes;
-  parents_size : l.parents.size ≡ length l.view.given;
-  children_size : l.children.size ≡ length l.view.given;
+  parents_size : l.parents.size ≡ length l.view.allocated;
+  children_size : l.children.size ≡ length l.view.allocated;
   labelled : AreLabelled l.view l.fn.blocks → AreLabelled l.view l.blocks;
   inhabited : AreInhabited l.fn.blocks → AreInhabited l.blocks;
-  room : length l.view.given ≤ vec_len l.tables.group;
+  reserved : length l.view.allocated ≤ vec_len l.tables.group;
 }
 
 abbrev pub decreases-rounds : goal.decreases-rounds

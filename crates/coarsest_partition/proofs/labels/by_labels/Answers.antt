@@ -1,7 +1,7 @@
 use Rattle.coarsest_partition.proofs.Starts.{nodes_below, blocks_below, start_labelled, start_inhabited}
-use Rattle.block_filling.proofs.Filled.{agrees_moved}
+use Rattle.block_partition.proofs.Filled.{agrees_moved}
 use Rattle.std.proofs.Common.{ℕ, List, Option, ap, ◌∙◌}
-use Rattle.px_spec.specs.Members.{at}
+use Rattle.graph_spec.specs.Members.{at}
 use Rattle.coarsest_partition.proofs.labels.by_labels.Goals as goal
 
 pub fill-requires-clause-nodes : goal.fill-requires-clause-nodes

@@ -1,6 +1,6 @@
 use Rattle.std.proofs.Common.{ℕ, List, Option, ap, ◌∙◌}
-use Rattle.px_spec.specs.Members.{at}
-use Rattle.block_filling.proofs.Filled.{agrees_moved}
+use Rattle.graph_spec.specs.Members.{at}
+use Rattle.block_partition.proofs.Filled.{agrees_moved}
 use Rattle.coarsest_partition.proofs.OrderLaws.{ordered_agrees, ordered_below, ordered_labelled}
 use Rattle.coarsest_partition.proofs.Starts.{nodes_below, blocks_below, start_inhabited}
 use Rattle.coarsest_partition.proofs.ordered.by_numbers.Goals as goal

@@ -1,5 +1,5 @@
 use Rattle.std.proofs.Common.{◌≡◌, ℕ, None, vec_len}
-use Rattle.px_spec.specs.Members.{at}
+use Rattle.graph_spec.specs.Members.{at}
 use Rattle.coarsest_partition.proofs.ordered.none_numbered.Given as goal
 
 abbrev pub invariant-places : goal.invariant-places

@@ -1,5 +1,5 @@
 use Rattle.std.proofs.Common.{arith, ◌∙◌, sym, inl, inr, length, nat_eq}
-use Rattle.block_partition.specs.Partitions.{block_count}
+use Rattle.block_partition.specs.LabelledPartitions.{block_count}
 use Rattle.coarsest_partition.proofs.StepLaws.{step, bisim_target, bisim_part, bisim_end}
 use Rattle.coarsest_partition.proofs.RoundLaws.{falls, empty_length, length_empty}
 use Rattle.coarsest_partition.proofs.rounds.settle_by_parents.Goals as goal
@@ -8,17 +8,17 @@ pub round-requires-clause-refine : goal.round-requires-clause-refine
 round-requires-clause-refine c = record {
   graph = c.size.ensures.graph;
   partition = bisim_part _ c.size.ensures.graph _ _ c.rounds.invariant.refined;
-  room = c.rounds.invariant.room;
+  reserved = c.rounds.invariant.reserved;
 }
 
-pub round-requires-clause-waiting : goal.round-requires-clause-waiting
-round-requires-clause-waiting c = record { nodes = c.rounds.invariant.nodes; size = c.rounds.invariant.size }
+pub round-requires-clause-active_nodes : goal.round-requires-clause-active_nodes
+round-requires-clause-active_nodes c = record { nodes = c.rounds.invariant.nodes; size = c.rounds.invariant.size }
 
 pub rounds-smaller : goal.rounds-smaller
 rounds-smaller c =
-    falls (block_count c.rounds.blocks) (block_count c.round.new.blocks) _ (nat_eq (length c.round.new.waiting.nodes) 0) (sym c.rounds-test.ensures) c.in_ok-round.ensures.few
+    falls (block_count c.rounds.blocks) (block_count c.round.new.blocks) _ (nat_eq (length c.round.new.active_nodes.nodes) 0) (sym c.rounds-test.ensures) c.in_ok-round.ensures.few
     (elim c.in_ok-round.ensures.more [
-      | inl (none, le) ↦ inl (empty_length c.round.new.waiting.nodes none, le)
+      | inl (none, le) ↦ inl (empty_length c.round.new.active_nodes.nodes none, le)
       | inr more ↦ inr more
     ])
 
@@ -29,8 +29,8 @@ rounds-preserved c = record {
   size = c.in_ok-round.ensures.size ∙ c.rounds.invariant.size;
   labelled = λ h. c.in_ok-round.ensures.kept.labelled (c.rounds.invariant.labelled h);
   inhabited = λ h. c.in_ok-round.ensures.kept.inhabited (c.rounds.invariant.inhabited h);
-  room = (let a = c.rounds.invariant.room in let b = c.in_ok-round.ensures.room in omega (arith, a, b));
+  reserved = (let a = c.rounds.invariant.reserved in let b = c.in_ok-round.ensures.reserved in omega (arith, a, b));
 }
 
 pub returns-clause-agrees : goal.returns-clause-agrees
-returns-clause-agrees c = bisim_end _ c.size.ensures.graph _ _ c.rounds.invariant.refined (length_empty c.rounds.waiting.nodes (sym c.rounds-test.ensures))
+returns-clause-agrees c = bisim_end _ c.size.ensures.graph _ _ c.rounds.invariant.refined (length_empty c.rounds.active_nodes.nodes (sym c.rounds-test.ensures))

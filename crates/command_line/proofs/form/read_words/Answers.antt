@@ -1,15 +1,15 @@
 use Rattle.std.proofs.Common.{◌≡◌, ◌∙◌, ap, map, string_bytes, rules}
-use Rattle.command_line.specs.Shown.{shown_form}
+use Rattle.command_line.specs.FormValues.{form_value}
 use Rattle.command_line.specs.Words.{form_of}
 use Rattle.command_line.proofs.Usages.{plain_form, reordered_form}
 use Rattle.command_line.proofs.form.read_words.Goals as goal
 
 pub returns-clause-plain : goal.returns-clause-plain
 returns-clause-plain c u is plain =
-    let exact : shown_form c.judge.result ≡ form_of (map string_bytes c.args.words.now) = search rules in
+    let exact : form_value c.judge.result ≡ form_of (map string_bytes c.args.words.now) = search rules in
     exact ∙ ap form_of is ∙ plain_form u plain
 
 pub returns-clause-reordered : goal.returns-clause-reordered
 returns-clause-reordered c u o is plain =
-    let exact : shown_form c.judge.result ≡ form_of (map string_bytes c.args.words.now) = search rules in
+    let exact : form_value c.judge.result ≡ form_of (map string_bytes c.args.words.now) = search rules in
     exact ∙ ap form_of is ∙ reordered_form o u plain

@@ -1,6 +1,6 @@
 use Rattle.std.proofs.Common.{◌≡◌, ◌+◌, ◌<◌, ◌≤◌, ℕ, length, subst, sym, ap, ◌∙◌, inl, inr, arith, IfSome}
 use Rattle.data_validate.specs.Ancestors.{IsSpread}
-use Rattle.data_validate.proofs.Rounds.{IsMet, met_next, met_closed, met_enough}
+use Rattle.data_validate.proofs.BackwardRounds.{IsMet, met_next, met_closed, met_enough}
 use Rattle.data_validate.proofs.ancestors.ancestors.Goals as goal
 
 pub returns-clause-leading : goal.returns-clause-leading

@@ -1,5 +1,5 @@
 use Rattle.std.proofs.Common.{◌≡◌, ◌+◌, ◌≤◌, ◌/◌}
-use Rattle.data_validate.proofs.Rounds.{IsMet}
+use Rattle.data_validate.proofs.BackwardRounds.{IsMet}
 use Rattle.data_validate.proofs.ancestors.ancestors.Given as goal
 
 abbrev pub invariant-rounds : goal.invariant-rounds

@@ -1,6 +1,6 @@
 use Rattle.std.proofs.Common.{get_or, take, sym, subst, ◌<◌, ◌+◌, ◌∙◌}
 use Rattle.std.specs.Prelude.{nat_eq}
-use Rattle.px_spec.specs.Members.{has}
+use Rattle.graph_spec.specs.Members.{has}
 use Rattle.data_validate.proofs.NotedNodes.{noted_then, has_there, has_more}
 use Rattle.data_validate.proofs.ancestors.note_each.Goals as goal
 

@@ -1,5 +1,5 @@
 use Rattle.std.proofs.Common.{◌≡◌, take}
-use Rattle.px_spec.specs.Members.{has}
+use Rattle.graph_spec.specs.Members.{has}
 use Rattle.data_validate.specs.Ancestors.{IsNoted}
 use Rattle.data_validate.proofs.ancestors.note_each.Given as goal
 

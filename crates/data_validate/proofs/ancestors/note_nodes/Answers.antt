@@ -1,6 +1,6 @@
 use Rattle.std.proofs.Common.{◌<◌, ◌+◌, ◌∙◌, ◌&&◌, ◌||◌, ℕ, Bool, ap, sym, arith}
 use Rattle.std.specs.Prelude.{nat_eq, is_some}
-use Rattle.data_validate.proofs.Kept.{is_kept, kept_step}
+use Rattle.data_validate.proofs.RisingTests.{is_kept, kept_step}
 use Rattle.data_validate.proofs.NotedNodes.{noted_then}
 use Rattle.data_validate.proofs.ancestors.note_nodes.Goals as goal
 

@@ -1,7 +1,7 @@
 use Rattle.std.proofs.Common.{◌≡◌, ◌≤◌, ◌-◌}
 use Rattle.std.specs.Prelude.{is_some}
 use Rattle.data_validate.specs.Ancestors.{IsNoted}
-use Rattle.data_validate.proofs.Kept.{is_kept}
+use Rattle.data_validate.proofs.RisingTests.{is_kept}
 use Rattle.data_validate.proofs.ancestors.note_nodes.Given as goal
 
 abbrev pub invariant-members : goal.invariant-members

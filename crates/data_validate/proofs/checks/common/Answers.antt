@@ -1,8 +1,8 @@
 use Rattle.std.proofs.Common.{◌≡◌, ◌<◌, ◌&&◌, ◌||◌, [], length, ap, sym, ◌∙◌, arith}
 use Rattle.std.specs.Prelude.{nat_eq}
-use Rattle.px_spec.specs.Members.{has}
+use Rattle.graph_spec.specs.Members.{has}
 use Rattle.px_base.specs.BitSets.{BitSet}
-use Rattle.data_validate.proofs.Kept.{kept_none, kept_step, kept_end}
+use Rattle.data_validate.proofs.RisingTests.{kept_none, kept_step, kept_end}
 use Rattle.data_validate.proofs.checks.common.Goals as goal
 
 pub loop-n-init : goal.loop-n-init

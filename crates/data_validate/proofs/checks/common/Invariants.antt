@@ -1,7 +1,7 @@
 use Rattle.std.proofs.Common.{◌≡◌, ◌-◌, ◌≤◌, ℕ}
 use Rattle.std.specs.List.Sorted.{IsStrictlyIncreasing}
-use Rattle.px_spec.specs.Members.{has}
-use Rattle.data_validate.proofs.Kept.{is_kept}
+use Rattle.graph_spec.specs.Members.{has}
+use Rattle.data_validate.proofs.RisingTests.{is_kept}
 use Rattle.data_validate.proofs.checks.common.Given as goal
 
 abbrev pub invariant-loop-n : goal.invariant-loop-n

@@ -1,12 +1,12 @@
 use Rattle.std.proofs.Common.{subst, IfSome}
 use Rattle.std.proofs.lemmas.Result.{IfOk-weaker}
 use Rattle.px_base.specs.BitSets.{BitSet}
-use Rattle.px_spec.specs.Members.{has}
-use Rattle.px_spec.specs.Shapes.{shape_by}
-use Rattle.path_spec.specs.Answers.{AreAnswers}
-use Rattle.path_spec.specs.Parts.{part_of}
+use Rattle.graph_spec.specs.Members.{has}
+use Rattle.graph_spec.specs.Shapes.{shape_by}
+use Rattle.path_spec.specs.PathAnswers.{AreAnswers}
+use Rattle.path_spec.specs.PartialGraphs.{part_of}
 use Rattle.data_validate.specs.Ancestors.{AreAncestors}
-use Rattle.data_validate.proofs.Walks.{near_sound, near_complete}
+use Rattle.data_validate.proofs.BackwardWalks.{near_sound, near_complete}
 use Rattle.data_validate.proofs.checks.path_answers.Goals as goal
 
 pub returns-in-Some-clause-sound : goal.returns-in-Some-clause-sound

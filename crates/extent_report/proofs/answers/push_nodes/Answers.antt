@@ -1,6 +1,6 @@
 use Rattle.std.proofs.Common.{rules, ◌≡◌, ◌+◌, ◌++◌, ◌∷◌, [], ◌∙◌, ap, sym, append_assoc}
 use Rattle.std.specs.Prelude.{string_bytes}
-use Rattle.px_spec.specs.Words.{node_word}
+use Rattle.graph_spec.specs.Words.{node_word}
 use Rattle.extent_report.specs.NodeTexts.{members_from, others_text}
 use Rattle.extent_report.proofs.NodeTextLemmas.{line_by_first}
 use Rattle.extent_report.proofs.answers.push_nodes.Goals as goal

@@ -1,6 +1,6 @@
 use Rattle.std.proofs.Common.{◌<◌, ◌+◌, ◌++◌, ◌∷◌, ◌∙◌, ap, sym, append_assoc, append-nil, arith}
 use Rattle.std.specs.Prelude.{string_bytes}
-use Rattle.px_spec.specs.Words.{node_word}
+use Rattle.graph_spec.specs.Words.{node_word}
 use Rattle.extent_report.specs.NodeTexts.{members_from, others_text}
 use Rattle.extent_report.proofs.NodeTextLemmas.{others_step, others_end}
 use Rattle.extent_report.proofs.answers.push_others.Goals as goal

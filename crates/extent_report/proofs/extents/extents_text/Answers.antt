@@ -1,5 +1,5 @@
 use Rattle.std.proofs.Common.{◌∙◌}
-use Rattle.extent_report.proofs.Listed.{listed_extents}
+use Rattle.extent_report.proofs.ListedSummaries.{listed_extents}
 use Rattle.extent_report.proofs.extents.extents_text.Goals as goal
 
 pub returns-clause-listed : goal.returns-clause-listed

@@ -1,8 +1,8 @@
 use Rattle.std.proofs.Common.{◌+◌, ◌++◌, ◌∷◌, ◌∙◌, ap, sym, append_assoc}
 use Rattle.std.specs.Prelude.{string_bytes}
-use Rattle.px_spec.specs.Words.{node_word}
+use Rattle.graph_spec.specs.Words.{node_word}
 use Rattle.extent_report.specs.ListedBlocks.{texts_below}
-use Rattle.extent_report.specs.Chains.{word_with}
+use Rattle.extent_report.specs.MemberChains.{word_with}
 use Rattle.extent_report.proofs.NodeWords.{word_first, with_itself, word_next, word_end}
 use Rattle.extent_report.proofs.extents.push_nodes.Goals as goal
 

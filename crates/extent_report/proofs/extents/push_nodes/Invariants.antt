@@ -2,7 +2,7 @@ use Rattle.std.proofs.Common.{◌≡◌, ◌+◌, ◌-◌, ◌++◌, true, lengt
 use Rattle.std.specs.Prelude.{string_bytes}
 use Rattle.bisim_spec.specs.Tests.{together}
 use Rattle.extent_report.specs.ListedBlocks.{texts_below}
-use Rattle.extent_report.specs.Chains.{word_with}
+use Rattle.extent_report.specs.MemberChains.{word_with}
 use Rattle.extent_report.proofs.extents.push_nodes.Given as goal
 
 abbrev pub invariant-loop-node : goal.invariant-loop-node

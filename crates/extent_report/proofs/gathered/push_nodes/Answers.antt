@@ -1,5 +1,5 @@
 use Rattle.std.proofs.Common.{◌∷◌}
-use Rattle.px_spec.specs.Words.{node_word}
+use Rattle.graph_spec.specs.Words.{node_word}
 use Rattle.extent_report.proofs.RisingLists.{flat_more}
 use Rattle.extent_report.proofs.gathered.push_nodes.Goals as goal
 

@@ -1,5 +1,5 @@
 use Rattle.std.proofs.Common.{◌∙◌, ap}
-use Rattle.block_partition.specs.Partitions.{block_count}
+use Rattle.block_partition.specs.LabelledPartitions.{block_count}
 use Rattle.extent_report.specs.ListedBlocks.{size_line}
 use Rattle.extent_report.proofs.Sized.{listed_size}
 use Rattle.extent_report.proofs.sizes.sizes_line.Goals as goal

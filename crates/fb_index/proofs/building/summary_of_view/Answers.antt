@@ -1,8 +1,8 @@
 use Rattle.std.proofs.Common.{◌≡◌, subst, sym}
 use Rattle.bisim_spec.specs.Bisimilarity.{FB}
 use Rattle.bisim_spec.specs.Partitions.{Agrees}
-use Rattle.bisim_spec.specs.Views.{ViewFits}
-use Rattle.px_spec.specs.Shapes.{shape_of}
+use Rattle.bisim_spec.specs.IndexGraphs.{ViewFits}
+use Rattle.graph_spec.specs.Shapes.{shape_of}
 use Rattle.fb_index.proofs.building.summary_of_view.Goals as goal
 
 pub returns : goal.returns

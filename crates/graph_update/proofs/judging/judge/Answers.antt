@@ -1,4 +1,4 @@
-use Rattle.px_spec.specs.Changes.{node, link, unlink, drop}
+use Rattle.graph_spec.specs.Changes.{node, link, unlink, drop}
 use Rattle.graph_update.proofs.Verdicts.{judged_new, judged_index, judged_highest}
 use Rattle.graph_update.proofs.judging.judge.Goals as goal
 

@@ -1,5 +1,5 @@
 use Rattle.std.proofs.Common.{◌≡◌, true, rules}
-use Rattle.px_spec.specs.Graphs.{is_live, has_edge}
+use Rattle.graph_spec.specs.Graphs.{is_live, has_edge}
 use Rattle.graph_update.proofs.Verdicts.{judged_same}
 use Rattle.graph_update.proofs.judging.judge_link.Goals as goal
 

@@ -1,6 +1,6 @@
 use Rattle.std.proofs.Common.{◌∙◌, ap, sym}
 use Rattle.std.specs.Prelude.{slice_get}
-use Rattle.px_spec.specs.Changes.{with_label}
+use Rattle.graph_spec.specs.Changes.{with_label}
 use Rattle.graph_update.proofs.ChangedLabels.{seen-text, unseen-text, unseen-number}
 use Rattle.graph_update.proofs.pending.label_number.Goals as goal
 

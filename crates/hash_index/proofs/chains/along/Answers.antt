@@ -1,6 +1,6 @@
 use Rattle.std.proofs.Common.{◌-◌, ◌∙◌, sym, arith, length}
 use Rattle.hash_index.specs.Slots.{hashes_of, links_of}
-use Rattle.hash_index.proofs.Walks.{walk_found, walk_on, walk_end}
+use Rattle.hash_index.proofs.ChainWalks.{walk_found, walk_on, walk_end}
 use Rattle.hash_index.proofs.chains.along.Goals as goal
 
 pub returns-then-read_hash-hash-clause-newest : goal.returns-then-read_hash-hash-clause-newest

@@ -1,6 +1,6 @@
 use Rattle.std.proofs.Common.{ℕ, List, ◌≤◌, length}
 use Rattle.hash_index.specs.Slots.{hashes_of, links_of}
-use Rattle.hash_index.specs.Chains.{AreChains, IsWalk}
+use Rattle.hash_index.specs.HashChains.{AreChains, IsWalk}
 use Rattle.hash_index.proofs.chains.along.Given as goal
 
 abbrev pub invariant-loop-at : goal.invariant-loop-at

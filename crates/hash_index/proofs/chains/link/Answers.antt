@@ -2,7 +2,7 @@ use Rattle.std.proofs.Common.{◌≡◌, ◌<◌, rules, length}
 use Rattle.std.proofs.lemmas.List.{length-map}
 use Rattle.hash_index.specs.Items.{hash_at}
 use Rattle.hash_index.specs.Slots.{hashes_of, links_of}
-use Rattle.hash_index.specs.Chains.{bucket_of, head_at}
+use Rattle.hash_index.specs.HashChains.{bucket_of, head_at}
 use Rattle.hash_index.proofs.Linked.{linked_set}
 use Rattle.hash_index.proofs.chains.link.Goals as goal
 

@@ -1,6 +1,6 @@
 use Rattle.std.proofs.Common.{◌≡◌, ◌<◌, length}
 use Rattle.hash_index.specs.Slots.{hashes_of, links_of, items_of}
-use Rattle.hash_index.specs.Chains.{AreChains}
+use Rattle.hash_index.specs.HashChains.{AreChains}
 use Rattle.hash_index.proofs.chains.relink.Given as goal
 
 abbrev pub invariant-loop-n : goal.invariant-loop-n

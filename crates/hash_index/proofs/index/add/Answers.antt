@@ -1,7 +1,7 @@
 use Rattle.std.proofs.Common.{◌≡◌, ◌+◌, ◌<◌, ◌++◌, ◌∷◌, [], ◌∙◌, sym, ap, rules, arith, length}
 use Rattle.std.proofs.lemmas.List.{length-map, length_push}
 use Rattle.hash_index.specs.Slots.{hashes_of, links_of}
-use Rattle.hash_index.specs.Chains.{bucket_of, head_at}
+use Rattle.hash_index.specs.HashChains.{bucket_of, head_at}
 use Rattle.hash_index.proofs.Linked.{linked_push}
 use Rattle.hash_index.proofs.index.add.Goals as goal
 

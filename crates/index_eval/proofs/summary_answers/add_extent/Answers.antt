@@ -2,8 +2,8 @@ use Rattle.std.proofs.Common.{◌≡◌, ◌||◌, true, ◌∷◌, ap, sym, ◌
 use Rattle.std.specs.Prelude.{nat_eq}
 use Rattle.std.proofs.lemmas.Bool.{or_left, or_right}
 use Rattle.std.proofs.lemmas.Bool.Decides.{Decides-eqb}
-use Rattle.px_spec.specs.Members.{has}
-use Rattle.block_partition.specs.Partitions.{is_member}
+use Rattle.graph_spec.specs.Members.{has}
+use Rattle.block_partition.specs.LabelledPartitions.{is_member}
 use Rattle.index_eval.proofs.BlockSets.{moved}
 use Rattle.index_eval.proofs.summary_answers.add_extent.Goals as goal
 

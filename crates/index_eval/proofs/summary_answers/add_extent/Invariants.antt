@@ -1,7 +1,7 @@
 use Rattle.std.proofs.Common.{◌≡◌, ◌<◌, ◌||◌, ℕ, true}
 use Rattle.std.specs.List.Sorted.{IsStrictlyIncreasing}
-use Rattle.px_spec.specs.Members.{has}
-use Rattle.block_partition.specs.Partitions.{is_member}
+use Rattle.graph_spec.specs.Members.{has}
+use Rattle.block_partition.specs.LabelledPartitions.{is_member}
 use Rattle.index_eval.proofs.summary_answers.add_extent.Given as goal
 
 abbrev pub invariant-loop-n : goal.invariant-loop-n

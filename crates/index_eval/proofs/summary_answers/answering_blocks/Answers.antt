@@ -1,6 +1,6 @@
 use Rattle.std.proofs.Common.{subst}
 use Rattle.std.specs.Prelude.{IfOk}
-use Rattle.px_spec.specs.Shapes.{Shape}
+use Rattle.graph_spec.specs.Shapes.{Shape}
 use Rattle.px_base.specs.BitSets.{BitSet}
 use Rattle.branch_query.specs.Queries.{query_of, relaxed, AreQueryAnswers}
 use Rattle.index_eval.proofs.summary_answers.answering_blocks.Goals as goal

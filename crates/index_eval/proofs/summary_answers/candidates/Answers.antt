@@ -1,5 +1,5 @@
 use Rattle.std.proofs.lemmas.Result.{IfOk-weaker}
-use Rattle.bisim_spec.specs.Views.{shape_of_view}
+use Rattle.bisim_spec.specs.IndexGraphs.{shape_of_view}
 use Rattle.quotient.specs.Quotients.{view_of}
 use Rattle.branch_query.specs.Queries.{query_of, form_of, IsQueryAnswer}
 use Rattle.index_eval.proofs.BlockAnswers.{answering_block}

@@ -1,5 +1,5 @@
 use Rattle.std.proofs.Common.{◌≡◌, ◌<◌, ◌||◌, [], length, ap, sym, ◌∙◌, arith}
-use Rattle.px_spec.specs.Members.{has, at, is_this}
+use Rattle.graph_spec.specs.Members.{has, at, is_this}
 use Rattle.px_base.specs.BitSets.{BitSet}
 use Rattle.index_eval.proofs.BlockSets.{below_none, below_step, below_end}
 use Rattle.index_eval.proofs.summary_answers.extents.Goals as goal

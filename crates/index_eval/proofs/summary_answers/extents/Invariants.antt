@@ -1,7 +1,7 @@
 use Rattle.std.proofs.Common.{◌≡◌, ◌-◌, ◌≤◌, ℕ}
 use Rattle.std.specs.Prelude.{length}
 use Rattle.std.specs.List.Sorted.{IsStrictlyIncreasing}
-use Rattle.px_spec.specs.Members.{has, at}
+use Rattle.graph_spec.specs.Members.{has, at}
 use Rattle.index_eval.proofs.BlockSets.{is_in_below}
 use Rattle.index_eval.proofs.summary_answers.extents.Given as goal
 

@@ -1,8 +1,8 @@
 use Rattle.std.proofs.Common.{ℕ, List, ◌<◌, sym, subst, arith}
 use Rattle.keyed_quotient.specs.Changes.{IsKnown}
 use Rattle.std.specs.List.{zip}
-use Rattle.keyed_quotient.proofs.Shown.{zip_get}
-use Rattle.keyed_quotient.proofs.Given.{given_next, given_all, zip_length}
+use Rattle.keyed_quotient.proofs.DraftedKeys.{zip_get}
+use Rattle.keyed_quotient.proofs.AddedKeys.{given_next, given_all, zip_length}
 use Rattle.keyed_quotient.proofs.settling.give_all.Goals as goal
 
 pub give-requires-clause-known : goal.give-requires-clause-known

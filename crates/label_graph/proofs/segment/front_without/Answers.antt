@@ -1,5 +1,5 @@
 use Rattle.std.proofs.Common.{arith, sym, ◌∙◌}
-use Rattle.label_graph.proofs.Pieces.{has-further}
+use Rattle.label_graph.proofs.SearchedPieces.{has-further}
 use Rattle.label_graph.proofs.segment.front_without.Goals as goal
 
 pub loop-front-preserved : goal.loop-front-preserved

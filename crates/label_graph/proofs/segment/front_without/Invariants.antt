@@ -1,5 +1,5 @@
 use Rattle.std.proofs.Common.{◌≡◌, ◌≤◌, ◌-◌, false, length, take}
-use Rattle.px_spec.specs.Members.{has}
+use Rattle.graph_spec.specs.Members.{has}
 use Rattle.label_graph.proofs.segment.front_without.Given as goal
 
 abbrev pub invariant-loop-front : goal.invariant-loop-front

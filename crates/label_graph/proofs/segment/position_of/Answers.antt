@@ -1,5 +1,5 @@
 use Rattle.std.proofs.Common.{sym, ◌∙◌}
-use Rattle.label_graph.proofs.Pieces.{position-behind, position-nowhere}
+use Rattle.label_graph.proofs.SearchedPieces.{position-behind, position-nowhere}
 use Rattle.label_graph.proofs.segment.position_of.Goals as goal
 
 pub returns-in_err-at : goal.returns-in_err-at

@@ -1,5 +1,5 @@
 use Rattle.std.proofs.Common.{◌≡◌, ◌<◌, ℕ, Some, IsSome}
-use Rattle.px_spec.specs.Members.{at}
+use Rattle.graph_spec.specs.Members.{at}
 use Rattle.one_index.specs.MergeTest.{CanMerge}
 use Rattle.one_index.proofs.merging.has_mergeable.Given as goal
 

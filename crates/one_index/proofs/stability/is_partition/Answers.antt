@@ -1,7 +1,7 @@
 use Rattle.std.proofs.Common.{below_more, is_some, ap, sym, ◌∙◌, arith, subst, Some, IsSome, ◌≡◌}
 use Rattle.std.specs.Prelude.{IfSome}
-use Rattle.px_spec.specs.Shapes.{shape_of}
-use Rattle.px_spec.specs.Members.{at}
+use Rattle.graph_spec.specs.Shapes.{shape_of}
+use Rattle.graph_spec.specs.Members.{at}
 use Rattle.one_index.proofs.Uniform.{node_same, tests_same, tests_apart, partition_same, partition_from}
 use Rattle.one_index.proofs.stability.is_partition.Goals as goal
 
@@ -22,8 +22,8 @@ loop-n-preserved c = record {
 
 pub returns-clause-yes : goal.returns-clause-yes
 returns-clause-yes c h =
-    let given = c.size.ensures.size in
+    let allocated = c.size.ensures.size in
     let longest = c.numbers.ensures.count in
     let most = c.max-most.ensures in
     let end = c.loop-n-test.false in
-    partition_from c.args.view.now c.size.ensures.graph c.args.summary.now.blocks.block_of c.loop-n.n (omega (arith, given, longest, most, end)) (omega (arith, given, longest, most, end)) c.loop-n.invariant.same
+    partition_from c.args.view.now c.size.ensures.graph c.args.summary.now.blocks.block_of c.loop-n.n (omega (arith, allocated, longest, most, end)) (omega (arith, allocated, longest, most, end)) c.loop-n.invariant.same

@@ -1,6 +1,6 @@
 use Rattle.std.proofs.Common.{◌≡◌, ◌<◌, ℕ, Some, IsSome, is_some}
-use Rattle.px_spec.specs.Graphs.{label_of}
-use Rattle.px_spec.specs.Members.{at}
+use Rattle.graph_spec.specs.Graphs.{label_of}
+use Rattle.graph_spec.specs.Members.{at}
 use Rattle.one_index.proofs.stability.is_partition.Given as goal
 
 abbrev pub invariant-loop-n : goal.invariant-loop-n

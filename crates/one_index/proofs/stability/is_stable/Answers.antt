@@ -1,5 +1,5 @@
 use Rattle.std.proofs.Common.{refl, sym, below_more, true≢false, arith}
-use Rattle.px_spec.specs.Shapes.{shape_of}
+use Rattle.graph_spec.specs.Shapes.{shape_of}
 use Rattle.one_index.proofs.Uniform.{stable_uniform, stable_below}
 use Rattle.one_index.proofs.stability.is_stable.Goals as goal
 

@@ -1,6 +1,6 @@
 use Rattle.std.proofs.Common.{◌<◌, ℕ, IsSome}
-use Rattle.px_spec.specs.Members.{at}
-use Rattle.px_spec.specs.Shapes.{shape_of}
+use Rattle.graph_spec.specs.Members.{at}
+use Rattle.graph_spec.specs.Shapes.{shape_of}
 use Rattle.one_index.specs.Alike.{IsUniform}
 use Rattle.one_index.proofs.stability.is_stable.Given as goal
 

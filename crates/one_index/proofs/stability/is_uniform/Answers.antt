@@ -1,7 +1,7 @@
 use Rattle.std.proofs.Common.{ap, inl, inr}
 use Rattle.std.proofs.lemmas.Bool.{both_ways}
-use Rattle.px_spec.specs.Members.{has}
-use Rattle.px_spec.specs.Shapes.{shape_of}
+use Rattle.graph_spec.specs.Members.{has}
+use Rattle.graph_spec.specs.Shapes.{shape_of}
 use Rattle.one_index.proofs.Uniform.{uniform_from}
 use Rattle.one_index.proofs.stability.is_uniform.Goals as goal
 

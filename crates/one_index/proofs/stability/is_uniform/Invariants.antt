@@ -1,6 +1,6 @@
 use Rattle.std.proofs.Common.{◌≡◌, ◌⊎◌, ℕ, Some, true}
-use Rattle.px_spec.specs.Members.{at, has}
-use Rattle.px_spec.specs.Shapes.{shape_of}
+use Rattle.graph_spec.specs.Members.{at, has}
+use Rattle.graph_spec.specs.Shapes.{shape_of}
 use Rattle.one_index.specs.Alike.{AreAlike}
 use Rattle.one_index.proofs.stability.is_uniform.Given as goal
 

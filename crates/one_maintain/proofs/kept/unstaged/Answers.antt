@@ -4,6 +4,6 @@ use Rattle.one_maintain.proofs.kept.unstaged.Goals as goal
 pub invariant_of-result : goal.invariant_of-result
 invariant_of-result c = record {
   kept = c.requires.empty;
-  roots = c.requires.covers;
-  shown = covers_cleared c.args.base c.args.draft c.args.roots c.requires.empty c.requires.covers;
+  parentless = c.requires.covers;
+  shown = covers_cleared c.args.base c.args.draft c.args.parentless c.requires.empty c.requires.covers;
 }

@@ -1,12 +1,12 @@
 use Rattle.std.proofs.Common.{ℕ, [], ◌∷◌, ap, length, IsTrue}
-use Rattle.px_spec.specs.Members.{has}
-use Rattle.path_expr.proofs.Places.{one_there, one_only}
+use Rattle.graph_spec.specs.Members.{has}
+use Rattle.path_expr.proofs.SingleSlots.{one_there, one_only}
 use Rattle.std.specs.Prelude.{slice_get}
 use Rattle.std.proofs.lemmas.Result.{IfOk-weaker}
-use Rattle.path_search.specs.Searches.{AreEnds}
-use Rattle.path_search.specs.declared.state.State.TheVariants.{End}
+use Rattle.path_automaton.specs.ProductSteps.{AreEnds}
+use Rattle.path_automaton.specs.declared.state.State.TheVariants.{End}
 use Rattle.path_spec.specs.Trimmed.{trimmed}
-use Rattle.px_spec.specs.Shapes.{shape_by}
+use Rattle.graph_spec.specs.Shapes.{shape_by}
 use Rattle.path_spec.proofs.TrimmedLaws.{answers_trimmed}
 use Rattle.path_expr.proofs.ProductSearch.{ends_answers}
 use Rattle.path_expr.proofs.answers.eval.Goals as goal

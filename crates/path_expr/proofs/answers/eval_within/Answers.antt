@@ -1,13 +1,13 @@
 use Rattle.std.proofs.Common.{ℕ, [], ◌∷◌, ap, length, IsTrue}
-use Rattle.px_spec.specs.Members.{has}
-use Rattle.path_expr.proofs.Places.{one_there, one_only}
+use Rattle.graph_spec.specs.Members.{has}
+use Rattle.path_expr.proofs.SingleSlots.{one_there, one_only}
 use Rattle.std.specs.Prelude.{slice_get}
 use Rattle.std.proofs.lemmas.Result.{IfOk-weaker}
-use Rattle.path_search.specs.Searches.{label_in, edge_in, AreEnds}
-use Rattle.path_search.specs.declared.state.State.TheVariants.{End}
+use Rattle.path_automaton.specs.ProductSteps.{label_in, edge_in, AreEnds}
+use Rattle.path_automaton.specs.declared.state.State.TheVariants.{End}
 use Rattle.path_spec.specs.Trimmed.{trimmed}
-use Rattle.path_spec.specs.Parts.{part_of}
-use Rattle.px_spec.specs.Shapes.{shape_by}
+use Rattle.path_spec.specs.PartialGraphs.{part_of}
+use Rattle.graph_spec.specs.Shapes.{shape_by}
 use Rattle.path_spec.proofs.TrimmedLaws.{answers_trimmed}
 use Rattle.path_expr.proofs.ProductSearch.{IsTabled, ends_answers}
 use Rattle.path_expr.proofs.Within.{answers_of_part, tabled_in}

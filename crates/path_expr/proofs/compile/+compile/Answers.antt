@@ -1,9 +1,9 @@
 use Rattle.std.proofs.Common.{◌≡◌, ◌∙◌, ℕ, ◌-◌, sym, ap, subst, arith, length, drop, Some}
 use Rattle.std.specs.Prelude.{slice_get}
 use Rattle.std.proofs.lemmas.Result.{IfOk-weaker, on_ok_weaker}
-use Rattle.path_expr.specs.Automata.{Stands, StandsItem, StandsAtom}
-use Rattle.path_search.specs.declared.state.State.TheVariants.{Fork}
-use Rattle.path_expr.specs.Views.{atom_of, signed_by, seq_of}
+use Rattle.path_expr.specs.ExprAutomata.{Stands, StandsItem, StandsAtom}
+use Rattle.path_automaton.specs.declared.state.State.TheVariants.{Fork}
+use Rattle.path_expr.specs.ExprTrees.{atom_of, signed_by, seq_of}
 use Rattle.path_expr.specs.Compiled.{Grows, HasFork, StandMore, StandRest}
 use Rattle.path_expr.proofs.AutomatonParts.{grows_then, grows_push, loop_grows, star_stands, plus_stands, opt_stands, alternatives, more_then, rest_then, expr_same, whole_seq, drop_back, drop_none, opt_ok}
 use Rattle.path_expr.proofs.compile.+compile.Goals as goal

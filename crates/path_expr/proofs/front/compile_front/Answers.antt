@@ -1,11 +1,11 @@
 use Rattle.std.proofs.Common.{length, subst, arith, drop}
 use Rattle.std.specs.Prelude.{slice_get}
-use Rattle.path_expr.specs.Automata.{StandsSeq, StandsItem}
-use Rattle.path_expr.specs.Views.{atom_of, signed_by, item_of}
+use Rattle.path_expr.specs.ExprAutomata.{StandsSeq, StandsItem}
+use Rattle.path_expr.specs.ExprTrees.{atom_of, signed_by, item_of}
 use Rattle.path_expr.specs.Compiled.{Grows}
 use Rattle.path_expr.proofs.PartLists.{separators_len}
 use Rattle.path_expr.proofs.AutomatonParts.{whole_seq, opt_ok}
-use Rattle.path_expr.proofs.Fronts.{trimmed_left}
+use Rattle.path_expr.proofs.TrimmedPrefixes.{trimmed_left}
 use Rattle.path_expr.proofs.front.compile_front.Goals as goal
 
 pub compile_rest-requires-clause-from : goal.compile_rest-requires-clause-from

@@ -1,8 +1,8 @@
 use Rattle.std.proofs.Common.{◌∙◌, ◌-◌, ap, subst, arith, length, drop}
 use Rattle.std.specs.Prelude.{slice_get}
 use Rattle.path_spec.specs.Trimmed.{trimmed_seq, trimmed}
-use Rattle.path_expr.specs.Automata.{Stands}
-use Rattle.path_expr.specs.Views.{seq_of}
+use Rattle.path_expr.specs.ExprAutomata.{Stands}
+use Rattle.path_expr.specs.ExprTrees.{seq_of}
 use Rattle.path_expr.specs.Compiled.{Grows, HasFork, StandMore}
 use Rattle.path_expr.proofs.AutomatonParts.{grows_then, alternatives, more_then, expr_trimmed, drop_back, drop_none, opt_ok}
 use Rattle.path_expr.proofs.front.compile_trimmed.Goals as goal

@@ -1,9 +1,9 @@
 use Rattle.std.proofs.Common.{◌≡◌, ◌<◌, suc, ◌+◌, length, sym, ap, ◌∙◌, arith}
 use Rattle.path_spec.specs.Trimmed.{from_required}
-use Rattle.path_expr.specs.Views.{item_of, seq_of}
+use Rattle.path_expr.specs.ExprTrees.{item_of, seq_of}
 use Rattle.path_expr.specs.TreeParts.{separators, without_first}
 use Rattle.path_expr.proofs.PartLists.{separators_len}
-use Rattle.path_expr.proofs.Fronts.{reading_past, required_here, required_last}
+use Rattle.path_expr.proofs.TrimmedPrefixes.{reading_past, required_here, required_last}
 use Rattle.path_expr.proofs.front.first_required.Goals as goal
 
 pub item_at-requires : goal.item_at-requires

@@ -1,6 +1,6 @@
 use Rattle.std.proofs.Common.{◌≡◌}
 use Rattle.path_spec.specs.Trimmed.{from_required}
-use Rattle.path_expr.specs.Views.{seq_of}
+use Rattle.path_expr.specs.ExprTrees.{seq_of}
 use Rattle.path_expr.specs.TreeParts.{without_first}
 use Rattle.path_expr.proofs.front.first_required.Given as goal
 

@@ -1,6 +1,6 @@
 use Rattle.std.proofs.Common.{◌≡◌, ◌+◌, ◌-◌, ap, ◌∙◌, subst, arith, Some}
 use Rattle.std.specs.Prelude.{slice_get}
-use Rattle.path_expr.specs.Views.{item_of, seq_of}
+use Rattle.path_expr.specs.ExprTrees.{item_of, seq_of}
 use Rattle.path_expr.specs.TreeParts.{items}
 use Rattle.path_expr.proofs.PartLists.{separators_len, first_item, next_item}
 use Rattle.path_expr.proofs.front.item_at.Goals as goal

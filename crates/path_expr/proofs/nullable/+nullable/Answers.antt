@@ -1,6 +1,6 @@
 use Rattle.std.proofs.Common.{◌∙◌, ◌&&◌, ◌||◌, [], ap, take, arith}
 use Rattle.path_spec.specs.Tests.{matches, seq_matches}
-use Rattle.path_expr.specs.Views.{item_of, seq_of, seq_from, expr_from}
+use Rattle.path_expr.specs.ExprTrees.{item_of, seq_of, seq_from, expr_from}
 use Rattle.path_expr.proofs.NullableLaws.{seq_step, expr_step}
 use Rattle.path_expr.proofs.nullable.+nullable.Goals as goal
 

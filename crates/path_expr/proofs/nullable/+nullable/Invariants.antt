@@ -1,6 +1,6 @@
 use Rattle.std.proofs.Common.{◌≡◌, [], take}
 use Rattle.path_spec.specs.Tests.{matches, seq_matches}
-use Rattle.path_expr.specs.Views.{item_of, seq_of, seq_from, expr_from}
+use Rattle.path_expr.specs.ExprTrees.{item_of, seq_of, seq_from, expr_from}
 use Rattle.path_expr.proofs.nullable.+nullable.Given as goal
 
 abbrev pub invariant-seq_is_nullable-loop-j : goal.invariant-seq_is_nullable-loop-j

@@ -1,7 +1,7 @@
 use Rattle.std.proofs.Common.{◌≡◌, ◌<◌, ◌+◌, ◌*◌, length}
 use Rattle.path_spec.specs.Tokens.{onto, seq_onto, EndsSeq, EndsItem}
-use Rattle.path_expr.specs.Views.{item_of, seq_of, seq_from, expr_from}
-use Rattle.path_query.specs.Seen.{seen}
+use Rattle.path_expr.specs.ExprTrees.{item_of, seq_of, seq_from, expr_from}
+use Rattle.path_query.specs.PathTokens.{seen}
 use Rattle.path_query.proofs.grammar.+read.Given as goal
 
 abbrev pub decreases-read_atom : goal.decreases-read_atom

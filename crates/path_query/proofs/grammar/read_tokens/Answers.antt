@@ -1,6 +1,6 @@
 use Rattle.std.proofs.Common.{◌≡◌, true≢false, length, sym, ◌∙◌, arith}
 use Rattle.std.proofs.lemmas.Bool.Decides.{nat_tests}
-use Rattle.path_query.specs.Seen.{seen}
+use Rattle.path_query.specs.PathTokens.{seen}
 use Rattle.path_query.proofs.GrammarLaws.{all_read}
 use Rattle.path_query.proofs.grammar.read_tokens.Goals as goal
 

@@ -1,5 +1,5 @@
-use Rattle.path_expr.specs.Views.{sign_of}
-use Rattle.path_query.specs.Seen.{seen}
+use Rattle.path_expr.specs.ExprTrees.{sign_of}
+use Rattle.path_query.specs.PathTokens.{seen}
 use Rattle.path_query.proofs.GrammarLaws.{sign_only, no_sign_only}
 use Rattle.path_query.proofs.grammar.split_sign.Goals as goal
 

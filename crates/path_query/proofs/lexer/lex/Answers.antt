@@ -3,8 +3,8 @@ use Rattle.std.proofs.lemmas.Bool.Decides.{nat_tests}
 use Rattle.std.proofs.lemmas.List.{map_push, nil_from_length}
 use Rattle.std.proofs.lemmas.Result.{err_from_is_err_and}
 use Rattle.path_query.specs.declared.grammar.ReadError.TheVariants.{Syntax}
-use Rattle.path_query.specs.Seen.{token_of, seen}
-use Rattle.path_query.proofs.LexerLaws.{Lexed, past_shorter, front_shorter, lexed_none, lexed_more, lexed_bad, lexed_all, lexed_only}
+use Rattle.path_query.specs.PathTokens.{token_of, seen}
+use Rattle.path_query.proofs.LexerLaws.{Lexed, past_shorter, prefix_shorter, lexed_none, lexed_more, lexed_bad, lexed_all, lexed_only}
 use Rattle.path_query.proofs.lexer.lex.Goals as goal
 
 pub tokens-init : goal.tokens-init
@@ -20,7 +20,7 @@ returns-in_err-token-clause-syntax c e us h =
 
 pub tokens-smaller : goal.tokens-smaller
 tokens-smaller c =
-    let shorter = front_shorter c.tokens.left.now (token_of c.in_ok-token.token) c.in_ok-token.rest.now c.in_ok-token.ensures.ok in
+    let shorter = prefix_shorter c.tokens.left.now (token_of c.in_ok-token.token) c.in_ok-token.rest.now c.in_ok-token.ensures.ok in
     let past = past_shorter c.in_ok-token.rest.now in
     omega (arith, shorter, past, ap length c.skip_blanks-left-in-tokens.ensures)
 

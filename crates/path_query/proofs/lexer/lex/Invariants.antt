@@ -1,5 +1,5 @@
 use Rattle.std.proofs.Common.{length}
-use Rattle.path_query.specs.Seen.{seen}
+use Rattle.path_query.specs.PathTokens.{seen}
 use Rattle.path_query.proofs.LexerLaws.{Lexed}
 use Rattle.path_query.proofs.lexer.lex.Given as goal
 

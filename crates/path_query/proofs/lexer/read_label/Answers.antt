@@ -8,18 +8,18 @@ pub returns-in_default-clause-syntax : goal.returns-in_default-clause-syntax
 returns-in_default-clause-syntax c e t q h =
     let a = as_label c.args.text.now t q c.requires h in
     let only = rw c.in_default.is at c.in_ok-label.ensures.only in
-    only a.2.len a.0 a.2.front a.2.ends
+    only a.2.len a.0 a.2.prefix a.2.ends
 
 pub returns-then-ends_name-clause-only : goal.returns-then-ends_name-clause-only
 returns-then-ends_name-clause-only c t q h =
     let a = as_label c.args.text.now t q c.requires h in
     let only = rw c.in-Some.is at c.in_ok-label.ensures.only in
-    let same = only a.2.len a.0 a.2.front a.2.ends in
+    let same = only a.2.len a.0 a.2.prefix a.2.ends in
     (a.1 ∙ ap lab (sym same.0), a.2.rest ∙ ap (λ n. drop n c.args.text.now) (sym same.1) ∙ sym c.split_at.ensures.back)
 
 pub returns-else-ends_name-clause-syntax : goal.returns-else-ends_name-clause-syntax
 returns-else-ends_name-clause-syntax c e t q h =
     let a = as_label c.args.text.now t q c.requires h in
     let only = rw c.in-Some.is at c.in_ok-label.ensures.only in
-    let same = only a.2.len a.0 a.2.front a.2.ends in
+    let same = only a.2.len a.0 a.2.prefix a.2.ends in
     true≢false (sym (c.ends_name.ensures.1 (subst EndsName (sym c.split_at.ensures.back) (subst (λ n. EndsName (drop n c.args.text.now)) (sym same.1) a.2.ends))) ∙ c.if-ends_name.false)

@@ -2,7 +2,7 @@ use Rattle.std.proofs.Common.{◌≡◌, ◌∙◌, sym, ap}
 use Rattle.std.proofs.lemmas.Result.{IfOk-weaker}
 use Rattle.path_spec.specs.Tokens.{tokens}
 use Rattle.path_spec.proofs.OneTree.{one_reading}
-use Rattle.path_query.specs.Seen.{seen}
+use Rattle.path_query.specs.PathTokens.{seen}
 use Rattle.path_query.proofs.parsing.read.Goals as goal
 
 pub returns-clause-only : goal.returns-clause-only

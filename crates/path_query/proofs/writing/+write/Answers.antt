@@ -1,6 +1,6 @@
 use Rattle.std.proofs.Common.{◌++◌, ◌∙◌, ap, arith}
 use Rattle.std.specs.Prelude.{string_bytes}
-use Rattle.path_expr.specs.Views.{item_of, seq_of}
+use Rattle.path_expr.specs.ExprTrees.{item_of, seq_of}
 use Rattle.path_query.proofs.Canon.{expr_step, seq_step}
 use Rattle.path_query.proofs.writing.+write.Goals as goal
 

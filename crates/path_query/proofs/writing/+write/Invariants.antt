@@ -1,7 +1,7 @@
 use Rattle.std.proofs.Common.{◌≡◌, ◌++◌, take}
 use Rattle.std.specs.Prelude.{string_bytes}
-use Rattle.path_expr.specs.Views.{item_of, seq_of, seq_from, expr_from}
-use Rattle.path_query.specs.Written.{expr_text, seq_text}
+use Rattle.path_expr.specs.ExprTrees.{item_of, seq_of, seq_from, expr_from}
+use Rattle.path_query.specs.PathTexts.{expr_text, seq_text}
 use Rattle.path_query.proofs.writing.+write.Given as goal
 
 abbrev pub invariant-write_seq-loop-j : goal.invariant-write_seq-loop-j

@@ -1,24 +1,24 @@
 use Rattle.std.proofs.Common.{◌∙◌, inr, refl, sym, ap, subst}
 use Rattle.bisim_spec.specs.declared.kind.Kind.TheVariants.{Fb}
-use Rattle.command_line.specs.Shown.{shown_settings}
+use Rattle.command_line.specs.FormValues.{settings_value}
 use Rattle.pathindex_core.specs.Engines.{graph_in, seen}
-use Rattle.script_run.specs.States.{left_out}
-use Rattle.pathindex_run.specs.ToldFiles.{BeginsTold}
+use Rattle.script_interpreter.specs.States.{left_out}
+use Rattle.pathindex_run.specs.ObservableFiles.{BeginsObservable}
 use Rattle.pathindex_run.proofs.RunLemmas.{stopped}
 use Rattle.pathindex_run.proofs.OpeningStates.{opened_for}
 use Rattle.pathindex_run.proofs.entry.run_script.Goals as goal
 
 pub run_open-requires-clause-begins : goal.run_open-requires-clause-begins
 run_open-requires-clause-begins g c =
-    subst (BeginsTold (shown_settings c.args.settings.now).graph (g.H.Shelf.files c.args.shelf.now)) (sym (ap graph_in c.in-Ok.ensures.opened)) c.requires.begins
+    subst (BeginsObservable (settings_value c.args.settings.now).graph (g.H.Shelf.files c.args.shelf.now)) (sym (ap graph_in c.in-Ok.ensures.opened)) c.requires.begins
 
 pub run_open-requires-clause-ready : goal.run_open-requires-clause-ready
 run_open-requires-clause-ready g c = record { sound = c.open.ensures.sound; opened = _; opened_is = c.in-Ok.ensures.opened; limits_are = c.program.ensures }
 
 pub returns-in-Ok-clause-meets : goal.returns-in-Ok-clause-meets
 returns-in-Ok-clause-meets g c =
-    c.run_open.ensures.meets _ (opened_for (shown_settings c.args.settings.now) _ (seen g.B.PathIndex.meaning c.leave_out-2.new.engine) _ _ c.in-Ok.ensures.opened c.in-Ok.ensures.built c.open.ensures.kinds c.open.ensures.sound
+    c.run_open.ensures.meets _ (opened_for (settings_value c.args.settings.now) _ (seen g.B.PathIndex.meaning c.leave_out-2.new.engine) _ _ c.in-Ok.ensures.opened c.in-Ok.ensures.built c.open.ensures.kinds c.open.ensures.sound
     (c.leave_out-2.ensures.kinds ∙ ap (left_out c.args.settings.now.without_fb Fb) c.leave_out.ensures.kinds))
 
 pub returns-in-Err-clause-meets : goal.returns-in-Err-clause-meets
-returns-in-Err-clause-meets g c = stopped (shown_settings c.args.settings.now) _ (g.H.Shelf.files c.args.shelf.now) (g.K.Sink.written c.args.sink.now) 7 _ (inr refl)
+returns-in-Err-clause-meets g c = stopped (settings_value c.args.settings.now) _ (g.H.Shelf.files c.args.shelf.now) (g.K.Sink.written c.args.sink.now) 7 _ (inr refl)

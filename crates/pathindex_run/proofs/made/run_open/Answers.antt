@@ -1,6 +1,6 @@
 use Rattle.std.proofs.Common.{arith}
 use Rattle.pathindex_core.specs.Engines.{seen}
-use Rattle.script_run.specs.EngineStates.{state_in}
+use Rattle.script_interpreter.specs.EngineStates.{state_in}
 use Rattle.pathindex_run.proofs.MadeLemmas.{text_ran, text_part}
 use Rattle.pathindex_run.proofs.made.run_open.Goals as goal
 

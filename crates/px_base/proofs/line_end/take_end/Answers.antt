@@ -1,5 +1,5 @@
 use Rattle.std.proofs.Common.{◌∙◌, sym}
-use Rattle.px_base.proofs.Ends.{first-passes}
+use Rattle.px_base.proofs.LineEndLaws.{first-passes}
 use Rattle.px_base.proofs.line_end.take_end.Goals as goal
 
 pub returns-then-room-eq0-clause-limit : goal.returns-then-room-eq0-clause-limit

@@ -1,6 +1,6 @@
 use Rattle.std.proofs.Common.{◌≡◌, ◌≢◌, Some, arith}
 use Rattle.std.specs.Prelude.{slice_get}
-use Rattle.px_base.proofs.Ends.{takes-return, both-pass}
+use Rattle.px_base.proofs.LineEndLaws.{takes-return, both-pass}
 use Rattle.px_base.proofs.line_end.take_return.Goals as goal
 
 pub returns-then-ne-clause-ok : goal.returns-then-ne-clause-ok

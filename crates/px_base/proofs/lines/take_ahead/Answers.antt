@@ -8,7 +8,7 @@ returns-then-count-room-clause-limit c _ =
     let n = c.plain_len-count.result in
     let within : n ≤ length ahead = rw (← c.bytes-bytes.ensures) c.plain_len-count.ensures.within in
     record {
-      front = take n ahead;
+      prefix = take n ahead;
       rest = drop n ahead;
       plain = rw (← c.bytes-bytes.ensures) c.plain_len-count.ensures.plain;
       long = rw (length-take n ahead) (grind (arith, within));

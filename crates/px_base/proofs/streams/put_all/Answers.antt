@@ -1,6 +1,6 @@
 use Rattle.std.proofs.Common.{arith}
 use Rattle.std.proofs.lemmas.Grind.{common_steps}
-use Rattle.px_base.proofs.WrittenFronts.{put_more}
+use Rattle.px_base.proofs.WrittenPrefixes.{put_more}
 use Rattle.px_base.proofs.streams.put_all.Goals as goal
 
 pub loop-rest-preserved : goal.loop-rest-preserved

@@ -1,5 +1,5 @@
 use Rattle.std.proofs.Common.{length}
-use Rattle.px_base.proofs.WrittenFronts.{PutSoFar}
+use Rattle.px_base.proofs.WrittenPrefixes.{PutSoFar}
 use Rattle.px_base.proofs.streams.put_all.Given as goal
 
 abbrev pub invariant-loop-rest : goal.invariant-loop-rest

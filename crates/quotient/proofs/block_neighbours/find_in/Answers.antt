@@ -1,4 +1,4 @@
-use Rattle.quotient.proofs.Rooms.{none_of, some_of}
+use Rattle.quotient.proofs.ReservedCapacity.{none_of, some_of}
 use Rattle.quotient.proofs.block_neighbours.find_in.Goals as goal
 
 pub returns-clause-at : goal.returns-clause-at

@@ -1,10 +1,10 @@
-use Rattle.quotient.specs.Joined.{AreBelow}
+use Rattle.quotient.specs.QuotientNeighbours.{AreBelow}
 use Rattle.std.proofs.Common.{◌∙◌, ◌<◌, ap, sym, arith, length, subst, ◌+◌}
 use Rattle.std.proofs.lemmas.List.{take_all}
 use Rattle.bisim_spec.specs.Supports.{support}
-use Rattle.quotient.proofs.Near.{support_none}
+use Rattle.quotient.proofs.NeighbourListLaws.{support_none}
 use Rattle.quotient.proofs.Pairs.{no_pairs, none_below}
-use Rattle.quotient.proofs.Listed.{support_more, support_take, support_members}
+use Rattle.quotient.proofs.EdgeLists.{support_more, support_take, support_members}
 use Rattle.quotient.proofs.counting.count_edges.Goals as goal
 
 pub loop-from-init : goal.loop-from-init
@@ -14,7 +14,7 @@ loop-from-init c = record {
       let waits = no_pairs c.in_ok-pairs.pairs.items x y c.in_ok-pairs.ensures.items in
       omega (arith, none, waits);
   below = none_below (length c.in_ok-joins.joins.children.lists) c.in_ok-pairs.pairs.items c.in_ok-pairs.ensures.items;
-  near = c.in_ok-joins.ensures.near;
+  neighbour_lists = c.in_ok-joins.ensures.neighbour_lists;
   children = c.in_ok-joins.ensures.children ∙ c.span-span.ensures.span;
   parents = c.in_ok-joins.ensures.parents ∙ c.span-span.ensures.span;
 }
@@ -37,7 +37,7 @@ loop-from-preserved c = record {
       let same = c.in_ok-count_batch.ensures.supports x y in
       omega (arith, so_far, added, more, same);
   below = c.in_ok-count_batch.ensures.below;
-  near = c.in_ok-count_batch.ensures.near;
+  neighbour_lists = c.in_ok-count_batch.ensures.neighbour_lists;
   children = c.in_ok-count_batch.ensures.children ∙ c.loop-from.invariant.children;
   parents = c.in_ok-count_batch.ensures.parents ∙ c.loop-from.invariant.parents;
 }

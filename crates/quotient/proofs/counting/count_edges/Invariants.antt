@@ -1,14 +1,14 @@
 use Rattle.std.proofs.Common.{ℕ, ◌≡◌, ◌+◌, length, take}
 use Rattle.bisim_spec.specs.Supports.{support}
-use Rattle.bisim_spec.specs.Views.{support_at}
-use Rattle.quotient.specs.Joined.{AreBelow, AreNear, pairs_with}
+use Rattle.bisim_spec.specs.IndexGraphs.{support_at}
+use Rattle.quotient.specs.QuotientNeighbours.{AreBelow, AreNeighbourLists, pairs_with}
 use Rattle.quotient.proofs.counting.count_edges.Given as goal
 
 abbrev pub invariant-loop-from : goal.invariant-loop-from
 invariant-loop-from l = record {
   supports : (x y : ℕ) → support_at l.joins.supports.pairs x y + pairs_with l.pairs.items x y ≡ support (take l.from-index l.edges) l.blocks.block_of x y;
   below : AreBelow (length l.joins.children.lists) l.pairs.items;
-  near : AreNear l.joins.supports.pairs l.joins.children.lists l.joins.parents.lists;
+  neighbour_lists : AreNeighbourLists l.joins.supports.pairs l.joins.children.lists l.joins.parents.lists;
   children : length l.joins.children.lists ≡ length l.blocks.labels;
   parents : length l.joins.parents.lists ≡ length l.blocks.labels;
 }

@@ -1,6 +1,6 @@
 use Rattle.std.proofs.Common.{◌∙◌, sym}
 use Rattle.quotient.proofs.Between.{links_listed}
-use Rattle.quotient.proofs.Listed.{listed_more, listed_gone}
+use Rattle.quotient.proofs.EdgeLists.{listed_more, listed_gone}
 use Rattle.quotient.proofs.edges.list_node.Goals as goal
 
 pub returns-then-not-is_node : goal.returns-then-not-is_node

@@ -1,5 +1,5 @@
 use Rattle.std.specs.Prelude.{nat_lt}
-use Rattle.bisim_spec.specs.Views.{support_at}
+use Rattle.bisim_spec.specs.IndexGraphs.{support_at}
 use Rattle.quotient_draft.specs.Drafts.{with_supports}
 use Rattle.quotient_draft.proofs.Nearest.{next_start, next_more, next_all}
 use Rattle.quotient_draft.proofs.next.next_child_in.Goals as goal

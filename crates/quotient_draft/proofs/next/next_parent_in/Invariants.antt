@@ -1,7 +1,7 @@
 use Rattle.std.proofs.Common.{ℕ, Bool, ◌&&◌, ◌||◌, take}
 use Rattle.std.specs.Prelude.{nat_lt}
-use Rattle.px_spec.specs.Members.{has}
-use Rattle.bisim_spec.specs.Views.{support_at}
+use Rattle.graph_spec.specs.Members.{has}
+use Rattle.bisim_spec.specs.IndexGraphs.{support_at}
 use Rattle.quotient_draft.specs.Drafts.{with_supports}
 use Rattle.quotient_draft.specs.Nexts.{IsNext}
 use Rattle.quotient_draft.proofs.next.next_parent_in.Given as goal

@@ -1,6 +1,6 @@
 use Rattle.std.proofs.Common.{◌≡◌, ap, sym, ◌∙◌, Err, arith}
 use Rattle.std.proofs.lemmas.Result.{err_from_is_err_and}
-use Rattle.px_spec.specs.Changes.{link, unlink, drop}
+use Rattle.graph_spec.specs.Changes.{link, unlink, drop}
 use Rattle.script_read.specs.Commands.{change, extents, sizes, forget}
 use Rattle.script_read.specs.declared.commands.ScriptError.TheVariants.{Limit}
 use Rattle.script_read.proofs.CommandLemmas.{failed_node, failed_path, failed_branch, node_free, free}

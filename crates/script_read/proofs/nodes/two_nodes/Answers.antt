@@ -1,5 +1,5 @@
 use Rattle.std.proofs.Common.{true≢false, refl, ◌∙◌, [], ◌∷◌, sym, ap}
-use Rattle.px_spec.specs.Words.{node_word}
+use Rattle.graph_spec.specs.Words.{node_word}
 use Rattle.script_read.proofs.WordLemmas.{head_word, words-cons, node_some}
 use Rattle.script_read.proofs.nodes.two_nodes.Goals as goal
 

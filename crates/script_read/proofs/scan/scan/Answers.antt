@@ -1,6 +1,6 @@
 use Rattle.std.proofs.Common.{rules, refl, sym, true≢false, ap, ◌∙◌, ◌∷◌, []}
-use Rattle.px_spec.specs.Words.{node_word}
-use Rattle.script_read.specs.Parts.{OpensNothing}
+use Rattle.graph_spec.specs.Words.{node_word}
+use Rattle.script_read.specs.FirstWords.{OpensNothing}
 use Rattle.script_read.proofs.WordLemmas.{words-cons}
 use Rattle.script_read.proofs.CommandLemmas.{opens_quiet, opens_some, none_node, none_link, none_unlink, none_drop}
 use Rattle.script_read.proofs.scan.scan.Goals as goal

@@ -1,7 +1,7 @@
 use Rattle.std.proofs.Common.{refl, sym, true≢false, ap, ◌∙◌, ◌∷◌, []}
 use Rattle.std.specs.Prelude.{codes}
 use Rattle.index_api.specs.Spelling.{via_word, kind_word}
-use Rattle.script_read.specs.Parts.{first_word, behind_word, without_blanks}
+use Rattle.script_read.specs.FirstWords.{first_word, behind_word, without_blanks}
 use Rattle.script_read.proofs.CommandLemmas.{words_opened, no_path, no_branch, none_extents, none_sizes, none_forget, none_other}
 use Rattle.script_read.proofs.scan.scan_query.Goals as goal
 

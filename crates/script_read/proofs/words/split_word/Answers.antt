@@ -1,5 +1,5 @@
 use Rattle.std.proofs.Common.{◌≡◌, rules}
-use Rattle.script_read.specs.Parts.{first_word, behind_word}
+use Rattle.script_read.specs.FirstWords.{first_word, behind_word}
 use Rattle.script_read.proofs.WordLemmas.{is_split}
 use Rattle.script_read.proofs.words.split_word.Goals as goal
 

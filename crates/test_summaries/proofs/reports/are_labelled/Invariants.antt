@@ -1,5 +1,5 @@
 use Rattle.std.proofs.Common.{ℕ, ◌≡◌, ◌<◌, Some, length}
-use Rattle.px_spec.specs.Members.{at}
+use Rattle.graph_spec.specs.Members.{at}
 use Rattle.test_summaries.proofs.reports.are_labelled.Given as goal
 
 abbrev pub invariant-loop-b : goal.invariant-loop-b

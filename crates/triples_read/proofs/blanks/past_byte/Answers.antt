@@ -1,5 +1,5 @@
 use Rattle.std.proofs.Common.{◌∙◌, sym}
-use Rattle.triples_read.proofs.FrontLaws.{starts-cons, byte-boundary}
+use Rattle.triples_read.proofs.PrefixLaws.{starts-cons, byte-boundary}
 use Rattle.triples_read.proofs.blanks.past_byte.Goals as goal
 
 pub split_at-requires : goal.split_at-requires

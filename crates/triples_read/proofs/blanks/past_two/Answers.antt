@@ -1,7 +1,7 @@
 use Rattle.std.proofs.Common.{◌≡◌, ◌∷◌, ◌∙◌, sym, ap, List, ℕ, false}
 use Rattle.triples_read.specs.ByteReaders.{starts_with}
 use Rattle.triples_read.proofs.Basics.{no_both, cons-tail}
-use Rattle.triples_read.proofs.FrontLaws.{starts-same, match-map}
+use Rattle.triples_read.proofs.PrefixLaws.{starts-same, match-map}
 use Rattle.triples_read.proofs.blanks.past_two.Goals as goal
 
 pub returns-in_default : goal.returns-in_default

@@ -2,10 +2,10 @@ use Rattle.std.proofs.Common.{◌≡◌, ◌∙◌, sym, subst, inl, inr}
 use Rattle.std.specs.Prelude.{IfOk, IsSomeAnd}
 use Rattle.std.proofs.Math.Utf8.{encodes}
 use Rattle.triples_read.specs.declared.term.Term.{Term}
-use Rattle.triples_read.specs.Fronts.{Front}
+use Rattle.triples_read.specs.SpelledPrefixes.{Prefix}
 use Rattle.triples_read.specs.Lines.{IsSubject, IsObject}
 use Rattle.triples_read.proofs.Basics.{no_both}
-use Rattle.triples_read.proofs.FrontLaws.{ok-some-map}
+use Rattle.triples_read.proofs.PrefixLaws.{ok-some-map}
 use Rattle.triples_read.proofs.LineLaws.{object-stands, subject-object}
 use Rattle.triples_read.proofs.Follow.{label-ends}
 use Rattle.triples_read.proofs.line.read_object.Goals as goal
@@ -19,8 +19,8 @@ returns-then-starts_with-clause-whole c s r t is spelled over =
 
 pub returns-clause-found : goal.returns-clause-found
 returns-clause-found c cs is =
-    ok-some-map (λ f. Front (λ s. IsSubject s f.0) cs f.1.now) (λ f. Front (λ s. IsObject s f.0) cs f.1.now)
-    (λ f front. (front.0, front.1, front.2, front.3, subject-object front.0 f.0 front.4)) c.read_subject.result (c.read_subject.ensures.found cs is)
+    ok-some-map (λ f. Prefix (λ s. IsSubject s f.0) cs f.1.now) (λ f. Prefix (λ s. IsObject s f.0) cs f.1.now)
+    (λ f prefix. (prefix.0, prefix.1, prefix.2, prefix.3, subject-object prefix.0 f.0 prefix.4)) c.read_subject.result (c.read_subject.ensures.found cs is)
 
 pub returns-clause-whole : goal.returns-clause-whole
 returns-clause-whole c s r t is spelled over =

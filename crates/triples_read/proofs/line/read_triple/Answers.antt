@@ -1,5 +1,5 @@
 use Rattle.std.proofs.Common.{subst, List, ℕ, refl}
-use Rattle.triples_read.specs.Fronts.{IsText}
+use Rattle.triples_read.specs.SpelledPrefixes.{IsText}
 use Rattle.triples_read.proofs.LineLaws.{after-subject-ends, text-behind}
 use Rattle.triples_read.proofs.line.read_triple.Goals as goal
 

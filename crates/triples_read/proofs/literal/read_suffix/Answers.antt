@@ -1,10 +1,10 @@
 use Rattle.std.proofs.Common.{◌≡◌, ◌∙◌, sym, ap, subst, List, ℕ, ◌++◌, arith, inl, inr, Bool, Some, true, false}
 use Rattle.triples_read.specs.ByteReaders.{past_blanks, starts_with}
 use Rattle.triples_read.specs.Lines.{Suffix}
-use Rattle.triples_read.specs.Fronts.{Front, IsText}
+use Rattle.triples_read.specs.SpelledPrefixes.{Prefix, IsText}
 use Rattle.triples_read.proofs.Basics.{no_both, cons-tail}
 use Rattle.triples_read.proofs.BlankLaws.{skip-found}
-use Rattle.triples_read.proofs.FrontLaws.{behind-byte}
+use Rattle.triples_read.proofs.PrefixLaws.{behind-byte}
 use Rattle.triples_read.proofs.LiteralLaws.{suffix-stands, suffix-typed, suffix-tagged}
 use Rattle.triples_read.proofs.literal.read_suffix.Goals as goal
 
@@ -54,13 +54,13 @@ returns-in_default-past_byte-clause-whole c s r datatype tag is spelled over =
 pub returns-in_default-2-clause-whole : goal.returns-in_default-2-clause-whole
 returns-in_default-2-clause-whole c s r datatype tag is spelled over =
     let no_caret = known 94 c.args.text.now c.skip_blanks-after.result.now _ false c.skip_blanks-after.ensures c.starts_with.ensures c.if-starts_with.false in
-    let front = sym c.skip_blanks-after.ensures ∙ c.in-Some-past_byte.ensures in
+    let prefix = sym c.skip_blanks-after.ensures ∙ c.in-Some-past_byte.ensures in
     elim (suffix-stands c.args.text.now s r datatype tag is spelled over) [
-      | inl (kind, none, no_caret', no_at', same) ↦ no_both _ (ap (starts_with 64) front) no_at'
+      | inl (kind, none, no_caret', no_at', same) ↦ no_both _ (ap (starts_with 64) prefix) no_at'
       | inr (inl (u, named, none, text, begins)) ↦ no_both _ begins no_caret
       | inr (inr (u, v, langtag, some, kind, at, ok, ends)) ↦ (
           let whole = rw c.in_default-2.is at c.in_ok-tag.ensures.whole in
-          whole u r v (cons-tail (sym front ∙ at), ok) langtag ends)
+          whole u r v (cons-tail (sym prefix ∙ at), ok) langtag ends)
     ]
 
 pub returns-clause-found : goal.returns-clause-found
@@ -69,17 +69,17 @@ returns-clause-found c cs is =
     let (cs3, parts, behind) = behind-byte 64 (past_blanks c.args.text.now) c.in-Some-past_byte.behind.now cs2 (omega arith) (sym c.skip_blanks-after.ensures ∙ c.in-Some-past_byte.ensures) text in
     let found = rw c.in-Some-2.is at c.in_ok-tag.ensures.found in
     let made = suffix-tagged cs gap cs2 cs3 c.in-Some-2.rest.now c.in-Some-2.tag split blanks parts (found cs3 behind) in
-    subst (λ (z : List ℕ). Front (λ s. Suffix s z (Some c.in-Some-2.tag)) cs c.in-Some-2.rest.now) (sym c.in_ok-lang_string.ensures) made
+    subst (λ (z : List ℕ). Prefix (λ s. Suffix s z (Some c.in-Some-2.tag)) cs c.in-Some-2.rest.now) (sym c.in_ok-lang_string.ensures) made
 
 pub returns-clause-whole : goal.returns-clause-whole
 returns-clause-whole c s r datatype tag is spelled over =
     let no_caret = known 94 c.args.text.now c.skip_blanks-after.result.now _ false c.skip_blanks-after.ensures c.starts_with.ensures c.if-starts_with.false in
-    let front = sym c.skip_blanks-after.ensures ∙ c.in-Some-past_byte.ensures in
+    let prefix = sym c.skip_blanks-after.ensures ∙ c.in-Some-past_byte.ensures in
     elim (suffix-stands c.args.text.now s r datatype tag is spelled over) [
-      | inl (kind, none, no_caret', no_at', same) ↦ absurd (no_both _ (ap (starts_with 64) front) no_at')
+      | inl (kind, none, no_caret', no_at', same) ↦ absurd (no_both _ (ap (starts_with 64) prefix) no_at')
       | inr (inl (u, named, none, text, begins)) ↦ absurd (no_both _ begins no_caret)
       | inr (inr (u, v, langtag, some, kind, at, ok, ends)) ↦ (
           let whole = rw c.in-Some-2.is at c.in_ok-tag.ensures.whole in
-          let both = whole u r v (cons-tail (sym front ∙ at), ok) langtag ends in
+          let both = whole u r v (cons-tail (sym prefix ∙ at), ok) langtag ends in
           (c.in_ok-lang_string.ensures ∙ sym kind, ap Some both.0 ∙ sym some, both.1))
     ]

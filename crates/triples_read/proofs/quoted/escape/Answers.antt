@@ -1,5 +1,5 @@
 use Rattle.triples_read.specs.Quotes.{Escape, escape_at}
-use Rattle.triples_read.proofs.Pieces.{escape-within}
+use Rattle.triples_read.proofs.BodyPieces.{escape-within}
 use Rattle.triples_read.proofs.QuotedPieces.{quote_escapes}
 use Rattle.triples_read.proofs.quoted.escape.Goals as goal
 

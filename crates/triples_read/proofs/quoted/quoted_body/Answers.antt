@@ -1,7 +1,7 @@
 use Rattle.std.proofs.Common.{[], ◌∷◌}
 use Rattle.std.specs.Prelude.{string_bytes}
 use Rattle.triples_read.specs.Quotes.{inner, Escape, escape_at, closing, PieceIn}
-use Rattle.triples_read.proofs.Pieces.{adds-then, adds-none, ended-found, ended-only}
+use Rattle.triples_read.proofs.BodyPieces.{adds-then, adds-none, ended-found, ended-only}
 use Rattle.triples_read.proofs.QuotedPieces.{quote_kind, quote_escapes}
 use Rattle.triples_read.proofs.quoted.quoted_body.Goals as goal
 

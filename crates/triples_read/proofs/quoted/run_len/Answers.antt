@@ -1,4 +1,4 @@
-use Rattle.triples_read.proofs.Pieces.{position-none}
+use Rattle.triples_read.proofs.BodyPieces.{position-none}
 use Rattle.triples_read.proofs.quoted.run_len.Goals as goal
 
 pub returns-in-None-clause-is : goal.returns-in-None-clause-is

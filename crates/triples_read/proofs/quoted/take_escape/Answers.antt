@@ -2,7 +2,7 @@ use Rattle.std.proofs.Common.{◌∙◌, ◌-◌, sym, ap, subst}
 use Rattle.std.specs.Prelude.{string_bytes, IsUtf8}
 use Rattle.std.proofs.lemmas.Str.{IsUtf8-drop}
 use Rattle.triples_read.specs.Quotes.{inner, Escape, escape_at, closing}
-use Rattle.triples_read.proofs.Pieces.{escape-added, escape-none, escape-boundary}
+use Rattle.triples_read.proofs.BodyPieces.{escape-added, escape-none, escape-boundary}
 use Rattle.triples_read.proofs.QuotedPieces.{quote_kind, quote_escapes}
 use Rattle.triples_read.proofs.quoted.take_escape.Goals as goal
 

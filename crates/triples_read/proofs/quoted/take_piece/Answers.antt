@@ -3,15 +3,15 @@ use Rattle.std.specs.Prelude.{string_bytes}
 use Rattle.triples_read.specs.Bodies.{Adds, Body}
 use Rattle.triples_read.specs.ByteReaders.{starts_with}
 use Rattle.triples_read.specs.Quotes.{inner, Escape, escape_at, closing, PieceIn}
-use Rattle.triples_read.proofs.FrontLaws.{behind-utf8}
-use Rattle.triples_read.proofs.Pieces.{adds-then, adds-none, stop-none}
+use Rattle.triples_read.proofs.PrefixLaws.{behind-utf8}
+use Rattle.triples_read.proofs.BodyPieces.{adds-then, adds-none, stop-none}
 use Rattle.triples_read.proofs.QuotedPieces.{quote_kind, quote_escapes}
 use Rattle.triples_read.proofs.quoted.take_piece.Goals as goal
 
 pub returns-in-Some-clause-end : goal.returns-in-Some-clause-end
 returns-in-Some-clause-end c _ =
-    let front = c.in-Some.ensures ∙ ap (λ (z : ℕ). z ∷ c.in-Some.behind.now) c.closing.ensures.is in
-    subst (λ (z : List ℕ). Adds (PieceIn c.args.quote) (closing c.args.quote) (string_bytes c.args.text.now) (string_bytes c.take_run.new.text) c.args.rest.now z) front c.in_ok-after.ensures.found
+    let prefix = c.in-Some.ensures ∙ ap (λ (z : ℕ). z ∷ c.in-Some.behind.now) c.closing.ensures.is in
+    subst (λ (z : List ℕ). Adds (PieceIn c.args.quote) (closing c.args.quote) (string_bytes c.args.text.now) (string_bytes c.take_run.new.text) c.args.rest.now z) prefix c.in_ok-after.ensures.found
 
 pub returns-in-Some-clause-utf8 : goal.returns-in-Some-clause-utf8
 returns-in-Some-clause-utf8 c = behind-utf8 c.closing.result c.in_ok-after.after.now c.in-Some.behind.now c.closing.ensures.ascii c.in_ok-after.ensures.utf8 c.in-Some.ensures

@@ -2,7 +2,7 @@ use Rattle.std.specs.Prelude.{string_bytes}
 use Rattle.std.proofs.lemmas.Str.{IsUtf8-past_char}
 use Rattle.triples_read.specs.Quotes.{quoted_char}
 use Rattle.triples_read.proofs.LabelEnds.{shorter}
-use Rattle.triples_read.proofs.Written.{written-on, written-over}
+use Rattle.triples_read.proofs.AppendedTexts.{written-on, written-over}
 use Rattle.triples_read.proofs.writing.push_chars.Goals as goal
 
 pub chars-smaller : goal.chars-smaller

@@ -1,7 +1,7 @@
 use Rattle.std.proofs.Common.{length}
 use denote.Text.{Utf8}
 use denote.Shadow.{shadow}
-use Rattle.triples_read.proofs.Written.{WrittenSoFar}
+use Rattle.triples_read.proofs.AppendedTexts.{WrittenSoFar}
 use Rattle.std.specs.Prelude.{string_bytes}
 use Rattle.triples_read.specs.Quotes.{quoted_char}
 use Rattle.triples_read.proofs.writing.push_chars.Given as goal

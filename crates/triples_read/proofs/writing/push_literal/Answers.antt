@@ -3,7 +3,7 @@ use Rattle.std.specs.Prelude.{string_bytes}
 use Rattle.std.specs.Str.{chars}
 use Rattle.std.proofs.Math.Utf8.{encodes}
 use Rattle.triples_read.specs.Canonical.{string_text, suffix_text}
-use Rattle.triples_read.proofs.Written.{on-ok-map, two-pushed}
+use Rattle.triples_read.proofs.AppendedTexts.{on-ok-map, two-pushed}
 use Rattle.triples_read.proofs.writing.push_literal.Goals as goal
 
 pub returns : goal.returns

@@ -4,7 +4,7 @@ use Rattle.std.specs.Str.{chars}
 use Rattle.std.specs.List.{flat_map}
 use Rattle.std.proofs.lemmas.Str.{encodes-chars}
 use Rattle.triples_read.specs.Quotes.{quoted_char}
-use Rattle.triples_read.proofs.Written.{tail-pushed, quoted-pushed}
+use Rattle.triples_read.proofs.AppendedTexts.{tail-pushed, quoted-pushed}
 use Rattle.triples_read.proofs.writing.push_quoted.Goals as goal
 
 pub returns : goal.returns

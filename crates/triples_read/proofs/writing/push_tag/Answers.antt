@@ -1,5 +1,5 @@
 use Rattle.std.specs.Prelude.{string_bytes}
-use Rattle.triples_read.proofs.Written.{tail-pushed, tag-pushed}
+use Rattle.triples_read.proofs.AppendedTexts.{tail-pushed, tag-pushed}
 use Rattle.triples_read.proofs.writing.push_tag.Goals as goal
 
 pub returns : goal.returns

@@ -3,7 +3,7 @@ use Rattle.std.specs.Prelude.{string_bytes}
 use Rattle.std.specs.Str.{chars}
 use Rattle.std.proofs.Math.Utf8.{encodes}
 use Rattle.triples_read.specs.Canonical.{iri_text, term_text}
-use Rattle.triples_read.proofs.Written.{tail-pushed, triple-pushed}
+use Rattle.triples_read.proofs.AppendedTexts.{tail-pushed, triple-pushed}
 use Rattle.triples_read.proofs.writing.push_triple.Goals as goal
 
 pub returns : goal.returns

@@ -1,5 +1,5 @@
 use Rattle.std.proofs.Common.{List, ◌∙◌, ap, sym, subst, slice_set}
-use Rattle.keyed_quotient.specs.Levels.{KeyedQuotient}
+use Rattle.keyed_quotient.specs.KeyedQuotients.{KeyedQuotient}
 use Rattle.keyed_quotient.specs.Changes.{KeyedChanges, IsKeyedOver}
 use Rattle.ak_family.specs.Families.{level_at}
 use Rattle.ak_family.specs.LevelDrafts.{AreOver, KeepsAllButSupports}

@@ -1,5 +1,5 @@
 use Rattle.std.proofs.Common.{List, subst}
-use Rattle.keyed_quotient.specs.Levels.{KeyedQuotient}
+use Rattle.keyed_quotient.specs.KeyedQuotients.{KeyedQuotient}
 use Rattle.ak_family.specs.LevelDrafts.{AreSeenAs}
 use Rattle.ak_family.proofs.FamilyKept.{shows_seen}
 use Rattle.ak_family.proofs.family.AkFamily.reserve.Goals as goal

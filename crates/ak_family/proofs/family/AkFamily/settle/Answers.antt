@@ -1,5 +1,5 @@
 use Rattle.std.proofs.Common.{List, length, ◌≡◌, ◌<◌, ◌∙◌, ap, sym, subst, arith}
-use Rattle.keyed_quotient.specs.Levels.{KeyedQuotient}
+use Rattle.keyed_quotient.specs.KeyedQuotients.{KeyedQuotient}
 use Rattle.keyed_quotient.specs.Changes.{KeyedChanges}
 use Rattle.ak_family.specs.Families.{IsKeyedFamily}
 use Rattle.ak_family.specs.LevelDrafts.{AreSettled}

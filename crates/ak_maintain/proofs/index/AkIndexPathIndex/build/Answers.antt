@@ -1,4 +1,4 @@
-use Rattle.ak_maintain.proofs.Views.{levels_fit}
+use Rattle.ak_maintain.proofs.FamilyViews.{levels_fit}
 use Rattle.ak_maintain.proofs.Staged.{built}
 use Rattle.ak_maintain.proofs.index.AkIndexPathIndex.build.Goals as goal
 

@@ -29,5 +29,5 @@ invariant_of-self c =
     let in_sizes : c.args.b < length s.sizes.items = omega (arith, h, same) in
     let read : c.index_mut.result.now ≡ slice_index s.sizes.items c.args.b = get_or_read s.sizes.items _ _ in_sizes c.index_mut.ensures.value 0 in
     rw (c.push-3.ensures, c.push-2.ensures, c.set.ensures, c.set_at.ensures, c.push.ensures, c.len-node.ensures, c.get-after.ensures.place, read)
-    (sound_appended s.block s.next s.prev s.first s.labels.items _ s.sizes.items _ s.freed s.live s.node_room s.block_room c.args.b c.self.invariant
-    (rw (← c.self.view_is) at c.requires.room) block)
+    (sound_appended s.block s.next s.prev s.first s.labels.items _ s.sizes.items _ s.freed s.live s.nodes_reserved s.blocks_reserved c.args.b c.self.invariant
+    (rw (← c.self.view_is) at c.requires.reserved) block)

@@ -28,5 +28,5 @@ invariant_of-self c =
     let in_sizes : c.args.b < length s.sizes.items = omega (arith, h, same) in
     let read : c.index_mut.result.now ≡ slice_index s.sizes.items c.args.b = get_or_read s.sizes.items _ _ in_sizes c.index_mut.ensures.value 0 in
     rw (c.set.ensures, c.set-2.ensures, c.set-3.ensures, c.set_at.ensures, c.get-head.ensures.place, read)
-    (sound_in s.block s.next s.prev s.first s.labels.items _ s.sizes.items _ s.freed s.live s.node_room s.block_room c.args.n c.args.b c.self.invariant
+    (sound_in s.block s.next s.prev s.first s.labels.items _ s.sizes.items _ s.freed s.live s.nodes_reserved s.blocks_reserved c.args.n c.args.b c.self.invariant
     (rw (← c.self.view_is) at c.requires.free) (rw (← c.self.view_is) at c.requires.within) block)

@@ -7,4 +7,4 @@ returns c =
     let s = c.self.inside in
     let labels = sym (put_within s.labels.items c.args.b c.args.label (rw (← c.self.view_is) at c.requires.within)) in
     rw (← c.self.view_is)
-    (λ i. record { block_of = s.block.places; labels = labels i; room = record { nodes = s.node_room; blocks = s.block_room - 1 } })
+    (λ i. record { block_of = s.block.places; labels = labels i; reserved = record { nodes = s.nodes_reserved; blocks = s.blocks_reserved - 1 } })

@@ -1,4 +1,4 @@
-use Rattle.block_partition.proofs.Chains.{members_of}
+use Rattle.block_partition.proofs.MemberLinkLaws.{members_of}
 use Rattle.block_partition.proofs.blocks.Blocks.members.Goals as goal
 
 pub returns : goal.returns

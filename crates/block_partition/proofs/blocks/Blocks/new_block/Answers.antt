@@ -1,5 +1,5 @@
 use Rattle.std.proofs.Common.{◌∙◌, ap}
-use Rattle.px_spec.specs.Members.{at}
+use Rattle.graph_spec.specs.Members.{at}
 use Rattle.block_partition.proofs.PutNumbers.{at_put}
 use Rattle.block_partition.proofs.blocks.Blocks.new_block.Goals as goal
 

@@ -1,6 +1,6 @@
 use Rattle.std.proofs.Common.{◌≡◌, ◌∙◌, ap, add-one, Some}
-use Rattle.px_spec.specs.Members.{at}
-use Rattle.block_partition.specs.Partitions.{with_move, with_member}
+use Rattle.graph_spec.specs.Members.{at}
+use Rattle.block_partition.specs.LabelledPartitions.{with_move, with_member}
 use Rattle.block_partition.specs.Tables.{with_length}
 use Rattle.block_partition.proofs.Growth.{member_steps}
 use Rattle.block_partition.proofs.PutNumbers.{at_put}

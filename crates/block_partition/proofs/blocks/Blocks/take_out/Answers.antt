@@ -46,4 +46,4 @@ invariant_of-self c =
     let in_sizes : c.in-Some.own < length s.sizes.items = omega (arith, h, same) in
     let read : c.index_mut.result.now ≡ slice_index s.sizes.items c.in-Some.own = get_or_read s.sizes.items _ _ in_sizes c.index_mut.ensures.value 0 in
     rw (c.set.ensures, c.set-2.ensures, c.set-3.ensures, c.set_at.ensures, c.set_at-2.ensures, c.set_at-3.ensures, c.head_of.ensures, c.get-before.ensures.place, c.get-after.ensures.place, read)
-    (sound_out s.block s.next s.prev s.first s.labels.items _ s.sizes.items _ s.freed s.live s.node_room s.block_room c.args.n c.in-Some.own c.self.invariant has)
+    (sound_out s.block s.next s.prev s.first s.labels.items _ s.sizes.items _ s.freed s.live s.nodes_reserved s.blocks_reserved c.args.n c.in-Some.own c.self.invariant has)

@@ -1,5 +1,5 @@
 use Rattle.std.proofs.Common.{ℕ, ◌≤◌, ◌<◌, ◌-◌, IsSome, length}
-use Rattle.px_spec.specs.Members.{at}
+use Rattle.graph_spec.specs.Members.{at}
 use Rattle.block_partition.proofs.freed.Freed.next_from.Given as goal
 
 abbrev pub invariant-numbers : goal.invariant-numbers

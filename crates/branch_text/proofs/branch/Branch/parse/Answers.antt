@@ -1,4 +1,4 @@
-use Rattle.branch_text.proofs.Again.{are_labels, is_written}
+use Rattle.branch_text.proofs.BranchRoundTrips.{are_labels, is_written}
 use Rattle.branch_text.proofs.OneText.{spells_one}
 use Rattle.branch_text.proofs.branch.Branch.parse.Goals as goal
 

@@ -1,7 +1,7 @@
 use Rattle.std.proofs.Common.{sym, subst}
 use Rattle.branch_spec.specs.Tokens.{tokens}
 use Rattle.branch_text.specs.Parsed.{AreLabels}
-use Rattle.branch_text.proofs.Again.{labels_relaxed}
+use Rattle.branch_text.proofs.BranchRoundTrips.{labels_relaxed}
 use Rattle.branch_text.proofs.branch.Branch.relax.Goals as goal
 
 pub invariant_of-result : goal.invariant_of-result

@@ -2,9 +2,9 @@ use Rattle.std.proofs.Common.{◌++◌, ◌∙◌, sym, subst, ap}
 use Rattle.std.specs.Prelude.{IsTrue}
 use Rattle.branch_spec.specs.Spelling.{canonical}
 use Rattle.branch_text.specs.Parsed.{Spells, has_text}
-use Rattle.branch_text.specs.Written.{branch_text}
+use Rattle.branch_text.specs.BranchTexts.{branch_text}
 use Rattle.branch_text.proofs.Canon.{canonical_is}
-use Rattle.branch_text.proofs.Again.{again}
+use Rattle.branch_text.proofs.BranchRoundTrips.{again}
 use Rattle.branch_text.proofs.branch.Branch.write.Goals as goal
 
 pub returns-clause-canonical : goal.returns-clause-canonical

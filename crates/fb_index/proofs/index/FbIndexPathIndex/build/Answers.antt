@@ -1,5 +1,5 @@
 use Rattle.std.proofs.Common.{refl, Some, false}
-use Rattle.fb_index.proofs.Views.{computed}
+use Rattle.fb_index.proofs.FittingView.{computed}
 use Rattle.fb_index.proofs.index.FbIndexPathIndex.build.Goals as goal
 
 pub returns-clause-built : goal.returns-clause-built

@@ -1,6 +1,6 @@
 use Rattle.std.proofs.Common.{◌≡◌, true, rules}
 use Rattle.std.specs.Prelude.{is_none}
-use Rattle.fb_index.proofs.Views.{refreshed}
+use Rattle.fb_index.proofs.FittingView.{refreshed}
 use Rattle.fb_index.proofs.index.FbIndexPathIndex.refresh.Goals as goal
 
 pub returns-in_ok-summary-clause-refreshed : goal.returns-in_ok-summary-clause-refreshed

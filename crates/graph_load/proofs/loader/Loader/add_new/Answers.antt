@@ -1,15 +1,15 @@
 use Rattle.std.proofs.Common.{◌≡◌, rules, Some}
 use Rattle.std.specs.Prelude.{IsErrOf}
-use Rattle.px_spec.specs.Changes.{node}
+use Rattle.graph_spec.specs.Changes.{node}
 use Rattle.triples_read.specs.declared.term.Term.{Term}
 use Rattle.graph_load.specs.declared.limited_changes.Stop.TheVariants.{Limit}
-use Rattle.graph_load.specs.TripleGraphs.{need, changed, joined, predicate_label}
+use Rattle.graph_load.specs.TripleGraphs.{need, changed, linked, predicate_label}
 use Rattle.term_table.specs.Terms.{number_of}
 use Rattle.graph_load.specs.Loaders.{IsStopped}
 use Rattle.graph_load.specs.Hashed.{triple_of}
 use Rattle.graph_load.proofs.EdgeSteps.{number_stays, grows_trans}
-use Rattle.graph_load.proofs.Again.{predicate_again_found, term_again_found}
-use Rattle.graph_load.proofs.AddTriple.{untaken_subject, untaken_node, untaken_joined, still_unknown, taken_new, place_stays, predicate_stays}
+use Rattle.graph_load.proofs.FoundAgain.{predicate_again_found, term_again_found}
+use Rattle.graph_load.proofs.AddTriple.{untaken_subject, untaken_node, untaken_linked, still_unknown, taken_new, place_stays, predicate_stays}
 use Rattle.graph_load.proofs.loader.Loader.add_new.Goals as goal
 
 pub returns-in_err-from-clause-limit : goal.returns-in_err-from-clause-limit
@@ -25,8 +25,8 @@ returns-in_err-predicate-clause-limit c =
 pub returns-in_err-object-clause-limit : goal.returns-in_err-object-clause-limit
 returns-in_err-object-clause-limit c =
     let stopped : IsErrOf c.from_residual-in_err-object.result Limit → (x : Term) → number_of c.add_node.new.self.terms x ≡ Some c.in_ok-from.from.number
-    → IsStopped (joined c.args.limits.now x c.in_ok-predicate.node c.args.triple.now.object) c.add_node.new.self = search rules in
-    λ e. untaken_joined c.args.limits.now (triple_of c.args.triple.now) c.args.self.now c.requires.unknown c.need.new.self c.in_ok-from.ensures.steps
+    → IsStopped (linked c.args.limits.now x c.in_ok-predicate.node c.args.triple.now.object) c.add_node.new.self = search rules in
+    λ e. untaken_linked c.args.limits.now (triple_of c.args.triple.now) c.args.self.now c.requires.unknown c.need.new.self c.in_ok-from.ensures.steps
     c.in_ok-predicate.node c.in_ok-predicate.ensures.number c.add_node.new.self c.in_ok-predicate.ensures.steps
     (stopped e c.args.triple.now.subject (number_stays c.need.new.self c.add_node.new.self c.in_ok-predicate.ensures.steps.grows c.args.triple.now.subject c.in_ok-from.from.number c.in_ok-from.ensures.number))
 

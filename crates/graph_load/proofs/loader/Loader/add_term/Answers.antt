@@ -7,7 +7,7 @@ use Rattle.graph_load.proofs.loader.Loader.add_term.Goals as goal
 pub returns-clause-steps : goal.returns-clause-steps
 returns-clause-steps c =
     term_steps c.args.limits.now c.args.term.now c.args.self.now c.add_node.new.graph c.in_ok-number.number c.insert.new.self c.requires.sound c.requires.absent
-    (rw (c.node.ensures, c.term.ensures) at c.in_ok-number.ensures.made) c.in_ok-number.ensures.room c.in_ok-number.ensures.number c.in_ok-place.ensures.added
+    (rw (c.node.ensures, c.term.ensures) at c.in_ok-number.ensures.made) c.in_ok-number.ensures.reserved c.in_ok-number.ensures.number c.in_ok-place.ensures.added
 
 pub returns-clause-place : goal.returns-clause-place
 returns-clause-place c =

@@ -3,7 +3,7 @@ use Rattle.std.specs.Prelude.{bytes_eq}
 use Rattle.std.specs.Map.{keys_of}
 use Rattle.std.proofs.lemmas.List.{length-append, length-map}
 use Rattle.indexmap.proofs.CallerLemmas.{insert_entry-new}
-use Rattle.graph_load.specs.Places.{AddLabels}
+use Rattle.graph_load.specs.TableIndexes.{AddLabels}
 use Rattle.graph_load.proofs.PlaceLaws.{added_labels, keys_push, lookup_none}
 use Rattle.graph_load.proofs.predicates.Predicates.add.Goals as goal
 

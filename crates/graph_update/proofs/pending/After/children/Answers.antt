@@ -1,6 +1,6 @@
 use Rattle.std.proofs.Common.{sym, subst}
-use Rattle.px_spec.specs.Graphs.{has_edge}
-use Rattle.px_spec.specs.Changes.{after}
+use Rattle.graph_spec.specs.Graphs.{has_edge}
+use Rattle.graph_spec.specs.Changes.{after}
 use Rattle.std.proofs.lemmas.Bool.{ne_eqb}
 use Rattle.graph_update.specs.NewChanges.{IsNew, IsNewLink}
 use Rattle.graph_update.specs.Verdicts.{change_of}

@@ -1,6 +1,6 @@
 use Rattle.std.proofs.Common.{◌+◌, ◌-◌, ◌∙◌, arith, sym, ap, subst}
-use Rattle.px_spec.specs.Changes.{after}
-use Rattle.label_graph.specs.Views.{edge_count}
+use Rattle.graph_spec.specs.Changes.{after}
+use Rattle.label_graph.specs.GraphViews.{edge_count}
 use Rattle.graph_update.specs.NewChanges.{IsNew, IsNewLink, IsNewUnlink}
 use Rattle.graph_update.specs.Verdicts.{change_of}
 use Rattle.graph_update.specs.PendingChanges.{Pending, graph_after}

@@ -1,7 +1,7 @@
 use Rattle.std.proofs.Common.{◌≡◌, ◌∙◌, ap, sym, subst, length}
 use Rattle.std.specs.Prelude.{IsTrue, slice_get, bytes_eq, position, option_and_then}
-use Rattle.px_spec.specs.Graphs.{is_live}
-use Rattle.px_spec.specs.Changes.{with_label, after}
+use Rattle.graph_spec.specs.Graphs.{is_live}
+use Rattle.graph_spec.specs.Changes.{with_label, after}
 use Rattle.graph_update.specs.Verdicts.{change_of}
 use Rattle.graph_update.specs.PendingChanges.{graph_after}
 use Rattle.graph_update.proofs.ChangedLabels.{live-old, live-kept, text-old, text-kept, number-old, number-kept, label-new}
@@ -24,14 +24,14 @@ label-requires c =
 pub returns-in-Node-clause-text : goal.returns-in-Node-clause-text
 returns-in-Node-clause-text c =
     let graph = c.self.inside.graph.now.graph in
-    let last : c.args.n ≡ length graph.given = c.if-n-created.true ∙ c.created.ensures.count in
+    let last : c.args.n ≡ length graph.allocated = c.if-n-created.true ∙ c.created.ensures.count in
     rw (← c.self.view_is) (rw c.in-Node.is (
     ap (λ s. slice_get (with_label s c.in-Node.label) c.label_number.result) (sym c.self.invariant.seen) ∙ c.label_number.ensures.text ∙ sym (label-new graph c.in-Node.label c.args.n last)))
 
 pub returns-in-Node-clause-number : goal.returns-in-Node-clause-number
 returns-in-Node-clause-number c =
     let graph = c.self.inside.graph.now.graph in
-    let last : c.args.n ≡ length graph.given = c.if-n-created.true ∙ c.created.ensures.count in
+    let last : c.args.n ≡ length graph.allocated = c.if-n-created.true ∙ c.created.ensures.count in
     rw (← c.self.view_is) (rw c.in-Node.is (
     ap (option_and_then (λ t. position (bytes_eq t) (with_label graph.seen c.in-Node.label))) (label-new graph c.in-Node.label c.args.n last)
     ∙ ap (λ s. position (bytes_eq c.in-Node.label) (with_label s c.in-Node.label)) (sym c.self.invariant.seen) ∙ c.label_number.ensures.number))

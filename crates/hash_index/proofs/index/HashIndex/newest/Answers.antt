@@ -1,8 +1,8 @@
 use Rattle.std.proofs.Common.{◌≡◌, ◌∙◌, ap, arith, length}
 use Rattle.std.proofs.lemmas.List.{length-map}
 use Rattle.hash_index.specs.Slots.{hashes_of, links_of}
-use Rattle.hash_index.specs.Chains.{bucket_of, head_at}
-use Rattle.hash_index.proofs.Walks.{walk_all}
+use Rattle.hash_index.specs.HashChains.{bucket_of, head_at}
+use Rattle.hash_index.proofs.ChainWalks.{walk_all}
 use Rattle.hash_index.proofs.index.HashIndex.newest.Goals as goal
 
 pub returns : goal.returns

@@ -2,8 +2,8 @@ use Rattle.std.proofs.Common.{◌≡◌, ◌<◌, ◌∙◌, ap, arith, length}
 use Rattle.std.proofs.lemmas.List.{length-map}
 use Rattle.hash_index.specs.Items.{hash_at}
 use Rattle.hash_index.specs.Slots.{hashes_of, links_of}
-use Rattle.hash_index.specs.Chains.{link_at}
-use Rattle.hash_index.proofs.Walks.{walk_below}
+use Rattle.hash_index.specs.HashChains.{link_at}
+use Rattle.hash_index.proofs.ChainWalks.{walk_below}
 use Rattle.hash_index.proofs.index.HashIndex.older.Goals as goal
 
 pub returns : goal.returns

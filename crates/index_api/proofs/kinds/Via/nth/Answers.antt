@@ -1,5 +1,5 @@
 use Rattle.std.proofs.Common.{◌+◌, ◌-◌, sym, arith}
-use Rattle.index_api.proofs.Listed.{level_stands, one_stands, fb_stands, nothing_past}
+use Rattle.index_api.proofs.ListedIndexes.{level_stands, one_stands, fb_stands, nothing_past}
 use Rattle.index_api.proofs.kinds.Via.nth.Goals as goal
 
 pub returns-then-n-k : goal.returns-then-n-k

@@ -4,7 +4,7 @@ use Rattle.keyed_quotient.specs.Changes.{KeyedChanges}
 use Rattle.std.specs.List.{IsDistinct}
 use Rattle.std.specs.Map.{keys_of}
 use Rattle.std.specs.Prelude.{nat_eq}
-use Rattle.keyed_quotient.proofs.Shown.{further_found, further_absent}
+use Rattle.keyed_quotient.proofs.DraftedKeys.{further_found, further_absent}
 use Rattle.keyed_quotient.proofs.drafting.KeyedDraft.further.Goals as goal
 
 pub returns-in-None-clause-absent : goal.returns-in-None-clause-absent

@@ -1,14 +1,14 @@
 use Rattle.std.proofs.Common.{ℕ, List, ◌≡◌, Some, length, ◌∙◌, ap, sym, subst, ◌++◌, ◌∷◌, []}
 use Rattle.std.specs.List.{zip}
-use Rattle.keyed_quotient.specs.Levels.{KeyedQuotient}
+use Rattle.keyed_quotient.specs.KeyedQuotients.{KeyedQuotient}
 use Rattle.keyed_quotient.specs.Changes.{KeyedChanges, IsKeyedOver, shown_key}
 use Rattle.keyed_quotient.specs.Numberings.{block_keys}
-use Rattle.keyed_quotient.proofs.Shown.{fresh_absent, free_number, key_more, over_more, zip_more}
+use Rattle.keyed_quotient.proofs.DraftedKeys.{fresh_absent, free_number, key_more, over_more, zip_more}
 use Rattle.keyed_quotient.proofs.drafting.KeyedDraft.new_block.Goals as goal
 
 pub note-requires-clause-absent : goal.note-requires-clause-absent
 note-requires-clause-absent c =
-    let q : KeyedQuotient = record { quotient = c.base.inside.summary; keys = block_keys c.base.inside.summary.blocks.labels c.base.inside.numbers; room = record { known = c.base.inside.numbers.table; span = length c.base.inside.numbers.number_of } } in
+    let q : KeyedQuotient = record { quotient = c.base.inside.summary; keys = block_keys c.base.inside.summary.blocks.labels c.base.inside.numbers; reserved = record { known = c.base.inside.numbers.table; span = length c.base.inside.numbers.number_of } } in
     let d : KeyedChanges = record { drafted = c.self.inside.draft; keys = zip c.self.inside.blocks.items c.self.inside.keys } in
     let o : IsKeyedOver q d = subst (λ (x : KeyedQuotient). IsKeyedOver x d) (sym c.base.view_is) (subst (IsKeyedOver c.args.base.now) (sym c.self.view_is) c.requires.over) in
     let fresh : (b : ℕ) → shown_key q d b ≡ Some c.args.key.now → ⊥ =
@@ -18,7 +18,7 @@ note-requires-clause-absent c =
 
 pub returns-in-Ok-clause-keys : goal.returns-in-Ok-clause-keys
 returns-in-Ok-clause-keys c =
-    let q : KeyedQuotient = record { quotient = c.base.inside.summary; keys = block_keys c.base.inside.summary.blocks.labels c.base.inside.numbers; room = record { known = c.base.inside.numbers.table; span = length c.base.inside.numbers.number_of } } in
+    let q : KeyedQuotient = record { quotient = c.base.inside.summary; keys = block_keys c.base.inside.summary.blocks.labels c.base.inside.numbers; reserved = record { known = c.base.inside.numbers.table; span = length c.base.inside.numbers.number_of } } in
     let d : KeyedChanges = record { drafted = c.self.inside.draft; keys = zip c.self.inside.blocks.items c.self.inside.keys } in
     let o : IsKeyedOver q d = subst (λ (x : KeyedQuotient). IsKeyedOver x d) (sym c.base.view_is) (subst (IsKeyedOver c.args.base.now) (sym c.self.view_is) c.requires.over) in
     let fresh : (b : ℕ) → shown_key q d b ≡ Some c.args.key.now → ⊥ =
@@ -33,7 +33,7 @@ returns-in-Ok-clause-keys c =
 
 pub returns-in-Ok-clause-over : goal.returns-in-Ok-clause-over
 returns-in-Ok-clause-over c =
-    let q : KeyedQuotient = record { quotient = c.base.inside.summary; keys = block_keys c.base.inside.summary.blocks.labels c.base.inside.numbers; room = record { known = c.base.inside.numbers.table; span = length c.base.inside.numbers.number_of } } in
+    let q : KeyedQuotient = record { quotient = c.base.inside.summary; keys = block_keys c.base.inside.summary.blocks.labels c.base.inside.numbers; reserved = record { known = c.base.inside.numbers.table; span = length c.base.inside.numbers.number_of } } in
     let d : KeyedChanges = record { drafted = c.self.inside.draft; keys = zip c.self.inside.blocks.items c.self.inside.keys } in
     let o : IsKeyedOver q d = subst (λ (x : KeyedQuotient). IsKeyedOver x d) (sym c.base.view_is) (subst (IsKeyedOver c.args.base.now) (sym c.self.view_is) c.requires.over) in
     let fresh : (b : ℕ) → shown_key q d b ≡ Some c.args.key.now → ⊥ =

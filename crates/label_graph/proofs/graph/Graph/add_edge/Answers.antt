@@ -1,12 +1,12 @@
 use Rattle.std.proofs.Common.{subst, sym, ap, ◌∙◌, arith, ◌<◌, ◌^◌}
 use Rattle.std.specs.FinSet as set
-use Rattle.px_spec.specs.Graphs.{has_edge}
-use Rattle.px_spec.specs.Changes.{with_edge}
-use Rattle.label_graph.specs.Held.{no_room}
+use Rattle.graph_spec.specs.Graphs.{has_edge}
+use Rattle.graph_spec.specs.Changes.{with_edge}
+use Rattle.label_graph.specs.ReservedGraphs.{none_reserved}
 use Rattle.label_graph.specs.Soundness.{IsSoundGraph}
 use Rattle.label_graph.proofs.Additions.{sound-edge, edge-added}
 use Rattle.label_graph.proofs.EdgeLists.{has_edge-children}
-use Rattle.label_graph.proofs.NewNodes.{pair-shown}
+use Rattle.label_graph.proofs.NewNodes.{pair-effective}
 use Rattle.label_graph.proofs.graph.Graph.add_edge.Goals as goal
 
 pub invariant_of-self : goal.invariant_of-self
@@ -14,7 +14,7 @@ invariant_of-self c =
     let s = c.self.inside in
     let u = c.args.u in
     let v = c.args.v in
-    let is = pair-shown s.labels s.room u v (ap (λ h. h.room) c.self.view_is ∙ c.requires.room) in
+    let is = pair-effective s.labels s.reserved u v (ap (λ h. h.reserved) c.self.view_is ∙ c.requires.reserved) in
     let sound = subst (λ r. IsSoundGraph s.labels s.nodes.nodes s.nodes.capacity s.edge_count s.node_count r) is c.self.invariant in
     let absent = sym (has_edge-children s.nodes.nodes u v) ∙ ap (λ h. has_edge h.graph u v) c.self.view_is ∙ c.requires.absent in
     let few = subst (λ h. set.len h.graph.edges < 2 ^ 30) (sym c.self.view_is) c.requires.few in
@@ -26,8 +26,8 @@ returns c =
     let s = c.self.inside in
     let u = c.args.u in
     let v = c.args.v in
-    let is = pair-shown s.labels s.room u v (ap (λ h. h.room) c.self.view_is ∙ c.requires.room) in
+    let is = pair-effective s.labels s.reserved u v (ap (λ h. h.reserved) c.self.view_is ∙ c.requires.reserved) in
     let sound = subst (λ r. IsSoundGraph s.labels s.nodes.nodes s.nodes.capacity s.edge_count s.node_count r) is c.self.invariant in
-    ap (λ g. record { graph = g; room = no_room }) (edge-added s.labels s.nodes.nodes c.push_edge.new.self.nodes s.nodes.capacity s.edge_count s.node_count u v sound
+    ap (λ g. record { graph = g; reserved = none_reserved }) (edge-added s.labels s.nodes.nodes c.push_edge.new.self.nodes s.nodes.capacity s.edge_count s.node_count u v sound
     c.push_edge.ensures.labels c.push_edge.ensures.children c.push_edge.ensures.parents)
-    ∙ ap (λ h. record { graph = with_edge h.graph u v; room = no_room }) c.self.view_is
+    ∙ ap (λ h. record { graph = with_edge h.graph u v; reserved = none_reserved }) c.self.view_is

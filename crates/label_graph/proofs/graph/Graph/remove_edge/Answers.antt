@@ -1,8 +1,8 @@
 use Rattle.std.proofs.Common.{sym, ap, ◌∙◌, arith, subst, true, ◌≡◌, ◌-◌}
-use Rattle.px_spec.specs.Graphs.{has_edge}
-use Rattle.px_spec.specs.Changes.{without_edge}
-use Rattle.px_spec.specs.Members.{has}
-use Rattle.label_graph.specs.Held.{graph_by, no_room}
+use Rattle.graph_spec.specs.Graphs.{has_edge}
+use Rattle.graph_spec.specs.Changes.{without_edge}
+use Rattle.graph_spec.specs.Members.{has}
+use Rattle.label_graph.specs.ReservedGraphs.{graph_by, none_reserved}
 use Rattle.label_graph.specs.Nodes.{children_of}
 use Rattle.label_graph.specs.declared.node.Reserved.TheVariants.{Nothing}
 use Rattle.label_graph.specs.Soundness.{IsSoundGraph}
@@ -35,12 +35,12 @@ invariant_of-self c =
     let new = c.remove_edge.new.self in
     let there = sym (has_edge-children s.nodes.nodes c.args.u c.args.v) ∙ ap (λ h. has_edge h.graph c.args.u c.args.v) c.self.view_is ∙ c.requires.present in
     subst (λ x. IsSoundGraph x new.nodes new.capacity (s.edge_count - 1) s.node_count Nothing) (sym c.clear.ensures)
-    (sound-less s.nodes.nodes new.nodes c.args.u c.args.v c.remove_edge.ensures s.labels s.nodes.capacity s.edge_count s.node_count s.room new.capacity c.self.invariant there)
+    (sound-less s.nodes.nodes new.nodes c.args.u c.args.v c.remove_edge.ensures s.labels s.nodes.capacity s.edge_count s.node_count s.reserved new.capacity c.self.invariant there)
 
 pub returns : goal.returns
 returns c =
     let s = c.self.inside in
     let new = c.remove_edge.new.self in
-    ap (λ x. record { graph = graph_by x new.nodes; room = no_room }) c.clear.ensures
-    ∙ ap (λ g. record { graph = g; room = no_room }) (edge-taken s.nodes.nodes new.nodes c.args.u c.args.v c.remove_edge.ensures s.labels)
-    ∙ ap (λ h. record { graph = without_edge h.graph c.args.u c.args.v; room = no_room }) c.self.view_is
+    ap (λ x. record { graph = graph_by x new.nodes; reserved = none_reserved }) c.clear.ensures
+    ∙ ap (λ g. record { graph = g; reserved = none_reserved }) (edge-taken s.nodes.nodes new.nodes c.args.u c.args.v c.remove_edge.ensures s.labels)
+    ∙ ap (λ h. record { graph = without_edge h.graph c.args.u c.args.v; reserved = none_reserved }) c.self.view_is

@@ -14,4 +14,4 @@ invariant_of-self-2 c =
     let next = subst (λ x. IsNext x.ahead (length x.texts) l) c.in_ok-number.ensures.ahead c.in_ok-number.ensures.next in
     subst (λ x. IsSoundGraph x c.reserve_node.new.self.nodes more s.edge_count s.node_count (Label l)) (sym c.in_ok-number.ensures.ahead)
     (subst (λ x. IsSoundGraph (with_ahead s.labels c.args.label.now) x more s.edge_count s.node_count (Label l)) (sym c.reserve_node.ensures.same)
-    (sound-label s.labels s.edge_count s.node_count s.nodes.nodes s.nodes.capacity s.room c.self.invariant c.args.label.now more l spare next))
+    (sound-label s.labels s.edge_count s.node_count s.nodes.nodes s.nodes.capacity s.reserved c.self.invariant c.args.label.now more l spare next))

@@ -13,4 +13,4 @@ returns-then-l-self c = λ h.
     let read = slice_get_read s.table.keys (length s.table.keys) l x refl (omega (arith, c.if-l-self.true, c.self.invariant.within)) (c.index-as_slice-l.is ∙ ap (λ ks. get_or ks l x) c.as_slice.ensures.keys) in
     let same : x ≡ c.args.t.now = (bytes_eq-Decides x c.args.t.now).0 (sym c.eq.ensures ∙ h) in
     rw (← c.self.view_is)
-    (position-take-some (bytes_eq c.args.t.now) s.table.keys s.shown l (position-at s.table.keys l c.args.t.now c.self.invariant.once (read ∙ ap Some same)) c.if-l-self.true)
+    (position-take-some (bytes_eq c.args.t.now) s.table.keys s.effective l (position-at s.table.keys l c.args.t.now c.self.invariant.once (read ∙ ap Some same)) c.if-l-self.true)

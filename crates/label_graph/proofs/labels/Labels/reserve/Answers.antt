@@ -2,7 +2,7 @@ use Rattle.std.proofs.Common.{◌∙◌, ap, sym, None, Some, append-nil, length
 use Rattle.std.specs.Prelude.{slice_get, bytes_eq, if◌then◌else◌}
 use Rattle.label_graph.specs.LabelTable.{LabelTable, entries}
 use Rattle.label_graph.proofs.Positions.{position-none, present, text-at}
-use Rattle.px_spec.proofs.ListLemmas.{get_seam}
+use Rattle.graph_spec.proofs.ListLemmas.{get_seam}
 use Rattle.label_graph.proofs.labels.Labels.reserve.Goals as goal
 
 pub put_ahead-requires : goal.put_ahead-requires

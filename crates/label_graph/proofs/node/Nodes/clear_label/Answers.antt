@@ -1,7 +1,7 @@
 use Rattle.std.proofs.Common.{None, ◌∙◌, ap, arith, length, ◌<◌}
 use Rattle.std.proofs.lemmas.List.{map-set, length-map}
 use Rattle.label_graph.specs.Nodes.{labels_of, children_of, parents_of}
-use Rattle.label_graph.specs.Rows.{node_in, nodes_in}
+use Rattle.label_graph.specs.NodeRows.{node_in, nodes_in}
 use Rattle.label_graph.proofs.SetNodes.{children-set_kept, parents-set_kept}
 use Rattle.label_graph.proofs.RowLemmas.{held-label, below-seen, children-seen, parents-seen}
 use Rattle.label_graph.proofs.node.Nodes.clear_label.Goals as goal

@@ -1,9 +1,9 @@
 use Rattle.std.proofs.Common.{◌<◌, length, ap, arith, subst, sym}
 use Rattle.std.proofs.lemmas.List.{length-map}
-use Rattle.label_graph.specs.Rows.{node_in}
-use Rattle.label_graph.specs.Nodes.{HasRoom}
+use Rattle.label_graph.specs.NodeRows.{node_in}
+use Rattle.label_graph.specs.Nodes.{HasReserved}
 use Rattle.label_graph.proofs.RowLemmas.{child-within}
-use Rattle.label_graph.proofs.RowEdges.{child-room, second-within, parent-room, held-twice, children-pushed, parents-pushed, labels-same}
+use Rattle.label_graph.proofs.RowEdges.{child-reserved, second-within, parent-reserved, held-twice, children-pushed, parents-pushed, labels-same}
 use Rattle.label_graph.proofs.node.Nodes.push_edge.Goals as goal
 
 pub push-requires-clause-within : goal.push-requires-clause-within
@@ -12,11 +12,11 @@ push-requires-clause-within c =
     let from : c.args.u < length s.rows.items = omega (arith, c.requires.from, ap (λ l. length l.nodes) c.self.view_is, length-map s.rows.items (node_in s.cells.items)) in
     child-within s.cells.items s.rows.items c.args.u c.index_mut.result.now from c.index_mut.ensures.value c.self.invariant
 
-pub push-requires-clause-room : goal.push-requires-clause-room
-push-requires-clause-room c =
+pub push-requires-clause-reserved : goal.push-requires-clause-reserved
+push-requires-clause-reserved c =
     let s = c.self.inside in
     let from : c.args.u < length s.rows.items = omega (arith, c.requires.from, ap (λ l. length l.nodes) c.self.view_is, length-map s.rows.items (node_in s.cells.items)) in
-    child-room s.cells.items s.rows.items c.args.u c.index_mut.result.now from c.index_mut.ensures.value c.self.invariant c.args.v (subst (λ l. HasRoom l.nodes c.args.u c.args.v) (sym c.self.view_is) c.requires.room)
+    child-reserved s.cells.items s.rows.items c.args.u c.index_mut.result.now from c.index_mut.ensures.value c.self.invariant c.args.v (subst (λ l. HasReserved l.nodes c.args.u c.args.v) (sym c.self.view_is) c.requires.reserved)
 
 pub push-requires-2-clause-within : goal.push-requires-2-clause-within
 push-requires-2-clause-within c =
@@ -25,12 +25,12 @@ push-requires-2-clause-within c =
     let onto : c.args.v < length s.rows.items = omega (arith, c.requires.onto, ap (λ l. length l.nodes) c.self.view_is, length-map s.rows.items (node_in s.cells.items)) in
     second-within s.cells.items s.rows.items c.args.u c.index_mut.result.now from c.index_mut.ensures.value c.self.invariant c.push.new.cells.items c.push.new.segment c.push.ensures.writes c.args.v c.index_mut-2.result.now onto c.index_mut-2.ensures.value
 
-pub push-requires-2-clause-room : goal.push-requires-2-clause-room
-push-requires-2-clause-room c =
+pub push-requires-2-clause-reserved : goal.push-requires-2-clause-reserved
+push-requires-2-clause-reserved c =
     let s = c.self.inside in
     let from : c.args.u < length s.rows.items = omega (arith, c.requires.from, ap (λ l. length l.nodes) c.self.view_is, length-map s.rows.items (node_in s.cells.items)) in
     let onto : c.args.v < length s.rows.items = omega (arith, c.requires.onto, ap (λ l. length l.nodes) c.self.view_is, length-map s.rows.items (node_in s.cells.items)) in
-    parent-room s.cells.items s.rows.items c.args.u c.index_mut.result.now from c.index_mut.ensures.value c.self.invariant c.push.new.cells.items c.push.new.segment c.push.ensures.writes c.args.v c.index_mut-2.result.now onto c.index_mut-2.ensures.value (subst (λ l. HasRoom l.nodes c.args.u c.args.v) (sym c.self.view_is) c.requires.room)
+    parent-reserved s.cells.items s.rows.items c.args.u c.index_mut.result.now from c.index_mut.ensures.value c.self.invariant c.push.new.cells.items c.push.new.segment c.push.ensures.writes c.args.v c.index_mut-2.result.now onto c.index_mut-2.ensures.value (subst (λ l. HasReserved l.nodes c.args.u c.args.v) (sym c.self.view_is) c.requires.reserved)
 
 pub invariant_of-self : goal.invariant_of-self
 invariant_of-self c =

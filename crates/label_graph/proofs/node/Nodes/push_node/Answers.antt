@@ -1,7 +1,7 @@
 use Rattle.std.proofs.Common.{◌∙◌, ap, sym, subst, refl}
 use Rattle.std.proofs.lemmas.List.{map-append}
 use Rattle.label_graph.specs.Nodes.{children_of, parents_of}
-use Rattle.label_graph.specs.Rows.{AreHeld, node_in, nodes_in}
+use Rattle.label_graph.specs.NodeRows.{AreHeld, node_in, nodes_in}
 use Rattle.label_graph.proofs.GetNodes.{children-push, parents-push}
 use Rattle.label_graph.proofs.RowLemmas.{held-push}
 use Rattle.label_graph.proofs.node.Nodes.push_node.Goals as goal
@@ -10,7 +10,7 @@ pub invariant_of-self : goal.invariant_of-self
 invariant_of-self c =
     let s = c.self.inside in
     subst (AreHeld s.cells.items) (sym c.push_reserved.ensures.items)
-    (held-push s.cells.items s.rows.items _ (record { len = refl; room = refl }) (record { len = refl; room = refl }) c.self.invariant)
+    (held-push s.cells.items s.rows.items _ (record { len = refl; reserved = refl }) (record { len = refl; reserved = refl }) c.self.invariant)
 
 pub returns-clause-children : goal.returns-clause-children
 returns-clause-children c w =

@@ -1,6 +1,6 @@
 use Rattle.std.proofs.Common.{◌<◌, length, ap, arith, subst, sym}
 use Rattle.std.proofs.lemmas.List.{length-map}
-use Rattle.label_graph.specs.Rows.{node_in}
+use Rattle.label_graph.specs.NodeRows.{node_in}
 use Rattle.std.specs.Prelude.{nat_eq}
 use Rattle.std.specs.List.{IsDistinct}
 use Rattle.label_graph.specs.Nodes.{children_of, parents_of}

@@ -1,8 +1,8 @@
 use Rattle.std.proofs.Common.{◌<◌, length, ap, arith}
 use Rattle.std.proofs.lemmas.List.{length-map}
-use Rattle.label_graph.specs.Rows.{node_in}
+use Rattle.label_graph.specs.NodeRows.{node_in}
 use Rattle.label_graph.proofs.RowLemmas.{child-within}
-use Rattle.label_graph.proofs.RowEdges.{held-once, same-first, second-within, held-twice, same-second, edge-room}
+use Rattle.label_graph.proofs.RowEdges.{held-once, same-first, second-within, held-twice, same-second, edge-reserved}
 use Rattle.label_graph.proofs.node.Nodes.reserve_edge.Goals as goal
 
 pub make_place-requires : goal.make_place-requires
@@ -58,9 +58,9 @@ returns-clause-same c =
     let onto : c.args.v < length s.rows.items = omega (arith, c.requires.onto, ap (λ l. length l.nodes) c.self.view_is, length-map s.rows.items (node_in s.cells.items)) in
     rw (← c.self.view_is) (same-second s.cells.items s.rows.items c.args.u c.index_mut.result.now from c.index_mut.ensures.value c.self.invariant c.make_place.new.cells.items c.make_place.new.segment c.make_place.ensures.writes c.args.v c.index_mut-2.result.now onto c.index_mut-2.ensures.value c.make_place-2.new.cells.items c.make_place-2.new.segment c.make_place-2.ensures.writes c.make_place.ensures.items c.make_place.ensures.capacity c.make_place-2.ensures.items c.make_place-2.ensures.capacity)
 
-pub returns-clause-room : goal.returns-clause-room
-returns-clause-room c =
+pub returns-clause-reserved : goal.returns-clause-reserved
+returns-clause-reserved c =
     let s = c.self.inside in
     let from : c.args.u < length s.rows.items = omega (arith, c.requires.from, ap (λ l. length l.nodes) c.self.view_is, length-map s.rows.items (node_in s.cells.items)) in
     let onto : c.args.v < length s.rows.items = omega (arith, c.requires.onto, ap (λ l. length l.nodes) c.self.view_is, length-map s.rows.items (node_in s.cells.items)) in
-    edge-room s.cells.items s.rows.items c.args.u c.index_mut.result.now from c.index_mut.ensures.value c.self.invariant c.make_place.new.cells.items c.make_place.new.segment c.make_place.ensures.writes c.args.v c.index_mut-2.result.now onto c.index_mut-2.ensures.value c.make_place-2.new.cells.items c.make_place-2.new.segment c.make_place-2.ensures.writes c.make_place.ensures.items c.make_place.ensures.capacity c.make_place-2.ensures.items c.make_place-2.ensures.capacity c.in_ok-make_place.ensures.ok c.in_ok-make_place-2.ensures.ok
+    edge-reserved s.cells.items s.rows.items c.args.u c.index_mut.result.now from c.index_mut.ensures.value c.self.invariant c.make_place.new.cells.items c.make_place.new.segment c.make_place.ensures.writes c.args.v c.index_mut-2.result.now onto c.index_mut-2.ensures.value c.make_place-2.new.cells.items c.make_place-2.new.segment c.make_place-2.ensures.writes c.make_place.ensures.items c.make_place.ensures.capacity c.make_place-2.ensures.items c.make_place-2.ensures.capacity c.in_ok-make_place.ensures.ok c.in_ok-make_place-2.ensures.ok

@@ -4,6 +4,6 @@ use Rattle.one_maintain.proofs.kept.Kept.cancel.Goals as goal
 pub invariant_of-self : goal.invariant_of-self
 invariant_of-self c = record {
   kept = c.empty.ensures;
-  roots = c.self.invariant.roots;
-  shown = covers_cleared c.self.inside.base c.empty.new.draft c.self.inside.roots c.empty.ensures c.self.invariant.roots;
+  parentless = c.self.invariant.parentless;
+  shown = covers_cleared c.self.inside.base c.empty.new.draft c.self.inside.parentless c.empty.ensures c.self.invariant.parentless;
 }

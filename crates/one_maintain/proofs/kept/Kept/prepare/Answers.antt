@@ -1,6 +1,6 @@
 use Rattle.std.proofs.Common.{◌≡◌, false, sym, subst, ap, ◌∙◌}
 use Rattle.quotient.specs.Quotients.{view_of}
-use Rattle.one_drafting.specs.OneDrafts.{IsSupported}
+use Rattle.one_update.specs.OneDrafts.{IsSupported}
 use Rattle.one_maintain.specs.KeptQuotients.{KeptQuotient, IsKeptDraft}
 use Rattle.one_maintain.proofs.Staged.{covers_cleared}
 use Rattle.one_maintain.proofs.kept.Kept.prepare.Goals as goal
@@ -16,6 +16,6 @@ invariant_of-self-in-Err g c =
     let unstaged : c.self.inside.staged ≡ false = ap (λ (k : KeptQuotient). k.staged) c.self.view_is ∙ c.requires.unstaged in
     record {
       kept = subst (IsKeptDraft c.fill.new.base c.empty.new.draft) (sym unstaged) c.empty.ensures;
-      roots = c.fill.ensures.covers;
-      shown = covers_cleared c.fill.new.base c.empty.new.draft c.fill.new.roots c.empty.ensures c.fill.ensures.covers;
+      parentless = c.fill.ensures.covers;
+      shown = covers_cleared c.fill.new.base c.empty.new.draft c.fill.new.parentless c.empty.ensures c.fill.ensures.covers;
     }

@@ -1,6 +1,6 @@
 use Rattle.std.proofs.Common.{ap, length, arith}
 use Rattle.path_expr.specs.TreeParts.{alternatives}
-use Rattle.path_expr.specs.Views.{seq_of}
+use Rattle.path_expr.specs.ExprTrees.{seq_of}
 use Rattle.path_expr.proofs.PartLists.{alternatives_len}
 use Rattle.path_expr.proofs.tree.Expr.len.Goals as goal
 

@@ -1,7 +1,7 @@
 use Rattle.std.proofs.Common.{◌≡◌, ◌-◌, ap, sym, subst, length, Some, arith}
 use Rattle.std.specs.Prelude.{slice_get}
 use Rattle.path_expr.specs.TreeParts.{alternatives}
-use Rattle.path_expr.specs.Views.{seq_of, expr_from}
+use Rattle.path_expr.specs.ExprTrees.{seq_of, expr_from}
 use Rattle.path_expr.proofs.PartLists.{alternatives_len, first_alternative, next_alternative}
 use Rattle.path_expr.proofs.tree.Expr.seq.Goals as goal
 

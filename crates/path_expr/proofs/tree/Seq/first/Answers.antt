@@ -1,4 +1,4 @@
-use Rattle.path_expr.specs.Views.{item_of}
+use Rattle.path_expr.specs.ExprTrees.{item_of}
 use Rattle.path_expr.proofs.PartLists.{first_item}
 use Rattle.path_expr.proofs.tree.Seq.first.Goals as goal
 

@@ -1,5 +1,5 @@
 use Rattle.std.proofs.Common.{arith}
-use Rattle.path_expr.specs.Views.{item_of}
+use Rattle.path_expr.specs.ExprTrees.{item_of}
 use Rattle.path_expr.proofs.PartLists.{separators_len, next_item}
 use Rattle.path_expr.proofs.tree.Seq.item.Goals as goal
 

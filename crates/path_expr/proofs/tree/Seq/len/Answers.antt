@@ -1,5 +1,5 @@
 use Rattle.std.proofs.Common.{arith}
-use Rattle.path_expr.specs.Views.{item_of}
+use Rattle.path_expr.specs.ExprTrees.{item_of}
 use Rattle.path_expr.proofs.PartLists.{separators_len}
 use Rattle.path_expr.proofs.tree.Seq.len.Goals as goal
 

@@ -1,5 +1,5 @@
 use Rattle.std.proofs.Common.{arith}
-use Rattle.path_expr.specs.Views.{item_of}
+use Rattle.path_expr.specs.ExprTrees.{item_of}
 use Rattle.path_expr.proofs.PartLists.{separators_len, separator_there}
 use Rattle.path_expr.proofs.tree.Seq.sep.Goals as goal
 

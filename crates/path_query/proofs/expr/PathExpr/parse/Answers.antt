@@ -1,5 +1,5 @@
 use Rattle.std.proofs.Common.{sym}
-use Rattle.path_query.proofs.Again.{again}
+use Rattle.path_query.proofs.PathRoundTrips.{again}
 use Rattle.path_query.proofs.OneText.{spells_one}
 use Rattle.path_query.proofs.Shortness.{narrow}
 use Rattle.path_query.proofs.expr.PathExpr.parse.Goals as goal

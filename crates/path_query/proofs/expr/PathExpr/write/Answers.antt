@@ -1,7 +1,7 @@
 use Rattle.std.proofs.Common.{◌≡◌, ◌++◌, ◌∙◌, sym, subst, ap}
 use Rattle.path_spec.specs.Spelling.{canonical}
 use Rattle.path_query.specs.Parsed.{Spells}
-use Rattle.path_query.specs.Written.{expr_text}
+use Rattle.path_query.specs.PathTexts.{expr_text}
 use Rattle.path_query.proofs.Canon.{canonical_is}
 use Rattle.path_query.proofs.expr.PathExpr.write.Goals as goal
 

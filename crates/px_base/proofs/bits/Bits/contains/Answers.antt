@@ -1,7 +1,7 @@
 use Rattle.std.proofs.Common.{◌<◌, length, arith, sym, ◌∙◌, false}
 use Rattle.std.proofs.lemmas.List.{get_or_read}
 use Rattle.std.proofs.lemmas.Grind.{common_steps}
-use Rattle.px_base.proofs.Places.{places-has}
+use Rattle.px_base.proofs.FlagIndexes.{places-has}
 use Rattle.px_base.proofs.bits.Bits.contains.Goals as goal
 
 pub returns-then-n-len : goal.returns-then-n-len

@@ -1,5 +1,5 @@
 use Rattle.std.proofs.Common.{arith}
-use Rattle.px_base.proofs.Places.{places-below, places-rising}
+use Rattle.px_base.proofs.FlagIndexes.{places-below, places-rising}
 use Rattle.px_base.proofs.bits.Bits.count.Goals as goal
 
 pub returns-clause-rising : goal.returns-clause-rising

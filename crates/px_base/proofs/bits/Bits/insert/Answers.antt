@@ -1,7 +1,7 @@
 use Rattle.std.proofs.Common.{◌<◌, length, length-set, arith, false, true, sym, ◌∙◌}
 use Rattle.std.proofs.Math.ListN.{set}
 use Rattle.std.proofs.lemmas.List.{get_or_read}
-use Rattle.px_base.proofs.Places.{insert-has, insert-kept, places-rising, places-set, places-length}
+use Rattle.px_base.proofs.FlagIndexes.{insert-has, insert-kept, places-rising, places-set, places-length}
 use Rattle.px_base.proofs.bits.Bits.insert.Goals as goal
 
 pub returns-then-index-clause-members : goal.returns-then-index-clause-members

@@ -1,6 +1,6 @@
 use Rattle.std.proofs.Common.{◌≡◌, ◌∙◌, ap, sym, length, vec_len, arith}
 use Rattle.px_base.specs.BitSets.{places_from}
-use Rattle.px_base.proofs.Places.{places-none}
+use Rattle.px_base.proofs.FlagIndexes.{places-none}
 use Rattle.px_base.proofs.bits.Bits.new.Goals as goal
 
 pub invariant_of-result : goal.invariant_of-result

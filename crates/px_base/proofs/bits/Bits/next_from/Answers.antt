@@ -1,5 +1,5 @@
 use Rattle.std.proofs.Common.{arith}
-use Rattle.px_base.proofs.Places.{next-Some, next-head-Some, next-None, next-head-None}
+use Rattle.px_base.proofs.FlagIndexes.{next-Some, next-head-Some, next-None, next-head-None}
 use Rattle.px_base.proofs.bits.Bits.next_from.Goals as goal
 
 pub returns-in-Some-clause-next : goal.returns-in-Some-clause-next

@@ -1,7 +1,7 @@
 use Rattle.std.proofs.Common.{◌<◌, length, arith, false, sym, ◌∙◌}
 use Rattle.std.proofs.Math.ListN.{set}
 use Rattle.std.proofs.lemmas.List.{get_or_read}
-use Rattle.px_base.proofs.Places.{remove-has, remove-kept, places-rising, places-cleared}
+use Rattle.px_base.proofs.FlagIndexes.{remove-has, remove-kept, places-rising, places-cleared}
 use Rattle.px_base.proofs.bits.Bits.remove.Goals as goal
 
 pub returns-then-not-index-clause-members : goal.returns-then-not-index-clause-members

@@ -1,6 +1,6 @@
 use Rattle.std.proofs.Common.{◌<◌, length, arith, ap}
 use Rattle.std.proofs.lemmas.List.{length-map}
-use Rattle.quotient.specs.Kept.{KeptLists}
+use Rattle.quotient.specs.QuotientTables.{KeptLists}
 use Rattle.quotient.proofs.Pairs.{pushed_at}
 use Rattle.quotient.proofs.block_neighbours.BlockNeighbours.push.Goals as goal
 

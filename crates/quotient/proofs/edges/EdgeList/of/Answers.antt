@@ -1,5 +1,5 @@
 use Rattle.std.proofs.Common.{arith}
-use Rattle.quotient.proofs.Listed.{listed_none, listed_all, listed_few}
+use Rattle.quotient.proofs.EdgeLists.{listed_none, listed_all, listed_few}
 use Rattle.quotient.proofs.edges.EdgeList.of.Goals as goal
 
 pub loop-n-init : goal.loop-n-init

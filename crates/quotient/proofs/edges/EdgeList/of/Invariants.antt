@@ -1,4 +1,4 @@
-use Rattle.quotient.specs.Joined.{AreListedBelow}
+use Rattle.quotient.specs.QuotientNeighbours.{AreListedBelow}
 use Rattle.quotient.proofs.edges.EdgeList.of.Given as goal
 
 abbrev pub invariant-loop-n : goal.invariant-loop-n

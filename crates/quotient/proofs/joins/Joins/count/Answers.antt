@@ -1,24 +1,24 @@
 use Rattle.std.proofs.Common.{sym, ◌∙◌}
-use Rattle.bisim_spec.specs.Views.{support_at}
+use Rattle.bisim_spec.specs.IndexGraphs.{support_at}
 use Rattle.quotient.proofs.Looked.{support_with}
-use Rattle.quotient.proofs.Near.{near_more, near_first, zero_from, some_from}
+use Rattle.quotient.proofs.NeighbourListLaws.{neighbour_lists_more, neighbour_lists_first, zero_from, some_from}
 use Rattle.quotient.proofs.joins.Joins.count.Goals as goal
 
 pub returns-in_ok-push-2-clause-supports : goal.returns-in_ok-push-2-clause-supports
 returns-in_ok-push-2-clause-supports c = λ x y. rw (c.push_place.ensures, c.in_ok-raise.ensures.raised) (support_with c.args.self.now.supports.pairs c.args.a c.args.b x y)
 
-pub returns-in_ok-push-2-clause-near : goal.returns-in_ok-push-2-clause-near
-returns-in_ok-push-2-clause-near c =
+pub returns-in_ok-push-2-clause-neighbour_lists : goal.returns-in_ok-push-2-clause-neighbour_lists
+returns-in_ok-push-2-clause-neighbour_lists c =
     let old = c.args.self.now in
     let none = zero_from (support_at old.supports.pairs c.args.a c.args.b) (sym c.in_ok-raise.ensures.first ∙ c.if-branch.true) in
     rw (c.push_place.ensures, c.in_ok-raise.ensures.raised, c.in_ok-push.ensures, c.in_ok-push-2.ensures)
-    (near_first old.supports.pairs old.children.lists old.parents.lists c.args.a c.args.b none c.requires.from c.requires.onto c.requires.near)
+    (neighbour_lists_first old.supports.pairs old.children.lists old.parents.lists c.args.a c.args.b none c.requires.from c.requires.onto c.requires.neighbour_lists)
 
 pub returns-else-branch-clause-supports : goal.returns-else-branch-clause-supports
 returns-else-branch-clause-supports c = λ x y. rw c.in_ok-raise.ensures.raised (support_with c.args.self.now.supports.pairs c.args.a c.args.b x y)
 
-pub returns-else-branch-clause-near : goal.returns-else-branch-clause-near
-returns-else-branch-clause-near c =
+pub returns-else-branch-clause-neighbour_lists : goal.returns-else-branch-clause-neighbour_lists
+returns-else-branch-clause-neighbour_lists c =
     let old = c.args.self.now in
     let some = some_from (support_at old.supports.pairs c.args.a c.args.b) (sym c.in_ok-raise.ensures.first ∙ c.if-branch.false) in
-    rw c.in_ok-raise.ensures.raised (near_more old.supports.pairs old.children.lists old.parents.lists c.args.a c.args.b some c.requires.near)
+    rw c.in_ok-raise.ensures.raised (neighbour_lists_more old.supports.pairs old.children.lists old.parents.lists c.args.a c.args.b some c.requires.neighbour_lists)

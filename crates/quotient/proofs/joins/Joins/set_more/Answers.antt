@@ -1,11 +1,11 @@
 use Rattle.std.proofs.Common.{◌≡◌, ◌<◌, ◌∙◌, refl, sym, subst, arith, true}
 use Rattle.std.specs.Prelude.{nat_lt}
 use Rattle.std.proofs.lemmas.Bool.Decides.{nat_tests}
-use Rattle.bisim_spec.specs.Views.{SupportTable}
-use Rattle.quotient.specs.Joined.{AreNear, is_supported}
-use Rattle.quotient.specs.Kept.{IsWritten}
-use Rattle.quotient.proofs.Rooms.{uses_none}
-use Rattle.quotient.proofs.Taken.{near_still}
+use Rattle.bisim_spec.specs.IndexGraphs.{SupportTable}
+use Rattle.quotient.specs.QuotientNeighbours.{AreNeighbourLists, is_supported}
+use Rattle.quotient.specs.QuotientTables.{IsWritten}
+use Rattle.quotient.proofs.ReservedCapacity.{uses_none}
+use Rattle.quotient.proofs.Taken.{neighbour_lists_still}
 use Rattle.quotient.proofs.joins.Joins.set_more.Goals as goal
 
 pub returns-then-n-eq0 : goal.returns-then-n-eq0
@@ -26,10 +26,10 @@ returns-else-n-eq0 c =
     let was : is_supported old.supports.pairs c.args.a c.args.b ≡ true = grind (arith, nat_tests, some) in
     record {
       pairs = c.set.ensures.pairs;
-      pair_room = c.set.ensures.room;
-      near = subst (λ (t : SupportTable). AreNear t cs ps) (sym c.set.ensures.pairs) (near_still old.supports.pairs cs ps c.args.a c.args.b c.args.n (yes ∙ sym was) c.requires.near);
+      pair_reserved = c.set.ensures.reserved;
+      neighbour_lists = subst (λ (t : SupportTable). AreNeighbourLists t cs ps) (sym c.set.ensures.pairs) (neighbour_lists_still old.supports.pairs cs ps c.args.a c.args.b c.args.n (yes ∙ sym was) c.requires.neighbour_lists);
       length_children = refl;
       length_parents = refl;
-      child_room = uses_none c.args.a old.children.room;
-      parent_room = uses_none c.args.b old.parents.room;
+      child_reserved = uses_none c.args.a old.children.reserved;
+      parent_reserved = uses_none c.args.b old.parents.reserved;
     }

@@ -1,7 +1,7 @@
 use Rattle.std.proofs.Common.{◌≡◌, ◌∙◌, ℕ}
 use Rattle.std.proofs.lemmas.Result.{IfOk-weaker}
 use Rattle.bisim_spec.specs.Supports.{support}
-use Rattle.bisim_spec.specs.Views.{support_at}
+use Rattle.bisim_spec.specs.IndexGraphs.{support_at}
 use Rattle.quotient.specs.Quotients.{Quotient}
 use Rattle.quotient.proofs.summary.Summary.of.Goals as goal
 

@@ -1,6 +1,6 @@
 use Rattle.std.proofs.Common.{sym, subst}
 use Rattle.std.specs.Prelude.{IsSome}
-use Rattle.px_spec.specs.Members.{at}
+use Rattle.graph_spec.specs.Members.{at}
 use Rattle.quotient.specs.Quotients.{Quotient}
 use Rattle.quotient.proofs.Edited.{sound_written}
 use Rattle.quotient.proofs.summary.Summary.set_support.Goals as goal

@@ -1,6 +1,6 @@
 use Rattle.std.proofs.Common.{ap, unwrap_or}
 use Rattle.quotient.proofs.Looked.{found_in}
-use Rattle.quotient.specs.Kept.{KeptPairs}
+use Rattle.quotient.specs.QuotientTables.{KeptPairs}
 use Rattle.quotient.proofs.supports.Supports.get.Goals as goal
 
 pub returns-in-Some : goal.returns-in-Some

@@ -1,6 +1,6 @@
 use Rattle.std.proofs.Common.{ap}
 use Rattle.std.specs.FinMap as map
-use Rattle.px_spec.specs.Graphs.{edge_cmp}
+use Rattle.graph_spec.specs.Graphs.{edge_cmp}
 use Rattle.quotient.proofs.Looked.{positive_none}
 use Rattle.quotient.proofs.supports.Supports.new.Goals as goal
 

@@ -1,7 +1,7 @@
 use Rattle.std.proofs.Common.{sym, ◌∙◌, ap}
 use Rattle.std.specs.FinMap as map
 use Rattle.quotient.proofs.Looked.{entries_len, pairs_all}
-use Rattle.quotient.specs.Kept.{KeptPairs}
+use Rattle.quotient.specs.QuotientTables.{KeptPairs}
 use Rattle.quotient.proofs.supports.Supports.pairs.Goals as goal
 
 pub returns : goal.returns

@@ -1,12 +1,12 @@
 use Rattle.std.proofs.Common.{◌≡◌, ◌+◌, ◌∙◌, Some, unwrap_or, subst, sym, ap, arith}
 use Rattle.std.specs.Prelude.{nat_eq}
 use Rattle.std.specs.FinMap as map
-use Rattle.bisim_spec.specs.Views.{SupportTable, support_at}
+use Rattle.bisim_spec.specs.IndexGraphs.{SupportTable, support_at}
 use Rattle.indexmap.specs.IndexMap.{with_value_at}
 use Rattle.indexmap.proofs.CallerLemmas.{updates-with_value_at}
-use Rattle.quotient.specs.Joined.{IsPositive}
+use Rattle.quotient.specs.QuotientNeighbours.{IsPositive}
 use Rattle.quotient.proofs.Looked.{same_laws, written, twice, stands_put, positive_with, found_in, supported_not_zero}
-use Rattle.quotient.specs.Kept.{KeptPairs}
+use Rattle.quotient.specs.QuotientTables.{KeptPairs}
 use Rattle.quotient.proofs.supports.Supports.raise.Goals as goal
 
 pub overflow_add-count : goal.overflow_add-count

@@ -1,7 +1,7 @@
 use Rattle.std.proofs.Common.{◌∙◌, sym, subst, ap}
 use Rattle.std.specs.FinMap as map
-use Rattle.quotient.specs.Joined.{IsPositive}
-use Rattle.quotient.specs.Kept.{KeptPairs}
+use Rattle.quotient.specs.QuotientNeighbours.{IsPositive}
+use Rattle.quotient.specs.QuotientTables.{KeptPairs}
 use Rattle.quotient.proofs.Taken.{removed, positive_removed}
 use Rattle.quotient.proofs.supports.Supports.remove.Goals as goal
 

@@ -6,8 +6,8 @@ abbrev pub invariant-loop-i : goal.invariant-loop-i
 invariant-loop-i l = record {
   labels : l.base.blocks.labels ≡ with_added l.initial.base.blocks.labels (take l.i l.self-inside.blocks.entries);
   blocks : l.base.blocks.block_of ≡ l.initial.base.blocks.block_of;
-  nodes : l.base.blocks.room.nodes ≡ l.initial.base.blocks.room.nodes;
+  nodes : l.base.blocks.reserved.nodes ≡ l.initial.base.blocks.reserved.nodes;
   supports : l.base.supports ≡ l.initial.base.supports;
-  pairs : l.base.room ≡ l.initial.base.room;
-  rest : l.base.blocks.room.blocks + l.i ≡ l.initial.base.blocks.room.blocks;
+  pairs : l.base.reserved ≡ l.initial.base.reserved;
+  rest : l.base.blocks.reserved.blocks + l.i ≡ l.initial.base.blocks.reserved.blocks;
 }

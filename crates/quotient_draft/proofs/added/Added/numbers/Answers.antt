@@ -1,5 +1,5 @@
 use Rattle.std.proofs.Common.{◌∙◌, ℕ, List, sym, ap}
-use Rattle.px_spec.specs.Members.{at, has}
+use Rattle.graph_spec.specs.Members.{at, has}
 use Rattle.quotient_draft.specs.Drafts.{with_added}
 use Rattle.quotient_draft.proofs.Scanned.{added_absent}
 use Rattle.quotient_draft.proofs.Touched.{unkeyed}

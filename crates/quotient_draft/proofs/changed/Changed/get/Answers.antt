@@ -1,7 +1,7 @@
 use Rattle.std.proofs.Common.{◌∙◌, ℕ, List, sym, ap, unwrap_or}
-use Rattle.bisim_spec.specs.Views.{support_at}
+use Rattle.bisim_spec.specs.IndexGraphs.{support_at}
 use Rattle.quotient_draft.specs.Drafts.{with_supports}
-use Rattle.quotient_draft.proofs.Written.{at_supports}
+use Rattle.quotient_draft.proofs.DraftedMoves.{at_supports}
 use Rattle.quotient_draft.proofs.changed.Changed.get.Goals as goal
 
 pub returns-in-Some : goal.returns-in-Some

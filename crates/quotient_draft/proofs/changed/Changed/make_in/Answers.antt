@@ -1,11 +1,11 @@
 use Rattle.std.proofs.Common.{◌∙◌, arith, sym, subst, ap}
 use Rattle.std.specs.Prelude.{IsSome}
 use Rattle.std.specs.Map.{lookup, keys_of}
-use Rattle.px_spec.specs.Members.{at}
-use Rattle.block_partition.specs.Partitions.{Partition}
+use Rattle.graph_spec.specs.Members.{at}
+use Rattle.block_partition.specs.LabelledPartitions.{Partition}
 use Rattle.quotient_draft.specs.Drafts.{is_pair}
 use Rattle.quotient_draft.proofs.AppliedDrafts.{supports_next}
-use Rattle.quotient_draft.proofs.PairCounts.{key_at, room_here, room_used}
+use Rattle.quotient_draft.proofs.PairCounts.{key_at, reserved_here, reserved_used}
 use Rattle.quotient_draft.proofs.changed.Changed.make_in.Goals as goal
 
 pub set_support-requires-clause-from : goal.set_support-requires-clause-from
@@ -21,12 +21,12 @@ set_support-requires-clause-onto c =
 pub set_support-requires-clause-children : goal.set_support-requires-clause-children
 set_support-requires-clause-children c =
     let es = c.self.inside.pairs.entries in
-    room_here (λ p. p.0) (keys_of es) c.loop-i.i c.in-Some.p.now c.loop-i.base.room.children (key_at es c.loop-i.i c.in-Some.p.now c.in-Some.n.now (sym c.in-Some.ensures.entry)) c.loop-i.invariant.children
+    reserved_here (λ p. p.0) (keys_of es) c.loop-i.i c.in-Some.p.now c.loop-i.base.reserved.children (key_at es c.loop-i.i c.in-Some.p.now c.in-Some.n.now (sym c.in-Some.ensures.entry)) c.loop-i.invariant.children
 
 pub set_support-requires-clause-parents : goal.set_support-requires-clause-parents
 set_support-requires-clause-parents c =
     let es = c.self.inside.pairs.entries in
-    room_here (λ p. p.1) (keys_of es) c.loop-i.i c.in-Some.p.now c.loop-i.base.room.parents (key_at es c.loop-i.i c.in-Some.p.now c.in-Some.n.now (sym c.in-Some.ensures.entry)) c.loop-i.invariant.parents
+    reserved_here (λ p. p.1) (keys_of es) c.loop-i.i c.in-Some.p.now c.loop-i.base.reserved.parents (key_at es c.loop-i.i c.in-Some.p.now c.in-Some.n.now (sym c.in-Some.ensures.entry)) c.loop-i.invariant.parents
 
 pub loop-i-preserved : goal.loop-i-preserved
 loop-i-preserved c =
@@ -40,6 +40,6 @@ loop-i-preserved c =
       blocks = c.set_support.ensures.blocks ∙ inv.blocks;
       supports = supports_next c.args.base.now.supports c.loop-i.base.supports c.set_support.new.self.supports es c.loop-i.i c.in-Some.n.now c.in-Some.p.now entry inv.supports c.set_support.ensures.supports;
       pairs = omega (arith, pairs, used);
-      children = room_used (λ p. p.0) (keys_of es) c.loop-i.i c.in-Some.p.now c.loop-i.base.room.children c.set_support.new.self.room.children key inv.children c.set_support.ensures.children;
-      parents = room_used (λ p. p.1) (keys_of es) c.loop-i.i c.in-Some.p.now c.loop-i.base.room.parents c.set_support.new.self.room.parents key inv.parents c.set_support.ensures.parents;
+      children = reserved_used (λ p. p.0) (keys_of es) c.loop-i.i c.in-Some.p.now c.loop-i.base.reserved.children c.set_support.new.self.reserved.children key inv.children c.set_support.ensures.children;
+      parents = reserved_used (λ p. p.1) (keys_of es) c.loop-i.i c.in-Some.p.now c.loop-i.base.reserved.parents c.set_support.new.self.reserved.parents key inv.parents c.set_support.ensures.parents;
     }

@@ -1,9 +1,9 @@
 use Rattle.std.proofs.Common.{◌∙◌, ℕ, List, sym, ap}
-use Rattle.px_spec.specs.Members.{has}
-use Rattle.bisim_spec.specs.Views.{support_at}
+use Rattle.graph_spec.specs.Members.{has}
+use Rattle.bisim_spec.specs.IndexGraphs.{support_at}
 use Rattle.quotient_draft.specs.Drafts.{with_supports}
 use Rattle.quotient_draft.proofs.Noted.{unlisted_onto}
-use Rattle.quotient_draft.proofs.Written.{supports_absent}
+use Rattle.quotient_draft.proofs.DraftedMoves.{supports_absent}
 use Rattle.quotient_draft.proofs.changed.Changed.parents.Goals as goal
 
 pub returns : goal.returns

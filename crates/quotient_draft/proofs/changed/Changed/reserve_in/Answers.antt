@@ -1,10 +1,10 @@
 use Rattle.std.proofs.Common.{◌<◌, ◌≤◌, ◌∙◌, ℕ, List, length, sym, subst, ap}
 use Rattle.std.specs.Prelude.{slice_index}
 use Rattle.std.specs.Map.{lookup, keys_of}
-use Rattle.quotient.specs.Kept.{GivesMore}
+use Rattle.quotient.specs.QuotientTables.{GivesMore}
 use Rattle.quotient_draft.specs.Drafts.{is_pair}
-use Rattle.quotient_draft.specs.Rooms.{from_count}
-use Rattle.quotient_draft.proofs.PairCounts.{key_at, room_met}
+use Rattle.quotient_draft.specs.ReservedCapacity.{from_count}
+use Rattle.quotient_draft.proofs.PairCounts.{key_at, reserved_met}
 use Rattle.quotient_draft.proofs.Noted.{ends_count}
 use Rattle.quotient_draft.proofs.changed.Changed.reserve_in.Goals as goal
 
@@ -33,10 +33,10 @@ loop-i-preserved c =
       blocks = second.blocks ∙ first.blocks ∙ inv.blocks;
       pairs = second.pairs ∙ first.pairs ∙ inv.pairs;
       span = second.span ∙ first.span ∙ inv.span;
-      children = room_met (λ q. q.0) (keys_of es) c.loop-i.i p c.loop-i.base.room.children c.reserve_parents.new.self.room.children key inv.children
-          (subst (GivesMore c.loop-i.base.room.children) (sym second.children) first.children)
-          (subst (λ (r : List ℕ). from_count (keys_of es) p.0 ≤ slice_index r p.0) (sym second.children) (subst (λ m. m ≤ slice_index c.reserve_children.new.self.room.children p.0) from_is first.ok));
-      parents = room_met (λ q. q.1) (keys_of es) c.loop-i.i p c.loop-i.base.room.parents c.reserve_parents.new.self.room.parents key inv.parents
-          (subst (λ (r : List ℕ). GivesMore r c.reserve_parents.new.self.room.parents) first.parents second.parents)
-          (subst (λ m. m ≤ slice_index c.reserve_parents.new.self.room.parents p.1) onto_is second.ok);
+      children = reserved_met (λ q. q.0) (keys_of es) c.loop-i.i p c.loop-i.base.reserved.children c.reserve_parents.new.self.reserved.children key inv.children
+          (subst (GivesMore c.loop-i.base.reserved.children) (sym second.children) first.children)
+          (subst (λ (r : List ℕ). from_count (keys_of es) p.0 ≤ slice_index r p.0) (sym second.children) (subst (λ m. m ≤ slice_index c.reserve_children.new.self.reserved.children p.0) from_is first.ok));
+      parents = reserved_met (λ q. q.1) (keys_of es) c.loop-i.i p c.loop-i.base.reserved.parents c.reserve_parents.new.self.reserved.parents key inv.parents
+          (subst (λ (r : List ℕ). GivesMore r c.reserve_parents.new.self.reserved.parents) first.parents second.parents)
+          (subst (λ m. m ≤ slice_index c.reserve_parents.new.self.reserved.parents p.1) onto_is second.ok);
     }

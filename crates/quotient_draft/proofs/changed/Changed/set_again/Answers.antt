@@ -2,10 +2,10 @@ use Rattle.std.proofs.Common.{◌∙◌, ℕ, List, Some, sym, subst, ap, cond}
 use Rattle.std.specs.Map.{lookup, keys_of}
 use Rattle.std.specs.Prelude.{IsSome}
 use Rattle.indexmap.proofs.CallerLemmas.{keys-insert_entry-present}
-use Rattle.quotient_draft.specs.Ends.{AreNoted}
-use Rattle.bisim_spec.specs.Views.{support_at}
+use Rattle.quotient_draft.specs.PairEnds.{AreNoted}
+use Rattle.bisim_spec.specs.IndexGraphs.{support_at}
 use Rattle.quotient_draft.specs.Drafts.{with_supports, is_pair}
-use Rattle.quotient_draft.proofs.Written.{supports_written, pair_turned}
+use Rattle.quotient_draft.proofs.DraftedMoves.{supports_written, pair_turned}
 use Rattle.quotient_draft.proofs.changed.Changed.set_again.Goals as goal
 
 pub returns-clause-looked : goal.returns-clause-looked

@@ -3,11 +3,11 @@ use Rattle.std.specs.Map.{lookup, keys_of}
 use Rattle.std.specs.Prelude.{nat_eq}
 use Rattle.std.proofs.lemmas.List.{map-append}
 use Rattle.indexmap.proofs.CallerLemmas.{insert_entry-new}
-use Rattle.quotient_draft.specs.Ends.{ends_from, ends_onto}
+use Rattle.quotient_draft.specs.PairEnds.{ends_from, ends_onto}
 use Rattle.quotient_draft.proofs.Noted.{ends_more}
-use Rattle.bisim_spec.specs.Views.{support_at}
+use Rattle.bisim_spec.specs.IndexGraphs.{support_at}
 use Rattle.quotient_draft.specs.Drafts.{with_supports, is_pair}
-use Rattle.quotient_draft.proofs.Written.{supports_written, pair_turned}
+use Rattle.quotient_draft.proofs.DraftedMoves.{supports_written, pair_turned}
 use Rattle.quotient_draft.proofs.changed.Changed.set_first.Goals as goal
 
 pub returns-clause-looked : goal.returns-clause-looked
@@ -31,9 +31,9 @@ invariant_of-self-2 c =
     record {
       once = c.in_ok-insert.ensures.unique;
       from_are = λ x.
-          c.note.ensures x ∙ ap (λ ys. ys ++ cond (nat_eq x c.args.a) (c.args.b ∷ []) []) (c.make_room.ensures.same x ∙ c.self.invariant.from_are x)
+          c.note.ensures x ∙ ap (λ ys. ys ++ cond (nat_eq x c.args.a) (c.args.b ∷ []) []) (c.reserve_more.ensures.same x ∙ c.self.invariant.from_are x)
           ∙ sym (ends_more (λ q. q.0) (λ q. q.1) (keys_of m.entries) (c.args.a, c.args.b) x) ∙ ap (λ (ks : List (ℕ × ℕ)). ends_from ks x) (sym keys);
       onto_are = λ x.
-          c.note-2.ensures x ∙ ap (λ ys. ys ++ cond (nat_eq x c.args.b) (c.args.a ∷ []) []) (c.make_room-2.ensures.same x ∙ c.self.invariant.onto_are x)
+          c.note-2.ensures x ∙ ap (λ ys. ys ++ cond (nat_eq x c.args.b) (c.args.a ∷ []) []) (c.reserve_more-2.ensures.same x ∙ c.self.invariant.onto_are x)
           ∙ sym (ends_more (λ q. q.1) (λ q. q.0) (keys_of m.entries) (c.args.a, c.args.b) x) ∙ ap (λ (ks : List (ℕ × ℕ)). ends_onto ks x) (sym keys);
     }

@@ -1,6 +1,6 @@
 use Rattle.std.proofs.Common.{◌∙◌, ℕ, List, sym, ap}
-use Rattle.px_spec.specs.Members.{has}
-use Rattle.bisim_spec.specs.Views.{support_at}
+use Rattle.graph_spec.specs.Members.{has}
+use Rattle.bisim_spec.specs.IndexGraphs.{support_at}
 use Rattle.quotient_draft.specs.Drafts.{with_supports}
 use Rattle.quotient_draft.proofs.Touched.{unended}
 use Rattle.quotient_draft.proofs.changed.Changed.targets.Goals as goal

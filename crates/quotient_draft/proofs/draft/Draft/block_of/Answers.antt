@@ -1,7 +1,7 @@
 use Rattle.std.proofs.Common.{◌≡◌, ◌∙◌, ℕ, List, Option, ap, unwrap_or}
 use Rattle.std.specs.Prelude.{nat_eq}
 use Rattle.std.specs.Map.{lookup}
-use Rattle.px_spec.specs.Members.{at}
+use Rattle.graph_spec.specs.Members.{at}
 use Rattle.quotient_draft.specs.Drafts.{Drafted}
 use Rattle.quotient_draft.proofs.Over.{shown_live}
 use Rattle.quotient_draft.proofs.draft.Draft.block_of.Goals as goal

@@ -1,5 +1,5 @@
 use Rattle.std.proofs.Common.{◌≡◌, ◌≢◌, ◌<◌, ◌∙◌, ℕ, sym, subst}
-use Rattle.bisim_spec.specs.Views.{support_at}
+use Rattle.bisim_spec.specs.IndexGraphs.{support_at}
 use Rattle.quotient_draft.specs.Drafts.{Drafted, shown_support, with_supports}
 use Rattle.quotient_draft.proofs.Touched.{other_found, others_none}
 use Rattle.quotient_draft.proofs.draft.Draft.has_other_parent.Goals as goal

@@ -1,6 +1,6 @@
 use Rattle.std.proofs.Common.{sym, subst}
 use Rattle.std.specs.Prelude.{IsSome}
-use Rattle.px_spec.specs.Members.{at}
+use Rattle.graph_spec.specs.Members.{at}
 use Rattle.quotient_draft.specs.Drafts.{Drafted, with_added}
 use Rattle.quotient_draft.specs.Basis.{IsOver}
 use Rattle.quotient_draft.proofs.Over.{over_written}

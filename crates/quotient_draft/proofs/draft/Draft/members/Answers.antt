@@ -1,5 +1,5 @@
 use Rattle.std.proofs.Common.{[], subst, unwrap_or}
-use Rattle.px_spec.specs.Members.{Lists, at, is_this}
+use Rattle.graph_spec.specs.Members.{Lists, at, is_this}
 use Rattle.quotient_draft.specs.Drafts.{Drafted, with_moves}
 use Rattle.quotient_draft.specs.ShownMembers.{members_left}
 use Rattle.quotient_draft.proofs.ShownMembers.{members_listed}

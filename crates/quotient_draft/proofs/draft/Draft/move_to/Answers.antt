@@ -1,7 +1,7 @@
 use Rattle.std.proofs.Common.{◌≡◌, ◌≤◌, ◌^◌, arith, subst, length, unwrap_or}
 use Rattle.std.specs.Prelude.{nat_eq}
 use Rattle.std.specs.Map.{lookup}
-use Rattle.px_spec.specs.Members.{at}
+use Rattle.graph_spec.specs.Members.{at}
 use Rattle.quotient_draft.specs.Drafts.{Drafted, with_moves}
 use Rattle.quotient_draft.proofs.Spans.{node_small}
 use Rattle.quotient_draft.proofs.draft.Draft.move_to.Goals as goal

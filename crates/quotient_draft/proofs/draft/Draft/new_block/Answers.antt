@@ -1,5 +1,5 @@
 use Rattle.std.proofs.Common.{◌∙◌, ◌<◌, ◌^◌, sym, subst, ap, count_by, is_some}
-use Rattle.block_partition.specs.Partitions.{put}
+use Rattle.block_partition.specs.LabelledPartitions.{put}
 use Rattle.quotient_draft.specs.Drafts.{Drafted, with_added}
 use Rattle.quotient_draft.specs.Basis.{IsOver}
 use Rattle.quotient_draft.proofs.Scanned.{added_more}

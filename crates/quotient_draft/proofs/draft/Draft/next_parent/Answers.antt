@@ -1,6 +1,6 @@
 use Rattle.std.proofs.Common.{ℕ, List, Bool, ◌||◌, false, nat_lt, ap, subst}
-use Rattle.px_spec.specs.Members.{has}
-use Rattle.bisim_spec.specs.Views.{support_at}
+use Rattle.graph_spec.specs.Members.{has}
+use Rattle.bisim_spec.specs.IndexGraphs.{support_at}
 use Rattle.quotient_draft.specs.Drafts.{Drafted, with_supports}
 use Rattle.quotient_draft.specs.Nexts.{IsNext}
 use Rattle.quotient_draft.proofs.Nearest.{next_none, next_near}

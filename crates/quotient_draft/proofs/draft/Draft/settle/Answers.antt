@@ -1,12 +1,12 @@
 use Rattle.std.proofs.Common.{◌≡◌, ◌∙◌, ℕ, List, Option, arith, sym, subst, ap, length}
 use Rattle.std.specs.Prelude.{IsSome}
-use Rattle.px_spec.specs.Members.{at}
-use Rattle.block_partition.specs.Partitions.{Partition}
-use Rattle.bisim_spec.specs.Views.{SupportTable}
+use Rattle.graph_spec.specs.Members.{at}
+use Rattle.block_partition.specs.LabelledPartitions.{Partition}
+use Rattle.bisim_spec.specs.IndexGraphs.{SupportTable}
 use Rattle.quotient.specs.Quotients.{view_of}
 use Rattle.quotient_draft.specs.Drafts.{Drafted, with_moves, with_supports, settled_view}
 use Rattle.quotient_draft.specs.Basis.{IsOver}
-use Rattle.quotient_draft.specs.Rooms.{HasRoomFor}
+use Rattle.quotient_draft.specs.ReservedCapacity.{HasRoomFor}
 use Rattle.quotient_draft.specs.Retired.{IsRetired}
 use Rattle.quotient_draft.proofs.Settled.{settled_is}
 use Rattle.quotient_draft.proofs.draft.Draft.settle.Goals as goal
@@ -19,9 +19,9 @@ make_in-requires-3-clause-blocks c = λ n b e.
 
 pub make_in-requires-3-clause-nodes : goal.make_in-requires-3-clause-nodes
 make_in-requires-3-clause-nodes c = λ n b e.
-    let r = subst (HasRoomFor c.args.base.now) (sym c.self.view_is) c.requires.room in
+    let r = subst (HasRoomFor c.args.base.now) (sym c.self.view_is) c.requires.reserved in
     let list = ap (λ (p : Partition). length p.block_of) c.make_in-2.ensures.blocks ∙ ap (λ (bs : List (Option ℕ)). length bs) c.make_in.ensures.blocks in
-    let nodes = ap (λ (p : Partition). p.room.nodes) c.make_in-2.ensures.blocks ∙ c.make_in.ensures.nodes in
+    let nodes = ap (λ (p : Partition). p.reserved.nodes) c.make_in-2.ensures.blocks ∙ c.make_in.ensures.nodes in
     let below = r.nodes n b e in
     omega (arith, below, list, nodes)
 

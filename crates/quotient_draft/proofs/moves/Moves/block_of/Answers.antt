@@ -1,8 +1,8 @@
 use Rattle.std.proofs.Common.{◌∙◌, sym, ap, unwrap_or}
-use Rattle.px_spec.specs.Members.{at}
+use Rattle.graph_spec.specs.Members.{at}
 use Rattle.quotient_draft.specs.Drafts.{with_moves}
-use Rattle.quotient_draft.specs.Kept.{KeptMoves}
-use Rattle.quotient_draft.proofs.Written.{at_moves}
+use Rattle.quotient_draft.specs.MoveTables.{KeptMoves}
+use Rattle.quotient_draft.proofs.DraftedMoves.{at_moves}
 use Rattle.quotient_draft.proofs.moves.Moves.block_of.Goals as goal
 
 pub returns-in-Some-clause-block : goal.returns-in-Some-clause-block

@@ -1,10 +1,10 @@
 use Rattle.std.proofs.Common.{◌≡◌, subst, unwrap_or}
 use Rattle.std.specs.Prelude.{nat_eq}
 use Rattle.std.specs.Map.{lookup}
-use Rattle.px_spec.specs.Members.{at}
+use Rattle.graph_spec.specs.Members.{at}
 use Rattle.quotient_draft.specs.Drafts.{with_moves}
-use Rattle.quotient_draft.specs.Kept.{KeptMoves}
-use Rattle.quotient_draft.proofs.Written.{at_moves}
+use Rattle.quotient_draft.specs.MoveTables.{KeptMoves}
+use Rattle.quotient_draft.proofs.DraftedMoves.{at_moves}
 use Rattle.quotient_draft.proofs.moves.Moves.know_lookups.Goals as goal
 
 pub returns : goal.returns

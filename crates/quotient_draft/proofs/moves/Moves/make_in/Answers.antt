@@ -1,8 +1,8 @@
 use Rattle.std.proofs.Common.{◌<◌, ◌+◌, ◌∙◌, ℕ, List, Option, Some, arith, sym, subst, ap, length}
 use Rattle.std.specs.Prelude.{IsSome, nat_eq}
 use Rattle.std.specs.Map.{lookup}
-use Rattle.px_spec.specs.Members.{at}
-use Rattle.quotient_draft.specs.Kept.{KeptMoves}
+use Rattle.graph_spec.specs.Members.{at}
+use Rattle.quotient_draft.specs.MoveTables.{KeptMoves}
 use Rattle.quotient_draft.proofs.AppliedDrafts.{moves_next, if_block, for_block}
 use Rattle.quotient_draft.proofs.moves.Moves.make_in.Goals as goal
 
@@ -16,7 +16,7 @@ pub put-requires-clause-within : goal.put-requires-clause-within
 put-requires-clause-within c =
     let looked = ap (λ (k : KeptMoves). lookup (nat_eq c.in-Some.n.now) k.moves) (sym c.self.view_is) ∙ c.in-Some.ensures.value in
     let top = c.loop-i.invariant.top in
-    for_block c.in-Some.b.now (c.in-Some.n.now < length c.loop-i.base.blocks.block_of + c.loop-i.base.blocks.room.nodes) (λ b e.
+    for_block c.in-Some.b.now (c.in-Some.n.now < length c.loop-i.base.blocks.block_of + c.loop-i.base.blocks.reserved.nodes) (λ b e.
     let below = c.requires.nodes c.in-Some.n.now b (looked ∙ ap (λ (v : Option ℕ). Some v) e) in
     omega (arith, below, top))
 

@@ -2,9 +2,9 @@ use Rattle.std.proofs.Common.{◌≡◌, ◌≤◌, ◌<◌, ◌^◌, ℕ, Optio
 use Rattle.std.specs.Prelude.{nat_eq}
 use Rattle.std.specs.Map.{lookup}
 use Rattle.std.proofs.lemmas.List.Sums.{count_by-le-length}
-use Rattle.px_spec.specs.Members.{is_this}
+use Rattle.graph_spec.specs.Members.{is_this}
 use Rattle.quotient_draft.specs.Drafts.{with_moves}
-use Rattle.quotient_draft.specs.Kept.{KeptMoves, AreTaken}
+use Rattle.quotient_draft.specs.MoveTables.{KeptMoves, AreTaken}
 use Rattle.quotient_draft.proofs.ShownCounts.{shown_count, shown_few}
 use Rattle.quotient_draft.proofs.moves.Moves.member_count.Goals as goal
 

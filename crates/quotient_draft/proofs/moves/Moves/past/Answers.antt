@@ -1,7 +1,7 @@
 use Rattle.std.proofs.Common.{◌<◌, ◌^◌, ◌∙◌, ℕ, Option, Some, arith, sym, ap}
 use Rattle.std.specs.Prelude.{nat_eq}
 use Rattle.std.specs.Map.{lookup}
-use Rattle.quotient_draft.specs.Kept.{KeptMoves}
+use Rattle.quotient_draft.specs.MoveTables.{KeptMoves}
 use Rattle.quotient_draft.proofs.AppliedDrafts.{before_none, before_next, before_all, for_block}
 use Rattle.quotient_draft.proofs.moves.Moves.past.Goals as goal
 

@@ -1,7 +1,7 @@
 use Rattle.std.proofs.Common.{◌≡◌, ◌||◌, ◌&&◌, ℕ}
 use Rattle.std.specs.Prelude.{is_none, nat_eq}
 use Rattle.std.specs.Map.{lookup}
-use Rattle.px_spec.specs.Members.{has}
+use Rattle.graph_spec.specs.Members.{has}
 use Rattle.quotient_draft.specs.PutLogs.{is_kept}
 use Rattle.quotient_draft.proofs.moves.Moves.push_kept.Given as goal
 

@@ -1,7 +1,7 @@
 use Rattle.std.proofs.Common.{◌≡◌, ◌||◌, ◌&&◌, ◌+◌, ◌-◌, ◌∙◌, suc, Bool, arith, sym, subst, ap, cond, take, length}
 use Rattle.std.specs.Prelude.{nat_eq}
-use Rattle.px_spec.specs.Members.{has}
-use Rattle.quotient_draft.specs.Kept.{KeptMoves}
+use Rattle.graph_spec.specs.Members.{has}
+use Rattle.quotient_draft.specs.MoveTables.{KeptMoves}
 use Rattle.quotient_draft.specs.PutLogs.{has_put, last_put, is_moved_to}
 use Rattle.quotient_draft.proofs.Linked.{last_below, last_fixed, last_goes, list_start, list_next}
 use Rattle.quotient_draft.proofs.moves.Moves.push_moved.Goals as goal

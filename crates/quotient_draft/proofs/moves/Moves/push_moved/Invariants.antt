@@ -1,5 +1,5 @@
 use Rattle.std.proofs.Common.{◌≡◌, ◌≤◌, ◌||◌, ◌&&◌, ℕ, take, length}
-use Rattle.px_spec.specs.Members.{has}
+use Rattle.graph_spec.specs.Members.{has}
 use Rattle.quotient_draft.specs.PutLogs.{has_put, last_put, is_moved_to}
 use Rattle.quotient_draft.proofs.moves.Moves.push_moved.Given as goal
 

@@ -1,10 +1,10 @@
 use Rattle.std.proofs.Common.{◌≡◌, ◌∙◌, Option, ℕ, sym, subst, ap, unwrap_or}
 use Rattle.std.specs.Prelude.{OnOk}
 use Rattle.std.proofs.lemmas.Result.{IfOk-weaker}
-use Rattle.px_spec.specs.Members.{at}
+use Rattle.graph_spec.specs.Members.{at}
 use Rattle.quotient_draft.specs.Drafts.{with_moves, with_left}
-use Rattle.quotient_draft.specs.Kept.{KeptMoves}
-use Rattle.quotient_draft.proofs.Written.{at_moves}
+use Rattle.quotient_draft.specs.MoveTables.{KeptMoves}
+use Rattle.quotient_draft.proofs.DraftedMoves.{at_moves}
 use Rattle.quotient_draft.proofs.moves.Moves.put.Goals as goal
 
 pub returns-in-Some-clause-left : goal.returns-in-Some-clause-left

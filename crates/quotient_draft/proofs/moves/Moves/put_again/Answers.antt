@@ -2,11 +2,11 @@ use Rattle.std.proofs.Common.{◌∙◌, ℕ, List, Option, Some, sym, subst, ap
 use Rattle.std.specs.Prelude.{nat_eq}
 use Rattle.std.specs.Map.{lookup}
 use Rattle.quotient_draft.proofs.AppliedDrafts.{if_block}
-use Rattle.px_spec.specs.Members.{at, is_this}
+use Rattle.graph_spec.specs.Members.{at, is_this}
 use Rattle.quotient_draft.specs.Drafts.{with_moves}
-use Rattle.quotient_draft.specs.Kept.{KeptMoves, counted, into_count, taken_count, AreTaken}
+use Rattle.quotient_draft.specs.MoveTables.{KeptMoves, counted, into_count, taken_count, AreTaken}
 use Rattle.quotient_draft.proofs.ShownCounts.{value_count, key_count, length_again, moved_counted, put_more}
-use Rattle.quotient_draft.proofs.Written.{moves_written, number_turned}
+use Rattle.quotient_draft.proofs.DraftedMoves.{moves_written, number_turned}
 use Rattle.quotient_draft.proofs.moves.Moves.put_again.Goals as goal
 
 pub returns-clause-shown : goal.returns-clause-shown

@@ -2,12 +2,12 @@ use Rattle.std.proofs.Common.{◌∙◌, ℕ, List, Option, Some, sym, subst, ap
 use Rattle.std.specs.Prelude.{nat_eq}
 use Rattle.std.specs.Map.{lookup}
 use Rattle.indexmap.proofs.CallerLemmas.{insert_entry-new}
-use Rattle.px_spec.specs.Members.{at, is_this}
-use Rattle.quotient.specs.Joined.{one_if}
+use Rattle.graph_spec.specs.Members.{at, is_this}
+use Rattle.quotient.specs.QuotientNeighbours.{one_if}
 use Rattle.quotient_draft.specs.Drafts.{with_moves}
-use Rattle.quotient_draft.specs.Kept.{KeptMoves, counted, into_count, taken_count, AreTaken}
+use Rattle.quotient_draft.specs.MoveTables.{KeptMoves, counted, into_count, taken_count, AreTaken}
 use Rattle.quotient_draft.proofs.ShownCounts.{count_last, length_last, bit_few, put_more}
-use Rattle.quotient_draft.proofs.Written.{moves_written, number_turned}
+use Rattle.quotient_draft.proofs.DraftedMoves.{moves_written, number_turned}
 use Rattle.quotient_draft.proofs.moves.Moves.put_first.Goals as goal
 
 pub returns-clause-shown : goal.returns-clause-shown

@@ -2,7 +2,7 @@ use Rattle.std.proofs.Common.{◌∙◌, ◌+◌, ◌++◌, ◌∷◌, [], ℕ, 
 use Rattle.std.specs.Prelude.{nat_eq}
 use Rattle.std.specs.Map.{lookup}
 use Rattle.quotient_draft.specs.PutLogs.{AreLinked}
-use Rattle.quotient_draft.proofs.Written.{number_turned}
+use Rattle.quotient_draft.proofs.DraftedMoves.{number_turned}
 use Rattle.quotient_draft.proofs.Linked.{linked_more}
 use Rattle.quotient_draft.proofs.put_log.PutLog.add.Goals as goal
 

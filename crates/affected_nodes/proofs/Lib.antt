@@ -1,0 +1,4 @@
+mod MetChildren
+mod Distances
+pub mod SearchCosts
+mod ReachRounds

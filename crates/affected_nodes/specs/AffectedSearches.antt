@@ -1,0 +1,33 @@
+-- What a search for affected nodes has found.
+use Rattle.std.specs.Prelude.{◌≡◌, ◌⊎◌, ◌+◌, ◌<◌, ◌≤◌, ◌++◌, ℕ, Bool, List, length, take, slice_index, IsTrue, refl}
+use Rattle.std.specs.Coded.{Coded, code_by, coded×, coded_ℕ, coded_list}
+use Rattle.graph_spec.specs.Members.{has, Lists}
+use Rattle.graph_spec.specs.Shapes.{Shape}
+use Rattle.bisim_spec.specs.Reach.{within_distance}
+
+pub record Searched : Type 0 where
+  -- the nodes, in the order of their distance
+  pub nodes : List ℕ
+  -- how many of them are within so many edges
+  pub ends : List ℕ
+
+-- it is stored as its two lists
+abbrev pub searched_code : Coded Searched
+searched_code =
+    code_by (List ℕ × List ℕ) (coded× (coded_list coded_ℕ) (coded_list coded_ℕ)) (λ s. (s.nodes, s.ends)) (λ p. record { nodes = p.0; ends = p.1 })
+    (λ _. refl)
+
+-- the nodes within i edges
+abbrev pub within : Searched → ℕ → List ℕ
+within found i = take (slice_index found.ends i) found.nodes
+
+-- for each number of edges up to k the nodes are found that are within it
+pub record AreWithinDistance (s : Shape) (from : ℕ → Bool) (k : ℕ) (found : Searched) : Type 0 where
+  pub count : length found.ends ≡ k + 1
+  pub each : (i : ℕ) → i ≤ k → Lists (within_distance s from i) (within found i)
+
+-- the children of the first i of the nodes are put behind them
+pub record IsSpread (s : Shape) (nodes : List ℕ) (i : ℕ) (met : List ℕ) : Type 0 where
+  pub prefix : (rest : List ℕ) × (met ≡ nodes ++ rest)
+  pub into : (j n : ℕ) → j < i → IsTrue (s.edge (slice_index nodes j) n) → IsTrue (has met n)
+  pub only : (n : ℕ) → IsTrue (has met n) → IsTrue (has nodes n) ⊎ ((j : ℕ) × (j < i) × IsTrue (s.edge (slice_index nodes j) n))

@@ -1,0 +1,2 @@
+pub mod ReadCosts
+pub mod AffectedSearches

@@ -1,3 +1,0 @@
-mod Columns
-mod Joined
-mod MateLaws

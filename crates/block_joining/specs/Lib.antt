@@ -1,3 +1,0 @@
-pub mod Mates
-pub mod Merged
-pub mod Shown

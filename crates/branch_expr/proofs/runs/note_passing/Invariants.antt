@@ -1,0 +1,11 @@
+use Rattle.std.proofs.Common.{◌≡◌, ◌↔◌, ◌+◌, ◌<◌, ◌≤◌, ℕ, length, take, IsTrue}
+use Rattle.graph_spec.specs.Members.{has}
+use Rattle.path_automaton.specs.NewMarks.{Passes}
+use Rattle.branch_expr.proofs.runs.note_passing.Given as goal
+
+abbrev pub invariant-loop-n : goal.invariant-loop-n
+invariant-loop-n g l = record {
+  length : length l.noted.items ≡ length l.initial.noted.items;
+  within : l.from + l.count ≤ l.n;
+  so_far : (m : ℕ) → IsTrue (has (take l.count l.noted.items) m) ↔ ((l.from ≤ m) × (m < l.n) × Passes (g.G.Digraph.label_at l.g) l.test m);
+}

@@ -1,3 +1,0 @@
-pub mod Axes
-pub mod Automata
-pub mod Images

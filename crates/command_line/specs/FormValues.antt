@@ -1,0 +1,38 @@
+-- What the code's values say, in the words of the definitions.
+use Rattle.std.specs.Prelude.{◌≡◌, ℕ, List, Option, Some, None, Result, IfOk, option_map, true, false}
+use Rattle.clap.specs.Words.{found_of, matches_of, rows_of}
+use Rattle.clap.specs.declared.parser.matches.ArgMatches.{ArgMatches}
+use Rattle.command_line.specs.Forms.{Form, Settings, runs, makes, neither}
+use Rattle.command_line.specs.Givens.{Given, form_given}
+use Rattle.command_line.specs.Words.{command, is_accepted}
+use Rattle.command_line.specs.declared.form.Form.{Form as FormSeen}
+use Rattle.command_line.specs.declared.form.Form.TheVariants.{Run, Make, Neither}
+use Rattle.command_line.specs.declared.form.Settings.{Settings as SettingsSeen}
+use Rattle.command_line.specs.declared.given.Given.{Given as GivenSeen}
+
+abbrev pub settings_value : SettingsSeen → Settings
+settings_value s = record { script = s.script.now; graph = option_map (λ t. t.now) s.graph; k = s.k; without_one = s.without_one; without_fb = s.without_fb }
+
+abbrev pub form_value : FormSeen → Form
+form_value (Run s) = runs (settings_value s)
+form_value (Make seed) = makes seed
+form_value Neither = neither
+
+abbrev pub given_value : GivenSeen → Given
+given_value g = record {
+  script = option_map (λ t. t.now) g.script;
+  graph = option_map (λ t. t.now) g.graph;
+  k = option_map (λ t. t.now) g.k;
+  make = option_map (λ t. t.now) g.make;
+  without_one = g.without_one;
+  without_fb = g.without_fb;
+}
+
+-- the form that is read is the one that these texts and flags give
+abbrev pub IsReadAs : {E : Type 0} → Result FormSeen E → Given → Type 0
+IsReadAs result given = IfOk result (λ f. form_value f ≡ form_given given)
+
+-- clap's matches of the words; none where it refuses them, and only there
+abbrev pub Matches : List (List ℕ) → Option ArgMatches → Type 0
+Matches words None = is_accepted words ≡ false
+Matches words (Some m) = (is_accepted words ≡ true) × (rows_of (found_of m) ≡ matches_of command words)

@@ -1,4 +1,0 @@
-use Rattle.core_tests.proofs.kept_ring_tests.ring_graph.Given as goal
-
-abbrev pub ghosts-graph_of : goal.ghosts-graph_of
-ghosts-graph_of a = record { name = a.blank.name; parts = a.blank.parts }

@@ -1,4 +1,0 @@
-use Rattle.core_tests.proofs.kept_ring_tests.shows.Given as goal
-
-abbrev pub ghosts-is_lawful_in : goal.ghosts-is_lawful_in
-ghosts-is_lawful_in a = record { name = a.blank.name; parts = a.blank.parts }

@@ -1,0 +1,25 @@
+-- The rows of the nodes, and their lists among the cells.
+use Rattle.std.specs.Prelude.{◌≡◌, ◌≢◌, ℕ, List, [], ◌∷◌, Some, length, map, slice_get}
+use Rattle.label_graph.specs.declared.segment.Segment.{Segment}
+use Rattle.label_graph.specs.declared.node.Row.{Row}
+use Rattle.label_graph.specs.Nodes.{Node, NeighbourList}
+use Rattle.label_graph.specs.Segments.{items_in, LiesWithin, IsApart}
+
+-- all lists, each node's children and then its parents
+abbrev pub segments_of : List Row → List Segment
+segments_of [] = []
+segments_of (r ∷ rs) = r.children ∷ r.parents ∷ segments_of rs
+
+-- each list that takes cells lies among them, apart from the others
+pub record AreHeld (cells : List ℕ) (rows : List Row) : Type 0 where
+  pub within : (i : ℕ) (s : Segment) → slice_get (segments_of rows) i ≡ Some s → LiesWithin (length cells) s
+  pub apart : (i j : ℕ) (s t : Segment) → i ≢ j → slice_get (segments_of rows) i ≡ Some s → slice_get (segments_of rows) j ≡ Some t → IsApart s t
+
+abbrev pub list_in : List ℕ → Segment → NeighbourList
+list_in cells s = record { items = items_in cells s; capacity = s.reserved }
+
+abbrev pub node_in : List ℕ → Row → Node
+node_in cells r = record { label = r.label; children = list_in cells r.children; parents = list_in cells r.parents }
+
+abbrev pub nodes_in : List ℕ → List Row → List Node
+nodes_in cells = map (node_in cells)

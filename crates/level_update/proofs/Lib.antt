@@ -1,0 +1,13 @@
+pub mod Blocks
+pub mod MovedNodes
+pub mod DraftLevels
+pub mod PlacingCosts
+pub mod Bases
+pub mod MovedDrafts
+pub mod Unchanged
+pub mod LinkedLevels
+pub mod AddedNodeLevels
+pub mod LoneBlocks
+pub mod GoneLevels
+pub mod Below
+pub mod Aimed

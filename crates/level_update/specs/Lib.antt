@@ -1,0 +1,5 @@
+pub mod MovedLevels
+pub mod Placed
+pub mod LevelCosts
+pub mod FamilyDrafts
+pub mod Stages

@@ -1,0 +1,13 @@
+//! What a change of a graph makes of indexes by levels, as a draft: the affected nodes move between the blocks of each level.
+#![tactic(auto)]
+
+mod buffers;
+mod drafting;
+mod edges;
+mod keys;
+mod level;
+mod moving;
+mod nodes;
+mod placing;
+
+pub use drafting::draft_change;

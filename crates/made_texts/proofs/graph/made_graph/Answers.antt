@@ -1,7 +1,0 @@
-use Rattle.std.proofs.Common.{◌++◌, ◌∙◌, ap}
-use Rattle.made_texts.specs.MadeTexts.{graph_lines, lines_text, made_graph_text}
-use Rattle.made_texts.proofs.graph.made_graph.Goals as goal
-
-pub returns : goal.returns
-unfolding made_graph_text
-returns c = c.from_string.ensures ∙ c.in_ok-push_lines.ensures ∙ ap (λ t. t ++ lines_text (graph_lines 20000 c.args.seed)) c.new-out.ensures.bytes

@@ -1,8 +1,0 @@
-use Rattle.std.proofs.Common.{◌≡◌, ◌++◌, ◌-◌, string_bytes}
-use Rattle.made_texts.specs.MadeTexts.{graph_lines, lines_text}
-use Rattle.made_texts.proofs.graph.push_lines.Given as goal
-
-abbrev pub invariant-loop : goal.invariant-loop
-invariant-loop l =
-    string_bytes l.out ++ lines_text (graph_lines (l.count - l.counter) l.generator.state)
-    ≡ string_bytes l.fn.out ++ lines_text (graph_lines l.count l.fn.generator.state)

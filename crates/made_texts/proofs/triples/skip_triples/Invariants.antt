@@ -1,6 +1,0 @@
-use Rattle.std.proofs.Common.{◌≡◌, ◌-◌}
-use Rattle.made_texts.specs.MadeTexts.{after_lines}
-use Rattle.made_texts.proofs.triples.skip_triples.Given as goal
-
-abbrev pub invariant-loop : goal.invariant-loop
-invariant-loop l = after_lines (l.count - l.counter) l.generator.state ≡ after_lines l.count l.fn.generator.state

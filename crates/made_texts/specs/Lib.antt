@@ -1,3 +1,0 @@
-pub mod Generator
-pub mod MadeTexts
-pub mod Shown

@@ -1,4 +1,0 @@
-mod MetChildren
-mod Distances
-pub mod SearchCosts
-mod Rounds

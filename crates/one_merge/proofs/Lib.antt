@@ -1,0 +1,7 @@
+mod Columns
+mod MergedSupports
+mod MergeTestLaws
+mod MergePairLaws
+mod Counted
+mod MergedNeighbours
+mod ParentlessLaws

@@ -1,0 +1,33 @@
+-- What merging two blocks makes of the supports.
+use Rattle.std.specs.Prelude.{◌≡◌, ℕ, ◌+◌, ◌≤◌, ◌^◌, List, Option, Some, IsSome, nat_eq, if◌then◌else◌, Bool}
+use Rattle.std.specs.FinSet as set
+use Rattle.graph_spec.specs.Members.{at}
+use Rattle.graph_spec.specs.Graphs.{Graph}
+use Rattle.one_spec.specs.EdgeCounts.{AreEdgeCounts}
+
+-- the supports once those to b are added to those to a
+abbrev pub with_column : ℕ → ℕ → (ℕ → ℕ → ℕ) → ℕ → ℕ → ℕ
+with_column a b support x y = if nat_eq y b then 0 else (if nat_eq y a then support x a + support x b else support x y)
+
+-- for each first block that passes, the support to b goes over to a: it is added there, and none is left to b; all other supports stay
+abbrev pub AddsColumn : (ℕ → Bool) → ℕ → ℕ → (ℕ → ℕ → ℕ) → (ℕ → ℕ → ℕ) → Type 0
+AddsColumn passes a b support support2 = (u v : ℕ) → support2 u v ≡ (if passes u then with_column a b support u v else support u v)
+
+-- the supports once those from b are added to those from a
+abbrev pub with_row : ℕ → ℕ → (ℕ → ℕ → ℕ) → ℕ → ℕ → ℕ
+with_row a b support x y = if nat_eq x b then 0 else (if nat_eq x a then support a y + support b y else support x y)
+
+-- for each second block that passes, the support from b goes over to a: it is added there, and none is left from b; all other supports stay
+abbrev pub AddsRow : (ℕ → Bool) → ℕ → ℕ → (ℕ → ℕ → ℕ) → (ℕ → ℕ → ℕ) → Type 0
+AddsRow passes a b support support2 = (u v : ℕ) → support2 u v ≡ (if passes v then with_row a b support u v else support u v)
+
+-- the supports once b is replaced by a
+abbrev pub merged_support : ℕ → ℕ → (ℕ → ℕ → ℕ) → ℕ → ℕ → ℕ
+merged_support a b support = with_row a b (with_column a b support)
+
+-- The supports are those of some graph with at most 2^30 edges, and each block with members has a label.
+pub record HasGraph (block : List (Option ℕ)) (labels : ℕ → Option ℕ) (support : ℕ → ℕ → ℕ) : Type 0 where
+  pub graph : Graph
+  pub supports : AreEdgeCounts graph block support
+  pub few : set.len graph.edges ≤ 2 ^ 30
+  pub live : (n b : ℕ) → at block n ≡ Some b → IsSome (labels b)

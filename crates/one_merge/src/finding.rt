@@ -1,0 +1,328 @@
+// With which block one can be merged.
+ghost use Rattle.std.specs.Prelude.{◌≡◌, ◌≢◌, ◌⊎◌, ◌&&◌, ℕ, Some, None, IsTrue, IsFalse, IfSome, IfNone, IfOk, OnOk, not, nat_eq, false};
+ghost use Rattle.std.specs.List.{list_any};
+ghost use Rattle.graph_spec.specs.Members.{at, has};
+ghost use Rattle.quotient_draft.specs.Drafts.{shown_labels, shown_blocks, shown_support};
+ghost use Rattle.quotient_draft.specs.Basis.{IsOver};
+ghost use Rattle.one_merge.specs.MergeTests.{shown_adjacent};
+ghost use Rattle.one_merge.specs.ShownMerges.{HasShownGraph, AreShownMergeable, AreShownNotMergeable, HasNoOther, ListsOwnChildren, HasBaseSupports};
+ghost use Rattle.one_merge.specs.ParentlessBlocks.{IsNoted, CoversBase};
+
+use crate::members::{children_count, has_members};
+use crate::mergeable_pair::can_merge;
+use crate::parentless::ParentlessBlocks;
+use label_graph::Digraph;
+use px_base::Memory;
+use quotient::Summary;
+use quotient_draft::{Draft, base_children, base_parents};
+use std::alloc::Global;
+
+/// Lists of blocks, in memory that is reused.
+#[derive(Drop)]
+pub(crate) struct Buffers {
+    pub(crate) children: Vec<u32>,
+    pub(crate) others: Vec<u32>,
+}
+
+impl Buffers {
+    pub(crate) fn new(alloc: Global) -> Buffers {
+        Buffers {
+            children: Vec::new(alloc),
+            others: Vec::new(alloc),
+        }
+    }
+}
+
+// Whether the number is that of a block with this label. Blocks of the base keep their labels, so the draft,
+// which is looked up by hash, is asked for others alone.
+fn is_labelled(base: &Summary, draft: &Draft, b: u32, label: u32) -> bool
+    requires over { IsOver base.now.blocks.block_of base.now.blocks.labels draft.now }
+    ensures no { IsFalse result → at (shown_labels base.now draft.now) b ≢ Some label }
+{
+    if base.is_block(b) {
+        return base.label(b) == label;
+    }
+    if !draft.is_block(base, b) {
+        return false;
+    }
+    draft.label(base, b) == label
+}
+
+// Whether one of the blocks is other than these two and in neither list.
+fn any_unshared(blocks: &[u32], a: u32, b: u32, own: &[u32], drafted: &[u32]) -> bool
+    ensures { result ≡ list_any (λ x. (not (nat_eq x a) && not (nat_eq x b)) && (not (has own.now x) && not (has drafted.now x))) blocks.now }
+{
+    blocks.iter().any(|x| (*x != a && *x != b) && (!own.contains(x) && !drafted.contains(x)))
+}
+
+// Whether one of the blocks is other than these two and has no support to a as shown.
+fn any_nonadjacent(blocks: &[u32], base: &Summary, draft: &Draft, a: u32, b: u32) -> bool
+    ensures { result ≡ list_any (λ x. (not (nat_eq x a) && not (nat_eq x b)) && nat_eq (shown_support base.now draft.now x a) 0) blocks.now }
+{
+    blocks.iter().any(|x| (*x != a && *x != b) && draft.support(base, *x, a) == 0)
+}
+
+// Up to how many parents are searched in a list rather than looked up by hash.
+const FEW_PARENTS: usize = 16;
+
+// Whether one of the lists is so long that supports are looked up by hash.
+fn is_long(own: &[u32], drafted: &[u32]) -> bool {
+    own.len().max(drafted.len()) > FEW_PARENTS
+}
+
+// Whether some parent of b isn't a parent of a, where b has the parents that it has in the base. Where a has few parents, only
+// lists are read, so it is the cheapest test of the parents.
+fn has_unshared_parent(base: &Summary, draft: &Draft, a: u32, b: u32) -> bool
+    ensures { IsTrue result → AreShownNotMergeable base.now draft.now a b }
+{
+    if !draft.drafted_parents(b).is_empty() {
+        return false;
+    }
+    let parents = base_parents(base, b);
+    let own = base_parents(base, a);
+    let drafted = draft.drafted_parents(a);
+    if is_long(own, drafted) {
+        return any_nonadjacent(parents, base, draft, a, b);
+    }
+    any_unshared(parents, a, b, own, drafted)
+}
+
+// Whether two blocks, of which the first has members and this label, differ and can be merged. Most blocks have another label or
+// another parent, so these are tested first.
+fn is_mergeable(
+    base: &Summary,
+    draft: &Draft,
+    a: u32,
+    label: u32,
+    b: u32,
+    others: &mut Vec<u32>,
+) -> Result<bool, Memory>
+    requires over { IsOver base.now.blocks.block_of base.now.blocks.labels draft.now }
+    requires graph { HasShownGraph base.now draft.now }
+    requires members { (n : ℕ) × (at (shown_blocks base.now draft.now) n ≡ Some a) }
+    requires label { at (shown_labels base.now draft.now) a ≡ Some label }
+    ensures yes { IfOk result (λ can. IsTrue can → AreShownMergeable base.now draft.now a b) }
+    ensures no { IfOk result (λ can. IsFalse can → AreShownNotMergeable base.now draft.now a b) }
+{
+    if a == b {
+        return Ok(false);
+    }
+    if !is_labelled(base, draft, b, label) {
+        return Ok(false);
+    }
+    if has_unshared_parent(base, draft, a, b) {
+        return Ok(false);
+    }
+    if !has_members(base, draft, b) {
+        return Ok(false);
+    }
+    can_merge(base, draft, a, b, others)
+}
+
+// Whether x is other than a and has support to it as shown.
+fn is_other_parent(base: &Summary, draft: &Draft, a: u32, x: u32) -> bool
+    ensures yes { IsTrue result → (x ≢ a) × IsTrue (shown_adjacent base.now draft.now x a) }
+    ensures no { IsFalse result → IsTrue (shown_adjacent base.now draft.now x a) → x ≡ a }
+{
+    x != a && draft.support(base, x, a) > 0
+}
+
+// Whether there is a block, and it has no more children than x.
+fn is_no_larger(base: &Summary, draft: &Draft, found: Option<u32>, x: u32) -> bool
+    ensures { IsTrue result → found ≢ None }
+{
+    match found {
+        Some(y) => children_count(base, draft, y) <= children_count(base, draft, x),
+        None => false,
+    }
+}
+
+// What was found, or x in place of it where x is another parent of a and has fewer children.
+fn fewer_children(base: &Summary, draft: &Draft, a: u32, found: Option<u32>, x: u32) -> Option<u32>
+    ensures one { (result ≡ found) ⊎ ((result ≡ Some x) × ((x ≢ a) × IsTrue (shown_adjacent base.now draft.now x a))) }
+    ensures none { result ≡ None → (found ≡ None) × (IsTrue (shown_adjacent base.now draft.now x a) → x ≡ a) }
+{
+    if is_no_larger(base, draft, found, x) || !is_other_parent(base, draft, a, x) {
+        return found;
+    }
+    Some(x)
+}
+
+// How many children are so few that no parent with fewer is looked for.
+const FEW: usize = 8;
+
+// Whether there is a block with few children.
+fn has_few_children(base: &Summary, draft: &Draft, found: Option<u32>) -> bool
+    ensures { IsTrue result → found ≢ None }
+{
+    match found {
+        Some(x) => children_count(base, draft, x) <= FEW,
+        None => false,
+    }
+}
+
+// Another parent of a among what was found and these blocks: one with few children, or else the one with the fewest.
+fn other_among(
+    base: &Summary,
+    draft: &Draft,
+    a: u32,
+    first: Option<u32>,
+    blocks: &[u32],
+) -> Option<u32>
+    requires first { IfSome first (λ x. (x ≢ a) × IsTrue (shown_adjacent base.now draft.now x a)) }
+    ensures some { IfSome result (λ x. (x ≢ a) × IsTrue (shown_adjacent base.now draft.now x a)) }
+    ensures none { result ≡ None → (first ≡ None) × HasNoOther base.now draft.now blocks.now a }
+{
+    let mut found = first;
+    for i in 0..blocks.len() {
+        if has_few_children(base, draft, found) {
+            return found;
+        }
+        found = fewer_children(base, draft, a, found, blocks[i]);
+    }
+    found
+}
+
+// A block other than a that has support to it: one with few children, or else the one with the fewest.
+fn other_parent(base: &Summary, draft: &Draft, a: u32) -> Option<u32>
+    ensures some { IfSome result (λ x. (x ≢ a) × IsTrue (shown_adjacent base.now draft.now x a)) }
+    ensures none { result ≡ None → (x : ℕ) → IsTrue (shown_adjacent base.now draft.now x a) → x ≡ a }
+{
+    let found = other_among(base, draft, a, None, base_parents(base, a));
+    other_among(base, draft, a, found, draft.drafted_parents(a))
+}
+
+// A block among these with which the first can be merged.
+fn find_among(
+    base: &Summary,
+    draft: &Draft,
+    a: u32,
+    blocks: &[u32],
+    others: &mut Vec<u32>,
+) -> Result<Option<u32>, Memory>
+    requires over { IsOver base.now.blocks.block_of base.now.blocks.labels draft.now }
+    requires graph { HasShownGraph base.now draft.now }
+    requires members { (n : ℕ) × (at (shown_blocks base.now draft.now) n ≡ Some a) }
+    ensures some { IfOk result (λ found. IfSome found (AreShownMergeable base.now draft.now a)) }
+    ensures none { IfOk result (λ found. IfNone found ((b : ℕ) → IsTrue (has blocks.now b) → AreShownNotMergeable base.now draft.now a b)) }
+{
+    let label = draft.label(base, a);
+    for i in 0..blocks.len() {
+        if is_mergeable(base, draft, a, label, blocks[i], others)? {
+            return Ok(Some(blocks[i]));
+        }
+    }
+    Ok(None)
+}
+
+// Lists the children of a block that has support to itself, and nothing of another one.
+fn fill_own_children(
+    base: &Summary,
+    draft: &Draft,
+    a: u32,
+    list: &mut Vec<u32>,
+) -> Result<(), Memory>
+    ensures { OnOk result (ListsOwnChildren base.now draft.now a list.new.items) }
+{
+    if draft.support(base, a, a) > 0 {
+        return draft.fill_children(base, a, list);
+    }
+    list.clear();
+    Ok(())
+}
+
+// Lists the blocks that may be merged with a block that has no other parent than itself: its children where it is one of them,
+// the blocks noted for its label, and the blocks that the draft touches.
+fn fill_candidates(
+    base: &Summary,
+    draft: &Draft,
+    parentless: &ParentlessBlocks,
+    a: u32,
+    label: u32,
+    list: &mut Vec<u32>,
+) -> Result<(), Memory>
+    ensures children { OnOk result (ListsOwnChildren base.now draft.now a list.new.items) }
+    ensures noted { OnOk result ((b : ℕ) → IsNoted parentless.now label b → IsTrue (has list.new.items b)) }
+    ensures labels { OnOk result ((b : ℕ) → has list.new.items b ≡ false → at (shown_labels base.now draft.now) b ≡ at base.now.blocks.labels b) }
+    ensures supports { OnOk result (HasBaseSupports base.now draft.now list.new.items) }
+{
+    fill_own_children(base, draft, a, list)?;
+    parentless.add_to(label, list)?;
+    draft.add_touched(list)?;
+    Ok(())
+}
+
+// A block that can be merged with one that has no other parent than itself.
+fn find_mergeable_lone(
+    base: &Summary,
+    draft: &Draft,
+    parentless: &ParentlessBlocks,
+    a: u32,
+    list: &mut Vec<u32>,
+    others: &mut Vec<u32>,
+) -> Result<Option<u32>, Memory>
+    requires over { IsOver base.now.blocks.block_of base.now.blocks.labels draft.now }
+    requires graph { HasShownGraph base.now draft.now }
+    requires covers { CoversBase base.now parentless.now }
+    requires members { (n : ℕ) × (at (shown_blocks base.now draft.now) n ≡ Some a) }
+    requires lone { (x : ℕ) → IsTrue (shown_adjacent base.now draft.now x a) → x ≡ a }
+    ensures some { IfOk result (λ found. IfSome found (AreShownMergeable base.now draft.now a)) }
+    ensures none { IfOk result (λ found. IfNone found ((b : ℕ) → AreShownNotMergeable base.now draft.now a b)) }
+{
+    fill_candidates(base, draft, parentless, a, draft.label(base, a), list)?;
+    find_among(base, draft, a, list, others)
+}
+
+// A block that can be merged with a block, among another parent of it and the children of that one.
+fn find_mergeable_near(
+    base: &Summary,
+    draft: &Draft,
+    a: u32,
+    x: u32,
+    others: &mut Vec<u32>,
+) -> Result<Option<u32>, Memory>
+    requires over { IsOver base.now.blocks.block_of base.now.blocks.labels draft.now }
+    requires graph { HasShownGraph base.now draft.now }
+    requires members { (n : ℕ) × (at (shown_blocks base.now draft.now) n ≡ Some a) }
+    requires parent { (x ≢ a) × IsTrue (shown_adjacent base.now draft.now x a) }
+    ensures some { IfOk result (λ found. IfSome found (AreShownMergeable base.now draft.now a)) }
+    ensures none { IfOk result (λ found. IfNone found ((b : ℕ) → AreShownNotMergeable base.now draft.now a b)) }
+{
+    if is_mergeable(base, draft, a, draft.label(base, a), x, others)? {
+        return Ok(Some(x));
+    }
+    if let Some(b) = find_among(base, draft, a, base_children(base, x), others)? {
+        return Ok(Some(b));
+    }
+    find_among(base, draft, a, draft.drafted_children(x), others)
+}
+
+/// A block that can be merged with this one, where it has members and there is one.
+pub(crate) fn find_mergeable(
+    base: &Summary,
+    draft: &Draft,
+    parentless: &ParentlessBlocks,
+    a: u32,
+    buffers: &mut Buffers,
+) -> Result<Option<u32>, Memory>
+    requires over { IsOver base.now.blocks.block_of base.now.blocks.labels draft.now }
+    requires graph { HasShownGraph base.now draft.now }
+    requires covers { CoversBase base.now parentless.now }
+    ensures some { IfOk result (λ found. IfSome found (AreShownMergeable base.now draft.now a)) }
+    ensures none { IfOk result (λ found. IfNone found ((b : ℕ) → AreShownNotMergeable base.now draft.now a b)) }
+{
+    if !has_members(base, draft, a) {
+        return Ok(None);
+    }
+    match other_parent(base, draft, a) {
+        Some(x) => find_mergeable_near(base, draft, a, x, &mut buffers.others),
+        None => find_mergeable_lone(
+            base,
+            draft,
+            parentless,
+            a,
+            &mut buffers.children,
+            &mut buffers.others,
+        ),
+    }
+}

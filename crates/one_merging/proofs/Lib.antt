@@ -1,4 +1,0 @@
-mod Laws
-mod Counted
-mod Near
-mod Rooted

@@ -1,0 +1,12 @@
+pub mod Sums
+pub mod SplitRounds
+pub mod Goals
+pub mod Unmoved
+pub mod MergedPairs
+pub mod MergeCandidates
+pub mod SetLists
+pub mod UnchangedTarget
+pub mod UnchangedPartition
+pub mod OneSteps
+pub mod SplitThenMerge
+pub mod LabelledBlocks

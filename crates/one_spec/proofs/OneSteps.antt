@@ -1,0 +1,145 @@
+-- A change, then a split, then merges: how the partition of the 1-index moves.
+use Rattle.std.proofs.Common.{◌≡◌, ℕ, ◌⊎◌, List, [], Option, Some, None, IsTrue, IsFalse, is_some, refl, sym, ◌∙◌, ap, inl, inr, true, false, Bool}
+use Rattle.std.specs.Prelude.{◌&&◌, not}
+use Rattle.std.proofs.lemmas.Bool.{cases_Bool, and_parts, and_from, both_ways, false_from_ne_true, not-true, not_from_false}
+use Rattle.graph_spec.specs.Graphs.{Graph}
+use Rattle.graph_spec.specs.Changes.{Change, after}
+use Rattle.graph_spec.specs.Members.{has, at}
+use Rattle.graph_spec.specs.Shapes.{Shape, IsNode, IsShape, shape_of}
+use Rattle.bisim_spec.specs.Partitions.{IsPartition}
+use Rattle.bisim_spec.specs.Stability.{Stable, Minimal}
+use Rattle.bisim_spec.specs.Reach.{reach}
+use Rattle.bisim_spec.proofs.Bisimilar.{is_some_at}
+use Rattle.bisim_spec.proofs.Ranks.{acyclic_full}
+use Rattle.bisim_spec.proofs.Reached.{reach_start, reach_step}
+use Rattle.bisim_spec.proofs.Together.{together_sym, together_some}
+use Rattle.bisim_spec.proofs.Outside.{DiffersAt, SameOutside, outside_reach}
+use Rattle.bisim_spec.specs.Targets.{KeepsBlocks, KeepsParents, target}
+use Rattle.one_spec.specs.Merges.{Merges, AreMergeCandidates}
+use Rattle.bisim_spec.specs.OneStep.{OneStep}
+use Rattle.bisim_spec.proofs.Changed.{live_before}
+use Rattle.one_spec.proofs.MergedPairs.{merges_stable, outside_merges}
+use Rattle.one_spec.proofs.SplitRounds.{stable_at_end}
+use Rattle.one_spec.proofs.MergeCandidates.{unmarked_candidates}
+use Rattle.one_spec.proofs.Unmoved.{IsFiner, IsUnmoved, none_unmoved}
+use Rattle.one_spec.specs.Splits.{IsClosed, IsSplitInside}
+
+-- what is reached is closed under children
+pub reach_closed : (s : Shape) (from : ℕ → Bool) → IsShape s → IsClosed s (reach s from)
+reach_closed s from shape = record { children = λ p n h e. reach_step s shape from p n h e }
+
+-- A partition before a change, the same for the nodes that there are after it, and that once it is split.
+pub record Stages (from : ℕ → Bool) (s s2 : Shape) (p p1 p2 : List (Option ℕ)) (made : List ℕ) : Type 0 where
+  pub shape : IsShape s
+  pub shape2 : IsShape s2
+  pub differs : DiffersAt from s s2
+  pub stable : Stable s p
+  pub minimal : Minimal s p
+  pub partition : IsPartition s2 p1
+  pub keeps : KeepsBlocks s s2 p p1
+  pub split : IsSplitInside s2 (reach s2 from) p1 p2 [] made
+
+pub split_stable : (from : ℕ → Bool) (s s2 : Shape) (p p1 p2 : List (Option ℕ)) (made : List ℕ) → Stages from s s2 p p1 p2 made → Stable s2 p2
+split_stable from s s2 p p1 p2 made g = stable_at_end s2 p2 (has []) (λ n. refl) g.split.stable
+
+off_target : (from : ℕ → Bool) (s2 : Shape) (n : ℕ) → reach s2 from n ≡ false → from n ≡ false
+off_target from s2 n h = false_from_ne_true (from n) (λ t. both_ways (reach s2 from n) h (reach_start s2 from n t))
+
+same_block : (from : ℕ → Bool) (s s2 : Shape) (p p1 p2 : List (Option ℕ)) (made : List ℕ) → Stages from s s2 p p1 p2 made
+    → (n : ℕ) → from n ≡ false → IsNode s2 n → at p1 n ≡ at p n
+same_block from s s2 p p1 p2 made g n off node = g.keeps.kept n (live_before from s s2 g.differs n off node) node
+
+-- out of reach nodes are together as before
+pub split_outside : (from : ℕ → Bool) (s s2 : Shape) (p p1 p2 : List (Option ℕ)) (made : List ℕ) → Stages from s s2 p p1 p2 made
+    → SameOutside p p2 (λ n. IsFalse (reach s2 from n))
+split_outside from s s2 p p1 p2 made g = record {
+  into = λ x y ox oy t.
+      let nx = after x ox (g.stable.partition.only x (together_some p x y t)) in
+      let ny = after y oy (g.stable.partition.only y (together_some p y x (together_sym p x y t))) in
+      g.split.same.into x y ox oy (t.0, same x ox nx ∙ t.1, same y oy ny ∙ t.2);
+  back = λ x y ox oy t.
+      let k = g.split.same.back x y ox oy t in
+      let nx = g.partition.only x (together_some p1 x y k) in
+      let ny = g.partition.only y (together_some p1 y x (together_sym p1 x y k)) in
+      (k.0, sym (same x ox nx) ∙ k.1, sym (same y oy ny) ∙ k.2);
+}
+  where
+    after : (n : ℕ) → reach s2 from n ≡ false → IsNode s n → IsNode s2 n
+    after n o h = sym (ap is_some (g.differs.label n (off_target from s2 n o))) ∙ h
+
+    same : (n : ℕ) → reach s2 from n ≡ false → IsNode s2 n → at p1 n ≡ at p n
+    same n o h = same_block from s s2 p p1 p2 made g n (off_target from s2 n o) h
+
+-- nodes that are together once it is split were together before
+pub split_finer : (from : ℕ → Bool) (s s2 : Shape) (p p1 p2 : List (Option ℕ)) (made : List ℕ) → Stages from s s2 p p1 p2 made → IsFiner s p p2
+split_finer from s s2 p p1 p2 made g = record {
+  within = λ u v nu nv t.
+      let k = g.split.within.within u v t in
+      let lu = g.partition.only u (together_some p1 u v k) in
+      let lv = g.partition.only v (together_some p1 v u (together_sym p1 u v k)) in
+      (k.0, sym (g.keeps.kept u nu lu) ∙ k.1, sym (g.keeps.kept v nv lv) ∙ k.2);
+}
+
+-- whether the node's block was not made
+abbrev unmade : List ℕ → Option ℕ → Bool
+unmade made None = false
+unmade made (Some b) = not (has made b)
+
+-- no target, and in a block that was not made
+abbrev is_still : (ℕ → Bool) → List (Option ℕ) → List ℕ → ℕ → Bool
+is_still from p2 made n = not (from n) && unmade made (at p2 n)
+
+-- After a split the blocks that were made, and those of the targets, are the merge candidates.
+pub split_candidates : (from : ℕ → Bool) (s s2 : Shape) (p p1 p2 : List (Option ℕ)) (made : List ℕ) → Stages from s s2 p p1 p2 made
+    → AreMergeCandidates s2 p2 (λ b. IsTrue (has made b) ⊎ ((t : ℕ) × IsTrue (from t) × (at p2 t ≡ Some b)))
+split_candidates from s s2 p p1 p2 made g = record {
+  one = λ a b can. elim (unmarked.one a b can) [
+    | inl h ↦ inl (why a can.first.0 can.first.1 (h can.first.0 can.first.1))
+    | inr h ↦ inr (why b can.second.0 can.second.1 (h can.second.0 can.second.1))
+  ];
+}
+  where
+    unmoved : (n a : ℕ) → is_still from p2 made n ≡ true → at p2 n ≡ Some a → IsUnmoved from p p2 n
+    unmoved n a h e =
+        let f = and_parts (not (from n)) (unmade made (at p2 n)) h in
+        let off : from n ≡ false = not-true (from n) f.0 in
+        let free : has made a ≡ false = not-true (has made a) (sym (ap (unmade made) e) ∙ f.1) in
+        elim (g.split.moved_made n a e) [
+          | inl there ↦ absurd (both_ways (has made a) free there)
+          | inr was ↦ record {
+            off = off;
+            same = e ∙ sym was ∙ same_block from s s2 p p1 p2 made g n off (g.partition.only n (is_some_at (at p1 n) a was));
+          }
+        ]
+
+    unmarked : AreMergeCandidates s2 p2 (λ b. (n : ℕ) → at p2 n ≡ Some b → is_still from p2 made n ≡ false)
+    unmarked =
+        unmarked_candidates s2 p2 (is_still from p2 made) g.shape2 g.split.stable.partition (λ x y a b mx my hx hy ne can.
+        none_unmoved from s s2 p p2 g.shape g.differs (split_finer from s s2 p p1 p2 made g) g.stable g.minimal x y a b (unmoved x a mx hx) (unmoved y b my hy) hx hy ne can)
+
+    why : (b n : ℕ) → at p2 n ≡ Some b → is_still from p2 made n ≡ false → IsTrue (has made b) ⊎ ((t : ℕ) × IsTrue (from t) × (at p2 t ≡ Some b))
+    why b n e h = elim (cases_Bool (from n)) [
+      | inl on ↦ inr (n, on, e)
+      | inr off ↦ elim (cases_Bool (has made b)) [
+        | inl there ↦ inl there
+        | inr free ↦ absurd (both_ways (is_still from p2 made n) h
+            (and_from (not (from n)) (unmade made (at p2 n)) (not_from_false (from n) off) (ap (unmade made) e ∙ not_from_false (has made b) free)))
+      ]
+    ]
+
+-- The next partition, after a change that gives its target a parent block or takes one.
+pub one_step_from : (c : Change) (g : Graph) (p p1 p2 p3 : List (Option ℕ)) (made : List ℕ) → Stages (target c g) (shape_of g) (shape_of (after c g)) p p1 p2 made
+    → Merges (shape_of (after c g)) p2 p3 → Minimal (shape_of (after c g)) p3 → (KeepsParents c (after c g) p → ⊥) → OneStep g p c (after c g) p3
+one_step_from c g p p1 p2 p3 made stages merges min changes =
+    let s = shape_of g in
+    let s2 = shape_of (after c g) in
+    let from = target c g in
+    let stable = merges_stable s2 p2 p3 merges (split_stable from s s2 p p1 p2 made stages) in
+    let outside = outside_merges s s2 (λ n. IsFalse (reach s2 from n)) p p2 p3 (outside_reach from s s2 stages.shape2 stages.differs)
+    (split_outside from s s2 p p1 p2 made stages) stages.stable stages.minimal merges in
+    record {
+      made = refl;
+      index = record { stable = stable; minimal = min; whole = λ acyclic. acyclic_full s2 p3 stages.shape2 acyclic stable min };
+      outside = λ u v nu nv mu mv ou ov. (outside.back u v ou ov, outside.into u v ou ov);
+      still = λ keeps. absurd (changes keeps);
+    }

@@ -1,0 +1,17 @@
+pub mod ListIndexes
+pub mod NumberedNodes
+pub mod Chosen
+pub mod ChosenTargetBlocks
+pub mod Groups
+pub mod Gone
+pub mod Named
+pub mod RoundEnds
+pub mod Bounds
+pub mod Total
+pub mod NextRound
+pub mod Apart
+pub mod Parted
+pub mod Light
+pub mod Wholes
+pub mod Present
+pub mod SharedBlockLaws

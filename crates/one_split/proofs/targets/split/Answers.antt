@@ -1,0 +1,170 @@
+use Rattle.std.proofs.Common.{◌≡◌, ◌+◌, ◌-◌, ◌*◌, ◌<◌, ◌⊎◌, ℕ, Option, length, arith, sym, ap, subst, ◌∙◌, refl, true, false, Bool, inl, inr, rules}
+use Rattle.std.specs.Prelude.{nat_eq}
+use Rattle.std.specs.List.{IsDistinct, sum_by}
+use Rattle.graph_spec.specs.Members.{at, has}
+use Rattle.graph_spec.specs.Shapes.{shape_of}
+use Rattle.graph_spec.proofs.GraphLaws.{is_shape}
+use Rattle.label_graph.specs.GraphViews.{label_number}
+use Rattle.bisim_spec.specs.Weights.{weight, size_of}
+use Rattle.one_spec.specs.Splits.{IsSplitInside}
+use Rattle.graph_update.specs.PendingChanges.{graph_after}
+use Rattle.quotient_draft.specs.Drafts.{shown_blocks, shown_labels}
+use Rattle.one_split.specs.SplitCosts.{round_cost}
+use Rattle.one_split.proofs.Bounds.{size_most}
+use Rattle.one_split.proofs.Total.{closed_all, made_few, most_done, cost_more, most_within, round_within, next_heavy, left_falls, few_nodes, not_done}
+use Rattle.one_split.proofs.Light.{targets_light, target_most, light_within, cost_charged}
+use Rattle.one_split.proofs.Present.{ArePresent, node_present, target_present, stable_present, named_present}
+use Rattle.one_split.proofs.targets.split.Goals as goal
+
+pub part_all-requires-clause-split : goal.part_all-requires-clause-split
+part_all-requires-clause-split g c =
+    let s = shape_of (graph_after c.args.after.now) in
+    let p = shown_blocks c.args.base.now c.args.draft.now in
+    let labels : ℕ → Option ℕ = at (shown_labels c.args.base.now c.args.draft.now) in
+    let names = label_number (graph_after c.args.after.now) in
+    let targets = has c.args.targets.now in
+    let nodes = c.deref.result.now in
+    let present : ArePresent p targets (has nodes) = record { each = λ n. ap (λ xs. has xs n) c.deref.ensures.value ∙ c.in_ok-present.ensures.those n } in
+    record {
+      over = c.requires.over;
+      once = subst (IsDistinct nat_eq) (sym c.deref.ensures.value) c.in_ok-present.ensures.once;
+      stable = stable_present s p targets (has nodes) present c.requires.stable;
+      named = named_present p labels names targets (has nodes) present c.requires.named;
+      none = c.requires.none;
+      supports = c.requires.supports;
+    }
+
+pub returns-in_err-next-clause-cost : goal.returns-in_err-next-clause-cost
+returns-in_err-next-clause-cost g c = λ inside closed within.
+    let s = shape_of (graph_after c.args.after.now) in
+    let p = shown_blocks c.args.base.now c.args.draft.now in
+    let nodes = c.deref.result.now in
+    let shape = is_shape (graph_after c.args.after.now) c.created-known.ensures.after in
+    let present : ArePresent p (has c.args.targets.now) (has nodes) = record { each = λ n. ap (λ xs. has xs n) c.deref.ensures.value ∙ c.in_ok-present.ensures.those n } in
+    let cost = c.part_all.ensures.cost in
+    let light = targets_light c.args.after.now inside nodes (subst (IsDistinct nat_eq) (sym c.deref.ensures.value) c.in_ok-present.ensures.once)
+    (λ n h. (
+      shape.below n (node_present s p (has c.args.targets.now) (has nodes) n present c.requires.stable.partition h),
+      within n (target_present p (has c.args.targets.now) (has nodes) n present h),
+    )) in
+    let fit = light_within (size_of s inside) (weight s inside) (c.part_all.new.steps - c.args.steps.now) (omega (arith, cost, light)) in
+    omega (arith, fit)
+
+pub rounds-init : goal.rounds-init
+rounds-init g c =
+    let s = shape_of (graph_after c.args.after.now) in
+    let p = shown_blocks c.args.base.now c.args.draft.now in
+    let nodes = c.deref.result.now in
+    let shape = is_shape (graph_after c.args.after.now) c.created-known.ensures.after in
+    let present : ArePresent p (has c.args.targets.now) (has nodes) = record { each = λ n. ap (λ xs. has xs n) c.deref.ensures.value ∙ c.in_ok-present.ensures.those n } in
+    record {
+      over = c.in_ok-next.ensures.over;
+      split = λ inside closed within. c.in_ok-next.ensures.split inside closed (λ n h. within n (target_present p (has c.args.targets.now) (has nodes) n present h));
+      once = c.in_ok-next.ensures.once;
+      named = c.in_ok-next.ensures.named;
+      supports = c.in_ok-next.ensures.supports;
+      made = c.in_ok-next.ensures.made;
+      cost = λ inside closed within.
+          let spent = c.in_ok-next.ensures.charged (3 * weight s inside + 3) (λ n h.
+          target_most c.args.after.now inside n shape (node_present s p (has c.args.targets.now) (has nodes) n present c.requires.stable.partition h)
+          (within n (target_present p (has c.args.targets.now) (has nodes) n present h))) in
+          cost_charged (weight s inside) (length c.part_all.new.made.items) (c.part_all.new.steps - c.args.steps.now) c.in_ok-next.next.items (omega (arith, spent));
+    }
+
+pub round-requires : goal.round-requires
+round-requires g c =
+    let next_is : c.deref-in-rounds-2.result.now ≡ c.rounds.next.items = c.deref-in-rounds-2.ensures.value in
+    let every = c.rounds.invariant.split (λ m. true) (closed_all (shape_of (graph_after c.args.after.now))) (λ n h. refl) in
+    record {
+      over = c.rounds.invariant.over;
+      live = search rules;
+      there = λ n h. every.next_nodes n (sym (ap (λ xs. has xs n) next_is) ∙ h);
+      shape = is_shape (graph_after c.args.after.now) c.created-known.ensures.after;
+      partition = every.stable.partition;
+      once = subst (IsDistinct nat_eq) (sym next_is) c.rounds.invariant.once;
+      blocks = c.rounds.invariant.made;
+      supports = c.rounds.invariant.supports;
+    }
+
+pub returns-in_err-next-2-clause-cost : goal.returns-in_err-next-2-clause-cost
+returns-in_err-next-2-clause-cost g c = λ inside closed within.
+    let s = shape_of (graph_after c.args.after.now) in
+    let a = c.args.after.now in
+    let shape = is_shape (graph_after c.args.after.now) c.created-known.ensures.after in
+    let first = shown_blocks c.args.base.now c.args.draft.now in
+    let p = shown_blocks c.args.base.now c.rounds.draft in
+    let next = c.rounds.next.items in
+    let made = c.rounds.made.items in
+    let inv = c.rounds.invariant in
+    let split : IsSplitInside s inside first p next made = inv.split inside closed within in
+    let next_is : c.deref-in-rounds-2.result.now ≡ c.rounds.next.items = c.deref-in-rounds-2.ensures.value in
+    let test : c.is_done.result ≡ false = search rules in
+    let some = not_done c.is_done.result c.deref-in-rounds.result.now next c.is_done.ensures test c.deref-in-rounds.ensures.value in
+    let most = round_within a inside first p next made shape inv.once split in
+    let cost = c.round.ensures.cost in
+    let alike = ap (sum_by (round_cost a)) next_is in
+    let fit = most_within (size_of s inside) (weight s inside) (length made) (c.rounds.steps - c.args.steps.now) (c.round.new.steps - c.args.steps.now) (sum_by (round_cost a) next) next
+    (inv.cost inside closed within) some (next_heavy s inside first p next made shape split some) (made_few s inside first p next made shape split) most
+    (omega (arith, cost, alike)) in
+    omega (arith, fit)
+
+pub rounds-preserved : goal.rounds-preserved
+rounds-preserved g c =
+    let s = shape_of (graph_after c.args.after.now) in
+    let a = c.args.after.now in
+    let shape = is_shape (graph_after c.args.after.now) c.created-known.ensures.after in
+    let first = shown_blocks c.args.base.now c.args.draft.now in
+    let p = shown_blocks c.args.base.now c.rounds.draft in
+    let next = c.rounds.next.items in
+    let made = c.rounds.made.items in
+    let inv = c.rounds.invariant in
+    let next_is : c.deref-in-rounds-2.result.now ≡ c.rounds.next.items = c.deref-in-rounds-2.ensures.value in
+    let test : c.is_done.result ≡ false = search rules in
+    let some = not_done c.is_done.result c.deref-in-rounds.result.now next c.is_done.ensures test c.deref-in-rounds.ensures.value in
+    let cost = c.round.ensures.cost in
+    let alike = ap (sum_by (round_cost a)) next_is in
+    record {
+      over = c.in_ok-next-2.ensures.round.over;
+      split = λ inside closed within.
+          c.in_ok-next-2.ensures.round.split inside first closed (subst (λ xs. IsSplitInside s inside first p xs made) (sym next_is) (inv.split inside closed within));
+      once = c.in_ok-next-2.ensures.round.once;
+      named = c.in_ok-next-2.ensures.round.named (label_number (graph_after c.args.after.now)) inv.named;
+      supports = c.in_ok-next-2.ensures.round.supports;
+      made = c.in_ok-next-2.ensures.round.blocks;
+      cost = λ inside closed within.
+          let split : IsSplitInside s inside first p next made = inv.split inside closed within in
+          cost_more (weight s inside) (length made) (length c.round.new.made.items) (c.rounds.steps - c.args.steps.now) (c.round.new.steps - c.args.steps.now) (sum_by (round_cost a) next)
+          next c.in_ok-next-2.next.items (inv.cost inside closed within) some (next_heavy s inside first p next made shape split some)
+          (round_within a inside first p next made shape inv.once split) (omega (arith, cost, alike)) c.in_ok-next-2.ensures.round.least c.in_ok-next-2.ensures.round.more;
+    }
+
+pub rounds-smaller : goal.rounds-smaller
+rounds-smaller g c =
+    let s = shape_of (graph_after c.args.after.now) in
+    let shape = is_shape (graph_after c.args.after.now) c.created-known.ensures.after in
+    let first = shown_blocks c.args.base.now c.args.draft.now in
+    let p = shown_blocks c.args.base.now c.rounds.draft in
+    let inv = c.rounds.invariant in
+    let next_is : c.deref-in-rounds-2.result.now ≡ c.rounds.next.items = c.deref-in-rounds-2.ensures.value in
+    let test : c.is_done.result ≡ false = search rules in
+    let some = not_done c.is_done.result c.deref-in-rounds.result.now c.rounds.next.items c.is_done.ensures test c.deref-in-rounds.ensures.value in
+    let every : ℕ → Bool = λ m. true in
+    let split = c.in_ok-next-2.ensures.round.split every first (closed_all s)
+    (subst (λ xs. IsSplitInside s every first p xs c.rounds.made.items) (sym next_is) (inv.split every (closed_all s) (λ n h. refl))) in
+    let few = made_few s every first (shown_blocks c.args.base.now c.round.new.draft) c.in_ok-next-2.next.items c.round.new.made.items shape split in
+    let nodes = few_nodes s every in
+    let more : (length c.rounds.made.items < length c.round.new.made.items) ⊎ (length c.in_ok-next-2.next.items ≡ 0) =
+    elim c.in_ok-next-2.ensures.round.more [ inl grew ↦ inl grew | inr none ↦ inr (ap length none) ] in
+    left_falls (length (graph_after c.args.after.now).given) (length c.rounds.made.items) (length c.round.new.made.items) (length c.rounds.next.items) (length c.in_ok-next-2.next.items)
+    (omega (arith, few, nodes)) c.in_ok-next-2.ensures.round.least some more
+
+pub returns-clause-cost : goal.returns-clause-cost
+returns-clause-cost g c = λ inside closed within.
+    let s = shape_of (graph_after c.args.after.now) in
+    let shape = is_shape (graph_after c.args.after.now) c.created-known.ensures.after in
+    let inv = c.rounds.invariant in
+    let split = inv.split inside closed within in
+    let fit = most_done (size_of s inside) (weight s inside) (length c.rounds.made.items) (c.rounds.steps - c.args.steps.now) c.rounds.next.items
+    (made_few s inside (shown_blocks c.args.base.now c.args.draft.now) (shown_blocks c.args.base.now c.rounds.draft) c.rounds.next.items c.rounds.made.items shape split)
+    (size_most s inside) (inv.cost inside closed within) in
+    omega (arith, fit)

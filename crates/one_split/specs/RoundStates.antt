@@ -1,0 +1,87 @@
+-- What a round over some nodes asks, and what it leaves.
+use Rattle.std.specs.Prelude.{◌⊎◌, ◌≡◌, ◌≤◌, ◌<◌, ℕ, Bool, List, [], Option, IsTrue, length, nat_eq}
+use Rattle.std.specs.List.{IsDistinct}
+use Rattle.graph_spec.specs.Graphs.{Graph, is_live}
+use Rattle.graph_spec.specs.Members.{at, has}
+use Rattle.graph_spec.specs.Shapes.{shape_of, IsShape}
+use Rattle.bisim_spec.specs.Partitions.{IsPartition}
+use Rattle.one_spec.specs.Named.{AreNamed}
+use Rattle.one_spec.specs.Splits.{IsClosed, IsSplitInside}
+use Rattle.one_spec.specs.EdgeCounts.{AreEdgeCounts}
+use Rattle.graph_update.specs.PendingChanges.{Pending, graph_after}
+use Rattle.quotient.specs.Quotients.{Quotient}
+use Rattle.quotient_draft.specs.Basis.{IsOver}
+use Rattle.quotient_draft.specs.Drafts.{Drafted, shown_blocks, shown_labels, shown_support}
+use Rattle.one_split.specs.NodeTargetBlocks.{AreBlocks, MembersHaveLabels, GoesIf, TargetBlocksHaveLabels, HaveGone, ListsChildrenOf, LabelsStay}
+
+-- The draft shows a partition of the graph after the change, with labels and the numbers of edges; the nodes are there, each once; and what was
+-- made are blocks.
+pub record CanRound (a : Pending) (base : Quotient) (d : Drafted) (nodes made : List ℕ) : Type 0 where
+  pub over : IsOver base.blocks.block_of base.blocks.labels d
+  pub live : MembersHaveLabels (shown_blocks base d) (at (shown_labels base d))
+  pub there : (n : ℕ) → IsTrue (has nodes n) → IsTrue (is_live (graph_after a) n)
+  pub shape : IsShape (shape_of (graph_after a))
+  pub partition : IsPartition (shape_of (graph_after a)) (shown_blocks base d)
+  pub once : IsDistinct nat_eq nodes
+  pub blocks : AreBlocks (at (shown_labels base d)) made
+  pub supports : AreEdgeCounts (graph_after a) (shown_blocks base d) (shown_support base d)
+
+-- The nodes are parted, and by that the next nodes may have come apart from others: what held of the nodes and of the blocks made before
+-- holds of the next nodes and of the blocks made by then. Where no block was made, no node is next.
+pub record IsRound (a : Pending) (base : Quotient) (d d2 : Drafted) (nodes made made2 next : List ℕ) : Type 0 where
+  pub over : IsOver base.blocks.block_of base.blocks.labels d2
+  pub split : (inside : ℕ → Bool) (first : List (Option ℕ)) → IsClosed (shape_of (graph_after a)) inside
+      → IsSplitInside (shape_of (graph_after a)) inside first (shown_blocks base d) nodes made
+      → IsSplitInside (shape_of (graph_after a)) inside first (shown_blocks base d2) next made2
+  pub once : IsDistinct nat_eq next
+  pub named : (names : ℕ → Option ℕ) → AreNamed (shown_blocks base d) (at (shown_labels base d)) names → AreNamed (shown_blocks base d2) (at (shown_labels base d2)) names
+  pub blocks : AreBlocks (at (shown_labels base d2)) made2
+  pub supports : AreEdgeCounts (graph_after a) (shown_blocks base d2) (shown_support base d2)
+  pub least : length made ≤ length made2
+  pub more : (length made < length made2) ⊎ (next ≡ [])
+
+-- the draft has further blocks, and all else is as it was
+pub record ExtendsDraft (base : Quotient) (d d2 : Drafted) : Type 0 where
+  -- the draft fits the base
+  pub over : IsOver base.blocks.block_of base.blocks.labels d2
+  -- nodes are in the blocks in which they were
+  pub stay : shown_blocks base d2 ≡ shown_blocks base d
+  -- each pair has its support
+  pub supports : (x y : ℕ) → shown_support base d2 x y ≡ shown_support base d x y
+  -- each block has its label
+  pub kept : LabelsStay (at (shown_labels base d)) (at (shown_labels base d2))
+
+-- nodes of the graph, each once
+pub record AreLiveNodes (g : Graph) (nodes : List ℕ) : Type 0 where
+  -- each is a node
+  pub there : (n : ℕ) → IsTrue (has nodes n) → IsTrue (is_live g n)
+  -- none is listed twice
+  pub once : IsDistinct nat_eq nodes
+
+-- The draft shows a partition of the graph after the change, with the numbers of edges.
+pub record ShowsPartition (a : Pending) (base : Quotient) (d : Drafted) : Type 0 where
+  -- the draft fits the base
+  pub over : IsOver base.blocks.block_of base.blocks.labels d
+  -- edges lead from nodes to nodes
+  pub shape : IsShape (shape_of (graph_after a))
+  -- exactly the nodes have a block
+  pub partition : IsPartition (shape_of (graph_after a)) (shown_blocks base d)
+  -- supports are numbers of edges
+  pub supports : AreEdgeCounts (graph_after a) (shown_blocks base d) (shown_support base d)
+
+-- where a group goes, it goes to a block that was none before it was drafted, as `GoesIf` says
+abbrev pub GoesAsDrafted : Quotient → Drafted → Drafted → List (ℕ × ℕ) → ℕ → List ℕ → List ℕ → Option ℕ → Type 0
+GoesAsDrafted base d d2 counts own stays stays2 goal =
+    GoesIf (shown_blocks base d) (at (shown_labels base d)) (at (shown_labels base d2)) counts own stays stays2 goal
+
+-- a block to which a group goes has, as drafted, the label of the block from which it comes
+abbrev pub TargetBlocksTakeLabels : Quotient → Drafted → Drafted → List (List ℕ) → List (Option ℕ) → Type 0
+TargetBlocksTakeLabels base d d2 keys target_blocks = TargetBlocksHaveLabels keys target_blocks (at (shown_labels base d)) (at (shown_labels base d2))
+
+-- all nodes have gone where their groups go, and the others have stayed
+abbrev pub HaveAllGone : Quotient → Drafted → Drafted → List ℕ → List ℕ → List (Option ℕ) → Type 0
+HaveAllGone base d d2 nodes numbers target_blocks = HaveGone (shown_blocks base d) (shown_blocks base d2) nodes numbers target_blocks (length nodes)
+
+-- the list has the children, after the change, of the nodes that have gone
+abbrev pub ListsAllChildren : Pending → List ℕ → List ℕ → List (Option ℕ) → List ℕ → Type 0
+ListsAllChildren a nodes numbers target_blocks next = ListsChildrenOf (shape_of (graph_after a)) nodes numbers target_blocks (length nodes) next

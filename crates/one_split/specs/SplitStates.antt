@@ -1,0 +1,86 @@
+-- What splitting from some targets asks, and targets that are examined one after another.
+use Rattle.std.specs.Prelude.{◌≡◌, ◌≢◌, ◌⊎◌, ℕ, ◌||◌, Bool, List, [], Option, Some, IsTrue, IsFalse, nat_eq, ◌+◌, ◌*◌, ◌≤◌, IsSome}
+use Rattle.std.specs.List.{IsDistinct}
+use Rattle.graph_spec.specs.Members.{at, has}
+use Rattle.graph_spec.specs.Shapes.{Shape, IsNode, IsParent, shape_of}
+use Rattle.label_graph.specs.GraphViews.{label_number}
+use Rattle.bisim_spec.specs.Partitions.{Together}
+use Rattle.bisim_spec.specs.Stability.{StableBut}
+use Rattle.bisim_spec.specs.Weights.{size_of, weight}
+use Rattle.one_spec.specs.Named.{AreNamedOff}
+use Rattle.one_spec.specs.SplitRoundSteps.{IsRefinement, SameBut}
+use Rattle.one_spec.specs.EdgeCounts.{AreEdgeCounts}
+use Rattle.one_spec.specs.Splits.{IsClosed, IsSplitInside}
+use Rattle.graph_update.specs.PendingChanges.{Pending, graph_after}
+use Rattle.quotient.specs.Quotients.{Quotient}
+use Rattle.quotient_draft.specs.Basis.{IsOver}
+use Rattle.quotient_draft.specs.Drafts.{Drafted, shown_blocks, shown_labels, shown_support}
+
+-- The draft shows a partition of the graph after the change, with the numbers of edges; it is stable, and blocks have the labels of their members,
+-- except perhaps at the targets. Each target is given once, and no block was made.
+pub record CanSplit (a : Pending) (base : Quotient) (d : Drafted) (targets made : List ℕ) : Type 0 where
+  pub over : IsOver base.blocks.block_of base.blocks.labels d
+  pub once : IsDistinct nat_eq targets
+  pub stable : StableBut (shape_of (graph_after a)) (shown_blocks base d) (has targets)
+  pub named : AreNamedOff (has targets) (shown_blocks base d) (at (shown_labels base d)) (label_number (graph_after a))
+  pub none : made ≡ []
+  pub supports : AreEdgeCounts (graph_after a) (shown_blocks base d) (shown_support base d)
+
+-- passes one of two tests
+abbrev pub either : (ℕ → Bool) → (ℕ → Bool) → ℕ → Bool
+either f g n = f n || g n
+
+-- After some targets: the partition is stable except perhaps at the targets that are left and the nodes that are examined next, and
+-- for the rest as for `IsSplitInside`.
+pub record IsSplitBut (s : Shape) (inside : ℕ → Bool) (first p : List (Option ℕ)) (next : List ℕ) (rest : ℕ → Bool) (made : List ℕ) : Type 0 where
+  pub stable : StableBut s p (either (has next) rest)
+  pub within : IsRefinement first p
+  pub same : SameBut first p inside
+  pub labels : (u v : ℕ) → IsFalse (rest u) → IsFalse (rest v) → Together p u v → s.label u ≡ s.label v
+  pub next_nodes : (n : ℕ) → IsTrue (has next n) → IsNode s n
+  pub next_inside : (n : ℕ) → IsTrue (has next n) → IsTrue (inside n)
+  pub next_from : (n : ℕ) → IsTrue (has next n) → (q : ℕ) × IsTrue (inside q) × IsParent s q n
+  pub moved_made : (n b : ℕ) → at p n ≡ Some b → IsTrue (has made b) ⊎ (at first n ≡ Some b)
+  pub made_once : IsDistinct nat_eq made
+  pub made_inside : (b n : ℕ) → IsTrue (has made b) → at p n ≡ Some b → IsTrue (inside n)
+  pub made_some : (b : ℕ) → IsTrue (has made b) → (n : ℕ) × (at p n ≡ Some b)
+  pub made_off : (b n : ℕ) → IsTrue (has made b) → at p n ≡ Some b → IsFalse (rest n)
+
+-- the first of what is left is t, the rest is what comes behind it
+pub record IsFirst (rest rest2 : ℕ → Bool) (t : ℕ) : Type 0 where
+  pub here : IsTrue (rest t)
+  pub gone : IsFalse (rest2 t)
+  pub within : (n : ℕ) → IsTrue (rest2 n) → IsTrue (rest n)
+  pub only : (n : ℕ) → IsFalse (rest2 n) → n ≢ t → IsFalse (rest n)
+
+-- the blocks of the targets are blocks as shown
+abbrev pub HaveLiveBlocks : List ℕ → Quotient → Drafted → Type 0
+HaveLiveBlocks targets base d = (n b : ℕ) → IsTrue (has targets n) → at (shown_blocks base d) n ≡ Some b → IsSome (at (shown_labels base d) b)
+
+-- Whatever closed set has the target: where the partition was stable except perhaps at some targets, of which this one is the first, it is
+-- so except perhaps at the others and at the nodes that are examined next.
+abbrev pub Parts : Pending → ℕ → Quotient → Drafted → Drafted → List ℕ → List ℕ → List ℕ → List ℕ → Type 0
+Parts a target base d d2 next next2 made made2 = (inside : ℕ → Bool) (first : List (Option ℕ)) (rest rest2 : ℕ → Bool)
+    → IsClosed (shape_of (graph_after a)) inside → IsTrue (inside target) → IsFirst rest rest2 target
+    → IsSplitBut (shape_of (graph_after a)) inside first (shown_blocks base d) next rest made
+    → IsSplitBut (shape_of (graph_after a)) inside first (shown_blocks base d2) next2 rest2 made2
+
+-- where blocks had the labels of their members except perhaps at some targets, of which this one is the first, they have them except
+-- perhaps at the others
+abbrev pub NamesTarget : Pending → ℕ → Quotient → Drafted → Drafted → Type 0
+NamesTarget a target base d d2 = (rest rest2 : ℕ → Bool) → IsFirst rest rest2 target
+    → AreNamedOff rest (shown_blocks base d) (at (shown_labels base d)) (label_number (graph_after a))
+    → AreNamedOff rest2 (shown_blocks base d2) (at (shown_labels base d2)) (label_number (graph_after a))
+
+-- whatever set is closed under children and has the targets: blocks are split inside it
+abbrev pub SplitsInside : Pending → List ℕ → Quotient → Drafted → Drafted → List ℕ → List ℕ → Type 0
+SplitsInside a targets base d d2 next made =
+    (inside : ℕ → Bool) → IsClosed (shape_of (graph_after a)) inside → ((n : ℕ) → IsTrue (has targets n) → IsTrue (inside n))
+    → IsSplitInside (shape_of (graph_after a)) inside (shown_blocks base d) (shown_blocks base d2) next made
+
+-- whatever set is closed under children and has the targets: the steps are at most four times its numbers and one, times what there
+-- is to read at them
+abbrev pub CostsInside : Pending → List ℕ → ℕ → ℕ → Type 0
+CostsInside a targets steps steps2 =
+    (inside : ℕ → Bool) → IsClosed (shape_of (graph_after a)) inside → ((n : ℕ) → IsTrue (has targets n) → IsTrue (inside n))
+    → steps2 ≤ steps + 4 * ((size_of (shape_of (graph_after a)) inside + 1) * weight (shape_of (graph_after a)) inside)

@@ -1,0 +1,26 @@
+use Rattle.graph_spec.specs.Members.{at, has}
+use Rattle.std.proofs.Common.{[], ◌∷◌}
+use Rattle.label_graph.specs.GraphViews.{label_number}
+use Rattle.graph_update.specs.PendingChanges.{graph_after}
+use Rattle.quotient_draft.specs.Drafts.{shown_blocks, shown_labels}
+use Rattle.one_update.proofs.PhaseLaws.{named_off, stable_there}
+use Rattle.one_update.proofs.tests.are_parted.Goals as goal
+
+pub split-requires-clause-shown : goal.split-requires-clause-shown
+split-requires-clause-shown g c =
+    let changed = c.in_ok-draft_link.ensures.changed in
+    record {
+      over = changed.over;
+      stable =
+          stable_there c.args.after.now.before c.args.after.now.change c.args.edge.1 c.args.base.now c.draft_link.new.draft c.requires.before.graph c.requires.before.graph_after
+          c.requires.before.fits c.draft_link.ensures.target changed;
+      named =
+          named_off (has (c.args.edge.1 ∷ [])) (shown_blocks c.args.base.now c.draft_link.new.draft) (at (shown_labels c.args.base.now c.draft_link.new.draft))
+          (label_number (graph_after c.args.after.now)) changed.named;
+      supports = changed.supports;
+    }
+
+pub merge-requires-clause-split : goal.merge-requires-clause-split
+merge-requires-clause-split g c =
+    c.in_ok-split.ensures.split
+    (record { stable = c.requires.before.fits.index.stable; minimal = c.requires.before.fits.index.minimal; keeps = c.in_ok-draft_link.ensures.changed.keeps })

@@ -1,0 +1,138 @@
+-- What is drafted for a change of the graph of a 1-index (K. Yi, H. He, I. Stanoi and J. Yang, "Incremental Maintenance of XML
+-- Structural Indexes", SIGMOD 2004).
+use Rattle.std.specs.Prelude.{◌≡◌, ◌<◌, ◌≤◌, ◌^◌, ◌↔◌, ℕ, ◌+◌, ◌*◌, Bool, List, Option, [], ◌∷◌, length, Some, IsFalse, IsTrue}
+use Rattle.std.specs.FinSet as set
+use Rattle.graph_spec.specs.Graphs.{Graph, IsGraph}
+use Rattle.graph_spec.specs.Changes.{Change, node, after}
+use Rattle.graph_spec.specs.Shapes.{Shape, IsNode, shape_of}
+use Rattle.graph_spec.specs.Members.{at, has}
+use Rattle.label_graph.specs.GraphViews.{label_number}
+use Rattle.bisim_spec.specs.Partitions.{IsPartition, Together}
+use Rattle.bisim_spec.specs.Stability.{Stable, StableBut, Minimal}
+use Rattle.bisim_spec.specs.Reach.{reach}
+use Rattle.bisim_spec.specs.Weights.{size_of, weight}
+use Rattle.bisim_spec.specs.Targets.{KeepsBlocks, target}
+use Rattle.bisim_spec.specs.OneStep.{OneStep}
+use Rattle.bisim_spec.specs.IndexGraphs.{View, support_at}
+use Rattle.bisim_spec.specs.Fits.{FitsOne}
+use Rattle.graph_update.specs.NewChanges.{IsNew}
+use Rattle.graph_update.specs.PendingChanges.{Pending, graph_after}
+use Rattle.quotient.specs.Quotients.{Quotient, view_of}
+use Rattle.quotient_draft.specs.Drafts.{Drafted, shown_blocks, shown_labels, shown_support}
+use Rattle.quotient_draft.specs.Basis.{IsOver}
+use Rattle.one_spec.specs.Named.{AreNamed, AreNamedOff}
+use Rattle.one_spec.specs.EdgeCounts.{AreEdgeCounts}
+
+-- The draft shows the graph after the change, with nodes in the blocks in which they were: a new node has some block. The partition
+-- may be unstable at the target.
+pub record ShowsChange (g : Graph) (c : Change) (q : Quotient) (d : Drafted) : Type 0 where
+  pub over : IsOver q.blocks.block_of q.blocks.labels d
+  pub partition : IsPartition (shape_of (after c g)) (shown_blocks q d)
+  pub keeps : KeepsBlocks (shape_of g) (shape_of (after c g)) q.blocks.block_of (shown_blocks q d)
+  pub named : AreNamed (shown_blocks q d) (at (shown_labels q d)) (label_number (after c g))
+  pub supports : AreEdgeCounts (after c g) (shown_blocks q d) (shown_support q d)
+
+-- the draft shows the next partition, with the labels of members and the numbers of edges
+pub record IsDrafted (g : Graph) (c : Change) (q : Quotient) (d : Drafted) : Type 0 where
+  pub over : IsOver q.blocks.block_of q.blocks.labels d
+  pub step : OneStep g q.blocks.block_of c (after c g) (shown_blocks q d)
+  pub named : AreNamed (shown_blocks q d) (at (shown_labels q d)) (label_number (after c g))
+  pub supports : AreEdgeCounts (after c g) (shown_blocks q d) (shown_support q d)
+
+-- the nodes that the change reaches, in the graph that it leaves
+abbrev pub reached : Graph → Change → ℕ → Bool
+reached g c = reach (shape_of (after c g)) (target c g)
+
+-- how many numbers the set has and one more, times what there is to read at them
+abbrev pub rounds_cost : Shape → (ℕ → Bool) → ℕ
+rounds_cost s inside = (size_of s inside + 1) * weight s inside
+
+-- how many steps a change may take
+abbrev pub most_steps : Graph → Change → ℕ
+most_steps g c = 8 * rounds_cost (shape_of (after c g)) (reached g c)
+
+-- the block of u has support to that of v
+pub record IsSupported (v : View) (from onto : ℕ) : Type 0 where
+  pub first : ℕ
+  pub second : ℕ
+  pub from_at : at v.block_of from ≡ Some first
+  pub onto_at : at v.block_of onto ≡ Some second
+  pub some : 0 < support_at v.supports first second
+
+-- the quotient is a 1-index of the graph before the change, and the change is new
+pub record IsBefore (a : Pending) (q : Quotient) : Type 0 where
+  pub fits : FitsOne a.before (view_of q)
+  pub new : IsNew a.change a.before
+  pub graph : IsGraph a.before
+  pub graph_after : IsGraph (after a.change a.before)
+  pub few : set.len a.before.edges ≤ 2 ^ 30
+
+-- a node comes
+pub record IsNodeChange (c : Change) : Type 0 where
+  pub label : List ℕ
+  pub is : c ≡ node label
+
+-- the change has this target and no other
+pub record IsOnlyTarget (g : Graph) (c : Change) (t : ℕ) : Type 0 where
+  pub is : (n : ℕ) → has (t ∷ []) n ≡ target c g n
+  pub allocated : t < length (after c g).allocated
+
+-- The partition shown came by splitting that of the base: this one was stable and no two of its blocks could be merged, and nodes of
+-- both graphs that the change doesn't reach are together as in it.
+pub record IsSplitOf (g : Graph) (c : Change) (block shown : List (Option ℕ)) : Type 0 where
+  pub stable : Stable (shape_of g) block
+  pub minimal : Minimal (shape_of g) block
+  pub outside : (u v : ℕ) → IsNode (shape_of g) u → IsNode (shape_of g) v → IsNode (shape_of (after c g)) u → IsNode (shape_of (after c g)) v → IsFalse (reached g c u)
+      → IsFalse (reached g c v) → Together shown u v ↔ Together block u v
+
+-- supports alone are drafted
+pub record AreSupportsAlone (d : Drafted) : Type 0 where
+  pub moves : d.moves ≡ []
+  pub added : d.added ≡ []
+
+-- The draft shows a stable partition of a graph.
+pub record ShowsStable (g : Graph) (q : Quotient) (d : Drafted) : Type 0 where
+  -- the draft was begun over this base
+  pub over : IsOver q.blocks.block_of q.blocks.labels d
+  -- exactly the nodes have a block; the members of a block have one label, and parents in the same blocks
+  pub stable : Stable (shape_of g) (shown_blocks q d)
+  -- each node's block has the label of the node
+  pub named : AreNamed (shown_blocks q d) (at (shown_labels q d)) (label_number g)
+  -- the support of a pair of blocks is the number of edges from the first to the second
+  pub supports : AreEdgeCounts g (shown_blocks q d) (shown_support q d)
+
+-- The draft shows a partition of a graph that is stable except perhaps at one node, the target.
+pub record ShowsStableBut (g : Graph) (t : ℕ) (q : Quotient) (d : Drafted) : Type 0 where
+  -- the draft was begun over this base
+  pub over : IsOver q.blocks.block_of q.blocks.labels d
+  -- exactly the nodes have a block; the members of a block have one label, and parents in the same blocks, but for the target
+  pub stable : StableBut (shape_of g) (shown_blocks q d) (has (t ∷ []))
+  -- each node's block has the label of the node, but for the target
+  pub named : AreNamedOff (has (t ∷ [])) (shown_blocks q d) (at (shown_labels q d)) (label_number g)
+  -- the support of a pair of blocks is the number of edges from the first to the second
+  pub supports : AreEdgeCounts g (shown_blocks q d) (shown_support q d)
+
+-- The base was a minimal 1-index of the graph before the change, and the draft shows each node of both graphs in its old block.
+pub record KeepsMinimal (a : Pending) (q : Quotient) (d : Drafted) : Type 0 where
+  -- the partition of the base was stable before the change
+  pub stable : Stable (shape_of a.before) q.blocks.block_of
+  -- no two of its blocks could be merged
+  pub minimal : Minimal (shape_of a.before) q.blocks.block_of
+  -- what is a node of both graphs is shown in the block that it has in the base
+  pub keeps : KeepsBlocks (shape_of a.before) (shape_of (graph_after a)) q.blocks.block_of (shown_blocks q d)
+
+-- the block of each of these nodes is listed
+abbrev pub ListsBlocksOf : List ℕ → List (Option ℕ) → List ℕ → Type 0
+ListsBlocksOf nodes block list = (n b : ℕ) → IsTrue (has nodes n) → at block n ≡ Some b → IsTrue (has list b)
+
+-- it holds of the two blocks, where both nodes have one
+abbrev pub OfBlocks : Quotient → ℕ → ℕ → (ℕ → ℕ → Type 0) → Type 0
+OfBlocks q u v P = (a b : ℕ) → at q.blocks.block_of u ≡ Some a → at q.blocks.block_of v ≡ Some b → P a b
+
+-- what a draft shows came by splitting its base, in the graph after the change
+abbrev pub IsSplitFrom : Pending → Quotient → Drafted → Type 0
+IsSplitFrom a q d = IsSplitOf a.before a.change q.blocks.block_of (shown_blocks q d)
+
+-- the nodes that a change reaches, in the graph after it
+abbrev pub reached_after : Pending → ℕ → Bool
+reached_after a = reached a.before a.change

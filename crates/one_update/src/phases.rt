@@ -1,0 +1,105 @@
+// The two phases of the upkeep, each by itself: blocks are split, and then merged.
+ghost use Rattle.std.specs.Prelude.{◌+◌, ◌*◌, ◌≤◌, OnOk};
+ghost use Rattle.graph_spec.specs.Shapes.{shape_of};
+ghost use Rattle.bisim_spec.specs.Stability.{Minimal};
+ghost use Rattle.one_spec.specs.SplitRoundSteps.{IsRefinement, SameBut};
+ghost use Rattle.graph_update.specs.PendingChanges.{graph_after};
+ghost use Rattle.quotient_draft.specs.Drafts.{shown_blocks};
+ghost use Rattle.quotient_draft.specs.Basis.{IsOver};
+ghost use Rattle.one_update.specs.OneDrafts.{IsOnlyTarget, rounds_cost, ShowsStable, ShowsStableBut, KeepsMinimal, IsSplitFrom, ListsBlocksOf, reached_after};
+
+use crate::resettling::add_block;
+use affected_nodes::reached_nodes;
+use graph_update::After;
+use one_merge::ParentlessBlocks;
+use px_base::{Memory, NodeId, Steps};
+use quotient::Summary;
+use quotient_draft::Draft;
+use std::alloc::Global;
+use std::sync::ledger::Ledger;
+
+/// Splits blocks in the draft until the partition shown is stable on the graph after the change, where before it was stable except perhaps
+/// at the target. The target's block may have another label than the target. Each block that is shown then lies within one that was shown
+/// before. Only what the target reaches is read and moved. Where the base was stable and no two of its blocks could be merged, and the
+/// nodes were in its blocks, it leaves what `merge` requires.
+///
+/// It takes at most `4 * (r + 1) * w` steps, where the target reaches `r` nodes, and `w` is one for each of them, one for each of its
+/// parents and one for each of its children. After `Memory`, which also comes past 2^31 blocks, the draft must be cleared before it
+/// is used again.
+///
+/// Expected O((r + 1) w log w) at most; it takes O(w) memory.
+pub fn split<L: Ledger>(
+    alloc: Global,
+    base: &Summary,
+    draft: &mut Draft,
+    after: &After<'_>,
+    target: NodeId,
+    steps: &mut Steps<L>,
+) -> Result<(), Memory>
+    requires target { IsOnlyTarget after.now.before after.now.change target }
+    requires shown { ShowsStableBut (graph_after after.now) target base.now draft.old }
+    ensures shown { OnOk result (ShowsStable (graph_after after.now) base.now draft.new) }
+    ensures within { OnOk result (IsRefinement (shown_blocks base.now draft.old) (shown_blocks base.now draft.new)) }
+    ensures same { OnOk result (SameBut (shown_blocks base.now draft.old) (shown_blocks base.now draft.new) (reached_after after.now)) }
+    ensures split { OnOk result (KeepsMinimal after.now base.now draft.old → IsSplitFrom after.now base.now draft.new) }
+    ensures cost { steps.new ≤ steps.old + 4 * rounds_cost (shape_of (graph_after after.now)) (reached_after after.now) }
+{
+    // Called for its contract: there is a graph, so that what is reached is closed under edges.
+    let _known = after.created();
+    let mut made = Vec::new(alloc);
+    one_split::split(alloc, base, draft, after, &[target], &mut made, steps)?;
+    Ok(())
+}
+
+// Adds the blocks of the nodes to a list of blocks.
+fn add_blocks(
+    base: &Summary,
+    draft: &Draft,
+    nodes: &[NodeId],
+    blocks: &mut Vec<u32>,
+) -> Result<(), Memory>
+    requires over { IsOver base.now.blocks.block_of base.now.blocks.labels draft.now }
+    ensures there { OnOk result (ListsBlocksOf nodes.now (shown_blocks base.now draft.now) blocks.new.items) }
+{
+    for i in 0..nodes.len() {
+        add_block(base, draft, nodes[i], blocks)?;
+    }
+    Ok(())
+}
+
+/// Merges blocks in the draft until no two can be merged, where the partition shown is stable on the graph after the change and
+/// came by splitting that of the base, no two blocks of which could be merged. The graph is read only to find what the target
+/// reaches: of each two blocks that can be merged one has no other members. The rest is done by the tables of blocks, which are looked
+/// through once for the blocks to which no other has support.
+///
+/// It takes at most `3 * (r + 1) * w` steps, where the target reaches `r` nodes, and `w` is one for each of them, one for each of its
+/// parents and one for each of its children. After `Memory` the draft must be cleared before it is used again.
+///
+/// Expected O(w + b) to find the blocks, with b blocks, and then what `one_merge::merge` takes from these on. It takes O(w)
+/// memory, and what is merged.
+pub fn merge<L: Ledger>(
+    alloc: Global,
+    base: &Summary,
+    draft: &mut Draft,
+    after: &After<'_>,
+    target: NodeId,
+    steps: &mut Steps<L>,
+) -> Result<(), Memory>
+    requires target { IsOnlyTarget after.now.before after.now.change target }
+    requires shown { ShowsStable (graph_after after.now) base.now draft.old }
+    requires split { IsSplitFrom after.now base.now draft.old }
+    ensures shown { OnOk result (ShowsStable (graph_after after.now) base.now draft.new) }
+    ensures minimal { OnOk result (Minimal (shape_of (graph_after after.now)) (shown_blocks base.now draft.new)) }
+    ensures same { OnOk result (SameBut (shown_blocks base.now draft.old) (shown_blocks base.now draft.new) (reached_after after.now)) }
+    ensures cost { steps.new ≤ steps.old + 3 * rounds_cost (shape_of (graph_after after.now)) (reached_after after.now) }
+{
+    // Called for their contracts: there is a graph, and it has few edges.
+    let _known = after.created();
+    let _known = after.edge_count();
+    let nodes = reached_nodes(alloc, after, &[target], steps)?;
+    let mut blocks = Vec::new(alloc);
+    add_blocks(base, draft, &nodes, &mut blocks)?;
+    let parentless = ParentlessBlocks::of(alloc, base)?;
+    one_merge::merge(alloc, base, draft, &parentless, &blocks)?;
+    Ok(())
+}

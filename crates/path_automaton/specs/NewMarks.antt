@@ -1,0 +1,90 @@
+-- How marks spread over places, and over pairs of a state and a place.
+use Rattle.std.specs.Prelude.{◌≡◌, ℕ, ◌+◌, ◌≤◌, ◌⊎◌, Bool, List, length, Option, None, Some, IsTrue, IsSome}
+use Rattle.graph_spec.specs.Members.{has}
+use Rattle.px_base.specs.BitSets.{BitSet}
+use Rattle.path_automaton.specs.ProductSteps.{leads, Succeeds}
+use Rattle.path_automaton.specs.declared.state.State.{State}
+use Rattle.path_automaton.specs.declared.state.State.TheVariants.{End, Stuck, Any, Label, Fork}
+use Rattle.path_automaton.specs.MarkRows.{row, IsSet, IsMarked, row_members, members, pairs}
+use Rattle.path_automaton.specs.ListedPairs.{Among}
+use Rattle.path_automaton.specs.Programs.{IsEnd}
+use Rattle.path_automaton.specs.declared.frontier.Frontier.{Frontier}
+
+-- Further places of the kind were marked in a row, and found.
+pub record Gathers (P : ℕ → Type 0) (before after : List Bool) (found finds : List ℕ) : Type 0 where
+  pub wide : length after ≡ length before
+  pub grows : (v : ℕ) → IsSet before v → IsSet after v
+  pub fresh : (v : ℕ) → IsSet after v → IsSet before v ⊎ (P v × IsTrue (has finds v))
+  pub kept : (v : ℕ) → IsTrue (has found v) → IsTrue (has finds v)
+  pub source : (v : ℕ) → IsTrue (has finds v) → IsTrue (has found v) ⊎ P v
+  pub counted : length finds + row_members before ≡ length found + row_members after
+  pub more : row_members before ≤ row_members after
+
+-- Further pairs of the kind were marked, and listed.
+pub record SpreadsOver (R : ℕ → ℕ → Type 0) (before after : List (List Bool)) (waited listed : List (ℕ × ℕ)) : Type 0 where
+  pub states : length after ≡ length before
+  pub wide : (s : ℕ) → length (row after s) ≡ length (row before s)
+  pub same_pairs : pairs after ≡ pairs before
+  pub grows : (s v : ℕ) → IsMarked before s v → IsMarked after s v
+  pub fresh : (s v : ℕ) → IsMarked after s v → IsMarked before s v ⊎ (R s v × Among listed s v)
+  pub kept : (s v : ℕ) → Among waited s v → Among listed s v
+  pub source : (s v : ℕ) → Among listed s v → Among waited s v ⊎ R s v
+  pub counted : length listed + members before ≡ length waited + members after
+  pub more : members before ≤ members after
+
+abbrev pub Spreads : (ℕ → ℕ → Type 0) → Frontier → Frontier → Type 0
+Spreads R before after = SpreadsOver R before.rows.items after.rows.items before.worklist after.worklist
+
+-- the state was marked at further places of the kind, and is listed there
+abbrev pub SpreadsAt : ℕ → (ℕ → Type 0) → Frontier → Frontier → Type 0
+SpreadsAt state P before after = Spreads (λ s v. (s ≡ state) × P v) before after
+
+-- each pair of the kind is marked
+abbrev pub AreMarked : (ℕ → ℕ → Type 0) → Frontier → Type 0
+AreMarked R after = (s v : ℕ) → R s v → IsMarked after.rows.items s v
+
+-- only numbers of the kind were added
+abbrev pub AddsOnly : (ℕ → Type 0) → BitSet → BitSet → Type 0
+AddsOnly P before after = (v : ℕ) → IsTrue (has after.members v) → IsTrue (has before.members v) ⊎ P v
+
+-- the label passes: any one, or the one with the number
+abbrev pub Passes : (ℕ → Option ℕ) → Option ℕ → ℕ → Type 0
+Passes label_at None c = IsSome (label_at c)
+Passes label_at (Some l) c = label_at c ≡ Some l
+
+-- the node comes next to the place, and passes
+abbrev pub Next : ℕ → (ℕ → Option ℕ) → (ℕ → ℕ → Bool) → Option ℕ → ℕ → ℕ → Type 0
+Next size label_at edge test v c = IsTrue (leads size label_at edge v c) × Passes label_at test c
+
+-- the node comes next to one of the places, and passes
+abbrev pub NextOf : ℕ → (ℕ → Option ℕ) → (ℕ → ℕ → Bool) → Option ℕ → List ℕ → ℕ → Type 0
+NextOf size label_at edge test places c = (v : ℕ) × IsTrue (has places v) × Next size label_at edge test v c
+
+-- a node, or the place before all nodes
+abbrev pub IsPlace : ℕ → (ℕ → Option ℕ) → ℕ → Type 0
+IsPlace size label_at v = (v ≡ size) ⊎ IsSome (label_at v)
+
+-- this state at one of the places is succeeded by the state s at the place c
+abbrev pub SucceedsOne : ℕ → (ℕ → Option ℕ) → (ℕ → ℕ → Bool) → Option State → List ℕ → ℕ → ℕ → Type 0
+SucceedsOne size label_at edge state places s c = (v : ℕ) × IsTrue (has places v) × Succeeds size label_at edge state v s c
+
+-- the state is entered from this one with no label read
+abbrev pub Enters : Option State → ℕ → Type 0
+Enters None s = ⊥
+Enters (Some End) s = ⊥
+Enters (Some Stuck) s = ⊥
+Enters (Some (Any next)) s = ⊥
+Enters (Some (Label l next)) s = ⊥
+Enters (Some (Fork a b)) s = (s ≡ a) ⊎ (s ≡ b)
+
+-- a word ends in the state, or in one that is entered from it
+abbrev pub EndsHere : (ℕ → Option State) → ℕ → Type 0
+EndsHere at s = (at s ≡ Some End) ⊎ ((k : ℕ) × Enters (at s) k × (at k ≡ Some End))
+
+-- one of the two states at one of the places, except an end
+abbrev pub ForksTo : List State → ℕ → ℕ → List ℕ → ℕ → ℕ → Type 0
+ForksTo states a b places s v = ((s ≡ a) ⊎ (s ≡ b)) × IsTrue (has places v) × (IsEnd states s → ⊥)
+
+-- what succeeds it, except an end that is entered
+abbrev pub MarksOne : (ℕ → Option State) → ℕ → (ℕ → Option ℕ) → (ℕ → ℕ → Bool) → ℕ → List ℕ → ℕ → ℕ → Type 0
+MarksOne at size label_at edge state places s c = SucceedsOne size label_at edge (at state) places s c × (Enters (at state) s → at s ≡ Some End → ⊥)

@@ -1,0 +1,132 @@
+// What comes next to places, marked in a row.
+ghost use Rattle.std.specs.Prelude.{◌≡◌, ◌↔◌, ◌≤◌, ◌+◌, ℕ, true, length, IsSome, IsTrue, OnOk};
+ghost use Rattle.graph_spec.specs.Members.{has};
+ghost use Rattle.path_automaton.specs.MarkRows.{IsSet};
+ghost use Rattle.path_automaton.specs.NewMarks.{Gathers, Passes};
+ghost use Rattle.path_automaton.specs.Digraphs.{PassesWithin, PassesAmong, NextWithin, NextOfWithin, IsPlaceWithin, ArePlacesWithin};
+
+use crate::frontier::mark_if;
+use crate::row::Row;
+use crate::scope::Scope;
+use label_graph::Digraph;
+use px_base::{Memory, NodeId};
+use std::alloc::Global;
+
+/// Whether the node's label passes: any one, or the one with the number. O(1), no memory.
+#[inline(always)]
+pub fn has_label<G: Digraph>(g: &G, test: Option<u32>, n: NodeId) -> bool
+    requires { IsSome (G.label_at g.now n) }
+    ensures { IsTrue result ↔ Passes (G.label_at g.now) test n }
+{
+    match test {
+        None => true,
+        Some(label) => g.label(n) == label,
+    }
+}
+
+/// Whether the node is within and its label passes.
+#[inline(always)]
+fn passes<G: Digraph, S: Scope>(g: &G, scope: &S, test: Option<u32>, n: NodeId) -> bool
+    requires { IsSome (G.label_at g.now n) }
+    ensures { IsTrue result ↔ PassesWithin G.Digraph g.now (S.keeps scope.now) test n }
+{
+    scope.contains(n) && has_label(g, test, n)
+}
+
+/// Whether the number is that of a node that is within and whose label passes.
+#[inline(always)]
+fn is_passing<G: Digraph, S: Scope>(g: &G, scope: &S, test: Option<u32>, n: NodeId) -> bool
+    ensures { IsTrue result ↔ PassesWithin G.Digraph g.now (S.keeps scope.now) test n }
+{
+    g.is_node(n) && passes(g, scope, test, n)
+}
+
+/// Marks each node that is within and whose label passes.
+fn mark_nodes<G: Digraph, S: Scope>(
+    alloc: Global,
+    g: &G,
+    scope: &S,
+    test: Option<u32>,
+    row: &mut Row,
+    found: &mut Vec<u32>,
+) -> Result<(), Memory>
+    requires { G.span g.now + 1 ≤ length row.old }
+    ensures gathers { OnOk result (Gathers (PassesWithin G.Digraph g.now (S.keeps scope.now) test) row.old row.new found.old.items found.new.items) }
+    ensures marked { OnOk result ((c : ℕ) → PassesWithin G.Digraph g.now (S.keeps scope.now) test c → IsSet row.new c) }
+{
+    let size = g.size();
+    let mut place = scope.first_from(0, size);
+    'nodes: while place < size {
+        mark_if(alloc, row, found, place, is_passing(g, scope, test, place))?;
+        place = scope.first_from(place + 1, size);
+    }
+    Ok(())
+}
+
+/// Marks each of the nodes that is within and whose label passes.
+#[inline(always)]
+fn mark_among<G: Digraph, S: Scope>(
+    alloc: Global,
+    g: &G,
+    scope: &S,
+    test: Option<u32>,
+    row: &mut Row,
+    found: &mut Vec<u32>,
+    nodes: &[NodeId],
+) -> Result<(), Memory>
+    requires nodes { (c : ℕ) → has nodes.now c ≡ true → IsSome (G.label_at g.now c) }
+    requires room { G.span g.now + 1 ≤ length row.old }
+    ensures gathers { OnOk result (Gathers (PassesAmong G.Digraph g.now (S.keeps scope.now) test nodes.now) row.old row.new found.old.items found.new.items) }
+    ensures marked { OnOk result ((c : ℕ) → IsTrue (has nodes.now c) → PassesWithin G.Digraph g.now (S.keeps scope.now) test c → IsSet row.new c) }
+{
+    for node in nodes {
+        let place = *node;
+        mark_if(alloc, row, found, place, passes(g, scope, test, place))?;
+    }
+    Ok(())
+}
+
+/// Marks each node within that comes next to the place and whose label passes.
+#[inline(always)]
+fn mark_next<G: Digraph, S: Scope>(
+    alloc: Global,
+    g: &G,
+    scope: &S,
+    test: Option<u32>,
+    row: &mut Row,
+    found: &mut Vec<u32>,
+    place: u32,
+) -> Result<(), Memory>
+    requires place { IsPlaceWithin G.Digraph g.now (S.keeps scope.now) place }
+    requires room { G.span g.now + 1 ≤ length row.old }
+    ensures gathers { OnOk result (Gathers (NextWithin G.Digraph g.now (S.keeps scope.now) test place) row.old row.new found.old.items found.new.items) }
+    ensures marked { OnOk result ((c : ℕ) → NextWithin G.Digraph g.now (S.keeps scope.now) test place c → IsSet row.new c) }
+{
+    if place == g.size() {
+        mark_nodes(alloc, g, scope, test, row, found)
+    } else {
+        mark_among(alloc, g, scope, test, row, found, g.children(place))
+    }
+}
+
+/// Marks each node within that comes next to one of the places and whose label passes.
+pub(crate) fn follow<G: Digraph, S: Scope>(
+    alloc: Global,
+    g: &G,
+    scope: &S,
+    test: Option<u32>,
+    row: &mut Row,
+    found: &mut Vec<u32>,
+    places: &[u32],
+) -> Result<(), Memory>
+    requires places { ArePlacesWithin G.Digraph g.now (S.keeps scope.now) places.now }
+    requires room { G.span g.now + 1 ≤ length row.old }
+    ensures gathers { OnOk result (Gathers (NextOfWithin G.Digraph g.now (S.keeps scope.now) test places.now) row.old row.new found.old.items found.new.items) }
+    ensures marked { OnOk result ((v c : ℕ) → IsTrue (has places.now v) → NextWithin G.Digraph g.now (S.keeps scope.now) test v c → IsSet row.new c) }
+{
+    for p in places {
+        let place = *p;
+        mark_next(alloc, g, scope, test, row, found, place)?;
+    }
+    Ok(())
+}

@@ -1,7 +1,0 @@
-use Rattle.std.proofs.Common.{◌∙◌, ap}
-use Rattle.path_search.specs.Rows.{flags_of}
-use Rattle.path_search.proofs.Bits.{flags_of-nil}
-use Rattle.path_search.proofs.row.Row.new.Goals as goal
-
-pub returns : goal.returns
-returns c = ap (flags_of c.args.width) c.new.ensures.items ∙ flags_of-nil c.args.width

@@ -1,0 +1,28 @@
+-- The other ends of the pairs that begin, or end, at a block.
+use Rattle.std.specs.Prelude.{◌≡◌, ℕ, List, [], Some, None, cond, nat_eq}
+use Rattle.std.specs.List.{IsDistinct, filter_map}
+use Rattle.std.specs.Option.{option_map_or}
+use Rattle.std.specs.Map.{lookup}
+use Rattle.smallvec.specs.SmallVec.{SmallVec, HasRoomFor}
+use Rattle.quotient_draft.specs.Drafts.{is_pair}
+
+-- the ends of the pairs that begin at a, and the beginnings of the pairs that end at b
+abbrev pub ends_from : List (ℕ × ℕ) → ℕ → List ℕ
+ends_from pairs a = filter_map (λ p. cond (nat_eq a p.0) (Some p.1) None) pairs
+
+abbrev pub ends_onto : List (ℕ × ℕ) → ℕ → List ℕ
+ends_onto pairs b = filter_map (λ p. cond (nat_eq b p.1) (Some p.0) None) pairs
+
+-- the ends that are noted for a block, and none where it isn't in the table
+abbrev pub listed : List (ℕ × SmallVec ℕ) → ℕ → List ℕ
+listed ends b = option_map_or (λ v. v.items) (lookup (nat_eq b) ends) []
+
+-- a block has a list with capacity for one more end
+abbrev pub HasPlace : List (ℕ × SmallVec ℕ) → ℕ → Type 0
+HasPlace ends b = (v : SmallVec ℕ) × (lookup (nat_eq b) ends ≡ Some v) × HasRoomFor v 1
+
+-- the pairs differ, and their ends are noted
+pub record AreNoted (pairs : List (ℕ × ℕ)) (from onto : List (ℕ × SmallVec ℕ)) : Type 0 where
+  pub once : IsDistinct is_pair pairs
+  pub from_are : (a : ℕ) → listed from a ≡ ends_from pairs a
+  pub onto_are : (b : ℕ) → listed onto b ≡ ends_onto pairs b

@@ -1,0 +1,2 @@
+pub mod NeighbourCosts
+pub mod Shifts

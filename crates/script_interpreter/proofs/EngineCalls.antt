@@ -1,0 +1,174 @@
+-- What each call of the engine makes of the state of a run.
+use Rattle.std.proofs.Common.{◌≡◌, Bool, true, false, List, [], ◌∷◌, Some, Ok, Err, refl, sym, ap, ◌∙◌, subst, cond, true≢false}
+use Rattle.std.specs.Prelude.{◌++◌, ◌||◌, ◌↔◌, ℕ, All, is_err, not}
+use Rattle.std.specs.List.{filter}
+use Rattle.graph_spec.specs.declared.refusal.Refusal.{Refusal}
+use Rattle.graph_spec.specs.declared.refusal.Refusal.TheVariants.{NoIndex}
+use Rattle.graph_spec.specs.ProgramLimits.{program_limits}
+use Rattle.graph_spec.specs.Changes.{Change, apply}
+use Rattle.bisim_spec.specs.declared.kind.Kind.{Kind}
+use Rattle.graph_update.specs.NewChanges.{is_same}
+use Rattle.graph_update.specs.declared.changes.Applied.{Applied}
+use Rattle.graph_update.specs.StagedChanges.{applied_of}
+use Rattle.index_api.specs.declared.kinds.Via.{Via}
+use Rattle.index_api.specs.declared.kinds.Via.TheVariants.{Data}
+use Rattle.index_api.specs.Meanings.{Meaning, IsBuilt}
+use Rattle.index_api.specs.IndexKinds.{is_kind, has_kind, kinds_of, is_kept}
+use Rattle.branch_query.specs.Queries.{Query, path, branch}
+use Rattle.script_read.specs.Commands.{change, extents, sizes, forget}
+use Rattle.pathindex_core.specs.Engines.{Opened, EngineSeen, EachBecomes, IsKeptFor, AreKeptFor, IsSound, graph_in}
+use Rattle.pathindex_core.specs.Calls.{IsMade, IsForgotten, IsAsked}
+use Rattle.pathindex_core.specs.Updates.{IsUpdated, graph_or, outcome_in, opened_after}
+use Rattle.script_interpreter.specs.declared.printing.Printing.{Printing}
+use Rattle.script_interpreter.specs.Rules.{if_whole, rules_for}
+use Rattle.script_interpreter.specs.LineTexts.{applied_line, refused_line, ok_line, reply}
+use Rattle.script_interpreter.specs.States.{State, BeginsRun}
+use Rattle.script_interpreter.specs.EngineStates.{IsOpen, state_in}
+use Rattle.script_interpreter.specs.Indexes.{ShowsAnswers, ShowsExtents, unkept, ShowsSizes}
+use Rattle.script_interpreter.specs.Runs.{IsChanged, Becomes, Obeys, changes, asks_path, asks_branch, lists, measures, forgets, lacks}
+use Rattle.script_interpreter.specs.RunSteps.{query_command, Obeyed}
+use Rattle.script_interpreter.proofs.EngineLemmas.{first_state, changed_state, forgotten_state}
+
+pub open_same : (e f : EngineSeen) → f ≡ e → IsOpen e → IsOpen f
+open_same e f h o = subst IsOpen (sym h) o
+
+-- the indexes of an open engine
+fits_in : (e : EngineSeen) (o : Opened) → e.opened ≡ Some o → IsSound e → All (IsKeptFor o) e.boxes
+fits_in e o h s = (subst (λ x. AreKeptFor x e.boxes) h s.fit).1
+
+seen_as : (e : EngineSeen) (o : Opened) → e.opened ≡ Some o → state_in (record { boxes = e.boxes; opened = Some o }) ≡ state_in e
+seen_as e o h i = state_in (record { boxes = e.boxes; opened = sym h i })
+
+-- what is an answer is no error
+pub no_refusal : {T E P : Type 0} (x : T) (e : E) → (P → Ok x ≡ Err e) → P → ⊥
+no_refusal x e f p = (let z = f p in cc)
+
+-- an engine after a change that was made
+pub open_made : (c : Change) (e f : EngineSeen) (answer : Applied) → IsOpen e → IsSound f → IsMade c e f answer → IsOpen f
+open_made c e f answer o sound m = record {
+  sound = sound;
+  opened = record o.opened { graph = graph_or o.opened.graph (apply c o.opened.graph o.opened.limits) };
+  opened_is = m.opened ∙ ap (opened_after c) o.opened_is;
+  limits_are = o.limits_are;
+}
+
+pub made_obeyed : (printing : Printing) (c : Change) (e f : EngineSeen) (answer : Applied) (out gathered : List ℕ) → IsOpen e → IsMade c e f answer → ((r : Refusal) → outcome_in c e.opened ≡ Err r → ⊥)
+    → gathered ≡ out ++ if_whole printing (applied_line answer) → Obeyed (rules_for printing) (state_in e) (change c) out false (state_in f) gathered
+made_obeyed printing c e f answer out gathered ready m accepted g =
+    let o = ready.opened in
+    elim (apply c o.graph o.limits) as (λ x. apply c o.graph o.limits ≡ x → Obeyed (rules_for printing) (state_in e) (change c) out false (state_in f) gathered) [
+      | Ok h ↦ λ q.
+          (let p : Opened = record o { graph = h } in
+          let f_is : f.opened ≡ Some p = m.opened ∙ ap (opened_after c) ready.opened_is ∙ ap (λ x. Some (record o { graph = graph_or o.graph x })) q in
+          let updated = subst (λ x. EachBecomes (IsUpdated c (graph_in x)) e.boxes f.boxes) ready.opened_is m.updated in
+          let still : is_same c o.graph ≡ true → state_in (record { boxes = f.boxes; opened = Some p }) ≡ state_in (record { boxes = e.boxes; opened = Some o }) =
+          λ s. seen_as f p f_is ∙ ap state_in (m.still (ap (λ x. is_same c (graph_in x)) ready.opened_is ∙ s)) ∙ sym (seen_as e o ready.opened_is) in
+          let moved = changed_state c o p h e.boxes f.boxes q refl updated still m.kinds in
+          let changed : IsChanged (state_in e) c h (state_in f) = subst (λ t. IsChanged (state_in e) c h t) (seen_as f p f_is) (subst (λ s. IsChanged s c h (state_in (record { boxes = f.boxes; opened = Some p }))) (seen_as e o ready.opened_is) moved) in
+          let outcome : apply c (state_in e).graph program_limits ≡ Ok h = ap (λ x. apply c (graph_in x) program_limits) ready.opened_is ∙ ap (apply c o.graph) (sym ready.limits_are) ∙ q in
+          record {
+            printed = if_whole printing (applied_line (applied_of c (state_in e).graph));
+            obeys = subst (λ x. Obeys (rules_for printing) (state_in e) (change c) (reply printing c (state_in e).graph x) (is_err x) (state_in f)) outcome
+                (changes c (state_in f) (subst (λ x. Becomes (state_in e) c x (state_in f)) (sym outcome) changed));
+            gathered_is = g ∙ ap (λ a. out ++ if_whole printing (applied_line a)) m.applied;
+          })
+      | Err r ↦ λ q. absurd (accepted r (ap (outcome_in c) ready.opened_is ∙ q))
+    ] refl
+
+-- a change was refused, and all is as it was
+pub refused_obeyed : (printing : Printing) (c : Change) (e f : EngineSeen) (r : Refusal) (out gathered : List ℕ) → IsOpen e → f ≡ e → outcome_in c e.opened ≡ Err r
+    → gathered ≡ out ++ refused_line r → Obeyed (rules_for printing) (state_in e) (change c) out true (state_in f) gathered
+refused_obeyed printing c e f r out gathered ready same q g =
+    let o = ready.opened in
+    let outcome : apply c (state_in e).graph program_limits ≡ Err r =
+    ap (λ x. apply c (graph_in x) program_limits) ready.opened_is ∙ ap (apply c o.graph) (sym ready.limits_are) ∙ ap (outcome_in c) (sym ready.opened_is) ∙ q in
+    record {
+      printed = refused_line r;
+      obeys = subst (λ x. Obeys (rules_for printing) (state_in e) (change c) (reply printing c (state_in e).graph x) (is_err x) (state_in f)) outcome
+          (changes c (state_in f) (subst (λ x. Becomes (state_in e) c x (state_in f)) (sym outcome) (ap state_in same)));
+      gathered_is = g;
+    }
+
+pub open_asked : (e f : EngineSeen) → IsOpen e → IsSound f → IsAsked e f → IsOpen f
+open_asked e f o sound a = record { sound = sound; opened = o.opened; opened_is = a.opened ∙ o.opened_is; limits_are = o.limits_are }
+
+same_asked : (e f : EngineSeen) → IsAsked e f → state_in f ≡ state_in e
+same_asked e f a i = record { graph = graph_in (a.opened i); kept = a.kept i }
+
+asks_query : (printing : Printing) (s : State) (via : Via) (q : Query) (text : List ℕ) (refuses : Bool) → ShowsAnswers printing s q via text refuses → Obeys (rules_for printing) s (query_command via q) text refuses s
+asks_query printing s via (path e) text refuses h = asks_path via e text refuses h
+asks_query printing s via (branch q) text refuses h = asks_branch via q text refuses h
+
+pub query_obeyed : (printing : Printing) (e f : EngineSeen) (via : Via) (q : Query) (text out gathered : List ℕ) (refuses : Bool) → IsAsked e f
+    → ShowsAnswers printing (state_in e) q via text refuses → gathered ≡ out ++ text → Obeyed (rules_for printing) (state_in e) (query_command via q) out refuses (state_in f) gathered
+query_obeyed printing e f via q text out gathered refuses a s g = record {
+  printed = text;
+  obeys = subst (Obeys (rules_for printing) (state_in e) (query_command via q) text refuses) (sym (same_asked e f a)) (asks_query printing (state_in e) via q text refuses s);
+  gathered_is = g;
+}
+
+pub list_obeyed : (printing : Printing) (e f : EngineSeen) (via : Via) (text out gathered : List ℕ) (refuses : Bool) → IsAsked e f
+    → ShowsExtents (state_in e) via text refuses → gathered ≡ out ++ text → Obeyed (rules_for printing) (state_in e) (extents via) out refuses (state_in f) gathered
+list_obeyed printing e f via text out gathered refuses a s g = record {
+  printed = text;
+  obeys = subst (Obeys (rules_for printing) (state_in e) (extents via) text refuses) (sym (same_asked e f a)) (lists via text refuses s);
+  gathered_is = g;
+}
+
+pub sizes_obeyed : (printing : Printing) (e f : EngineSeen) (text out gathered : List ℕ) → IsAsked e f
+    → ShowsSizes (state_in e) text → gathered ≡ out ++ text → Obeyed (rules_for printing) (state_in e) sizes out false (state_in f) gathered
+sizes_obeyed printing e f text out gathered a s g = record {
+  printed = text;
+  obeys = subst (Obeys (rules_for printing) (state_in e) sizes text false) (sym (same_asked e f a)) (measures text s);
+  gathered_is = g;
+}
+
+pub open_forgotten : (kind : Kind) (e f : EngineSeen) → IsOpen e → IsSound f → IsForgotten kind e f → IsOpen f
+open_forgotten kind e f o sound a = record { sound = sound; opened = o.opened; opened_is = a.opened ∙ o.opened_is; limits_are = o.limits_are }
+
+pub forget_obeyed : (printing : Printing) (kind : Kind) (e f : EngineSeen) (out gathered : List ℕ) → IsForgotten kind e f → has_kind (kinds_of e.boxes) kind ≡ true → gathered ≡ out ++ if_whole printing ok_line
+    → Obeyed (rules_for printing) (state_in e) (forget kind) out false (state_in f) gathered
+forget_obeyed printing kind e f out gathered a h g = record {
+  printed = if_whole printing ok_line;
+  obeys = subst (Obeys (rules_for printing) (state_in e) (forget kind) (if_whole printing ok_line) false) (sym (forgotten_state kind e f a.opened a.boxes)) (forgets kind h);
+  gathered_is = g;
+}
+
+all_left : (kind : Kind) (boxes : List Meaning) → has_kind (kinds_of boxes) kind ≡ false → filter (λ m. not (is_kind kind m.kind)) boxes ≡ boxes
+all_left kind [] h = refl
+all_left kind (m ∷ ms) h =
+    elim (is_kind kind m.kind) as (λ t. (t || has_kind (kinds_of ms) kind) ≡ false → cond (not t) (m ∷ filter (λ x. not (is_kind kind x.kind)) ms) (filter (λ x. not (is_kind kind x.kind)) ms) ≡ m ∷ ms) [
+      | true ↦ λ e. absurd (true≢false e)
+      | false ↦ λ e. ap (λ xs. m ∷ xs) (all_left kind ms e)
+    ] h
+
+-- none of that kind is kept, and all is as it was
+pub lacks_obeyed : (printing : Printing) (kind : Kind) (e f : EngineSeen) (out gathered : List ℕ) → IsForgotten kind e f → has_kind (kinds_of e.boxes) kind ≡ false → gathered ≡ out ++ refused_line NoIndex
+    → Obeyed (rules_for printing) (state_in e) (forget kind) out true (state_in f) gathered
+lacks_obeyed printing kind e f out gathered a h g = record {
+  printed = refused_line NoIndex;
+  obeys = subst (Obeys (rules_for printing) (state_in e) (forget kind) (refused_line NoIndex) true) (sym (ap state_in same)) (lacks kind h);
+  gathered_is = g;
+}
+  where
+    same : f ≡ e
+    same i = record { boxes = (a.boxes ∙ all_left kind e.boxes h) i; opened = a.opened i }
+
+-- what was forgotten was kept
+pub kept_kind : {T E : Type 0} (b : Bool) (x : T) (e : E) → (Ok x ≡ Err e) ↔ (b ≡ false) → b ≡ true
+kept_kind true x e h = refl
+kept_kind false x e h = absurd (no_refusal x e h.1 refl)
+
+-- the list of the graph itself is refused
+pub data_obeyed : (printing : Printing) (e : EngineSeen) (via : Via) (out gathered : List ℕ) → via ≡ Data → gathered ≡ out ++ refused_line NoIndex → Obeyed (rules_for printing) (state_in e) (extents via) out true (state_in e) gathered
+data_obeyed printing e via out gathered d g = record {
+  printed = refused_line NoIndex;
+  obeys = lists via (refused_line NoIndex) true (unkept via (ap (is_kept (state_in e).kept) d));
+  gathered_is = g;
+}
+
+-- the state with which a run begins
+pub opened_first : (e f : EngineSeen) (o : Opened) → f.opened ≡ Some o → EachBecomes (λ a b. IsBuilt a b o.graph o.k) e.boxes f.boxes → kinds_of f.boxes ≡ kinds_of e.boxes → IsSound f
+    → BeginsRun (state_in f).graph (kinds_of e.boxes) o.k (state_in f)
+opened_first e f o h built kinds s =
+    subst (λ x. BeginsRun x.graph (kinds_of e.boxes) o.k x) (seen_as f o h) (first_state o.graph o e.boxes f.boxes refl built kinds (fits_in f o h s))

@@ -1,0 +1,93 @@
+use Rattle.std.proofs.Common.{◌≡◌, ◌∙◌, ap, rules, refl}
+use Rattle.std.specs.Prelude.{is_some}
+use Rattle.std.proofs.lemmas.Result.{err_from_is_err_and}
+use Rattle.pathindex_core.specs.Engines.{seen}
+use Rattle.script_interpreter.specs.declared.script.Ending.TheVariants.{Bad}
+use Rattle.script_interpreter.specs.Endings.{status_at}
+use Rattle.script_interpreter.specs.EngineStates.{state_in}
+use Rattle.script_interpreter.specs.Runs.{end_status}
+use Rattle.script_interpreter.specs.Rules.{rules_for}
+use Rattle.script_interpreter.specs.RunSteps.{progress}
+use Rattle.script_interpreter.proofs.ReachedLemmas.{reached-start, reached-more, reached-written, ran-over, ran-bad, prefix-part, prefix-bad, prefix-over, part_written, nothing_written, all_written, ok_fact, err_fact}
+use Rattle.script_interpreter.proofs.script.run_lines.Goals as goal
+
+pub returns-in_err-reader-clause-part : goal.returns-in_err-reader-clause-part
+returns-in_err-reader-clause-part g c =
+    let p = err_from_is_err_and c.from_residual.result c.from_residual.ensures.1 in
+    rw p.1 (prefix-part _ _ (reached-start (rules_for c.args.printing) (state_in (seen g.B.PathIndex.meaning c.args.engine.now)) (g.H.Shelf.left c.args.shelf.now) (g.K.Sink.written c.args.sink.now)) _ (nothing_written _ _))
+
+pub lines-init : goal.lines-init
+lines-init g c = record {
+  reached = rw (c.in_ok-reader.ensures, c.new-out.ensures.items) (reached-start (rules_for c.args.printing) (state_in (seen g.B.PathIndex.meaning c.args.engine.now)) (g.H.Shelf.left c.args.shelf.now) (g.K.Sink.written c.args.sink.now));
+  ready = c.requires.ready;
+  can = rw c.in_ok-reader.ensures (search rules);
+  taken = rw c.in_ok-reader.ensures (search rules);
+  files = search rules;
+  shelf_faults = search rules;
+  sink_faults = search rules;
+}
+
+pub returns-in_err-flush_if_due-clause-part : goal.returns-in_err-flush_if_due-clause-part
+returns-in_err-flush_if_due-clause-part g c =
+    let p = err_from_is_err_and c.from_residual-in_err-flush_if_due.result c.from_residual-in_err-flush_if_due.ensures.1 in
+    rw p.1 (prefix-part _ _ c.lines.invariant.reached _ (part_written _ _ _ c.in_err-flush_if_due.ensures.part))
+
+pub lines-preserved : goal.lines-preserved
+lines-preserved g c =
+    let goes = rw c.in-Ok-Taken.field-0-is at c.in-Ok-Taken.ensures.goes in
+    record {
+      reached = reached-more (reached-written c.lines.invariant.reached _ _ c.in_ok-flush_if_due.ensures.written) goes.0 goes.1 _ _ _ goes.2 goes.3 goes.4;
+      ready = c.next_line.ensures.ready;
+      can = rw c.in-Ok-Taken.field-0-is at c.in-Ok-Taken.ensures.can;
+      taken = (rw c.in-Ok-Taken.field-0-is at c.in-Ok-Taken.ensures.nearer).1;
+      files = search rules;
+      shelf_faults = search rules;
+      sink_faults = search rules;
+    }
+
+pub returns-in-Ok-AtBad-clause-ran : goal.returns-in-Ok-AtBad-clause-ran
+returns-in-Ok-AtBad-clause-ran g c =
+    let goes = rw c.in-Ok-AtBad.field-0-is at c.in-Ok-AtBad.ensures.goes in
+    ok_fact c.finish.result Bad _ _ c.finish.ensures.ending c.finish.ensures.all
+    (λ w. ran-bad _ _ (reached-written c.lines.invariant.reached _ _ c.in_ok-flush_if_due.ensures.written) goes.0 _ _ goes.2 w _ (record { is_open = ap is_some c.next_line.ensures.ready.opened_is; state = goes.1 }))
+
+pub returns-in-Ok-AtBad-clause-part : goal.returns-in-Ok-AtBad-clause-part
+returns-in-Ok-AtBad-clause-part g c =
+    let goes = rw c.in-Ok-AtBad.field-0-is at c.in-Ok-AtBad.ensures.goes in
+    err_fact c.finish.result _ _ c.finish.ensures.part
+    (λ w. prefix-bad _ _ (reached-written c.lines.invariant.reached _ _ c.in_ok-flush_if_due.ensures.written) goes.0 _ _ goes.2 (part_written _ _ _ w))
+
+pub returns-in-Ok-AtEnd-clause-ran : goal.returns-in-Ok-AtEnd-clause-ran
+returns-in-Ok-AtEnd-clause-ran g c =
+    let goes = rw c.in-Ok-AtEnd.field-0-is at c.in-Ok-AtEnd.ensures.goes in
+    let p = progress (state_in (seen g.B.PathIndex.meaning c.lines.engine)) c.lines.refused c.lines.reader in
+    let q = progress (state_in (seen g.B.PathIndex.meaning c.next_line.new.engine)) c.next_line.new.refused c.next_line.new.reader in
+    let e : status_at c.ending_of.result ≡ end_status p = c.ending_of.ensures q refl ∙ goes.2 in
+    ok_fact c.finish-in-Ok-AtEnd.result c.ending_of.result _ _ c.finish-in-Ok-AtEnd.ensures.ending c.finish-in-Ok-AtEnd.ensures.all
+    (λ w. rw e (ran-over _ _ (reached-written c.lines.invariant.reached _ _ c.in_ok-flush_if_due.ensures.written) goes.0 _ _ goes.3 w _ (record { is_open = ap is_some c.next_line.ensures.ready.opened_is; state = goes.1 })))
+
+pub returns-in-Ok-AtEnd-clause-part : goal.returns-in-Ok-AtEnd-clause-part
+returns-in-Ok-AtEnd-clause-part g c =
+    let goes = rw c.in-Ok-AtEnd.field-0-is at c.in-Ok-AtEnd.ensures.goes in
+    err_fact c.finish-in-Ok-AtEnd.result _ _ c.finish-in-Ok-AtEnd.ensures.part
+    (λ w. prefix-over _ _ (reached-written c.lines.invariant.reached _ _ c.in_ok-flush_if_due.ensures.written) goes.0 _ _ goes.3 (part_written _ _ _ w))
+
+pub returns-in_err-flush-in-Err-Memory-clause-part : goal.returns-in_err-flush-in-Err-Memory-clause-part
+returns-in_err-flush-in-Err-Memory-clause-part g c =
+    let p = err_from_is_err_and c.from_residual-in_err-flush-in-Err-Memory.result c.from_residual-in_err-flush-in-Err-Memory.ensures.1 in
+    rw p.1 (prefix-part _ _ (reached-written c.lines.invariant.reached _ _ c.in_ok-flush_if_due.ensures.written) _
+    (part_written _ _ _ (rw c.in-Err-Memory.ensures.gathered at c.in_err-flush-in-Err-Memory.ensures.part)))
+
+pub returns-in-Err-Memory-clause-part : goal.returns-in-Err-Memory-clause-part
+returns-in-Err-Memory-clause-part g c =
+    prefix-part _ _ (reached-written c.lines.invariant.reached _ _ c.in_ok-flush_if_due.ensures.written) _
+    (all_written _ _ _ (rw c.in-Err-Memory.ensures.gathered at c.in_ok-flush-in-Err-Memory.ensures.all))
+
+pub returns-in-Err-clause-part : goal.returns-in-Err-clause-part
+returns-in-Err-clause-part g c =
+    prefix-part _ _ (reached-written c.lines.invariant.reached _ _ c.in_ok-flush_if_due.ensures.written) _ (nothing_written _ _)
+
+pub returns-in-Ok-AtEnd-clause-sink_fault : goal.returns-in-Ok-AtEnd-clause-sink_fault
+returns-in-Ok-AtEnd-clause-sink_fault g c e =
+    let same : g.K.Sink.faults c.flush_if_due.new.sink ≡ g.K.Sink.faults c.args.sink.now = search rules in
+    rw (← same) (c.finish-in-Ok-AtEnd.ensures.sink e)

@@ -1,0 +1,24 @@
+use Rattle.std.proofs.Common.{◌≡◌, ◌-◌, ◌≤◌}
+use Rattle.px_base.specs.declared.lines.TheConstants.{SCRIPT_BYTES}
+use Rattle.px_base.specs.ReaderStates.{stream}
+use Rattle.pathindex_core.specs.Engines.{seen}
+use Rattle.script_interpreter.specs.EngineStates.{IsOpen, state_in}
+use Rattle.script_interpreter.specs.Rules.{rules_for}
+use Rattle.script_interpreter.specs.RunSteps.{progress, CanRead}
+use Rattle.script_interpreter.proofs.ReachedLemmas.{Reached}
+use Rattle.script_interpreter.proofs.script.run_lines.Given as goal
+
+abbrev pub invariant-lines : goal.invariant-lines
+invariant-lines g l = record {
+  reached : Reached (rules_for l.fn.printing) (state_in (seen g.B.PathIndex.meaning l.fn.engine)) (g.H.Shelf.left l.fn.shelf) (stream l.reader (g.H.Shelf.left l.shelf)) (g.K.Sink.written l.fn.sink) (g.K.Sink.written l.sink) l.out.items
+      (progress (state_in (seen g.B.PathIndex.meaning l.engine)) l.refused l.reader);
+  ready : IsOpen (seen g.B.PathIndex.meaning l.engine);
+  can : CanRead l.reader (g.H.Shelf.is_open l.shelf);
+  taken : l.reader.taken ≤ SCRIPT_BYTES;
+  files : g.H.Shelf.files l.shelf ≡ g.H.Shelf.files l.fn.shelf;
+  shelf_faults : g.H.Shelf.faults l.shelf ≡ g.H.Shelf.faults l.fn.shelf;
+  sink_faults : g.K.Sink.faults l.sink ≡ g.K.Sink.faults l.fn.sink;
+}
+
+abbrev pub decreases-lines : goal.decreases-lines
+decreases-lines g l = SCRIPT_BYTES - l.reader.taken

@@ -1,0 +1,26 @@
+-- The state of a run, as the engine has it.
+use Rattle.std.specs.Prelude.{◌≡◌, Some, IsSome}
+use Rattle.graph_spec.specs.ProgramLimits.{program_limits}
+use Rattle.index_api.specs.Meanings.{Meaning}
+use Rattle.pathindex_core.specs.Engines.{Opened, EngineOf, EngineSeen, IsSound, seen, graph_in, kept_in}
+use Rattle.script_interpreter.specs.States.{State}
+
+-- the graph and the indexes of the engine
+abbrev pub state_in : EngineSeen → State
+state_in e = record { graph = graph_in e.opened; kept = kept_in e }
+
+-- the same of an engine, by what its indexes mean
+abbrev pub state_of : {B : Type 0} → (B → Meaning) → EngineOf B → State
+state_of meaning e = state_in (seen meaning e)
+
+-- the engine is open with the limits of the program, and its indexes fit its graph
+pub record IsOpen (e : EngineSeen) : Type 0 where
+  pub sound : IsSound e
+  pub opened : Opened
+  pub opened_is : e.opened ≡ Some opened
+  pub limits_are : opened.limits ≡ program_limits
+
+-- the engine is open, and has the graph and the indexes of the state
+pub record IsIn (e : EngineSeen) (s : State) : Type 0 where
+  pub is_open : IsSome e.opened
+  pub state : state_in e ≡ s

@@ -1,0 +1,9 @@
+pub mod Rules
+pub mod LineTexts
+pub mod States
+pub mod EngineStates
+pub mod Indexes
+pub mod Runs
+pub mod RunSteps
+pub mod Endings
+pub mod Observable

@@ -1,0 +1,86 @@
+-- What one step of a run does.
+use Rattle.std.specs.Prelude.{◌≡◌, ℕ, ◌+◌, ◌++◌, Bool, true, false, List, ◌∷◌, IsTrue, ⊤, Option, None, Some}
+use Rattle.std.specs.Io.KnownBytes.{Appends}
+use Rattle.px_base.specs.declared.lines.TheConstants.{LINE_BYTES, SCRIPT_BYTES}
+use Rattle.px_base.specs.ReaderStates.{ReaderState, IsFirst, IsOver}
+use Rattle.graph_spec.specs.Lines.{Line, cut}
+use Rattle.script_interpreter.specs.Rules.{Rules}
+use Rattle.script_interpreter.specs.LineTexts.{bad_line}
+use Rattle.index_api.specs.declared.kinds.Via.{Via}
+use Rattle.branch_query.specs.Queries as query
+use Rattle.branch_query.specs.Queries.{Query}
+use Rattle.script_read.specs.Commands.{Command, path, branch, SpellsNothing}
+use Rattle.script_interpreter.specs.declared.interpreter.Outcome.{Outcome}
+use Rattle.script_interpreter.specs.declared.interpreter.Outcome.TheVariants.{Done, Refused, Bad}
+use Rattle.script_interpreter.specs.declared.script.Next.{Next}
+use Rattle.script_interpreter.specs.declared.script.Next.TheVariants.{Taken, AtBad, AtEnd}
+use Rattle.script_interpreter.specs.States.{State}
+use Rattle.script_interpreter.specs.Runs.{Progress, Obeys, Does, TakesLine, IsBad, end_text, end_status}
+
+-- the new text begins with the old one
+pub record Extends (old new : List ℕ) : Type 0 where
+  pub rest : List ℕ
+  pub new_is : new ≡ old ++ rest
+
+-- the command that asks a query through this
+abbrev pub query_command : Via → Query → Command
+query_command via (query.path e) = path via e
+query_command via (query.branch q) = branch via q
+
+-- A command was carried out, and what it prints is gathered; whether that is a refusal.
+pub record Obeyed (rules : Rules) (s : State) (c : Command) (out : List ℕ) (refuses : Bool) (t : State) (gathered : List ℕ) : Type 0 where
+  pub printed : List ℕ
+  pub obeys : Obeys rules s c printed refuses t
+  pub gathered_is : gathered ≡ out ++ printed
+
+-- a line was taken, and what it prints is gathered
+pub record IsTaken (rules : Rules) (s : State) (line out : List ℕ) (refuses : Bool) (t : State) (gathered : List ℕ) : Type 0 where
+  pub printed : List ℕ
+  pub does : Does rules s line printed refuses t
+  pub gathered_is : gathered ≡ out ++ printed
+
+-- nothing was gathered, and the state is as it was, since the line is bad
+pub record IsLeft (rules : Rules) (s : State) (line out : List ℕ) (t : State) (gathered : List ℕ) : Type 0 where
+  pub bad : SpellsNothing rules.limits line
+  pub state : t ≡ s
+  pub gathered_is : gathered ≡ out
+
+-- what a line comes to
+abbrev pub LineComes : Rules → State → List ℕ → List ℕ → Outcome → State → List ℕ → Type 0
+LineComes rules s line out Done t gathered = IsTaken rules s line out false t gathered
+LineComes rules s line out Refused t gathered = IsTaken rules s line out true t gathered
+LineComes rules s line out Bad t gathered = IsLeft rules s line out t gathered
+
+-- how far the run has come, by its state, whether some line printed `refused`, and its reader
+abbrev pub progress : State → Bool → ReaderState → Progress
+progress s refused r = record { state = s; refused = refused; lines = r.number; bytes = r.taken }
+
+-- the first line of an observable text is bad
+abbrev pub FirstIsBad : Rules → Progress → Option (List ℕ) → Type 0
+FirstIsBad rules p None = ⊤
+FirstIsBad rules p (Some text) = (l : Line) × (ls : List Line) × (cut text ≡ l ∷ ls) × IsBad rules p l
+
+-- The run takes a line and gathers what it prints, or it ends: at a bad line, or at the end of the script. Where it ends its state is
+-- as it was.
+abbrev pub Goes : Rules → Progress → Option (List ℕ) → List ℕ → Next → Progress → Option (List ℕ) → List ℕ → Type 0
+Goes rules p before out Taken q after gathered = (l : Line) × (printed : List ℕ)
+    × IsFirst l before after × TakesLine rules p l printed q × (gathered ≡ out ++ printed)
+Goes rules p before out AtBad q after gathered = FirstIsBad rules p before × (q.state ≡ p.state) × (gathered ≡ out ++ bad_line (p.lines + 1))
+Goes rules p before out AtEnd q after gathered = IsOver before × (q.state ≡ p.state) × (end_status q ≡ end_status p) × (gathered ≡ out ++ end_text p)
+
+-- a fact for a step after which the run goes on
+abbrev pub OnTaken : Next → Type 0 → Type 0
+OnTaken Taken P = P
+OnTaken AtBad P = ⊤
+OnTaken AtEnd P = ⊤
+
+-- the reader can read on
+pub record CanRead (r : ReaderState) (is_open : Bool) : Type 0 where
+  pub ready : r.failed ≡ false
+  pub line_limit : r.line_limit ≡ LINE_BYTES
+  pub text_limit : r.text_limit ≡ SCRIPT_BYTES
+  pub open_file : IsTrue is_open
+
+-- a prefix of what was gathered is written, and the rest is left
+abbrev pub Writes : Option (List ℕ) → Option (List ℕ) → List ℕ → List ℕ → Type 0
+Writes old new out left = (prefix : List ℕ) × Appends old new prefix × (out ≡ prefix ++ left)

@@ -1,0 +1,147 @@
+-- A run of a script: what it prints, its status, and its last state.
+use Rattle.std.specs.Prelude.{ℕ, ◌+◌, ◌≡◌, ◌≤◌, ◌⊎◌, Bool, true, false, ◌||◌, List, [], ◌∷◌, ◌++◌, length, if◌then◌else◌, Result, Ok, Err, is_err, IsTrue}
+use Rattle.px_base.specs.declared.lines.TheConstants.{LINE_BYTES, SCRIPT_BYTES}
+use Rattle.script_interpreter.specs.Rules.{Rules, if_whole}
+use Rattle.graph_spec.specs.declared.refusal.Refusal.{Refusal}
+use Rattle.graph_spec.specs.declared.refusal.Refusal.TheVariants.{Limit, NoIndex}
+use Rattle.graph_spec.specs.Lines.{Line, cut}
+use Rattle.graph_spec.specs.Graphs.{Graph}
+use Rattle.graph_spec.specs.Changes.{Change, apply}
+use Rattle.index_api.specs.declared.kinds.Via.{Via}
+use Rattle.bisim_spec.specs.declared.kind.Kind.{Kind}
+use Rattle.bisim_spec.specs.declared.kind.Kind.TheVariants.{One}
+use Rattle.bisim_spec.specs.OneStep.{OneStep}
+use Rattle.graph_update.specs.NewChanges.{is_same}
+use Rattle.path_spec.specs.Trees.{Expr}
+use Rattle.branch_spec.specs.Trees.{Branch}
+use Rattle.branch_query.specs.Queries as query
+use Rattle.script_interpreter.specs.LineTexts.{reply, refused_line, ok_line, bad_line}
+use Rattle.script_interpreter.specs.States.{State, keeps, forgotten}
+use Rattle.script_interpreter.specs.Indexes.{ShowsAnswers, ShowsExtents, ShowsSizes}
+use Rattle.script_read.specs.Commands.{Command, change, path, branch, extents, sizes, forget, IsQuiet, IsSpelled, PassesLimit, SpellsNothing}
+
+-- An accepted change leads from the state s to t, whose graph is h. The same indexes are kept. A change that alters nothing leaves
+-- the whole state. Each other one moves the blocks of the 1-index, where it is kept, by one step.
+pub record IsChanged (s : State) (c : Change) (h : Graph) (t : State) : Type 0 where
+  pub graph : t.graph ≡ h
+  pub kinds : t.kept.kinds ≡ s.kept.kinds
+  pub level : t.kept.k ≡ s.kept.k
+  pub same : is_same c s.graph ≡ true → t ≡ s
+  pub step : is_same c s.graph ≡ false → IsTrue (keeps s One) → OneStep s.graph s.kept.one c h t.kept.one
+  pub none : keeps s One ≡ false → t.kept.one ≡ s.kept.one
+
+-- what a change makes of the state, by its outcome: a refusal leaves it
+abbrev pub Becomes : State → Change → Result Graph Refusal → State → Type 0
+Becomes s c (Ok h) t = IsChanged s c h t
+Becomes s c (Err r) t = t ≡ s
+
+-- A command in a state may print this, tell whether it printed a refusal, and lead to that state.
+pub data Obeys (rules : Rules) (s : State) : Command → List ℕ → Bool → State → Type 0 where
+  changes : (c : Change) (t : State) → Becomes s c (apply c s.graph rules.limits) t
+      → Obeys rules s (change c) (reply rules.printing c s.graph (apply c s.graph rules.limits)) (is_err (apply c s.graph rules.limits)) t
+  asks_path : (via : Via) (e : Expr) (text : List ℕ) (refuses : Bool) → ShowsAnswers rules.printing s (query.path e) via text refuses → Obeys rules s (path via e) text refuses s
+  asks_branch : (via : Via) (q : Branch) (text : List ℕ) (refuses : Bool) → ShowsAnswers rules.printing s (query.branch q) via text refuses → Obeys rules s (branch via q) text refuses s
+  lists : (via : Via) (text : List ℕ) (refuses : Bool) → ShowsExtents s via text refuses → Obeys rules s (extents via) text refuses s
+  measures : (text : List ℕ) → ShowsSizes s text → Obeys rules s sizes text false s
+  forgets : (kind : Kind) → keeps s kind ≡ true → Obeys rules s (forget kind) (if_whole rules.printing ok_line) false (forgotten kind s)
+  lacks : (kind : Kind) → keeps s kind ≡ false → Obeys rules s (forget kind) (refused_line NoIndex) true s
+
+-- A line in a state may do so too. A query whose expression passes a limit is refused, whatever else it is.
+pub data Does (rules : Rules) (s : State) (line : List ℕ) : List ℕ → Bool → State → Type 0 where
+  nothing : IsQuiet line → Does rules s line [] false s
+  over : PassesLimit rules.limits line → Does rules s line (refused_line Limit) true s
+  command : (c : Command) → IsSpelled line c → ¬ PassesLimit rules.limits line → (printed : List ℕ) (refuses : Bool) (t : State)
+      → Obeys rules s c printed refuses t → Does rules s line printed refuses t
+
+-- how far a run has come
+pub record Progress : Type 0 where
+  pub state : State
+  -- whether some line printed `refused`
+  pub refused : Bool
+  -- the lines that were taken, and their bytes with their ends
+  pub lines : ℕ
+  pub bytes : ℕ
+
+abbrev pub start : State → Progress
+start s = record { state = s; refused = false; lines = 0; bytes = 0 }
+
+-- the bytes of the script up to the end of the line
+abbrev pub bytes_with : Progress → Line → ℕ
+bytes_with p l = p.bytes + length l.text + length l.end
+
+-- the line passes neither the limit on a line nor the limit on a script
+abbrev pub IsWithinScript : Progress → Line → Type 0
+IsWithinScript p l = (length l.text ≤ LINE_BYTES) × (bytes_with p l ≤ SCRIPT_BYTES)
+
+-- From here the line may print this and lead there.
+pub record TakesLine (rules : Rules) (p : Progress) (l : Line) (printed : List ℕ) (q : Progress) : Type 0 where
+  pub within : IsWithinScript p l
+  pub refuses : Bool
+  pub does : Does rules p.state l.text printed refuses q.state
+  pub refused : q.refused ≡ (p.refused || refuses)
+  pub lines : q.lines ≡ p.lines + 1
+  pub bytes : q.bytes ≡ bytes_with p l
+
+-- The line ends the run: it passes a limit, or it is within them and spells nothing.
+abbrev pub IsBad : Rules → Progress → Line → Type 0
+IsBad rules p l = IsWithinScript p l → SpellsNothing rules.limits l.text
+
+-- so may these lines, one after another
+abbrev pub TakesLines : Rules → Progress → List Line → List ℕ → Progress → Type 0
+TakesLines rules p [] printed q = (printed ≡ []) × (q ≡ p)
+TakesLines rules p (l ∷ ls) printed q = (text : List ℕ) × (rest : List ℕ) × (mid : Progress)
+    × TakesLine rules p l text mid × TakesLines rules mid ls rest q × (printed ≡ text ++ rest)
+
+-- what the end of the script prints: nothing
+abbrev pub end_text : Progress → List ℕ
+end_text p = []
+
+-- the status there
+abbrev pub end_status : Progress → ℕ
+end_status p = if p.refused then 1 else 0
+
+-- The run ends here, and that prints this and gives the status: at the end of the script, or at a bad line.
+abbrev pub Ends : Rules → Progress → List Line → List ℕ → ℕ → Type 0
+Ends rules p [] printed status = (printed ≡ end_text p) × (status ≡ end_status p)
+Ends rules p (l ∷ ls) printed status = IsBad rules p l × (printed ≡ bad_line (p.lines + 1)) × (status ≡ 4)
+
+-- From the first state the script is run to its end or to a bad line.
+pub record IsRun (rules : Rules) (first : State) (script output : List ℕ) (status : ℕ) (last : Progress) : Type 0 where
+  -- the lines that are taken, and the others
+  pub before : List Line
+  pub left : List Line
+  pub printed : List ℕ
+  pub ending : List ℕ
+  pub script_is : cut script ≡ before ++ left
+  pub takes : TakesLines rules (start first) before printed last
+  pub ends : Ends rules last left ending status
+  pub output_is : output ≡ printed ++ ending
+
+-- the next line is taken, and prints this
+abbrev pub TakesNext : Rules → Progress → List Line → List ℕ → Type 0
+TakesNext rules p [] text = ⊥
+TakesNext rules p (l ∷ ls) text = (q : Progress) × TakesLine rules p l text q
+
+-- what comes next prints this: a line that is taken, or the end of the run
+abbrev pub PrintsNext : Rules → Progress → List Line → List ℕ → Type 0
+PrintsNext rules p left text = TakesNext rules p left text ⊎ ((status : ℕ) × Ends rules p left text status)
+
+-- nothing, or a prefix of what comes next prints
+abbrev pub PrintsPrefix : Rules → Progress → List Line → List ℕ → Type 0
+PrintsPrefix rules p left prefix = (prefix ≡ []) ⊎ ((rest : List ℕ) × PrintsNext rules p left (prefix ++ rest))
+
+-- A prefix of what the lines print: all that some first lines print, and a prefix of what comes next prints.
+pub record RunsPrefix (rules : Rules) (p : Progress) (lines : List Line) (output : List ℕ) : Type 0 where
+  pub before : List Line
+  pub left : List Line
+  pub printed : List ℕ
+  pub prefix : List ℕ
+  pub last : Progress
+  pub lines_are : lines ≡ before ++ left
+  pub takes : TakesLines rules p before printed last
+  pub next : PrintsPrefix rules last left prefix
+  pub output_is : output ≡ printed ++ prefix
+
+-- a prefix of what a run of the script prints
+abbrev pub IsRunPrefix : Rules → State → List ℕ → List ℕ → Type 0
+IsRunPrefix rules first script output = RunsPrefix rules (start first) (cut script) output

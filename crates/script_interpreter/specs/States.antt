@@ -1,0 +1,50 @@
+-- The state of a run.
+use Rattle.std.specs.Prelude.{ℕ, ◌≡◌, Bool, true, false, not, List, [], IsTrue, if◌then◌else◌}
+use Rattle.std.specs.List.{filter}
+use Rattle.graph_spec.specs.Graphs.{Graph}
+use Rattle.graph_spec.specs.Shapes.{shape_of}
+use Rattle.bisim_spec.specs.declared.kind.Kind.{Kind}
+use Rattle.bisim_spec.specs.declared.kind.Kind.TheVariants.{One}
+use Rattle.bisim_spec.specs.Bisimilarity.{Bisim}
+use Rattle.bisim_spec.specs.Partitions.{Agrees}
+use Rattle.index_api.specs.IndexKinds.{KeptIndexes, is_kind, has_kind}
+
+-- what commands change or ask
+pub record State : Type 0 where
+  pub graph : Graph
+  -- the indexes that are kept: their kinds, the highest level of the A(k)-family, and the blocks of the 1-index
+  pub kept : KeptIndexes
+
+-- whether an index of that kind is kept
+abbrev pub keeps : State → Kind → Bool
+keeps s kind = has_kind s.kept.kinds kind
+
+-- A state with which a run begins: this graph, and indexes of these kinds with levels up to k. The blocks of the 1-index, where it
+-- is kept, are full bisimilarity.
+pub record BeginsRun (g : Graph) (allocated : List Kind) (k : ℕ) (s : State) : Type 0 where
+  pub graph : s.graph ≡ g
+  pub kinds : s.kept.kinds ≡ allocated
+  pub level : s.kept.k ≡ k
+  pub one : IsTrue (keeps s One) → Agrees (shape_of g) s.kept.one (Bisim (shape_of g))
+  pub none : keeps s One ≡ false → s.kept.one ≡ []
+
+-- the kinds other than that one
+abbrev pub without : Kind → List Kind → List Kind
+without kind kinds = filter (λ other. not (is_kind kind other)) kinds
+
+-- the kinds without that one, where it is left out
+abbrev pub left_out : Bool → Kind → List Kind → List Kind
+left_out false kind kinds = kinds
+left_out true kind kinds = without kind kinds
+
+-- the indexes without those of that kind
+abbrev pub without_kind : Kind → KeptIndexes → KeptIndexes
+without_kind kind kept = record {
+  kinds = without kind kept.kinds;
+  k = kept.k;
+  one = if is_kind kind One then [] else kept.one;
+}
+
+-- the state in which no index of that kind is kept
+abbrev pub forgotten : Kind → State → State
+forgotten kind s = record s { kept = without_kind kind s.kept }

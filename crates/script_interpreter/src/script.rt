@@ -1,0 +1,213 @@
+// The run of a script, line by line.
+ghost use Rattle.std.specs.Prelude.{◌≡◌, ◌≢◌, ◌<◌, ◌≤◌, ◌++◌, IfOk, OnOk, OnErr, IsErrOf, IsTrue, Err};
+ghost use Rattle.std.specs.Io.KnownBytes.{Appends};
+ghost use Rattle.px_base.specs.Causes.{Rose, HasCause};
+ghost use Rattle.px_base.specs.Files.{AppendsPrefix};
+ghost use Rattle.px_base.specs.ReaderStates.{stream};
+ghost use Rattle.pathindex_core.specs.Engines.{seen};
+ghost use Rattle.script_interpreter.specs.Rules.{rules_for};
+ghost use Rattle.script_interpreter.specs.RunSteps.{progress, Goes, OnTaken, CanRead, Writes};
+ghost use Rattle.script_interpreter.specs.Runs.{Progress, end_status};
+ghost use Rattle.script_interpreter.specs.Endings.{status_at};
+ghost use Rattle.script_interpreter.specs.EngineStates.{state_of, IsOpen, IsIn};
+ghost use Rattle.script_interpreter.specs.LineTexts.{bad_line};
+ghost use Rattle.script_interpreter.specs.Observable.{RanObservable, PrefixObservable};
+ghost use Rattle.script_interpreter.specs.declared.script.Stop.TheVariants.{Sink as SinkStop, Memory as MemoryStop};
+
+use crate::interpreter::{Outcome, take};
+use crate::output::{flush, push_number};
+use crate::printing::Printing;
+use index_api::PathIndex;
+use pathindex_core::Engine;
+use px_base::{Failed, LINE_BYTES, LineFault, LineReader, Memory, SCRIPT_BYTES, Shelf, Sink};
+use std::alloc::Global;
+
+/// How many gathered bytes are written at once.
+const PIECE_BYTES: usize = 65536;
+
+/// What ends a run before its end.
+#[derive(Clone, Copy, Debug, PartialEq, Eq)]
+pub enum Stop {
+    /// A call of the shelf failed.
+    Shelf,
+    /// A call of the sink failed.
+    Sink,
+    /// There was no memory.
+    Memory,
+}
+
+impl From<Memory> for Stop {
+    ghost from_gives = { λ _ e. e ≡ MemoryStop };
+
+    fn from(_: Memory) -> Self {
+        Stop::Memory
+    }
+}
+
+impl From<Failed> for Stop {
+    ghost from_gives = { λ _ e. e ≡ SinkStop };
+
+    fn from(_: Failed) -> Self {
+        Stop::Sink
+    }
+}
+
+/// How a run came to its end.
+#[derive(Clone, Copy)]
+pub enum Ending {
+    /// The script was read to its end, and nothing was refused.
+    Done,
+    /// The script was read to its end, and some line printed a refusal.
+    Refused,
+    /// A line was bad.
+    Bad,
+}
+
+/// What a step of the run comes to.
+#[derive(Clone, Copy)]
+pub(crate) enum Next {
+    Taken,
+    AtBad,
+    AtEnd,
+}
+
+/// Gathers that the line of that number is bad.
+fn push_bad(out: &mut Vec<u8>, line: u32) -> Result<Next, Stop>
+    ensures ok { IfOk result (λ next. (next ≡ Next.AtBad) × (out.new.items ≡ out.old.items ++ bad_line line)) }
+    ensures err { OnErr result (out.new.items ≡ out.old.items) }
+    ensures memory { result ≢ Err Stop.Shelf }
+    ensures no_sink { result ≢ Err Stop.Sink }
+{
+    match push_number(out, b"bad ", line) {
+        Ok(()) => Ok(Next::AtBad),
+        Err(_) => Err(Stop::Memory),
+    }
+}
+
+/// Reads a line, and takes it.
+fn next_line<B: PathIndex, H: Shelf>(
+    alloc: Global,
+    reader: &mut LineReader,
+    engine: &mut Engine<B>,
+    refused: &mut bool,
+    printing: Printing,
+    shelf: &mut H,
+    out: &mut Vec<u8>,
+) -> Result<Next, Stop>
+    requires can { CanRead reader.old (H.is_open shelf.old) }
+    requires ready { IsOpen (seen B.meaning engine.old) }
+    ensures ready { IsOpen (seen B.meaning engine.new) }
+    ensures goes { IfOk result (λ next. Goes (rules_for printing) (progress (state_of B.meaning engine.old) refused.old reader.old)
+        (stream reader.old (H.left shelf.old)) out.old.items next (progress (state_of B.meaning engine.new) refused.new reader.new)
+        (stream reader.new (H.left shelf.new)) out.new.items) }
+    ensures can { IfOk result (λ next. OnTaken next (CanRead reader.new (H.is_open shelf.new))) }
+    ensures nearer { IfOk result (λ next. OnTaken next ((reader.old.taken < reader.new.taken) × (reader.new.taken ≤ SCRIPT_BYTES))) }
+    ensures gathered { OnErr result (out.new.items ≡ out.old.items) }
+    ensures files { H.files shelf.new ≡ H.files shelf.old }
+    ensures fault { IsErrOf result Stop.Shelf → Rose (H.faults shelf.old) (H.faults shelf.new) }
+    ensures no_fault { result ≢ Err Stop.Shelf → H.faults shelf.new ≡ H.faults shelf.old }
+    ensures no_sink { result ≢ Err Stop.Sink }
+{
+    match reader.next(shelf) {
+        Ok(true) => match take(alloc, engine, reader.line(), printing, out) {
+            Ok(Outcome::Done) => Ok(Next::Taken),
+            Ok(Outcome::Refused) => {
+                *refused = true;
+                Ok(Next::Taken)
+            }
+            Ok(Outcome::Bad) => push_bad(out, reader.number()),
+            Err(_) => Err(Stop::Memory),
+        },
+        Ok(false) => Ok(Next::AtEnd),
+        Err(LineFault::Limit) => push_bad(out, reader.number()),
+        Err(LineFault::Fault) => Err(Stop::Shelf),
+        Err(LineFault::Memory) => Err(Stop::Memory),
+    }
+}
+
+/// Writes what is gathered where there is much of it, and before the next line is read of the shelf, so that a
+/// failing read loses no line that was taken.
+fn flush_if_due<K: Sink>(reader: &LineReader, out: &mut Vec<u8>, sink: &mut K) -> Result<(), Failed>
+    ensures written { OnOk result (Writes (K.written sink.old) (K.written sink.new) out.old.items out.new.items) }
+    ensures part { OnErr result (AppendsPrefix (K.written sink.old) (K.written sink.new) out.old.items) }
+    ensures cause { HasCause (K.faults sink.old) (K.faults sink.new) result }
+{
+    if out.len() >= PIECE_BYTES || !reader.has_line_ahead() {
+        flush(out, sink)?;
+    }
+    Ok(())
+}
+
+/// Writes what is gathered, and ends so.
+fn finish<K: Sink>(ending: Ending, out: &mut Vec<u8>, sink: &mut K) -> Result<Ending, Stop>
+    ensures ending { IfOk result (λ e. e ≡ ending) }
+    ensures all { OnOk result (Appends (K.written sink.old) (K.written sink.new) out.old.items) }
+    ensures part { OnErr result (AppendsPrefix (K.written sink.old) (K.written sink.new) out.old.items) }
+    ensures sink { IsErrOf result Stop.Sink → Rose (K.faults sink.old) (K.faults sink.new) }
+    ensures no_sink { result ≢ Err Stop.Sink → K.faults sink.new ≡ K.faults sink.old }
+    ensures no_shelf { result ≢ Err Stop.Shelf }
+{
+    match flush(out, sink) {
+        Ok(()) => Ok(ending),
+        Err(_) => Err(Stop::Sink),
+    }
+}
+
+/// How a run ends at the end of its script.
+fn ending_of(refused: bool) -> Ending
+    ensures { (p : Progress) → p.refused ≡ refused → status_at result ≡ end_status p }
+{
+    if refused {
+        Ending::Refused
+    } else {
+        Ending::Done
+    }
+}
+
+/// Runs the script that is open, on the graph of the engine, to its end or to a line that is bad. O(t) for t bytes of the script, and
+/// what the commands cost (`Engine`); it takes memory for a block of the script, its longest line, and what is gathered of the output.
+pub fn run_lines<B: PathIndex, H: Shelf, K: Sink>(
+    alloc: Global,
+    engine: &mut Engine<B>,
+    printing: Printing,
+    shelf: &mut H,
+    sink: &mut K,
+) -> Result<Ending, Stop>
+    requires file { IsTrue (H.is_open shelf.old) }
+    requires ready { IsOpen (seen B.meaning engine.old) }
+    ensures ready { IsOpen (seen B.meaning engine.new) }
+    ensures ran { IfOk result (λ ending. RanObservable (rules_for printing) (state_of B.meaning engine.old) (H.left shelf.old)
+        (K.written sink.old) (K.written sink.new) (status_at ending) (IsIn (seen B.meaning engine.new))) }
+    ensures part { OnErr result (PrefixObservable (rules_for printing) (state_of B.meaning engine.old) (H.left shelf.old)
+        (K.written sink.old) (K.written sink.new)) }
+    ensures files { H.files shelf.new ≡ H.files shelf.old }
+    ensures shelf_fault { IsErrOf result Stop.Shelf → Rose (H.faults shelf.old) (H.faults shelf.new) }
+    ensures no_shelf_fault { result ≢ Err Stop.Shelf → H.faults shelf.new ≡ H.faults shelf.old }
+    ensures sink_fault { IsErrOf result Stop.Sink → Rose (K.faults sink.old) (K.faults sink.new) }
+    ensures no_sink_fault { result ≢ Err Stop.Sink → K.faults sink.new ≡ K.faults sink.old }
+{
+    let mut reader = LineReader::new(alloc, LINE_BYTES, SCRIPT_BYTES)?;
+    let mut refused = false;
+    let mut out = Vec::new(alloc);
+    'lines: loop {
+        flush_if_due(&reader, &mut out, sink)?;
+        match next_line(
+            alloc,
+            &mut reader,
+            engine,
+            &mut refused,
+            printing,
+            shelf,
+            &mut out,
+        ) {
+            Ok(Next::Taken) => (),
+            Ok(Next::AtBad) => return finish(Ending::Bad, &mut out, sink),
+            Ok(Next::AtEnd) => return finish(ending_of(refused), &mut out, sink),
+            Err(Stop::Memory) => {
+                flush(&mut out, sink)?;
+                return Err(Stop::Memory);
+            }
+            Err(stop) => return Err(stop),
+        }
+    }
+}

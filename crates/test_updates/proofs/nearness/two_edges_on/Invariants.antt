@@ -1,4 +1,0 @@
-use Rattle.test_updates.proofs.nearness.two_edges_on.Given as goal
-
-abbrev pub ghosts-check_link : goal.ghosts-check_link
-ghosts-check_link g a = record { name = a.blank.name; parts = a.blank.parts }

@@ -1,8 +1,0 @@
--- Supports that are right.
-use Rattle.std.specs.Prelude.{◌≡◌, ℕ, List, Option}
-use Rattle.px_spec.specs.Graphs.{Graph}
-use Rattle.bisim_spec.specs.Supports.{edges_between}
-
--- the supports are the numbers of edges of the graph between the blocks
-pub record AreEdgeCounts (g : Graph) (block : List (Option ℕ)) (support : ℕ → ℕ → ℕ) : Type 0 where
-  pub each : (x y : ℕ) → support x y ≡ edges_between g.edges block x y

@@ -1,8 +1,0 @@
--- Blocks that are examined first when pairs are merged after a split.
-use Rattle.std.specs.Prelude.{◌≡◌, ℕ, Bool, List, Option, Some, IsTrue}
-use Rattle.px_spec.specs.Members.{has, at}
-
--- the blocks that were made, and those of the targets, are among the suspects
-pub record AreSuspected (from : ℕ → Bool) (p : List (Option ℕ)) (made suspects : List ℕ) : Type 0 where
-  pub made_there : (b : ℕ) → IsTrue (has made b) → IsTrue (has suspects b)
-  pub targets_there : (t b : ℕ) → IsTrue (from t) → at p t ≡ Some b → IsTrue (has suspects b)

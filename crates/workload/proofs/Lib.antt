@@ -1,0 +1,3 @@
+pub mod AddedPieces
+pub mod Steps
+pub mod Examples

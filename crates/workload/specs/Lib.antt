@@ -1,0 +1,3 @@
+pub mod Generator
+pub mod MadeTexts
+pub mod GeneratorValues
