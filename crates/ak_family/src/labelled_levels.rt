@@ -5,9 +5,9 @@ ghost use Rattle.label_graph.specs.GraphViews.{label_number};
 ghost use Rattle.bisim_spec.specs.Bisimilarity.{Bis};
 ghost use Rattle.bisim_spec.specs.Partitions.{Agrees, IsPartition};
 ghost use Rattle.bisim_levels.specs.NeighbourSides.{no_neighbours};
-ghost use Rattle.bisim_levels.specs.Refinement.{AreNumbered, AreBlocksBelow};
+ghost use Rattle.bisim_levels.specs.Refinement.{AreNumbered, AreBlocksBelow, IsNextLevel};
 ghost use Rattle.key_table.specs.NumberedKeys.{AreDistinct};
-ghost use Rattle.ak_family.specs.BlockLabels.{BlocksHaveLabels, IsNextLevel, AreNumberedAbove};
+ghost use Rattle.ak_family.specs.BlockLabels.{BlocksHaveLabels, AreNumberedAbove};
 
 use crate::labels::{look_up, own_numbers};
 use bisim_levels::{label_level, next_level};
@@ -55,7 +55,7 @@ pub(crate) fn above(
 ) -> Result<(LabelledLevel, KeyTable), Memory>
     requires partition { IsPartition (shape_of view.now) below.now.block.items }
     requires labelled { BlocksHaveLabels view.now below.now.block.items below.now.labels.items }
-    ensures agrees { IfOk result (λ l. IsNextLevel view.now below.now.block.items l.0.block.items) }
+    ensures agrees { IfOk result (λ l. IsNextLevel Bis (shape_of view.now) below.now.block.items l.0.block.items) }
     ensures labelled { IfOk result (λ l. BlocksHaveLabels view.now l.0.block.items l.0.labels.items) }
     ensures numbered { IfOk result (λ l. AreNumberedAbove view.now below.now.block.items l.0.block.items (slice_get l.1)) }
     ensures span { IfOk result (λ l. AreBlocksBelow l.0.block.items (length l.1)) }

@@ -86,7 +86,8 @@ pub fn next_level_both(
     requires partition { IsPartition (shape_of view.now) block.now }
     ensures agrees { IfOk result (λ l. IsNextLevel Both (shape_of view.now) block.now l.block.items) }
     ensures partition { IfOk result (λ l. IsPartition (shape_of view.now) l.block.items) }
-    ensures numbered { IfOk result (λ l. AreNumberedTwice block.now (is_neighbour Parents view.now) (is_neighbour Children view.now) l.block.items (slice_get l.keys)) }
+    ensures numbered { IfOk result (λ l. AreNumberedTwice block.now (is_neighbour Parents view.now) (is_neighbour Children view.now)
+        l.block.items (slice_get l.keys)) }
     ensures span { IfOk result (λ l. AreBlocksBelow l.block.items (length l.keys)) }
     ensures distinct { IfOk result (λ l. AreDistinct l.keys) }
 {

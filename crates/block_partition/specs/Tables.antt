@@ -55,7 +55,7 @@ abbrev pub grown : List (Option ℕ) → ℕ → List (Option ℕ)
 grown xs len = xs ++ replicate (len - length xs) None
 
 -- the same places, and no less memory
-pub record Keeps (old new : Table) : Type 0 where
+pub record KeepsPlaces (old new : Table) : Type 0 where
   pub places : new.places ≡ old.places
   pub capacity : old.capacity ≤ new.capacity
 

@@ -3,7 +3,7 @@ ghost use Rattle.std.specs.Prelude.{◌≡◌, ◌≢◌, ◌+◌, ◌-◌, ◌<
 ghost use Rattle.graph_spec.specs.Members.{Lists, at};
 ghost use Rattle.block_partition.specs.LabelledPartitions.{IsBlock, is_member, block_count, member_count, IsLeastFree, no_blocks, with_reserved, with_block, with_member, with_move, without_block};
 ghost use Rattle.block_partition.specs.Extensions.{with_next};
-ghost use Rattle.block_partition.specs.Tables.{Keeps, head_where, with_length};
+ghost use Rattle.block_partition.specs.Tables.{KeepsPlaces, head_where, with_length};
 
 use crate::freed::Freed;
 use crate::live::Live;
@@ -400,9 +400,9 @@ fn reserve_nodes(
     prev: &mut Slots,
     more: usize,
 ) -> Result<(), Memory>
-    ensures block { Keeps block.old block.new }
-    ensures next { Keeps next.old next.new }
-    ensures prev { Keeps prev.old prev.new }
+    ensures block { KeepsPlaces block.old block.new }
+    ensures next { KeepsPlaces next.old next.new }
+    ensures prev { KeepsPlaces prev.old prev.new }
     ensures block_ok { OnOk result (length block.new.places + more ≤ block.new.capacity) }
     ensures next_ok { OnOk result (length next.new.places + more ≤ next.new.capacity) }
     ensures prev_ok { OnOk result (length prev.new.places + more ≤ prev.new.capacity) }
@@ -420,7 +420,7 @@ fn reserve_blocks(
     sizes: &mut Vec<u32>,
     more: usize,
 ) -> Result<(), Memory>
-    ensures first { Keeps first.old first.new }
+    ensures first { KeepsPlaces first.old first.new }
     ensures labels { labels.new.items ≡ labels.old.items }
     ensures labels_capacity { vec_capacity labels.old ≤ vec_capacity labels.new }
     ensures sizes { sizes.new.items ≡ sizes.old.items }

@@ -1,7 +1,7 @@
 // A table of small numbers.
 ghost use Rattle.std.specs.Prelude.{◌≡◌, ◌<◌, ◌≤◌, ◌+◌, ◌++◌, ◌∷◌, [], None, length, OnOk, slice_set};
 ghost use Rattle.graph_spec.specs.Members.{at};
-ghost use Rattle.block_partition.specs.Tables.{slot_value, IsSmall, IsIn, set_at, grown, Keeps};
+ghost use Rattle.block_partition.specs.Tables.{slot_value, IsSmall, IsIn, set_at, grown, KeepsPlaces};
 
 use px_base::Memory;
 use std::alloc::Global;
@@ -71,7 +71,7 @@ impl Slots {
 
     /// Reserves capacity for that many more places.
     pub(crate) fn reserve(&mut self, more: usize) -> Result<(), Memory>
-        ensures keeps { Keeps self.old self.new }
+        ensures keeps { KeepsPlaces self.old self.new }
         ensures ok { OnOk result (length self.new.places + more ≤ self.new.capacity) }
     {
         self.cells.reserve(more)?;

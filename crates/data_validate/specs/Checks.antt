@@ -13,8 +13,8 @@ pub record AreAnswersAmong (s : Shape) (q : Query) (set nodes : List ℕ) : Type
   pub complete : (v : ℕ) → IsTrue (has set v) → IsQueryAnswer s q v → IsTrue (has nodes v)
 
 -- where the set has all answers, the nodes are the answers
-abbrev pub AreAllIfGiven : Shape → Query → List ℕ → List ℕ → Type 0
-AreAllIfGiven s q set nodes = ((v : ℕ) → IsQueryAnswer s q v → IsTrue (has set v)) → AreQueryAnswers s q nodes
+abbrev pub AreAnswersIfCovered : Shape → Query → List ℕ → List ℕ → Type 0
+AreAnswersIfCovered s q set nodes = ((v : ℕ) → IsQueryAnswer s q v → IsTrue (has set v)) → AreQueryAnswers s q nodes
 
 -- each of the nodes is of the kind
 abbrev pub AreAll : (ℕ → Type 0) → List ℕ → Type 0

@@ -7,7 +7,7 @@ ghost use Rattle.path_automaton.specs.Digraphs.{shape_through};
 ghost use Rattle.path_spec.specs.PathAnswers.{IsAnswer};
 ghost use Rattle.path_spec.specs.Matches.{Word, Matches};
 ghost use Rattle.branch_query.specs.Queries.{query_of, IsQueryAnswer};
-ghost use Rattle.data_validate.specs.Checks.{AreAnswersAmong, AreAll, AreAllOf, AreAllIfGiven};
+ghost use Rattle.data_validate.specs.Checks.{AreAnswersAmong, AreAll, AreAllOf, AreAnswersIfCovered};
 ghost use Rattle.data_validate.specs.Ancestors.{IsFew};
 
 use crate::ancestors::ancestors;
@@ -108,7 +108,7 @@ pub fn check<L: Ledger>(
 ) -> Result<Bits, Memory>
     ensures size { IfOk result (λ kept. kept.size ≡ set.now.size) }
     ensures answers { IfOk result (λ kept. AreAnswersAmong (shape_of graph.now.graph) (query_of q.now) set.now.members kept.members) }
-    ensures all { IfOk result (λ kept. AreAllIfGiven (shape_of graph.now.graph) (query_of q.now) set.now.members kept.members) }
+    ensures all { IfOk result (λ kept. AreAnswersIfCovered (shape_of graph.now.graph) (query_of q.now) set.now.members kept.members) }
 {
     if set.count() == 0 {
         return Bits::new(alloc, set.size());

@@ -29,8 +29,8 @@ pub record ArePlaces (r : Loader) (t : Triple) (p : Places) : Type 0 where
   pub object : IsFoundAs r.terms t.object p.object
 
 -- the node of the term has this number
-abbrev pub IsNumbered : Loader → Term → ℕ → Type 0
-IsNumbered r t n = number_of r.terms t ≡ Some n
+abbrev pub IsNodeOf : Loader → Term → ℕ → Type 0
+IsNodeOf r t n = number_of r.terms t ≡ Some n
 
 -- the loader knows just these triples
 abbrev pub Holds : Loader → List Triple → Type 0

@@ -6,7 +6,7 @@ ghost use Rattle.term_table.specs.Terms.{number_of, place_in};
 ghost use Rattle.term_table.specs.FoundTerms.{IsFound, IsFoundAs};
 ghost use Rattle.triples_read.specs.declared.term.Term.{Term as TermSeen};
 ghost use Rattle.graph_load.specs.Hashed.{triple_of};
-ghost use Rattle.graph_load.specs.Loaders.{ArePlaces, is_known, load_state, with_new, IsNumbered, Holds, IsSoundLoader, LoaderStep, IsStopped, IsTaken, IsUntaken};
+ghost use Rattle.graph_load.specs.Loaders.{ArePlaces, is_known, load_state, with_new, IsNodeOf, Holds, IsSoundLoader, LoaderStep, IsStopped, IsTaken, IsUntaken};
 
 pub(crate) mod ahead;
 
@@ -201,9 +201,9 @@ impl Loader {
     ) -> Result<u32, Stop>
         requires sound { IsSoundLoader self.old }
         requires found { IfSome found (IsFound self.old.terms object.now) }
-        ensures steps { (x : TermSeen) → IsNumbered self.old x from → OnOk result (LoaderStep (linked limits.now x node object.now) self.old self.new) }
+        ensures steps { (x : TermSeen) → IsNodeOf self.old x from → OnOk result (LoaderStep (linked limits.now x node object.now) self.old self.new) }
         ensures place { IfOk result (λ p. place_in self.new.terms object.now ≡ Some p) }
-        ensures limit { IsErrOf result Stop.Limit → (x : TermSeen) → IsNumbered self.old x from → IsStopped (linked limits.now x node object.now) self.old }
+        ensures limit { IsErrOf result Stop.Limit → (x : TermSeen) → IsNodeOf self.old x from → IsStopped (linked limits.now x node object.now) self.old }
     {
         let found = self.find_again(object, found);
         let onto = self.need(alloc, limits, object, found)?;
