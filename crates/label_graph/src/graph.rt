@@ -200,6 +200,11 @@ impl Graph {
         GraphView::new(self)
     }
 
+    /// How many cells the lists of neighbours take.
+    pub(crate) fn cell_count(&self) -> usize {
+        self.nodes.cell_count()
+    }
+
     // The parents, with no step.
     pub(crate) fn parent_list(&self, n: NodeId) -> &[NodeId]
         ensures edges { Lists (λ u. has_edge self.now.graph u n) result.now }
