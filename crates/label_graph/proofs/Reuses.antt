@@ -1,13 +1,13 @@
 -- Rows of which two exchange the room of a list, or the room of an empty list is written.
-use Rattle.std.proofs.Common.{◌≡◌, ◌≢◌, false, ℕ, zero, suc, ◌*◌, ◌-◌, ◌<◌, ◌≤◌, List, [], ◌∷◌, Option, None, Some, length, map, refl, sym, ap, ◌∙◌, subst, arith, get_or, set, length-set, ◌⊎◌, inl, inr, true≢false}
+use Rattle.std.proofs.Common.{◌≡◌, ◌≢◌, false, ℕ, zero, suc, ◌-◌, ◌<◌, ◌≤◌, List, [], ◌∷◌, Option, None, Some, length, map, refl, sym, ap, ◌∙◌, subst, arith, get_or, set, length-set, ◌⊎◌, inl, inr, true≢false}
 use Rattle.std.specs.Prelude.{slice_get, is_some}
 use Rattle.std.proofs.lemmas.List.{get_or-set_same, get_or-set_other, length-map}
 use Rattle.std.proofs.lemmas.Option.{get_or_from_slice_get}
 use Rattle.label_graph.specs.declared.segment.Segment.{Segment}
 use Rattle.label_graph.specs.declared.node.Row.{Row}
-use Rattle.label_graph.specs.Nodes.{Node, labels_of, number_at, IsLive, IsGoneBeside, children_of, parents_of, child_reserved, parent_reserved, SameNodes}
+use Rattle.label_graph.specs.Nodes.{labels_of, number_at, IsLive, IsGoneBeside, children_of, parents_of, child_reserved, parent_reserved, SameNodes}
 use Rattle.label_graph.specs.Segments.{items_in, LiesWithin, IsApart, Writes, Exchanges}
-use Rattle.label_graph.specs.NodeRows.{segments_of, AreHeld, list_in, node_in, nodes_in}
+use Rattle.label_graph.specs.NodeRows.{segments_of, AreHeld, node_in, nodes_in}
 use Rattle.label_graph.proofs.RowLemmas.{twice, twice-is, turned, children-list, parents-list}
 
 -- a list by its number

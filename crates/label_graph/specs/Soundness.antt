@@ -1,5 +1,5 @@
 -- What holds of each graph.
-use Rattle.std.specs.Prelude.{◌≡◌, ℕ, ◌<◌, ◌≤◌, ◌^◌, List, Option, None, Some, length, is_some, IsTrue, IsSome, bytes_eq, nat_eq}
+use Rattle.std.specs.Prelude.{◌≡◌, ℕ, ◌<◌, ◌≤◌, ◌^◌, List, Option, None, Some, length, is_some, IsTrue, bytes_eq, nat_eq}
 use Rattle.std.specs.List.{IsDistinct, count_by}
 use Rattle.std.specs.FinSet as set
 use Rattle.graph_spec.specs.Members.{has}

@@ -29,14 +29,28 @@ pub(crate) enum Reserved {
 
 /// The nodes, each with its label and with its neighbours, each once. Lists of neighbours lie in one array, so that no
 /// node takes an allocation of its own. A node takes 32 bytes. A list that never needed room for two takes no more; any
-/// other takes 4 to 16 bytes for each of the most neighbours that it ever had, and keeps them when it shrinks or its node
-/// goes.
-#[derive(Drop)]
+/// other takes 4 to 16 bytes for each of the most neighbours that it ever had, and keeps them when it shrinks. Once its
+/// node is gone, its room goes to a list of the same kind, children or parents, that needs as much. What is noted of such
+/// room takes 256 bytes in all. So the cells depend on how much was in use at once, not on how many nodes there ever were.
 pub(crate) struct Nodes {
     rows: Vec<Row>,
     cells: Vec<u32>,
     gone_children: GoneLists,
     gone_parents: GoneLists,
+}
+
+impl Drop for Nodes {
+    // By hand, so that no function above proves how the tables are dropped.
+    fn drop(self) {
+        let Nodes {
+            rows,
+            cells,
+            gone_children: _,
+            gone_parents: _,
+        } = self;
+        drop(rows);
+        drop(cells);
+    }
 }
 
 impl Model for Nodes {
@@ -62,7 +76,8 @@ impl Nodes {
         self.rows.len()
     }
 
-    /// How many cells the lists take.
+    /// How many cells there are.
+    #[cfg(test)]
     pub(crate) fn cell_count(&self) -> usize {
         self.cells.len()
     }
