@@ -5,11 +5,11 @@ use Rattle.std.proofs.lemmas.List.{length-map}
 use Rattle.graph_spec.specs.Graphs.{is_live}
 use Rattle.graph_spec.specs.Changes.{with_edge}
 use Rattle.graph_spec.specs.Members.{has}
-use Rattle.label_graph.specs.Nodes.{Node, labels_of, number_at, texts_of, children_of, parents_of, SameNodes}
+use Rattle.label_graph.specs.Nodes.{Node, labels_of, number_at, texts_of, children_of, parents_of, SameNodes, IsLive}
 use Rattle.label_graph.specs.declared.node.Reserved.TheVariants.{Nothing, Pair}
 use Rattle.label_graph.specs.ReservedGraphs.{graph_by}
 use Rattle.label_graph.specs.LabelTable.{LabelTable}
-use Rattle.label_graph.specs.Soundness.{IsSoundGraph, HaveLabelNumbers, IsLive}
+use Rattle.label_graph.specs.Soundness.{IsSoundGraph, HaveLabelNumbers}
 use Rattle.label_graph.proofs.EdgeLists.{edges-pushed}
 use Rattle.label_graph.proofs.SoundNodes.{label_of-number}
 use Rattle.label_graph.proofs.KeepsSound.{edges-same, lists-pushed}

@@ -9,12 +9,12 @@ use Rattle.graph_spec.specs.Graphs.{Edges, edge_cmp}
 use Rattle.graph_spec.specs.Changes.{without_edge}
 use Rattle.graph_spec.specs.Members.{has}
 use Rattle.graph_spec.proofs.EdgeOrder.{edge_cmp_total, edge_cmp-IsAntisymmetric}
-use Rattle.label_graph.specs.Nodes.{Node, labels_of, number_at, texts_of, children_of, parents_of, edges_of, Mirrors, LacksEdge}
+use Rattle.label_graph.specs.Nodes.{Node, labels_of, number_at, texts_of, children_of, parents_of, edges_of, Mirrors, LacksEdge, IsLive}
 use Rattle.label_graph.specs.declared.node.Reserved.{Reserved}
 use Rattle.label_graph.specs.declared.node.Reserved.TheVariants.{Nothing}
 use Rattle.label_graph.specs.ReservedGraphs.{graph_by}
 use Rattle.label_graph.specs.LabelTable.{LabelTable}
-use Rattle.label_graph.specs.Soundness.{IsSoundGraph, AreSound, HaveLabelNumbers, IsLive}
+use Rattle.label_graph.specs.Soundness.{IsSoundGraph, AreSound, HaveLabelNumbers}
 use Rattle.label_graph.proofs.EdgeLists.{has_edge-children, and_comm}
 use Rattle.label_graph.proofs.KeepsSound.{labels-cleared}
 use Rattle.graph_spec.proofs.EdgeOrder.{eq_pair}

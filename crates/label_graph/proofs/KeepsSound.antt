@@ -12,11 +12,11 @@ use Rattle.std.proofs.lemmas.Bool.{eqb-true}
 use Rattle.graph_spec.specs.Graphs.{edge_cmp, is_seen}
 use Rattle.graph_spec.specs.Members.{has}
 use Rattle.graph_spec.proofs.EdgeOrder.{edge_cmp_total, edge_cmp-IsAntisymmetric}
-use Rattle.label_graph.specs.Nodes.{Node, labels_of, number_at, children_of, parents_of, edges_of, SameNodes, HasReserved}
+use Rattle.label_graph.specs.Nodes.{Node, labels_of, number_at, children_of, parents_of, edges_of, SameNodes, HasReserved, IsLive}
 use Rattle.label_graph.specs.declared.node.Reserved.{Reserved}
 use Rattle.label_graph.specs.declared.node.Reserved.TheVariants.{Nothing, Label, Pair}
 use Rattle.label_graph.specs.LabelTable.{LabelTable, entries, with_ahead}
-use Rattle.label_graph.specs.Soundness.{IsSoundGraph, AreSound, HaveLabelNumbers, EndsLive, IsLive, IsNext, ReservedFits}
+use Rattle.label_graph.specs.Soundness.{IsSoundGraph, AreSound, HaveLabelNumbers, EndsLive, IsNext, ReservedFits}
 use Rattle.label_graph.proofs.EdgeLists.{has_edge-children, edges-pushed, mirrors-pushed, one}
 use Rattle.label_graph.proofs.SoundNodes.{texts-once}
 use Rattle.label_graph.proofs.Tables.{bytes_laws}
@@ -56,7 +56,7 @@ fits-same table old new capacity more (Pair u v) h s f = record {
   none_ahead = f.none_ahead;
   from = subst (λ l. IsSome (number_at l u)) (sym s.labels) f.from;
   onto = subst (λ l. IsSome (number_at l v)) (sym s.labels) f.onto;
-  reserved = record { child = omega (arith, f.reserved.child, s.child_reserves u); parent = omega (arith, f.reserved.parent, s.parent_reserves v) };
+  reserved = record { child = omega (arith, f.reserved.child, s.child_reserves u f.from); parent = omega (arith, f.reserved.parent, s.parent_reserves v f.onto) };
 }
 
 -- nothing lies ahead of the labels
@@ -70,7 +70,7 @@ labels-cleared table numbers count a = record {
 }
 
 module _ (table : LabelTable) (edges count : ℕ) where
-  -- the same nodes, with no less reserved
+  -- the same nodes, of which no live one has less reserved
   pub sound-same : (old new : List Node) (capacity more : ℕ) (r : Reserved) → capacity ≤ more → SameNodes old new → IsSoundGraph table old capacity edges count r → IsSoundGraph table new more edges count r
   sound-same old new capacity more r h s o = record {
     lists = lists-kept old new edges s.children s.parents (λ w l. subst (λ ls. IsSome (number_at ls w)) (sym s.labels) l) o.lists;

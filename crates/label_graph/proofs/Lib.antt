@@ -2,6 +2,7 @@ pub mod Positions
 pub mod SearchedPieces
 pub mod Tables
 pub mod EdgeLists
+pub mod Exchanged
 pub mod ListWithout
 pub mod SetNodes
 pub mod GetNodes
@@ -10,6 +11,7 @@ pub mod SegmentLemmas
 pub mod RowLemmas
 pub mod RowEdges
 pub mod Removals
+pub mod Reuses
 pub mod Viewed
 pub mod SoundNodes
 pub mod KeepsSound

@@ -1,6 +1,7 @@
 -- The room of nodes of which one is written anew.
-use Rattle.std.proofs.Common.{◌≡◌, ℕ, zero, suc, ◌-◌, ◌<◌, ◌≤◌, List, [], ◌∷◌, length, refl, sym, ap, ◌∙◌, arith, get_or, set, length-set}
-use Rattle.label_graph.specs.Nodes.{Node, child_reserved, parent_reserved, labels_of, SameNodes, HasReserved}
+use Rattle.std.proofs.Common.{◌≡◌, ℕ, zero, suc, ◌-◌, ◌<◌, ◌≤◌, List, [], ◌∷◌, length, refl, sym, ap, ◌∙◌, arith, get_or, set, length-set, subst}
+use Rattle.std.specs.Prelude.{IsSome}
+use Rattle.label_graph.specs.Nodes.{Node, child_reserved, parent_reserved, labels_of, number_at, IsLive, SameNodes, HasReserved}
 use Rattle.label_graph.proofs.SetNodes.{children-at, parents-at, children-set_kept, parents-set_kept, labels-set}
 
 pub child_reserved-at : (nodes : List Node) (i : ℕ) (d : Node) → i < length nodes → child_reserved nodes i ≡ (get_or nodes i d).children.capacity - length (get_or nodes i d).children.items
@@ -50,26 +51,35 @@ default [] i d e h = absurd (omega arith)
 default (x ∷ xs) zero d e h = refl
 default (x ∷ xs) (suc i) d e h = default xs i d e (omega arith)
 
-pub same-set : (nodes : List Node) (i : ℕ) (old new : Node) → i < length nodes → old ≡ get_or nodes i old → Keeps old new → SameNodes nodes (set nodes i new)
-same-set nodes i old new h is k =
-    let c = ap length k.children in
-    let p = ap length k.parents in
-    record {
-      labels = labels-set nodes i new (k.label ∙ ap (λ n. n.label) is ∙ ap (λ n. n.label) (default nodes i old new h));
-      children = children-set_kept nodes i new h (k.children ∙ ap (λ n. n.children.items) is ∙ sym (children-at nodes i old h));
-      parents = parents-set_kept nodes i new h (k.parents ∙ ap (λ n. n.parents.items) is ∙ sym (parents-at nodes i old h));
-      child_reserves = child_reserved-set nodes i new (omega (arith, k.child_reserved, c, child_reserved-at nodes i old h, ap (λ n. n.children.capacity - length n.children.items) is));
-      parent_reserves = parent_reserved-set nodes i new (omega (arith, k.parent_reserved, p, parent_reserved-at nodes i old h, ap (λ n. n.parents.capacity - length n.parents.items) is));
-    }
+-- the node is written anew, as one that it keeps
+module _ (nodes : List Node) (i : ℕ) (old new : Node) (below : i < length nodes) (is : old ≡ get_or nodes i old) (k : Keeps old new) where
+  child-kept : (w : ℕ) → child_reserved nodes w ≤ child_reserved (set nodes i new) w
+  child-kept = child_reserved-set nodes i new
+      (omega (arith, k.child_reserved, ap length k.children, child_reserved-at nodes i old below, ap (λ n. n.children.capacity - length n.children.items) is))
+
+  parent-kept : (w : ℕ) → parent_reserved nodes w ≤ parent_reserved (set nodes i new) w
+  parent-kept = parent_reserved-set nodes i new
+      (omega (arith, k.parent_reserved, ap length k.parents, parent_reserved-at nodes i old below, ap (λ n. n.parents.capacity - length n.parents.items) is))
+
+  pub same-set : SameNodes nodes (set nodes i new)
+  same-set = record {
+    labels = labels-set nodes i new (k.label ∙ ap (λ n. n.label) is ∙ ap (λ n. n.label) (default nodes i old new below));
+    children = children-set_kept nodes i new below (k.children ∙ ap (λ n. n.children.items) is ∙ sym (children-at nodes i old below));
+    parents = parents-set_kept nodes i new below (k.parents ∙ ap (λ n. n.parents.items) is ∙ sym (parents-at nodes i old below));
+    child_reserves = λ w _. child-kept w;
+    parent_reserves = λ w _. parent-kept w;
+  }
 
 pub same-then : (a b c : List Node) → SameNodes a b → SameNodes b c → SameNodes a c
-same-then a b c p q = record {
-  labels = q.labels ∙ p.labels;
-  children = λ w. q.children w ∙ p.children w;
-  parents = λ w. q.parents w ∙ p.parents w;
-  child_reserves = λ w. omega (arith, p.child_reserves w, q.child_reserves w);
-  parent_reserves = λ w. omega (arith, p.parent_reserves w, q.parent_reserves w);
-}
+same-then a b c p q =
+    let live : (w : ℕ) → IsLive a w → IsLive b w = λ w l. subst (λ ls. IsSome (number_at ls w)) (sym p.labels) l in
+    record {
+      labels = q.labels ∙ p.labels;
+      children = λ w. q.children w ∙ p.children w;
+      parents = λ w. q.parents w ∙ p.parents w;
+      child_reserves = λ w l. omega (arith, p.child_reserves w l, q.child_reserves w (live w l));
+      parent_reserves = λ w l. omega (arith, p.parent_reserves w l, q.parent_reserves w (live w l));
+    }
 
 pub child-fits : (nodes : List Node) (u v : ℕ) (a : Node) → u < length nodes → a ≡ get_or nodes u a → HasReserved nodes u v → length a.children.items < a.children.capacity
 child-fits nodes u v a from is r = omega (arith, r.child, child_reserved-at nodes u a from, ap (λ n. n.children.capacity - length n.children.items) is)
@@ -85,7 +95,7 @@ module _ (nodes : List Node) (u v : ℕ) (first second a b : Node) (from : u < l
 
   pub reserved-both : Keeps b second → length first.children.items < first.children.capacity → length second.parents.items < second.parents.capacity → HasReserved (set (set nodes u first) v second) u v
   reserved-both l c p = record {
-    child = omega (arith, (same-set (set nodes u first) v b second within is_b l).child_reserves u, child_reserved-set_same nodes u first from, c);
+    child = omega (arith, child-kept (set nodes u first) v b second within is_b l u, child_reserved-set_same nodes u first from, c);
     parent = omega (arith, parent_reserved-set_same (set nodes u first) v second within, p);
   }
 

@@ -14,7 +14,7 @@ abbrev pub twice : ℕ → ℕ
 twice zero = 0
 twice (suc n) = suc (suc (twice n))
 
-twice-is : (n : ℕ) → twice n ≡ 2 * n
+pub twice-is : (n : ℕ) → twice n ≡ 2 * n
 twice-is zero = omega arith
 twice-is (suc n) = omega (arith, twice-is n)
 
@@ -61,7 +61,7 @@ parent-lists (y ∷ ys) (suc n) r t h is (suc zero) u e = inr ((λ q. absurd (om
 parent-lists (y ∷ ys) (suc n) r t h is (suc (suc i)) u e = further (suc (twice n)) i u t _ (parent-lists ys n r t (omega arith) is i u e)
 
 -- apart either way
-turned : (s t : Segment) → IsApart s t → IsApart t s
+pub turned : (s t : Segment) → IsApart s t → IsApart t s
 turned s t h a b = elim (h b a) [
   | inl e ↦ inr e
   | inr e ↦ inl e

@@ -41,7 +41,7 @@ drop-set-before (suc a) zero (x ∷ xs) v h = refl
 drop-set-before (suc a) (suc k) (x ∷ xs) v h = drop-set-before a k xs v (omega arith)
 
 -- a cell that is written inside
-drop-set : (a k m : ℕ) (xs : List ℕ) (v : ℕ) → m ≡ a + k → drop a (set xs m v) ≡ set (drop a xs) k v
+pub drop-set : (a k m : ℕ) (xs : List ℕ) (v : ℕ) → m ≡ a + k → drop a (set xs m v) ≡ set (drop a xs) k v
 drop-set zero k m xs v e = let same : m ≡ k = omega (arith, e) in ap (λ j. set xs j v) same
 drop-set (suc a) k zero xs v e = absurd (omega (arith, e))
 drop-set (suc a) k (suc m) [] v e = refl
@@ -66,7 +66,7 @@ short-is n h = grind (arith, nat_tests, h)
 pub long-is : (n : ℕ) → nat_lt n 2 ≡ false → 2 ≤ n
 long-is n h = grind (arith, nat_tests, h)
 
-reserved-cases : (n : ℕ) → (n < 2) ⊎ (2 ≤ n)
+pub reserved-cases : (n : ℕ) → (n < 2) ⊎ (2 ≤ n)
 reserved-cases zero = inl (omega arith)
 reserved-cases (suc zero) = inl (omega arith)
 reserved-cases (suc (suc n)) = inr (omega arith)
@@ -87,6 +87,13 @@ pub items-length : (cells : List ℕ) (s : Segment) → LiesWithin (length cells
 items-length cells s w = elim (reserved-cases s.reserved) [
   | inl h ↦ omega (arith, ap length (short-items cells s h), length-take s.len (s.first ∷ []), w.fits)
   | inr h ↦ omega (arith, ap length (long-items cells s h), length-take s.len (drop s.first cells), length-drop s.first cells, w.fits, w.ends h)
+]
+
+-- an empty list has no numbers
+pub items-none : (cells : List ℕ) (s : Segment) → s.len ≡ 0 → items_in cells s ≡ []
+items-none cells s e = elim (reserved-cases s.reserved) [
+  | inl h ↦ short-items cells s h ∙ ap (λ n. take n (s.first ∷ [])) e
+  | inr h ↦ long-items cells s h ∙ ap (λ n. take n (drop s.first cells)) e
 ]
 
 -- lists before cells that are put behind
@@ -129,7 +136,7 @@ writes-short cells s t h fits = record {
 }
 
 -- a list apart from the room in which a cell is written
-set-apart : (cells : List ℕ) (s u : Segment) (k v : ℕ) → LiesWithin (length cells) u → IsApart s u → 2 ≤ s.reserved → s.first ≤ k → k < s.first + s.reserved → items_in (set cells k v) u ≡ items_in cells u
+pub set-apart : (cells : List ℕ) (s u : Segment) (k v : ℕ) → LiesWithin (length cells) u → IsApart s u → 2 ≤ s.reserved → s.first ≤ k → k < s.first + s.reserved → items_in (set cells k v) u ≡ items_in cells u
 set-apart cells s u k v w a long low high = elim (reserved-cases u.reserved) [
   | inl h ↦ short-items (set cells k v) u h ∙ sym (short-items cells u h)
   | inr h ↦ long-items (set cells k v) u h ∙ elim (a long h) [

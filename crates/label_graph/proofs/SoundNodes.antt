@@ -9,11 +9,11 @@ use Rattle.std.proofs.lemmas.List.Folds.{list_any_at}
 use Rattle.graph_spec.specs.Graphs.{Graph, IsGraph, label_of, has_edge, is_seen}
 use Rattle.graph_spec.specs.Members.{Lists}
 use Rattle.graph_spec.specs.Shapes.{IsNode, shape_of}
-use Rattle.label_graph.specs.Nodes.{Node, labels_of, number_at, texts_of, children_of, parents_of}
+use Rattle.label_graph.specs.Nodes.{Node, labels_of, number_at, texts_of, children_of, parents_of, IsLive}
 use Rattle.label_graph.specs.declared.node.Reserved.{Reserved}
 use Rattle.label_graph.specs.LabelTable.{LabelTable, entries}
 use Rattle.label_graph.specs.ReservedGraphs.{graph_by}
-use Rattle.label_graph.specs.Soundness.{IsSoundGraph, HaveLabelNumbers, IsLive}
+use Rattle.label_graph.specs.Soundness.{IsSoundGraph, HaveLabelNumbers}
 use Rattle.label_graph.specs.GraphViews.{label_number, is_linked}
 use Rattle.label_graph.proofs.EdgeLists.{has_edge-children}
 use Rattle.label_graph.proofs.Positions.{position-at}

@@ -1,5 +1,5 @@
 -- What a list of nodes stands for.
-use Rattle.std.specs.Prelude.{◌≡◌, ◌≢◌, ℕ, zero, suc, ◌+◌, ◌-◌, ◌<◌, ◌≤◌, ◌&&◌, not, List, [], ◌∷◌, ◌++◌, Option, map, length, slice_get, option_and_then, nat_eq, refl}
+use Rattle.std.specs.Prelude.{◌≡◌, ◌≢◌, ℕ, zero, suc, ◌+◌, ◌-◌, ◌<◌, ◌≤◌, ◌&&◌, not, List, [], ◌∷◌, ◌++◌, Option, None, IsSome, map, length, slice_get, option_and_then, nat_eq, refl}
 use Rattle.std.specs.Coded.{Coded, code_by, coded×, coded_ℕ, coded_list, coded_option}
 use Rattle.std.specs.List.{IsDistinct}
 use Rattle.std.specs.FinSet as set
@@ -82,13 +82,23 @@ edges_of nodes = set.from_list (pairs_from 0 nodes)
 abbrev pub Mirrors : List Node → Type 0
 Mirrors nodes = (u v : ℕ) → has (children_of nodes u) v ≡ has (parents_of nodes v) u
 
--- the nodes are the same, and none has less reserved
+-- the node's number is given, and the node isn't gone
+abbrev pub IsLive : List Node → ℕ → Type 0
+IsLive nodes n = IsSome (number_at (labels_of nodes) n)
+
+-- g is a gone node, other than u
+pub record IsGoneBeside (nodes : List Node) (u g : ℕ) : Type 0 where
+  pub given : g < length nodes
+  pub other : g ≢ u
+  pub gone : number_at (labels_of nodes) g ≡ None
+
+-- the nodes are the same, and no live one has less reserved
 pub record SameNodes (old new : List Node) : Type 0 where
   pub labels : labels_of new ≡ labels_of old
   pub children : (w : ℕ) → children_of new w ≡ children_of old w
   pub parents : (w : ℕ) → parents_of new w ≡ parents_of old w
-  pub child_reserves : (w : ℕ) → child_reserved old w ≤ child_reserved new w
-  pub parent_reserves : (w : ℕ) → parent_reserved old w ≤ parent_reserved new w
+  pub child_reserves : (w : ℕ) → IsLive old w → child_reserved old w ≤ child_reserved new w
+  pub parent_reserves : (w : ℕ) → IsLive old w → parent_reserved old w ≤ parent_reserved new w
 
 -- one more child of u and one more parent of v fit
 pub record HasReserved (nodes : List Node) (u v : ℕ) : Type 0 where

@@ -33,3 +33,22 @@ pub record IsMoved (old new : List ℕ) (s t : Segment) : Type 0 where
   pub items : items_in new t ≡ items_in old s
   pub len : t.len ≡ s.len
   pub reserved : s.reserved < t.reserved
+
+-- the numbers of the list s stand in the room r, and nothing else is written
+pub record IsCopied (old new : List ℕ) (s r : Segment) : Type 0 where
+  pub size : length new ≡ length old
+  pub copied : take s.len (drop r.first new) ≡ items_in old s
+  pub others : (u : Segment) → LiesWithin (length old) u → IsApart r u → items_in new u ≡ items_in old u
+
+-- the lists s and r, apart from each other, have each other's room as t and q, or their own, and no other is written
+pub record Exchanges (old new : List ℕ) (s r t q : Segment) : Type 0 where
+  pub size : length new ≡ length old
+  pub list_within : LiesWithin (length new) t
+  pub room_within : LiesWithin (length new) q
+  pub between : IsApart t q
+  pub list_apart : (u : Segment) → IsApart s u → IsApart r u → IsApart t u
+  pub room_apart : (u : Segment) → IsApart s u → IsApart r u → IsApart q u
+  pub others : (u : Segment) → LiesWithin (length old) u → IsApart s u → IsApart r u → items_in new u ≡ items_in old u
+  pub list_items : items_in new t ≡ items_in old s
+  pub room_items : items_in new q ≡ items_in old r
+  pub more : s.reserved ≤ t.reserved

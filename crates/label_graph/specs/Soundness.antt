@@ -1,15 +1,12 @@
 -- What holds of each graph.
-use Rattle.std.specs.Prelude.{◌≡◌, ℕ, ◌<◌, ◌≤◌, ◌^◌, List, Option, None, Some, length, is_some, IsTrue, IsSome, bytes_eq, nat_eq}
+use Rattle.std.specs.Prelude.{◌≡◌, ℕ, ◌<◌, ◌≤◌, ◌^◌, List, Option, None, Some, length, is_some, IsTrue, bytes_eq, nat_eq}
 use Rattle.std.specs.List.{IsDistinct, count_by}
 use Rattle.std.specs.FinSet as set
 use Rattle.graph_spec.specs.Members.{has}
 use Rattle.label_graph.specs.LabelTable.{LabelTable, entries}
-use Rattle.label_graph.specs.Nodes.{Node, labels_of, number_at, texts_of, children_of, parents_of, edges_of, Mirrors, HasReserved}
+use Rattle.label_graph.specs.Nodes.{Node, labels_of, number_at, texts_of, children_of, parents_of, edges_of, Mirrors, HasReserved, IsLive}
 use Rattle.label_graph.specs.declared.node.Reserved.{Reserved}
 use Rattle.label_graph.specs.declared.node.Reserved.TheVariants.{Nothing, Label, Pair}
-
-abbrev pub IsLive : List Node → ℕ → Type 0
-IsLive nodes n = IsSome (number_at (labels_of nodes) n)
 
 -- the number is that of the text ahead, or of a label where nothing lies ahead
 abbrev pub IsNext : Option (List ℕ) → ℕ → ℕ → Type 0

@@ -200,6 +200,12 @@ impl Graph {
         GraphView::new(self)
     }
 
+    /// How many cells the lists of neighbours have.
+    #[cfg(test)]
+    pub(crate) fn cell_count(&self) -> usize {
+        self.nodes.cell_count()
+    }
+
     // The parents, with no step.
     pub(crate) fn parent_list(&self, n: NodeId) -> &[NodeId]
         ensures edges { Lists (λ u. has_edge self.now.graph u n) result.now }
@@ -309,7 +315,7 @@ impl Graph {
     }
 
     /// Takes away a live node at which no edge begins or ends, and any reservation. Its number is never allocated again,
-    /// and its label stays among those seen. O(1), no memory.
+    /// and its label stays among those seen; the room of its neighbours goes to later edges. O(1), no memory.
     pub fn remove_node(&mut self, u: NodeId)
         requires live { IsTrue (is_live self.old.graph u) }
         requires unused { is_used self.old.graph u ≡ false }

@@ -17,11 +17,23 @@ use std::marker::Model;
 ///
 ///     let labels = graph.labels();
 ///     take(labels.text(graph.label(node)));
-#[derive(Drop)]
 pub struct Labels {
     table: IndexSet<Text>,
     effective: usize,
     recent: Recent,
+}
+
+impl Drop for Labels {
+    // By hand, so that no crate above proves how the table is dropped.
+    fn drop(self) {
+        let Labels {
+            table,
+            effective: _,
+            recent,
+        } = self;
+        drop(table);
+        drop(recent);
+    }
 }
 
 impl Model for Labels {

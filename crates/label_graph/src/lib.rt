@@ -2,10 +2,13 @@
 #![tactic(auto)]
 
 mod digraph;
+mod gone;
 mod graph;
 mod labels;
 mod node;
 mod segment;
+#[cfg(test)]
+mod tests;
 mod view;
 
 pub use digraph::Digraph;

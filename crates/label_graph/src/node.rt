@@ -1,10 +1,11 @@
 // The nodes of a graph, and their lists of neighbours.
-ghost use Rattle.std.specs.Prelude.{◌≡◌, ◌<◌, ◌==◌, ◌++◌, ◌∷◌, [], ℕ, if◌then◌else◌, Some, None, IfOk, OnOk, OnErr, length, slice_set, nat_eq, IsTrue, true};
+ghost use Rattle.std.specs.Prelude.{◌≡◌, ◌<◌, ◌==◌, ◌++◌, ◌∷◌, [], ℕ, if◌then◌else◌, Some, None, IfOk, IfSome, OnOk, OnErr, length, slice_set, nat_eq, IsTrue, true};
 ghost use Rattle.std.specs.List.{IsDistinct};
 ghost use Rattle.graph_spec.specs.Members.{has};
-ghost use Rattle.label_graph.specs.Nodes.{labels_of, number_at, children_of, parents_of, Mirrors, SameNodes, HasReserved, LacksEdge};
+ghost use Rattle.label_graph.specs.Nodes.{labels_of, number_at, children_of, parents_of, Mirrors, SameNodes, HasReserved, IsGoneBeside, LacksEdge};
 
-use crate::segment::{EMPTY, Segment, items, make_place, push, take_out};
+use crate::gone::GoneLists;
+use crate::segment::{EMPTY, Segment, exchange, items, make_place, push, take_out};
 use px_base::{Memory, NodeId};
 use std::alloc::Global;
 use std::marker::Model;
@@ -28,12 +29,28 @@ pub(crate) enum Reserved {
 
 /// The nodes, each with its label and with its neighbours, each once. Lists of neighbours lie in one array, so that no
 /// node takes an allocation of its own. A node takes 32 bytes. A list that never needed room for two takes no more; any
-/// other takes 4 to 16 bytes for each of the most neighbours that it ever had, and keeps them when it shrinks or its node
-/// goes.
-#[derive(Drop)]
+/// other takes 4 to 16 bytes for each of the most neighbours that it ever had, and keeps them when it shrinks. Once its
+/// node is gone, its room goes to a list of the same kind, children or parents, that needs as much. What is noted of such
+/// room takes 256 bytes in all. So the cells depend on how much was in use at once, not on how many nodes there ever were.
 pub(crate) struct Nodes {
     rows: Vec<Row>,
     cells: Vec<u32>,
+    gone_children: GoneLists,
+    gone_parents: GoneLists,
+}
+
+impl Drop for Nodes {
+    // By hand, so that no function above proves how the tables are dropped.
+    fn drop(self) {
+        let Nodes {
+            rows,
+            cells,
+            gone_children: _,
+            gone_parents: _,
+        } = self;
+        drop(rows);
+        drop(cells);
+    }
 }
 
 impl Model for Nodes {
@@ -57,6 +74,12 @@ impl Nodes {
         ensures { result ≡ length self.now.nodes }
     {
         self.rows.len()
+    }
+
+    /// How many cells there are.
+    #[cfg(test)]
+    pub(crate) fn cell_count(&self) -> usize {
+        self.cells.len()
     }
 
     /// The number of a node's label, and none where the node is gone or its number isn't given.
@@ -115,6 +138,8 @@ impl Nodes {
         Nodes {
             rows: Vec::new(alloc),
             cells: Vec::new(alloc),
+            gone_children: GoneLists::new(),
+            gone_parents: GoneLists::new(),
         }
     }
 
@@ -144,6 +169,20 @@ impl Nodes {
 
     /// Reserves capacity for an edge.
     pub(crate) fn reserve_edge(&mut self, u: NodeId, v: NodeId) -> Result<(), Memory>
+        requires from { u < length self.old.nodes }
+        requires onto { v < length self.old.nodes }
+        ensures same { SameNodes self.old.nodes self.new.nodes }
+        ensures capacity { self.new.capacity ≡ self.old.capacity }
+        ensures reserved { OnOk result (HasReserved self.new.nodes u v) }
+    {
+        self.reuse_children(u);
+        self.reuse_parents(v);
+        self.reserve_behind(u, v)?;
+        Ok(())
+    }
+
+    // Reserves capacity for an edge behind all cells, where there is none.
+    fn reserve_behind(&mut self, u: NodeId, v: NodeId) -> Result<(), Memory>
         requires from { u < length self.old.nodes }
         requires onto { v < length self.old.nodes }
         ensures same { SameNodes self.old.nodes self.new.nodes }
@@ -180,14 +219,96 @@ impl Nodes {
         take_out(&mut self.cells, &mut self.rows[v as usize].parents, u);
     }
 
-    /// Takes the label of a node away, so that the node is gone.
+    /// Takes the label of a node away, so that the node is gone. The room of its lists is used again.
     pub(crate) fn clear_label(&mut self, n: NodeId)
         requires { n < length self.old.nodes }
         ensures labels { labels_of self.new.nodes ≡ slice_set (labels_of self.old.nodes) n None }
         ensures children { (w : ℕ) → children_of self.new.nodes w ≡ children_of self.old.nodes w }
         ensures parents { (w : ℕ) → parents_of self.new.nodes w ≡ parents_of self.old.nodes w }
     {
+        self.mark_gone(n);
+        self.offer_children(n);
+        self.offer_parents(n);
+    }
+
+    // Takes the label away.
+    fn mark_gone(&mut self, n: NodeId)
+        requires { n < length self.old.nodes }
+        ensures labels { labels_of self.new.nodes ≡ slice_set (labels_of self.old.nodes) n None }
+        ensures children { (w : ℕ) → children_of self.new.nodes w ≡ children_of self.old.nodes w }
+        ensures parents { (w : ℕ) → parents_of self.new.nodes w ≡ parents_of self.old.nodes w }
+    {
         self.rows[n as usize].label = None;
+    }
+}
+
+// Room of gone nodes, and its use.
+impl Nodes {
+    // Puts the room of a gone node's children in front of the others.
+    fn offer_children(&mut self, n: NodeId)
+        ensures { self.new ≡ self.old }
+    {
+        let Some(row) = self.rows.get(n as usize) else {
+            return;
+        };
+        self.gone_children.offer(&mut self.cells, &row.children, n);
+    }
+
+    // The same for its parents.
+    fn offer_parents(&mut self, n: NodeId)
+        ensures { self.new ≡ self.old }
+    {
+        let Some(row) = self.rows.get(n as usize) else {
+            return;
+        };
+        self.gone_parents.offer(&mut self.cells, &row.parents, n);
+    }
+
+    // The node g itself, where it is gone and another than u.
+    fn gone_beside(&self, u: NodeId, g: NodeId) -> Option<NodeId>
+        ensures { IfSome result (IsGoneBeside self.now.nodes u) }
+    {
+        let row = self.rows.get(g as usize)?;
+        if row.label.is_some() || g == u {
+            return None;
+        }
+        Some(g)
+    }
+
+    // Moves the children of a node that have no place left to the room of a gone node's.
+    fn reuse_children(&mut self, u: NodeId)
+        requires { u < length self.old.nodes }
+        ensures same { SameNodes self.old.nodes self.new.nodes }
+        ensures capacity { self.new.capacity ≡ self.old.capacity }
+    {
+        let mut list = self.rows[u as usize].children;
+        let Some(g) = self.gone_beside(u, self.gone_children.first_for(&list)) else {
+            return;
+        };
+        let mut room = self.rows[g as usize].children;
+        self.gone_children.withdraw(&self.cells, &room);
+        exchange(&mut self.cells, &mut list, &mut room);
+        self.rows[u as usize].children = list;
+        self.rows[g as usize].children = room;
+        self.offer_children(g);
+    }
+
+    // The same for its parents.
+    fn reuse_parents(&mut self, u: NodeId)
+        requires { u < length self.old.nodes }
+        ensures same { SameNodes self.old.nodes self.new.nodes }
+        ensures capacity { self.new.capacity ≡ self.old.capacity }
+    {
+        let mut list = self.rows[u as usize].parents;
+        let Some(g) = self.gone_beside(u, self.gone_parents.first_for(&list)) else {
+            return;
+        };
+        let mut room = self.rows[g as usize].parents;
+        self.gone_parents.withdraw(&self.cells, &room);
+        exchange(&mut self.cells, &mut list, &mut room);
+        self.rows[u as usize].parents = list;
+        self.rows[g as usize].parents = room;
+        self.offer_parents(g);
     }
 }
 

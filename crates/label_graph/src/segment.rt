@@ -3,9 +3,10 @@ ghost use Rattle.std.specs.Prelude.{◌≡◌, ◌<◌, ◌≤◌, ◌++◌, ◌
 ghost use Rattle.std.specs.List.{IsDistinct};
 ghost use Rattle.graph_spec.specs.Members.{has};
 ghost use Rattle.label_graph.specs.Nodes.{IsWithout};
-ghost use Rattle.label_graph.specs.Segments.{items_in, LiesWithin, Writes, IsMoved, Begins};
+ghost use Rattle.label_graph.specs.Segments.{items_in, LiesWithin, IsApart, Writes, IsMoved, IsCopied, Exchanges, Begins};
 
 use px_base::Memory;
+use std::mem::swap;
 use std::slice::from_ref;
 
 /// How many numbers of a long list are searched at once.
@@ -26,7 +27,7 @@ pub(crate) struct Segment {
 
 /// Whether the list takes no cell.
 #[inline(always)]
-fn is_short(segment: &Segment) -> bool
+pub(crate) fn is_short(segment: &Segment) -> bool
     ensures { result ≡ nat_lt segment.now.reserved 2 }
 {
     segment.reserved < 2
@@ -69,8 +70,8 @@ pub(crate) fn make_place(cells: &mut Vec<u32>, segment: &mut Segment) -> Result<
     Ok(())
 }
 
-// How many numbers a list of that room has room for once it is moved: twice as many, and at least four.
-fn more_reserved(reserved: u32) -> usize
+/// How many numbers a list of that room has room for once it is moved: twice as many, and at least four.
+pub(crate) fn more_reserved(reserved: u32) -> usize
     ensures more { reserved < result }
     ensures long { 2 ≤ result }
 {
@@ -116,6 +117,40 @@ fn moved(cells: &mut Vec<u32>, segment: Segment) -> Result<Segment, Memory>
         len: segment.len,
         reserved: reserved as u32,
     })
+}
+
+/// Moves a list into the room of an empty one, which gets its room instead. Where that room isn't larger, nothing is done.
+pub(crate) fn exchange(cells: &mut Vec<u32>, list: &mut Segment, room: &mut Segment)
+    requires list { LiesWithin (length cells.old.items) list.old }
+    requires room { LiesWithin (length cells.old.items) room.old }
+    requires apart { IsApart list.old room.old }
+    ensures { Exchanges cells.old.items cells.new.items list.old room.old list.new room.new }
+{
+    if room.len > 0 || is_short(room) || room.reserved <= list.reserved {
+        return;
+    }
+    copy_into(cells, *list, *room);
+    let len = list.len;
+    swap(list, room);
+    list.len = len;
+    room.len = 0;
+}
+
+// Writes the numbers of a list into the room of another.
+fn copy_into(cells: &mut Vec<u32>, list: Segment, room: Segment)
+    requires list { LiesWithin (length cells.old.items) list }
+    requires room { LiesWithin (length cells.old.items) room }
+    requires long { 2 ≤ room.reserved }
+    requires larger { list.reserved ≤ room.reserved }
+    ensures { IsCopied cells.old.items cells.new.items list room }
+{
+    let to = room.first as usize;
+    if is_short(&list) {
+        cells[to] = list.first;
+        return;
+    }
+    let from = list.first as usize;
+    cells.copy_within(from..from + list.len as usize, to);
 }
 
 /// Puts a number behind the others of a list, where there is room.

@@ -3,7 +3,7 @@ use Rattle.std.proofs.lemmas.List.{length-map}
 use Rattle.label_graph.specs.NodeRows.{node_in}
 use Rattle.label_graph.proofs.RowLemmas.{child-within}
 use Rattle.label_graph.proofs.RowEdges.{held-once, same-first, second-within, held-twice, same-second, edge-reserved}
-use Rattle.label_graph.proofs.node.Nodes.reserve_edge.Goals as goal
+use Rattle.label_graph.proofs.node.Nodes.reserve_behind.Goals as goal
 
 pub make_place-requires : goal.make_place-requires
 make_place-requires c =

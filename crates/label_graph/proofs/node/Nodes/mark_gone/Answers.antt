@@ -4,7 +4,7 @@ use Rattle.label_graph.specs.Nodes.{labels_of, children_of, parents_of}
 use Rattle.label_graph.specs.NodeRows.{node_in, nodes_in}
 use Rattle.label_graph.proofs.SetNodes.{children-set_kept, parents-set_kept}
 use Rattle.label_graph.proofs.RowLemmas.{held-label, below-seen, children-seen, parents-seen}
-use Rattle.label_graph.proofs.node.Nodes.clear_label.Goals as goal
+use Rattle.label_graph.proofs.node.Nodes.mark_gone.Goals as goal
 
 pub invariant_of-self : goal.invariant_of-self
 invariant_of-self c =

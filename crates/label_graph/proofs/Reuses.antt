@@ -1,0 +1,290 @@
+-- Rows of which two exchange the room of a list, or the room of an empty list is written.
+use Rattle.std.proofs.Common.{◌≡◌, ◌≢◌, false, ℕ, zero, suc, ◌-◌, ◌<◌, ◌≤◌, List, [], ◌∷◌, Option, None, Some, length, map, refl, sym, ap, ◌∙◌, subst, arith, get_or, set, length-set, ◌⊎◌, inl, inr, true≢false}
+use Rattle.std.specs.Prelude.{slice_get, is_some}
+use Rattle.std.proofs.lemmas.List.{get_or-set_same, get_or-set_other, length-map}
+use Rattle.std.proofs.lemmas.Option.{get_or_from_slice_get}
+use Rattle.label_graph.specs.declared.segment.Segment.{Segment}
+use Rattle.label_graph.specs.declared.node.Row.{Row}
+use Rattle.label_graph.specs.Nodes.{labels_of, number_at, IsLive, IsGoneBeside, children_of, parents_of, child_reserved, parent_reserved, SameNodes}
+use Rattle.label_graph.specs.Segments.{items_in, LiesWithin, IsApart, Writes, Exchanges}
+use Rattle.label_graph.specs.NodeRows.{segments_of, AreHeld, node_in, nodes_in}
+use Rattle.label_graph.proofs.RowLemmas.{twice, twice-is, turned, children-list, parents-list}
+
+-- a list by its number
+abbrev nowhere : Segment
+nowhere = record { first = 0; len = 0; reserved = 0 }
+
+abbrev pub list_at : List Row → ℕ → Segment
+list_at rows i = get_or (segments_of rows) i nowhere
+
+-- how many more fit
+abbrev room_of : List ℕ → Segment → ℕ
+room_of cells s = s.reserved - length (items_in cells s)
+
+children-by : (cells : List ℕ) (rows : List Row) (w : ℕ) → children_of (nodes_in cells rows) w ≡ items_in cells (list_at rows (twice w))
+children-by cells [] w = refl
+children-by cells (r ∷ rs) zero = refl
+children-by cells (r ∷ rs) (suc w) = children-by cells rs w
+
+parents-by : (cells : List ℕ) (rows : List Row) (w : ℕ) → parents_of (nodes_in cells rows) w ≡ items_in cells (list_at rows (suc (twice w)))
+parents-by cells [] w = refl
+parents-by cells (r ∷ rs) zero = refl
+parents-by cells (r ∷ rs) (suc w) = parents-by cells rs w
+
+child_reserved-by : (cells : List ℕ) (rows : List Row) (w : ℕ) → child_reserved (nodes_in cells rows) w ≡ room_of cells (list_at rows (twice w))
+child_reserved-by cells [] w = refl
+child_reserved-by cells (r ∷ rs) zero = refl
+child_reserved-by cells (r ∷ rs) (suc w) = child_reserved-by cells rs w
+
+parent_reserved-by : (cells : List ℕ) (rows : List Row) (w : ℕ) → parent_reserved (nodes_in cells rows) w ≡ room_of cells (list_at rows (suc (twice w)))
+parent_reserved-by cells [] w = refl
+parent_reserved-by cells (r ∷ rs) zero = refl
+parent_reserved-by cells (r ∷ rs) (suc w) = parent_reserved-by cells rs w
+
+abbrev row_labels : List Row → List (Option ℕ)
+row_labels = map (λ r. r.label)
+
+labels-by : (cells : List ℕ) (rows : List Row) → labels_of (nodes_in cells rows) ≡ row_labels rows
+labels-by cells [] = refl
+labels-by cells (r ∷ rs) = ap (λ l. r.label ∷ l) (labels-by cells rs)
+
+-- a list of a node is written
+pub set-children : (rows : List Row) (n : ℕ) (r : Row) (t : Segment) → r ≡ get_or rows n r → segments_of (set rows n (record r { children = t })) ≡ set (segments_of rows) (twice n) t
+set-children [] n r t is = refl
+set-children (y ∷ ys) zero r t is = ap (λ x. t ∷ x.parents ∷ segments_of ys) is
+set-children (y ∷ ys) (suc n) r t is = ap (λ l. y.children ∷ y.parents ∷ l) (set-children ys n r t is)
+
+pub set-parents : (rows : List Row) (n : ℕ) (r : Row) (t : Segment) → r ≡ get_or rows n r → segments_of (set rows n (record r { parents = t })) ≡ set (segments_of rows) (suc (twice n)) t
+set-parents [] n r t is = refl
+set-parents (y ∷ ys) zero r t is = ap (λ x. x.children ∷ t ∷ segments_of ys) is
+set-parents (y ∷ ys) (suc n) r t is = ap (λ l. y.children ∷ y.parents ∷ l) (set-parents ys n r t is)
+
+set-label : (rows : List Row) (n : ℕ) (r y : Row) → r ≡ get_or rows n r → y.label ≡ r.label → row_labels (set rows n y) ≡ row_labels rows
+set-label [] n r y is e = refl
+set-label (x ∷ xs) zero r y is e = ap (λ l. l ∷ row_labels xs) (e ∙ ap (λ z. z.label) is)
+set-label (x ∷ xs) (suc n) r y is e = ap (λ l. x.label ∷ l) (set-label xs n r y is e)
+
+list-count : (rows : List Row) → length (segments_of rows) ≡ twice (length rows)
+list-count [] = refl
+list-count (r ∷ rs) = ap (λ n. suc (suc n)) (list-count rs)
+
+-- lists that are held, by their numbers
+same-or : (i k : ℕ) → (i ≡ k) ⊎ (i ≢ k)
+same-or zero zero = inl refl
+same-or zero (suc k) = inr (λ e. absurd (omega (arith, e)))
+same-or (suc i) zero = inr (λ e. absurd (omega (arith, e)))
+same-or (suc i) (suc k) = elim (same-or i k) [
+  | inl e ↦ inl (ap suc e)
+  | inr e ↦ inr (λ f. e (omega (arith, f)))
+]
+
+there-or : (lists : List Segment) (i : ℕ) → (get_or lists i nowhere ≡ nowhere) ⊎ (slice_get lists i ≡ Some (get_or lists i nowhere))
+there-or [] i = inl refl
+there-or (s ∷ ss) zero = inr refl
+there-or (s ∷ ss) (suc i) = there-or ss i
+
+module _ (cells : List ℕ) (rows : List Row) (h : AreHeld cells rows) where
+  pub within-at : (i : ℕ) → LiesWithin (length cells) (list_at rows i)
+  within-at i = elim (there-or (segments_of rows) i) [
+    | inl e ↦ subst (LiesWithin (length cells)) (sym e) (record { fits = omega arith; ends = λ l. absurd (omega (arith, l)) })
+    | inr e ↦ h.within i (list_at rows i) e
+  ]
+
+  pub apart-at : (i j : ℕ) → i ≢ j → IsApart (list_at rows i) (list_at rows j)
+  apart-at i j ne = elim (there-or (segments_of rows) i) [
+    | inl e ↦ λ a b. absurd (omega (arith, a, ap (λ s. s.reserved) e))
+    | inr e ↦ elim (there-or (segments_of rows) j) [
+      | inl f ↦ λ a b. absurd (omega (arith, b, ap (λ s. s.reserved) f))
+      | inr f ↦ h.apart i j (list_at rows i) (list_at rows j) ne e f
+    ]
+  ]
+
+held-by : (cells : List ℕ) (rows : List Row) → ((i : ℕ) → LiesWithin (length cells) (list_at rows i)) → ((i j : ℕ) → i ≢ j → IsApart (list_at rows i) (list_at rows j)) → AreHeld cells rows
+held-by cells rows within apart = record {
+  within = λ i s e. subst (LiesWithin (length cells)) (get_or_from_slice_get (segments_of rows) i s nowhere e) (within i);
+  apart = λ i j s t ne e f.
+      subst (λ x. IsApart x t) (get_or_from_slice_get (segments_of rows) i s nowhere e)
+      (subst (IsApart (list_at rows i)) (get_or_from_slice_get (segments_of rows) j t nowhere f) (apart i j ne));
+}
+
+-- the lists k and l have t and q instead
+module _ (cells more : List ℕ) (rows new : List Row) (k l : ℕ) (t q : Segment) (ne : k ≢ l) (below_k : k < length (segments_of rows)) (below_l : l < length (segments_of rows))
+    (is : segments_of new ≡ set (set (segments_of rows) k t) l q) (e : Exchanges cells more (list_at rows k) (list_at rows l) t q) (h : AreHeld cells rows) where
+  first-is : list_at new k ≡ t
+  first-is = ap (λ x. get_or x k nowhere) is ∙ get_or-set_other (set (segments_of rows) k t) l k q nowhere ne ∙ get_or-set_same (segments_of rows) k t nowhere below_k
+
+  second-is : list_at new l ≡ q
+  second-is = ap (λ x. get_or x l nowhere) is ∙ get_or-set_same (set (segments_of rows) k t) l q nowhere (omega (arith, below_l, length-set (segments_of rows) k t))
+
+  other-is : (i : ℕ) → i ≢ k → i ≢ l → list_at new i ≡ list_at rows i
+  other-is i a b = ap (λ x. get_or x i nowhere) is ∙ get_or-set_other (set (segments_of rows) k t) l i q nowhere b ∙ get_or-set_other (segments_of rows) k i t nowhere a
+
+  -- what holds of t, of q and of each other list holds of each
+  each : (P : ℕ → Segment → Type 0) → P k t → P l q → ((i : ℕ) → i ≢ k → i ≢ l → P i (list_at rows i)) → (i : ℕ) → P i (list_at new i)
+  each P a b c i = elim (same-or i k) [
+    | inl f ↦ subst (P i) (sym (ap (list_at new) f ∙ first-is)) (subst (λ n. P n t) (sym f) a)
+    | inr f ↦ elim (same-or i l) [
+      | inl g ↦ subst (P i) (sym (ap (list_at new) g ∙ second-is)) (subst (λ n. P n q) (sym g) b)
+      | inr g ↦ subst (P i) (sym (other-is i f g)) (c i f g)
+    ]
+  ]
+
+  apart-first : (j : ℕ) → j ≢ k → IsApart t (list_at new j)
+  apart-first = each (λ j u. j ≢ k → IsApart t u) (λ ne. absurd (ne refl)) (λ _. e.between)
+      (λ j a b _. e.list_apart (list_at rows j) (apart-at cells rows h k j (λ f. a (sym f))) (apart-at cells rows h l j (λ f. b (sym f))))
+
+  apart-second : (j : ℕ) → j ≢ l → IsApart q (list_at new j)
+  apart-second = each (λ j u. j ≢ l → IsApart q u) (λ _. turned t q e.between) (λ ne. absurd (ne refl))
+      (λ j a b _. e.room_apart (list_at rows j) (apart-at cells rows h k j (λ f. a (sym f))) (apart-at cells rows h l j (λ f. b (sym f))))
+
+  apart-other : (i : ℕ) → i ≢ k → i ≢ l → (j : ℕ) → i ≢ j → IsApart (list_at rows i) (list_at new j)
+  apart-other i a b = each (λ j u. i ≢ j → IsApart (list_at rows i) u)
+      (λ _. turned t (list_at rows i) (e.list_apart (list_at rows i) (apart-at cells rows h k i (λ f. a (sym f))) (apart-at cells rows h l i (λ f. b (sym f)))))
+      (λ _. turned q (list_at rows i) (e.room_apart (list_at rows i) (apart-at cells rows h k i (λ f. a (sym f))) (apart-at cells rows h l i (λ f. b (sym f)))))
+      (λ j _ _ ne. apart-at cells rows h i j ne)
+
+  pub held-exchanged : AreHeld more new
+  held-exchanged = held-by more new
+      (each (λ _ u. LiesWithin (length more) u) e.list_within e.room_within (λ i _ _. subst (λ n. LiesWithin n (list_at rows i)) (sym e.size) (within-at cells rows h i)))
+      (each (λ i u. (j : ℕ) → i ≢ j → IsApart u (list_at new j)) (λ j ne. apart-first j (λ f. ne (sym f))) (λ j ne. apart-second j (λ f. ne (sym f))) apart-other)
+
+  other-items : (i : ℕ) → i ≢ k → i ≢ l → items_in more (list_at rows i) ≡ items_in cells (list_at rows i)
+  other-items i a b = e.others (list_at rows i) (within-at cells rows h i) (apart-at cells rows h k i (λ f. a (sym f))) (apart-at cells rows h l i (λ f. b (sym f)))
+
+  items-same : (i : ℕ) → items_in more (list_at new i) ≡ items_in cells (list_at rows i)
+  items-same = each (λ i u. items_in more u ≡ items_in cells (list_at rows i)) e.list_items e.room_items other-items
+
+  room-kept : (i : ℕ) → i ≢ l → room_of cells (list_at rows i) ≤ room_of more (list_at new i)
+  room-kept = each (λ i u. i ≢ l → room_of cells (list_at rows i) ≤ room_of more u)
+      (λ _. omega (arith, e.more, ap length e.list_items)) (λ ne. absurd (ne refl)) (λ i a b _. omega (arith, ap length (other-items i a b)))
+
+  pub same-exchanged : row_labels new ≡ row_labels rows → ((w : ℕ) → IsLive (nodes_in cells rows) w → (twice w ≢ l) × (suc (twice w) ≢ l)) → SameNodes (nodes_in cells rows) (nodes_in more new)
+  same-exchanged labels gone = record {
+    labels = labels-by more new ∙ labels ∙ sym (labels-by cells rows);
+    children = λ w. children-by more new w ∙ items-same (twice w) ∙ sym (children-by cells rows w);
+    parents = λ w. parents-by more new w ∙ items-same (suc (twice w)) ∙ sym (parents-by cells rows w);
+    child_reserves = λ w live. omega (arith, room-kept (twice w) (gone w live).0, child_reserved-by cells rows w, child_reserved-by more new w);
+    parent_reserves = λ w live. omega (arith, room-kept (suc (twice w)) (gone w live).1, parent_reserved-by cells rows w, parent_reserved-by more new w);
+  }
+
+-- the lists of one node
+pub at-child : (rows : List Row) (n : ℕ) (r : Row) → n < length rows → r ≡ get_or rows n r → list_at rows (twice n) ≡ r.children
+at-child rows n r below is = get_or_from_slice_get (segments_of rows) (twice n) r.children nowhere (children-list rows n r below ∙ ap (λ x. Some x.children) (sym is))
+
+pub at-parent : (rows : List Row) (n : ℕ) (r : Row) → n < length rows → r ≡ get_or rows n r → list_at rows (suc (twice n)) ≡ r.parents
+at-parent rows n r below is = get_or_from_slice_get (segments_of rows) (suc (twice n)) r.parents nowhere (parents-list rows n r below ∙ ap (λ x. Some x.parents) (sym is))
+
+nodes-same : (cells more : List ℕ) (rows : List Row) → ((i : ℕ) → items_in more (list_at rows i) ≡ items_in cells (list_at rows i)) → nodes_in more rows ≡ nodes_in cells rows
+nodes-same cells more [] same i = []
+nodes-same cells more (r ∷ rs) same i =
+    record {
+      label = r.label;
+      children = record { items = same 0 i; capacity = r.children.reserved };
+      parents = record { items = same 1 i; capacity = r.parents.reserved };
+    }
+    ∷ nodes-same cells more rs (λ j. same (suc (suc j))) i
+
+-- the room of the list k is written, which keeps its numbers
+module _ (cells more : List ℕ) (rows : List Row) (k : ℕ) (s : Segment) (is : list_at rows k ≡ s) (w : Writes cells more s s) (same : items_in more s ≡ items_in cells s) (h : AreHeld cells rows) where
+  pub held-noted : AreHeld more rows
+  held-noted = held-by more rows
+      (λ i. let o = within-at cells rows h i in record { fits = o.fits; ends = λ l. omega (arith, o.ends l, w.longer) })
+      (apart-at cells rows h)
+
+  items-noted : (i : ℕ) → items_in more (list_at rows i) ≡ items_in cells (list_at rows i)
+  items-noted i = elim (same-or i k) [
+    | inl e ↦ subst (λ u. items_in more u ≡ items_in cells u) (sym (ap (list_at rows) e ∙ is)) same
+    | inr e ↦ w.others (list_at rows i) (within-at cells rows h i) (subst (λ u. IsApart u (list_at rows i)) is (apart-at cells rows h k i (λ f. e (sym f))))
+  ]
+
+  pub nodes-noted : nodes_in more rows ≡ nodes_in cells rows
+  nodes-noted = nodes-same cells more rows items-noted
+
+-- a node that has no place left, and a gone one
+module _ (cells : List ℕ) (rows : List Row) (u g : ℕ) (a b : Row) (below : u < length rows) (is_a : a ≡ get_or rows u a) (is_b : b ≡ get_or rows g b)
+    (gone : IsGoneBeside (nodes_in cells rows) u g) (h : AreHeld cells rows) where
+  given : g < length rows
+  given = omega (arith, gone.given, length-map rows (node_in cells))
+
+  not-gone : (w : ℕ) → IsLive (nodes_in cells rows) w → w ≢ g
+  not-gone w live e = absurd (true≢false (sym live ∙ ap (λ n. is_some (number_at (labels_of (nodes_in cells rows)) n)) e ∙ ap is_some gone.gone))
+
+  even-apart : twice u ≢ twice g
+  even-apart e = gone.other (omega (arith, e, twice-is u, twice-is g))
+
+  odd-apart : suc (twice u) ≢ suc (twice g)
+  odd-apart e = gone.other (omega (arith, e, twice-is u, twice-is g))
+
+  pub children-within : LiesWithin (length cells) a.children
+  children-within = subst (LiesWithin (length cells)) (at-child rows u a below is_a) (within-at cells rows h (twice u))
+
+  pub gone-children-within : LiesWithin (length cells) b.children
+  gone-children-within = subst (LiesWithin (length cells)) (at-child rows g b given is_b) (within-at cells rows h (twice g))
+
+  pub children-apart : IsApart a.children b.children
+  children-apart =
+      subst (λ s. IsApart s b.children) (at-child rows u a below is_a)
+      (subst (IsApart (list_at rows (twice u))) (at-child rows g b given is_b) (apart-at cells rows h (twice u) (twice g) even-apart))
+
+  pub parents-within : LiesWithin (length cells) a.parents
+  parents-within = subst (LiesWithin (length cells)) (at-parent rows u a below is_a) (within-at cells rows h (suc (twice u)))
+
+  pub gone-parents-within : LiesWithin (length cells) b.parents
+  gone-parents-within = subst (LiesWithin (length cells)) (at-parent rows g b given is_b) (within-at cells rows h (suc (twice g)))
+
+  pub parents-apart : IsApart a.parents b.parents
+  parents-apart =
+      subst (λ s. IsApart s b.parents) (at-parent rows u a below is_a)
+      (subst (IsApart (list_at rows (suc (twice u)))) (at-parent rows g b given is_b) (apart-at cells rows h (suc (twice u)) (suc (twice g)) odd-apart))
+
+  even-below : (n : ℕ) → n < length rows → twice n < length (segments_of rows)
+  even-below n l = omega (arith, l, list-count rows, twice-is n, twice-is (length rows))
+
+  odd-below : (n : ℕ) → n < length rows → suc (twice n) < length (segments_of rows)
+  odd-below n l = omega (arith, l, list-count rows, twice-is n, twice-is (length rows))
+
+  -- the rows as they are written, of u and of g
+  module _ (more : List ℕ) (t q : Segment) (x y : Row) (is_x : x ≡ get_or rows u x) where
+    module _ (is_y : y ≡ get_or (set rows u (record x { children = t })) g y) (e : Exchanges cells more a.children b.children t q) where
+      abbrev new_children : List Row
+      new_children = set (set rows u (record x { children = t })) g (record y { children = q })
+
+      children-are : segments_of new_children ≡ set (set (segments_of rows) (twice u) t) (twice g) q
+      children-are = set-children (set rows u (record x { children = t })) g y q is_y ∙ ap (λ l. set l (twice g) q) (set-children rows u x t is_x)
+
+      children-exchange : Exchanges cells more (list_at rows (twice u)) (list_at rows (twice g)) t q
+      children-exchange =
+          subst (λ s. Exchanges cells more s (list_at rows (twice g)) t q) (sym (at-child rows u a below is_a))
+          (subst (λ s. Exchanges cells more a.children s t q) (sym (at-child rows g b given is_b)) e)
+
+      pub held-children : AreHeld more new_children
+      held-children = held-exchanged cells more rows new_children (twice u) (twice g) t q even-apart (even-below u below) (even-below g given) children-are children-exchange h
+
+      pub same-children : SameNodes (nodes_in cells rows) (nodes_in more new_children)
+      same-children = same-exchanged cells more rows new_children (twice u) (twice g) t q even-apart (even-below u below) (even-below g given) children-are children-exchange h
+          (set-label (set rows u (record x { children = t })) g y (record y { children = q }) is_y refl ∙ set-label rows u x (record x { children = t }) is_x refl)
+          (λ w live. ((λ f. not-gone w live (omega (arith, f, twice-is w, twice-is g))), (λ f. absurd (omega (arith, f, twice-is w, twice-is g)))))
+
+    module _ (is_y : y ≡ get_or (set rows u (record x { parents = t })) g y) (e : Exchanges cells more a.parents b.parents t q) where
+      abbrev new_parents : List Row
+      new_parents = set (set rows u (record x { parents = t })) g (record y { parents = q })
+
+      parents-are : segments_of new_parents ≡ set (set (segments_of rows) (suc (twice u)) t) (suc (twice g)) q
+      parents-are = set-parents (set rows u (record x { parents = t })) g y q is_y ∙ ap (λ l. set l (suc (twice g)) q) (set-parents rows u x t is_x)
+
+      parents-exchange : Exchanges cells more (list_at rows (suc (twice u))) (list_at rows (suc (twice g))) t q
+      parents-exchange =
+          subst (λ s. Exchanges cells more s (list_at rows (suc (twice g))) t q) (sym (at-parent rows u a below is_a))
+          (subst (λ s. Exchanges cells more a.parents s t q) (sym (at-parent rows g b given is_b)) e)
+
+      pub held-parents : AreHeld more new_parents
+      held-parents = held-exchanged cells more rows new_parents (suc (twice u)) (suc (twice g)) t q odd-apart (odd-below u below) (odd-below g given) parents-are parents-exchange h
+
+      pub same-parents : SameNodes (nodes_in cells rows) (nodes_in more new_parents)
+      same-parents = same-exchanged cells more rows new_parents (suc (twice u)) (suc (twice g)) t q odd-apart (odd-below u below) (odd-below g given) parents-are parents-exchange h
+          (set-label (set rows u (record x { parents = t })) g y (record y { parents = q }) is_y refl ∙ set-label rows u x (record x { parents = t }) is_x refl)
+          (λ w live. ((λ f. absurd (omega (arith, f, twice-is w, twice-is g))), (λ f. not-gone w live (omega (arith, f, twice-is w, twice-is g)))))
+
+pub no-number : (o : Option ℕ) → is_some o ≡ false → o ≡ None
+no-number None e = refl
+no-number (Some n) e = absurd (true≢false e)

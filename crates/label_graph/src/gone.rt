@@ -1,0 +1,86 @@
+// Gone nodes whose lists still have room.
+ghost use Rattle.std.specs.Prelude.{◌≡◌, length};
+ghost use Rattle.label_graph.specs.Segments.{items_in, LiesWithin, Writes};
+
+use crate::segment::{Segment, is_short, more_reserved};
+use px_base::NodeId;
+use std::marker::Model;
+
+/// How many sizes of room there are: the powers of two that fit 32 bits.
+const SIZES: usize = 32;
+
+/// What stands for no node.
+const NOBODY: NodeId = u32::MAX;
+
+/// For each size of room the gone node whose list got it last. The first cell of that list has the number of the node that
+/// got such room before, and so on, so that these lists take no memory. Nothing is promised of a number that is found: the
+/// caller checks what it leads to.
+#[derive(Drop)]
+pub(crate) struct GoneLists {
+    firsts: [NodeId; SIZES],
+}
+
+impl Model for GoneLists {
+    ghost use Rattle.std.specs.Prelude.{⊤};
+
+    ghost Value = { ⊤ };
+
+    ghost view = { λ _. tt };
+}
+
+impl GoneLists {
+    /// No node.
+    pub(crate) fn new() -> GoneLists {
+        GoneLists {
+            firsts: [NOBODY; SIZES],
+        }
+    }
+
+    /// The first gone node with the room that a list wants where it has no place left.
+    pub(crate) fn first_for(&self, list: &Segment) -> NodeId {
+        if list.len < list.reserved {
+            return NOBODY;
+        }
+        self.first(more_reserved(list.reserved))
+    }
+
+    /// Puts a gone node in front, by a list of its that has no numbers, where that takes cells.
+    pub(crate) fn offer(&mut self, cells: &mut Vec<u32>, list: &Segment, n: NodeId)
+        requires { LiesWithin (length cells.old.items) list.now }
+        ensures writes { Writes cells.old.items cells.new.items list.now list.now }
+        ensures items { items_in cells.new.items list.now ≡ items_in cells.old.items list.now }
+    {
+        if list.len > 0 || is_short(list) {
+            return;
+        }
+        let reserved = list.reserved as usize;
+        cells[list.first as usize] = self.first(reserved);
+        self.set_first(reserved, n);
+    }
+
+    /// Takes the first node out, whose list this is.
+    pub(crate) fn withdraw(&mut self, cells: &[u32], list: &Segment) {
+        let next = match cells.get(list.first as usize) {
+            Some(next) => *next,
+            None => NOBODY,
+        };
+        self.set_first(list.reserved as usize, next);
+    }
+
+    fn first(&self, reserved: usize) -> NodeId {
+        match self.firsts.get(place_of(reserved)) {
+            Some(first) => *first,
+            None => NOBODY,
+        }
+    }
+
+    fn set_first(&mut self, reserved: usize, n: NodeId) {
+        if let Some(first) = self.firsts.get_mut(place_of(reserved)) {
+            *first = n;
+        }
+    }
+}
+
+fn place_of(reserved: usize) -> usize {
+    reserved.trailing_zeros() as usize
+}
