@@ -12,7 +12,7 @@ use Rattle.bisim_spec.specs.IndexGraphs.{ViewFits}
 use Rattle.bisim_levels.specs.Keys.{IsKey}
 use Rattle.bisim_levels.specs.Refinement.{AreNumbered}
 use Rattle.bisim_levels.specs.NeighbourSides.{is_neighbour, no_neighbours}
-use Rattle.bisim_levels.specs.declared.sides.Side.TheVariants.{Parents}
+use Rattle.bisim_spec.specs.declared.sides.Side.TheVariants.{Parents}
 use Rattle.quotient.specs.Quotients.{view_of}
 use Rattle.keyed_quotient.specs.KeyedQuotients.{KeyedQuotient, no_level, key_at, AreKeyed}
 use Rattle.ak_family.specs.Families.{level_at, blocks_at, AreLabelKeys, AreParentKeys, IsKeyedFamily}

@@ -8,8 +8,8 @@ use Rattle.label_graph.specs.GraphViews.{label_number, is_linked}
 use Rattle.label_graph.proofs.Viewed.{viewed_shape, linked_is}
 use Rattle.bisim_spec.specs.Partitions.{IsPartition}
 use Rattle.bisim_spec.proofs.Bisimilar.{some_of}
-use Rattle.bisim_levels.specs.declared.sides.Side.{Side}
-use Rattle.bisim_levels.specs.declared.sides.Side.TheVariants.{Parents, Children}
+use Rattle.bisim_spec.specs.declared.sides.Side.{Side}
+use Rattle.bisim_spec.specs.declared.sides.Side.TheVariants.{Parents, Children}
 use Rattle.bisim_levels.specs.NeighbourSides.{is_neighbour}
 
 -- the text of a node's label stands in the table at its number

@@ -9,7 +9,7 @@ use Rattle.bisim_spec.specs.Bisimilarity.{SameLabel, Bis, Both}
 use Rattle.graph_spec.specs.Members.{at}
 use Rattle.bisim_spec.specs.Partitions.{IsPartition, Agrees}
 use Rattle.bisim_spec.proofs.Keys.{bis_from_key, key_from_bis, both_from_key, key_from_both}
-use Rattle.bisim_levels.specs.declared.sides.Side.TheVariants.{Parents, Children}
+use Rattle.bisim_spec.specs.declared.sides.Side.TheVariants.{Parents, Children}
 use Rattle.bisim_levels.specs.NeighbourSides.{is_neighbour, no_neighbours}
 use Rattle.bisim_levels.specs.Refinement.{Share, Refines}
 use Rattle.bisim_spec.proofs.Bisimilar.{some_of}

@@ -1,8 +1,8 @@
 -- The neighbours on one side of a node.
 use Rattle.std.specs.Prelude.{ℕ, Bool, false}
 use Rattle.graph_spec.specs.Graphs.{Graph, has_edge}
-use Rattle.bisim_levels.specs.declared.sides.Side.{Side}
-use Rattle.bisim_levels.specs.declared.sides.Side.TheVariants.{Parents, Children}
+use Rattle.bisim_spec.specs.declared.sides.Side.{Side}
+use Rattle.bisim_spec.specs.declared.sides.Side.TheVariants.{Parents, Children}
 
 -- whether p is a neighbour of n on this side
 abbrev pub is_neighbour : Side → Graph → ℕ → ℕ → Bool

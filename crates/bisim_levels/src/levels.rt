@@ -6,13 +6,13 @@ ghost use Rattle.key_table.specs.NumberedKeys.{AreDistinct};
 ghost use Rattle.bisim_spec.specs.Bisimilarity.{Bis, Both, SameLabel};
 ghost use Rattle.graph_spec.specs.Members.{at};
 ghost use Rattle.bisim_spec.specs.Partitions.{IsPartition, Agrees};
-ghost use Rattle.bisim_levels.specs.declared.sides.Side.TheVariants.{Parents, Children};
+ghost use Rattle.bisim_spec.specs.declared.sides.Side.TheVariants.{Parents, Children};
 ghost use Rattle.bisim_levels.specs.NeighbourSides.{is_neighbour, no_neighbours};
 ghost use Rattle.bisim_levels.specs.Refinement.{AreNumbered, AreNumberedTwice, AreBlocksBelow, Numbers, IsNextLevel};
 
 use crate::recent_keys::RecentKeys;
 use crate::refining::{Level, refine};
-use crate::sides::Side;
+use bisim_spec::Side;
 use label_graph::{Digraph, GraphView};
 use px_base::{Memory, NodeId};
 use std::alloc::Global;

@@ -3,11 +3,11 @@
 
 mod keys;
 mod levels;
+mod neighbour_lists;
 mod recent_keys;
 mod refining;
-mod sides;
 
 pub use keys::{block_of, single_block, write_key};
 pub use levels::{label_level, next_level, next_level_both};
+pub use neighbour_lists::neighbours;
 pub use refining::{Level, refine};
-pub use sides::Side;

@@ -11,8 +11,9 @@ ghost use Rattle.bisim_levels.specs.Keys.{IsWritten};
 ghost use Rattle.bisim_levels.specs.Refinement.{Refines, AreNumbered, AreBlocksBelow, Numbers};
 
 use crate::keys::{block_of, single_block};
+use crate::neighbour_lists::neighbours;
 use crate::recent_keys::RecentKeys;
-use crate::sides::Side;
+use bisim_spec::Side;
 use key_table::KeyTable;
 use label_graph::{Digraph, GraphView};
 use px_base::{Memory, NodeId};
@@ -69,7 +70,7 @@ fn number_of(
 {
     match block_of(own, n) {
         Some(number) => {
-            let k = find_key(keys, base, side.neighbours(view, n), number)?;
+            let k = find_key(keys, base, neighbours(view, side, n), number)?;
             Ok(Some(k))
         }
         None => Ok(None),

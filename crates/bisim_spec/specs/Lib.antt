@@ -12,3 +12,4 @@ pub mod MinimalIndex
 pub mod OneStep
 pub mod Fits
 pub mod NodeEdges
+pub mod SideEdges

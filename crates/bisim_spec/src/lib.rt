@@ -1,5 +1,5 @@
 //! Definitions of bisimilar nodes and of partitions: bisimilarity by levels, stable and minimal partitions,
-//! support counts, index graphs and what fits a graph, with the laws about them; and the kinds of indexes.
+//! support counts, index graphs and what fits a graph, with the laws about them; the kinds of indexes, and the sides of a node.
 //!
 //! Laws in `proofs/`, for shapes whose nodes are below the size and whose edges join nodes:
 //! - `Settled`: each level is an equivalence within the one below, and from the number of nodes on all levels are one.
@@ -18,5 +18,7 @@
 #![tactic(auto)]
 
 mod kind;
+mod sides;
 
 pub use kind::Kind;
+pub use sides::Side;

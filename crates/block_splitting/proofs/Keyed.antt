@@ -8,8 +8,8 @@ use Rattle.graph_spec.specs.Members.{has, at}
 use Rattle.label_graph.specs.GraphViews.{label_number}
 use Rattle.label_graph.specs.ViewLaws.{below_span}
 use Rattle.bisim_spec.specs.Partitions.{Together, IsPartition}
-use Rattle.bisim_levels.specs.declared.sides.Side.{Side}
-use Rattle.bisim_levels.specs.declared.sides.Side.TheVariants.{Parents, Children}
+use Rattle.bisim_spec.specs.declared.sides.Side.{Side}
+use Rattle.bisim_spec.specs.declared.sides.Side.TheVariants.{Parents, Children}
 use Rattle.bisim_levels.specs.NeighbourSides.{is_neighbour}
 use Rattle.bisim_levels.proofs.LabelledNodes.{neighbour_block, node_number, number_node}
 use Rattle.bisim_levels.proofs.WrittenKeys.{key_from_together}

@@ -6,7 +6,7 @@ use Rattle.graph_spec.specs.Graphs.{Graph, IsGraph}
 use Rattle.graph_spec.specs.Shapes.{shape_of}
 use Rattle.graph_spec.specs.Members.{has, at}
 use Rattle.bisim_spec.specs.Partitions.{Together, IsPartition}
-use Rattle.bisim_levels.specs.declared.sides.Side.{Side}
+use Rattle.bisim_spec.specs.declared.sides.Side.{Side}
 use Rattle.bisim_levels.specs.NeighbourSides.{is_neighbour}
 use Rattle.bisim_levels.specs.Refinement.{StayTogether}
 use Rattle.bisim_levels.proofs.LabelledNodes.{neighbour_block}

@@ -8,8 +8,8 @@ use Rattle.graph_spec.specs.Members.{has, at}
 use Rattle.label_graph.specs.GraphViews.{label_number}
 use Rattle.bisim_spec.specs.Partitions.{Together, IsPartition}
 use Rattle.bisim_spec.proofs.Bisimilar.{is_some_at}
-use Rattle.bisim_levels.specs.declared.sides.Side.{Side}
-use Rattle.bisim_levels.specs.declared.sides.Side.TheVariants.{Parents, Children}
+use Rattle.bisim_spec.specs.declared.sides.Side.{Side}
+use Rattle.bisim_spec.specs.declared.sides.Side.TheVariants.{Parents, Children}
 use Rattle.graph_spec.specs.Shapes.{shape_of}
 use Rattle.bisim_levels.specs.NeighbourSides.{is_neighbour}
 use Rattle.block_partition.specs.LabelledPartitions.{Partition}

@@ -4,7 +4,7 @@ use Rattle.graph_spec.specs.Graphs.{Graph}
 use Rattle.graph_spec.specs.Members.{at}
 use Rattle.label_graph.specs.GraphViews.{label_number}
 use Rattle.key_table.specs.NumberedKeys.{AreDistinct, Interns}
-use Rattle.bisim_levels.specs.declared.sides.Side.{Side}
+use Rattle.bisim_spec.specs.declared.sides.Side.{Side}
 use Rattle.bisim_levels.specs.NeighbourSides.{is_neighbour}
 use Rattle.bisim_levels.specs.Keys.{IsKey}
 

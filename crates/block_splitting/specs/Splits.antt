@@ -6,7 +6,7 @@ use Rattle.graph_spec.specs.Members.{at}
 use Rattle.label_graph.specs.GraphViews.{label_number}
 use Rattle.bisim_spec.specs.Bisimilarity.{Matched}
 use Rattle.bisim_spec.specs.Partitions.{Together}
-use Rattle.bisim_levels.specs.declared.sides.Side.{Side}
+use Rattle.bisim_spec.specs.declared.sides.Side.{Side}
 use Rattle.bisim_levels.specs.NeighbourSides.{is_neighbour}
 use Rattle.block_partition.specs.LabelledPartitions.{Partition, IsBlock, block_count}
 

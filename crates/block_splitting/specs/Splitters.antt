@@ -4,8 +4,8 @@ use Rattle.std.specs.List.{list_any}
 use Rattle.graph_spec.specs.Graphs.{Graph}
 use Rattle.graph_spec.specs.Members.{has, at}
 use Rattle.bisim_spec.specs.Partitions.{Together}
-use Rattle.bisim_levels.specs.declared.sides.Side.{Side}
-use Rattle.bisim_levels.specs.declared.sides.Side.TheVariants.{Parents, Children}
+use Rattle.bisim_spec.specs.declared.sides.Side.{Side}
+use Rattle.bisim_spec.specs.declared.sides.Side.TheVariants.{Parents, Children}
 use Rattle.bisim_levels.specs.NeighbourSides.{is_neighbour}
 use Rattle.block_partition.specs.LabelledPartitions.{Partition}
 use Rattle.block_splitting.specs.Splits.{IsNeighbour}

@@ -6,7 +6,7 @@ ghost use Rattle.label_graph.specs.GraphViews.{label_number};
 ghost use Rattle.block_splitting.specs.Groups.{AreReady, AreGrouped, NeighbourKey};
 
 use crate::keys::key_number;
-use bisim_levels::Side;
+use bisim_spec::Side;
 use block_partition::Blocks;
 use key_table::KeyTable;
 use label_graph::GraphView;

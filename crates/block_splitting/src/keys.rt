@@ -1,29 +1,17 @@
 // The key of a node, read off the tables of a partition.
 ghost use Rattle.std.specs.Prelude.{IfOk, IsSome};
 ghost use Rattle.graph_spec.specs.Graphs.{IsGraph};
-ghost use Rattle.graph_spec.specs.Members.{Lists, at};
+ghost use Rattle.graph_spec.specs.Members.{at};
 ghost use Rattle.label_graph.specs.GraphViews.{label_number};
 ghost use Rattle.key_table.specs.NumberedKeys.{AreDistinct};
-ghost use Rattle.bisim_levels.specs.NeighbourSides.{is_neighbour};
 ghost use Rattle.block_splitting.specs.Groups.{NeighbourKey, InternsSome};
 
-use bisim_levels::{Side, write_key};
+use bisim_levels::{neighbours, write_key};
+use bisim_spec::Side;
 use block_partition::Blocks;
 use key_table::KeyTable;
-use label_graph::{Digraph, GraphView};
+use label_graph::GraphView;
 use px_base::{Memory, NodeId};
-
-// The neighbours of a node on a side, each once.
-fn neighbours<'a>(view: &'a GraphView<'_>, side: Side, n: NodeId) -> &'a [NodeId]
-    requires graph { IsGraph view.now }
-    requires node { IsSome (label_number view.now n) }
-    ensures { Lists (λ p. is_neighbour side view.now p n) result.now }
-{
-    match side {
-        Side::Parents => view.parents(n),
-        Side::Children => view.children(n),
-    }
-}
 
 /// The number of a node's key: its own block, and then the blocks of its neighbours on a side, rising,
 /// each once.

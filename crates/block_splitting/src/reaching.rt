@@ -8,7 +8,7 @@ ghost use Rattle.bisim_levels.specs.NeighbourSides.{is_neighbour};
 ghost use Rattle.block_splitting.specs.Nodes.{AreNodes};
 
 use crate::nodes::NodeSet;
-use bisim_levels::Side;
+use bisim_spec::Side;
 use label_graph::{Digraph, GraphView};
 use px_base::{Memory, NodeId};
 

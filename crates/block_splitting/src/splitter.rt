@@ -13,7 +13,7 @@ ghost use Rattle.block_splitting.specs.Splitters.{bit_of, AreTouched, IsSplitBy,
 use crate::nodes::NodeSet;
 use crate::parting::part;
 use crate::reaching::add_around;
-use bisim_levels::Side;
+use bisim_spec::Side;
 use block_partition::Blocks;
 use key_table::KeyTable;
 use label_graph::{Digraph, GraphView};

@@ -10,7 +10,7 @@ ghost use Rattle.block_splitting.specs.Splits.{IsSplit, HasMore, AreLabelled, Ar
 use crate::grouping::group_nodes;
 use crate::nodes::NodeSet;
 use crate::parting::part;
-use bisim_levels::Side;
+use bisim_spec::Side;
 use block_partition::Blocks;
 use key_table::KeyTable;
 use label_graph::GraphView;

@@ -8,8 +8,8 @@ use Rattle.graph_spec.proofs.MemberLaws.{or_false}
 use Rattle.block_splitting.proofs.Lists.{none_empty}
 use Rattle.graph_spec.specs.Graphs.{Graph, IsGraph}
 use Rattle.graph_spec.specs.Members.{has}
-use Rattle.bisim_levels.specs.declared.sides.Side.{Side}
-use Rattle.bisim_levels.specs.declared.sides.Side.TheVariants.{Parents, Children}
+use Rattle.bisim_spec.specs.declared.sides.Side.{Side}
+use Rattle.bisim_spec.specs.declared.sides.Side.TheVariants.{Parents, Children}
 use Rattle.bisim_levels.specs.NeighbourSides.{is_neighbour}
 use Rattle.block_splitting.specs.Splits.{IsSplit}
 use Rattle.coarsest_partition.specs.Refined.{both_sides, IsStep}

@@ -14,8 +14,8 @@ use Rattle.key_table.specs.NumberedKeys.{AreDistinct, Interns}
 use Rattle.bisim_spec.specs.Bisimilarity.{SameLabel, Bisim, Matched, node_count}
 use Rattle.bisim_spec.specs.Partitions.{Together, Agrees}
 use Rattle.bisim_spec.proofs.Bisimilar.{some_of, is_some_at, bis_sym, label_node, label_sym}
-use Rattle.bisim_levels.specs.declared.sides.Side.{Side}
-use Rattle.bisim_levels.specs.declared.sides.Side.TheVariants.{Parents, Children}
+use Rattle.bisim_spec.specs.declared.sides.Side.{Side}
+use Rattle.bisim_spec.specs.declared.sides.Side.TheVariants.{Parents, Children}
 use Rattle.bisim_levels.specs.NeighbourSides.{is_neighbour}
 use Rattle.bisim_levels.specs.Keys.{IsKey, IsWritten}
 use Rattle.bisim_levels.specs.Refinement.{Share, StayTogether, AreBlocksBelow}

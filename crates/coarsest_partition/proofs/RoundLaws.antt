@@ -8,8 +8,8 @@ use Rattle.graph_spec.specs.Graphs.{Graph}
 use Rattle.graph_spec.specs.Members.{has}
 use Rattle.bisim_spec.specs.Bisimilarity.{Matched}
 use Rattle.bisim_spec.specs.Partitions.{Together}
-use Rattle.bisim_levels.specs.declared.sides.Side.{Side}
-use Rattle.bisim_levels.specs.declared.sides.Side.TheVariants.{Parents, Children}
+use Rattle.bisim_spec.specs.declared.sides.Side.{Side}
+use Rattle.bisim_spec.specs.declared.sides.Side.TheVariants.{Parents, Children}
 use Rattle.bisim_levels.specs.NeighbourSides.{is_neighbour}
 use Rattle.block_splitting.specs.Splits.{IsNeighbour, IsSplit}
 use Rattle.block_splitting.proofs.Lists.{any_get, any_from, none_empty}

@@ -12,8 +12,8 @@ use Rattle.bisim_spec.proofs.Bisimilar.{some_of, label_same, matched_self, label
 use Rattle.bisim_spec.proofs.Settled.{bisim_settled, fb_settled}
 use Rattle.bisim_spec.proofs.Stable.{stable_within, stable_both_within}
 use Rattle.bisim_spec.proofs.Together.{together_sym, together_some}
-use Rattle.bisim_levels.specs.declared.sides.Side.{Side}
-use Rattle.bisim_levels.specs.declared.sides.Side.TheVariants.{Parents, Children}
+use Rattle.bisim_spec.specs.declared.sides.Side.{Side}
+use Rattle.bisim_spec.specs.declared.sides.Side.TheVariants.{Parents, Children}
 use Rattle.graph_spec.proofs.GraphLaws.{is_shape}
 use Rattle.block_splitting.specs.Splits.{IsNeighbour}
 use Rattle.coarsest_partition.specs.Refined.{parents_alone, both_sides, IsTarget, IsRefined, IsStep}

@@ -6,8 +6,8 @@ use Rattle.graph_spec.specs.Shapes.{shape_of}
 use Rattle.bisim_spec.specs.Bisimilarity.{SameLabel}
 use Rattle.bisim_spec.specs.Partitions.{Agrees, IsPartition}
 use Rattle.block_splitting.specs.Nodes.{NodeList, AreNodes}
-use Rattle.bisim_levels.specs.declared.sides.Side.{Side}
-use Rattle.bisim_levels.specs.declared.sides.Side.TheVariants.{Parents, Children}
+use Rattle.bisim_spec.specs.declared.sides.Side.{Side}
+use Rattle.bisim_spec.specs.declared.sides.Side.TheVariants.{Parents, Children}
 use Rattle.block_partition.specs.LabelledPartitions.{Partition, block_count}
 use Rattle.coarsest_partition.specs.Refined.{both_sides, IsStep}
 

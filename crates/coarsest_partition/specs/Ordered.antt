@@ -8,7 +8,7 @@ use Rattle.label_graph.specs.GraphViews.{label_number}
 use Rattle.key_table.specs.NumberedKeys.{AreDistinct}
 use Rattle.bisim_spec.specs.Bisimilarity.{Bisim}
 use Rattle.bisim_spec.specs.Partitions.{Together}
-use Rattle.bisim_levels.specs.declared.sides.Side.TheVariants.{Parents}
+use Rattle.bisim_spec.specs.declared.sides.Side.TheVariants.{Parents}
 use Rattle.bisim_levels.specs.NeighbourSides.{is_neighbour}
 use Rattle.bisim_levels.specs.Keys.{IsKey}
 use Rattle.block_splitting.specs.Splits.{IsNeighbour}

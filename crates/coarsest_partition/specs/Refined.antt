@@ -5,9 +5,9 @@ use Rattle.graph_spec.specs.Graphs.{Graph}
 use Rattle.bisim_spec.specs.Bisimilarity.{SameLabel, Matched}
 use Rattle.graph_spec.specs.Members.{at, has}
 use Rattle.bisim_spec.specs.Partitions.{Together}
-use Rattle.bisim_levels.specs.declared.sides.Side.{Side}
+use Rattle.bisim_spec.specs.declared.sides.Side.{Side}
 use Rattle.block_splitting.specs.Splits.{IsNeighbour}
-use Rattle.bisim_levels.specs.declared.sides.Side.TheVariants.{Parents, Children}
+use Rattle.bisim_spec.specs.declared.sides.Side.TheVariants.{Parents, Children}
 use Rattle.graph_spec.specs.Shapes.{shape_of}
 
 -- the sides at which bisimilarity looks: by parents

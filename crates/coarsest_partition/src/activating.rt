@@ -8,7 +8,7 @@ ghost use Rattle.block_splitting.specs.Nodes.{AreNodes};
 ghost use Rattle.coarsest_partition.specs.SingletonBlocks.{is_alone, Wakes};
 ghost use Rattle.bisim_levels.specs.NeighbourSides.{is_neighbour};
 
-use bisim_levels::Side;
+use bisim_spec::Side;
 use block_partition::Blocks;
 use block_splitting::{NodeSet, opposite_neighbours};
 use label_graph::GraphView;

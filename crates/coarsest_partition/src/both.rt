@@ -13,7 +13,7 @@ ghost use Rattle.coarsest_partition.specs.ActiveSides.{other_of, AreBothSidesAct
 use crate::activating::activate_moved;
 use crate::labels::by_labels;
 use crate::rounds::all_active_nodes;
-use bisim_levels::Side;
+use bisim_spec::Side;
 use block_partition::Blocks;
 use block_splitting::{NodeSet, Tables, split};
 use label_graph::{Digraph, GraphView};

@@ -15,7 +15,7 @@ ghost use Rattle.coarsest_partition.specs.ActiveSides.{AreWaiting, CanRefine};
 use crate::activating::activate_moved;
 use crate::labels::by_labels;
 use crate::ordered::by_order;
-use bisim_levels::Side;
+use bisim_spec::Side;
 use block_partition::Blocks;
 use block_splitting::{NodeSet, Tables, split};
 use label_graph::{Digraph, GraphView};

@@ -1,20 +1,18 @@
 -- Supports that are added to others, one block after another.
-use Rattle.std.proofs.Common.{◌≡◌, ◌≢◌, ℕ, ◌+◌, ◌<◌, ◌≤◌, ◌^◌, List, [], ◌∷◌, IsTrue, length, take, refl, sym, ◌∙◌, ap, arith, inl, inr, true, false, Bool, cond}
-use Rattle.std.specs.Prelude.{nat_eq, nat_lt, ◌||◌, get_or}
+use Rattle.std.proofs.Common.{◌≡◌, ◌≢◌, ℕ, ◌+◌, ◌<◌, ◌≤◌, ◌^◌, List, IsTrue, length, take, refl, sym, ◌∙◌, ap, arith, inl, inr, true, false, Bool, cond}
+use Rattle.std.specs.Prelude.{nat_eq, nat_lt, ◌||◌, ◌&&◌, get_or}
 use Rattle.std.proofs.lemmas.Bool.{cases_lt}
 use Rattle.std.proofs.lemmas.Bool.Decides.{eqb_tells, Decides-ltb, Decides-eqb}
-use Rattle.std.proofs.lemmas.List.{take_more}
-use Rattle.std.proofs.lemmas.List.Folds.{list_any-append}
 use Rattle.graph_spec.specs.Members.{has, Lists}
 use Rattle.graph_spec.proofs.MemberLaws.{has_more}
-use Rattle.one_merge.specs.Merged.{with_column, with_row}
+use Rattle.bisim_spec.specs.declared.sides.Side.{Side}
+use Rattle.bisim_spec.specs.declared.sides.Side.TheVariants.{Parents, Children}
+use Rattle.bisim_spec.specs.SideEdges.{edge_with}
+use Rattle.quotient_draft.specs.Drafts.{SetsPair}
+use Rattle.one_merge.specs.Merged.{support_by, with_column, AddsSupports}
 
 abbrev pub flipped : (ℕ → ℕ → ℕ) → ℕ → ℕ → ℕ
 flipped s x y = s y x
-
--- a row is a column of the supports the other way round
-pub row_column : (a b : ℕ) (s : ℕ → ℕ → ℕ) (x y : ℕ) → with_row a b s x y ≡ with_column a b (flipped s) y x
-row_column a b s x y = refl
 
 same : (n : ℕ) → nat_eq n n ≡ true
 same n = (Decides-eqb n n).1 refl
@@ -84,13 +82,6 @@ column_more a b i d xs s now after ne h before step x y =
     by false true e = alike e
     by false false e = e y
 
-pub row_more : (a b i d : ℕ) (xs : List ℕ) (s now after : ℕ → ℕ → ℕ) → a ≢ b → i < length xs
-    → ((x y : ℕ) → now x y ≡ cond (has (take i xs) y) (with_row a b s x y) (s x y))
-    → ((x y : ℕ) → after x y ≡ cond (nat_eq y (get_or xs i d)) (with_row a b now x y) (now x y))
-    → (x y : ℕ) → after x y ≡ cond (has (take (i + 1) xs) y) (with_row a b s x y) (s x y)
-row_more a b i d xs s now after ne h before step x y =
-    column_more a b i d xs (flipped s) (flipped now) (flipped after) ne h (λ u v. before v u) (λ u v. step v u) y x
-
 -- sums stay small on the way
 pub column_few : (a b i x : ℕ) (xs : List ℕ) (s now : ℕ → ℕ → ℕ) → a ≢ b → s x a + s x b ≤ 2 ^ 30
     → ((x y : ℕ) → now x y ≡ cond (has (take i xs) x) (with_column a b s x y) (s x y)) → now x a + now x b ≤ 2 ^ 30
@@ -99,10 +90,6 @@ column_few a b i x xs s now ne few before = by (has (take i xs) x) (before x)
     by : (p : Bool) → ((z : ℕ) → now x z ≡ cond p (with_column a b s x z) (s x z)) → now x a + now x b ≤ 2 ^ 30
     by true e = (let p = e a in let q = e b in let k = column_here a b s x ne in let z = column_gone a b s x in omega (arith, p, q, k, z, few))
     by false e = (let p = e a in let q = e b in omega (arith, p, q, few))
-
-pub row_few : (a b i y : ℕ) (xs : List ℕ) (s now : ℕ → ℕ → ℕ) → a ≢ b → s a y + s b y ≤ 2 ^ 30
-    → ((x y : ℕ) → now x y ≡ cond (has (take i xs) y) (with_row a b s x y) (s x y)) → now a y + now b y ≤ 2 ^ 30
-row_few a b i y xs s now ne few before = column_few a b i y xs (flipped s) (flipped now) ne few (λ u v. before v u)
 
 -- parents alone are all that count
 pub column_all : (a b : ℕ) (xs : List ℕ) (s new : ℕ → ℕ → ℕ) → a ≢ b → Lists (λ x. nat_lt 0 (s x b)) xs
@@ -116,9 +103,27 @@ column_all a b xs s new ne lists is x y = is x y ∙ by (has xs x) refl
       | inr none ↦ omega (arith, none)
     ]))
 
-pub row_all : (a b : ℕ) (xs : List ℕ) (s new : ℕ → ℕ → ℕ) → a ≢ b → Lists (λ y. nat_lt 0 (s b y)) xs
-    → ((x y : ℕ) → new x y ≡ cond (has xs y) (with_row a b s x y) (s x y)) → (x y : ℕ) → new x y ≡ with_row a b s x y
-row_all a b xs s new ne lists is x y = column_all a b xs (flipped s) (flipped new) ne lists (λ u v. is v u) y x
+written : (a b m u c now now2 : ℕ) (s : ℕ → ℕ → ℕ) → now ≡ cond (nat_eq u m && nat_eq c a) (s m a + s m b) (s u c) → now2 ≡ cond (nat_eq u m && nat_eq c b) 0 now
+    → now2 ≡ cond (nat_eq u m) (with_column a b s u c) (s u c)
+written a b m u c now now2 s first second =
+    second ∙ ap (λ n. cond (nat_eq u m && nat_eq c b) 0 n) first ∙ elim (eqb_tells u m) [
+      | inl t ↦ rw (t.0) (ap (λ k. cond (nat_eq c b) 0 (cond (nat_eq c a) (s k a + s k b) (s u c))) (sym t.1))
+      | inr f ↦ rw (f.0) refl
+    ]
+
+and_swap : (p q : Bool) → (p && q) ≡ (q && p)
+and_swap true true = refl
+and_swap true false = refl
+and_swap false true = refl
+and_swap false false = refl
+
+-- a support is added in two writes
+pub added_by : (side : Side) (a b m : ℕ) (s mid new : ℕ → ℕ → ℕ) → SetsPair (edge_with side m a).0 (edge_with side m a).1 (support_by side s m a + support_by side s m b) s mid
+    → SetsPair (edge_with side m b).0 (edge_with side m b).1 0 mid new → AddsSupports side (λ u. nat_eq u m) a b s new
+added_by Parents a b m s mid new first second u c = written a b m u c (mid u c) (new u c) s (first u c) (second u c)
+added_by Children a b m s mid new first second u c =
+    written a b m u c (mid c u) (new c u) (flipped s) (first c u ∙ ap (λ t. cond t (s a m + s b m) (s c u)) (and_swap (nat_eq c a) (nat_eq u m)))
+    (second c u ∙ ap (λ t. cond t 0 (mid c u)) (and_swap (nat_eq c b) (nat_eq u m)))
 
 -- what is listed has support
 pub listed_some : (xs : List ℕ) (f : ℕ → ℕ) (x : ℕ) → Lists (λ z. nat_lt 0 (f z)) xs → IsTrue (has xs x) → 0 < f x

@@ -4,8 +4,7 @@ use Rattle.std.specs.Prelude.{nat_eq, nat_lt, ◌||◌, ◌&&◌, not, IfNone, I
 use Rattle.std.specs.List.{list_any}
 use Rattle.std.proofs.lemmas.Bool.{cases_Bool, both_ways, or_cases, or_left, or_right, and_parts}
 use Rattle.std.proofs.lemmas.Bool.Decides.{Decides-eqb, eqb_tells}
-use Rattle.std.proofs.lemmas.List.{take_more, take_all}
-use Rattle.std.proofs.lemmas.List.Folds.{list_any-append}
+use Rattle.std.proofs.lemmas.List.{take_all}
 use Rattle.graph_spec.specs.Members.{has, at, Lists}
 use Rattle.graph_spec.specs.Shapes.{Shape}
 use Rattle.graph_spec.proofs.MemberLaws.{or_false, has_push, has_more}

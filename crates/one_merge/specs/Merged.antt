@@ -3,23 +3,31 @@ use Rattle.std.specs.Prelude.{◌≡◌, ℕ, ◌+◌, ◌≤◌, ◌^◌, List,
 use Rattle.std.specs.FinSet as set
 use Rattle.graph_spec.specs.Members.{at}
 use Rattle.graph_spec.specs.Graphs.{Graph}
+use Rattle.bisim_spec.specs.declared.sides.Side.{Side}
+use Rattle.bisim_spec.specs.SideEdges.{edge_with}
 use Rattle.one_spec.specs.EdgeCounts.{AreEdgeCounts}
+
+-- the support between m, as a neighbour on this side, and c
+abbrev pub support_by : Side → (ℕ → ℕ → ℕ) → ℕ → ℕ → ℕ
+support_by side support m c = support (edge_with side m c).0 (edge_with side m c).1
 
 -- the supports once those to b are added to those to a
 abbrev pub with_column : ℕ → ℕ → (ℕ → ℕ → ℕ) → ℕ → ℕ → ℕ
 with_column a b support x y = if nat_eq y b then 0 else (if nat_eq y a then support x a + support x b else support x y)
 
--- for each first block that passes, the support to b goes over to a: it is added there, and none is left to b; all other supports stay
-abbrev pub AddsColumn : (ℕ → Bool) → ℕ → ℕ → (ℕ → ℕ → ℕ) → (ℕ → ℕ → ℕ) → Type 0
-AddsColumn passes a b support support2 = (u v : ℕ) → support2 u v ≡ (if passes u then with_column a b support u v else support u v)
-
 -- the supports once those from b are added to those from a
 abbrev pub with_row : ℕ → ℕ → (ℕ → ℕ → ℕ) → ℕ → ℕ → ℕ
 with_row a b support x y = if nat_eq x b then 0 else (if nat_eq x a then support a y + support b y else support x y)
 
--- for each second block that passes, the support from b goes over to a: it is added there, and none is left from b; all other supports stay
-abbrev pub AddsRow : (ℕ → Bool) → ℕ → ℕ → (ℕ → ℕ → ℕ) → (ℕ → ℕ → ℕ) → Type 0
-AddsRow passes a b support support2 = (u v : ℕ) → support2 u v ≡ (if passes v then with_row a b support u v else support u v)
+-- for each neighbour on this side that passes, the support of b goes over to a: it is added there, and none is left at b; all other
+-- supports stay
+abbrev pub AddsSupports : Side → (ℕ → Bool) → ℕ → ℕ → (ℕ → ℕ → ℕ) → (ℕ → ℕ → ℕ) → Type 0
+AddsSupports side passes a b support support2 = (m c : ℕ)
+    → support_by side support2 m c ≡ (if passes m then with_column a b (support_by side support) m c else support_by side support m c)
+
+-- the same for all neighbours on this side
+abbrev pub AddsAllSupports : Side → ℕ → ℕ → (ℕ → ℕ → ℕ) → (ℕ → ℕ → ℕ) → Type 0
+AddsAllSupports side a b support support2 = (m c : ℕ) → support_by side support2 m c ≡ with_column a b (support_by side support) m c
 
 -- the supports once b is replaced by a
 abbrev pub merged_support : ℕ → ℕ → (ℕ → ℕ → ℕ) → ℕ → ℕ → ℕ

@@ -5,18 +5,21 @@ use Rattle.std.specs.FinSet as set
 use Rattle.std.specs.List.{sum_by}
 use Rattle.std.proofs.lemmas.Bool.{and_from}
 use Rattle.std.proofs.lemmas.Bool.Decides.{eqb_tells, Decides-eqb}
-use Rattle.std.proofs.lemmas.List.{get_or-set_other, get_or-set_same, take_all, take_more}
-use Rattle.std.proofs.lemmas.List.Sums.{sum_by-cons, sum_by_push, sum_by-take-le}
+use Rattle.std.proofs.lemmas.List.{get_or-set_other, get_or-set_same, take_all}
+use Rattle.std.proofs.lemmas.List.Sums.{sum_by-cons}
 use Rattle.graph_spec.specs.Graphs.{Edges}
 use Rattle.graph_spec.specs.Members.{Lists, at, is_this}
 use Rattle.bisim_spec.specs.Supports.{joins, edges_between}
 use Rattle.bisim_spec.specs.NodeEdges.{edges_onto, edges_from, joins_off, touching_count}
+use Rattle.bisim_spec.specs.SideEdges.{edge_with}
+use Rattle.bisim_spec.specs.declared.sides.Side.{Side}
+use Rattle.bisim_spec.specs.declared.sides.Side.TheVariants.{Parents, Children}
 use Rattle.bisim_spec.proofs.Bisimilar.{is_some_at}
 use Rattle.bisim_spec.proofs.Moves.{block_from, between_most, between_moved, touching_most}
 use Rattle.bisim_spec.proofs.Together.{block_below}
 use Rattle.one_spec.proofs.Sums.{sum_next, sum_first}
 use Rattle.quotient.specs.QuotientNeighbours.{one_if}
-use Rattle.quotient_moves.specs.Shifts.{onto_count, from_count, MovesNode}
+use Rattle.quotient_moves.specs.Shifts.{leads, lead_count, MovesNode}
 
 -- there is a partition that differs so
 pub moved_set : (n own b : ℕ) (p : List (Option ℕ)) → at p n ≡ Some own → MovesNode n own b p (slice_set p n (Some b))
@@ -31,19 +34,19 @@ moved_set n own b p e =
 pub moved_same : (n own b : ℕ) (p q p2 : List (Option ℕ)) → q ≡ p → MovesNode n own b q p2 → MovesNode n own b p p2
 moved_same n own b p q p2 e d = subst (λ x. MovesNode n own b x p2) e d
 
-pub joined_new : (n own b a q : ℕ) (p p2 : List (Option ℕ)) → MovesNode n own b p p2 → q ≢ n → at p q ≡ Some a → joins p2 a b (q, n) ≡ true
-joined_new n own b a q p p2 d ne e =
-    and_from (is_this a (at p2 q)) (is_this b (at p2 n)) (block_from a (at p2 q) (d.others q ne ∙ e)) (block_from b (at p2 n) d.after)
+-- where the edge leads once the node has gone
+pub leads_there : (side : Side) (n own b a m : ℕ) (p p2 : List (Option ℕ)) → MovesNode n own b p p2 → m ≢ n → at p m ≡ Some a
+    → leads side p2 n (edge_with side a b).0 (edge_with side a b).1 m ≡ true
+leads_there Parents n own b a m p p2 d ne e =
+    and_from (is_this a (at p2 m)) (is_this b (at p2 n)) (block_from a (at p2 m) (d.others m ne ∙ e)) (block_from b (at p2 n) d.after)
+leads_there Children n own b a m p p2 d ne e =
+    and_from (joins p2 b a (n, m)) (not (nat_eq m n))
+    (and_from (is_this b (at p2 n)) (is_this a (at p2 m)) (block_from b (at p2 n) d.after) (block_from a (at p2 m) (d.others m ne ∙ e)))
+    (elim (eqb_tells m n) [ inl s ↦ absurd (ne s.1) | inr k ↦ ap not k.0 ])
 
-pub joined_loop : (n own b q : ℕ) (p p2 : List (Option ℕ)) → MovesNode n own b p p2 → q ≡ n → joins p2 b b (q, n) ≡ true
-joined_loop n own b q p p2 d e =
-    and_from (is_this b (at p2 q)) (is_this b (at p2 n)) (block_from b (at p2 q) (ap (at p2) e ∙ d.after)) (block_from b (at p2 n) d.after)
-
-pub joined_child : (n own b d c : ℕ) (p p2 : List (Option ℕ)) → MovesNode n own b p p2 → c ≢ n → at p c ≡ Some d → joins_off n p2 b d (n, c) ≡ true
-joined_child n own b d c p p2 f ne e =
-    and_from (joins p2 b d (n, c)) (not (nat_eq c n))
-    (and_from (is_this b (at p2 n)) (is_this d (at p2 c)) (block_from b (at p2 n) f.after) (block_from d (at p2 c) (f.others c ne ∙ e)))
-    (elim (eqb_tells c n) [ inl s ↦ absurd (ne s.1) | inr k ↦ ap not k.0 ])
+pub loop_leads : (n own b m : ℕ) (p p2 : List (Option ℕ)) → MovesNode n own b p p2 → m ≡ n → leads Parents p2 n b b m ≡ true
+loop_leads n own b m p p2 d e =
+    and_from (is_this b (at p2 m)) (is_this b (at p2 n)) (block_from b (at p2 m) (ap (at p2) e ∙ d.after)) (block_from b (at p2 n) d.after)
 
 one_is : (t : Bool) → t ≡ true → one_if t ≡ 1
 one_is t e = ap one_if e
@@ -94,7 +97,7 @@ count_out q n (x ∷ xs) =
     omega (arith, rest, a, b)
 
 pub touching_parts : (p : List (Option ℕ)) (n x y : ℕ) (parents children : List ℕ)
-    → touching_count n parents children p x y ≡ onto_count p n x y parents + from_count p n x y children
+    → touching_count n parents children p x y ≡ lead_count Parents p n x y parents + lead_count Children p n x y children
 touching_parts p n x y parents children =
     let a = count_onto (joins p x y) n parents in
     let b = count_out (joins_off n p x y) n children in
@@ -102,7 +105,7 @@ touching_parts p n x y parents children =
 
 module _ (edges : Edges) (n : ℕ) (parents children : List ℕ) (lp : Lists (λ p. set.contains edges (p, n)) parents) (lc : Lists (λ c. set.contains edges (n, c)) children) where
   -- the edges at the node are among all
-  pub parts_most : (p : List (Option ℕ)) (x y : ℕ) → onto_count p n x y parents + from_count p n x y children ≤ edges_between edges p x y
+  pub parts_most : (p : List (Option ℕ)) (x y : ℕ) → lead_count Parents p n x y parents + lead_count Children p n x y children ≤ edges_between edges p x y
   parts_most p x y =
       let a = touching_most edges n parents children p x y lp lc in
       let b = touching_parts p n x y parents children in
@@ -110,8 +113,8 @@ module _ (edges : Edges) (n : ℕ) (parents children : List ℕ) (lp : Lists (λ
 
   -- supports once all edges at the node are shifted
   pub shifted_all : (own b : ℕ) (p p2 : List (Option ℕ)) (x y s1 s2 : ℕ) → MovesNode n own b p p2
-      → s1 + onto_count p n x y parents ≡ edges_between edges p x y + onto_count p2 n x y parents
-      → s2 + from_count p n x y children ≡ s1 + from_count p2 n x y children → s2 ≡ edges_between edges p2 x y
+      → s1 + lead_count Parents p n x y parents ≡ edges_between edges p x y + lead_count Parents p2 n x y parents
+      → s2 + lead_count Children p n x y children ≡ s1 + lead_count Children p2 n x y children → s2 ≡ edges_between edges p2 x y
   shifted_all own b p p2 x y s1 s2 d first second =
       let moved = between_moved edges n parents children p p2 x y (record { others = d.others }) lp lc in
       let was = touching_parts p n x y parents children in
@@ -120,7 +123,7 @@ module _ (edges : Edges) (n : ℕ) (parents children : List ℕ) (lp : Lists (λ
 
   -- there is room for both
   pub room_for : (p p2 : List (Option ℕ)) (x y : ℕ) → set.len edges ≤ 2 ^ 30
-      → edges_between edges p x y + (onto_count p2 n x y parents + from_count p2 n x y children) ≤ 2 ^ 31
+      → edges_between edges p x y + (lead_count Parents p2 n x y parents + lead_count Children p2 n x y children) ≤ 2 ^ 31
   room_for p p2 x y few =
       let a = between_most edges p x y in
       let b = between_most edges p2 x y in

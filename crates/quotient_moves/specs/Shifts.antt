@@ -4,17 +4,21 @@ use Rattle.std.specs.List.{sum_by}
 use Rattle.graph_spec.specs.Members.{at}
 use Rattle.bisim_spec.specs.Supports.{joins}
 use Rattle.bisim_spec.specs.NodeEdges.{joins_off}
+use Rattle.bisim_spec.specs.declared.sides.Side.{Side}
+use Rattle.bisim_spec.specs.declared.sides.Side.TheVariants.{Parents, Children}
 use Rattle.quotient.specs.QuotientNeighbours.{one_if}
 use Rattle.quotient.specs.Quotients.{Quotient}
 use Rattle.quotient_draft.specs.Drafts.{Drafted, shown_blocks, shown_support}
 
--- how many of the edges from these to n lead from a member of x to a member of y
-abbrev pub onto_count : List (Option ℕ) → ℕ → ℕ → ℕ → List ℕ → ℕ
-onto_count block n x y parents = sum_by (λ p. one_if (joins block x y (p, n))) parents
+-- whether the edge between n and m, which is a neighbour of it on this side, leads from a member of x to a member of y; a loop
+-- counts as an edge from a parent alone
+abbrev pub leads : Side → List (Option ℕ) → ℕ → ℕ → ℕ → ℕ → Bool
+leads Parents block n x y m = joins block x y (m, n)
+leads Children block n x y m = joins_off n block x y (n, m)
 
--- and of the edges from n to these, without a loop
-abbrev pub from_count : List (Option ℕ) → ℕ → ℕ → ℕ → List ℕ → ℕ
-from_count block n x y children = sum_by (λ c. one_if (joins_off n block x y (n, c))) children
+-- how many of the edges between n and these neighbours of it do
+abbrev pub lead_count : Side → List (Option ℕ) → ℕ → ℕ → ℕ → List ℕ → ℕ
+lead_count side block n x y neighbours = sum_by (λ m. one_if (leads side block n x y m)) neighbours
 
 -- the partitions differ at n alone, which goes from one block to another
 pub record MovesNode (n own b : ℕ) (block block2 : List (Option ℕ)) : Type 0 where

@@ -12,7 +12,8 @@ ghost use Rattle.quotient_moves.specs.NeighbourCosts.{parents_cost, children_cos
 
 use crate::neighbours::NodeNeighbours;
 use crate::reading::{read_children, read_parents};
-use crate::shifting::{block_of, shift_children, shift_parents};
+use crate::shifting::{block_of, shift_neighbours};
+use bisim_spec::Side;
 use graph_update::After;
 use px_base::{Memory, NodeId, Steps};
 use quotient::Summary;
@@ -48,8 +49,8 @@ pub fn move_node<L: Ledger>(
     let own = block_of(base, draft, n);
     read_parents(&mut neighbours.parents, after, n, steps)?;
     read_children(&mut neighbours.children, after, n, steps)?;
-    shift_parents(base, draft, &neighbours.parents, n, own, b)?;
-    shift_children(base, draft, &neighbours.children, n, own, b)?;
+    shift_neighbours(base, draft, Side::Parents, &neighbours.parents, n, own, b)?;
+    shift_neighbours(base, draft, Side::Children, &neighbours.children, n, own, b)?;
     draft.put(base, n, Some(b))?;
     Ok(())
 }

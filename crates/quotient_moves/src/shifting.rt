@@ -1,13 +1,12 @@
 // The supports of the edges at a node that moves.
 ghost use Rattle.std.specs.Prelude.{◌≡◌, ◌≤◌, ◌<◌, ◌^◌, ℕ, Some, IsSome, IsTrue, true, OnOk};
 ghost use Rattle.graph_spec.specs.Members.{at, has};
-ghost use Rattle.bisim_spec.specs.Supports.{joins};
-ghost use Rattle.bisim_spec.specs.NodeEdges.{joins_off};
 ghost use Rattle.quotient.specs.QuotientNeighbours.{one_if};
 ghost use Rattle.quotient_draft.specs.Drafts.{shown_labels, shown_blocks, shown_support};
 ghost use Rattle.quotient_draft.specs.Basis.{IsOver};
-ghost use Rattle.quotient_moves.specs.Shifts.{onto_count, from_count, ShiftsPair, ShiftsEdges, HasSpaceFor, HasSpaceForEdge};
+ghost use Rattle.quotient_moves.specs.Shifts.{leads, lead_count, ShiftsPair, ShiftsEdges, HasSpaceFor, HasSpaceForEdge};
 
+use bisim_spec::Side;
 use px_base::{Memory, NodeId};
 use quotient::Summary;
 use quotient_draft::Draft;
@@ -46,11 +45,12 @@ fn shift(
     Ok(())
 }
 
-// The edge from a parent to the node that moves.
-fn shift_parent(
+// The edge between the node that moves and a neighbour. A loop is shifted as an edge from a parent.
+fn shift_neighbour(
     base: &Summary,
     draft: &mut Draft,
-    parent: NodeId,
+    side: Side,
+    m: NodeId,
     n: NodeId,
     own: u32,
     b: u32,
@@ -59,26 +59,31 @@ fn shift_parent(
     requires own { at (shown_blocks base.now draft.old) n ≡ Some own }
     requires live { IsSome (at (shown_labels base.now draft.old) own) }
     requires block { IsSome (at (shown_labels base.now draft.old) b) }
-    requires has { IsSome (at (shown_blocks base.now draft.old) parent) }
-    requires some { (x y : ℕ) → joins (shown_blocks base.now draft.old) x y (parent, n) ≡ true → 0 < shown_support base.now draft.old x y }
-    requires few { HasSpaceForEdge (λ p x y. joins p x y (parent, n)) n own b base.now draft.old }
+    requires has { IsSome (at (shown_blocks base.now draft.old) m) }
+    requires some { (x y : ℕ) → leads side (shown_blocks base.now draft.old) n x y m ≡ true → 0 < shown_support base.now draft.old x y }
+    requires few { HasSpaceForEdge (λ p x y. leads side p n x y m) n own b base.now draft.old }
     ensures added { draft.new.added ≡ draft.old.added }
     ensures moves { draft.new.moves ≡ draft.old.moves }
     ensures over { OnOk result (IsOver base.now.blocks.block_of base.now.blocks.labels draft.new) }
-    ensures shifted { OnOk result (ShiftsEdges (λ p x y. one_if (joins p x y (parent, n))) n own b base.now draft.old draft.new) }
+    ensures shifted { OnOk result (ShiftsEdges (λ p x y. one_if (leads side p n x y m)) n own b base.now draft.old draft.new) }
 {
-    if parent == n {
-        return shift(base, draft, (own, own), (b, b));
+    if m == n {
+        return match side {
+            Side::Parents => shift(base, draft, (own, own), (b, b)),
+            Side::Children => Ok(()),
+        };
     }
-    let a = block_of(base, draft, parent);
-    shift(base, draft, (a, own), (a, b))
+    let a = block_of(base, draft, m);
+    shift(base, draft, side.edge(a, own), side.edge(a, b))
 }
 
-// The edge from the node that moves to a child, but for a loop.
-fn shift_child(
+/// The edges between a node that moves from one block to another and its neighbours on a side. A loop is shifted on the
+/// parents' side alone.
+pub(crate) fn shift_neighbours(
     base: &Summary,
     draft: &mut Draft,
-    child: NodeId,
+    side: Side,
+    neighbours: &[NodeId],
     n: NodeId,
     own: u32,
     b: u32,
@@ -87,71 +92,16 @@ fn shift_child(
     requires own { at (shown_blocks base.now draft.old) n ≡ Some own }
     requires live { IsSome (at (shown_labels base.now draft.old) own) }
     requires block { IsSome (at (shown_labels base.now draft.old) b) }
-    requires has { IsSome (at (shown_blocks base.now draft.old) child) }
-    requires some { (x y : ℕ) → joins_off n (shown_blocks base.now draft.old) x y (n, child) ≡ true → 0 < shown_support base.now draft.old x y }
-    requires few { HasSpaceForEdge (λ p x y. joins_off n p x y (n, child)) n own b base.now draft.old }
+    requires has { (m : ℕ) → IsTrue (has neighbours.now m) → IsSome (at (shown_blocks base.now draft.old) m) }
+    requires some { (x y : ℕ) → lead_count side (shown_blocks base.now draft.old) n x y neighbours.now ≤ shown_support base.now draft.old x y }
+    requires few { HasSpaceFor (λ p x y. lead_count side p n x y neighbours.now) n own b base.now draft.old }
     ensures added { draft.new.added ≡ draft.old.added }
     ensures moves { draft.new.moves ≡ draft.old.moves }
     ensures over { OnOk result (IsOver base.now.blocks.block_of base.now.blocks.labels draft.new) }
-    ensures shifted { OnOk result (ShiftsEdges (λ p x y. one_if (joins_off n p x y (n, child))) n own b base.now draft.old draft.new) }
+    ensures shifted { OnOk result (ShiftsEdges (λ p x y. lead_count side p n x y neighbours.now) n own b base.now draft.old draft.new) }
 {
-    if child == n {
-        return Ok(());
-    }
-    let d = block_of(base, draft, child);
-    shift(base, draft, (own, d), (b, d))
-}
-
-/// The edges from parents to a node that moves from one block to another.
-pub(crate) fn shift_parents(
-    base: &Summary,
-    draft: &mut Draft,
-    parents: &[NodeId],
-    n: NodeId,
-    own: u32,
-    b: u32,
-) -> Result<(), Memory>
-    requires over { IsOver base.now.blocks.block_of base.now.blocks.labels draft.old }
-    requires own { at (shown_blocks base.now draft.old) n ≡ Some own }
-    requires live { IsSome (at (shown_labels base.now draft.old) own) }
-    requires block { IsSome (at (shown_labels base.now draft.old) b) }
-    requires has { (p : ℕ) → IsTrue (has parents.now p) → IsSome (at (shown_blocks base.now draft.old) p) }
-    requires some { (x y : ℕ) → onto_count (shown_blocks base.now draft.old) n x y parents.now ≤ shown_support base.now draft.old x y }
-    requires few { HasSpaceFor (λ p x y. onto_count p n x y parents.now) n own b base.now draft.old }
-    ensures added { draft.new.added ≡ draft.old.added }
-    ensures moves { draft.new.moves ≡ draft.old.moves }
-    ensures over { OnOk result (IsOver base.now.blocks.block_of base.now.blocks.labels draft.new) }
-    ensures shifted { OnOk result (ShiftsEdges (λ p x y. onto_count p n x y parents.now) n own b base.now draft.old draft.new) }
-{
-    for p in parents {
-        shift_parent(base, draft, *p, n, own, b)?;
-    }
-    Ok(())
-}
-
-/// The edges to children from a node that moves from one block to another, but for a loop.
-pub(crate) fn shift_children(
-    base: &Summary,
-    draft: &mut Draft,
-    children: &[NodeId],
-    n: NodeId,
-    own: u32,
-    b: u32,
-) -> Result<(), Memory>
-    requires over { IsOver base.now.blocks.block_of base.now.blocks.labels draft.old }
-    requires own { at (shown_blocks base.now draft.old) n ≡ Some own }
-    requires live { IsSome (at (shown_labels base.now draft.old) own) }
-    requires block { IsSome (at (shown_labels base.now draft.old) b) }
-    requires has { (c : ℕ) → IsTrue (has children.now c) → IsSome (at (shown_blocks base.now draft.old) c) }
-    requires some { (x y : ℕ) → from_count (shown_blocks base.now draft.old) n x y children.now ≤ shown_support base.now draft.old x y }
-    requires few { HasSpaceFor (λ p x y. from_count p n x y children.now) n own b base.now draft.old }
-    ensures added { draft.new.added ≡ draft.old.added }
-    ensures moves { draft.new.moves ≡ draft.old.moves }
-    ensures over { OnOk result (IsOver base.now.blocks.block_of base.now.blocks.labels draft.new) }
-    ensures shifted { OnOk result (ShiftsEdges (λ p x y. from_count p n x y children.now) n own b base.now draft.old draft.new) }
-{
-    for c in children {
-        shift_child(base, draft, *c, n, own, b)?;
+    for m in neighbours {
+        shift_neighbour(base, draft, side, *m, n, own, b)?;
     }
     Ok(())
 }

@@ -1,4 +1,4 @@
-use Rattle.bisim_levels.specs.declared.sides.Side.TheVariants.{Parents}
+use Rattle.bisim_spec.specs.declared.sides.Side.TheVariants.{Parents}
 use Rattle.bisim_levels.specs.NeighbourSides.{is_neighbour}
 use Rattle.ak_family.proofs.LabelledMembers.{keys_begin, labelled_above, own_below}
 use Rattle.ak_family.proofs.labelled_levels.above.Goals as goal

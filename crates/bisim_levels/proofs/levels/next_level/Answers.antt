@@ -1,7 +1,7 @@
 use Rattle.std.proofs.lemmas.Result.{IfOk-weaker}
 use Rattle.graph_spec.specs.Members.{at}
 use Rattle.bisim_levels.specs.declared.refining.Level.{Level}
-use Rattle.bisim_levels.specs.declared.sides.Side.TheVariants.{Parents}
+use Rattle.bisim_spec.specs.declared.sides.Side.TheVariants.{Parents}
 use Rattle.bisim_levels.specs.NeighbourSides.{is_neighbour}
 use Rattle.bisim_levels.specs.Refinement.{Refines}
 use Rattle.bisim_levels.proofs.LevelLaws.{bis_up}

@@ -2,7 +2,7 @@ use Rattle.std.proofs.Common.{slice_get}
 use Rattle.std.proofs.lemmas.Result.{IfOk-weaker}
 use Rattle.graph_spec.specs.Members.{at}
 use Rattle.bisim_levels.specs.declared.refining.Level.{Level}
-use Rattle.bisim_levels.specs.declared.sides.Side.TheVariants.{Children}
+use Rattle.bisim_spec.specs.declared.sides.Side.TheVariants.{Children}
 use Rattle.bisim_levels.specs.NeighbourSides.{is_neighbour}
 use Rattle.bisim_levels.specs.Refinement.{Refines, AreNumbered}
 use Rattle.bisim_levels.proofs.LevelLaws.{both_up}

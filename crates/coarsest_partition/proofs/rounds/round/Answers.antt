@@ -1,5 +1,5 @@
 use Rattle.std.proofs.Common.{ap, inl, inr}
-use Rattle.bisim_levels.specs.declared.sides.Side.TheVariants.{Parents}
+use Rattle.bisim_spec.specs.declared.sides.Side.TheVariants.{Parents}
 use Rattle.coarsest_partition.specs.SingletonBlocks.{is_alone}
 use Rattle.coarsest_partition.proofs.SingletonLaws.{alone_are}
 use Rattle.block_splitting.specs.Nodes.{NodeList}
