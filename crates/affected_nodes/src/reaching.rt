@@ -13,10 +13,11 @@ use px_base::{Memory, NodeId, Steps};
 use std::alloc::Global;
 use std::sync::ledger::Ledger;
 
-/// Searches the graph after a change for all nodes to which edges lead from its targets, each once, in the order of their distance. The
-/// search ends once a round meets no new node. The children of each node that is found are read once. It takes at most `w + 1` steps, where
-/// `w` is one for each node that is found, one for each of its parents and one for each of its children. Expected O(t + w) for t targets;
-/// it takes the memory of the nodes that are found, whatever the size of the graph. The only error is that memory runs out.
+/// Searches the graph after a change for all nodes to which edges lead from its targets, each once, in the order of
+/// their distance. The search ends once a round meets no new node. The children of each node that is found are read
+/// once. It takes at most `w + 1` steps, where `w` is one for each node that is found, one for each of its parents and
+/// one for each of its children. Expected O(t + w) for t targets; it takes the memory of the nodes that are found,
+/// whatever the size of the graph. The only error is that memory runs out.
 pub fn reached_nodes<L: Ledger>(
     alloc: Global,
     after: &After<'_>,

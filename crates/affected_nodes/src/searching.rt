@@ -51,10 +51,10 @@ impl AffectedNodes {
     }
 }
 
-/// Searches the graph after a change for the nodes to which at most `k` edges lead from its targets. The children of each of them
-/// that is nearer than `k` are read once. It takes at most `w + 1` steps, where `w` is one for each node that is found, one for each of its
-/// parents and one for each of its children, and no step where `k` is 0. Expected O(t + w + k) for t targets; it takes the memory of the
-/// nodes that are found, whatever the size of the graph.
+/// Searches the graph after a change for the nodes to which at most `k` edges lead from its targets. The children of
+/// each of them that is nearer than `k` are read once. It takes at most `w + 1` steps, where `w` is one for each node
+/// that is found, one for each of its parents and one for each of its children, and no step where `k` is 0. Expected
+/// O(t + w + k) for t targets; it takes the memory of the nodes that are found, whatever the size of the graph.
 pub fn affected_nodes<L: Ledger>(
     alloc: Global,
     after: &After<'_>,

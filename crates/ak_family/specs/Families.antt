@@ -35,8 +35,8 @@ abbrev pub AreParentKeys : Graph → List KeyedQuotient → ℕ → Type 0
 AreParentKeys g levels i =
     AreNumbered (at (blocks_at levels i)) (blocks_at levels i) (has_edge g) (blocks_at levels (i + 1)) (key_at (level_at levels (i + 1)).keys)
 
--- The same without a graph, which can be said of a draft too. The key of a block begins with this number. The others are the first
--- numbers of the keys of the blocks that have support to it, rising, each once.
+-- The same without a graph, which can be said of a draft too. The key of a block begins with this number. The others
+-- are the first numbers of the keys of the blocks that have support to it, rising, each once.
 pub record IsKeyedBySupports (own : Option ℕ) (key : ℕ → Option (List ℕ)) (support : ℕ → ℕ → ℕ) (b : ℕ) : Type 0 where
   pub number : ℕ
   pub around : List ℕ
@@ -46,8 +46,8 @@ pub record IsKeyedBySupports (own : Option ℕ) (key : ℕ → Option (List ℕ)
   pub each : (c : ℕ) → IsTrue (has around c) → (a : ℕ) × (0 < support a b) × (first_number (key a) ≡ Some c)
   pub every : (a c : ℕ) → 0 < support a b → first_number (key a) ≡ Some c → IsTrue (has around c)
 
--- Above the lowest level the keys are as the blocks one level below and the supports say: exactly the nodes have a block that have
--- one below, and the key of each block with members begins with the block below of each of them.
+-- Above the lowest level the keys are as the blocks one level below and the supports say: exactly the nodes have a
+-- block that have one below, and the key of each block with members begins with the block below of each of them.
 pub record AreKeyedBySupports (below block : List (Option ℕ)) (key : ℕ → Option (List ℕ)) (support : ℕ → ℕ → ℕ) : Type 0 where
   pub nodes : (n : ℕ) → is_some (at block n) ≡ is_some (at below n)
   pub keyed : (n b : ℕ) → at block n ≡ Some b → IsKeyedBySupports (at below n) key support b
@@ -56,8 +56,9 @@ pub record AreKeyedBySupports (below block : List (Option ℕ)) (key : ℕ → O
 abbrev pub HaveMembers : List KeyedQuotient → Type 0
 HaveMembers levels = (i : ℕ) → i < length levels → AreInhabited (level_at levels i).quotient.blocks.labels (blocks_at levels i)
 
--- What each family keeps, whatever graph it is of: exactly the blocks of each level have keys, no two the same, each block has a member,
--- and the keys are as the labels say at the lowest level, and above it as the level below and the supports say.
+-- What each family keeps, whatever graph it is of: exactly the blocks of each level have keys, no two the same, each
+-- block has a member, and the keys are as the labels say at the lowest level, and above it as the level below and the
+-- supports say.
 pub record IsKeyedFamily (levels : List KeyedQuotient) : Type 0 where
   pub keyed : (i : ℕ) → i < length levels → AreKeyed (level_at levels i).quotient.blocks.labels (key_at (level_at levels i).keys)
   pub inhabited : HaveMembers levels

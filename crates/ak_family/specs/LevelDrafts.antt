@@ -28,7 +28,8 @@ support_shown f d i a b = support_as_shown (level_at f i) (changes_at d i) a b
 abbrev pub key_shown : List KeyedQuotient → List KeyedChanges → ℕ → ℕ → Option (List ℕ)
 key_shown f d i b = shown_key (level_at f i) (changes_at d i) b
 
--- The draft was begun over this family, and has its levels. This holds for as long as blocks, labels and keys of the family stay.
+-- The draft was begun over this family, and has its levels. This holds for as long as blocks, labels and keys of the
+-- family stay.
 pub record AreOver (f : List KeyedQuotient) (d : List KeyedChanges) : Type 0 where
   pub count : length d ≡ length f
   pub each : (i : ℕ) → i < length f → IsKeyedOver (level_at f i) (changes_at d i)
@@ -44,8 +45,8 @@ pub record AreBlocksThere (f : List KeyedQuotient) (d : List KeyedChanges) (i a 
   pub from : IsSome (at (labels_shown f d i) a)
   pub onto : IsSome (at (labels_shown f d i) b)
 
--- Nothing but supports of level i has changed: its nodes have the same blocks, with the same labels and keys, and the other levels are the same.
--- The draft is still over this family.
+-- Nothing but supports of level i has changed: its nodes have the same blocks, with the same labels and keys, and the
+-- other levels are the same. The draft is still over this family.
 pub record KeepsAllButSupports (f : List KeyedQuotient) (i : ℕ) (old new : List KeyedChanges) : Type 0 where
   pub blocks : blocks_shown f new i ≡ blocks_shown f old i
   pub labels : labels_shown f new i ≡ labels_shown f old i
@@ -57,8 +58,8 @@ pub record KeepsAllButSupports (f : List KeyedQuotient) (i : ℕ) (old new : Lis
 abbrev pub AreEmpty : List KeyedChanges → Type 0
 AreEmpty d = (i : ℕ) → changes_at d i ≡ no_keyed_changes
 
--- Block b has the key. Where it didn't have it before, it was made with this label. The others are as they were, and so is b if it
--- was a block.
+-- Block b has the key. Where it didn't have it before, it was made with this label. The others are as they were, and so
+-- is b if it was a block.
 pub record HasBlock (label : ℕ) (key : List ℕ) (b : ℕ) (labels labels2 : List (Option ℕ)) (keys keys2 : ℕ → Option (List ℕ)) : Type 0 where
   pub live : IsSome (at labels2 b)
   pub key_is : keys2 b ≡ Some key

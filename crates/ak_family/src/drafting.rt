@@ -31,8 +31,9 @@ pub struct LevelBlock {
     pub block: u32,
 }
 
-/// What is drafted over a family, level by level: further blocks with their keys, moves of nodes, and supports. Reads show the family as
-/// it will be once the draft is settled. Each call is given the family; its blocks, labels and keys must stay while something is drafted.
+/// What is drafted over a family, level by level: further blocks with their keys, moves of nodes, and supports. Reads
+/// show the family as it will be once the draft is settled. Each call takes the family; its blocks, labels and keys
+/// must stay while something is drafted.
 ///
 /// A node moves to the block of a key at level 1, which is a further one where no block has the key:
 ///
@@ -107,8 +108,8 @@ impl AkFamily {
         draft_of(&d.levels, i as usize).blocks(level_of(&self.levels, i))
     }
 
-    /// The block of a level that has the key as shown, and none exactly where no block has it. Expected O(l) for a key of l numbers, no
-    /// memory.
+    /// The block of a level that has the key as shown, and none exactly where no block has it. Expected O(l) for a key
+    /// of l numbers, no memory.
     pub fn find(&self, d: &AkDraft, i: u32, key: &[u32]) -> Option<u32>
         requires over { AreOver self.now d.now }
         requires level { i < length self.now }
@@ -121,8 +122,9 @@ impl AkFamily {
 
 // Drafting.
 impl AkFamily {
-    /// Drafts a block of a level, without members, with a key that no block has there as shown. Its number is the least that is no block
-    /// there as shown. Expected O(l) for a key of l numbers, amortized; it takes the memory of a block and of the key.
+    /// Drafts a block of a level, without members, with a key that no block has there as shown. Its number is the least
+    /// that is no block there as shown. Expected O(l) for a key of l numbers, amortized; it takes the memory of a block
+    /// and of the key.
     pub fn new_block(&self, d: &mut AkDraft, i: u32, label: u32, key: &[u32]) -> Result<u32, Memory>
         requires over { AreOver self.now d.old }
         requires level { i < length self.now }
@@ -161,9 +163,9 @@ impl AkFamily {
         Ok(b)
     }
 
-    /// The block of a level that has the key as shown. Where none has it, one is drafted, with this label and without members. Past 2^31
-    /// blocks there is no number for one, which is answered as memory that ran out. Expected O(l) for a key of l numbers; it takes
-    /// memory where a block is drafted, as `new_block` does.
+    /// The block of a level that has the key as shown. Where none has it, one is drafted, with this label and without
+    /// members. Past 2^31 blocks there is no number for one, which is answered as memory that ran out. Expected O(l)
+    /// for a key of l numbers; it takes memory where a block is drafted, as `new_block` does.
     pub fn keyed_block(
         &self,
         d: &mut AkDraft,
@@ -186,8 +188,8 @@ impl AkFamily {
         }
     }
 
-    /// Drafts the move of a node, which is below 2^31, to a block of a level as shown, or out of its block there. Expected O(1), amortized;
-    /// it takes the memory of one move.
+    /// Drafts the move of a node, which is below 2^31, to a block of a level as shown, or out of its block there.
+    /// Expected O(1), amortized; it takes the memory of one move.
     pub fn put(&self, d: &mut AkDraft, i: u32, n: NodeId, b: Option<u32>) -> Result<(), Memory>
         requires over { AreOver self.now d.old }
         requires level { i < length self.now }
@@ -220,8 +222,8 @@ impl AkFamily {
         Ok(())
     }
 
-    /// Drafts that one edge fewer leads from `a` to `b`, both blocks of a level as shown, which have support. Expected O(1), amortized; it
-    /// takes the memory of one pair.
+    /// Drafts that one edge fewer leads from `a` to `b`, both blocks of a level as shown, which have support. Expected
+    /// O(1), amortized; it takes the memory of one pair.
     pub fn lower(&self, d: &mut AkDraft, i: u32, a: u32, b: u32) -> Result<(), Memory>
         requires there { AreBlocksThere self.now d.old i a b }
         requires some { 0 < support_shown self.now d.old i a b }
@@ -234,9 +236,10 @@ impl AkFamily {
         Ok(())
     }
 
-    /// Drafts the move of a node to a block of a level as shown, with the supports of its edges there. Its parents and its children are
-    /// read once, and its children stay in `neighbours`. After `Memory` the draft must be cleared before it is used again. Expected O(p + c) for
-    /// p parents and c children; it takes the memory of one move and of two pairs for each.
+    /// Drafts the move of a node to a block of a level as shown, with the supports of its edges there. Its parents and
+    /// its children are read once, and its children stay in `neighbours`. After `Memory` the draft must be cleared
+    /// before it is used again. Expected O(p + c) for p parents and c children; it takes the memory of one move and of
+    /// two pairs for each.
     pub fn move_node<L: Ledger>(
         &self,
         d: &mut AkDraft,

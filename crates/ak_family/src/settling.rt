@@ -11,9 +11,10 @@ use keyed_quotient::{KeyedDraft, KeyedSummary};
 use px_base::Memory;
 
 impl AkFamily {
-    /// Reserves the capacity that settling this draft needs. It leaves the family as it is seen. Expected O(k + d + l) for d entries
-    /// that are drafted, with keys of l numbers together, and linear in a table of a level where that moves; it takes what the drafted entries
-    /// take there. Where a level holds many keys of blocks that are gone, or long ones, these are dropped first, in time linear in its block numbers and keys.
+    /// Reserves the capacity that settling this draft needs. It leaves the family as it is seen. Expected O(k + d + l)
+    /// for d entries that are drafted, with keys of l numbers together, and linear in a table of a level where that
+    /// moves; it takes what the drafted entries take there. Where a level holds many keys of blocks that are gone, or
+    /// long ones, these are dropped first, in time linear in its block numbers and keys.
     pub fn reserve(&mut self, d: &AkDraft) -> Result<(), Memory>
         requires over { AreOver self.old d.now }
         ensures same { AreSeenAs self.old self.new }
@@ -26,8 +27,9 @@ impl AkFamily {
         Ok(())
     }
 
-    /// Makes the family what the draft shows, without blocks that have no members, and drops what was drafted. It can't fail and takes
-    /// no memory. Expected O(k + d + l) for d entries that are drafted, with keys of l numbers together, and what `clear` takes.
+    /// Makes the family what the draft shows, without blocks that have no members, and drops what was drafted. It can't
+    /// fail and takes no memory. Expected O(k + d + l) for d entries that are drafted, with keys of l numbers together,
+    /// and what `clear` takes.
     pub fn settle(&mut self, d: &mut AkDraft)
         requires reserved { HaveReserved self.old d.old }
         requires shows { ShowsFamily self.old d.old }

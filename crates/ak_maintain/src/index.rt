@@ -18,7 +18,7 @@ use std::marker::Brand;
 use std::sync::ledger::{Blank, Ledger};
 
 /// The A(0)- to A(k)-indexes of a graph, kept while it changes. A change is drafted over the family in force: at each level the
-/// affected nodes's target move to the blocks of their keys. How much of the graph is read depends on what is within reach of the
+/// affected nodes move to the blocks of their keys. How much of the graph is read depends on what is within reach of the
 /// change, and not on the size of the graph.
 ///
 /// An index of its own, without an engine:
@@ -53,7 +53,7 @@ impl AkIndex {
     /// Stages what a change will make of the index, as `prepare` does, and counts steps: at most `8 * k * w`, where levels up to `k`
     /// are kept, and `w` is one for each node within `k` edges of the change's target in the graph after it, one for each
     /// of its parents and one for each of its children. Expected O((k + 1) (1 + w log w)), where no table moves and no keys are
-    /// dropped, as `AkFamily::reserve` says; it takes the memory of the affected nodes, of what is drafted, and of the room for it. Where memory runs
+    /// dropped, as `AkFamily::reserve` says; it takes the memory of the affected nodes, of what is drafted, and of the capacity for it. Where memory runs
     /// out, it leaves the index as it was.
     pub fn prepare_counted<L: Ledger>(
         &mut self,

@@ -64,7 +64,7 @@ fn drafted<L: Ledger>(
     Ok(draft)
 }
 
-// The same, with the room that settling the draft needs.
+// The same, with the capacity that settling the draft needs.
 fn drafted_with_reserved<L: Ledger>(
     alloc: Global,
     family: &mut AkFamily,

@@ -9,8 +9,8 @@ use one_maintain::OneKept;
 use px_base::Memory;
 use quotient::Summary;
 
-/// An index of any of the three kinds: an engine over these needs no boxes. What each call costs, and the memory that it takes, are
-/// those of the index that it holds.
+/// An index of any of the three kinds: an engine over these needs no boxes. What each call costs, and the memory that
+/// it takes, are those of the index that it holds.
 ///
 /// The 1-index of a graph, as one of them:
 ///

@@ -52,6 +52,7 @@ pub record Numbers (own : ℕ → Option ℕ) (base : List (Option ℕ)) (neighb
       → (k : ℕ) × (key : List ℕ) × (number ≡ Some k) × (slice_get new k ≡ Some key) × IsKey own base neighbour_of n key
   pub fresh : (k : ℕ) → length old ≤ k → k < length new → number ≡ Some k
 
--- Whatever the level: where the one partition is into the classes of a relation at that level, the other is into those at the next.
+-- Whatever the level: where the one partition is into the classes of a relation at that level, the other is into those
+-- at the next.
 abbrev pub IsNextLevel : (Shape → ℕ → ℕ → ℕ → Type 0) → Shape → List (Option ℕ) → List (Option ℕ) → Type 0
 IsNextLevel R s block next = (i : ℕ) → Agrees s block (R s i) → Agrees s next (R s (suc i))

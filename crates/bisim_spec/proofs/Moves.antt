@@ -1,4 +1,5 @@
--- Supports over the set of edges: what they say of blocks, what a move of one node makes of them, and an edge that comes or goes.
+-- Supports over the set of edges: what they say of blocks, what a move of one node makes of them, and an edge that
+-- comes or goes.
 use Rattle.std.proofs.Common.{◌≡◌, ℕ, ◌+◌, ◌≤◌, List, [], ◌∷◌, Option, Some, None, refl, sym, ◌∙◌, ap, arith, inl, inr, true, false, Bool, ◌&&◌, not, cond, count_by, true≢false}
 use Rattle.std.specs.Prelude.{nat_eq, ◌||◌}
 use Rattle.std.specs.List.{IsDistinct, AllByRecursion, list_any}

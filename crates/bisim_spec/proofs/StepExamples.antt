@@ -108,8 +108,9 @@ linked =
 not_made : OneStep (pair one_edge) by_label (node (codes "a")) (pair one_edge) by_label → ⊥
 not_made h = let e = ap (λ g. length g.allocated) h.made in omega (arith, e)
 
--- Two rings of an a and a b, in two blocks. With rings a partition of four blocks is stable and unmergeable too, but a change may
--- lead to it only where it reaches what is parted, and where it doesn't keep the parent blocks of its target.
+-- Two rings of an a and a b, in two blocks. With rings a partition of four blocks is stable and unmergeable too, but a
+-- change may lead to it only where it reaches what is parted, and where it doesn't keep the parent blocks of its
+-- target.
 
 abbrev ring_labels : List (List ℕ)
 ring_labels = codes "a" ∷ codes "b" ∷ codes "a" ∷ codes "b" ∷ []
@@ -198,8 +199,8 @@ levels_swapped v w e f h =
     let a = subst (λ s. Agrees s v.block_of (Bis s 0)) same (h.each 0 (omega arith)).agrees in
     refuted (level_decides lone_from_list lone_shape all_alone 0) refl (subst (λ p. Agrees lone_from_list p (Bis lone_from_list 0)) e a)
 
--- Blocks that are too coarse, and too fine, for the 1-index and for the forward and backward index: the second b has no parent, and
--- the two a with one child are alike.
+-- Blocks that are too coarse, and too fine, for the 1-index and for the forward and backward index: the second b has no
+-- parent, and the two a with one child are alike.
 
 one_too_coarse : (v : View) → v.block_of ≡ two_blocks → Fits One (Some v ∷ []) lone → ⊥
 one_too_coarse v e h =

@@ -10,8 +10,8 @@ use Rattle.bisim_spec.specs.MinimalIndex.{IsMinimalIndex}
 use Rattle.bisim_spec.specs.Targets.{target, KeepsParents}
 
 -- The change c leads from the graph g to g2, and the partition p of the one to p2 of the other. p2 is minimal. Nodes of
--- both graphs that the change doesn't reach are together in p2 exactly where they were in p. Where it keeps the parent blocks of
--- its target, so are all nodes. That the change is accepted is not said here.
+-- both graphs that the change doesn't reach are together in p2 exactly where they were in p. Where it keeps the parent
+-- blocks of its target, so are all nodes. That the change is accepted is not said here.
 pub record OneStep (g : Graph) (p : List (Option ℕ)) (c : Change) (g2 : Graph) (p2 : List (Option ℕ)) : Type 0 where
   pub made : g2 ≡ after c g
   pub index : IsMinimalIndex (shape_of g2) p2

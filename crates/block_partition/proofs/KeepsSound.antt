@@ -71,7 +71,7 @@ sound_in bl nx pv fs lb lc sz sc fr lv nr br n b s none in_bl is_block =
       blocks_fit = s.blocks_fit;
     }
 
--- the list grows by its room
+-- the list grows by its reserved capacity
 pub sound_grown : (bl nx pv fs : Table) (lb : List (Option ℕ)) (lc : ℕ) (sz : List ℕ) (sc : ℕ) (fr : Gaps) (lv : NumberSet) (nr br len : ℕ)
     → IsSoundPartition bl nx pv fs lb lc sz sc fr lv nr br → len ≤ length bl.places + nr
     → IsSoundPartition (put_in bl (grown bl.places len)) (put_in nx (grown nx.places len)) (put_in pv (grown pv.places len)) fs

@@ -82,7 +82,7 @@ pub record BlocksFit (count first labels sizes freed span live more : ℕ) : Typ
   pub places_fit : count + more ≤ span
   pub live_fit : count + more ≤ live
 
--- the tables are those of a partition, with room for that many more nodes and blocks
+-- the tables are those of a partition, with capacity for that many more nodes and blocks
 pub record IsSoundPartition (block next prev first : Table) (labels : List (Option ℕ)) (labels_capacity : ℕ) (sizes : List ℕ)
     (sizes_capacity : ℕ) (freed : Gaps) (live : NumberSet) (nodes_reserved blocks_reserved : ℕ) : Type 0 where
   pub mirrored : AreMirrored block.places next.places prev.places first.places

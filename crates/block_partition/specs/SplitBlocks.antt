@@ -3,7 +3,8 @@ use Rattle.std.specs.Prelude.{ℕ, ◌≡◌, ◌-◌, Bool, length, Some, if◌
 use Rattle.graph_spec.specs.Members.{at}
 use Rattle.block_partition.specs.LabelledPartitions.{Partition, put}
 
--- these nodes are in the block b, which has the label of from and takes the capacity reserved for one block; all else is as it was
+-- these nodes are in the block b, which has the label of from and takes the capacity reserved for one block; all else
+-- is as it was
 pub record IsSplitOff (old new : Partition) (from : ℕ) (nodes : ℕ → Bool) (b : ℕ) : Type 0 where
   pub blocks : (n : ℕ) → at new.block_of n ≡ (if nodes n then Some b else at old.block_of n)
   pub count : length new.block_of ≡ length old.block_of

@@ -126,7 +126,7 @@ impl Blocks {
         self.labels.len() as u32
     }
 
-    /// The least number from this one on that is no block: at most `span`, where the given one is. O(1), no
+    /// The least number from this one on that is no block: at most `span`, where this one is. O(1), no
     /// memory: where some number below `span` is no block, it looks at the numbers of two runs of 64, and at some
     /// hundred entries at most.
     pub fn next_free(&self, from: u32) -> u32
@@ -165,7 +165,7 @@ impl Blocks {
     }
 }
 
-// Room.
+// Reserving.
 impl Blocks {
     /// No blocks. O(1), no memory until capacity is reserved.
     pub fn new(alloc: Global) -> Result<Blocks, Memory>
@@ -262,8 +262,8 @@ impl Blocks {
         self.blocks_reserved -= 1;
     }
 
-    /// Puts a node that has no block into one. Where the node stands past the end of the list, the list
-    /// grows to end with it, from the capacity reserved for numbers. O(g) for g numbers that the list grows by, no memory.
+    /// Puts a node that has no block into one. Where the node stands past the end of the list, the list grows to end
+    /// with it, from the capacity reserved for numbers. O(g) for g numbers that the list grows by, no memory.
     pub fn place(&mut self, n: NodeId, b: u32)
         requires block { IsBlock self.old b }
         requires free { at self.old.block_of n ≡ None }

@@ -8,9 +8,9 @@ use crate::blocks::Blocks;
 use px_base::NodeId;
 
 impl Blocks {
-    /// Makes a block of these members of another one, from the capacity reserved for one block, and gives its number, the
-    /// least that isn't a block. It has the label of the other one, which may be left without members.
-    /// O(m) for m nodes, no memory.
+    /// Makes a block of these members of another one, from the capacity reserved for one block, and gives its number,
+    /// the least that isn't a block. It has the label of the other one, which may be left without members. O(m) for m
+    /// nodes, no memory.
     pub fn split_off(&mut self, from: u32, nodes: &[NodeId]) -> u32
         requires block { IsBlock self.old from }
         requires reserved { 0 < self.old.reserved.blocks }

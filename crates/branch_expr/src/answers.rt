@@ -11,10 +11,10 @@ use label_graph::{Digraph, Labels};
 use px_base::{Bits, Memory};
 use std::alloc::Global;
 
-/// The last nodes of the lists of nodes that lead along the axes, each node meeting its step: a set of numbers below the graph's size.
-/// `Memory` comes only where memory runs out. O(m (n + e)) for m tokens, n node numbers and e edges, beside the look-ups of the labels; it
-/// takes O((d + 1) n) memory where brackets nest d deep: a byte for each number in each set that is held, and what the searches along `//` and
-/// `\\` take.
+/// The last nodes of the lists of nodes that lead along the axes, each node meeting its step: a set of numbers below
+/// the graph's size. `Memory` comes only where memory runs out. O(m (n + e)) for m tokens, n node numbers and e edges,
+/// beside the look-ups of the labels; it takes O((d + 1) n) memory where brackets nest d deep: a byte for each number
+/// in each set that is held, and what the searches along `//` and `\\` take.
 pub fn eval<G: Digraph>(
     alloc: Global,
     g: &G,

@@ -83,9 +83,9 @@ fn insert_children_of<G: Digraph>(g: &G, nodes: &[u32], set: &mut Bits)
     }
 }
 
-/// The children of the nodes whose label passes: any one, or the one with the number. They are a set of numbers below the
-/// graph's size. `Memory` comes only where memory runs out. O(n + e) for n node numbers and the e edges that lead from those nodes;
-/// each node is read once. It takes a byte for each number, and 4 KiB.
+/// The children of the nodes whose label passes: any one, or the one with the number. They are a set of numbers below
+/// the graph's size. `Memory` comes only where memory runs out. O(n + e) for n node numbers and the e edges that lead
+/// from those nodes; each node is read once. It takes a byte for each number, and 4 KiB.
 pub(crate) fn passing_children<G: Digraph>(
     alloc: Global,
     g: &G,
@@ -131,9 +131,9 @@ fn remove_children_of<G: Digraph>(g: &G, nodes: &[u32], set: &mut Bits)
     }
 }
 
-/// Takes out of a set of numbers below the graph's size the children of the nodes whose label passes: any label, or the one with
-/// the number. `Memory` comes only where memory runs out. O(n + e) for n node numbers and the e edges that lead from those nodes;
-/// each node is read once. It takes 4 KiB.
+/// Takes out of a set of numbers below the graph's size the children of the nodes whose label passes: any label, or the
+/// one with the number. `Memory` comes only where memory runs out. O(n + e) for n node numbers and the e edges that
+/// lead from those nodes; each node is read once. It takes 4 KiB.
 pub(crate) fn remove_passing_children<G: Digraph>(
     alloc: Global,
     g: &G,
@@ -166,9 +166,9 @@ fn far<G: Digraph>(alloc: Global, g: &G, set: &Bits) -> Result<Bits, Memory>
     search(alloc, g, &program, 1, &places)
 }
 
-/// The nodes to which the axis leads from a member of the set: a set of numbers below the graph's size. `Memory` comes only
-/// where memory runs out. O(n + e) for n node numbers and the e edges that are followed, each of which is read once at most; it takes a
-/// byte for each number, and a few more along `Below` and `Above`.
+/// The nodes to which the axis leads from a member of the set: a set of numbers below the graph's size. `Memory` comes
+/// only where memory runs out. O(n + e) for n node numbers and the e edges that are followed, each of which is read
+/// once at most; it takes a byte for each number, and a few more along `Below` and `Above`.
 pub(crate) fn along<G: Digraph>(
     alloc: Global,
     g: &G,

@@ -99,7 +99,7 @@ fn relax_or(alloc: Global, or: &Or) -> Result<Or, Memory>
     Ok(Or { first, more })
 }
 
-/// The query with `True` in place of each outermost `not`, also in the steps of a predicate. Each answer of the query is
+/// The query with `True` for each outermost `not`, also in the steps of a predicate. Each answer of the query is
 /// an answer of this one, even where more edges are seen than there are. `Memory` comes only where memory runs out. O(m)
 /// for a query with m tokens and the bytes of its labels; it takes the memory of such a query.
 pub fn relax(alloc: Global, query: &BranchTree) -> Result<BranchTree, Memory>

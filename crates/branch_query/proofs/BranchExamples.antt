@@ -46,8 +46,8 @@ alone_answers = (2, (refl, (λ (c, e, m, k). no_child c e, tt)), refl)
 head_is_denied : ¬ IsQueryAnswer two_heads without_b 0
 head_is_denied (u, m, e) = (subst (Meets two_heads first) e m).1.0 (1, refl, (refl, tt), tt)
 
--- Told apart by their labels alone, n0 and n2 are together. So n2 is seen with a child b as well, and the whole query would miss
--- it; its relaxed form keeps both.
+-- Told apart by their labels alone, n0 and n2 are together. So n2 is seen with a child b as well, and the whole query
+-- would miss it; its relaxed form keeps both.
 would_be_missed : ¬ IsCandidate two_heads (bis two_heads 0) without_b true 2
 would_be_missed (u, m, e) = (subst (Meets (loose two_heads (bis two_heads 0)) first) e m).1.0 (1, refl, (refl, tt), tt)
 

@@ -13,8 +13,8 @@ use Rattle.bisim_levels.specs.NeighbourSides.{is_neighbour}
 use Rattle.bisim_levels.specs.Keys.{IsKey}
 use Rattle.block_splitting.specs.Splits.{IsNeighbour}
 
--- The nodes that have a number: with a node its parents have one; the number is that of the node's key, its label and the numbers
--- of its parents, and each key is that of a node; and bisimilar nodes that have one have the same.
+-- The nodes that have a number: with a node its parents have one; the number is that of the node's key, its label and
+-- the numbers of its parents, and each key is that of a node; and bisimilar nodes that have one have the same.
 pub record IsOrdered (g : Graph) (keys : List (List ℕ)) (block : List (Option ℕ)) : Type 0 where
   pub distinct : AreDistinct keys
   pub node : (n : ℕ) → IsSome (at block n) → IsSome (label_number g n)

@@ -36,9 +36,10 @@ pub record IsRefined (g : Graph) (kept : Side → Bool) (R : ℕ → ℕ → Typ
   pub settled : (t : Side) → kept t ≡ true → (u v : ℕ) → active t u ≡ false → active t v ≡ false → Together block u v
       → Matched (IsNeighbour t g) (Together block) u v
 
--- One step, on one side: blocks are only split; two nodes that are no longer active were settled, or have neighbours in the same blocks
--- of the old partition; nodes stay together that agree in this and in whether they were active; and those are active that have a neighbour
--- which moved and aren't alone in their block, and on a side that is left those that were active there.
+-- One step, on one side: blocks are only split; two nodes that are no longer active were settled, or have neighbours in
+-- the same blocks of the old partition; nodes stay together that agree in this and in whether they were active; and
+-- those are active that have a neighbour which moved and aren't alone in their block, and on a side that is left those
+-- that were active there.
 pub record IsStep (g : Graph) (kept : Side → Bool) (old new : List (Option ℕ)) (active next : Side → ℕ → Bool) : Type 0 where
   pub finer : (u v : ℕ) → Together new u v → Together old u v
   pub side : Side

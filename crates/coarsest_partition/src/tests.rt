@@ -35,7 +35,8 @@ fn check_chains(rt: &impl Abort, alloc: Global, view: &GraphView<'_>) -> Result<
     Ok(())
 }
 
-// The partition by labels has so many blocks. Split by node 1 alone it has so many, and the nodes of each pair are in one block.
+// The partition by labels has so many blocks. Split by node 1 alone it has so many, and the nodes of each pair are in
+// one block.
 fn check_splitter(
     rt: &impl Abort,
     alloc: Global,

@@ -62,8 +62,9 @@ fn note_nodes<G: Digraph>(
     Ok(())
 }
 
-/// Meets the parents of the nodes, and lists those that weren't met before. It takes a look for each node and one for each parent, and
-/// answers how many of the looks it was given are left: `None` where they are too few, or seem to be, since most nodes have a parent.
+/// Meets the parents of the nodes, and lists those that weren't met before. It takes a look for each node and one for
+/// each parent, and answers how many of the looks it was given are left: `None` where they are too few, or seem to be,
+/// since most nodes have a parent.
 fn meet_parents<G: Digraph>(
     g: &G,
     nodes: &[NodeId],
@@ -123,10 +124,11 @@ fn reckoned_rounds(most: Option<u32>) -> u32
     }
 }
 
-/// The members of the set that are nodes, and the nodes from which at most so many edges lead to one of these, or any number of edges
-/// where no bound is given: a set of numbers below the graph's size. `None` where that seems to take more looks at nodes and edges than a
-/// 64th of the graph's size, so that giving up loses little. `Memory` comes only where memory runs out. O(n + e + s), where n nodes are
-/// found, e edges lead to them, and s is the greater of both sizes.
+/// The members of the set that are nodes, and the nodes from which at most so many edges lead to one of these, or any
+/// number of edges where no bound is given: a set of numbers below the graph's size. `None` where that seems to take
+/// more looks at nodes and edges than a 64th of the graph's size, so that giving up loses little. `Memory` comes only
+/// where memory runs out. O(n + e + s), where n nodes are found, e edges lead to them, and s is the greater of both
+/// sizes.
 pub(crate) fn ancestors<G: Digraph>(
     alloc: Global,
     g: &G,

@@ -56,8 +56,8 @@ fn most_edges(expr: &PathExpr) -> Option<u32>
     }
 }
 
-/// Answers of the path expression, with all those in the set among them. A walk that ends in the set lies in what leads to the set. So
-/// where that is small, the expression is asked over it alone, and otherwise over the whole graph.
+/// Answers of the path expression, with all those in the set among them. A walk that ends in the set lies in what leads
+/// to the set. So where that is small, the expression is asked over it alone, and otherwise over the whole graph.
 fn path_answers<G: Digraph>(
     alloc: Global,
     g: &G,
@@ -94,11 +94,12 @@ fn answers_for<G: Digraph>(
 }
 
 /// The members of the set that answer the query in the graph: a set of numbers below the size of the one that is handed
-/// in. It takes a view of the graph; of an empty set it asks nothing. `Memory` comes only where memory runs out. O(m (n + e + s)) for a path
-/// expression with m tokens, where n nodes lead to members by no more edges than a matching walk has, e edges
-/// are at these, and s is the greater of the graph's size and the set's: for each part of the expression that may come first the marks
-/// of s numbers are passed over. Where these nodes are many, and for a branching query, it takes the time of asking the graph, and O(s).
-/// Beside the memory of asking it takes two bytes for each number below a size, and 8 for each of the n nodes.
+/// in. It takes a view of the graph; of an empty set it asks nothing. `Memory` comes only where memory runs out. O(m (n
+/// + e + s)) for a path expression with m tokens, where n nodes lead to members by no more edges than a matching walk
+/// has, e edges are at these, and s is the greater of the graph's size and the set's: for each part of the expression
+/// that may come first the marks of s numbers are passed over. Where these nodes are many, and for a branching query,
+/// it takes the time of asking the graph, and O(s). Beside the memory of asking it takes two bytes for each number
+/// below a size, and 8 for each of the n nodes.
 pub fn check<L: Ledger>(
     alloc: Global,
     graph: &Graph,

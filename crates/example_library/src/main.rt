@@ -61,8 +61,8 @@ fn ask<L: Ledger>(
     Some(answer.nodes)
 }
 
-/// Where the path leads in the graph of the triples, once it has an edge from n3 to n0, so that Bo knows Ana too. None where there is
-/// no answer.
+/// Where the path leads in the graph of the triples, once it has an edge from n3 to n0, so that Bo knows Ana too. None
+/// where there is no answer.
 fn link_and_ask(alloc: Global, triples: &str, path: &str) -> Option<Bits>
     ensures { IfSome result (λ nodes. AreAnswersOfTexts triples.now path.now nodes.members) }
 {

@@ -131,7 +131,7 @@ first_member_some p live n all = by (at p.block_of n) refl
         ∙ ap (λ m. is_some (at p.labels c) && not m) equal
         ∙ sym (first_member_at (Some c) e)
 
--- a node that are first its block has a number that was given
+-- a node that is first in its block has a number that was allocated
 pub led_below : (p : Partition) (n : ℕ) → is_first_member p n ≡ true → n < length p.block_of
 led_below p n h = block_below p.block_of n (led_block p n h)
 

@@ -20,7 +20,7 @@ use Rattle.extent_report.proofs.AgreeingShapes.{AreAlike, extents_alike}
 none_not_some : {A : Type 0} (o : Option A) → o ≡ None → IsSome o → ⊥
 none_not_some o e h = true≢false (sym h ∙ ap is_some e)
 
--- a node of a graph has a number that was given
+-- a node of a graph has a number that was allocated
 pub allocated_below : (g : Graph) (n : ℕ) → IsNode (shape_of g) n → n < length g.allocated
 allocated_below g n h = elim (none_or_some (slice_get g.allocated n)) [
   | inl none ↦ absurd (none_not_some (label_of g n) (ap (option_and_then (λ l. l)) none) h)

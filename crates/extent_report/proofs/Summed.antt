@@ -61,7 +61,7 @@ first_leads texts p h n =
 pub total_led : (texts : List (List ℕ)) (p : Partition) → LabelsHaveTexts texts p → block_total (shape_of_blocks texts p) (together p.block_of) ≡ count_below (length p.block_of) (is_first_member p)
 total_led texts p h = count_same (length p.block_of) (is_first (shape_of_blocks texts p) (together p.block_of)) (is_first_member p) (λ n _. first_leads texts p h n)
 
--- the line of a block that is led
+-- the line of a block that has a first member
 pub line_led : (texts : List (List ℕ)) (p : Partition) → LabelsHaveTexts texts p → (n b l : ℕ) (t : List ℕ) → is_first_member p n ≡ true → at p.block_of n ≡ Some b → at p.labels b ≡ Some l → slice_get texts l ≡ Some t
     → block_line (shape_of_blocks texts p) (together p.block_of) n ≡ t ++ texts_below (length p.block_of) (word_with p.block_of n) ++ 10 ∷ []
 line_led texts p h n b l t led e f g =

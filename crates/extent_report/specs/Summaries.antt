@@ -36,11 +36,13 @@ pub record IsSummaryOf (g : Graph) (r : ℕ → ℕ → Bool) (q : Quotient) : T
   pub fits : ViewFits g (view_of q)
   pub agrees : Agrees (shape_of g) q.blocks.block_of (λ u v. IsTrue (r u v))
 
--- The text lists the blocks of the relation: whatever graph and relation the summary is of, where these are the texts of its labels.
+-- The text lists the blocks of the relation: whatever graph and relation the summary is of, where these are the texts
+-- of its labels.
 abbrev pub ListsBlocks : List (List ℕ) → Quotient → List ℕ → Type 0
 ListsBlocks texts q text = (g : Graph) (r : ℕ → ℕ → Bool) → IsSummaryOf g r q → g.seen ≡ texts → text ≡ extents_text (shape_of g) r
 
--- The line says how many blocks the relation has, and how many pairs of them an edge joins: whatever graph and relation the summary is of.
+-- The line says how many blocks the relation has, and how many pairs of them an edge joins: whatever graph and relation
+-- the summary is of.
 abbrev pub CountsBlocks : Via → Quotient → List ℕ → Type 0
 CountsBlocks via q line =
     (g : Graph) (r : ℕ → ℕ → Bool) → IsSummaryOf g r q → line ≡ size_line via (block_total (shape_of g) r) (adjacent_total (shape_of g) r)

@@ -22,7 +22,7 @@ fn push_members(list: &mut Vec<NodeId>, summary: &Summary, b: u32) -> Result<(),
     Ok(())
 }
 
-/// Lists the members of a block, rising, in place of what the list held.
+/// Lists the members of a block, rising, replacing what the list held.
 pub(crate) fn fill_members(list: &mut Vec<NodeId>, summary: &Summary, b: u32) -> Result<(), Memory>
     requires block { IsSome (at summary.now.blocks.labels b) }
     ensures rising { OnOk result (IsStrictlyIncreasing list.new.items) }

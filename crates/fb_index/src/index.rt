@@ -13,10 +13,11 @@ use px_base::Memory;
 use quotient::Summary;
 use std::alloc::Global;
 
-/// The forward and backward index of a graph. A change leaves no view of it, which takes no memory, and the time to drop the view that
-/// there was; the next `refresh` computes the view of the graph as it is then. A build or a refresh finds the key of each node first, and
-/// then in rounds of those next to nodes that moved. Expected O(r (n + m log d)) at most for r rounds, n node numbers, m edges and at most
-/// d neighbours of a node on a side; it takes O(n + m) memory.
+/// The forward and backward index of a graph. A change leaves no view of it, which takes no memory, and the time to
+/// drop the view that there was; the next `refresh` computes the view of the graph as it is then. A build or a refresh
+/// finds the key of each node first, and then in rounds of those next to nodes that moved. Expected O(r (n + m log d))
+/// at most for r rounds, n node numbers, m edges and at most d neighbours of a node on a side; it takes O(n + m)
+/// memory.
 ///
 /// After a change the view is computed when it is asked for:
 ///

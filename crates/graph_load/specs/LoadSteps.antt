@@ -113,8 +113,8 @@ ReadsLines r waited before next q waits after =
 abbrev pub IsNearer : ReaderState → ReaderState → Type 0
 IsNearer r q = (r.taken < q.taken) × (q.taken ≤ GRAPH_BYTES)
 
--- What a call that reads on does to the reader, to the triples that wait and to the shelf. Of a shelf the functions give what is left
--- of the open file, whether one is open, the files, and the count of faults.
+-- What a call that reads on does to the reader, to the triples that wait and to the shelf. Of a shelf the functions
+-- give what is left of the open file, whether one is open, the files, and the count of faults.
 pub record ReadsOn {S : Type 0} (left : S → Option (List ℕ)) (is_open : S → Bool) (files : S → Option (List File)) (faults : S → ℕ)
     (r q : ReaderState) (waited waits : List Waiting) (old new : S) (result : Result Next LoadError) : Type 0 where
   pub reads : IfOk result (λ next. ReadsLines r waited (stream r (left old)) next q waits (stream q (left new)))

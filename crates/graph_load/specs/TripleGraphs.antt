@@ -1,5 +1,5 @@
 -- The graph of a set of triples. Each term that is a subject or an object is a node, labelled by its kind; each triple
--- is a node, labelled by its predicate; edges lead from the subject to the triple and on to the object. Numbers are given
+-- is a node, labelled by its predicate; edges lead from the subject to the triple and on to the object. Numbers are allocated
 -- in the order of first need: of a new triple its subject, the triple, its object.
 use Rattle.std.specs.Prelude.{ℕ, Bool, ◌&&◌, List, [], ◌∷◌, ◌++◌, length, codes, bytes_eq, is_some, unwrap_or, if◌then◌else◌, Result, Ok, Err}
 use Rattle.std.specs.List.{list_any}

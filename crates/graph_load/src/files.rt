@@ -115,7 +115,7 @@ fn load_lines<H: Shelf>(alloc: Global, limits: &Limits, shelf: &mut H) -> Result
 
 /// The graph of the triples of an N-Triples file (RDF 1.1 N-Triples). Each distinct subject or object is a
 /// node labelled `iri`, `blank` or `literal`, and each distinct triple is a node labelled by its predicate in
-/// the canonical spelling, between its subject and its object. Numbers are given in the order of first need: of
+/// the canonical spelling, between its subject and its object. Numbers are allocated in the order of first need: of
 /// a triple its subject, the triple, its object.
 ///
 /// The first line that is refused ends the load: `Limit` and `Syntax` have its number. `Missing` comes where

@@ -12,7 +12,7 @@ is_same (link u v) g = is_live g u && (is_live g v && has_edge g u v)
 is_same (unlink u v) g = false
 is_same (drop u) g = false
 
--- one more number can be given, and the label is seen or can be
+-- one more number can be allocated, and the label is seen or can be
 pub record IsNewNode (g : Graph) (t : List ℕ) : Type 0 where
   pub few_nodes : length g.allocated < 2 ^ 30
   pub few_labels : IsTrue (is_seen g.seen t || nat_lt (length g.seen) (2 ^ 30))

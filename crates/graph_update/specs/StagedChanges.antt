@@ -8,14 +8,14 @@ use Rattle.graph_update.specs.declared.changes.Applied.TheVariants.{Added, Done}
 use Rattle.graph_update.specs.declared.staging.Plan.{Plan}
 use Rattle.graph_update.specs.declared.staging.Plan.TheVariants.{Node, Link, Unlink, Drop}
 
--- how a staged change is made; a new node's label is in the graph's room
+-- how a staged change is made; a new node's label is the one that the graph has reserved
 abbrev pub plan_of : Change → Plan
 plan_of (node t) = Node
 plan_of (link u v) = Link u v
 plan_of (unlink u v) = Unlink u v
 plan_of (drop u) = Drop u
 
--- the room is that of the change; to take something away needs none
+-- what is reserved is what the change needs; to take something away needs nothing
 abbrev pub IsReservedFor : Change → Reservation → Type 0
 IsReservedFor (node t) reserved = reserved ≡ label_reserved t
 IsReservedFor (link u v) reserved = reserved ≡ pair_reserved u v

@@ -15,7 +15,7 @@ pub enum Change {
     Link(NodeId, NodeId),
     /// That edge is taken away.
     Unlink(NodeId, NodeId),
-    /// The node is taken away. Its number is never given again.
+    /// The node is taken away. Its number is never allocated again.
     Drop(NodeId),
 }
 

@@ -87,7 +87,7 @@ impl<'a> After<'a> {
         }
     }
 
-    /// How many node numbers will have been given: at most 2^30. O(1), no memory.
+    /// How many node numbers will have been allocated: at most 2^30. O(1), no memory.
     pub fn created(&self) -> u32
         ensures count { result ≡ length (graph_after self.now).allocated }
         ensures few { result ≤ 2 ^ 30 }

@@ -43,7 +43,7 @@ impl Model for Staged {
 }
 
 /// Takes all the memory that a change needs, which `judge` accepts as new within some limits. The graph stays as it is
-/// seen, and where memory runs out so does its room. Expected O(b), amortized, for a node whose label has b bytes, and
+/// seen, and where memory runs out so does its reservation. Expected O(b), amortized, for a node whose label has b bytes, and
 /// O(1), amortized, for an edge; it takes the memory that `Graph` takes for them. A removal is O(1), no memory.
 pub fn stage(alloc: Global, graph: &mut Graph, change: &Change) -> Result<Staged, Memory>
     requires new { IsNew (change_of change.now) graph.old.graph }

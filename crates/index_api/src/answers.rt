@@ -7,7 +7,7 @@ use px_base::Bits;
 pub enum How {
     /// In the graph itself.
     Data,
-    /// In an index that tells the answers exactly: they are the candidates.
+    /// Through an index that is exact for the query: they are the candidates.
     Exact(u32),
     /// In an index, whose candidates were then looked up in the graph.
     Checked(u32),

@@ -27,7 +27,7 @@ pub trait PathIndex: Drop {
     fn kind(&self) -> Kind
         ensures { result ≡ (meaning self.now).kind };
 
-    /// Builds the index of the graph, in place of the views that there are, with nothing staged. The A(k)-family has a view for each
+    /// Builds the index of the graph, instead of the views that there are, with nothing staged. The A(k)-family has a view for each
     /// level up to `k`, each other index has one. That of the 1-index is full bisimilarity. The cost and the memory are the index's:
     /// `AkFamily::build` says those of `AkIndex`, `OneIndex::build` those of `OneKept`, and `FbIndex` its own.
     fn build(&mut self, view: &GraphView<'_>, k: u32) -> Result<(), Memory>

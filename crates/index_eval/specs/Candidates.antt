@@ -11,8 +11,8 @@ use Rattle.branch_query.specs.Candidates.{AreCandidates}
 use Rattle.index_eval.specs.Exactness.{IsExact, FitsVia}
 use Rattle.index_eval.specs.Extents.{AreOfBlocks}
 
--- The labels are `texts`, the index graph is v, and the query is asked: itself where `whole` is true, else its relaxed form. What is said
--- of each graph holds of every one with these labels that v fits.
+-- The labels are `texts`, the index graph is v, and the query is asked: itself where `whole` is true, else its relaxed
+-- form. What is said of each graph holds of every one with these labels that v fits.
 module _ (texts : List (List ℕ)) (v : View) (q : Query) (whole : Bool) where
   -- the members of the blocks that answer the query, or its relaxed form, over the index graph
   abbrev pub AreOfAnsweringBlocks : List ℕ → Type 0

@@ -18,8 +18,9 @@ abbrev pub HasLongestWithin : Expr → ℕ → Type 0
 HasLongestWithin e most = (n : ℕ) × IsLongest (Matches e) (Some n) × (n ≤ most)
 
 -- The index answers the query exactly: the 1-index each path expression, the forward and backward index each query, and
--- A(i) each path expression that has a longest matching word, of at most i + 1 labels. So a branching query is exact through the
--- forward and backward index alone, since the others don't tell nodes apart by their children. The graph itself is no index.
+-- A(i) each path expression that has a longest matching word, of at most i + 1 labels. So a branching query is exact
+-- through the forward and backward index alone, since the others don't tell nodes apart by their children. The graph
+-- itself is no index.
 abbrev pub IsExact : Via → Query → Type 0
 IsExact Data q = ⊥
 IsExact (A i) (path e) = HasLongestWithin e (i + 1)

@@ -72,9 +72,9 @@ fn extents(alloc: Global, summary: &Summary, blocks: &Bits) -> Result<Bits, Memo
 /// query, and `whole` is true, they are the answers of the graph. Where `whole` is false, all answers of the graph are
 /// among them, whatever the index.
 ///
-/// It sees no graph. `Memory` comes only where memory runs out. O(m (b + p) + n) for m tokens, b
-/// numbers of blocks and p pairs of blocks with support, and n node numbers, beside the look-ups of the labels; it takes a byte for each
-/// node number, and what `Query::answers` takes over the index graph.
+/// It sees no graph. `Memory` comes only where memory runs out. O(m (b + p) + n) for m tokens, b numbers of blocks and
+/// p pairs of blocks with support, and n node numbers, beside the look-ups of the labels; it takes a byte for each node
+/// number, and what `Query::answers` takes over the index graph.
 pub fn candidates(
     alloc: Global,
     summary: &Summary,

@@ -12,12 +12,13 @@ use px_base::Memory;
 use quotient::Summary;
 use std::alloc::Global;
 
-/// Renumbers the keys of the blocks and drops the others, where keys are many or long. They are many where there are more than one and a
-/// half times as many as blocks, and more than 64 and half the span of the blocks' numbers together. They are long where a key has no
-/// block, and all together have grown, since the last renumbering, by more than half and 64 numbers, and by more than half the span. On
-/// `Memory` they stay as they were. O(1) where nothing is to be done; else expected O(s + l) for a span s and keys of the blocks of l
-/// numbers together. Where keys are many, those that are dropped pay for it: they are more than a sixth of the span, and each came once.
-/// Where they are long, those that came since the last renumbering pay.
+/// Renumbers the keys of the blocks and drops the others, where keys are many or long. They are many where there are
+/// more than one and a half times as many as blocks, and more than 64 and half the span of the blocks' numbers
+/// together. They are long where a key has no block, and all together have grown, since the last renumbering, by more
+/// than half and 64 numbers, and by more than half the span. On `Memory` they stay as they were. O(1) where nothing is
+/// to be done; else expected O(s + l) for a span s and keys of the blocks of l numbers together. Where keys are many,
+/// those that are dropped pay for it: they are more than a sixth of the span, and each came once. Where they are long,
+/// those that came since the last renumbering pay.
 pub(crate) fn compact(
     alloc: Global,
     summary: &Summary,
@@ -65,7 +66,7 @@ fn anew(alloc: Global, summary: &Summary, numbers: &KeyNumbers) -> Result<KeyNum
     Ok(new)
 }
 
-// Without keys, and with room for blocks with numbers below this one.
+// Without keys, and with capacity for blocks with numbers below this one.
 fn empty(alloc: Global, span: u32) -> Result<KeyNumbers, Memory>
     ensures none { IfOk result (λ k. length k.table ≡ 0) }
     ensures span { IfOk result (λ k. span ≤ length k.number_of) }

@@ -27,7 +27,7 @@ use std::marker::Model;
 use std::sync::ledger::Ledger;
 
 /// What is drafted over a base, which is a quotient whose blocks have keys: further blocks with their keys, moves of nodes,
-/// and supports. Reads show the base as it will be once the draft is settled. Each call is given the base; its blocks,
+/// and supports. Reads show the base as it will be once the draft is settled. Each call takes the base; its blocks,
 /// labels and keys must stay while something is drafted.
 ///
 /// It takes memory for each block, with its key, and for each move and pair that is drafted.
@@ -154,8 +154,9 @@ fn note(blocks: &mut Vec<u32>, keys: &mut KeyTable, b: u32, key: &[u32]) -> Resu
 
 // Drafting.
 impl KeyedDraft {
-    /// Drafts a block without members, with a key that no block has as shown, and gives its number, the least that is no block as shown.
-    /// Expected O(l) for a key of l numbers, amortized; it takes the memory of a block and of the key.
+    /// Drafts a block without members, with a key that no block has as shown, and gives its number, the least that is
+    /// no block as shown. Expected O(l) for a key of l numbers, amortized; it takes the memory of a block and of the
+    /// key.
     pub fn new_block(&mut self, base: &KeyedSummary, label: u32, key: &[u32]) -> Result<u32, Memory>
         requires over { IsKeyedOver base.now self.old }
         requires few { count_by is_some (labels_as_shown base.now self.old) < 2 ^ 31 }
@@ -177,8 +178,8 @@ impl KeyedDraft {
         }
     }
 
-    /// Drafts the move of a node, which is below 2^31, to a block as shown, or out of its block. Expected O(1), amortized; it takes the
-    /// memory of one move.
+    /// Drafts the move of a node, which is below 2^31, to a block as shown, or out of its block. Expected O(1),
+    /// amortized; it takes the memory of one move.
     pub fn put(&mut self, base: &KeyedSummary, n: NodeId, b: Option<u32>) -> Result<(), Memory>
         requires over { IsKeyedOver base.now self.old }
         requires small { n < 2 ^ 31 }
@@ -212,8 +213,8 @@ impl KeyedDraft {
         Ok(())
     }
 
-    /// Drafts that one edge fewer leads from `a` to `b`, both blocks as shown, which have support. Expected O(1), amortized; it takes the
-    /// memory of one pair.
+    /// Drafts that one edge fewer leads from `a` to `b`, both blocks as shown, which have support. Expected O(1),
+    /// amortized; it takes the memory of one pair.
     pub fn lower(&mut self, base: &KeyedSummary, a: u32, b: u32) -> Result<(), Memory>
         requires over { IsKeyedOver base.now self.old }
         requires from { IsSome (at (labels_as_shown base.now self.old) a) }
@@ -230,9 +231,10 @@ impl KeyedDraft {
         Ok(())
     }
 
-    /// Drafts the move of a node to a block as shown, with the supports of its edges. Its parents and its children are read once, and its
-    /// children stay in `neighbours`. After `Memory` the draft must be cleared before it is used again. Expected O(p + c) for p parents and c
-    /// children; it takes the memory of one move and of two pairs for each.
+    /// Drafts the move of a node to a block as shown, with the supports of its edges. Its parents and its children are
+    /// read once, and its children stay in `neighbours`. After `Memory` the draft must be cleared before it is used
+    /// again. Expected O(p + c) for p parents and c children; it takes the memory of one move and of two pairs for
+    /// each.
     pub fn move_node<L: Ledger>(
         &mut self,
         base: &KeyedSummary,

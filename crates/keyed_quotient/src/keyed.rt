@@ -54,8 +54,8 @@ impl Model for KeyedSummary {
 }
 
 impl KeyedSummary {
-    /// A quotient whose blocks have these keys: a block has the key with its number. Where memory runs out, both are dropped. O(l) for
-    /// keys of l numbers together; it takes 8 bytes a key.
+    /// A quotient whose blocks have these keys: a block has the key with its number. Where memory runs out, both are
+    /// dropped. O(l) for keys of l numbers together; it takes 8 bytes a key.
     pub fn new(alloc: Global, summary: Summary, keys: KeyTable) -> Result<KeyedSummary, Memory>
         requires { AreKeyed summary.blocks.labels (slice_get keys) }
         ensures quotient { IfOk result (λ s. s.quotient ≡ summary) }

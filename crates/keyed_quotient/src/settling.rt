@@ -14,11 +14,11 @@ use key_table::KeyTable;
 use px_base::Memory;
 
 impl KeyedDraft {
-    /// Reserves the capacity in the base that settling this draft needs. It leaves the base as it is seen. Expected O(d + l) for d entries that
-    /// are drafted, with keys of l numbers together, and linear in a table of the base where that moves; it takes what the drafted entries
-    /// take there. Where many keys have no block, or may be long, it first rebuilds the table of keys without them, in expected O(s + m)
-    /// for a span s of block numbers and keys of the blocks of m numbers together. The keys that came before pay for that: it happens again
-    /// only after new ones.
+    /// Reserves the capacity in the base that settling this draft needs. It leaves the base as it is seen. Expected O(d
+    /// + l) for d entries that are drafted, with keys of l numbers together, and linear in a table of the base where
+    /// that moves; it takes what the drafted entries take there. Where many keys have no block, or may be long, it
+    /// first rebuilds the table of keys without them, in expected O(s + m) for a span s of block numbers and keys of
+    /// the blocks of m numbers together. The keys that came before pay for that: it happens again only after new ones.
     pub fn reserve(&self, base: &mut KeyedSummary) -> Result<(), Memory>
         requires over { IsKeyedOver base.old self.now }
         ensures view { view_of base.new.quotient ≡ view_of base.old.quotient }

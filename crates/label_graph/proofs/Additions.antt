@@ -1,4 +1,4 @@
--- What room and an edge make of a graph.
+-- What a reservation and an edge make of a graph.
 use Rattle.std.proofs.Common.{◌≡◌, ℕ, ◌+◌, ◌<◌, ◌^◌, false, List, [], ◌∷◌, ◌++◌, length, Option, None, Some, refl, sym, ap, ◌∙◌, subst, nat_eq, IsTrue}
 use Rattle.std.specs.Prelude.{IsSome, slice_get, is_some, option_and_then, if◌then◌else◌, Result, Ok, Err, OnErr}
 use Rattle.std.proofs.lemmas.List.{length-map}

@@ -79,7 +79,7 @@ module _ (table : LabelTable) (edges count : ℕ) where
   }
 
   module _ (nodes : List Node) (capacity : ℕ) (r : Reserved) (o : IsSoundGraph table nodes capacity edges count r) where
-    -- an edge has the room
+    -- an edge is what is reserved
     pub sound-pair : (u v : ℕ) → IsLive nodes u → IsLive nodes v → HasReserved nodes u v → IsSoundGraph (record { texts = table.texts; ahead = None }) nodes capacity edges count (Pair u v)
     sound-pair u v from onto reserved = record {
       lists = o.lists;
@@ -91,7 +91,7 @@ module _ (table : LabelTable) (edges count : ℕ) where
     ahead-once t true e = subst (IsDistinct bytes_eq) (sym (append-nil table.texts)) (texts-once table o.labels.once)
     ahead-once t false e = IsDistinct-push bytes_laws table.texts t (texts-once table o.labels.once) e
 
-    -- a label has the room
+    -- a label is what is reserved
     pub sound-label : (t : List ℕ) (more l : ℕ) → length nodes < more → IsNext (with_ahead table t).ahead (length table.texts) l
         → IsSoundGraph (with_ahead table t) nodes more edges count (Label l)
     sound-label t more l h n = record {

@@ -132,7 +132,7 @@ only : (o : Option (List ℕ)) (t : List ℕ) → option_to_list o ≡ t ∷ [] 
 only None t e = cc
 only (Some x) t e = let same : x ≡ t = cc in ap Some same
 
--- which room a graph shows
+-- what a graph shows as reserved
 pub label-effective : (table : LabelTable) (l : ℕ) (t : List ℕ) → reserved_by table (Label l) ≡ label_reserved t → slice_get (entries table) l ≡ Some t
 label-effective table l t e = only (slice_get (entries table) l) t (ap (λ r. r.labels) e)
 

@@ -1,4 +1,4 @@
--- The room of nodes of which one is written anew.
+-- The reserved capacity of nodes of which one is written anew.
 use Rattle.std.proofs.Common.{◌≡◌, ℕ, zero, suc, ◌-◌, ◌<◌, ◌≤◌, List, [], ◌∷◌, length, refl, sym, ap, ◌∙◌, arith, get_or, set, length-set, subst}
 use Rattle.std.specs.Prelude.{IsSome}
 use Rattle.label_graph.specs.Nodes.{Node, child_reserved, parent_reserved, labels_of, number_at, IsLive, SameNodes, HasReserved}
@@ -84,7 +84,7 @@ same-then a b c p q =
 pub child-fits : (nodes : List Node) (u v : ℕ) (a : Node) → u < length nodes → a ≡ get_or nodes u a → HasReserved nodes u v → length a.children.items < a.children.capacity
 child-fits nodes u v a from is r = omega (arith, r.child, child_reserved-at nodes u a from, ap (λ n. n.children.capacity - length n.children.items) is)
 
--- the two writes that make room for an edge, and those that write it, find a node each
+-- the two writes that reserve capacity for an edge, and those that write it, find a node each
 module _ (nodes : List Node) (u v : ℕ) (first second a b : Node) (from : u < length nodes) (to : v < length nodes)
     (is_a : a ≡ get_or nodes u a) (is_b : b ≡ get_or (set nodes u first) v b) where
   within : v < length (set nodes u first)

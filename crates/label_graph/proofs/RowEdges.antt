@@ -1,4 +1,4 @@
--- Rows that get room for an edge, one edge more, or one less: a list of children is written, and then one of parents.
+-- Rows that get capacity for an edge, one edge more, or one less: a list of children is written, and then one of parents.
 use Rattle.std.proofs.Common.{◌≡◌, ℕ, ◌<◌, ◌≤◌, List, [], ◌∷◌, ◌++◌, length, refl, sym, ap, ◌∙◌, subst, arith, get_or, set, length-set, nat_eq}
 use Rattle.std.specs.Prelude.{if◌then◌else◌}
 use Rattle.std.specs.List.{IsDistinct}

@@ -135,7 +135,7 @@ writes-short cells s t h fits = record {
   others = λ u within apart. refl;
 }
 
--- a list apart from the room in which a cell is written
+-- a list apart from the one in which a cell is written
 pub set-apart : (cells : List ℕ) (s u : Segment) (k v : ℕ) → LiesWithin (length cells) u → IsApart s u → 2 ≤ s.reserved → s.first ≤ k → k < s.first + s.reserved → items_in (set cells k v) u ≡ items_in cells u
 set-apart cells s u k v w a long low high = elim (reserved-cases u.reserved) [
   | inl h ↦ short-items (set cells k v) u h ∙ sym (short-items cells u h)
@@ -145,7 +145,7 @@ set-apart cells s u k v w a long low high = elim (reserved-cases u.reserved) [
   ] ∙ sym (long-items cells u h)
 ]
 
--- a cell of the room of a list is written, which then has another length
+-- a cell of a list is written, which then has another length
 pub writes-set : (cells : List ℕ) (s t : Segment) (k v : ℕ) → LiesWithin (length cells) s → 2 ≤ s.reserved → s.first ≤ k → k < s.first + s.reserved
     → t.first ≡ s.first → t.reserved ≡ s.reserved → t.len ≤ s.reserved → Writes cells (set cells k v) s t
 writes-set cells s t k v w long low high at reserved len = record {

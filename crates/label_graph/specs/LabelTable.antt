@@ -4,7 +4,7 @@ use Rattle.std.specs.List.{IsDistinct}
 use Rattle.std.specs.Option.{option_to_list}
 use Rattle.graph_spec.specs.Graphs.{is_seen}
 
--- the labels, each once, and the text for which there is room
+-- the labels, each once, and the text for which capacity is reserved
 pub record LabelTable : Type 0 where
   pub texts : List (List ℕ)
   pub ahead : Option (List ℕ)
@@ -22,7 +22,7 @@ abbrev pub DropsPrevious : ℕ → List (List ℕ) → List (List ℕ) → Type 
 DropsPrevious effective keys left =
     (front : List (List ℕ)) (old new : List ℕ) → keys ≡ front ++ old ∷ new ∷ [] → length front ≡ effective → left ≡ front ++ new ∷ []
 
--- there is room for the text: it is a label, or it lies ahead
+-- capacity is reserved for the text: it is a label, or it lies ahead
 abbrev pub with_ahead : LabelTable → List ℕ → LabelTable
 with_ahead t text = record { texts = t.texts; ahead = if is_seen t.texts text then None else Some text }
 

@@ -17,11 +17,11 @@ pub record Reservation : Type 0 where
 abbrev pub none_reserved : Reservation
 none_reserved = record { labels = []; pairs = [] }
 
--- room for a node with that label
+-- capacity for a node with that label
 abbrev pub label_reserved : List ℕ → Reservation
 label_reserved t = record { labels = t ∷ []; pairs = [] }
 
--- room for an edge from the first node to the second
+-- capacity for an edge from the first node to the second
 abbrev pub pair_reserved : ℕ → ℕ → Reservation
 pair_reserved u v = record { labels = []; pairs = (u, v) ∷ [] }
 

@@ -2,16 +2,16 @@
 use Rattle.std.specs.Prelude.{◌≡◌, ℕ, ◌+◌, ◌<◌, ◌≤◌, ◌⊎◌, List, [], ◌∷◌, ◌++◌, length, take, drop, nat_lt, if◌then◌else◌}
 use Rattle.label_graph.specs.declared.segment.Segment.{Segment}
 
--- the numbers of a list: it lies among the cells, or in the segment itself where there is room for one number alone
+-- the numbers of a list: it lies among the cells, or in the segment itself where its capacity is one
 abbrev pub items_in : List ℕ → Segment → List ℕ
 items_in cells s = if nat_lt s.reserved 2 then take s.len (s.first ∷ []) else take s.len (drop s.first cells)
 
--- a list with its room lies among that many cells
+-- a list with its whole capacity lies among that many cells
 pub record LiesWithin (size : ℕ) (s : Segment) : Type 0 where
   pub fits : s.len ≤ s.reserved
   pub ends : 2 ≤ s.reserved → s.first + s.reserved ≤ size
 
--- no cell is in the room of both
+-- no cell belongs to both
 abbrev pub IsApart : Segment → Segment → Type 0
 IsApart s t = 2 ≤ s.reserved → 2 ≤ t.reserved → (s.first + s.reserved ≤ t.first) ⊎ (t.first + t.reserved ≤ s.first)
 
@@ -25,7 +25,7 @@ pub record Writes (old new : List ℕ) (s t : Segment) : Type 0 where
   pub apart : (u : Segment) → LiesWithin (length old) u → IsApart s u → IsApart t u
   pub others : (u : Segment) → LiesWithin (length old) u → IsApart s u → items_in new u ≡ items_in old u
 
--- the list t lies behind all old cells, with the numbers of s and more room
+-- the list t lies behind all old cells, with the numbers of s and more capacity
 pub record IsMoved (old new : List ℕ) (s t : Segment) : Type 0 where
   pub within : LiesWithin (length new) t
   pub behind : t.first ≡ length old

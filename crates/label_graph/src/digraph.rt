@@ -3,7 +3,7 @@ ghost use Rattle.std.specs.Prelude.{◌≡◌, ◌<◌, ℕ, Bool, Option, Some,
 ghost use Rattle.graph_spec.specs.Members.{Lists};
 
 /// A directed graph whose nodes are numbers and whose labels are numbers of a table. Each read is O(1), no memory: a
-/// list is lent where it lies.
+/// list is borrowed where it lies.
 ///
 /// Each edge of any such graph:
 ///

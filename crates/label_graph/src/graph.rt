@@ -120,7 +120,7 @@ impl Graph {
         self.edge_count
     }
 
-    /// Whether an edge leads from `u` to `v`; numbers that aren't given have none. It is one step. O(min(c, p))
+    /// Whether an edge leads from `u` to `v`; numbers that aren't allocated have none. It is one step. O(min(c, p))
     /// for c children of `u` and p parents of `v`, no memory.
     pub fn has_edge<L: Ledger>(&self, u: NodeId, v: NodeId, steps: &mut Steps<L>) -> bool
         ensures edge { result ≡ has_edge self.now.graph u v }
@@ -154,7 +154,7 @@ impl Graph {
         children
     }
 
-    /// Whether no edge begins or ends at a node; numbers that aren't given have none. It is one step. O(1), no
+    /// Whether no edge begins or ends at a node; numbers that aren't allocated have none. It is one step. O(1), no
     /// memory.
     pub fn is_isolated<L: Ledger>(&self, n: NodeId, steps: &mut Steps<L>) -> bool
         ensures isolated { IsTrue result ↔ (is_used self.now.graph n ≡ false) }
@@ -223,7 +223,7 @@ impl Graph {
     }
 }
 
-// Room for one addition, and the additions.
+// Reserving for one addition, and the additions.
 impl Graph {
     /// A graph with no nodes. O(1); it takes 16 KiB.
     pub fn new(alloc: Global) -> Result<Graph, Memory>
@@ -239,9 +239,9 @@ impl Graph {
         })
     }
 
-    /// Reserves capacity for a node with that label, instead of what was reserved. Where
-    /// memory runs out that reservation stays. Expected O(b) for a label of b bytes, amortized. A node takes 32 bytes, and a
-    /// label that is new its text and its entry in the table.
+    /// Reserves capacity for a node with that label, instead of what was reserved. Where memory runs out that
+    /// reservation stays. Expected O(b) for a label of b bytes, amortized. A node takes 32 bytes, and a label that is
+    /// new its text and its entry in the table.
     pub fn reserve_node(&mut self, alloc: Global, label: &Text) -> Result<(), Memory>
         ensures graph { self.new.graph ≡ self.old.graph }
         ensures ok { OnOk result (self.new.reserved ≡ label_reserved label.now) }
@@ -253,9 +253,9 @@ impl Graph {
         Ok(())
     }
 
-    /// Reserves capacity for an edge between live nodes, instead of what was reserved. Where
-    /// memory runs out that reservation stays. O(1), amortized. An edge takes none to 32 bytes: a node's first child and
-    /// its first parent lie in the node, and each other takes 4 to 16.
+    /// Reserves capacity for an edge between live nodes, instead of what was reserved. Where memory runs out that
+    /// reservation stays. O(1), amortized. An edge takes none to 32 bytes: a node's first child and its first parent
+    /// lie in the node, and each other takes 4 to 16.
     pub fn reserve_edge(&mut self, u: NodeId, v: NodeId) -> Result<(), Memory>
         requires from { IsTrue (is_live self.old.graph u) }
         requires onto { IsTrue (is_live self.old.graph v) }

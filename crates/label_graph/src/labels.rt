@@ -10,7 +10,7 @@ use px_base::{Memory, Recent, Text};
 use std::alloc::Global;
 use std::marker::Model;
 
-/// The labels that were seen, in the order in which they came. A text may lie ahead of them that is no label yet: room
+/// The labels that were seen, in the order in which they came. A text may lie ahead of them that is no label yet: capacity
 /// for one more. Numbers of labels that were used recently are at hand by their texts.
 ///
 /// The text of the label of a graph's node:
@@ -149,7 +149,7 @@ impl Labels {
         self.effective = self.table.len();
     }
 
-    // Puts a text that is no label ahead of the labels, in place of the one that was there.
+    // Puts a text that is no label ahead of the labels, instead of the one that was there.
     fn put_ahead(&mut self, alloc: Global, text: &Text) -> Result<(), Memory>
         requires unseen { is_seen self.old.texts text.now ≡ false }
         ensures ok { OnOk result (self.new ≡ record self.old { ahead = Some text.now }) }

@@ -28,7 +28,7 @@ pub(crate) enum Reserved {
 }
 
 /// The nodes, each with its label and with its neighbours, each once. Lists of neighbours lie in one array, so that no
-/// node takes an allocation of its own. A node takes 32 bytes. A list that never needed room for two takes no more; any
+/// node takes an allocation of its own. A node takes 32 bytes. A list that never had two numbers takes no more; any
 /// other takes 4 to 16 bytes for each of the most neighbours that it ever had, and keeps them when it shrinks. Once its
 /// node is gone, its room goes to a list of the same kind, children or parents, that needs as much. What is noted of such
 /// room takes 256 bytes in all. So the cells depend on how much was in use at once, not on how many nodes there ever were.
@@ -82,7 +82,7 @@ impl Nodes {
         self.cells.len()
     }
 
-    /// The number of a node's label, and none where the node is gone or its number isn't given.
+    /// The number of a node's label, and none where the node is gone or its number isn't allocated.
     pub(crate) fn label(&self, n: NodeId) -> Option<u32>
         ensures { result ≡ number_at (labels_of self.now.nodes) n }
     {
@@ -90,7 +90,7 @@ impl Nodes {
         row.label
     }
 
-    /// The children of a node, and none for a number that isn't given.
+    /// The children of a node, and none for a number that isn't allocated.
     pub(crate) fn children(&self, n: NodeId) -> &[NodeId]
         ensures { result.now ≡ children_of self.now.nodes n }
     {
@@ -100,7 +100,7 @@ impl Nodes {
         }
     }
 
-    /// The parents of a node, and none for a number that isn't given.
+    /// The parents of a node, and none for a number that isn't allocated.
     pub(crate) fn parents(&self, n: NodeId) -> &[NodeId]
         ensures { result.now ≡ parents_of self.now.nodes n }
     {

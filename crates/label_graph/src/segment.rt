@@ -15,8 +15,8 @@ const PIECE: usize = 256;
 /// How many cells there are at most.
 const MOST_CELLS: usize = 0xFFFF_FFFF;
 
-/// A list: how many numbers it has, for how many it has room, and where it begins. `first` is the place of its first cell.
-/// Where there is room for one number alone the list takes no cell, and `first` is that number. So a list takes 12 bytes; as
+/// A list: its length, its capacity, and where it begins. `first` is the place of its first cell.
+/// Where its capacity is one the list takes no cell, and `first` is that number. So a list takes 12 bytes; as
 /// an enum it would take 16.
 #[derive(Clone, Copy)]
 pub(crate) struct Segment {
@@ -33,7 +33,7 @@ pub(crate) fn is_short(segment: &Segment) -> bool
     segment.reserved < 2
 }
 
-/// A list without numbers, and with room for one.
+/// A list without numbers, with capacity for one.
 pub(crate) const EMPTY: Segment = Segment {
     first: 0,
     len: 0,
@@ -70,7 +70,7 @@ pub(crate) fn make_place(cells: &mut Vec<u32>, segment: &mut Segment) -> Result<
     Ok(())
 }
 
-/// How many numbers a list of that room has room for once it is moved: twice as many, and at least four.
+/// The capacity of a list once it is moved: twice as much, and at least four.
 pub(crate) fn more_reserved(reserved: u32) -> usize
     ensures more { reserved < result }
     ensures long { 2 ≤ result }
@@ -98,7 +98,7 @@ fn put_behind(cells: &mut Vec<u32>, segment: Segment) -> Result<(), Memory>
     Ok(())
 }
 
-// Copies a list behind all cells, with more room.
+// Copies a list behind all cells, with more capacity.
 fn moved(cells: &mut Vec<u32>, segment: Segment) -> Result<Segment, Memory>
     requires { LiesWithin (length cells.old.items) segment }
     ensures begins { Begins cells.old.items cells.new.items }
@@ -153,7 +153,7 @@ fn copy_into(cells: &mut Vec<u32>, list: Segment, room: Segment)
     cells.copy_within(from..from + list.len as usize, to);
 }
 
-/// Puts a number behind the others of a list, where there is room.
+/// Puts a number behind the others of a list, where capacity is left.
 #[inline(always)]
 pub(crate) fn push(cells: &mut Vec<u32>, segment: &mut Segment, n: u32)
     requires within { LiesWithin (length cells.old.items) segment.old }

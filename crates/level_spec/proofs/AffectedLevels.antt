@@ -65,8 +65,8 @@ key_kept target s s2 below below2 i n key shape d far off k = record {
     parent_far : (q : ℕ) → IsTrue (s2.edge q n) → IsFalse (within_distance s2 target i q)
     parent_far q e = false_from_ne_true (within_distance s2 target i q) (λ t. both_ways (within_distance s2 target (suc i) n) off (within_step s2 shape target i q n t e))
 
--- Each node is in the block of its key after a change: nodes that aren't affected keep their blocks, which keep their keys, and the others
--- are in the blocks of their keys.
+-- Each node is in the block of its key after a change: nodes that aren't affected keep their blocks, which keep their
+-- keys, and the others are in the blocks of their keys.
 pub keyed_after : (target : ℕ → Bool) (s s2 : Shape) (below below2 block block2 : List (Option ℕ)) (key key2 : ℕ → Option (List ℕ)) (i : ℕ) → IsShape s2
     → DiffersAt target s s2 → SameFar target s2 i below below2 → SameFar target s2 (suc i) block block2 → KeysStay key key2
     → ((n : ℕ) → IsKeyed s below block key n) → ((n : ℕ) → IsTrue (within_distance s2 target (suc i) n) → IsKeyed s2 below2 block2 key2 n)

@@ -40,7 +40,7 @@ counts_unlinked g u v a b block support support2 present counts ends lowered = r
       omega (arith, one, law, shown, base);
 }
 
--- there is room for one edge more
+-- one edge more is allowed
 pub count_few : (g : Graph) (block : List (Option ℕ)) (support : ℕ → ℕ → ℕ) (a b : ℕ) → AreEdgeCounts g block support → set.len g.edges ≤ 2 ^ 30 → support a b < 2 ^ 31
 count_few g block support a b counts few =
     let count = counts.each a b in

@@ -34,8 +34,8 @@ first_number key = option_and_then (λ numbers. slice_get numbers 0) key
 pub record AreLabelled (labels : List (Option ℕ)) (key : ℕ → Option (List ℕ)) : Type 0 where
   pub is : (b l : ℕ) → at labels b ≡ Some l → key b ≡ Some (l ∷ [])
 
--- The level shows a partition of the nodes of the graph, in which blocks have the labels of their members, and supports are the numbers of
--- edges.
+-- The level shows a partition of the nodes of the graph, in which blocks have the labels of their members, and supports
+-- are the numbers of edges.
 pub record IsLevelOf (g : Graph) (block labels : List (Option ℕ)) (support : ℕ → ℕ → ℕ) : Type 0 where
   pub partition : IsPartition (shape_of g) block
   pub named : AreNamed block (at labels) (label_number g)

@@ -234,7 +234,8 @@ node_moved a f d n label before kind next number over w =
 
 -- ---- level by level
 
--- at the levels below i the node is added, nothing is drafted at the others, and the number is that with which the key at level i begins
+-- at the levels below i the node is added, nothing is drafted at the others, and the number is that with which the key
+-- at level i begins
 pub record AreNodesAddedBelow (n label : ℕ) (f : List KeyedQuotient) (d : List KeyedChanges) (i number : ℕ) : Type 0 where
   pub over : AreOver f d
   pub done : (j : ℕ) → j < i → IsNodeAdded n label (own_number f d label n j) (level_at f j) (changes_at d j)

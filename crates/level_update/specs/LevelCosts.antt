@@ -11,7 +11,7 @@ use Rattle.quotient_moves.specs.NeighbourCosts.{parents_cost, children_cost}
 abbrev pub place_cost : Pending → ℕ → ℕ
 place_cost a n = 2 * parents_cost a n + children_cost a n
 
--- The most steps that the nodes near the targets take at all levels up to k: 8 at each level for each of those within k edges, for each of
--- their parents and for each of their children.
+-- The most steps that the affected nodes take at all levels up to k: 8 at each level for each of those within k edges,
+-- for each of their parents and for each of their children.
 abbrev pub most_move_steps : Graph → (ℕ → Bool) → ℕ → ℕ
 most_move_steps g target k = 8 * k * weight (shape_of g) (within_distance (shape_of g) target k)

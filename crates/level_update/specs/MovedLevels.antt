@@ -9,8 +9,9 @@ use Rattle.ak_family.specs.Families.{level_at, blocks_at}
 use Rattle.ak_family.specs.LevelDrafts.{blocks_shown, labels_shown, support_shown, key_shown, AreOver}
 use Rattle.level_spec.specs.Keyed.{IsKeyed, KeysStay, SameFar, AreLabelled, IsLevelOf, LabelsGoUp}
 
--- The draft shows the graph after the change at each level: a partition with the labels of members and the numbers of edges. The keys of blocks
--- begin as they must, blocks of the base keep theirs, and at level i only nodes within i edges of the targets have moved.
+-- The draft shows the graph after the change at each level: a partition with the labels of members and the numbers of
+-- edges. The keys of blocks begin as they must, blocks of the base keep theirs, and at level i only nodes within i
+-- edges of the targets have moved.
 pub record HasMovedAffected (target : ℕ → Bool) (g : Graph) (f : List KeyedQuotient) (d : List KeyedChanges) : Type 0 where
   pub over : AreOver f d
   pub levels : (i : ℕ) → i < length f → IsLevelOf g (blocks_shown f d i) (labels_shown f d i) (support_shown f d i)

@@ -30,7 +30,8 @@ pub record HasMoved (g : Graph) (f : List KeyedQuotient) (d d2 : List KeyedChang
   pub keys : (c : ℕ) → key_shown f d2 i c ≡ key_shown f d i c
   pub supports : AreEdgeCounts g (blocks_shown f d2 i) (support_shown f d2 i)
 
--- At the level above i these nodes are in the blocks of their keys now, and the others stayed. Blocks kept their labels and keys.
+-- At the level above i these nodes are in the blocks of their keys now, and the others stayed. Blocks kept their labels
+-- and keys.
 pub record ArePlaced (g : Graph) (f : List KeyedQuotient) (d d2 : List KeyedChanges) (i : ℕ) (nodes : List ℕ) : Type 0 where
   pub levels : AreTwoLevels g f d2 i
   pub others : AreSameBut (i + 1) d d2

@@ -20,7 +20,7 @@ use px_base::{Memory, NodeId, Steps};
 use std::alloc::Global;
 use std::sync::ledger::Ledger;
 
-// Moves the nodes near the end of an edge that comes or goes, once it is drafted at each level.
+// Moves the nodes that an edge affects as it comes or goes, once it is drafted at each level.
 fn move_affected_end<L: Ledger>(
     alloc: Global,
     family: &AkFamily,
@@ -69,12 +69,13 @@ fn draft_pending<L: Ledger>(
     }
 }
 
-/// Drafts what a change, which `judge` accepts as new, will make of the A(0)- to A(k)-indexes of a graph. The graph is as it was. Once
-/// the draft is settled, each level is that of the graph after the change.
+/// Drafts what a change, which `judge` accepts as new, will make of the A(0)- to A(k)-indexes of a graph. The graph is
+/// as it was. Once the draft is settled, each level is that of the graph after the change.
 ///
-/// It takes at most `8 * k * w` steps, where `w` is one for each node within `k` edges of the target of the change in the graph after it,
-/// one for each of its parents and one for each of its children. Expected O((k + 1) (1 + w log w)), as `move_affected`; it takes the memory of
-/// the affected nodes and of what is drafted. Where memory runs out, the draft must be dropped.
+/// It takes at most `8 * k * w` steps, where `w` is one for each node within `k` edges of the target of the change in
+/// the graph after it, one for each of its parents and one for each of its children. Expected O((k + 1) (1 + w log w)),
+/// as `move_affected`; it takes the memory of the affected nodes and of what is drafted. Where memory runs out, the
+/// draft must be dropped.
 pub fn draft_change<L: Ledger>(
     alloc: Global,
     family: &AkFamily,

@@ -19,9 +19,10 @@ use std::sync::ledger::Ledger;
 /// within `i` edges of the target, each to the block of its key there, which is a further block where no block has the key.
 /// The edges of the change are drafted at each level already, and level 0 is done.
 ///
-/// It takes at most `8 * k * w` steps, where `k` is the highest level, and `w` is one for each node within `k` edges of the target, one
-/// for each of its parents and one for each of its children. Expected O(k (1 + w log w)), since the parents' blocks in a key are sorted;
-/// it takes the memory of the affected nodes and of what is drafted. After `Memory` the draft must be dropped.
+/// It takes at most `8 * k * w` steps, where `k` is the highest level, and `w` is one for each node within `k` edges of
+/// the target, one for each of its parents and one for each of its children. Expected O(k (1 + w log w)), since the
+/// parents' blocks in a key are sorted; it takes the memory of the affected nodes and of what is drafted. After
+/// `Memory` the draft must be dropped.
 pub(crate) fn move_affected<L: Ledger>(
     alloc: Global,
     family: &AkFamily,
@@ -37,7 +38,7 @@ pub(crate) fn move_affected<L: Ledger>(
     ensures lowest { OnOk result (blocks_shown family.now draft.new 0 ≡ blocks_shown family.now draft.old 0) }
     ensures cost { (k : ℕ) → length family.now ≡ k + 1 → steps.new ≤ steps.old + most_move_steps (graph_after after.now) (has (target ∷ [])) k }
 {
-    // Called for its contract: there is a graph, so what is near is among its nodes.
+    // Called for its contract: there is a graph, so what is affected is among its nodes.
     let _known = after.created();
     let k = family.k();
     let found = affected_nodes(alloc, after, &[target], k, steps)?;

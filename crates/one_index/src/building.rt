@@ -25,14 +25,16 @@ impl OneIndex {
     /// The index graph of the classes of full bisimilarity. It is the coarsest stable partition: each other
     /// one lies within its blocks. `Memory` comes only where memory runs out.
     ///
-    /// Expected O(n + m log d) for n node numbers, m edges and at most d parents of a node where the graph has no cycle: one pass in
-    /// which parents come first, and one over the edges. One cycle anywhere loses that pass, and all blocks are found by rounds over
-    /// active nodes: in the first round all, in each later one those of which a parent moved in the round before, except those alone
-    /// in their blocks. A round is expected O(w + p log d + c) for w active nodes, with p parents, and c children of those that move.
-    /// There are at most as many rounds as blocks, so r rounds are O(r (n + m log d)) at most.
+    /// Expected O(n + m log d) for n node numbers, m edges and at most d parents of a node where the graph has no
+    /// cycle: one pass in which parents come first, and one over the edges. One cycle anywhere loses that pass, and all
+    /// blocks are found by rounds over active nodes: in the first round all, in each later one those of which a parent
+    /// moved in the round before, except those alone in their blocks. A round is expected O(w + p log d + c) for w
+    /// active nodes, with p parents, and c children of those that move. There are at most as many rounds as blocks, so
+    /// r rounds are O(r (n + m log d)) at most.
     ///
-    /// It takes O(n + m) memory. On a graph of triples that `tools/make_triples.py` makes in the shape `deep`, the tables by which blocks
-    /// are found take about 28 bytes for each node and edge; the index graph, which is made when they are gone, takes more.
+    /// It takes O(n + m) memory. On a graph of triples that `tools/make_triples.py` makes in the shape `deep`, the
+    /// tables by which blocks are found take about 28 bytes for each node and edge; the index graph, which is made when
+    /// they are gone, takes more.
     pub fn build(alloc: Global, view: &GraphView<'_>) -> Result<Summary, Memory>
         ensures fits { IfOk result (λ s. FitsOne view.now (view_of s)) }
         ensures whole { IfOk result (λ s. Agrees (shape_of view.now) s.blocks.block_of (Bisim (shape_of view.now))) }

@@ -93,7 +93,7 @@ fn empty(alloc: Global, draft: &mut Draft)
     renew(alloc, draft);
 }
 
-// Puts a new draft in place of an empty one.
+// Replaces an empty draft by a new one.
 fn renew(alloc: Global, draft: &mut Draft)
     requires empty { draft.old ≡ no_changes }
     ensures { draft.new ≡ no_changes }

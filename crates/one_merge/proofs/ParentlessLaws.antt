@@ -21,8 +21,8 @@ use Rattle.one_merge.proofs.Counted.{member_counted}
 zero_by : (n : ℕ) → nat_lt 0 n ≡ false → n ≡ 0
 zero_by n h = grind (arith, h)
 
--- The tables of a base and what a draft shows of them, and a list: the children of a are in it where a is one of them, the blocks that are noted for a label, and
--- all blocks whose labels or parents aren't those of the base.
+-- The tables of a base and what a draft shows of them, and a list: the children of a are in it where a is one of them,
+-- the blocks that are noted for a label, and all blocks whose labels or parents aren't those of the base.
 pub record AreCandidates (labels base_labels : ℕ → Option ℕ) (support base_support : ℕ → ℕ → ℕ) (parentless : ParentlessLists) (a label : ℕ) (list : List ℕ) : Type 0 where
   pub children : IsTrue (nat_lt 0 (support a a)) → (b : ℕ) → IsTrue (nat_lt 0 (support a b)) → IsTrue (has list b)
   pub noted : (b : ℕ) → IsNoted parentless label b → IsTrue (has list b)

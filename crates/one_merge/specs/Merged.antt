@@ -19,8 +19,8 @@ with_column a b support x y = if nat_eq y b then 0 else (if nat_eq y a then supp
 abbrev pub with_row : ℕ → ℕ → (ℕ → ℕ → ℕ) → ℕ → ℕ → ℕ
 with_row a b support x y = if nat_eq x b then 0 else (if nat_eq x a then support a y + support b y else support x y)
 
--- for each neighbour on this side that passes, the support of b goes over to a: it is added there, and none is left at b; all other
--- supports stay
+-- for each neighbour on this side that passes, the support of b goes over to a: it is added there, and none is left at
+-- b; all other supports stay
 abbrev pub AddsSupports : Side → (ℕ → Bool) → ℕ → ℕ → (ℕ → ℕ → ℕ) → (ℕ → ℕ → ℕ) → Type 0
 AddsSupports side passes a b support support2 = (m c : ℕ)
     → support_by side support2 m c ≡ (if passes m then with_column a b (support_by side support) m c else support_by side support m c)

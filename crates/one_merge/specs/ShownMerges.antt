@@ -15,16 +15,17 @@ use Rattle.one_merge.specs.MergeTests.{shown_adjacent}
 abbrev pub AreShownMergeCandidates : Shape → Quotient → Drafted → (ℕ → Type 0) → Type 0
 AreShownMergeCandidates s q d among = AreMergeCandidates s (shown_blocks q d) among
 
--- whatever the graph: where of each two blocks that can be merged one was a suspect, one is now of this pair, or is still a suspect
+-- whatever the graph: where of each two blocks that can be merged one was a candidate, one is now of this pair, or is
+-- still a candidate
 abbrev pub StayMergeCandidates : Quotient → Drafted → List ℕ → ℕ × ℕ → List ℕ → Type 0
 StayMergeCandidates q d merge_candidates pair merge_candidates2 = (s : Shape) → IsShown s q d → AreShownMergeCandidates s q d (λ b. IsTrue (has merge_candidates b))
     → AreShownMergeCandidates s q d (λ b. ((b ≡ pair.0) ⊎ (b ≡ pair.1)) ⊎ IsTrue (has merge_candidates2 b))
 
--- whatever the graph: where of each two blocks that can be merged one was a suspect, no two can be
+-- whatever the graph: where of each two blocks that can be merged one was a candidate, no two can be
 abbrev pub AreUnmergeable : Quotient → Drafted → List ℕ → Type 0
 AreUnmergeable q d merge_candidates = (s : Shape) → IsShown s q d → AreShownMergeCandidates s q d (λ b. IsTrue (has merge_candidates b)) → AreShownMergeCandidates s q d (λ b. ⊥)
 
--- whatever the graph: where of each two blocks that can be merged one is a suspect, pairs were merged until no two could be
+-- whatever the graph: where of each two blocks that can be merged one is a candidate, pairs were merged until no two could be
 abbrev pub MergesToEnd : Quotient → Drafted → Drafted → List ℕ → Type 0
 MergesToEnd q d d2 merge_candidates =
     (s : Shape) → IsShown s q d → AreShownMergeCandidates s q d (λ b. IsTrue (has merge_candidates b)) → IsDone s (shown_blocks q d) (shown_blocks q d2)

@@ -87,8 +87,8 @@ fn has_unshared_parent(base: &Summary, draft: &Draft, a: u32, b: u32) -> bool
     any_unshared(parents, a, b, own, drafted)
 }
 
-// Whether two blocks, of which the first has members and this label, differ and can be merged. Most blocks have another label or
-// another parent, so these are tested first.
+// Whether two blocks, of which the first has members and this label, differ and can be merged. Most blocks have another
+// label or another parent, so these are tested first.
 fn is_mergeable(
     base: &Summary,
     draft: &Draft,
@@ -137,7 +137,7 @@ fn is_no_larger(base: &Summary, draft: &Draft, found: Option<u32>, x: u32) -> bo
     }
 }
 
-// What was found, or x in place of it where x is another parent of a and has fewer children.
+// What was found, or x instead of it where x is another parent of a and has fewer children.
 fn fewer_children(base: &Summary, draft: &Draft, a: u32, found: Option<u32>, x: u32) -> Option<u32>
     ensures one { (result ≡ found) ⊎ ((result ≡ Some x) × ((x ≢ a) × IsTrue (shown_adjacent base.now draft.now x a))) }
     ensures none { result ≡ None → (found ≡ None) × (IsTrue (shown_adjacent base.now draft.now x a) → x ≡ a) }

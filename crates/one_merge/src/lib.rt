@@ -1,4 +1,5 @@
-//! Merging blocks of a drafted 1-index: whether two can be merged, by labels and supports alone, their merge, and merging until no two can be.
+//! Merging blocks of a drafted 1-index: whether two can be merged, by labels and supports alone, their merge, and
+//! merging until no two can be.
 #![tactic(auto)]
 
 mod finding;

@@ -53,8 +53,9 @@ fn push_candidates(
     Ok(())
 }
 
-// Merges pairs until no two blocks can be merged. Each merge leaves one block fewer with members. After it only the merged block, and
-// those that were children of the smaller of the two, may be merged with blocks with which they couldn't be before.
+// Merges pairs until no two blocks can be merged. Each merge leaves one block fewer with members. After it only the
+// merged block, and those that were children of the smaller of the two, may be merged with blocks with which they
+// couldn't be before.
 fn merge_pairs(
     base: &Summary,
     draft: &mut Draft,
@@ -88,15 +89,15 @@ fn merge_pairs(
 /// numbers of no block, and blocks without members. The supports must be those of a graph with at most 2^30 edges, and
 /// blocks with members have labels. Where memory runs out, the draft may hold a part of this.
 ///
-/// Of two blocks that are merged the one with fewer members and children is moved, and each block next to it is written once. A
-/// candidate is compared with another parent of it and that parent's children: a parent with few children is taken, or else the one
-/// with the fewest. Where it has no other parent than itself, it is compared with the blocks noted for its label, with those that
-/// the draft touches, and with its children where it is a parent of itself.
+/// Of two blocks that are merged the one with fewer members and children is moved, and each block next to it is written
+/// once. A candidate is compared with another parent of it and that parent's children: a parent with few children is
+/// taken, or else the one with the fewest. Where it has no other parent than itself, it is compared with the blocks
+/// noted for its label, with those that the draft touches, and with its children where it is a parent of itself.
 ///
-/// Expected O(u k p log p) for u blocks that are examined, which are the merge candidates, and after each merge the merged block and the
-/// children of the smaller one, each with at most p parents and compared with at most k blocks; and what `merge_pair` takes for each
-/// merge. Most comparisons end at another label or at the first parent that differs. It takes the memory of `merge_pair`, and O(u + k +
-/// p).
+/// Expected O(u k p log p) for u blocks that are examined, which are the merge candidates, and after each merge the
+/// merged block and the children of the smaller one, each with at most p parents and compared with at most k blocks;
+/// and what `merge_pair` takes for each merge. Most comparisons end at another label or at the first parent that
+/// differs. It takes the memory of `merge_pair`, and O(u + k + p).
 pub fn merge(
     alloc: Global,
     base: &Summary,

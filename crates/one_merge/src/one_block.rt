@@ -16,7 +16,8 @@ use quotient_draft::Draft;
 /// each block next to `b` written once; so `b` should be the smaller of the two. `list` is memory to be reused. Where
 /// memory runs out, the draft may hold a part of this.
 ///
-/// Expected O(s log s) for s members, parents and children of `b` in the base and as drafted; it takes O(s) memory, by which the draft grows.
+/// Expected O(s log s) for s members, parents and children of `b` in the base and as drafted; it takes O(s) memory, by
+/// which the draft grows.
 pub(crate) fn merge_pair(
     base: &Summary,
     draft: &mut Draft,

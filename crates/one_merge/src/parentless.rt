@@ -37,8 +37,8 @@ impl Model for ParentlessBlocks {
 }
 
 impl ParentlessBlocks {
-    /// The parentless blocks of a base. Expected O(b) for b blocks, where no two can be merged: then a label has two of them at most,
-    /// one of which is its own parent. It takes O(l) memory for l labels with such blocks.
+    /// The parentless blocks of a base. Expected O(b) for b blocks, where no two can be merged: then a label has two of
+    /// them at most, one of which is its own parent. It takes O(l) memory for l labels with such blocks.
     pub fn of(alloc: Global, base: &Summary) -> Result<ParentlessBlocks, Memory>
         ensures covers { IfOk result (CoversBase base.now) }
     {
@@ -66,9 +66,10 @@ impl ParentlessBlocks {
         Ok(())
     }
 
-    /// Notes the parentless blocks that a draft brings, so that all parentless blocks of the base once it is settled are noted. Expected O(t + p + r) for t blocks
-    /// that the draft touches, with p parents in the base and as drafted, and r blocks that are noted for a label of such a block. It takes
-    /// 4 to 8 bytes for each touched block, and as much for each that is noted.
+    /// Notes the parentless blocks that a draft brings, so that all parentless blocks of the base once it is settled
+    /// are noted. Expected O(t + p + r) for t blocks that the draft touches, with p parents in the base and as drafted,
+    /// and r blocks that are noted for a label of such a block. It takes 4 to 8 bytes for each touched block, and as
+    /// much for each that is noted.
     pub fn note_touched(
         &mut self,
         alloc: Global,

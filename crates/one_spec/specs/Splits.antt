@@ -11,8 +11,8 @@ use Rattle.one_spec.specs.SplitRoundSteps.{IsRefinement, SameBut}
 pub record IsClosed (s : Shape) (inside : ℕ → Bool) : Type 0 where
   pub children : (p n : ℕ) → IsTrue (inside p) → IsParent s p n → IsTrue (inside n)
 
--- After some rounds: the partition is stable except perhaps at the nodes that are examined next, lies within the first one, and is
--- the same outside; the blocks that were made have members, all of them inside.
+-- After some rounds: the partition is stable except perhaps at the nodes that are examined next, lies within the first
+-- one, and is the same outside; the blocks that were made have members, all of them inside.
 pub record IsSplitInside (s : Shape) (inside : ℕ → Bool) (first p : List (Option ℕ)) (next made : List ℕ) : Type 0 where
   pub stable : StableBut s p (has next)
   pub within : IsRefinement first p

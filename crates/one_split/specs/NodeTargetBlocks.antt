@@ -17,8 +17,9 @@ target_block_at target_blocks k = slice_index_or target_blocks k None
 abbrev pub IsCountedWhole : List (Option ℕ) → List (ℕ × ℕ) → ℕ → Type 0
 IsCountedWhole p counts own = count_at counts own ≡ count_by (is_this own) p
 
--- The groups with numbers below the length of the target blocks: one stays where all members of its block are counted, and no other
--- group of that block stays; any other goes to a block that had no members, and leaves a group behind, or a node that isn't counted.
+-- The groups with numbers below the length of the target blocks: one stays where all members of its block are counted,
+-- and no other group of that block stays; any other goes to a block that had no members, and leaves a group behind, or
+-- a node that isn't counted.
 pub record AreGroupTargetBlocks (p : List (Option ℕ)) (counts : List (ℕ × ℕ)) (keys : List (List ℕ)) (target_blocks : List (Option ℕ)) : Type 0 where
   pub whole : (k own : ℕ) → k < length target_blocks → target_block_at target_blocks k ≡ None → BeginsAt keys k own → IsCountedWhole p counts own
   pub one : (j k own : ℕ) → j < length target_blocks → k < length target_blocks → target_block_at target_blocks j ≡ None → target_block_at target_blocks k ≡ None → BeginsAt keys j own → BeginsAt keys k own → j ≡ k

@@ -21,7 +21,7 @@ pub record HaveNumbers (p : List (Option ℕ)) (neighbour_of : ℕ → ℕ → B
 abbrev pub leads_after : Pending → ℕ → ℕ → Bool
 leads_after a = has_edge (graph_after a)
 
--- the number is that of the node's key, by its block and those of its parents after the change; the key is put behind the others
--- where it was absent
+-- the number is that of the node's key, by its block and those of its parents after the change; the key is put behind
+-- the others where it was absent
 abbrev pub InternsParentKey : List (Option ℕ) → Pending → ℕ → List (List ℕ) → List (List ℕ) → ℕ → Type 0
 InternsParentKey p a n keys keys2 k = (key : List ℕ) × IsKey (at p) p (leads_after a) n key × Interns keys keys2 key k

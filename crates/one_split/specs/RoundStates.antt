@@ -14,8 +14,8 @@ use Rattle.quotient_draft.specs.Basis.{IsOver}
 use Rattle.quotient_draft.specs.Drafts.{Drafted, shown_blocks, shown_labels, shown_support}
 use Rattle.one_split.specs.NodeTargetBlocks.{AreBlocks, MembersHaveLabels, GoesIf, TargetBlocksHaveLabels, HaveGone, ListsChildrenOf, LabelsStay}
 
--- The draft shows a partition of the graph after the change, with labels and the numbers of edges; the nodes are there, each once; and what was
--- made are blocks.
+-- The draft shows a partition of the graph after the change, with labels and the numbers of edges; the nodes are there,
+-- each once; and what was made are blocks.
 pub record CanRound (a : Pending) (base : Quotient) (d : Drafted) (nodes made : List ℕ) : Type 0 where
   pub over : IsOver base.blocks.block_of base.blocks.labels d
   pub live : MembersHaveLabels (shown_blocks base d) (at (shown_labels base d))
@@ -26,8 +26,8 @@ pub record CanRound (a : Pending) (base : Quotient) (d : Drafted) (nodes made : 
   pub blocks : AreBlocks (at (shown_labels base d)) made
   pub supports : AreEdgeCounts (graph_after a) (shown_blocks base d) (shown_support base d)
 
--- The nodes are parted, and by that the next nodes may have come apart from others: what held of the nodes and of the blocks made before
--- holds of the next nodes and of the blocks made by then. Where no block was made, no node is next.
+-- The nodes are parted, and by that the next nodes may have come apart from others: what held of the nodes and of the
+-- blocks made before holds of the next nodes and of the blocks made by then. Where no block was made, no node is next.
 pub record IsRound (a : Pending) (base : Quotient) (d d2 : Drafted) (nodes made made2 next : List ℕ) : Type 0 where
   pub over : IsOver base.blocks.block_of base.blocks.labels d2
   pub split : (inside : ℕ → Bool) (first : List (Option ℕ)) → IsClosed (shape_of (graph_after a)) inside

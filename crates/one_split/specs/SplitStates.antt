@@ -16,8 +16,8 @@ use Rattle.quotient.specs.Quotients.{Quotient}
 use Rattle.quotient_draft.specs.Basis.{IsOver}
 use Rattle.quotient_draft.specs.Drafts.{Drafted, shown_blocks, shown_labels, shown_support}
 
--- The draft shows a partition of the graph after the change, with the numbers of edges; it is stable, and blocks have the labels of their members,
--- except perhaps at the targets. Each target is given once, and no block was made.
+-- The draft shows a partition of the graph after the change, with the numbers of edges; it is stable, and blocks have
+-- the labels of their members, except perhaps at the targets. Each target is given once, and no block was made.
 pub record CanSplit (a : Pending) (base : Quotient) (d : Drafted) (targets made : List ℕ) : Type 0 where
   pub over : IsOver base.blocks.block_of base.blocks.labels d
   pub once : IsDistinct nat_eq targets
@@ -30,8 +30,8 @@ pub record CanSplit (a : Pending) (base : Quotient) (d : Drafted) (targets made 
 abbrev pub either : (ℕ → Bool) → (ℕ → Bool) → ℕ → Bool
 either f g n = f n || g n
 
--- After some targets: the partition is stable except perhaps at the targets that are left and the nodes that are examined next, and
--- for the rest as for `IsSplitInside`.
+-- After some targets: the partition is stable except perhaps at the targets that are left and the nodes that are
+-- examined next, and for the rest as for `IsSplitInside`.
 pub record IsSplitBut (s : Shape) (inside : ℕ → Bool) (first p : List (Option ℕ)) (next : List ℕ) (rest : ℕ → Bool) (made : List ℕ) : Type 0 where
   pub stable : StableBut s p (either (has next) rest)
   pub within : IsRefinement first p
@@ -57,16 +57,16 @@ pub record IsFirst (rest rest2 : ℕ → Bool) (t : ℕ) : Type 0 where
 abbrev pub HaveLiveBlocks : List ℕ → Quotient → Drafted → Type 0
 HaveLiveBlocks targets base d = (n b : ℕ) → IsTrue (has targets n) → at (shown_blocks base d) n ≡ Some b → IsSome (at (shown_labels base d) b)
 
--- Whatever closed set has the target: where the partition was stable except perhaps at some targets, of which this one is the first, it is
--- so except perhaps at the others and at the nodes that are examined next.
+-- Whatever closed set has the target: where the partition was stable except perhaps at some targets, of which this one
+-- is the first, it is so except perhaps at the others and at the nodes that are examined next.
 abbrev pub Parts : Pending → ℕ → Quotient → Drafted → Drafted → List ℕ → List ℕ → List ℕ → List ℕ → Type 0
 Parts a target base d d2 next next2 made made2 = (inside : ℕ → Bool) (first : List (Option ℕ)) (rest rest2 : ℕ → Bool)
     → IsClosed (shape_of (graph_after a)) inside → IsTrue (inside target) → IsFirst rest rest2 target
     → IsSplitBut (shape_of (graph_after a)) inside first (shown_blocks base d) next rest made
     → IsSplitBut (shape_of (graph_after a)) inside first (shown_blocks base d2) next2 rest2 made2
 
--- where blocks had the labels of their members except perhaps at some targets, of which this one is the first, they have them except
--- perhaps at the others
+-- where blocks had the labels of their members except perhaps at some targets, of which this one is the first, they
+-- have them except perhaps at the others
 abbrev pub NamesTarget : Pending → ℕ → Quotient → Drafted → Drafted → Type 0
 NamesTarget a target base d d2 = (rest rest2 : ℕ → Bool) → IsFirst rest rest2 target
     → AreNamedOff rest (shown_blocks base d) (at (shown_labels base d)) (label_number (graph_after a))
@@ -78,8 +78,8 @@ SplitsInside a targets base d d2 next made =
     (inside : ℕ → Bool) → IsClosed (shape_of (graph_after a)) inside → ((n : ℕ) → IsTrue (has targets n) → IsTrue (inside n))
     → IsSplitInside (shape_of (graph_after a)) inside (shown_blocks base d) (shown_blocks base d2) next made
 
--- whatever set is closed under children and has the targets: the steps are at most four times its numbers and one, times what there
--- is to read at them
+-- whatever set is closed under children and has the targets: the steps are at most four times its numbers and one,
+-- times what there is to read at them
 abbrev pub CostsInside : Pending → List ℕ → ℕ → ℕ → Type 0
 CostsInside a targets steps steps2 =
     (inside : ℕ → Bool) → IsClosed (shape_of (graph_after a)) inside → ((n : ℕ) → IsTrue (has targets n) → IsTrue (inside n))

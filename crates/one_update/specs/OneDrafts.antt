@@ -23,8 +23,8 @@ use Rattle.quotient_draft.specs.Basis.{IsOver}
 use Rattle.one_spec.specs.Named.{AreNamed, AreNamedOff}
 use Rattle.one_spec.specs.EdgeCounts.{AreEdgeCounts}
 
--- The draft shows the graph after the change, with nodes in the blocks in which they were: a new node has some block. The partition
--- may be unstable at the target.
+-- The draft shows the graph after the change, with nodes in the blocks in which they were: a new node has some block.
+-- The partition may be unstable at the target.
 pub record ShowsChange (g : Graph) (c : Change) (q : Quotient) (d : Drafted) : Type 0 where
   pub over : IsOver q.blocks.block_of q.blocks.labels d
   pub partition : IsPartition (shape_of (after c g)) (shown_blocks q d)
@@ -77,8 +77,8 @@ pub record IsOnlyTarget (g : Graph) (c : Change) (t : ℕ) : Type 0 where
   pub is : (n : ℕ) → has (t ∷ []) n ≡ target c g n
   pub allocated : t < length (after c g).allocated
 
--- The partition shown came by splitting that of the base: this one was stable and no two of its blocks could be merged, and nodes of
--- both graphs that the change doesn't reach are together as in it.
+-- The partition shown came by splitting that of the base: this one was stable and no two of its blocks could be merged,
+-- and nodes of both graphs that the change doesn't reach are together as in it.
 pub record IsSplitOf (g : Graph) (c : Change) (block shown : List (Option ℕ)) : Type 0 where
   pub stable : Stable (shape_of g) block
   pub minimal : Minimal (shape_of g) block

@@ -139,11 +139,12 @@ fn draft_pending<L: Ledger>(
 /// after the change. The blocks of the base to which no other has support are among the parentless blocks.
 ///
 /// It takes at most `8 * (r + 1) * w` steps, where the change reaches `r` nodes, and `w` is one for each of them, one
-/// for each of its parents and one for each of its children. It takes no step for an edge between blocks that have support. Where memory
-/// runs out, the draft must be cleared before it is used again.
+/// for each of its parents and one for each of its children. It takes no step for an edge between blocks that have
+/// support. Where memory runs out, the draft must be cleared before it is used again.
 ///
-/// Expected O((r + 1) w log w) to split, and then what `one_merge::merge` takes from the blocks that were made; expected O(1) for an
-/// edge between blocks that have support. It takes the memory of the draft: O(w), and what is merged.
+/// Expected O((r + 1) w log w) to split, and then what `one_merge::merge` takes from the blocks that were made;
+/// expected O(1) for an edge between blocks that have support. It takes the memory of the draft: O(w), and what is
+/// merged.
 pub fn draft_change<L: Ledger>(
     alloc: Global,
     base: &Summary,

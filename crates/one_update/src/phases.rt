@@ -18,14 +18,14 @@ use quotient_draft::Draft;
 use std::alloc::Global;
 use std::sync::ledger::Ledger;
 
-/// Splits blocks in the draft until the partition shown is stable on the graph after the change, where before it was stable except perhaps
-/// at the target. The target's block may have another label than the target. Each block that is shown then lies within one that was shown
-/// before. Only what the target reaches is read and moved. Where the base was stable and no two of its blocks could be merged, and the
-/// nodes were in its blocks, it leaves what `merge` requires.
+/// Splits blocks in the draft until the partition shown is stable on the graph after the change, where before it was
+/// stable except perhaps at the target. The target's block may have another label than the target. Each block that is
+/// shown then lies within one that was shown before. Only what the target reaches is read and moved. Where the base was
+/// stable and no two of its blocks could be merged, and the nodes were in its blocks, it leaves what `merge` requires.
 ///
-/// It takes at most `4 * (r + 1) * w` steps, where the target reaches `r` nodes, and `w` is one for each of them, one for each of its
-/// parents and one for each of its children. After `Memory`, which also comes past 2^31 blocks, the draft must be cleared before it
-/// is used again.
+/// It takes at most `4 * (r + 1) * w` steps, where the target reaches `r` nodes, and `w` is one for each of them, one
+/// for each of its parents and one for each of its children. After `Memory`, which also comes past 2^31 blocks, the
+/// draft must be cleared before it is used again.
 ///
 /// Expected O((r + 1) w log w) at most; it takes O(w) memory.
 pub fn split<L: Ledger>(
@@ -67,13 +67,14 @@ fn add_blocks(
     Ok(())
 }
 
-/// Merges blocks in the draft until no two can be merged, where the partition shown is stable on the graph after the change and
-/// came by splitting that of the base, no two blocks of which could be merged. The graph is read only to find what the target
-/// reaches: of each two blocks that can be merged one has no other members. The rest is done by the tables of blocks, which are looked
-/// through once for the blocks to which no other has support.
+/// Merges blocks in the draft until no two can be merged, where the partition shown is stable on the graph after the
+/// change and came by splitting that of the base, no two blocks of which could be merged. The graph is read only to
+/// find what the target reaches: of each two blocks that can be merged one has no other members. The rest is done by
+/// the tables of blocks, which are looked through once for the blocks to which no other has support.
 ///
-/// It takes at most `3 * (r + 1) * w` steps, where the target reaches `r` nodes, and `w` is one for each of them, one for each of its
-/// parents and one for each of its children. After `Memory` the draft must be cleared before it is used again.
+/// It takes at most `3 * (r + 1) * w` steps, where the target reaches `r` nodes, and `w` is one for each of them, one
+/// for each of its parents and one for each of its children. After `Memory` the draft must be cleared before it is used
+/// again.
 ///
 /// Expected O(w + b) to find the blocks, with b blocks, and then what `one_merge::merge` takes from these on. It takes O(w)
 /// memory, and what is merged.

@@ -1,4 +1,5 @@
-// Two chains that are alike, until an edge leads to the second from a single node, with a third chain behind that node and without.
+// Two chains that are alike, until an edge leads to the second from a single node, with a third chain behind that node
+// and without.
 ghost use Rattle.std.specs.Prelude.{◌≡◌, ◌<◌};
 ghost use Rattle.graph_spec.specs.Changes.{link};
 ghost use Rattle.bisim_spec.specs.Fits.{FitsOne};

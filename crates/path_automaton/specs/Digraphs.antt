@@ -1,4 +1,5 @@
--- Graphs as contracts see them through `Digraph`. Where a test is named, the nodes that it keeps and the edges between these are seen alone.
+-- Graphs as contracts see them through `Digraph`. Where a test is named, the nodes that it keeps and the edges between
+-- these are seen alone.
 use Rattle.std.specs.Prelude.{ℕ, ◌<◌, Bool, List, length, Option, IsTrue}
 use Rattle.graph_spec.specs.Members.{has}
 use Rattle.graph_spec.specs.Shapes.{Shape, shape_by}

@@ -41,8 +41,8 @@ impl Program {
         Ok(Program { states })
     }
 
-    /// Adds a state behind the others, and gives its number. `Memory` comes where memory runs out, or where there are 2^32 states. O(1),
-    /// amortized; it takes memory for one state.
+    /// Adds a state behind the others, and gives its number. `Memory` comes where memory runs out, or where there are
+    /// 2^32 states. O(1), amortized; it takes memory for one state.
     pub fn push(&mut self, state: State) -> Result<u32, Memory>
         requires { LeadsInside (length self.old + 1) state }
         ensures number { IfOk result (λ k. k ≡ length self.old) }

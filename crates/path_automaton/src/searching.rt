@@ -216,10 +216,11 @@ fn search_in<G: Digraph, S: Scope>(
     Ok(answers)
 }
 
-/// The nodes at which a word can end that is read from the state `start` on after one of the places, where the graph's size is the place
-/// before all nodes: a set of numbers below that size. `Memory` comes only where memory runs out. O(m (n + e)) for m states, n node
-/// numbers and e edges; it takes a bit for each state that is entered and each number, 4 bytes for each place at which a state is listed and
-/// 16 for each run of such places, a few bytes for each number, and O(m) for the heads of rows.
+/// The nodes at which a word can end that is read from the state `start` on after one of the places, where the graph's
+/// size is the place before all nodes: a set of numbers below that size. `Memory` comes only where memory runs out. O(m
+/// (n + e)) for m states, n node numbers and e edges; it takes a bit for each state that is entered and each number, 4
+/// bytes for each place at which a state is listed and 16 for each run of such places, a few bytes for each number, and
+/// O(m) for the heads of rows.
 pub fn search<G: Digraph>(
     alloc: Global,
     g: &G,
@@ -235,9 +236,9 @@ pub fn search<G: Digraph>(
     search_in(alloc, g, &Everywhere, program, start, places)
 }
 
-/// The same where only members of the set are entered, as if the graph had no other nodes. O(m (n + e + s)) for m states, n members, e
-/// edges from them, and the greater s of the graph's size and the set's. The set is passed over once for each state that is entered
-/// before all nodes, and no other number is read. It takes memory as `search` does.
+/// The same where only members of the set are entered, as if the graph had no other nodes. O(m (n + e + s)) for m
+/// states, n members, e edges from them, and the greater s of the graph's size and the set's. The set is passed over
+/// once for each state that is entered before all nodes, and no other number is read. It takes memory as `search` does.
 pub fn search_within<G: Digraph>(
     alloc: Global,
     g: &G,

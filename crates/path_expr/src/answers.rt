@@ -12,9 +12,9 @@ use path_automaton::{Program, search, search_within};
 use px_base::{Bits, Memory};
 use std::alloc::Global;
 
-/// The nodes in which a walk ends whose labels, in order, match the expression: a set of numbers below
-/// the graph's size. `Memory` comes only where memory runs out. O(m (n + e)) for m tokens, n node numbers and e
-/// edges, and each label is looked up at most once for each place where it stands, in expected O(1) for each of its bytes; it takes
+/// The nodes in which a walk ends whose labels, in order, match the expression: a set of numbers below the graph's
+/// size. `Memory` comes only where memory runs out. O(m (n + e)) for m tokens, n node numbers and e edges, and each
+/// label is looked up at most once for each place where it stands, in expected O(1) for each of its bytes; it takes
 /// memory as `path_automaton::search` does, and O(m) for the automaton.
 pub fn eval<G: Digraph>(alloc: Global, g: &G, labels: &Labels, expr: &Expr) -> Result<Bits, Memory>
     requires labelled { (n l : ℕ) → G.label_at g.now n ≡ Some l → l < length labels.now.texts }
@@ -29,9 +29,10 @@ pub fn eval<G: Digraph>(alloc: Global, g: &G, labels: &Labels, expr: &Expr) -> R
     search(alloc, g, &program, start, &places)
 }
 
-/// The answers over the part of the graph that has only the members of a set and the edges between them: a set of numbers below the
-/// graph's size. `Memory` comes only where memory runs out. O(m (n + e + s)) for m tokens, n members, e edges from them, and the
-/// greater s of the graph's size and the set's, beside the look-ups of the labels; it takes memory as `eval` does.
+/// The answers over the part of the graph that has only the members of a set and the edges between them: a set of
+/// numbers below the graph's size. `Memory` comes only where memory runs out. O(m (n + e + s)) for m tokens, n members,
+/// e edges from them, and the greater s of the graph's size and the set's, beside the look-ups of the labels; it takes
+/// memory as `eval` does.
 pub fn eval_within<G: Digraph>(
     alloc: Global,
     g: &G,

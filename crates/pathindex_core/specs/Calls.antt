@@ -48,7 +48,8 @@ pub record IsAsked (e f : EngineSeen) : Type 0 where
   -- which indexes are kept, and the blocks of the 1-index, stay
   pub kept : kept_in f ≡ kept_in e
 
--- What a call of `extents` answers, computes and reads. The last two numbers count what was read of the graph, before and after.
+-- What a call of `extents` answers, computes and reads. The last two numbers count what was read of the graph, before
+-- and after.
 pub record IsListed (e f : EngineSeen) (via : Via) (result : Result (List ℕ) AskError) (before after : ℕ) : Type 0 where
   -- the text is the list of the blocks, each with its nodes
   pub text : IfOk result (ListsIndex (graph_in e.opened) (kept_in e) via)

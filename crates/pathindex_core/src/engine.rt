@@ -29,8 +29,9 @@ use std::alloc::Global;
 use std::marker::{Brand, Model};
 use std::sync::ledger::{Blank, Ledger};
 
-/// A graph, and the indexes that are kept of it: at most one of each kind, each in a box, or each of one type B that is a `PathIndex`.
-/// An engine is opened with a graph, of which each index is then built, and from there on changes go through the engine.
+/// A graph, and the indexes that are kept of it: at most one of each kind, each in a box, or each of one type B that is
+/// a `PathIndex`. An engine is opened with a graph, of which each index is then built, and from there on changes go
+/// through the engine.
 ///
 /// Clauses see the indexes themselves and what the engine is opened with (`EngineOf`); by what the indexes mean it is
 /// `seen B.meaning engine` (`EngineSeen`). What a call makes of it is a record in `specs/Calls.antt`.
@@ -95,12 +96,13 @@ impl<B: PathIndex> Engine<B> {
         Engine { boxes, state: None }
     }
 
-    /// Opens the engine with a graph, limits on what changes may make of it, and the highest level of the A(k)-family, and builds each
-    /// index. Where memory runs out, the graph is dropped, the engine isn't open, and boxes that are already built keep their views.
+    /// Opens the engine with a graph, limits on what changes may make of it, and the highest level of the A(k)-family,
+    /// and builds each index. Where memory runs out, the graph is dropped, the engine isn't open, and boxes that are
+    /// already built keep their views.
     ///
-    /// O(n + m) for n node numbers and m edges, and what the build of each box takes. With all indexes of this library that is expected
-    /// O((k + r) (n + m log d)) in all, where a node has at most d neighbours on a side, and the 1-index and the forward and backward index
-    /// take r rounds; it takes O(k (n + m)) memory, for a k of at least 1.
+    /// O(n + m) for n node numbers and m edges, and what the build of each box takes. With all indexes of this library
+    /// that is expected O((k + r) (n + m log d)) in all, where a node has at most d neighbours on a side, and the
+    /// 1-index and the forward and backward index take r rounds; it takes O(k (n + m)) memory, for a k of at least 1.
     pub fn open(&mut self, graph: Graph, limits: Limits, k: u32) -> Result<(), Memory>
         requires closed { self.old.opened ≡ None }
         requires few { k ≤ 8 }
@@ -127,15 +129,17 @@ impl<B: PathIndex> Engine<B> {
         }
     }
 
-    /// Makes a change in the graph and in each index, and says which number a new node got. `Refused` comes exactly where the change is
-    /// refused within the engine's limits, memory or not. An error leaves all as it was. So does the link of an edge that is there, which
-    /// takes no memory. Each other change takes all its memory before the graph or an index changes, and the partition of the 1-index,
-    /// where it is kept, moves by one step (Yi, He, Stanoi and Yang 2004).
+    /// Makes a change in the graph and in each index, and says which number a new node got. `Refused` comes exactly
+    /// where the change is refused within the engine's limits, memory or not. An error leaves all as it was. So does
+    /// the link of an edge that is there, which takes no memory. Each other change takes all its memory before the
+    /// graph or an index changes, and the partition of the 1-index, where it is kept, moves by one step (Yi, He, Stanoi
+    /// and Yang 2004).
     ///
-    /// O(i) for i indexes, and what the change takes in the graph and `prepare` and `commit` in each index. How much that is depends on
-    /// what the change reaches, and not on the size of the graph, except where a table moves as it grows, keys are dropped, a view of the
-    /// forward and backward index goes, or the blocks without other parents are searched for again, which passes over the blocks of the
-    /// 1-index: `AkIndex`, `OneKept` and `FbIndex` say how much time and memory that takes.
+    /// O(i) for i indexes, and what the change takes in the graph and `prepare` and `commit` in each index. How much
+    /// that is depends on what the change reaches, and not on the size of the graph, except where a table moves as it
+    /// grows, keys are dropped, a view of the forward and backward index goes, or the blocks without other parents are
+    /// searched for again, which passes over the blocks of the 1-index: `AkIndex`, `OneKept` and `FbIndex` say how much
+    /// time and memory that takes.
     pub fn update(&mut self, alloc: Global, change: Change) -> Result<Applied, UpdateError>
         requires open { IsSome self.old.opened }
         requires sound { IsSound (seen B.meaning self.old) }
@@ -157,8 +161,8 @@ impl<B: PathIndex> Engine<B> {
         }
     }
 
-    /// Takes out the index of a kind and drops it; all else stays. `NoIndex` comes exactly where none of that kind is kept, and no other
-    /// refusal. O(i) for i indexes, and what it takes to drop one; no memory.
+    /// Takes out the index of a kind and drops it; all else stays. `NoIndex` comes exactly where none of that kind is
+    /// kept, and no other refusal. O(i) for i indexes, and what it takes to drop one; no memory.
     pub fn forget(&mut self, kind: Kind) -> Result<(), Refusal>
         requires sound { IsSound (seen B.meaning self.old) }
         ensures sound { IsSound (seen B.meaning self.new) }
@@ -175,11 +179,12 @@ impl<B: PathIndex> Engine<B> {
         }
     }
 
-    /// The answers of a query, asked of the graph itself or through an index, and how they were found. `NoIndex` comes exactly where the
-    /// index isn't kept, memory or not. The view of the forward and backward index is first computed, where it isn't: that takes what
-    /// `FbIndex` takes; of the graph it reads one view. Of the graph itself a query costs one view of the graph; through an index that is
-    /// exact for it and computed, it reads nothing of the graph. Answered or not, the graph, its limits, the levels, which indexes are
-    /// kept, the blocks of the 1-index and each view that is computed stay. `path` and `branch` say how much time and memory it takes.
+    /// The answers of a query, asked of the graph itself or through an index, and how they were found. `NoIndex` comes
+    /// exactly where the index isn't kept, memory or not. The view of the forward and backward index is first computed,
+    /// where it isn't: that takes what `FbIndex` takes; of the graph it reads one view. Of the graph itself a query
+    /// costs one view of the graph; through an index that is exact for it and computed, it reads nothing of the graph.
+    /// Answered or not, the graph, its limits, the levels, which indexes are kept, the blocks of the 1-index and each
+    /// view that is computed stay. `path` and `branch` say how much time and memory it takes.
     pub fn ask<L: Ledger>(
         &mut self,
         alloc: Global,
@@ -201,9 +206,10 @@ impl<B: PathIndex> Engine<B> {
 
     /// `ask` of a path expression: the last nodes of the walks whose labels match it.
     ///
-    /// O(m (n + e)) for an expression of m tokens and a graph with n node numbers and e edges; it takes O(m n) memory. Through an index n
-    /// and e are the numbers of its blocks and of the pairs with support, and O(s) is added to both time and memory for s node numbers;
-    /// where the index isn't exact, what `data_validate::check` takes is added: up to O(m s) memory.
+    /// O(m (n + e)) for an expression of m tokens and a graph with n node numbers and e edges; it takes O(m n) memory.
+    /// Through an index n and e are the numbers of its blocks and of the pairs with support, and O(s) is added to both
+    /// time and memory for s node numbers; where the index isn't exact, what `data_validate::check` takes is added: up
+    /// to O(m s) memory.
     pub fn path<L: Ledger>(
         &mut self,
         alloc: Global,
@@ -220,8 +226,8 @@ impl<B: PathIndex> Engine<B> {
         self.ask(alloc, via, &Query::Path(expr), steps)
     }
 
-    /// `ask` of a branching query. The forward and backward index alone is exact for it; through another one the candidates of its relaxed
-    /// form are looked up in the graph.
+    /// `ask` of a branching query. The forward and backward index alone is exact for it; through another one the
+    /// candidates of its relaxed form are looked up in the graph.
     ///
     /// O(m (n + e)) for m tokens, as for `path`; it takes O((d + 1) n + s) memory where brackets nest d deep, parentheses
     /// counted; through an index that isn't exact, O((d + 1) s).
@@ -241,13 +247,14 @@ impl<B: PathIndex> Engine<B> {
         self.ask(alloc, via, &Query::Branch(query), steps)
     }
 
-    /// The list of the blocks of an index that isn't the graph itself, each with its nodes. `NoIndex` comes exactly where the index
-    /// isn't kept, memory or not. That of the forward and backward index is first computed, where it isn't: that takes what
-    /// `FbIndex` takes; of the graph it reads one view. Else nothing of the graph is read. An error leaves the graph and each view that is
-    /// computed.
+    /// The list of the blocks of an index that isn't the graph itself, each with its nodes. `NoIndex` comes exactly
+    /// where the index isn't kept, memory or not. That of the forward and backward index is first computed, where it
+    /// isn't: that takes what `FbIndex` takes; of the graph it reads one view. Else nothing of the graph is read. An
+    /// error leaves the graph and each view that is computed.
     ///
-    /// O(m log m + t) for m nodes and t bytes of text where fewer than half of the node numbers ever allocated are still live; it takes O(m)
-    /// memory beside the text. Else O(m + s + t) for block numbers of the index below s; it takes O(m + s) memory.
+    /// O(m log m + t) for m nodes and t bytes of text where fewer than half of the node numbers ever allocated are
+    /// still live; it takes O(m) memory beside the text. Else O(m + s + t) for block numbers of the index below s; it
+    /// takes O(m + s) memory.
     pub fn extents<L: Ledger>(
         &mut self,
         alloc: Global,
@@ -267,10 +274,10 @@ impl<B: PathIndex> Engine<B> {
         }
     }
 
-    /// The size of the graph and of each index that is kept, in the order of `Via::nth`. The view of the forward and backward index
-    /// is first computed, where the index is kept and it isn't: that takes what `FbIndex` takes; of the graph it reads one view. Else nothing of
-    /// the graph is read. `Memory` leaves the graph and each view that is computed. O(k) for levels up to k where nothing is computed; it
-    /// takes the memory of the text.
+    /// The size of the graph and of each index that is kept, in the order of `Via::nth`. The view of the forward and
+    /// backward index is first computed, where the index is kept and it isn't: that takes what `FbIndex` takes; of the
+    /// graph it reads one view. Else nothing of the graph is read. `Memory` leaves the graph and each view that is
+    /// computed. O(k) for levels up to k where nothing is computed; it takes the memory of the text.
     pub fn sizes<L: Ledger>(&mut self, alloc: Global, steps: &mut Steps<L>) -> Result<Text, Memory>
         requires open { IsSome self.old.opened }
         requires sound { IsSound (seen B.meaning self.old) }

@@ -41,8 +41,8 @@ fn make<B: PathIndex>(
     Ok(applied)
 }
 
-/// Judges a change, and makes it where it is accepted. A refusal and `Memory` leave all as it was, and so does a change that alters
-/// nothing, which takes no memory.
+/// Judges a change, and makes it where it is accepted. A refusal and `Memory` leave all as it was, and so does a change
+/// that alters nothing, which takes no memory.
 pub(crate) fn update<B: PathIndex>(
     alloc: Global,
     boxes: &mut Vec<B>,

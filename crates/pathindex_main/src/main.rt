@@ -31,8 +31,8 @@ fn tell(rt: &impl Eprint, status: u8) {
     }
 }
 
-/// Carries out what the words ask for, over the real files and standard output, on an engine with an index of each kind. Answers the
-/// exit status.
+/// Carries out what the words ask for, over the real files and standard output, on an engine with an index of each
+/// kind. Answers the exit status.
 fn run_over<B: PathIndex>(
     rt: &(impl Files + Print + AllocGlobal),
     words: &[String],
@@ -47,8 +47,8 @@ fn run_over<B: PathIndex>(
     run(rt.alloc(), words, engine, &mut shelf, &mut sink)
 }
 
-/// Carries out what the words ask for, on an engine of three boxes that it makes. `Memory` comes only where there is none for a box, and
-/// then the run isn't begun.
+/// Carries out what the words ask for, on an engine of three boxes that it makes. `Memory` comes only where there is
+/// none for a box, and then the run isn't begun.
 fn run_words(rt: &(impl Files + Print + AllocGlobal), words: &[String]) -> Result<u8, Memory> {
     let alloc = rt.alloc();
     let mut boxes: Vec<Box<dyn PathIndex>> = Vec::new(alloc);

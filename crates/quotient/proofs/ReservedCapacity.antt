@@ -1,4 +1,4 @@
--- Room in a table of lists.
+-- Reserved capacity in a table of lists.
 use Rattle.std.proofs.Common.{◌≡◌, ℕ, ◌+◌, ◌<◌, ◌≤◌, List, [], ◌∷◌, sym, ◌∙◌, ap, arith, inl, inr, true≢false, length, get_or, slice_set, slice_index, subst, unwrap_or, map as map_list}
 use Rattle.std.specs.Prelude.{option_map, Some, None, slice_get, nat_eq, swap_remove, position, IfNone, IfSome, Option, false}
 use Rattle.graph_spec.specs.Members.{has}

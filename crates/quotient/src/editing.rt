@@ -1,4 +1,4 @@
-// Changing a quotient piece by piece. Room is made first; the changes then take no memory.
+// Changing a quotient piece by piece. Capacity is reserved first; the changes then take no memory.
 ghost use Rattle.std.specs.Prelude.{◌≡◌, ◌≢◌, ◌+◌, ◌<◌, ◌≤◌, ◌^◌, ℕ, Some, IsSome, OnOk, IfSome, None, length, slice_index, nat_eq, max};
 ghost use Rattle.graph_spec.specs.Members.{at};
 ghost use Rattle.block_partition.specs.LabelledPartitions.{IsBlock, IsLeastFree, block_count, with_block, without_block};
@@ -10,12 +10,12 @@ use crate::summary::Summary;
 use block_partition::Blocks;
 use px_base::{Memory, NodeId};
 
-// Room.
+// Reserving.
 impl Summary {
     /// Reserves capacity for that many further numbers of nodes past the end of the list and for that many further
-    /// blocks, instead of what was reserved, and for that many further pairs with support. It leaves
-    /// the quotient as it is seen. O(`blocks`), and linear in all node numbers, block numbers and pairs where a
-    /// table moves; it takes 12 bytes a number, little more than 24 a block, and what a pair takes.
+    /// blocks, instead of what was reserved, and for that many further pairs with support. It leaves the quotient as it
+    /// is seen. O(`blocks`), and linear in all node numbers, block numbers and pairs where a table moves; it takes 12
+    /// bytes a number, little more than 24 a block, and what a pair takes.
     pub fn reserve(&mut self, nodes: u32, blocks: u32, pairs: usize) -> Result<(), Memory>
         requires nodes { length self.old.blocks.block_of + nodes ≤ 2 ^ 31 }
         requires blocks { block_count self.old.blocks + blocks ≤ 2 ^ 31 }

@@ -63,7 +63,8 @@ other_found support b xs r e h =
     let parts = and_parts (not (nat_eq found.0 b)) (nat_lt 0 (support found.0)) found.2 in
     (found.0, (λ same. true≢false (sym ((Decides-eqb found.0 b).1 same) ∙ not_true (nat_eq found.0 b) parts.0)), (Decides-ltb 0 (support found.0)).0 parts.1)
 
--- Where none is among those that have support in the base, and none among those outside of which supports are as in the base, there is none.
+-- Where none is among those that have support in the base, and none among those outside of which supports are as in the
+-- base, there is none.
 pub others_none : (support old : ℕ → ℕ) (b : ℕ) (xs ys : List ℕ) (r : Bool) → list_any (is_other support b) xs ≡ false → r ≡ list_any (is_other support b) ys → r ≡ false
     → Lists (λ a. nat_lt 0 (old a)) xs → ((a : ℕ) → has ys a ≡ false → support a ≡ old a) → (a : ℕ) → a ≢ b → support a ≡ 0
 others_none support old b xs ys r none e off l other a ne = elim (cases_Bool (nat_lt 0 (support a))) [

@@ -17,8 +17,8 @@ abbrev pub is_below : Option ℕ → ℕ → Bool
 is_below None a = true
 is_below (Some next) a = nat_lt a next
 
--- Whatever was looked through before: once these numbers are looked through too, the second result is the least from this one on
--- that passes, where the first was it before.
+-- Whatever was looked through before: once these numbers are looked through too, the second result is the least from
+-- this one on that passes, where the first was it before.
 abbrev pub LooksThrough : (ℕ → Bool) → (ℕ → Bool) → ℕ → Option ℕ → Option ℕ → Type 0
 LooksThrough numbers passes from before result =
     (seen : ℕ → Bool) → IsNext (λ a. seen a && passes a) from before → IsNext (λ a. (seen a || numbers a) && passes a) from result

@@ -1,4 +1,4 @@
--- Room for what is drafted.
+-- Reserved capacity for what is drafted.
 use Rattle.std.specs.Prelude.{◌≡◌, ℕ, ◌+◌, ◌<◌, ◌≤◌, List, length, Some, nat_eq, slice_get, slice_index, count_by}
 use Rattle.std.specs.Map.{lookup, keys_of}
 use Rattle.quotient.specs.Quotients.{Quotient}

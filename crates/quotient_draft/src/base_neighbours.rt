@@ -13,7 +13,7 @@ use px_base::Memory;
 use quotient::Summary;
 
 impl Draft {
-    /// Lists the blocks that have support to `b` as shown, rising, in place of what the list held.
+    /// Lists the blocks that have support to `b` as shown, rising, replacing what the list held.
     /// Expected O(p log p) for p parents of `b` in the base and drafted pairs that end there; it takes 4 bytes for
     /// each where the list has no capacity.
     pub fn fill_parents(&self, base: &Summary, b: u32, list: &mut Vec<u32>) -> Result<(), Memory>
@@ -26,9 +26,9 @@ impl Draft {
         Ok(())
     }
 
-    /// Lists the blocks to which `a` has support as shown, rising, in place of what the list held.
-    /// Expected O(c log c) for c children of `a` in the base and drafted pairs that begin there; it takes 4 bytes for
-    /// each where the list has no capacity.
+    /// Lists the blocks to which `a` has support as shown, rising, replacing what the list held. Expected O(c log c)
+    /// for c children of `a` in the base and drafted pairs that begin there; it takes 4 bytes for each where the list
+    /// has no capacity.
     pub fn fill_children(&self, base: &Summary, a: u32, list: &mut Vec<u32>) -> Result<(), Memory>
         ensures children { OnOk result (Lists (λ b. nat_lt 0 (shown_support base.now self.now a b)) list.new.items) }
         ensures rising { OnOk result (IsStrictlyIncreasing list.new.items) }
@@ -80,7 +80,7 @@ pub fn base_children(base: &Summary, a: u32) -> &[u32]
     &[]
 }
 
-// Fills the list with one list and then the other, in place of what it held.
+// Fills the list with one list and then the other, replacing what it held.
 fn join_lists(list: &mut Vec<u32>, first: &[u32], second: &[u32]) -> Result<(), Memory>
     ensures { OnOk result (list.new.items ≡ first.now ++ second.now) }
 {

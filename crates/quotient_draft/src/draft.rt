@@ -15,7 +15,7 @@ use std::alloc::Global;
 use std::marker::Model;
 
 /// What is drafted over a base, which is the quotient of a graph: further blocks, moves of nodes, and
-/// supports. Reads show the base as it will be once the draft is settled. Each call is given the base; its
+/// supports. Reads show the base as it will be once the draft is settled. Each call takes the base; its
 /// labels must stay while something is drafted, and what is shown follows the base's blocks and supports.
 ///
 /// It takes memory for each block, move and pair that is drafted.

@@ -1,8 +1,8 @@
 //! What is drafted over the quotient of a graph: further blocks, moves of nodes, and supports.
 //!
-//! A draft holds no base: each call is given it. It may be used over a base while that one's blocks stay (`IsOver`). What it shows is the
-//! base with its entries written into it; `reserve` reserves capacity, and `settle` makes the base what was shown, without blocks that have no
-//! members, without memory and without failing.
+//! A draft holds no base: each call takes it. It may be used over a base while that one's blocks stay (`IsOver`). What
+//! it shows is the base with its entries written into it; `reserve` reserves capacity, and `settle` makes the base what
+//! was shown, without blocks that have no members, without memory and without failing.
 #![tactic(auto)]
 
 mod added;

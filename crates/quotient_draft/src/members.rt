@@ -26,7 +26,7 @@ impl Draft {
         self.moves.member_count(base, b)
     }
 
-    /// Lists the members of a block as shown, each once, in place of what the list held; none where the number is
+    /// Lists the members of a block as shown, each once, replacing what the list held; none where the number is
     /// no block. Expected O(m log m) for m members in the base and puts into the block; it takes 4 bytes for each
     /// where the list has no capacity.
     pub fn fill_members(&self, base: &Summary, b: u32, list: &mut Vec<NodeId>) -> Result<(), Memory>

@@ -180,7 +180,7 @@ impl Moves {
         (held - count_of(&self.taken, b)).min(numbers) as u32
     }
 
-    /// Lists the members of a block as shown, each once, in place of what the list held.
+    /// Lists the members of a block as shown, each once, replacing what the list held.
     pub(crate) fn fill_members(
         &self,
         base: &Summary,

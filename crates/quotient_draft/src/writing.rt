@@ -9,7 +9,8 @@ use px_base::{Memory, NodeId};
 use quotient::Summary;
 
 impl Draft {
-    /// Drafts the support of a pair, both blocks as shown. On `Memory` the draft stays. Expected O(1), amortized; it takes the memory of one pair.
+    /// Drafts the support of a pair, both blocks as shown. On `Memory` the draft stays. Expected O(1), amortized; it
+    /// takes the memory of one pair.
     pub fn set_support(&mut self, base: &Summary, a: u32, b: u32, n: u32) -> Result<(), Memory>
         requires over { IsOver base.now.blocks.block_of base.now.blocks.labels self.old }
         requires from { IsSome (at (shown_labels base.now self.old) a) }

@@ -51,7 +51,7 @@ loop_leads n own b m p p2 d e =
 one_is : (t : Bool) → t ≡ true → one_if t ≡ 1
 one_is t e = ap one_if e
 
--- in mid-loop: an edge that is still to be shifted has support, and where it is shifted to there is room
+-- in mid-loop: an edge that is still to be shifted has support, and where it is shifted to it can be counted
 pub still_some : (f f2 : ℕ → Bool) (xs : List ℕ) (i now init : ℕ) → i < length xs → f (get_or xs i 0) ≡ true
     → now + sum_by (λ q. one_if (f q)) (take i xs) ≡ init + sum_by (λ q. one_if (f2 q)) (take i xs) → sum_by (λ q. one_if (f q)) xs ≤ init → 0 < now
 still_some f f2 xs i now init l e h most =
@@ -121,7 +121,7 @@ module _ (edges : Edges) (n : ℕ) (parents children : List ℕ) (lp : Lists (λ
       let now = touching_parts p2 n x y parents children in
       omega (arith, first, second, moved, was, now)
 
-  -- there is room for both
+  -- both can be counted
   pub room_for : (p p2 : List (Option ℕ)) (x y : ℕ) → set.len edges ≤ 2 ^ 30
       → edges_between edges p x y + (lead_count Parents p2 n x y parents + lead_count Children p2 n x y children) ≤ 2 ^ 31
   room_for p p2 x y few =

@@ -31,8 +31,9 @@ abbrev pub ShiftsPair : ℕ × ℕ → ℕ × ℕ → (ℕ → ℕ → ℕ) → 
 ShiftsPair before after support support2 = (x y : ℕ)
     → support2 x y + one_if (nat_eq x before.0 && nat_eq y before.1) ≡ support x y + one_if (nat_eq x after.0 && nat_eq y after.1)
 
--- Some edges at the node are counted by the blocks of their ends. Once the node has gone from its own block to b: the supports drafted
--- before have these edges as they led then, and those drafted now have them as they lead to and from b.
+-- Some edges at the node are counted by the blocks of their ends. Once the node has gone from its own block to b: the
+-- supports drafted before have these edges as they led then, and those drafted now have them as they lead to and from
+-- b.
 abbrev pub ShiftsEdges : (List (Option ℕ) → ℕ → ℕ → ℕ) → ℕ → ℕ → ℕ → Quotient → Drafted → Drafted → Type 0
 ShiftsEdges count n own b base old new = (x y : ℕ) (block2 : List (Option ℕ)) → MovesNode n own b (shown_blocks base old) block2
     → shown_support base new x y + count (shown_blocks base old) x y ≡ shown_support base old x y + count block2 x y

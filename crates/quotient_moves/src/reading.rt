@@ -9,7 +9,7 @@ use graph_update::{After, Neighbours};
 use px_base::{Memory, NodeId, Steps};
 use std::sync::ledger::Ledger;
 
-/// Lists the parents of a node in the graph after a change, in place of what the list held. O(p) for p parents, and at
+/// Lists the parents of a node in the graph after a change, replacing what the list held. O(p) for p parents, and at
 /// most p + 2 steps; it takes 4 bytes a parent where the list has no capacity.
 pub fn read_parents<L: Ledger>(
     list: &mut Vec<NodeId>,
@@ -27,7 +27,7 @@ pub fn read_parents<L: Ledger>(
     fill(list, after.parents(n, steps))
 }
 
-/// Lists the children of a node in the graph after a change, in place of what the list held.
+/// Lists the children of a node in the graph after a change, replacing what the list held.
 pub(crate) fn read_children<L: Ledger>(
     list: &mut Vec<NodeId>,
     after: &After<'_>,
@@ -44,7 +44,7 @@ pub(crate) fn read_children<L: Ledger>(
     fill(list, after.children(n, steps))
 }
 
-// Puts the nodes into a list, in place of what it held.
+// Puts the nodes into a list, replacing what it held.
 fn fill(list: &mut Vec<NodeId>, nodes: Neighbours<'_>) -> Result<(), Memory>
     ensures { OnOk result (list.new.items ≡ nodes.entry) }
 {

@@ -132,8 +132,9 @@ impl TermTable {
         at_place(&self.arena, &self.index, place, &term.parts())
     }
 
-    /// Puts a term that isn't there behind the others, and gives its place. `Memory` comes where memory runs out or the table is full, and
-    /// leaves the terms. O(b) for texts of b bytes, amortized; it takes the memory that `TermTable` states for a term.
+    /// Puts a term that isn't there behind the others, and gives its place. `Memory` comes where memory runs out or the
+    /// table is full, and leaves the terms. O(b) for texts of b bytes, amortized; it takes the memory that `TermTable`
+    /// states for a term.
     pub fn insert(&mut self, term: &HashedTerm, number: NodeId) -> Result<u32, Memory>
         requires absent { number_of self.old term.now ≡ None }
         ensures added { OnOk result (self.new ≡ self.old ++ (term.now, number) ∷ []) }

@@ -16,9 +16,9 @@ use std::sync::ledger::{Blank, Ledger};
 use std::test::Fail;
 use test_graphs::graph_from;
 
-/// What is done with something that is lent.
+/// What is done with something that is borrowed.
 pub(crate) trait Task: Drop {
-    /// What is lent.
+    /// What is borrowed.
     type Lent: Drop;
 
     /// Does it.

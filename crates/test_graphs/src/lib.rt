@@ -55,9 +55,9 @@ fn put_edges<L: Ledger>(
     Ok(())
 }
 
-/// A graph whose nodes have these labels, a byte each, and these edges. It fails where an edge comes twice or one of its ends is no
-/// node. O(n + e) for n nodes and e edges, but for the reads of `Graph::has_edge`; it takes
-/// the memory of the graph.
+/// A graph whose nodes have these labels, a byte each, and these edges. It fails where an edge comes twice or one of
+/// its ends is no node. O(n + e) for n nodes and e edges, but for the reads of `Graph::has_edge`; it takes the memory
+/// of the graph.
 pub fn graph_from<L: Ledger>(
     alloc: Global,
     labels: &[u8],
@@ -75,8 +75,8 @@ pub fn graph_from<L: Ledger>(
 /// The edges of two chains of three nodes.
 const CHAINS: &[(NodeId, NodeId)] = &[(0, 1), (1, 2), (3, 4), (4, 5)];
 
-/// Two chains of an `a`, a `b` and a `c`, the nodes 0 to 2 and 3 to 5, and an `x`, the node 6, which has just these further edges. It fails as
-/// `graph_from` does, and costs as much.
+/// Two chains of an `a`, a `b` and a `c`, the nodes 0 to 2 and 3 to 5, and an `x`, the node 6, which has just these
+/// further edges. It fails as `graph_from` does, and costs as much.
 pub fn two_chains<L: Ledger>(
     alloc: Global,
     further: &[(NodeId, NodeId)],

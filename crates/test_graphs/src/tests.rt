@@ -137,7 +137,7 @@ fn take_hub<L: Ledger>(rt: &impl Abort, graph: &mut Graph, steps: &mut Steps<L>)
     assert!(rt; totals(&graph.view(steps), 0) == (1, 1, 3));
 }
 
-// The label of the gone node 3 is still number 2, and the number 3 is not given again.
+// The label of the gone node 3 is still number 2, and the number 3 is not allocated again.
 fn put_again<L: Ledger>(
     rt: &impl Abort,
     alloc: Global,
@@ -173,7 +173,7 @@ fn removals(rt: HostRuntime) -> Result<(), Fail> {
     take_apart::<Brand>(&rt, rt.alloc(), Blank::new(1))
 }
 
-// Of two rooms the last one counts, and its label is no label before the node is added.
+// Of two reservations the last one counts, and its label is no label before the node is added.
 #[test]
 fn last_room_counts(rt: HostRuntime) -> Result<(), Fail> {
     let alloc = rt.alloc();

@@ -7,8 +7,8 @@ use std::alloc::Global;
 use std::fs;
 use std::test::Fail;
 
-/// What a run is given: its words, the files `s` and `g` where they are there, and the number of the one call on the shelf and of the one
-/// on the sink that fails, 0 for none.
+/// What a run is given: its words, the files `s` and `g` where they are there, and the number of the one call on the
+/// shelf and of the one on the sink that fails, 0 for none.
 #[derive(Clone, Copy)]
 struct Given<'a> {
     words: &'a [&'a str],

@@ -92,7 +92,7 @@ fn moves(rt: HostRuntime) -> Result<(), Fail> {
     Ok(())
 }
 
-// The number of a block that was retired is given again before a greater one.
+// The number of a block that was retired is used again before a greater one.
 #[test]
 fn least_number_again(rt: HostRuntime) -> Result<(), Fail> {
     let mut blocks = Blocks::new(rt.alloc())?;

@@ -25,7 +25,7 @@ fn put_block(rt: &impl Abort, blocks: &mut Blocks, label: u32) -> Result<(), Fai
     Ok(())
 }
 
-// In place of a block: the node was dropped.
+// Instead of a block: the node was dropped.
 const GONE: u32 = 9;
 
 // Puts the next node into a block, if the number is that of one.

@@ -195,7 +195,7 @@ fn alone(rt: &impl Abort, alloc: Global) -> Result<Blocks, Fail> {
     Ok(blocks)
 }
 
-// Writes a support between two of eight blocks, with the room that it takes.
+// Writes a support between two of eight blocks, with the capacity that it takes.
 fn write(rt: &impl Abort, summary: &mut Summary, a: u32, b: u32, n: u32) -> Result<(), Fail> {
     assert!(rt; a < 8);
     assert!(rt; b < 8);

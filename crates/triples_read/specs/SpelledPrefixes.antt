@@ -22,7 +22,8 @@ IfRead result P = IfOk result (λ found. IfSome found P)
 abbrev pub IsRead : {T E : Type 0} → Result (Option T) E → (T → Type 0) → Type 0
 IsRead result P = IfOk result (λ found. IsSomeAnd found P)
 
--- wherever the bytes are those of a part that spells a value, and of other characters behind it, P holds of the value and of these
+-- wherever the bytes are those of a part that spells a value, and of other characters behind it, P holds of the value
+-- and of these
 abbrev pub EachPrefix : {T : Type 0} → (List ℕ → T → Type 0) → List ℕ → (T → List ℕ → Type 0) → Type 0
 EachPrefix Spells bytes P = (s r : List ℕ) (value : _) → IsText bytes (s ++ r) → Spells s value → P value r
 

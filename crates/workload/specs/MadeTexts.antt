@@ -111,7 +111,7 @@ last_lines =
 abbrev pub steps_text : ℕ → ℕ → ℕ → List ℕ
 steps_text nodes count x = lines_text (steps_onto nodes count nodes x last_lines)
 
--- The script of a seed, for a graph to which that many nodes were given numbers: 500 steps, whose draws go on where those
+-- The script of a seed, for a graph with that many allocated numbers: 500 steps, whose draws go on where those
 -- of the graph file ended, and then the last lines.
 unfoldable pub made_script_text : ℕ → ℕ → List ℕ
 made_script_text seed nodes = lines_text (steps_onto nodes 500 nodes (after_lines 20000 seed) last_lines)

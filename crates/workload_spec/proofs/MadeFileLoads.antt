@@ -14,7 +14,7 @@ use Rattle.workload_spec.proofs.TakenTriples.{HasAtMost, Takes, new_taken, nothi
 abbrev HasLoaded : ℕ → ℕ → LoadState → Type 0
 HasLoaded low k l = HasAtMost low (3 * k) (2 * k) (3 * k) l
 
--- the lines load, to a graph that has given at least one number and at most 60,000
+-- the lines load, to a graph with at least one allocated number and at most 60,000
 pub record AreLoaded (lines : List Line) (p : Place) : Type 0 where
   pub graph : Graph
   pub loads : LoadsFrom program_limits lines p (loaded graph)
@@ -67,7 +67,7 @@ load_all n x few =
     line_loads at_start n x 0 bytes took
     (load_more n (after_line x) 1 (past at_start (fed (graph_line x)) took.next) (one_more 0 took.next took.few) (omega (arith, few)) (room_left at_start (graph_line x) n took.next (line_proper x).short bytes))
 
--- The graph file of a seed loads, to a graph that has given at least one number and at most 60,000.
+-- The graph file of a seed loads, to a graph with at least one allocated number and at most 60,000.
 pub made_loads : (seed : ℕ) → (g : Graph) × Loads program_limits (made_graph_text seed) (loaded g) × (0 < length g.allocated) × (length g.allocated ≤ 60000)
 unfolding made_graph_text
 made_loads seed = go 20000 (lit< tt) (lit≤ tt)

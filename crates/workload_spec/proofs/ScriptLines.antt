@@ -191,6 +191,6 @@ last_proper = (
   ),
 )
 
--- each line of a script for a graph of at least one node, to which 500 more can be given numbers
+-- each line of a script for a graph of at least one node, in which 500 more numbers can be allocated
 pub script_lines : (nodes x : ℕ) → 0 < nodes → nodes + 500 ≤ 2 ^ 32 → AreProper (steps_onto nodes 500 nodes x last_lines)
 script_lines nodes x some room = steps_proper nodes 500 nodes x last_lines some (omega (arith, room)) room last_proper

@@ -162,7 +162,7 @@ impl Loader {
         }
     }
 
-    // Whether the last child of the subject and the last parent of the object, where there are any, have numbers that are given.
+    // Whether the last child of the subject and the last parent of the object, where there are any, have allocated numbers.
     fn has_ends(&self, hints: Hints) -> bool {
         self.is_given(self.child(hints.subject)) && self.is_given(self.parent(hints.object))
     }
