@@ -11,7 +11,9 @@ use Rattle.branch_spec.specs.Tokens.{Token, lab, underscore, axis, left, right, 
 use Rattle.branch_spec.specs.Spelling.{EndsBackslash, SpellsTokens, canonical}
 use Rattle.branch_spec.proofs.CanonicalTexts.{SpellThemselves, BeginWithNoAxis, canonical_spells}
 use Rattle.branch_text.specs.Parsed.{Spells, AreLabels, is_spelled, has_text}
-use Rattle.branch_text.proofs.TokenPrefixLaws.{label_first}
+use Rattle.path_query.proofs.LabelLaws.{label_first}
+use Rattle.path_query.proofs.TokenPrefixLaws.{label_no_slash}
+use Rattle.branch_text.proofs.TokenPrefixLaws.{label_no_backslash}
 
 -- the labels of a text are labels
 labels : (text : List ℕ) (ts : List Token) → SpellsTokens SpellsLabel text ts → AreLabels ts
@@ -60,8 +62,8 @@ themselves (nothing ∷ ts) h k = true≢false (sym k)
 
 no_axis : BeginWithNoAxis SpellsLabel
 no_axis = record {
-  slash = λ t rest h. let f = label_first t t h in subst (λ x. EndsSlash (x ++ rest)) (sym f.is) f.no_slash;
-  backslash = λ t rest h. let f = label_first t t h in subst (λ x. EndsBackslash (x ++ rest)) (sym f.is) f.no_backslash;
+  slash = λ t rest h. let f = label_first t t h in subst (λ x. EndsSlash (x ++ rest)) (sym f.is) (label_no_slash f.byte f.opens);
+  backslash = λ t rest h. let f = label_first t t h in subst (λ x. EndsBackslash (x ++ rest)) (sym f.is) (label_no_backslash f.byte f.opens);
 }
 
 pub are_labels : (text : List ℕ) (q : tree.Branch) → Spells text q → AreLabels (tokens q)

@@ -1,5 +1,4 @@
 pub mod TokenPrefixLaws
-pub mod LexerLaws
 pub mod OneText
 pub mod GrammarLaws
 pub mod Canon

@@ -1,14 +1,14 @@
 -- The token in front of a text.
-use Rattle.std.proofs.Common.{◌≡◌, ◌≢◌, ℕ, suc, ◌+◌, ◌<◌, ◌≤◌, ◌⊎◌, inl, inr, true, false, Bool, cond, List, [], ◌∷◌, ◌++◌, length, take, drop, refl, sym, ap, ◌∙◌, subst, arith, length-append, append_assoc, Option, None, Some, true≢false, eqb-true}
-use Rattle.std.specs.Prelude.{◌==◌, option_map, codes, bytes_eq, nat_eq, nat_lt}
+use Rattle.std.proofs.Common.{◌≡◌, ◌≢◌, ℕ, ◌+◌, ◌<◌, ◌≤◌, inl, inr, true, false, Bool, cond, List, [], ◌∷◌, ◌++◌, length, take, drop, refl, sym, ap, ◌∙◌, subst, arith, length-append, append_assoc, Option, None, Some, true≢false, eqb-true}
+use Rattle.std.specs.Prelude.{◌==◌, ◌||◌, option_map, codes, bytes_eq, nat_eq, nat_lt}
 use Rattle.std.specs.List.{list_all, prefix_len, position_or_len}
 use Rattle.std.proofs.Math.Seq.{take-append_seam, take-length}
 use Rattle.std.specs.Str.{chars}
 use Rattle.std.proofs.lemmas.Bool.Decides.{nat_tests}
 use Rattle.std.proofs.lemmas.List.{take-append-drop}
-use Rattle.std.proofs.lemmas.Option.{same_Some, some_pair_parts}
+use Rattle.std.proofs.lemmas.Option.{same_Some}
 use Rattle.std.proofs.lemmas.Slice.Eq.{bytes_eq-Decides}
-use Rattle.graph_spec.specs.Words.{is_blank, is_letter, is_name_byte, is_name}
+use Rattle.graph_spec.specs.Words.{is_letter, is_name_byte, is_name}
 use Rattle.triples_read.specs.Lines.{IsIriPrefix}
 use Rattle.triples_read.specs.ByteReaders.{starts_with}
 use Rattle.triples_read.specs.Canonical.{iri_text, iri_spelling}
@@ -17,89 +17,37 @@ use Rattle.triples_read.proofs.IriPrefixes.{prefix-cut, end-found}
 use Rattle.path_spec.specs.Spelling.{EndsName, EndsSlash}
 use Rattle.branch_spec.specs.Trees.{child, below, parent, above}
 use Rattle.branch_spec.specs.Tokens.{Token, lab, underscore, axis, left, right, opening, closing, not_word, and_word, or_word, nothing}
-use Rattle.branch_spec.specs.Spelling.{EndsBackslash, EndsToken, SpellsToken}
+use Rattle.branch_spec.specs.Spelling.{EndsBackslash, EndsToken, SpellsToken, SpellsTokens}
 use Rattle.path_query.specs.Labels.{SpellsLabel}
-use Rattle.path_query.proofs.LabelBytes.{named, letter_is_no_blank, name_bytes}
-use Rattle.path_query.proofs.LabelLaws.{iri_opens, plain_opens}
-use Rattle.path_query.proofs.Cuts.{Stops, cut_at, drop_prefix, prefix_len-cut}
+use Rattle.path_query.specs.Languages.{Begins, IsLanguage}
+use Rattle.path_query.proofs.LabelBytes.{named, name_bytes}
+use Rattle.path_query.proofs.LabelLaws.{ends_stop, stop_ends, iri_opens, label_first, label_begins, label_one, plain_opens}
+use Rattle.path_query.proofs.Cuts.{cut_at, drop_prefix, passed, prefix_len-cut}
+use Rattle.path_query.proofs.Fronts.{IsFront, front_label, front_one, chosen, mapped}
+use Rattle.path_query.proofs.TokenPrefixLaws.{label_no_slash}
 use Rattle.branch_text.specs.BranchTokenPrefixes.{IsTokenPrefix, mark_at, axis_prefix, sign_prefix, word_token, word_prefix, or_else, mark_prefix, iri_len, label_len}
 
--- the first byte of a label: a letter, or '<'
-pub record First (w : List ℕ) : Type 0 where
-  pub byte : ℕ
-  pub others : List ℕ
-  pub is : w ≡ byte ∷ others
-  pub no_blank : is_blank byte ≡ false
-  pub no_slash : (byte == 47) ≡ false
-  pub no_backslash : (byte == 92) ≡ false
-  pub no_mark : mark_at byte ≡ None
+pub label_no_backslash : (b : ℕ) → (is_letter b || (b == 60)) ≡ true → (b == 92) ≡ false
+label_no_backslash b h = grind (arith, nat_tests)
 
-letter_no_slash : (b : ℕ) → is_letter b ≡ true → (b == 47) ≡ false
-letter_no_slash b h = grind (arith, nat_tests)
+label_no_mark : (b : ℕ) → (is_letter b || (b == 60)) ≡ true → mark_at b ≡ None
+label_no_mark b h = grind (arith, nat_tests)
 
-letter_no_backslash : (b : ℕ) → is_letter b ≡ true → (b == 92) ≡ false
-letter_no_backslash b h = grind (arith, nat_tests)
-
-letter_no_mark : (b : ℕ) → is_letter b ≡ true → mark_at b ≡ None
-letter_no_mark b h = grind (arith, nat_tests)
-
-pub label_first : (w t : List ℕ) → SpellsLabel w t → First w
-label_first [] t (inl (l, e)) = absurd (true≢false (sym l.0))
-label_first (x ∷ xs) t (inl (l, e)) =
-    let letter = (named x xs l.0).letter in
-    record {
-      byte = x;
-      others = xs;
-      is = refl;
-      no_blank = letter_is_no_blank x letter;
-      no_slash = letter_no_slash x letter;
-      no_backslash = letter_no_backslash x letter;
-      no_mark = letter_no_mark x letter;
-    }
-label_first [] t (inr (iri, h, e)) = absurd (true≢false (sym (iri_opens [] 0 iri h)))
-label_first (x ∷ xs) t (inr (iri, h, e)) =
-    let is : x ≡ 60 = eqb-true x 60 (iri_opens (x ∷ xs) (length (x ∷ xs)) iri h) in
-    record {
-      byte = x;
-      others = xs;
-      is = refl;
-      no_blank = ap is_blank is;
-      no_slash = ap (λ b. b == 47) is;
-      no_backslash = ap (λ b. b == 92) is;
-      no_mark = ap mark_at is;
-    }
-
--- the first byte of a token is no blank
-pub record Begins (w : List ℕ) : Type 0 where
-  pub byte : ℕ
-  pub others : List ℕ
-  pub is : w ≡ byte ∷ others
-  pub no_blank : is_blank byte ≡ false
-
-pub word_begins : (w : List ℕ) (t : Token) → SpellsToken SpellsLabel w t → Begins w
-word_begins w (lab t) h = let f = label_first w t h in record { byte = f.byte; others = f.others; is = f.is; no_blank = f.no_blank }
-word_begins w underscore h = record { byte = 95; others = []; is = h; no_blank = refl }
-word_begins w (axis child) h = record { byte = 47; others = []; is = h; no_blank = refl }
-word_begins w (axis below) h = record { byte = 47; others = 47 ∷ []; is = h; no_blank = refl }
-word_begins w (axis parent) h = record { byte = 92; others = []; is = h; no_blank = refl }
-word_begins w (axis above) h = record { byte = 92; others = 92 ∷ []; is = h; no_blank = refl }
-word_begins w left h = record { byte = 91; others = []; is = h; no_blank = refl }
-word_begins w right h = record { byte = 93; others = []; is = h; no_blank = refl }
-word_begins w opening h = record { byte = 40; others = []; is = h; no_blank = refl }
-word_begins w closing h = record { byte = 41; others = []; is = h; no_blank = refl }
-word_begins w not_word h = record { byte = 110; others = codes "ot"; is = h; no_blank = refl }
-word_begins w and_word h = record { byte = 97; others = codes "nd"; is = h; no_blank = refl }
-word_begins w or_word h = record { byte = 111; others = codes "r"; is = h; no_blank = refl }
+word_begins : (w : List ℕ) (t : Token) → SpellsToken SpellsLabel w t → Begins w
+word_begins w (lab t) h = label_begins w t h
+word_begins w underscore h = subst Begins (sym h) refl
+word_begins w (axis child) h = subst Begins (sym h) refl
+word_begins w (axis below) h = subst Begins (sym h) refl
+word_begins w (axis parent) h = subst Begins (sym h) refl
+word_begins w (axis above) h = subst Begins (sym h) refl
+word_begins w left h = subst Begins (sym h) refl
+word_begins w right h = subst Begins (sym h) refl
+word_begins w opening h = subst Begins (sym h) refl
+word_begins w closing h = subst Begins (sym h) refl
+word_begins w not_word h = subst Begins (sym h) refl
+word_begins w and_word h = subst Begins (sym h) refl
+word_begins w or_word h = subst Begins (sym h) refl
 word_begins w nothing h = absurd h
-
-pub prefix_shorter : (text : List ℕ) (t : Token) (rest : List ℕ) → IsTokenPrefix text t rest → length rest < length text
-prefix_shorter text t rest (w, spelled, ends, e) =
-    let b = word_begins w t spelled in
-    omega (arith, ap length e, length-append w rest, ap length b.is)
-
--- no token stands in front of nothing
-pub prefix_some : (t : Token) (rest : List ℕ) → IsTokenPrefix [] t rest → ⊥
-prefix_some t rest h = let l : length rest < 0 = prefix_shorter [] t rest h in absurd (omega arith)
 
 -- which token that is no label stands in front
 slash_found : (rest : List ℕ) → EndsSlash rest → axis_prefix 47 child below rest ≡ (axis child, rest)
@@ -110,35 +58,11 @@ backslash_found : (rest : List ℕ) → EndsBackslash rest → axis_prefix 92 pa
 backslash_found [] h = refl
 backslash_found (b ∷ bs) h = ap (λ c. cond c (axis above, bs) (axis parent, b ∷ bs)) h
 
-ends_stop : (xs : List ℕ) → EndsName xs → Stops is_name_byte xs
-ends_stop [] h = tt
-ends_stop (x ∷ xs) h = h
-
-stop_ends : (xs : List ℕ) → Stops is_name_byte xs → EndsName xs
-stop_ends [] h = tt
-stop_ends (x ∷ xs) h = h
-
 -- where a word ends, its token is that of the front
 word_at : (w rest text : List ℕ) → text ≡ w ++ rest → list_all is_name_byte w ≡ true → EndsName rest → word_prefix text ≡ option_map (λ t. (t, rest)) (word_token w)
 word_at w rest text e h ends =
     let cut = cut_at is_name_byte w rest text e h (ends_stop rest ends) in
     λ i. option_map (λ t. (t, cut.back i)) (word_token (cut.prefix i))
-
-pub mark_found : (text : List ℕ) (t : Token) (rest : List ℕ) → IsTokenPrefix text t rest → ((u : List ℕ) → t ≡ lab u → ⊥) → mark_prefix text ≡ Some (t, rest)
-mark_found text (lab u) rest h other = absurd (other u refl)
-mark_found text underscore rest (w, is, ends, e) other = ap mark_prefix (e ∙ ap (λ x. x ++ rest) is)
-mark_found text (axis child) rest (w, is, ends, e) other = ap mark_prefix (e ∙ ap (λ x. x ++ rest) is) ∙ ap Some (slash_found rest ends)
-mark_found text (axis below) rest (w, is, ends, e) other = ap mark_prefix (e ∙ ap (λ x. x ++ rest) is)
-mark_found text (axis parent) rest (w, is, ends, e) other = ap mark_prefix (e ∙ ap (λ x. x ++ rest) is) ∙ ap Some (backslash_found rest ends)
-mark_found text (axis above) rest (w, is, ends, e) other = ap mark_prefix (e ∙ ap (λ x. x ++ rest) is)
-mark_found text left rest (w, is, ends, e) other = ap mark_prefix (e ∙ ap (λ x. x ++ rest) is)
-mark_found text right rest (w, is, ends, e) other = ap mark_prefix (e ∙ ap (λ x. x ++ rest) is)
-mark_found text opening rest (w, is, ends, e) other = ap mark_prefix (e ∙ ap (λ x. x ++ rest) is)
-mark_found text closing rest (w, is, ends, e) other = ap mark_prefix (e ∙ ap (λ x. x ++ rest) is)
-mark_found text not_word rest (w, is, ends, e) other = ap mark_prefix (e ∙ ap (λ x. x ++ rest) is) ∙ word_at (codes "not") rest (codes "not" ++ rest) refl refl ends
-mark_found text and_word rest (w, is, ends, e) other = ap mark_prefix (e ∙ ap (λ x. x ++ rest) is) ∙ word_at (codes "and") rest (codes "and" ++ rest) refl refl ends
-mark_found text or_word rest (w, is, ends, e) other = ap mark_prefix (e ∙ ap (λ x. x ++ rest) is) ∙ word_at (codes "or") rest (codes "or" ++ rest) refl refl ends
-mark_found text nothing rest (w, is, ends, e) other = absurd is
 
 no_sign : (b : ℕ) (bs : List ℕ) → (b == 47) ≡ false → (b == 92) ≡ false → mark_at b ≡ None → sign_prefix (b ∷ bs) ≡ None
 no_sign b bs h k m =
@@ -169,53 +93,25 @@ label_no_word text (x ∷ xs) u rest e ends (inr (iri, h, is)) =
 label_found : (text u rest : List ℕ) → IsTokenPrefix text (lab u) rest → mark_prefix text ≡ None
 label_found text u rest (w, spelled, ends, e) =
     let f = label_first w u spelled in
-    let signs : sign_prefix text ≡ None = ap sign_prefix (e ∙ ap (λ x. x ++ rest) f.is) ∙ no_sign f.byte (f.others ++ rest) f.no_slash f.no_backslash f.no_mark in
+    let signs : sign_prefix text ≡ None = ap sign_prefix (e ∙ ap (λ x. x ++ rest) f.is)
+    ∙ no_sign f.byte (f.others ++ rest) (label_no_slash f.byte f.opens) (label_no_backslash f.byte f.opens) (label_no_mark f.byte f.opens) in
     ap (λ o. or_else o (word_prefix text)) signs ∙ label_no_word text w u rest e ends spelled
 
--- where a mark stands no other token does
-pub mark_only : (text : List ℕ) (t u : Token) (rest q : List ℕ) → mark_prefix text ≡ Some (t, rest) → IsTokenPrefix text u q → (u ≡ t) × (q ≡ rest)
-mark_only text t u rest q e h = by u h
-  where
-    same : (u : Token) → mark_prefix text ≡ Some (u, q) → (u ≡ t) × (q ≡ rest)
-    same u k = let both : ◌≡◌ {A = Option (Token × List ℕ)} (Some (u, q)) (Some (t, rest)) = sym k ∙ e in some_pair_parts u t q rest both
-
-    by : (u : Token) → IsTokenPrefix text u q → (u ≡ t) × (q ≡ rest)
-    by (lab v) h = let k : ◌≡◌ {A = Option (Token × List ℕ)} None (Some (t, rest)) = sym (label_found text v q h) ∙ e in cc
-    by underscore h = same underscore (mark_found text underscore q h (λ v k. cc))
-    by (axis a) h = same (axis a) (mark_found text (axis a) q h (λ v k. cc))
-    by left h = same left (mark_found text left q h (λ v k. cc))
-    by right h = same right (mark_found text right q h (λ v k. cc))
-    by opening h = same opening (mark_found text opening q h (λ v k. cc))
-    by closing h = same closing (mark_found text closing q h (λ v k. cc))
-    by not_word h = same not_word (mark_found text not_word q h (λ v k. cc))
-    by and_word h = same and_word (mark_found text and_word q h (λ v k. cc))
-    by or_word h = same or_word (mark_found text or_word q h (λ v k. cc))
-    by nothing h = absurd (h.1)
-
--- where none stands the token is a label
-no_mark_label : (text : List ℕ) (u : Token) (q : List ℕ) → mark_prefix text ≡ None → IsTokenPrefix text u q → (v : List ℕ) × (u ≡ lab v)
-no_mark_label text u q e h = by u h
-  where
-    clash : (u : Token) → mark_prefix text ≡ Some (u, q) → (v : List ℕ) × (u ≡ lab v)
-    clash u k = let both : ◌≡◌ {A = Option (Token × List ℕ)} None (Some (u, q)) = sym e ∙ k in cc
-
-    by : (u : Token) → IsTokenPrefix text u q → (v : List ℕ) × (u ≡ lab v)
-    by (lab v) h = (v, refl)
-    by underscore h = clash underscore (mark_found text underscore q h (λ v k. cc))
-    by (axis a) h = clash (axis a) (mark_found text (axis a) q h (λ v k. cc))
-    by left h = clash left (mark_found text left q h (λ v k. cc))
-    by right h = clash right (mark_found text right q h (λ v k. cc))
-    by opening h = clash opening (mark_found text opening q h (λ v k. cc))
-    by closing h = clash closing (mark_found text closing q h (λ v k. cc))
-    by not_word h = clash not_word (mark_found text not_word q h (λ v k. cc))
-    by and_word h = clash and_word (mark_found text and_word q h (λ v k. cc))
-    by or_word h = clash or_word (mark_found text or_word q h (λ v k. cc))
-    by nothing h = absurd (h.1)
-
--- which way a test went
-chosen : {X : Type 0} (c : Bool) (x o y : Option X) → cond c x o ≡ y → ((c ≡ true) × (x ≡ y)) ⊎ ((c ≡ false) × (o ≡ y))
-chosen true x o y e = inl (refl, e)
-chosen false x o y e = inr (refl, e)
+front : (text : List ℕ) (t : Token) (rest : List ℕ) → IsTokenPrefix text t rest → IsFront lab (mark_prefix text) t rest
+front text (lab u) rest h = inr (u, refl, label_found text u rest h)
+front text nothing rest (w, is, ends, e) = absurd is
+front text underscore rest (w, is, ends, e) = inl (ap mark_prefix (e ∙ ap (λ x. x ++ rest) is))
+front text (axis child) rest (w, is, ends, e) = inl (ap mark_prefix (e ∙ ap (λ x. x ++ rest) is) ∙ ap Some (slash_found rest ends))
+front text (axis below) rest (w, is, ends, e) = inl (ap mark_prefix (e ∙ ap (λ x. x ++ rest) is))
+front text (axis parent) rest (w, is, ends, e) = inl (ap mark_prefix (e ∙ ap (λ x. x ++ rest) is) ∙ ap Some (backslash_found rest ends))
+front text (axis above) rest (w, is, ends, e) = inl (ap mark_prefix (e ∙ ap (λ x. x ++ rest) is))
+front text left rest (w, is, ends, e) = inl (ap mark_prefix (e ∙ ap (λ x. x ++ rest) is))
+front text right rest (w, is, ends, e) = inl (ap mark_prefix (e ∙ ap (λ x. x ++ rest) is))
+front text opening rest (w, is, ends, e) = inl (ap mark_prefix (e ∙ ap (λ x. x ++ rest) is))
+front text closing rest (w, is, ends, e) = inl (ap mark_prefix (e ∙ ap (λ x. x ++ rest) is))
+front text not_word rest (w, is, ends, e) = inl (ap mark_prefix (e ∙ ap (λ x. x ++ rest) is) ∙ word_at (codes "not") rest (codes "not" ++ rest) refl refl ends)
+front text and_word rest (w, is, ends, e) = inl (ap mark_prefix (e ∙ ap (λ x. x ++ rest) is) ∙ word_at (codes "and") rest (codes "and" ++ rest) refl refl ends)
+front text or_word rest (w, is, ends, e) = inl (ap mark_prefix (e ∙ ap (λ x. x ++ rest) is) ∙ word_at (codes "or") rest (codes "or" ++ rest) refl refl ends)
 
 made : (b k : ℕ) (bs : List ℕ) (u t : Token) → (b == k) ≡ true → Some u ≡ Some t → SpellsToken SpellsLabel (k ∷ []) u → EndsToken u bs → IsTokenPrefix (b ∷ bs) t bs
 made b k bs u t h same spelled ends =
@@ -257,10 +153,6 @@ backslash_spelled b (x ∷ xs) h =
       | false ↦ λ e. (92 ∷ [], refl, e, ap (λ y. y ∷ x ∷ xs) (eqb-true b 92 h))
     ] refl
 
-mapped : (o : Option Token) (bs : List ℕ) (t : Token) (rest : List ℕ) → option_map {U = Token × List ℕ} (λ u. (u, bs)) o ≡ Some (t, rest) → (o ≡ Some t) × (bs ≡ rest)
-mapped None bs t rest e = cc
-mapped (Some u) bs t rest e = let p = some_pair_parts u t bs rest e in (ap Some p.0, p.1)
-
 sign_is_prefix : (text : List ℕ) (t : Token) (rest : List ℕ) → sign_prefix text ≡ Some (t, rest) → IsTokenPrefix text t rest
 sign_is_prefix [] t rest e = cc
 sign_is_prefix (b ∷ bs) t rest e = elim (chosen (b == 47) (Some (axis_prefix 47 child below bs)) _ (Some (t, rest)) e) [
@@ -296,17 +188,6 @@ word_is w t e = elim (chosen (bytes_eq w (codes "not")) (Some not_word) _ (Some 
     ]
   ]
 ]
-
--- what is left behind those that pass begins with one that doesn't
-pub passed : (p : ℕ → Bool) (text : List ℕ) → Stops p (drop (prefix_len p text) text)
-passed p [] = tt
-passed p (x ∷ xs) = elim (p x) as (λ c. p x ≡ c → Stops p (drop (cond c (1 + prefix_len p xs) 0) (x ∷ xs))) [
-  | true ↦ λ e. subst (λ n. Stops p (drop n (x ∷ xs))) (one_more (prefix_len p xs)) (passed p xs)
-  | false ↦ λ e. e
-] refl
-  where
-    one_more : (n : ℕ) → suc n ≡ 1 + n
-    one_more n = omega arith
 
 word_is_prefix : (text : List ℕ) (t : Token) (rest : List ℕ) → word_prefix text ≡ Some (t, rest) → IsTokenPrefix text t rest
 word_is_prefix text t rest e =
@@ -391,7 +272,9 @@ label_at text v q (w, spelled, ends, e) =
     }
 
 pub as_label : (text : List ℕ) (t : Token) (q : List ℕ) → mark_prefix text ≡ None → IsTokenPrefix text t q → (v : List ℕ) × (t ≡ lab v) × LabelAt text v q
-as_label text t q none h = let v = no_mark_label text t q none h in (v.0, v.1, label_at text v.0 q (subst (λ x. IsTokenPrefix text x q) v.1 h))
+as_label text t q none h =
+    let v = front_label lab (mark_prefix text) t q (front text t q h) none in
+    (v.0, v.1, label_at text v.0 q (subst (λ x. IsTokenPrefix text x q) v.1 h))
 
 -- and what spells a label there is one in front
 pub label_is_prefix : (text v : List ℕ) → SpellsLabel (take (label_len text) text) v → IsTokenPrefix text (lab v) (drop (label_len text) text)
@@ -403,3 +286,14 @@ label_is_prefix text v h = (take (label_len text) text, h, by (starts_with 60 te
     by false e h name =
         subst (λ n. EndsName (drop n text)) (sym (ap (λ c. cond c (iri_len text) (prefix_len is_name_byte text)) e))
         (stop_ends (drop (prefix_len is_name_byte text) text) (passed is_name_byte text))
+
+-- one token stands in front
+token_one : (text : List ℕ) (t u : Token) (r q : List ℕ) → IsTokenPrefix text t r → IsTokenPrefix text u q → (t ≡ u) × (r ≡ q)
+token_one text t u r q h k = front_one lab (mark_prefix text) t u r q (front text t r h) (front text u q k) (λ none.
+    let a = as_label text t r none h in
+    let b = as_label text u q none k in
+    (a.1 ∙ ap lab (label_one (take (label_len text) text) a.0 b.0 a.2.spelled b.2.spelled) ∙ sym b.1, a.2.rest ∙ sym b.2.rest))
+
+-- the language of branching queries
+pub branch_language : IsLanguage (SpellsToken SpellsLabel) EndsToken (SpellsTokens SpellsLabel)
+branch_language = record { none = λ text. ((λ h. h), (λ h. h)); more = λ text t ts. ((λ h. h), (λ h. h)); begins = word_begins; one = token_one }

@@ -1,5 +1,5 @@
 -- The token at the front of a text.
-use Rattle.std.specs.Prelude.{ℕ, ◌≡◌, ◌+◌, ◌==◌, List, [], ◌∷◌, ◌++◌, length, take, drop, codes, nat_eq, nat_lt, bytes_eq, Option, None, Some, option_map, if◌then◌else◌}
+use Rattle.std.specs.Prelude.{ℕ, ◌+◌, ◌==◌, List, [], ◌∷◌, length, take, drop, codes, nat_eq, nat_lt, bytes_eq, Option, None, Some, option_map, if◌then◌else◌}
 use Rattle.std.specs.List.{prefix_len, position_or_len}
 use Rattle.graph_spec.specs.Words.{is_name_byte}
 use Rattle.branch_spec.specs.Trees.{Axis, child, below, parent, above}
@@ -7,10 +7,11 @@ use Rattle.branch_spec.specs.Tokens.{Token, underscore, axis, left, right, openi
 use Rattle.branch_spec.specs.Spelling.{EndsToken, SpellsToken}
 use Rattle.triples_read.specs.ByteReaders.{starts_with}
 use Rattle.path_query.specs.Labels.{SpellsLabel}
+use Rattle.path_query.specs.Languages as languages
 
 -- a token stands at the front, as long as it can be
 abbrev pub IsTokenPrefix : List ℕ → Token → List ℕ → Type 0
-IsTokenPrefix text t rest = (word : List ℕ) × SpellsToken SpellsLabel word t × EndsToken t rest × (text ≡ word ++ rest)
+IsTokenPrefix text t rest = languages.IsTokenPrefix (SpellsToken SpellsLabel) EndsToken text t rest
 
 -- the token of one byte, but for those of axes
 abbrev pub mark_at : ℕ → Option Token

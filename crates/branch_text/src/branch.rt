@@ -6,12 +6,11 @@ ghost use Rattle.branch_spec.specs.Spelling.{canonical};
 ghost use Rattle.path_query.specs.Parsed.{is_past};
 ghost use Rattle.branch_text.specs.Parsed.{Spells, has_text};
 
-use crate::grammar::ReadError;
 use crate::parsing::read;
 use crate::writing::write_branch;
 use branch_expr::{BranchTree, relax};
 use graph_spec::Limits;
-use path_query::{ExprError, is_past};
+use path_query::{ExprError, ReadError, is_past};
 use px_base::{Memory, Text};
 use std::alloc::Global;
 use std::marker::Model;

@@ -11,39 +11,8 @@ use crate::token::{
     ends_step, first_axis, first_token,
 };
 use branch_expr::{And, BranchTree, Cond, Hop, Or, Rel, Step, Test};
-use px_base::Memory;
-use std::alloc::{AllocFailed, Global};
-
-/// Why tokens make no query.
-#[derive(Clone, Copy, Debug, PartialEq, Eq)]
-pub(crate) enum ReadError {
-    /// They spell none.
-    Syntax,
-    /// Memory ran out.
-    Memory,
-}
-
-impl<T: Drop> From<AllocFailed<T>> for ReadError {
-    ghost use Rattle.std.specs.Prelude.{◌≡◌};
-    ghost use Rattle.branch_text.specs.declared.grammar.ReadError.TheVariants as variants;
-
-    ghost from_gives = { λ _ e. e ≡ variants.Memory };
-
-    fn from(_: AllocFailed<T>) -> Self {
-        ReadError::Memory
-    }
-}
-
-impl From<Memory> for ReadError {
-    ghost use Rattle.std.specs.Prelude.{◌≡◌};
-    ghost use Rattle.branch_text.specs.declared.grammar.ReadError.TheVariants as variants;
-
-    ghost from_gives = { λ _ e. e ≡ variants.Memory };
-
-    fn from(_: Memory) -> Self {
-        ReadError::Memory
-    }
-}
+use path_query::ReadError;
+use std::alloc::Global;
 
 /// The test at the front, and what follows it.
 fn read_test<'t>(alloc: Global, left: &'t [Token]) -> Result<(Test, &'t [Token]), ReadError>

@@ -3,8 +3,8 @@
 
 mod answers;
 mod branch;
+mod front;
 mod grammar;
-mod lexer;
 mod marks;
 mod parsing;
 mod token;

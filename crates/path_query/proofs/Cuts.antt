@@ -43,3 +43,14 @@ prefix_passes p (x ∷ xs) =
   where
     one_more : (n : ℕ) → 1 + n ≡ suc n
     one_more n = omega arith
+
+-- what is left behind those that pass begins with one that doesn't
+pub passed : (p : ℕ → Bool) (text : List ℕ) → Stops p (drop (prefix_len p text) text)
+passed p [] = tt
+passed p (x ∷ xs) = elim (p x) as (λ c. p x ≡ c → Stops p (drop (cond c (1 + prefix_len p xs) 0) (x ∷ xs))) [
+  | true ↦ λ e. subst (λ n. Stops p (drop n (x ∷ xs))) (one_more (prefix_len p xs)) (passed p xs)
+  | false ↦ λ e. e
+] refl
+  where
+    one_more : (n : ℕ) → suc n ≡ 1 + n
+    one_more n = omega arith

@@ -1,22 +1,18 @@
 -- The definitions at worked values, and at near misses.
-use Rattle.std.proofs.Common.{◌≡◌, inl, inr, ◌++◌, ℕ, zero, suc, true, false, Bool, List, [], ◌∷◌, take, drop, refl, sym, ap, subst, ◌∙◌, IsTrue, true≢false, Option, Some, None, ◌||◌, arith}
-use Rattle.std.specs.Prelude.{slice_index, unwrap_or, codes, ◌==◌, ◌&&◌}
-use Rattle.std.specs.List.{list_all, list_any, prefix_len}
+use Rattle.std.proofs.Common.{◌≡◌, inl, inr, ◌++◌, ℕ, true, false, Bool, List, [], ◌∷◌, refl, sym, ap, subst, ◌∙◌, true≢false, ◌||◌, arith}
+use Rattle.std.specs.Prelude.{slice_index, codes, ◌==◌, ◌&&◌}
+use Rattle.std.specs.List.{list_all, list_any}
 use Rattle.std.specs.Str.{chars}
 use Rattle.std.proofs.Math.Utf8.{encodes, scalar, scalars}
-use Rattle.std.proofs.lemmas.Bool.Decides.{nat_tests}
 use Rattle.std.proofs.lemmas.List.{append_cancel_right}
 use Rattle.std.proofs.lemmas.Str.{encodes_same, chars-encodes}
-use Rattle.graph_spec.specs.Members.{has}
-use Rattle.graph_spec.specs.Words.{is_name_byte}
 use Rattle.triples_read.specs.Characters.{is_iri_char}
 use Rattle.triples_read.specs.Terminals.{Many, IriPiece}
 use Rattle.triples_read.specs.Canonical.{iri_text, iri_spelling}
-use Rattle.triples_read.specs.ByteReaders.{starts_with}
 use Rattle.triples_read.proofs.Basics.{cons-tail}
 use Rattle.path_query.specs.Labels.{IsPlainLabel, SpellsLabel}
 use Rattle.path_query.proofs.LabelBytes.{both}
-use Rattle.path_query.proofs.LabelLaws.{kind, plain, bracketed, name_end, iri_opens}
+use Rattle.path_query.proofs.LabelLaws.{iri_opens}
 use Rattle.path_query.specs.Depths.{depth}
 
 pub plain_a : IsPlainLabel (codes "a")

@@ -1,11 +1,11 @@
 -- What the readers of tokens keep.
-use Rattle.std.proofs.Common.{◌≡◌, ℕ, List, [], ◌∷◌, ◌++◌, length, refl, sym, ap, ◌∙◌, subst, map, Option, None, Some}
+use Rattle.std.proofs.Common.{◌≡◌, ℕ, List, [], ◌∷◌, ◌++◌, length, refl, sym, ap, ◌∙◌, subst}
 use Rattle.path_spec.specs.Trees as tree
 use Rattle.path_spec.specs.Tokens.{Token, lab, underscore, slash, slashes, bar, opening, closing, sign, sep_token, onto, seq_onto, item_onto, atom_onto, tokens, EndsExpr, EndsSeq, EndsItem}
 use Rattle.path_spec.proofs.OneTree.{ends_expr_seq, ends_seq_item, sep_ends, sep_goes_on, sep_one, one_expr, one_seq, one_item, one_atom}
 use Rattle.path_expr.specs.declared.tree.Following.{Following}
 use Rattle.path_expr.specs.declared.tree.Seq.{Seq}
-use Rattle.path_expr.specs.ExprTrees.{sign_of, sep_of, signed_by, item_of, seq_from, seq_of, expr_from}
+use Rattle.path_expr.specs.ExprTrees.{sep_of, item_of, seq_from, seq_of, expr_from}
 use Rattle.path_expr.specs.declared.tree.Sep.TheVariants.{Child, Below}
 use Rattle.path_query.specs.declared.token.Token as token
 use Rattle.path_query.specs.declared.token.Token.TheVariants.{Label, Any, Sep, Bar, Open, Close, Sign}

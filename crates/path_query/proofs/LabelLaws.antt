@@ -1,9 +1,10 @@
 -- At most one prefix of a text is a label behind which no name goes on.
-use Rattle.std.proofs.Common.{◌≡◌, ◌≤◌, inl, inr, ℕ, zero, suc, true, List, [], ◌∷◌, ◌++◌, length, take, drop, sym, ap, ◌∙◌, subst, true≢false, arith, ◌+◌, append-nil, length-append, eqb-true}
+use Rattle.std.proofs.Common.{◌≡◌, ◌≤◌, inl, inr, ℕ, zero, suc, true, false, refl, List, [], ◌∷◌, ◌++◌, length, take, drop, sym, ap, ◌∙◌, subst, true≢false, arith, ◌+◌, append-nil, length-append, eqb-true}
 use Rattle.std.proofs.Math.Seq.{take-length}
 use Rattle.std.proofs.Math.Utf8.{encodes, scalars}
-use Rattle.std.specs.Prelude.{IsUtf8, nat_eq}
+use Rattle.std.specs.Prelude.{◌==◌, ◌||◌, IsUtf8, nat_eq}
 use Rattle.std.specs.List.{prefix_len, position_or_len}
+use Rattle.std.proofs.lemmas.Bool.Decides.{nat_tests}
 use Rattle.std.proofs.lemmas.List.{take-append-drop, length-take-le}
 use Rattle.std.proofs.lemmas.Str.{encodes_same}
 use Rattle.graph_spec.specs.Words.{is_blank, is_letter, is_name_byte, is_name}
@@ -15,13 +16,18 @@ use Rattle.triples_read.proofs.OpeningQuotes.{prefix-quoted}
 use Rattle.triples_read.proofs.IriPrefixes.{prefix-cut, end-found, cut-there}
 use Rattle.triples_read.proofs.OneTriple.{iri-unique}
 use Rattle.path_spec.specs.Spelling.{EndsName}
+use Rattle.path_query.specs.Languages.{Begins}
 use Rattle.path_query.specs.Labels.{IsPlainLabel, SpellsLabel, IsNamePrefix}
-use Rattle.path_query.proofs.LabelBytes.{named, name_bytes, letter_is_no_blank}
+use Rattle.path_query.proofs.LabelBytes.{named, name_bytes}
 use Rattle.path_query.proofs.Cuts.{Stops, prefix_len-cut}
 
-ends_stop : (xs : List ℕ) → EndsName xs → Stops is_name_byte xs
+pub ends_stop : (xs : List ℕ) → EndsName xs → Stops is_name_byte xs
 ends_stop [] h = tt
 ends_stop (x ∷ xs) h = h
+
+pub stop_ends : (xs : List ℕ) → Stops is_name_byte xs → EndsName xs
+stop_ends [] h = tt
+stop_ends (x ∷ xs) h = h
 
 -- a name that ends there is as long as can be
 pub name_end : (text : List ℕ) (n : ℕ) → n ≤ length text → is_name (take n text) ≡ true → EndsName (drop n text) → prefix_len is_name_byte text ≡ n
@@ -83,6 +89,27 @@ plain_opens (x ∷ xs) zero e l = true≢false (sym l.0)
 plain_opens (x ∷ xs) (suc n) e l =
     true≢false (sym (subst (λ b. is_letter b ≡ true) (eqb-true x 60 e) (named x (take n xs) l.0).letter))
 
+-- its first byte is a letter, or '<'
+pub record First (w : List ℕ) : Type 0 where
+  pub byte : ℕ
+  pub others : List ℕ
+  pub is : w ≡ byte ∷ others
+  pub opens : (is_letter byte || (byte == 60)) ≡ true
+
+pub label_first : (w t : List ℕ) → SpellsLabel w t → First w
+label_first [] t (inl (l, e)) = absurd (true≢false (sym l.0))
+label_first (x ∷ xs) t (inl (l, e)) = record { byte = x; others = xs; is = refl; opens = ap (λ c. c || (x == 60)) (named x xs l.0).letter }
+label_first [] t (inr (iri, h, e)) = absurd (true≢false (sym (iri_opens [] 0 iri h)))
+label_first (x ∷ xs) t (inr (iri, h, e)) =
+    record { byte = x; others = xs; is = refl; opens = ap (λ b. is_letter b || (b == 60)) (eqb-true x 60 (iri_opens (x ∷ xs) (length (x ∷ xs)) iri h)) }
+
+-- and that is no blank
+pub label_begins : (w t : List ℕ) → SpellsLabel w t → Begins w
+label_begins w t h = let f = label_first w t h in subst Begins (sym f.is) (no_blank f.byte f.opens)
+  where
+    no_blank : (b : ℕ) → (is_letter b || (b == 60)) ≡ true → is_blank b ≡ false
+    no_blank b h = grind (arith, nat_tests)
+
 -- which kind of label stands in front
 pub data Kind (text : List ℕ) (n : ℕ) (t : List ℕ) : Type 0 where
   plain : IsPlainLabel (take n text) → t ≡ take n text → Kind text n t
@@ -124,13 +151,3 @@ prefix_whole text n t e h = subst (λ x. SpellsLabel x t) (ap (λ i. take i text
 pub label_one : (text t u : List ℕ) → SpellsLabel text t → SpellsLabel text u → t ≡ u
 label_one text t u h k =
     (prefix_one text (length text) (length text) t u (whole_prefix text t h) (whole_ends text) (whole_prefix text u k) (whole_ends text)).1
-
--- a label begins with no blank
-pub label_stops : (text t more : List ℕ) → SpellsLabel text t → Stops is_blank (text ++ more)
-label_stops [] t more (inl (l, e)) = absurd (true≢false (sym l.0))
-label_stops (x ∷ xs) t more (inl (l, e)) = letter_is_no_blank x (named x xs l.0).letter
-label_stops text t more (inr (iri, h, e)) = opened text (iri_opens text (length text) iri h)
-  where
-    opened : (text : List ℕ) → starts_with 60 text ≡ true → Stops is_blank (text ++ more)
-    opened [] o = absurd (true≢false (sym o))
-    opened (x ∷ xs) o = ap is_blank (eqb-true x 60 o)

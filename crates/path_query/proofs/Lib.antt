@@ -3,6 +3,8 @@ pub mod LabelBytes
 pub mod LabelLaws
 pub mod GrammarLaws
 pub mod LexerLaws
+pub mod Fronts
+pub mod TokenPrefixLaws
 pub mod OneText
 pub mod Shortness
 pub mod Canon

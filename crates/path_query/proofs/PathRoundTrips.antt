@@ -1,8 +1,8 @@
 -- What is written is read again as the same tree.
-use Rattle.std.proofs.Common.{◌≡◌, ℕ, ◌≤◌, inl, inr, List, [], ◌∷◌, ◌++◌, length, take, refl, sym, ap, ◌∙◌, subst, arith}
+use Rattle.std.proofs.Common.{ℕ, inl, inr, List, [], ◌∷◌, ◌++◌, refl, sym, ◌∙◌, subst, arith}
 use Rattle.std.proofs.Math.Seq.{take-length}
 use Rattle.std.specs.Str.{chars}
-use Rattle.triples_read.specs.Canonical.{iri_text, iri_spelling}
+use Rattle.triples_read.specs.Canonical.{iri_text}
 use Rattle.triples_read.proofs.CanonicalLaws.{iri_canonical}
 use Rattle.path_spec.specs.Trees.{Expr}
 use Rattle.path_spec.specs.Tokens.{Token, lab, underscore, slash, slashes, bar, opening, closing, sign, tokens}
@@ -10,7 +10,8 @@ use Rattle.path_spec.specs.Spelling.{EndsSlash, SpellsTokens, canonical}
 use Rattle.path_spec.proofs.CanonicalTexts.{SpellThemselves, NoSlash, canonical_spells}
 use Rattle.path_query.specs.Labels.{IsPlainLabel, SpellsLabel}
 use Rattle.path_query.specs.Parsed.{Spells}
-use Rattle.path_query.proofs.LexerLaws.{label_first}
+use Rattle.path_query.proofs.LabelLaws.{label_first}
+use Rattle.path_query.proofs.TokenPrefixLaws.{label_no_slash}
 
 -- a label is spelled by its own text
 pub label_again : (w t : List ℕ) → SpellsLabel w t → SpellsLabel t t
@@ -31,7 +32,7 @@ themselves text (closing ∷ ts) (b, w, rest, blanks, spelled, ends, more, e) = 
 themselves text (sign g ∷ ts) (b, w, rest, blanks, spelled, ends, more, e) = themselves rest ts more
 
 no_slash : NoSlash SpellsLabel
-no_slash t rest h = let f = label_first t t h in subst (λ x. EndsSlash (x ++ rest)) (sym f.is) f.no_slash
+no_slash t rest h = let f = label_first t t h in subst (λ x. EndsSlash (x ++ rest)) (sym f.is) (label_no_slash f.byte f.opens)
 
 pub again : (text : List ℕ) (e : Expr) → Spells text e → Spells (canonical e) e
 again text e h = canonical_spells SpellsLabel no_slash e (themselves text (tokens e) h)

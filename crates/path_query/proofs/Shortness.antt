@@ -13,6 +13,7 @@ use Rattle.path_query.specs.Lengths.{IsBounded, IsNarrow}
 use Rattle.path_query.specs.Depths.{depth}
 use Rattle.path_query.specs.Parsed.{Spells, is_past}
 use Rattle.path_query.proofs.LexerLaws.{past, first_token, prefix_shorter, past_shorter}
+use Rattle.path_query.proofs.TokenPrefixLaws.{path_language}
 
 -- the tokens in front of the others are at least as many as the labels of the longest word
 abbrev Adds : Option ℕ → List Token → List Token → Type 0
@@ -77,8 +78,8 @@ mutual
 tokens_few : (ts : List Token) (text : List ℕ) → SpellsTokens SpellsLabel text ts → length ts ≤ length text
 tokens_few [] text h = omega arith
 tokens_few (t ∷ ts) text h =
-    let f = first_token text t ts h in
-    let less : length f.rest < length (past text) = prefix_shorter (past text) t f.rest f.prefix in
+    let f = first_token path_language text t ts h in
+    let less : length f.rest < length (past text) = prefix_shorter path_language (past text) t f.rest f.prefix in
     let cut : length (past text) ≤ length text = past_shorter text in
     let more : length ts ≤ length f.rest = tokens_few ts f.rest f.more in
     omega arith

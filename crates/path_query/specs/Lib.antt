@@ -2,6 +2,7 @@ pub mod Labels
 pub mod Depths
 pub mod Parsed
 pub mod Lengths
+pub mod Languages
 pub mod PathTokens
 pub mod PathTokenPrefixes
 pub mod Heads

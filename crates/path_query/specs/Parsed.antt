@@ -1,5 +1,5 @@
 -- What a text spells, and what passes a limit.
-use Rattle.std.specs.Prelude.{ℕ, ◌<◌, ◌||◌, Bool, List, length, nat_lt}
+use Rattle.std.specs.Prelude.{ℕ, ◌||◌, Bool, List, length, nat_lt}
 use Rattle.graph_spec.specs.declared.limits.Limits.{Limits}
 use Rattle.path_spec.specs.Trees.{Expr}
 use Rattle.path_spec.specs.Spelling as spelling

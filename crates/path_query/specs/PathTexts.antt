@@ -1,6 +1,6 @@
 -- The canonical text of a tree, part by part.
 use Rattle.std.specs.Prelude.{ℕ, List, [], ◌∷◌, ◌++◌}
-use Rattle.path_spec.specs.Trees.{Sign, star, plus, opt, Sep, child, below, Expr, only, or, Seq, last, then, Item, once, signed, Atom, label, any, group}
+use Rattle.path_spec.specs.Trees.{Expr, only, or, Seq, last, then, Item, once, signed, Atom, label, any, group}
 use Rattle.path_spec.specs.Tokens.{sep_token}
 use Rattle.path_spec.specs.Spelling.{sign_byte, token_text}
 

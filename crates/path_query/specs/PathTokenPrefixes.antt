@@ -1,13 +1,14 @@
 -- The token at the front of a text.
-use Rattle.std.specs.Prelude.{ℕ, ◌≡◌, ◌==◌, List, [], ◌∷◌, ◌++◌, Option, None, Some, option_map, if◌then◌else◌}
+use Rattle.std.specs.Prelude.{ℕ, ◌==◌, List, [], ◌∷◌, Option, None, Some, option_map, if◌then◌else◌}
 use Rattle.path_spec.specs.Trees.{star, plus, opt}
-use Rattle.path_spec.specs.Tokens.{Token, lab, underscore, slash, slashes, bar, opening, closing, sign}
+use Rattle.path_spec.specs.Tokens.{Token, underscore, slash, slashes, bar, opening, closing, sign}
 use Rattle.path_spec.specs.Spelling.{EndsToken, SpellsToken}
 use Rattle.path_query.specs.Labels.{SpellsLabel}
+use Rattle.path_query.specs.Languages as languages
 
 -- a token stands at the front, as long as it can be
 abbrev pub IsTokenPrefix : List ℕ → Token → List ℕ → Type 0
-IsTokenPrefix text t rest = (word : List ℕ) × SpellsToken SpellsLabel word t × EndsToken t rest × (text ≡ word ++ rest)
+IsTokenPrefix text t rest = languages.IsTokenPrefix (SpellsToken SpellsLabel) EndsToken text t rest
 
 -- the token of one byte, but for '/'
 abbrev pub mark_at : ℕ → Option Token

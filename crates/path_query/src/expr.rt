@@ -7,8 +7,8 @@ ghost use Rattle.path_spec.specs.Spelling.{canonical};
 ghost use Rattle.path_query.specs.Lengths.{IsBounded};
 ghost use Rattle.path_query.specs.Parsed.{Spells, is_past};
 
-use crate::grammar::ReadError;
 use crate::parsing::{is_past, read};
+use crate::read_error::ReadError;
 use crate::writing::write_expr;
 use graph_spec::Limits;
 use path_expr::{Expr, longest};

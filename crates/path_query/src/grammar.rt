@@ -6,41 +6,10 @@ ghost use Rattle.path_expr.specs.ExprTrees.{atom_of, signed_by, item_of, seq_of}
 ghost use Rattle.path_query.specs.PathTokens.{seen};
 ghost use Rattle.path_query.specs.Heads.{HasNoAtom, HasNoItem, HasNoSeq, HasNoExpr, EndsItemBefore};
 
+use crate::read_error::ReadError;
 use crate::token::{Token, after_bar, after_close, ends_item, first_sep, first_sign, first_token};
 use path_expr::{Atom, Expr, Following, Item, Seq, Sign};
-use px_base::Memory;
-use std::alloc::{AllocFailed, Global};
-
-/// Why tokens make no path expression.
-#[derive(Clone, Copy, Debug, PartialEq, Eq)]
-pub(crate) enum ReadError {
-    /// They spell none.
-    Syntax,
-    /// Memory ran out.
-    Memory,
-}
-
-impl<T: Drop> From<AllocFailed<T>> for ReadError {
-    ghost use Rattle.std.specs.Prelude.{◌≡◌};
-    ghost use Rattle.path_query.specs.declared.grammar.ReadError.TheVariants as variants;
-
-    ghost from_gives = { λ _ e. e ≡ variants.Memory };
-
-    fn from(_: AllocFailed<T>) -> Self {
-        ReadError::Memory
-    }
-}
-
-impl From<Memory> for ReadError {
-    ghost use Rattle.std.specs.Prelude.{◌≡◌};
-    ghost use Rattle.path_query.specs.declared.grammar.ReadError.TheVariants as variants;
-
-    ghost from_gives = { λ _ e. e ≡ variants.Memory };
-
-    fn from(_: Memory) -> Self {
-        ReadError::Memory
-    }
-}
+use std::alloc::Global;
 
 /// The atom at the front, and what follows it.
 #[cycle(read)]

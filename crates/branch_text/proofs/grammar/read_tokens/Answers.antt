@@ -3,7 +3,7 @@ use Rattle.std.proofs.lemmas.Bool.Decides.{nat_tests}
 use Rattle.std.proofs.lemmas.Result.{err_from_is_err_and}
 use Rattle.branch_spec.specs.Tokens.{step_onto}
 use Rattle.branch_expr.specs.QueryTrees.{step_of, chain_of}
-use Rattle.branch_text.specs.declared.grammar.ReadError.TheVariants.{Syntax}
+use Rattle.path_query.specs.declared.read_error.ReadError.TheVariants.{Syntax}
 use Rattle.branch_text.specs.BranchTokens.{seen}
 use Rattle.branch_text.proofs.GrammarLaws.{all_read, query_begins, query_rest}
 use Rattle.branch_text.proofs.grammar.read_tokens.Goals as goal

@@ -1,8 +1,8 @@
-use Rattle.std.proofs.Common.{◌≡◌, ◌∷◌, ◌∙◌, sym, ap, subst, Err, arith, List}
+use Rattle.std.proofs.Common.{◌≡◌, ◌∷◌, ◌∙◌, sym, ap, Err, arith}
 use Rattle.std.proofs.lemmas.Result.{err_from_is_err_and}
-use Rattle.path_spec.specs.Tokens.{onto, seq_onto, item_onto, atom_onto, bar, sep_token}
+use Rattle.path_spec.specs.Tokens.{onto, seq_onto, bar, sep_token}
 use Rattle.path_expr.specs.ExprTrees.{sep_of, item_of, seq_of, seq_from, expr_from}
-use Rattle.path_query.specs.declared.grammar.ReadError.TheVariants.{Syntax}
+use Rattle.path_query.specs.declared.read_error.ReadError.TheVariants.{Syntax}
 use Rattle.path_query.specs.PathTokens.{seen}
 use Rattle.path_query.proofs.GrammarLaws.{expr_more, seq_more, expr_peel, expr_begins, seq_peel, seq_begins, item_begins, seq_ends, none_begins, other_token, inside_of, unclosed}
 use Rattle.path_query.proofs.grammar.+read.Goals as goal

@@ -12,3 +12,9 @@ invariant_of-result c = (again c.args.text.now c.in-Ok.tree c.in-Ok.ensures.ok, 
 
 pub returns-in-Err-Memory-clause-once : goal.returns-in-Err-Memory-clause-once
 returns-in-Err-Memory-clause-once c a b h k = spells_one c.args.text.now a b h k
+
+pub returns-in-Ok-clause-only : goal.returns-in-Ok-clause-only
+returns-in-Ok-clause-only c other h = spells_one c.args.text.now other c.in-Ok.tree h c.in-Ok.ensures.ok
+
+pub returns-in-Ok-clause-once : goal.returns-in-Ok-clause-once
+returns-in-Ok-clause-once c a b h k = spells_one c.args.text.now a b h k

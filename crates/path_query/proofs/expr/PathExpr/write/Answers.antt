@@ -1,4 +1,4 @@
-use Rattle.std.proofs.Common.{◌≡◌, ◌++◌, ◌∙◌, sym, subst, ap}
+use Rattle.std.proofs.Common.{◌++◌, ◌∙◌, sym, subst, ap}
 use Rattle.path_spec.specs.Spelling.{canonical}
 use Rattle.path_query.specs.Parsed.{Spells}
 use Rattle.path_query.specs.PathTexts.{expr_text}
