@@ -1,5 +1,5 @@
 -- A line spells at most one command, and none where it is quiet.
-use Rattle.std.proofs.Common.{◌≡◌, ℕ, ◌≢◌, ◌<◌, ◌^◌, List, [], ◌∷◌, refl, sym, ap, ◌∙◌, subst, arith}
+use Rattle.std.proofs.Common.{◌≡◌, ℕ, ◌<◌, ◌^◌, List, [], ◌∷◌, refl, sym, ap, ◌∙◌, subst, arith}
 use Rattle.std.specs.Prelude.{codes, slice_index}
 use Rattle.std.proofs.lemmas.Fmt.{decimal_injective}
 use Rattle.graph_spec.specs.Changes.{node, link, unlink, drop}
@@ -12,9 +12,9 @@ use Rattle.index_api.specs.declared.kinds.Via.TheVariants.{Data, A, One, Fb}
 use Rattle.index_api.specs.Spelling.{via_word, kind_word}
 use Rattle.script_read.specs.FirstWords.{first_word, expression_text}
 use Rattle.script_read.specs.Commands.{Command, change, path, branch, extents, sizes, forget, IsIndex, IsVia, IsQuiet, IsSpelled, SpellsPair, AsksWith, Asks, NoCommand, SpellsOnce, LabelsOnce, PathsOnce, BranchesOnce}
-use Rattle.script_read.specs.ScannedLines.{SaysNode, SaysQuery}
+use Rattle.script_read.specs.ScannedLines.{SaysNode, SaysQuery, IsWhole}
 use Rattle.script_read.proofs.WordLemmas.{head_word, is_split}
-use Rattle.script_read.proofs.CommandLemmas.{second_same, no_query, apart, begins, silent}
+use Rattle.script_read.proofs.CommandLemmas.{second_same, no_query, OpensWhole, no_part, apart, begins, silent}
 
 node_number : (m n : ℕ) → m < 2 ^ 32 → n < 2 ^ 32 → node_word m ≡ node_word n → m ≡ n
 node_number m n a b e = decimal_injective m n (omega arith) (omega arith) cc
@@ -91,12 +91,12 @@ command_one line o sizes (change c) h k = absurd (apart (first_word line) _ _ (b
 command_one line o (forget v) (change c) h k = absurd (apart (first_word line) _ _ (begins line (change c) k) (begins line (forget v) h) (no_query c).no_forget)
 command_one line o c d h k = absurd (apart (first_word line) _ _ (begins line c h) (begins line d k) (λ e. omega (arith, e)))
 
--- a first byte other than that of `node` (110), of `path` (112) and of `branch` (98)
-no_parts : (line word : List ℕ) → first_word line ≡ word → slice_index word 0 ≢ 110 → slice_index word 0 ≢ 112 → slice_index word 0 ≢ 98 → PartsOnce line
-no_parts line word e n p b = record {
-  label = λ w s. absurd (n (ap (λ l. slice_index l 0) (sym e ∙ (head_word line _ _ _ _ (is_split line) s).0)));
-  expression = λ f. absurd (p (ap (λ l. slice_index l 0) (sym e ∙ f)));
-  query = λ f. absurd (b (ap (λ l. slice_index l 0) (sym e ∙ f)));
+-- the parts of a line that begins with neither `node` nor `path` nor `branch`
+no_parts : (line word : List ℕ) → first_word line ≡ word → OpensWhole (slice_index word 0) → PartsOnce line
+no_parts line word e o = record {
+  label = λ w s. absurd (o.no_node (ap (λ l. slice_index l 0) (sym e ∙ (head_word line _ _ _ _ (is_split line) s).0)));
+  expression = λ f. absurd (o.no_path (ap (λ l. slice_index l 0) (sym e ∙ f)));
+  query = λ f. absurd (o.no_branch (ap (λ l. slice_index l 0) (sym e ∙ f)));
 }
 
 -- one lemma for each thing that a line can say
@@ -127,23 +127,7 @@ branch_once line via text s once = command_one line (record {
   query = λ f. subst BranchesOnce s.1 once;
 })
 
-pub link_once : (line : List ℕ) (u v : ℕ) → IsSpelled line (change (link u v)) → SpellsOnce line
-link_once line u v h = command_one line (no_parts line _ (begins line (change (link u v)) h) (λ e. omega (arith, e)) (λ e. omega (arith, e)) (λ e. omega (arith, e)))
+pub whole_once : (line : List ℕ) (c : Command) → IsSpelled line c → IsWhole c → SpellsOnce line
+whole_once line c h w = command_one line (no_parts line _ (begins line c h) (no_part c w))
 
-pub unlink_once : (line : List ℕ) (u v : ℕ) → IsSpelled line (change (unlink u v)) → SpellsOnce line
-unlink_once line u v h = command_one line (no_parts line _ (begins line (change (unlink u v)) h) (λ e. omega (arith, e)) (λ e. omega (arith, e)) (λ e. omega (arith, e)))
-
-pub drop_once : (line : List ℕ) (u : ℕ) → IsSpelled line (change (drop u)) → SpellsOnce line
-drop_once line u h = command_one line (no_parts line _ (begins line (change (drop u)) h) (λ e. omega (arith, e)) (λ e. omega (arith, e)) (λ e. omega (arith, e)))
-
-pub extents_once : (line : List ℕ) (via : Via) → IsSpelled line (extents via) → SpellsOnce line
-extents_once line via h = command_one line (no_parts line _ (begins line (extents via) h) (λ e. omega (arith, e)) (λ e. omega (arith, e)) (λ e. omega (arith, e)))
-
-pub sizes_once : (line : List ℕ) → IsSpelled line sizes → SpellsOnce line
-sizes_once line h = command_one line (no_parts line _ (begins line sizes h) (λ e. omega (arith, e)) (λ e. omega (arith, e)) (λ e. omega (arith, e)))
-
-pub forget_once : (line : List ℕ) (kind : Kind) → IsSpelled line (forget kind) → SpellsOnce line
-forget_once line kind h = command_one line (no_parts line _ (begins line (forget kind) h) (λ e. omega (arith, e)) (λ e. omega (arith, e)) (λ e. omega (arith, e)))
-
-pub ruleset reading_laws =
-    (silent, quiet_once, bad_once, node_once, path_once, branch_once, link_once, unlink_once, drop_once, extents_once, sizes_once, forget_once)
+pub ruleset reading_laws = (silent, quiet_once, bad_once, node_once, path_once, branch_once, whole_once)

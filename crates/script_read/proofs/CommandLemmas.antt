@@ -12,7 +12,7 @@ use Rattle.path_query.specs.Labels.{SpellsLabel}
 use Rattle.path_query.specs.Parsed.{Spells, is_past}
 use Rattle.branch_spec.specs.Trees.{Branch}
 use Rattle.branch_text.specs.Parsed.{Spells as SpellsQuery}
-use Rattle.script_read.specs.ScannedLines.{SaysNode, SaysQuery, OpensOther}
+use Rattle.script_read.specs.ScannedLines.{SaysNode, SaysQuery, IsWhole, OpensOther}
 use Rattle.script_read.specs.ReadLines.{ReadsCommand}
 use Rattle.script_read.specs.declared.commands.ScriptError.{ScriptError}
 use Rattle.script_read.specs.declared.commands.ScriptError.TheVariants.{Bad, Limit, Memory}
@@ -62,6 +62,18 @@ no_query (node t) = record { no_path = λ e. omega (arith, e); no_branch = λ e.
 no_query (link u v) = record { no_path = λ e. omega (arith, e); no_branch = λ e. omega (arith, e); no_extents = λ e. omega (arith, e); no_sizes = λ e. omega (arith, e); no_forget = λ e. omega (arith, e) }
 no_query (unlink u v) = record { no_path = λ e. omega (arith, e); no_branch = λ e. omega (arith, e); no_extents = λ e. omega (arith, e); no_sizes = λ e. omega (arith, e); no_forget = λ e. omega (arith, e) }
 no_query (drop u) = record { no_path = λ e. omega (arith, e); no_branch = λ e. omega (arith, e); no_extents = λ e. omega (arith, e); no_sizes = λ e. omega (arith, e); no_forget = λ e. omega (arith, e) }
+
+-- a first byte that isn't that of `node`, `path` or `branch`
+pub record OpensWhole (b : ℕ) : Type 0 where
+  pub no_node : b ≢ 110
+  pub no_path : b ≢ 112
+  pub no_branch : b ≢ 98
+
+pub no_part : (c : Command) → IsWhole c → OpensWhole (slice_index (keyword c) 0)
+no_part (change (node t)) w = absurd w
+no_part (path via e) w = absurd w
+no_part (branch via q) w = absurd w
+no_part c w = record { no_node = λ e. omega (arith, e); no_path = λ e. omega (arith, e); no_branch = λ e. omega (arith, e) }
 
 -- two words that differ in the first byte
 pub apart : (word a b : List ℕ) → word ≡ a → word ≡ b → (slice_index a 0 ≢ slice_index b 0) → ⊥
@@ -239,10 +251,9 @@ silent line q c h = loud c (subst OpensNothing (begins line c h) (quiet_opens li
 pub asks_nothing : (limits : Limits) (line : List ℕ) → ¬ Asks line → ¬ PassesLimit limits line
 asks_nothing limits line absent h = absent h.0
 
--- no command but a query asks with an expression
-pub free : (limits : Limits) (line : List ℕ) (c : Command) → IsSpelled line c → (slice_index (keyword c) 0 ≢ 112) → (slice_index (keyword c) 0 ≢ 98)
-    → ¬ PassesLimit limits line
-free limits line c h no_path no_branch k = asks_otherwise line _ (begins line c h) no_path no_branch k.0
+-- a command without an expression asks nothing
+pub free : (limits : Limits) (line : List ℕ) (c : Command) → IsSpelled line c → IsWhole c → ¬ PassesLimit limits line
+free limits line c h w k = (let other = no_part c w in asks_otherwise line _ (begins line c h) other.no_path other.no_branch k.0)
 
 opens_node : (line word : List ℕ) → SaysNode line word → first_word line ≡ codes "node"
 opens_node line word s = (head_word line _ _ _ _ (is_split line) s).0

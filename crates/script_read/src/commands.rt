@@ -117,9 +117,6 @@ pub fn read(alloc: Global, line: &[u8], limits: &Limits) -> Result<Option<Comman
     match scan(line) {
         ScannedLine::Quiet => Ok(None),
         ScannedLine::Node(word) => Ok(Some(Command::Node(parse_label(alloc, word)?))),
-        ScannedLine::Link(from, to) => Ok(Some(Command::Link(from, to))),
-        ScannedLine::Unlink(from, to) => Ok(Some(Command::Unlink(from, to))),
-        ScannedLine::Drop(node) => Ok(Some(Command::Drop(node))),
         ScannedLine::Path(via, text) => Ok(Some(Command::Path(
             via,
             parse_path(alloc, text, limits)?,
@@ -127,9 +124,7 @@ pub fn read(alloc: Global, line: &[u8], limits: &Limits) -> Result<Option<Comman
         ScannedLine::Branch(via, text) => {
             Ok(Some(Command::Branch(via, parse_branch(alloc, text, limits)?)))
         }
-        ScannedLine::Extents(via) => Ok(Some(Command::Extents(via))),
-        ScannedLine::Sizes => Ok(Some(Command::Sizes)),
-        ScannedLine::Forget(kind) => Ok(Some(Command::Forget(kind))),
+        ScannedLine::Whole(command) => Ok(Some(command)),
         ScannedLine::Bad => Err(ScriptError::Bad),
     }
 }

@@ -7,28 +7,24 @@ ghost use Rattle.script_read.specs.Commands.{IsVia};
 ghost use Rattle.script_read.specs.FirstWords.{first_word, behind_word, without_blanks, OpensNothing};
 ghost use Rattle.script_read.specs.ScannedLines.{OpensOther, IsScanned};
 
+use crate::commands::Command;
 use crate::indexes::{one_index, one_kind, via_of};
 use crate::nodes::{one_node, two_nodes};
 use crate::words::{is_over, is_word, one_word, split_word, trim_blanks};
-use index_api::{Kind, Via};
-use px_base::NodeId;
+use index_api::Via;
 
-/// What a line says. Its parts are borrowed from the line.
-#[derive(Clone, Copy)]
+/// What a line says, before its label or expression is read. Such a text is borrowed from the line.
+#[derive(Drop)]
 pub(crate) enum ScannedLine<'a> {
     Quiet,
     /// The text of a label.
     Node(&'a [u8]),
-    Link(NodeId, NodeId),
-    Unlink(NodeId, NodeId),
-    Drop(NodeId),
     /// Through what a path expression is asked, and its text.
     Path(Via, &'a [u8]),
     /// The same of a branching query.
     Branch(Via, &'a [u8]),
-    Extents(Via),
-    Sizes,
-    Forget(Kind),
+    /// A command with neither label nor expression.
+    Whole(Command),
     Bad,
 }
 
@@ -69,18 +65,18 @@ fn scan_query<'a>(word: &'a [u8], rest: &'a [u8]) -> ScannedLine<'a>
         }
     } else if is_word(word, "extents") {
         match one_index(rest) {
-            Some(via) => ScannedLine::Extents(via),
+            Some(via) => ScannedLine::Whole(Command::Extents(via)),
             None => ScannedLine::Bad,
         }
     } else if is_word(word, "sizes") {
         if is_over(rest) {
-            ScannedLine::Sizes
+            ScannedLine::Whole(Command::Sizes)
         } else {
             ScannedLine::Bad
         }
     } else if is_word(word, "forget") {
         match one_kind(rest) {
-            Some(kind) => ScannedLine::Forget(kind),
+            Some(kind) => ScannedLine::Whole(Command::Forget(kind)),
             None => ScannedLine::Bad,
         }
     } else {
@@ -102,17 +98,17 @@ pub(crate) fn scan(line: &[u8]) -> ScannedLine<'_>
         }
     } else if is_word(word, "link") {
         match two_nodes(rest) {
-            Some((from, to)) => ScannedLine::Link(from, to),
+            Some((from, to)) => ScannedLine::Whole(Command::Link(from, to)),
             None => ScannedLine::Bad,
         }
     } else if is_word(word, "unlink") {
         match two_nodes(rest) {
-            Some((from, to)) => ScannedLine::Unlink(from, to),
+            Some((from, to)) => ScannedLine::Whole(Command::Unlink(from, to)),
             None => ScannedLine::Bad,
         }
     } else if is_word(word, "drop") {
         match one_node(rest) {
-            Some(node) => ScannedLine::Drop(node),
+            Some(node) => ScannedLine::Whole(Command::Drop(node)),
             None => ScannedLine::Bad,
         }
     } else {

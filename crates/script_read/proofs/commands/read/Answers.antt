@@ -1,10 +1,9 @@
-use Rattle.std.proofs.Common.{◌≡◌, ap, sym, ◌∙◌, Err, arith}
+use Rattle.std.proofs.Common.{◌≡◌, ap, sym, ◌∙◌, Err}
 use Rattle.std.proofs.lemmas.Result.{err_from_is_err_and}
-use Rattle.graph_spec.specs.Changes.{link, unlink, drop}
-use Rattle.script_read.specs.Commands.{change, extents, sizes, forget}
+use Rattle.script_read.specs.ReadLines.{command_of}
 use Rattle.script_read.specs.declared.commands.ScriptError.TheVariants.{Limit}
 use Rattle.script_read.proofs.CommandLemmas.{failed_node, failed_path, failed_branch, node_free, free}
-use Rattle.script_read.proofs.CommandLaws.{path_once, branch_once, extents_once, forget_once}
+use Rattle.script_read.proofs.CommandLaws.{path_once, branch_once, whole_once}
 use Rattle.script_read.proofs.commands.read.Goals as goal
 
 pub returns-in_err-parse_label-in-Node-clause-reads : goal.returns-in_err-parse_label-in-Node-clause-reads
@@ -19,24 +18,11 @@ returns-in_ok-parse_label-in-Node-clause-reads c = (
   node_free c.args.limits.now c.args.line.now c.in-Node.word.now c.in-Node.ensures,
 )
 
-pub returns-in-Link-clause-reads : goal.returns-in-Link-clause-reads
-returns-in-Link-clause-reads c = (c.in-Link.ensures, free c.args.limits.now c.args.line.now (change (link c.in-Link.from c.in-Link.to)) c.in-Link.ensures (λ d. omega (arith, d)) (λ d. omega (arith, d)))
+pub returns-in-Whole-clause-reads : goal.returns-in-Whole-clause-reads
+returns-in-Whole-clause-reads c = (c.in-Whole.ensures.0, free c.args.limits.now c.args.line.now (command_of c.in-Whole.command) c.in-Whole.ensures.0 c.in-Whole.ensures.1)
 
-pub returns-in-Unlink-clause-reads : goal.returns-in-Unlink-clause-reads
-returns-in-Unlink-clause-reads c =
-    (c.in-Unlink.ensures, free c.args.limits.now c.args.line.now (change (unlink c.in-Unlink.from c.in-Unlink.to)) c.in-Unlink.ensures (λ d. omega (arith, d)) (λ d. omega (arith, d)))
-
-pub returns-in-Drop-clause-reads : goal.returns-in-Drop-clause-reads
-returns-in-Drop-clause-reads c = (c.in-Drop.ensures, free c.args.limits.now c.args.line.now (change (drop c.in-Drop.node)) c.in-Drop.ensures (λ d. omega (arith, d)) (λ d. omega (arith, d)))
-
-pub returns-in-Extents-clause-reads : goal.returns-in-Extents-clause-reads
-returns-in-Extents-clause-reads c = (c.in-Extents.ensures, free c.args.limits.now c.args.line.now (extents c.in-Extents.via) c.in-Extents.ensures (λ d. omega (arith, d)) (λ d. omega (arith, d)))
-
-pub returns-in-Sizes-clause-reads : goal.returns-in-Sizes-clause-reads
-returns-in-Sizes-clause-reads c = (c.in-Sizes.ensures, free c.args.limits.now c.args.line.now sizes c.in-Sizes.ensures (λ d. omega (arith, d)) (λ d. omega (arith, d)))
-
-pub returns-in-Forget-clause-reads : goal.returns-in-Forget-clause-reads
-returns-in-Forget-clause-reads c = (c.in-Forget.ensures, free c.args.limits.now c.args.line.now (forget c.in-Forget.kind) c.in-Forget.ensures (λ d. omega (arith, d)) (λ d. omega (arith, d)))
+pub returns-in-Whole-clause-once : goal.returns-in-Whole-clause-once
+returns-in-Whole-clause-once c = whole_once c.args.line.now (command_of c.in-Whole.command) c.in-Whole.ensures.0 c.in-Whole.ensures.1
 
 pub returns-in_err-parse_path-in-Path-clause-reads : goal.returns-in_err-parse_path-in-Path-clause-reads
 returns-in_err-parse_path-in-Path-clause-reads c =
@@ -63,9 +49,3 @@ returns-in_err-parse_branch-in-Branch-clause-once c = branch_once c.args.line.no
 
 pub returns-in_ok-parse_branch-in-Branch-clause-once : goal.returns-in_ok-parse_branch-in-Branch-clause-once
 returns-in_ok-parse_branch-in-Branch-clause-once c = branch_once c.args.line.now c.in-Branch.via c.in-Branch.text.now c.in-Branch.ensures c.in_ok-parse_branch-in-Branch.ensures.once
-
-pub returns-in-Forget-clause-once : goal.returns-in-Forget-clause-once
-returns-in-Forget-clause-once c = forget_once c.args.line.now c.in-Forget.kind c.in-Forget.ensures
-
-pub returns-in-Extents-clause-once : goal.returns-in-Extents-clause-once
-returns-in-Extents-clause-once c = extents_once c.args.line.now c.in-Extents.via c.in-Extents.ensures

@@ -24,7 +24,7 @@ returns-in-Some-two_nodes c =
     let loud = λ (o : OpensNothing c.split_word.result.0.now). true≢false (sym (c.if-opens_nothing.ensures.1 o)) in
     let f = c.in-Some-two_nodes.ensures.found in
     let whole = words-cons _ _ _ _ c.split_word.ensures.parts (opens_some _ loud) f ∙ ap (λ w. w ∷ node_word c.in-Some-two_nodes.from ∷ node_word c.in-Some-two_nodes.to ∷ []) (c.if-is_word-2.ensures.0 refl) in
-    (whole, search rules, search rules)
+    ((whole, search rules, search rules), tt)
 
 pub returns-in-None-two_nodes : goal.returns-in-None-two_nodes
 returns-in-None-two_nodes c =
@@ -36,7 +36,7 @@ returns-in-Some-two_nodes-2 c =
     let loud = λ (o : OpensNothing c.split_word.result.0.now). true≢false (sym (c.if-opens_nothing.ensures.1 o)) in
     let f = c.in-Some-two_nodes-2.ensures.found in
     let whole = words-cons _ _ _ _ c.split_word.ensures.parts (opens_some _ loud) f ∙ ap (λ w. w ∷ node_word c.in-Some-two_nodes-2.from ∷ node_word c.in-Some-two_nodes-2.to ∷ []) (c.if-is_word-3.ensures.0 refl) in
-    (whole, search rules, search rules)
+    ((whole, search rules, search rules), tt)
 
 pub returns-in-None-two_nodes-2 : goal.returns-in-None-two_nodes-2
 returns-in-None-two_nodes-2 c =
@@ -48,7 +48,7 @@ returns-in-Some-one_node c =
     let loud = λ (o : OpensNothing c.split_word.result.0.now). true≢false (sym (c.if-opens_nothing.ensures.1 o)) in
     let f = c.in-Some-one_node.ensures.found in
     let whole = words-cons _ _ _ _ c.split_word.ensures.parts (opens_some _ loud) f ∙ ap (λ w. w ∷ node_word c.in-Some-one_node.node ∷ []) (c.if-is_word-4.ensures.0 refl) in
-    (whole, search rules)
+    ((whole, search rules), tt)
 
 pub returns-in-None-one_node : goal.returns-in-None-one_node
 returns-in-None-one_node c =

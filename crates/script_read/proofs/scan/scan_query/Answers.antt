@@ -23,22 +23,25 @@ returns-in-None-query_parts c line w r = no_branch line _ _ c.requires.loud w r 
 
 pub returns-in-Some-one_index : goal.returns-in-Some-one_index
 returns-in-Some-one_index c line w r = (
-  words_opened line _ _ (codes "extents") (via_word c.in-Some-one_index.via ∷ []) w r c.requires.loud (c.if-is_word-3.ensures.0 refl) c.in-Some-one_index.ensures.found,
-  c.in-Some-one_index.ensures.index,
+  (
+    words_opened line _ _ (codes "extents") (via_word c.in-Some-one_index.via ∷ []) w r c.requires.loud (c.if-is_word-3.ensures.0 refl) c.in-Some-one_index.ensures.found,
+    c.in-Some-one_index.ensures.index,
+  ),
+  tt,
 )
 
 pub returns-in-None-one_index : goal.returns-in-None-one_index
 returns-in-None-one_index c line w r = none_extents line _ _ c.requires.loud w r (c.if-is_word-3.ensures.0 refl) c.in-None-one_index.ensures.absent
 
 pub returns-then-is_over : goal.returns-then-is_over
-returns-then-is_over c line w r = words_opened line _ _ (codes "sizes") [] w r c.requires.loud (c.if-is_word-4.ensures.0 refl) (c.if-is_over.ensures.0 refl)
+returns-then-is_over c line w r = (words_opened line _ _ (codes "sizes") [] w r c.requires.loud (c.if-is_word-4.ensures.0 refl) (c.if-is_over.ensures.0 refl), tt)
 
 pub returns-else-is_over : goal.returns-else-is_over
 returns-else-is_over c line w r = none_sizes line _ _ c.requires.loud w r (c.if-is_word-4.ensures.0 refl) (λ e. true≢false (sym (c.if-is_over.ensures.1 e)))
 
 pub returns-in-Some-one_kind : goal.returns-in-Some-one_kind
 returns-in-Some-one_kind c line w r =
-    words_opened line _ _ (codes "forget") (kind_word c.in-Some-one_kind.kind ∷ []) w r c.requires.loud (c.if-is_word-5.ensures.0 refl) c.in-Some-one_kind.ensures.found
+    (words_opened line _ _ (codes "forget") (kind_word c.in-Some-one_kind.kind ∷ []) w r c.requires.loud (c.if-is_word-5.ensures.0 refl) c.in-Some-one_kind.ensures.found, tt)
 
 pub returns-in-None-one_kind : goal.returns-in-None-one_kind
 returns-in-None-one_kind c line w r = none_forget line _ _ c.requires.loud w r (c.if-is_word-5.ensures.0 refl) c.in-None-one_kind.ensures.absent
