@@ -1,8 +1,7 @@
 -- What is drafted over a family, level by level.
-use Rattle.std.specs.Prelude.{ℕ, ◌≡◌, ◌≢◌, ◌⊎◌, ◌+◌, ◌<◌, ◌&&◌, List, length, Option, Some, IsSome, nat_eq, slice_index_or, if◌then◌else◌}
+use Rattle.std.specs.Prelude.{ℕ, ◌≡◌, ◌≢◌, ◌⊎◌, ◌+◌, ◌<◌, List, length, Option, Some, IsSome, slice_index_or}
 use Rattle.graph_spec.specs.Members.{at}
 use Rattle.quotient.specs.Quotients.{view_of}
-use Rattle.quotient.specs.QuotientNeighbours.{one_if}
 use Rattle.keyed_quotient.specs.KeyedQuotients.{KeyedQuotient}
 use Rattle.keyed_quotient.specs.Changes.{KeyedChanges, no_keyed_changes, blocks_as_shown, labels_as_shown, support_as_shown, shown_key, IsKeyedOver, HasReservedKeys, IsSettled, AreUnsupported}
 use Rattle.level_spec.specs.Keyed.{KeysStay, AreLabelled}
@@ -72,18 +71,6 @@ pub record HasBlock (label : ℕ) (key : List ℕ) (b : ℕ) (labels labels2 : L
 -- block b of a level has the key now, and was made with this label where no block had the key before
 abbrev pub ShowsBlock : List KeyedQuotient → ℕ → List KeyedChanges → List KeyedChanges → ℕ → List ℕ → ℕ → Type 0
 ShowsBlock f i old new label key b = HasBlock label key b (labels_shown f old i) (labels_shown f new i) (key_shown f old i) (key_shown f new i)
-
--- one edge more leads from block a to block b of a level, and no other pair has changed
-abbrev pub SupportRises : List KeyedQuotient → ℕ → List KeyedChanges → List KeyedChanges → ℕ → ℕ → Type 0
-SupportRises f i old new a b = (x y : ℕ) → support_shown f new i x y ≡ support_shown f old i x y + one_if (nat_eq x a && nat_eq y b)
-
--- one edge fewer leads from block a to block b of a level, and no other pair has changed
-abbrev pub SupportFalls : List KeyedQuotient → ℕ → List KeyedChanges → List KeyedChanges → ℕ → ℕ → Type 0
-SupportFalls f i old new a b = (x y : ℕ) → support_shown f new i x y + one_if (nat_eq x a && nat_eq y b) ≡ support_shown f old i x y
-
--- node n is in this block of a level now, or in none, and the others are where they were
-abbrev pub NodeMoves : List KeyedQuotient → ℕ → List KeyedChanges → List KeyedChanges → ℕ → Option ℕ → Type 0
-NodeMoves f i old new n b = (m : ℕ) → at (blocks_shown f new i) m ≡ (if nat_eq m n then b else at (blocks_shown f old i) m)
 
 -- No label and no key of a block of a level has changed, and no other level has.
 pub record KeepsLabelsAndKeys (f : List KeyedQuotient) (i : ℕ) (old new : List KeyedChanges) : Type 0 where

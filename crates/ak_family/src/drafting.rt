@@ -7,11 +7,13 @@ ghost use Rattle.bisim_spec.specs.Partitions.{IsPartition};
 ghost use Rattle.one_spec.specs.EdgeCounts.{AreEdgeCounts};
 ghost use Rattle.graph_update.specs.PendingChanges.{graph_after};
 ghost use Rattle.block_partition.specs.LabelledPartitions.{IsLeastFree, put};
+ghost use Rattle.quotient.specs.QuotientNeighbours.{RaisesPair, LowersPair};
+ghost use Rattle.quotient_draft.specs.Drafts.{PutsNode};
 ghost use Rattle.quotient_moves.specs.NeighbourCosts.{parents_cost, children_cost};
 ghost use Rattle.keyed_quotient.specs.KeyedQuotients.{KeyedQuotient};
 ghost use Rattle.keyed_quotient.specs.Changes.{KeyedChanges};
 ghost use Rattle.ak_family.specs.Families.{level_at, IsKeyedFamily};
-ghost use Rattle.ak_family.specs.LevelDrafts.{changes_at, blocks_shown, labels_shown, support_shown, key_shown, AreOver, AreSameBut, AreBlocksThere, KeepsAllButSupports, KeepsLabelsAndKeys, AreEmpty, ShowsBlock, SupportRises, SupportFalls, NodeMoves};
+ghost use Rattle.ak_family.specs.LevelDrafts.{changes_at, blocks_shown, labels_shown, support_shown, key_shown, AreOver, AreSameBut, AreBlocksThere, KeepsAllButSupports, KeepsLabelsAndKeys, AreEmpty, ShowsBlock};
 
 use crate::family::AkFamily;
 use graph_update::After;
@@ -195,7 +197,7 @@ impl AkFamily {
         requires level { i < length self.now }
         requires small { n < 2 ^ 31 }
         requires block { IfSome b (λ b. IsSome (at (labels_shown self.now d.old i) b)) }
-        ensures blocks { OnOk result (NodeMoves self.now i d.old d.new n b) }
+        ensures blocks { OnOk result (PutsNode n b (blocks_shown self.now d.old i) (blocks_shown self.now d.new i)) }
         ensures labels { labels_shown self.now d.new i ≡ labels_shown self.now d.old i }
         ensures supports { (x y : ℕ) → support_shown self.now d.new i x y ≡ support_shown self.now d.old i x y }
         ensures keys { (b : ℕ) → key_shown self.now d.new i b ≡ key_shown self.now d.old i b }
@@ -213,7 +215,7 @@ impl AkFamily {
     pub fn raise(&self, d: &mut AkDraft, i: u32, a: u32, b: u32) -> Result<(), Memory>
         requires there { AreBlocksThere self.now d.old i a b }
         requires few { support_shown self.now d.old i a b < 2 ^ 31 }
-        ensures raised { OnOk result (SupportRises self.now i d.old d.new a b) }
+        ensures raised { OnOk result (RaisesPair a b (support_shown self.now d.old i) (support_shown self.now d.new i)) }
         ensures kept { KeepsAllButSupports self.now i d.old d.new }
         ensures err { OnErr result (d.new ≡ d.old) }
     {
@@ -227,7 +229,7 @@ impl AkFamily {
     pub fn lower(&self, d: &mut AkDraft, i: u32, a: u32, b: u32) -> Result<(), Memory>
         requires there { AreBlocksThere self.now d.old i a b }
         requires some { 0 < support_shown self.now d.old i a b }
-        ensures lowered { OnOk result (SupportFalls self.now i d.old d.new a b) }
+        ensures lowered { OnOk result (LowersPair a b (support_shown self.now d.old i) (support_shown self.now d.new i)) }
         ensures kept { KeepsAllButSupports self.now i d.old d.new }
         ensures err { OnErr result (d.new ≡ d.old) }
     {
@@ -255,7 +257,7 @@ impl AkFamily {
         requires partition { IsPartition (shape_of (graph_after after.now)) (blocks_shown self.now d.old to.level) }
         requires block { IsSome (at (labels_shown self.now d.old to.level) to.block) }
         requires supports { AreEdgeCounts (graph_after after.now) (blocks_shown self.now d.old to.level) (support_shown self.now d.old to.level) }
-        ensures moved { OnOk result (NodeMoves self.now to.level d.old d.new n (Some to.block)) }
+        ensures moved { OnOk result (PutsNode n (Some to.block) (blocks_shown self.now d.old to.level) (blocks_shown self.now d.new to.level)) }
         ensures supports { OnOk result (AreEdgeCounts (graph_after after.now) (blocks_shown self.now d.new to.level) (support_shown self.now d.new to.level)) }
         ensures children { OnOk result (Lists (has_edge (graph_after after.now) n) neighbours.new) }
         ensures kept { KeepsLabelsAndKeys self.now to.level d.old d.new }

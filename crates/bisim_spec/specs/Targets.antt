@@ -1,9 +1,9 @@
 -- The nodes at which a change alters a graph, and what it leaves of a partition.
-use Rattle.std.specs.Prelude.{◌≡◌, ◌≢◌, ℕ, Bool, List, Option, length, nat_eq}
+use Rattle.std.specs.Prelude.{◌≡◌, ◌≢◌, ◌<◌, ℕ, Bool, List, [], ◌∷◌, Option, length, nat_eq}
 use Rattle.graph_spec.specs.Graphs.{Graph}
-use Rattle.graph_spec.specs.Changes.{Change, node, link, unlink, drop}
+use Rattle.graph_spec.specs.Changes.{Change, node, link, unlink, drop, after}
 use Rattle.graph_spec.specs.Shapes.{Shape, IsNode, IsParent, shape_of}
-use Rattle.graph_spec.specs.Members.{at}
+use Rattle.graph_spec.specs.Members.{at, has}
 use Rattle.bisim_spec.specs.Partitions.{Together}
 
 -- whether the change alters the graph at the node: a node that comes, the end of an edge that comes or goes, a node that goes
@@ -12,6 +12,11 @@ target (node t) g n = nat_eq n (length g.allocated)
 target (link u v) g n = nat_eq n v
 target (unlink u v) g n = nat_eq n v
 target (drop u) g n = nat_eq n u
+
+-- the change has this target and no other
+pub record IsOnlyTarget (g : Graph) (c : Change) (t : ℕ) : Type 0 where
+  pub is : (n : ℕ) → has (t ∷ []) n ≡ target c g n
+  pub allocated : t < length (after c g).allocated
 
 -- what is a node both before and after has the same block
 pub record KeepsBlocks (s s2 : Shape) (block block2 : List (Option ℕ)) : Type 0 where

@@ -38,18 +38,18 @@ pub record AreBothSidesActive (g : Graph) (block : List (Option ℕ)) (parents c
   pub by_children : (n : ℕ) → IsSome (at block n) → has children.nodes n ≡ true
 
 -- nodes of the graph, in a set for all its numbers
-pub record AreWaiting (g : Graph) (active_nodes : NodeList) : Type 0 where
-  -- those that wait are nodes
+pub record AreActive (g : Graph) (active_nodes : NodeList) : Type 0 where
+  -- those that are active are nodes
   pub nodes : AreNodes g active_nodes.nodes
   -- the set has a place for each number of the graph
   pub size : active_nodes.size ≡ length g.allocated
 
--- a step both ways: what waited on this side and on the other, and what waits there next
+-- a step both ways: what was active on this side and on the other, and what is next
 abbrev pub IsStepOn : Graph → Side → List (Option ℕ) → List (Option ℕ) → NodeList → NodeList → NodeList → NodeList → Type 0
 IsStepOn g side old new own other own2 other2 =
     IsStep g both_sides old new (by_side side (has own.nodes) (has other.nodes)) (by_side side (has own2.nodes) (has other2.nodes))
 
--- there are more blocks than before; or there are no fewer, no node waits on this side, and on the other the same wait
+-- there are more blocks than before; or there are no fewer, no node is active on this side, and on the other the same are
 abbrev pub HasMoreOrSettles : Partition → Partition → NodeList → NodeList → NodeList → Type 0
 HasMoreOrSettles old new own2 other other2 =
     ((own2.nodes ≡ []) × ((m : ℕ) → has other2.nodes m ≡ has other.nodes m) × (block_count old ≤ block_count new)) ⊎ (block_count old < block_count new)

@@ -54,6 +54,6 @@ pub record IsStep (g : Graph) (kept : Side → Bool) (old new : List (Option ℕ
   pub active_why : (t : Side) → kept t ≡ true → (n : ℕ) → next t n ≡ true
       → ((left t ≡ true) × (active t n ≡ true)) ⊎ ((q : ℕ) × IsNeighbour t g q n × (at new q ≡ at old q → ⊥))
 
--- a step by parents, where these nodes waited and those wait next
+-- a step by parents, where these nodes were active and those are next
 abbrev pub IsStepByParents : Graph → List (Option ℕ) → List (Option ℕ) → List ℕ → List ℕ → Type 0
 IsStepByParents g old new active_nodes next = IsStep g parents_alone old new (λ t. has active_nodes) (λ t. has next)

@@ -12,6 +12,6 @@ has_one p (Some b) = nat_eq (member_count p b) 1
 abbrev pub is_alone : Partition → ℕ → Bool
 is_alone p n = has_one p (at p.block_of n)
 
--- besides those that waited, those wait that pass the test and aren't alone
-abbrev pub Wakes : (ℕ → Bool) → Partition → List ℕ → List ℕ → Type 0
-Wakes passes p active_nodes active_nodes2 = (m : ℕ) → has active_nodes2 m ≡ (has active_nodes m || (passes m && not (is_alone p m)))
+-- besides those that were active, those are that pass the test and aren't alone
+abbrev pub Activates : (ℕ → Bool) → Partition → List ℕ → List ℕ → Type 0
+Activates passes p active_nodes active_nodes2 = (m : ℕ) → has active_nodes2 m ≡ (has active_nodes m || (passes m && not (is_alone p m)))

@@ -5,7 +5,7 @@ ghost use Rattle.graph_spec.specs.Graphs.{IsGraph};
 ghost use Rattle.graph_spec.specs.Members.{has, Lists};
 ghost use Rattle.label_graph.specs.GraphViews.{label_number};
 ghost use Rattle.block_splitting.specs.Nodes.{AreNodes};
-ghost use Rattle.coarsest_partition.specs.SingletonBlocks.{is_alone, Wakes};
+ghost use Rattle.coarsest_partition.specs.SingletonBlocks.{is_alone, Activates};
 ghost use Rattle.bisim_levels.specs.NeighbourSides.{is_neighbour};
 
 use bisim_spec::Side;
@@ -64,7 +64,7 @@ fn activate_around(
     requires node { IsSome (label_number view.now q) }
     requires size { active_nodes.old.size ≡ length view.now.allocated }
     ensures size { active_nodes.new.size ≡ active_nodes.old.size }
-    ensures nodes { OnOk result (Wakes (λ m. is_neighbour side view.now q m) blocks.now active_nodes.old.nodes active_nodes.new.nodes) }
+    ensures nodes { OnOk result (Activates (λ m. is_neighbour side view.now q m) blocks.now active_nodes.old.nodes active_nodes.new.nodes) }
 {
     activate_shared(active_nodes, blocks, opposite_neighbours(view, side, q))
 }
@@ -82,7 +82,7 @@ fn activate_each(
     requires nodes { AreNodes view.now moved.now }
     requires size { active_nodes.old.size ≡ length view.now.allocated }
     ensures size { active_nodes.new.size ≡ active_nodes.old.size }
-    ensures nodes { OnOk result (Wakes (λ m. list_any (λ q. is_neighbour side view.now q m) moved.now) blocks.now active_nodes.old.nodes active_nodes.new.nodes) }
+    ensures nodes { OnOk result (Activates (λ m. list_any (λ q. is_neighbour side view.now q m) moved.now) blocks.now active_nodes.old.nodes active_nodes.new.nodes) }
 {
     for q in moved {
         activate_around(active_nodes, blocks, view, side, *q)?;
@@ -103,7 +103,7 @@ pub(crate) fn activate_moved(
     requires nodes { AreNodes view.now moved.now }
     requires size { active_nodes.old.size ≡ length view.now.allocated }
     ensures size { active_nodes.new.size ≡ active_nodes.old.size }
-    ensures nodes { OnOk result (Wakes (λ m. list_any (λ q. is_neighbour side view.now q m) moved.now) blocks.now active_nodes.old.nodes active_nodes.new.nodes) }
+    ensures nodes { OnOk result (Activates (λ m. list_any (λ q. is_neighbour side view.now q m) moved.now) blocks.now active_nodes.old.nodes active_nodes.new.nodes) }
 {
     activate_each(active_nodes, blocks, view, side, moved)?;
     active_nodes.order()?;

@@ -8,7 +8,7 @@ ghost use Rattle.block_partition.specs.LabelledPartitions.{block_count};
 ghost use Rattle.block_splitting.specs.Nodes.{AreNodes};
 ghost use Rattle.block_splitting.specs.Splits.{AreLabelled, AreInhabited};
 ghost use Rattle.coarsest_partition.specs.IndexBlocks.{FitsWithSupports, StayIndexBlocks};
-ghost use Rattle.coarsest_partition.specs.ActiveSides.{other_of, AreBothSidesActive, AreWaiting, IsStepOn, CanRefine, HasMoreOrSettles};
+ghost use Rattle.coarsest_partition.specs.ActiveSides.{other_of, AreBothSidesActive, AreActive, IsStepOn, CanRefine, HasMoreOrSettles};
 
 use crate::activating::activate_moved;
 use crate::labels::by_labels;
@@ -48,8 +48,8 @@ fn round_on(
     tables: &mut Tables,
 ) -> Result<(), Memory>
     requires refine { CanRefine view.now blocks.old.block_of (vec_len tables.old.group) }
-    requires own { AreWaiting view.now own.old }
-    requires other { AreWaiting view.now other.old }
+    requires own { AreActive view.now own.old }
+    requires other { AreActive view.now other.old }
     ensures step { OnOk result (IsStepOn view.now side blocks.old.block_of blocks.new.block_of own.old other.old own.new other.new) }
     ensures own { OnOk result (AreNodes view.now own.new.nodes) }
     ensures other { OnOk result (AreNodes view.now other.new.nodes) }

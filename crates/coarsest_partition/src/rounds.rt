@@ -10,7 +10,7 @@ ghost use Rattle.block_splitting.specs.Nodes.{AreNodes};
 ghost use Rattle.block_splitting.specs.Splits.{HasMore, AreLabelled, AreInhabited};
 ghost use Rattle.coarsest_partition.specs.IndexBlocks.{FitsWithSupports, StayIndexBlocks};
 ghost use Rattle.coarsest_partition.specs.Refined.{parents_alone, IsRefined, IsStepByParents};
-ghost use Rattle.coarsest_partition.specs.ActiveSides.{AreWaiting, CanRefine};
+ghost use Rattle.coarsest_partition.specs.ActiveSides.{AreActive, CanRefine};
 
 use crate::activating::activate_moved;
 use crate::labels::by_labels;
@@ -64,7 +64,7 @@ fn round(
     tables: &mut Tables,
 ) -> Result<(), Memory>
     requires refine { CanRefine view.now blocks.old.block_of (vec_len tables.old.group) }
-    requires active_nodes { AreWaiting view.now active_nodes.old }
+    requires active_nodes { AreActive view.now active_nodes.old }
     ensures step { OnOk result (IsStepByParents view.now blocks.old.block_of blocks.new.block_of active_nodes.old.nodes active_nodes.new.nodes) }
     ensures nodes { OnOk result (AreNodes view.now active_nodes.new.nodes) }
     ensures size { active_nodes.new.size ≡ active_nodes.old.size }

@@ -13,8 +13,8 @@ pub record Numbering : Type 0 where
   pub number_of : List ℕ
 
 -- what is reserved
-abbrev pub key_room : Numbering → ReservedKeys
-key_room t = record { known = t.table; span = length t.number_of }
+abbrev pub key_reserved : Numbering → ReservedKeys
+key_reserved t = record { known = t.table; span = length t.number_of }
 
 -- the key of the number that is kept for a block
 abbrev pub numbered_key : Numbering → ℕ → Option (List ℕ)

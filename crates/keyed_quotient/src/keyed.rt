@@ -42,13 +42,13 @@ impl Drop for KeyedSummary {
 
 impl Model for KeyedSummary {
     ghost use Rattle.keyed_quotient.specs.KeyedQuotients.{KeyedQuotient, keyed_code};
-    ghost use Rattle.keyed_quotient.specs.Numberings.{block_keys, key_room, IsNumbering};
+    ghost use Rattle.keyed_quotient.specs.Numberings.{block_keys, key_reserved, IsNumbering};
 
     ghost Value = { KeyedQuotient };
 
     ghost coded = { keyed_code };
 
-    ghost view = { λ s. record { quotient = s.summary; keys = block_keys s.summary.blocks.labels s.numbers; reserved = key_room s.numbers } };
+    ghost view = { λ s. record { quotient = s.summary; keys = block_keys s.summary.blocks.labels s.numbers; reserved = key_reserved s.numbers } };
 
     ghost invariant = { λ s. IsNumbering s.summary.blocks.labels s.numbers };
 }

@@ -1,9 +1,10 @@
 -- Nodes that are placed in the blocks of their keys at one level of a draft.
-use Rattle.std.specs.Prelude.{◌≡◌, ◌+◌, ◌<◌, ℕ, List, Option, Some, IsTrue, IsFalse, if◌then◌else◌, nat_eq, length}
+use Rattle.std.specs.Prelude.{◌≡◌, ◌+◌, ◌<◌, ℕ, List, Option, Some, IsTrue, IsFalse, length}
 use Rattle.graph_spec.specs.Graphs.{Graph}
 use Rattle.graph_spec.specs.Shapes.{shape_of}
 use Rattle.graph_spec.specs.Members.{at, has}
 use Rattle.one_spec.specs.EdgeCounts.{AreEdgeCounts}
+use Rattle.quotient_draft.specs.Drafts.{PutsNode}
 use Rattle.keyed_quotient.specs.KeyedQuotients.{KeyedQuotient}
 use Rattle.keyed_quotient.specs.Changes.{KeyedChanges}
 use Rattle.ak_family.specs.LevelDrafts.{blocks_shown, labels_shown, support_shown, key_shown, AreOver, AreSameBut}
@@ -25,7 +26,7 @@ pub record AreTwoLevels (g : Graph) (f : List KeyedQuotient) (d : List KeyedChan
 pub record HasMoved (g : Graph) (f : List KeyedQuotient) (d d2 : List KeyedChanges) (i n b : ℕ) : Type 0 where
   pub over : AreOver f d2
   pub others : AreSameBut i d d2
-  pub blocks : (m : ℕ) → at (blocks_shown f d2 i) m ≡ (if nat_eq m n then Some b else at (blocks_shown f d i) m)
+  pub blocks : PutsNode n (Some b) (blocks_shown f d i) (blocks_shown f d2 i)
   pub labels : labels_shown f d2 i ≡ labels_shown f d i
   pub keys : (c : ℕ) → key_shown f d2 i c ≡ key_shown f d i c
   pub supports : AreEdgeCounts g (blocks_shown f d2 i) (support_shown f d2 i)

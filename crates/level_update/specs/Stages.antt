@@ -1,14 +1,15 @@
 -- What is drafted at each level for an edge or a node that comes or goes.
-use Rattle.std.specs.Prelude.{◌≡◌, ℕ, zero, suc, ◌+◌, ◌<◌, ◌≤◌, ◌^◌, ◌&&◌, List, [], ◌∷◌, length, Option, Some, None, nat_eq, if◌then◌else◌}
+use Rattle.std.specs.Prelude.{◌≡◌, ℕ, zero, suc, ◌<◌, ◌≤◌, ◌^◌, List, [], ◌∷◌, length, Option, Some, None}
 use Rattle.std.specs.FinSet as set
 use Rattle.graph_spec.specs.Graphs.{IsGraph}
 use Rattle.graph_spec.specs.Changes.{Change, node}
-use Rattle.graph_spec.specs.Members.{at, has}
+use Rattle.graph_spec.specs.Members.{at}
 use Rattle.bisim_spec.specs.Targets.{target}
 use Rattle.bisim_spec.specs.IndexGraphs.{support_at}
 use Rattle.graph_update.specs.NewChanges.{IsNew}
 use Rattle.graph_update.specs.PendingChanges.{Pending, graph_after}
-use Rattle.quotient.specs.QuotientNeighbours.{one_if}
+use Rattle.quotient.specs.QuotientNeighbours.{RaisesPair, LowersPair}
+use Rattle.quotient_draft.specs.Drafts.{PutsNode}
 use Rattle.keyed_quotient.specs.KeyedQuotients.{KeyedQuotient, key_at}
 use Rattle.keyed_quotient.specs.Changes.{KeyedChanges, blocks_as_shown, labels_as_shown, support_as_shown, shown_key}
 use Rattle.ak_family.specs.Families.{IsKeyedFamily}
@@ -25,10 +26,6 @@ pub record IsBefore (a : Pending) (f : List KeyedQuotient) : Type 0 where
   pub graph : IsGraph a.before
   pub graph_after : IsGraph (graph_after a)
   pub few : set.len a.before.edges ≤ 2 ^ 30
-
--- the change has this target and no other
-pub record IsAimedAt (a : Pending) (v : ℕ) : Type 0 where
-  pub same : has (v ∷ []) ≡ target a.change a.before
 
 -- each level shows the graph after the change, and the affected nodes are in the blocks of their keys
 pub record AreMoved (a : Pending) (f : List KeyedQuotient) (d : List KeyedChanges) : Type 0 where
@@ -56,7 +53,7 @@ pub record IsLinked (u v : ℕ) (q : KeyedQuotient) (d : KeyedChanges) : Type 0 
   pub second : ℕ
   pub from : at q.quotient.blocks.block_of u ≡ Some first
   pub onto : at q.quotient.blocks.block_of v ≡ Some second
-  pub raised : (x y : ℕ) → support_as_shown q d x y ≡ support_at q.quotient.supports x y + one_if (nat_eq x first && nat_eq y second)
+  pub raised : RaisesPair first second (support_at q.quotient.supports) (support_as_shown q d)
 
 -- One edge fewer leads from the block of u to that of v, and nothing else has changed.
 pub record IsUnlinked (u v : ℕ) (q : KeyedQuotient) (d : KeyedChanges) : Type 0 where
@@ -66,12 +63,12 @@ pub record IsUnlinked (u v : ℕ) (q : KeyedQuotient) (d : KeyedChanges) : Type 
   pub second : ℕ
   pub from : at q.quotient.blocks.block_of u ≡ Some first
   pub onto : at q.quotient.blocks.block_of v ≡ Some second
-  pub lowered : (x y : ℕ) → support_as_shown q d x y + one_if (nat_eq x first && nat_eq y second) ≡ support_at q.quotient.supports x y
+  pub lowered : LowersPair first second (support_at q.quotient.supports) (support_as_shown q d)
 
 -- The node has no block, and nothing else has changed.
 pub record IsGone (u : ℕ) (q : KeyedQuotient) (d : KeyedChanges) : Type 0 where
   pub keys : HasSameKeys q d
-  pub blocks : (m : ℕ) → at (blocks_as_shown q d) m ≡ (if nat_eq m u then None else at q.quotient.blocks.block_of m)
+  pub blocks : PutsNode u None q.quotient.blocks.block_of (blocks_as_shown q d)
   pub supports : (x y : ℕ) → support_as_shown q d x y ≡ support_at q.quotient.supports x y
 
 -- The node has come into a block with this label, whose key is its own number alone.
@@ -79,7 +76,7 @@ pub record IsNodeAdded (n label : ℕ) (own : Option ℕ) (q : KeyedQuotient) (d
   pub number : ℕ
   pub block : ℕ
   pub own_is : own ≡ Some number
-  pub blocks : (m : ℕ) → at (blocks_as_shown q d) m ≡ (if nat_eq m n then Some block else at q.quotient.blocks.block_of m)
+  pub blocks : PutsNode n (Some block) q.quotient.blocks.block_of (blocks_as_shown q d)
   pub has_block : HasBlock label (number ∷ []) block q.quotient.blocks.labels (labels_as_shown q d) (key_at q.keys) (shown_key q d)
   pub label_is : at (labels_as_shown q d) block ≡ Some label
   pub supports : (x y : ℕ) → support_as_shown q d x y ≡ support_at q.quotient.supports x y

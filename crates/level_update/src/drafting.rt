@@ -1,14 +1,15 @@
 // What a change makes of a family.
-ghost use Rattle.std.specs.Prelude.{◌≡◌, ◌+◌, ◌<◌, ◌≤◌, ◌∷◌, [], ℕ, OnOk, length};
+ghost use Rattle.std.specs.Prelude.{◌≡◌, ◌+◌, ◌≤◌, ◌∷◌, [], ℕ, OnOk, length};
 ghost use Rattle.graph_spec.specs.Changes.{after};
 ghost use Rattle.graph_spec.specs.Members.{has};
+ghost use Rattle.bisim_spec.specs.Targets.{IsOnlyTarget};
 ghost use Rattle.graph_update.specs.NewChanges.{IsNew};
 ghost use Rattle.graph_update.specs.PendingChanges.{graph_after};
 ghost use Rattle.graph_update.specs.Verdicts.{change_of};
 ghost use Rattle.ak_family.specs.LevelDrafts.{AreOver, AreEmpty, ShowsFamily};
 ghost use Rattle.level_update.specs.MovedLevels.{HasMovedAffected};
 ghost use Rattle.level_update.specs.FamilyDrafts.{FamilyFits, ShownFit, most_steps};
-ghost use Rattle.level_update.specs.Stages.{IsBefore, IsAimedAt, AreMoved};
+ghost use Rattle.level_update.specs.Stages.{IsBefore, AreMoved};
 
 use crate::edges::{draft_link, draft_unlink};
 use crate::moving::move_affected;
@@ -29,8 +30,7 @@ fn move_affected_end<L: Ledger>(
     v: NodeId,
     steps: &mut Steps<L>,
 ) -> Result<(), Memory>
-    requires allocated { v < length (graph_after after.now).allocated }
-    requires aimed { IsAimedAt after.now v }
+    requires target { IsOnlyTarget after.now.before after.now.change v }
     requires moving { HasMovedAffected (has (v ∷ [])) (graph_after after.now) family.now draft.old }
     ensures moved { OnOk result (AreMoved after.now family.now draft.new) }
     ensures cost { (k : ℕ) → length family.now ≡ k + 1 → steps.new ≤ steps.old + most_steps after.now.before after.now.change k }

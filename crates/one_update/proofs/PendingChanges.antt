@@ -13,7 +13,7 @@ use Rattle.graph_spec.specs.Shapes.{shape_of}
 use Rattle.graph_spec.proofs.GraphLaws.{is_shape}
 use Rattle.label_graph.specs.GraphViews.{label_number}
 use Rattle.block_partition.specs.LabelledPartitions.{put, IsLeastFree}
-use Rattle.bisim_spec.specs.Targets.{HasOther}
+use Rattle.bisim_spec.specs.Targets.{HasOther, IsOnlyTarget}
 use Rattle.bisim_spec.specs.IndexGraphs.{support_at}
 use Rattle.bisim_spec.specs.Weights.{parent_count}
 use Rattle.bisim_spec.proofs.Moves.{between_most, block_get, block_from}
@@ -25,7 +25,7 @@ use Rattle.quotient.specs.QuotientNeighbours.{one_if}
 use Rattle.quotient_draft.specs.Drafts.{Drafted, no_changes, shown_blocks, shown_labels, shown_support, with_moves}
 use Rattle.quotient_draft.specs.Basis.{IsOver}
 use Rattle.one_spec.proofs.Sums.{few_lists}
-use Rattle.one_update.specs.OneDrafts.{IsBefore, ShowsChange, IsDrafted, IsNodeChange, IsOnlyTarget, AreSupportsAlone}
+use Rattle.one_update.specs.OneDrafts.{IsBefore, ShowsChange, IsDrafted, IsNodeChange, AreSupportsAlone}
 use Rattle.one_update.proofs.NodeChanges.{changed_node, changed_drop}
 use Rattle.one_update.proofs.EdgeChanges.{AreAt, changed_link, changed_unlink, other_linked, none_linked, other_unlinked, unlink_some, still_link, still_unlink}
 

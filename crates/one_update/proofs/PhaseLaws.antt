@@ -13,7 +13,8 @@ use Rattle.graph_spec.specs.Shapes.{Shape, shape_of}
 use Rattle.graph_spec.proofs.EdgeOrder.{edge_cmp_total}
 use Rattle.graph_spec.proofs.GraphLaws.{is_shape}
 use Rattle.bisim_spec.specs.Stability.{StableBut}
-use Rattle.bisim_spec.specs.Targets.{KeepsParents, target}
+use Rattle.bisim_spec.proofs.OneTarget.{same_test}
+use Rattle.bisim_spec.specs.Targets.{KeepsParents, target, IsOnlyTarget}
 use Rattle.bisim_spec.specs.Weights.{parent_count, weight_at, weight, size_of}
 use Rattle.bisim_spec.specs.OneStep.{OneStep}
 use Rattle.bisim_spec.specs.Fits.{FitsOne}
@@ -35,14 +36,11 @@ use Rattle.one_spec.proofs.SplitThenMerge.{one_step_done}
 use Rattle.one_spec.proofs.LabelledBlocks.{labelled_named}
 use Rattle.one_spec.proofs.Sums.{sum_without}
 use Rattle.one_spec.proofs.OneSteps.{Stages, reach_closed}
-use Rattle.one_update.specs.OneDrafts.{ShowsChange, IsOnlyTarget, reached, rounds_cost}
+use Rattle.one_update.specs.OneDrafts.{ShowsChange, reached, rounds_cost}
 
 pub one_once : (t : ℕ) → IsDistinct nat_eq (t ∷ [])
 unfolding IsDistinct
 one_once t = (tt, tt)
-
-pub same_test : (g : Graph) (c : Change) (t : ℕ) → IsOnlyTarget g c t → has (t ∷ []) ≡ target c g
-same_test g c t h = λ j n. h.is n j
 
 pub stable_there : (g : Graph) (c : Change) (t : ℕ) (q : Quotient) (d : Drafted) → IsGraph g → IsGraph (after c g) → FitsOne g (view_of q) → IsOnlyTarget g c t → ShowsChange g c q d
     → StableBut (shape_of (after c g)) (shown_blocks q d) (has (t ∷ []))

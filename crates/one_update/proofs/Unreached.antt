@@ -12,7 +12,8 @@ use Rattle.graph_spec.specs.Shapes.{Shape, IsNode, shape_of}
 use Rattle.graph_spec.proofs.GraphLaws.{is_shape}
 use Rattle.bisim_spec.specs.Stability.{Stable, Minimal}
 use Rattle.bisim_spec.specs.Reach.{reach}
-use Rattle.bisim_spec.specs.Targets.{KeepsBlocks, target}
+use Rattle.bisim_spec.proofs.OneTarget.{same_test}
+use Rattle.bisim_spec.specs.Targets.{KeepsBlocks, target, IsOnlyTarget}
 use Rattle.bisim_spec.specs.Weights.{weight_at, weight, size_of}
 use Rattle.bisim_spec.proofs.Changed.{live_before}
 use Rattle.bisim_spec.proofs.Differs.{differs_after}
@@ -31,8 +32,8 @@ use Rattle.one_spec.proofs.MergedPairs.{merges_stable, merges_keep, outside_merg
 use Rattle.one_spec.proofs.OneSteps.{reach_closed}
 use Rattle.one_spec.proofs.Sums.{sum_without}
 use Rattle.one_spec.proofs.MergeCandidates.{unmarked_candidates}
-use Rattle.one_update.specs.OneDrafts.{IsOnlyTarget, IsSplitOf, reached, rounds_cost}
-use Rattle.one_update.proofs.PhaseLaws.{HasMerge, HasSplit, more_times, own_has, same_test, target_reached}
+use Rattle.one_update.specs.OneDrafts.{IsSplitOf, reached, rounds_cost}
+use Rattle.one_update.proofs.PhaseLaws.{HasMerge, HasSplit, more_times, own_has, target_reached}
 
 -- what the split clause says of the nodes that are reached
 pub split_reached : (g : Graph) (c : Change) (t : ℕ) (p p2 : List (Option ℕ)) (made : List ℕ) → IsGraph (after c g) → IsOnlyTarget g c t → HasSplit g c t p p2 made

@@ -72,11 +72,6 @@ pub record IsNodeChange (c : Change) : Type 0 where
   pub label : List ℕ
   pub is : c ≡ node label
 
--- the change has this target and no other
-pub record IsOnlyTarget (g : Graph) (c : Change) (t : ℕ) : Type 0 where
-  pub is : (n : ℕ) → has (t ∷ []) n ≡ target c g n
-  pub allocated : t < length (after c g).allocated
-
 -- The partition shown came by splitting that of the base: this one was stable and no two of its blocks could be merged,
 -- and nodes of both graphs that the change doesn't reach are together as in it.
 pub record IsSplitOf (g : Graph) (c : Change) (block shown : List (Option ℕ)) : Type 0 where

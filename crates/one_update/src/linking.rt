@@ -5,12 +5,12 @@ ghost use Rattle.graph_spec.specs.Graphs.{has_edge};
 ghost use Rattle.graph_spec.specs.Changes.{link, unlink};
 ghost use Rattle.graph_spec.specs.Members.{at, is_this};
 ghost use Rattle.graph_spec.specs.Shapes.{shape_of};
-ghost use Rattle.bisim_spec.specs.Targets.{HasOther};
+ghost use Rattle.bisim_spec.specs.Targets.{HasOther, IsOnlyTarget};
 ghost use Rattle.bisim_spec.specs.IndexGraphs.{support_at};
 ghost use Rattle.bisim_spec.specs.Weights.{parent_count};
 ghost use Rattle.graph_update.specs.PendingChanges.{graph_after};
 ghost use Rattle.quotient_draft.specs.Drafts.{no_changes};
-ghost use Rattle.one_update.specs.OneDrafts.{IsBefore, ShowsChange, IsOnlyTarget, AreSupportsAlone, OfBlocks};
+ghost use Rattle.one_update.specs.OneDrafts.{IsBefore, ShowsChange, AreSupportsAlone, OfBlocks};
 
 use graph_update::{After, Neighbours};
 use px_base::{Memory, NodeId, Steps};

@@ -1,8 +1,9 @@
 // Nodes that come and go.
 ghost use Rattle.std.specs.Prelude.{◌≡◌, ℕ, OnOk, IfOk};
 ghost use Rattle.graph_spec.specs.Changes.{drop};
+ghost use Rattle.bisim_spec.specs.Targets.{IsOnlyTarget};
 ghost use Rattle.quotient_draft.specs.Drafts.{no_changes};
-ghost use Rattle.one_update.specs.OneDrafts.{IsBefore, ShowsChange, IsNodeChange, IsOnlyTarget};
+ghost use Rattle.one_update.specs.OneDrafts.{IsBefore, ShowsChange, IsNodeChange};
 
 use graph_update::After;
 use px_base::{Memory, NodeId};

@@ -2,11 +2,12 @@
 ghost use Rattle.std.specs.Prelude.{◌+◌, ◌*◌, ◌≤◌, OnOk};
 ghost use Rattle.graph_spec.specs.Shapes.{shape_of};
 ghost use Rattle.bisim_spec.specs.Stability.{Minimal};
+ghost use Rattle.bisim_spec.specs.Targets.{IsOnlyTarget};
 ghost use Rattle.one_spec.specs.SplitRoundSteps.{IsRefinement, SameBut};
 ghost use Rattle.graph_update.specs.PendingChanges.{graph_after};
 ghost use Rattle.quotient_draft.specs.Drafts.{shown_blocks};
 ghost use Rattle.quotient_draft.specs.Basis.{IsOver};
-ghost use Rattle.one_update.specs.OneDrafts.{IsOnlyTarget, rounds_cost, ShowsStable, ShowsStableBut, KeepsMinimal, IsSplitFrom, ListsBlocksOf, reached_after};
+ghost use Rattle.one_update.specs.OneDrafts.{rounds_cost, ShowsStable, ShowsStableBut, KeepsMinimal, IsSplitFrom, ListsBlocksOf, reached_after};
 
 use crate::resettling::add_block;
 use affected_nodes::reached_nodes;

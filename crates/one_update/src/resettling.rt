@@ -2,12 +2,12 @@
 ghost use Rattle.std.specs.Prelude.{◌≡◌, ◌+◌, ◌*◌, ◌≤◌, ℕ, Some, IsTrue, OnOk};
 ghost use Rattle.graph_spec.specs.Members.{at, has};
 ghost use Rattle.graph_spec.specs.Shapes.{shape_of};
-ghost use Rattle.bisim_spec.specs.Targets.{KeepsParents};
+ghost use Rattle.bisim_spec.specs.Targets.{KeepsParents, IsOnlyTarget};
 ghost use Rattle.graph_update.specs.PendingChanges.{graph_after};
 ghost use Rattle.quotient_draft.specs.Drafts.{shown_blocks};
 ghost use Rattle.quotient_draft.specs.Basis.{IsOver};
 ghost use Rattle.one_merge.specs.ParentlessBlocks.{CoversBase};
-ghost use Rattle.one_update.specs.OneDrafts.{IsBefore, ShowsChange, IsDrafted, IsOnlyTarget, reached, rounds_cost};
+ghost use Rattle.one_update.specs.OneDrafts.{IsBefore, ShowsChange, IsDrafted, reached, rounds_cost};
 
 use crate::index_tables::IndexTables;
 use graph_update::After;

@@ -105,8 +105,8 @@ twice t k v w = map.same_map edge_cmp_total edge_cmp-IsAntisymmetric _ _ (λ q.
     last false o = refl
 
 -- the support of each pair, once an edge from a to b is counted
-pub support_with : (t : SupportTable) (a b x y : ℕ) → support_at (with_one_more t a b) x y ≡ support_at t x y + one_if (same (x, y) (a, b))
-support_with t a b x y =
+pub support_raised : (t : SupportTable) (a b x y : ℕ) → support_at (with_one_more t a b) x y ≡ support_at t x y + one_if (same (x, y) (a, b))
+support_raised t a b x y =
     ap (λ o. unwrap_or o 0) (got t (a, b) (support_at t a b + 1) (x, y)) ∙ elim (test_is (same (x, y) (a, b))) [
       | inl s ↦ (
           let p = same_is (x, y) (a, b) s in

@@ -12,7 +12,7 @@ use Rattle.graph_spec.specs.Graphs.{edge_cmp}
 use Rattle.graph_spec.specs.Members.{has, Lists}
 use Rattle.bisim_spec.specs.IndexGraphs.{SupportTable, support_at}
 use Rattle.quotient.specs.QuotientNeighbours.{AreNeighbourLists, list_at, is_supported, with_one_more, one_if}
-use Rattle.quotient.proofs.Looked.{same, same_is, same_refl, test_is, support_with}
+use Rattle.quotient.proofs.Looked.{same, same_is, same_refl, test_is, support_raised}
 
 pub lists_same : (p q : ℕ → Bool) (xs : List ℕ) → ((m : ℕ) → q m ≡ p m) → Lists p xs → Lists q xs
 lists_same p q xs e l = record { once = l.once; members = λ m. l.members m ∙ sym (e m) }
@@ -20,14 +20,14 @@ lists_same p q xs e l = record { once = l.once; members = λ m. l.members m ∙ 
 -- pairs other than this one have the support that they had
 other_same : (t : SupportTable) (a b x y : ℕ) → same (x, y) (a, b) ≡ false → is_supported (with_one_more t a b) x y ≡ is_supported t x y
 other_same t a b x y d =
-    let s = support_with t a b x y in
+    let s = support_raised t a b x y in
     let zero : one_if (same (x, y) (a, b)) ≡ 0 = rw d refl in
     let e : support_at (with_one_more t a b) x y ≡ support_at t x y = omega (arith, s, zero) in
     ap (nat_lt 0) e
 
 this_supported : (t : SupportTable) (a b : ℕ) → is_supported (with_one_more t a b) a b ≡ true
 this_supported t a b =
-    let s = support_with t a b a b in
+    let s = support_raised t a b a b in
     let one : one_if (same (a, b) (a, b)) ≡ 1 = ap one_if (same_refl (a, b)) in
     let some : 0 < support_at (with_one_more t a b) a b = omega (arith, s, one) in
     grind (arith, nat_tests, some)

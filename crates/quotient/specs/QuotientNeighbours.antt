@@ -84,13 +84,13 @@ abbrev pub AddsPairIf : (ℕ → ℕ → Bool) → List (ℕ × ℕ) → List (�
 AddsPairIf passes pairs pairs2 = (x y : ℕ) → pairs_with pairs2 x y ≡ pairs_with pairs x y + one_if (passes x y)
 
 -- the support of two blocks once the pairs of a list are counted too
-abbrev pub support_with : SupportTable → List (ℕ × ℕ) → ℕ → ℕ → ℕ
-support_with t pairs x y = support_at t x y + pairs_with pairs x y
+abbrev pub total_support : SupportTable → List (ℕ × ℕ) → ℕ → ℕ → ℕ
+total_support t pairs x y = support_at t x y + pairs_with pairs x y
 
 -- the pairs of the list are counted, and no others
 abbrev pub CountsPairs : List (ℕ × ℕ) → SupportTable → SupportTable → Type 0
-CountsPairs pairs t t2 = (x y : ℕ) → support_at t2 x y ≡ support_with t pairs x y
+CountsPairs pairs t t2 = (x y : ℕ) → support_at t2 x y ≡ total_support t pairs x y
 
 -- what is counted and what is still gathered are together as many as before
 abbrev pub SameTotals : SupportTable → List (ℕ × ℕ) → SupportTable → List (ℕ × ℕ) → Type 0
-SameTotals t pairs t2 pairs2 = (x y : ℕ) → support_with t2 pairs2 x y ≡ support_with t pairs x y
+SameTotals t pairs t2 pairs2 = (x y : ℕ) → total_support t2 pairs2 x y ≡ total_support t pairs x y

@@ -3,7 +3,7 @@ ghost use Rattle.std.specs.Prelude.{◌≡◌, ◌-◌, ◌<◌, ◌≤◌, ◌^
 ghost use Rattle.graph_spec.specs.Members.{is_this};
 ghost use Rattle.bisim_spec.specs.Supports.{joins, support};
 ghost use Rattle.bisim_spec.specs.IndexGraphs.{support_at};
-ghost use Rattle.quotient.specs.QuotientNeighbours.{AreNeighbourLists, AreLive, AreBelow, AreFew, AddsPairIf, CountsPairs, SameTotals, support_with};
+ghost use Rattle.quotient.specs.QuotientNeighbours.{AreNeighbourLists, AreLive, AreBelow, AreFew, AddsPairIf, CountsPairs, SameTotals, total_support};
 
 use crate::joins::Joins;
 use block_partition::Blocks;
@@ -51,7 +51,7 @@ fn gather_edge(
 
 // Counts the pairs of blocks.
 fn count_pairs(joins: &mut Joins, pairs: &[(u32, u32)]) -> Result<(), Memory>
-    requires few { (x y : ℕ) → support_with joins.old.supports.pairs pairs.now x y ≤ 2 ^ 30 }
+    requires few { (x y : ℕ) → total_support joins.old.supports.pairs pairs.now x y ≤ 2 ^ 30 }
     requires below { AreBelow (length joins.old.children.lists) pairs.now }
     requires neighbour_lists { AreNeighbourLists joins.old.supports.pairs joins.old.children.lists joins.old.parents.lists }
     requires lengths { length joins.old.parents.lists ≡ length joins.old.children.lists }
@@ -69,7 +69,7 @@ fn count_pairs(joins: &mut Joins, pairs: &[(u32, u32)]) -> Result<(), Memory>
 // Counts the pairs of blocks that were gathered, once they are many.
 #[inline(always)]
 fn count_batch(joins: &mut Joins, pairs: &mut Vec<(u32, u32)>) -> Result<(), Memory>
-    requires few { (x y : ℕ) → support_with joins.old.supports.pairs pairs.old.items x y ≤ 2 ^ 30 }
+    requires few { (x y : ℕ) → total_support joins.old.supports.pairs pairs.old.items x y ≤ 2 ^ 30 }
     requires below { AreBelow (length joins.old.children.lists) pairs.old.items }
     requires neighbour_lists { AreNeighbourLists joins.old.supports.pairs joins.old.children.lists joins.old.parents.lists }
     requires lengths { length joins.old.parents.lists ≡ length joins.old.children.lists }

@@ -1,8 +1,8 @@
 use Rattle.std.proofs.Common.{arith}
 use Rattle.level_update.specs.Stages.{IsLinked}
-use Rattle.level_update.proofs.Aimed.{link_aimed}
+use Rattle.level_update.proofs.OnlyTargets.{link_target}
 use Rattle.level_update.proofs.Below.{done_next, done_all}
-use Rattle.level_update.proofs.LinkedLevels.{support_few, link_allocated, link_moving}
+use Rattle.level_update.proofs.LinkedLevels.{support_few, link_moving}
 use Rattle.level_update.proofs.edges.draft_link.Goals as goal
 
 pub links-preserved : goal.links-preserved
@@ -15,17 +15,11 @@ link_level-requires-clause-few c =
     let count = c.k-i-end.ensures.count in
     support_few c.args.after.now c.args.family.now c.links.i c.requires.before (omega (arith, test, count))
 
-pub returns-in_err-link_level-clause-allocated : goal.returns-in_err-link_level-clause-allocated
-returns-in_err-link_level-clause-allocated c = link_allocated c.args.after.now c.args.family.now c.args.u c.args.v c.requires.before c.requires.links
+pub returns-in_err-link_level-clause-target : goal.returns-in_err-link_level-clause-target
+returns-in_err-link_level-clause-target c = link_target c.args.after.now c.args.family.now c.args.u c.args.v c.requires.before c.requires.links
 
-pub returns-clause-allocated : goal.returns-clause-allocated
-returns-clause-allocated c = link_allocated c.args.after.now c.args.family.now c.args.u c.args.v c.requires.before c.requires.links
-
-pub returns-in_err-link_level-clause-aimed : goal.returns-in_err-link_level-clause-aimed
-returns-in_err-link_level-clause-aimed c = link_aimed c.args.after.now c.args.u c.args.v c.requires.links
-
-pub returns-clause-aimed : goal.returns-clause-aimed
-returns-clause-aimed c = link_aimed c.args.after.now c.args.u c.args.v c.requires.links
+pub returns-clause-target : goal.returns-clause-target
+returns-clause-target c = link_target c.args.after.now c.args.family.now c.args.u c.args.v c.requires.before c.requires.links
 
 pub returns-clause-moving : goal.returns-clause-moving
 returns-clause-moving c =
