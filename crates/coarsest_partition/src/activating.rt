@@ -82,7 +82,8 @@ fn activate_each(
     requires nodes { AreNodes view.now moved.now }
     requires size { active_nodes.old.size ≡ length view.now.allocated }
     ensures size { active_nodes.new.size ≡ active_nodes.old.size }
-    ensures nodes { OnOk result (Activates (λ m. list_any (λ q. is_neighbour side view.now q m) moved.now) blocks.now active_nodes.old.nodes active_nodes.new.nodes) }
+    ensures nodes { OnOk result (Activates (λ m. list_any (λ q. is_neighbour side view.now q m) moved.now) blocks.now
+        active_nodes.old.nodes active_nodes.new.nodes) }
 {
     for q in moved {
         activate_around(active_nodes, blocks, view, side, *q)?;
@@ -103,7 +104,8 @@ pub(crate) fn activate_moved(
     requires nodes { AreNodes view.now moved.now }
     requires size { active_nodes.old.size ≡ length view.now.allocated }
     ensures size { active_nodes.new.size ≡ active_nodes.old.size }
-    ensures nodes { OnOk result (Activates (λ m. list_any (λ q. is_neighbour side view.now q m) moved.now) blocks.now active_nodes.old.nodes active_nodes.new.nodes) }
+    ensures nodes { OnOk result (Activates (λ m. list_any (λ q. is_neighbour side view.now q m) moved.now) blocks.now
+        active_nodes.old.nodes active_nodes.new.nodes) }
 {
     activate_each(active_nodes, blocks, view, side, moved)?;
     active_nodes.order()?;
