@@ -1,5 +1,5 @@
 use Rattle.one_maintain.proofs.Staged.{covers_settled, covers_cleared}
-use Rattle.one_maintain.proofs.kept.Kept.commit.Goals as goal
+use Rattle.one_maintain.proofs.kept.KeptSummaryKeptViews.commit.Goals as goal
 
 pub invariant_of-self : goal.invariant_of-self
 invariant_of-self c =
