@@ -136,7 +136,7 @@ fn unstaged(base: Summary, parentless: ParentlessBlocks, draft: Draft) -> KeptSu
 }
 
 // The quotient, with nothing staged.
-fn kept(alloc: Global, base: Summary) -> Result<KeptSummary, Memory>
+fn of_base(alloc: Global, base: Summary) -> Result<KeptSummary, Memory>
     ensures base { IfOk result (λ k. k.base ≡ base) }
     ensures unstaged { IfOk result (λ k. k.staged ≡ false) }
 {
@@ -169,7 +169,7 @@ impl KeptViews for KeptSummary {
 
     fn build(alloc: Global, view: &GraphView<'_>, _k: u32) -> Result<KeptSummary, Memory> {
         let summary = OneIndex::build(alloc, view)?;
-        let kept = kept(alloc, summary)?;
+        let kept = of_base(alloc, summary)?;
         Ok(kept)
     }
 
