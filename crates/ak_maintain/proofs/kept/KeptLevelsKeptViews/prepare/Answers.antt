@@ -1,8 +1,9 @@
 use Rattle.std.proofs.Common.{rules, ◌≡◌, ◌+◌, None, length, sym, ap, ◌∙◌, subst}
+use Rattle.graph_update.specs.Verdicts.{change_of}
 use Rattle.ak_family.specs.LevelDrafts.{AreSeenAs}
 use Rattle.level_update.specs.FamilyDrafts.{FamilyFits}
 use Rattle.ak_maintain.specs.KeptFamilies.{KeptFamily}
-use Rattle.ak_maintain.proofs.Staged.{ready_kept, kept_total, kept_meaning}
+use Rattle.ak_maintain.proofs.Staged.{ready_kept, kept_total, prepared, kept_meaning}
 use Rattle.ak_maintain.proofs.kept.KeptLevelsKeptViews.prepare.Goals as goal
 
 pub drafted_with_reserved-requires-clause-fits : goal.drafted_with_reserved-requires-clause-fits
@@ -20,4 +21,14 @@ returns-in_err-draft-clause-err g c =
 
 pub returns-in_err-draft-clause-cost : goal.returns-in_err-draft-clause-cost
 returns-in_err-draft-clause-cost g c = λ k e.
+    c.drafted_with_reserved.ensures.cost k (ap (λ (x : KeptFamily). length x.base) c.self.view_is ∙ kept_total c.args.self.now (k + 1) e)
+
+pub returns-clause-staged : goal.returns-clause-staged
+returns-clause-staged g c =
+    let family = c.drafted_with_reserved.new.family in
+    let same = subst (λ (k : KeptFamily). AreSeenAs k.base family) c.self.view_is c.drafted_with_reserved.ensures.same in
+    prepared c.args.self.now family c.in_ok-draft.draft c.args.graph.now.graph (change_of c.args.change.now) c.requires.ready same c.in_ok-draft.ensures.fits
+
+pub returns-clause-cost : goal.returns-clause-cost
+returns-clause-cost g c = λ k e.
     c.drafted_with_reserved.ensures.cost k (ap (λ (x : KeptFamily). length x.base) c.self.view_is ∙ kept_total c.args.self.now (k + 1) e)
