@@ -1,7 +1,8 @@
 -- A family of A(k)-indexes that is kept: the family in force, and a draft over it of what a change to come will make of it.
-use Rattle.std.specs.Prelude.{◌+◌, ℕ, List, [], ◌∷◌, Option, Some, None, map, option_map, refl}
+use Rattle.std.specs.Prelude.{◌≡◌, ◌+◌, ◌≤◌, ℕ, List, [], ◌∷◌, Option, Some, None, map, option_map, length, refl}
 use Rattle.std.specs.Coded.{Coded, code_by, coded×, coded_list, coded_option}
 use Rattle.graph_spec.specs.Graphs.{Graph}
+use Rattle.graph_spec.specs.Changes.{Change}
 use Rattle.bisim_spec.specs.declared.kind.Kind.TheVariants.{A}
 use Rattle.bisim_spec.specs.IndexGraphs.{View}
 use Rattle.quotient.specs.Quotients.{view_of}
@@ -9,7 +10,7 @@ use Rattle.quotient_draft.specs.Drafts.{settled_view}
 use Rattle.keyed_quotient.specs.KeyedQuotients.{KeyedQuotient, keyed_code}
 use Rattle.keyed_quotient.specs.Changes.{KeyedChanges, changes_code}
 use Rattle.ak_family.specs.LevelDrafts.{changes_at, HaveReserved, ShowsFamily}
-use Rattle.level_update.specs.FamilyDrafts.{ShownFit}
+use Rattle.level_update.specs.FamilyDrafts.{most_steps}
 use Rattle.index_api.specs.Meanings.{Meaning}
 
 pub record KeptFamily : Type 0 where
@@ -32,11 +33,6 @@ pub record CanSettle (f : List KeyedQuotient) (d : List KeyedChanges) : Type 0 w
 abbrev pub IsKeptDraft : List KeyedQuotient → Option (List KeyedChanges) → Type 0
 IsKeptDraft f None = Unit {0}
 IsKeptDraft f (Some d) = CanSettle f d
-
--- a draft is staged, and once it is settled the family is that of the graph
-abbrev pub IsStagedFor : Graph → List KeyedQuotient → Option (List KeyedChanges) → Type 0
-IsStagedFor g f None = ⊥
-IsStagedFor g f (Some d) = ShownFit g f d
 
 -- the views of a family, one for each level
 abbrev pub views_of : List KeyedQuotient → List (Option View)
@@ -64,3 +60,7 @@ staged_views (Some k) = option_map (settled_views k.base) k.staged
 -- what an index means that keeps this family
 abbrev pub meaning_of : Option KeptFamily → Meaning
 meaning_of kept = record { kind = A; views = kept_views kept; staged = staged_views kept }
+
+-- how many steps a change may take over views of the levels up to k
+abbrev pub TakesFewSteps : List (Option View) → Change → Graph → ℕ → ℕ → Type 0
+TakesFewSteps views c g steps steps2 = (k : ℕ) → length views ≡ k + 1 → steps2 ≤ steps + most_steps g c k

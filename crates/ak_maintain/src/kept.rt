@@ -1,39 +1,42 @@
-// A family in force, with what a change to come will make of it.
-ghost use Rattle.std.specs.Prelude.{◌≡◌, ◌+◌, ◌≤◌, ℕ, None, IsSome, IfOk, IfSome, OnOk, OnErr, length};
+// The family in force, with what a change to come will make of it.
+ghost use Rattle.std.specs.Prelude.{◌≡◌, ◌+◌, ◌≤◌, ℕ, IfOk, length};
 ghost use Rattle.graph_spec.specs.Changes.{after};
 ghost use Rattle.graph_update.specs.NewChanges.{IsNew};
 ghost use Rattle.graph_update.specs.Verdicts.{change_of};
-ghost use Rattle.ak_family.specs.LevelDrafts.{AreSeenAs, AreSettled, ShowsFamily};
+ghost use Rattle.ak_family.specs.LevelDrafts.{AreSeenAs, ShowsFamily};
 ghost use Rattle.level_update.specs.FamilyDrafts.{FamilyFits, ShownFit, most_steps};
-ghost use Rattle.ak_maintain.specs.KeptFamilies.{CanSettle, IsStagedFor};
+ghost use Rattle.ak_maintain.specs.KeptFamilies.{CanSettle};
 
 use ak_family::{AkDraft, AkFamily};
 use graph_update::Change;
-use label_graph::Graph;
+use index_api::Kind;
+use kept_index::KeptViews;
+use label_graph::{Graph, GraphView};
 use level_update::draft_change;
 use px_base::{Memory, Steps};
+use quotient::Summary;
 use std::alloc::Global;
 use std::marker::Model;
 use std::sync::ledger::Ledger;
 
 /// The A(0)- to A(k)-indexes in force, and a draft of what a change to come will make of them. A draft is made for each change, and
 /// dropped with it.
-pub(crate) struct Kept {
+pub struct KeptLevels {
     family: AkFamily,
     staged: Option<AkDraft>,
 }
 
 // Written out, so that the proof of an owner sees one call and not the drop of each table.
-impl Drop for Kept {
+impl Drop for KeptLevels {
     fn drop(self) {
-        let Kept {
+        let KeptLevels {
             family: _family,
             staged: _staged,
         } = self;
     }
 }
 
-impl Model for Kept {
+impl Model for KeptLevels {
     ghost use Rattle.ak_maintain.specs.KeptFamilies.{KeptFamily, IsKeptDraft, kept_code};
 
     ghost Value = { KeptFamily };
@@ -84,62 +87,63 @@ fn drafted_with_reserved<L: Ledger>(
     Ok(draft)
 }
 
-impl Kept {
-    /// The family, with nothing staged.
-    pub(crate) fn of(family: AkFamily) -> Kept
-        ensures base { result.base ≡ family }
-        ensures unstaged { result.staged ≡ None }
-    {
-        Kept {
+impl KeptViews for KeptLevels {
+    ghost use Rattle.std.specs.Prelude.{refl, ⊤};
+    ghost use Rattle.ak_maintain.specs.KeptFamilies.{meaning_of as the_meaning_of, TakesFewSteps};
+
+    ghost meaning_of = { the_meaning_of };
+
+    ghost IsWithinCost = { TakesFewSteps };
+
+    ghost IsFree = { λ c views steps steps2. ⊤ };
+
+    ghost same_kind = { λ kept. refl };
+
+    ghost computed = { refl };
+
+    ghost no_view = { refl };
+
+    ghost none_staged = { refl };
+
+    fn kind() -> Kind {
+        Kind::A
+    }
+
+    fn build(alloc: Global, view: &GraphView<'_>, k: u32) -> Result<KeptLevels, Memory> {
+        let family = AkFamily::build(alloc, view, k)?;
+        Ok(KeptLevels {
             family,
             staged: None,
-        }
+        })
     }
 
-    /// The family in force.
-    pub(crate) fn family(&self) -> &AkFamily
-        ensures { result.now ≡ self.now.base }
-    {
-        &self.family
-    }
-
-    /// Stages what a change will make of the indexes, which fit the graph as it is.
-    pub(crate) fn prepare<L: Ledger>(
+    fn prepare<L: Ledger>(
         &mut self,
         alloc: Global,
         graph: &Graph,
         change: &Change,
         steps: &mut Steps<L>,
-    ) -> Result<(), Memory>
-        requires fits { FamilyFits graph.now.graph self.old.base }
-        requires unstaged { self.old.staged ≡ None }
-        requires new { IsNew (change_of change.now) graph.now.graph }
-        ensures same { AreSeenAs self.old.base self.new.base }
-        ensures staged { OnOk result (IsStagedFor (after (change_of change.now) graph.now.graph) self.new.base self.new.staged) }
-        ensures unstaged { OnErr result (self.new.staged ≡ None) }
-        ensures cost { (k : ℕ) → length self.old.base ≡ k + 1 → steps.new ≤ steps.old + most_steps graph.now.graph (change_of change.now) k }
-    {
+    ) -> Result<(), Memory> {
         let draft = drafted_with_reserved(alloc, &mut self.family, graph, change, steps)?;
         self.staged = Some(draft);
         Ok(())
     }
 
-    /// Puts in force what is staged. It takes no memory.
-    pub(crate) fn commit(&mut self)
-        requires staged { IsSome self.old.staged }
-        ensures settled { IfSome self.old.staged (λ d. AreSettled self.old.base d self.new.base) }
-        ensures unstaged { self.new.staged ≡ None }
-    {
+    fn commit(&mut self, _alloc: Global) {
         if let Some(mut draft) = self.staged.take() {
             self.family.settle(&mut draft);
         }
     }
 
-    /// Drops what is staged, if anything is.
-    pub(crate) fn cancel(&mut self)
-        ensures base { self.new.base ≡ self.old.base }
-        ensures unstaged { self.new.staged ≡ None }
-    {
+    fn cancel(&mut self, _alloc: Global) {
         self.staged = None;
+    }
+
+    fn summary(&self, level: u32) -> Option<&Summary> {
+        if level <= self.family.k() {
+            Some(self.family.level(level))
+        } else {
+            None
+        }
     }
 }

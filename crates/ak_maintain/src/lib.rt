@@ -7,3 +7,4 @@ mod kept;
 mod tests;
 
 pub use index::AkIndex;
+pub use kept::KeptLevels;

@@ -37,8 +37,8 @@ pub trait PathIndex: Drop {
 
     /// Stages what a change will make of the index. The graph is as it was, and `judge` accepts the change as new within some limits. The
     /// partition of the 1-index moves by one step (Yi, He, Stanoi and Yang 2004): nodes that the change doesn't reach stay together or apart.
-    /// The cost and the memory are the index's, and grow with what the change affects: `AkIndex::prepare_counted` and
-    /// `OneKept::prepare_counted` say theirs, and `FbIndex` takes O(1), no memory.
+    /// The cost and the memory are the index's, and grow with what the change affects: `AkIndex` and `OneKept` say theirs, and `FbIndex`
+    /// takes O(1), no memory.
     fn prepare(&mut self, graph: &Graph, change: &Change) -> Result<(), Memory>
         requires ready { IsReady (meaning self.old) graph.now.graph }
         requires new { IsNew (change_of change.now) graph.now.graph }

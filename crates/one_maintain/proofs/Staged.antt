@@ -69,15 +69,9 @@ none_staged q d true h = absurd (cc)
 pub ready_kept : (k : KeptQuotient) (g : Graph) → IsReady (meaning_of (Some k)) g → IsReadyKept k g
 ready_kept k g ready = record { fits = ready.fits.each 0 (omega arith); unstaged = none_staged k.base k.draft k.staged ready.unstaged }
 
-pub none_ready : (g : Graph) → IsReady (meaning_of None) g → ⊥
-none_ready g ready = let count = ready.fits.count in omega (arith, count)
-
 pub some_staged : (q : Quotient) (d : Drafted) (t : Bool) → IsSome (staged_views q d t) → t ≡ true
 some_staged q d true h = refl
 some_staged q d false h = absurd (true≢false (sym h))
-
-pub none_some : IsSome (meaning_of None).staged → ⊥
-none_some h = true≢false (sym h)
 
 pub prepared : (k k2 : KeptQuotient) (g : Graph) (c : Change) → view_of k2.base ≡ view_of k.base → k2.staged ≡ true
     → OneStep g k.base.blocks.block_of c (after c g) (settled_view k2.base k2.draft).block_of → FitsOne (after c g) (settled_view k2.base k2.draft)
@@ -112,11 +106,8 @@ cancelled k k2 base is =
     λ j. record { kind = One; views = views j; staged = staged j }
 
 -- the one view of an index that has a quotient
-pub same_view : (o : Option KeptQuotient) (k : KeptQuotient) (w : View) (u v : ℕ) → o ≡ Some k → view_at (meaning_of o).views 0 ≡ Some w → IsSupported w u v
-    → IsSupported (view_of k.base) u v
-same_view o k w u v is there supported =
-    let views : Some w ≡ Some (view_of k.base) = sym there ∙ ap (λ (x : Option KeptQuotient). view_at (meaning_of x).views 0) is in
-    subst (λ x. IsSupported x u v) (ap (λ x. unwrap_or x w) views) supported
+pub same_view : (k : KeptQuotient) (w : View) (u v : ℕ) → view_at (meaning_of (Some k)).views 0 ≡ Some w → IsSupported w u v → IsSupported (view_of k.base) u v
+same_view k w u v there supported = subst (λ x. IsSupported x u v) (sym (ap (λ x. unwrap_or x w) there)) supported
 
 ready_new : (k : KeptQuotient) (q : Quotient) (g : Graph) → k.base ≡ q → k.staged ≡ false → FitsOne g (view_of q) → IsReady (meaning_of (Some k)) g
 ready_new k q g base is fits = record {
@@ -128,11 +119,10 @@ whole_new : (k : KeptQuotient) (q : Quotient) (g : Graph) → k.base ≡ q → A
     → Agrees (shape_of g) k.base.blocks.block_of (Bisim (shape_of g))
 whole_new k q g base whole = subst (λ (x : Quotient). Agrees (shape_of g) x.blocks.block_of (Bisim (shape_of g))) (sym base) whole
 
--- an index that is built, whatever it had before
-pub built : (o : Option KeptQuotient) (k : KeptQuotient) (q : Quotient) (g : Graph) (n : ℕ) → k.base ≡ q → k.staged ≡ false → FitsOne g (view_of q)
-    → Agrees (shape_of g) q.blocks.block_of (Bisim (shape_of g)) → IsBuilt (meaning_of o) (meaning_of (Some k)) g n
-built None k q g n base is fits whole = record { kind = refl; ready = ready_new k q g base is fits; count = refl; whole = whole_new k q g base whole }
-built (Some k0) k q g n base is fits whole = record { kind = refl; ready = ready_new k q g base is fits; count = refl; whole = whole_new k q g base whole }
+-- the view of a quotient that is built
+pub built : (k : KeptQuotient) (q : Quotient) (g : Graph) (n : ℕ) → k.base ≡ q → k.staged ≡ false → FitsOne g (view_of q) → Agrees (shape_of g) q.blocks.block_of (Bisim (shape_of g))
+    → IsBuilt (meaning_of None) (meaning_of (Some k)) g n
+built k q g n base is fits whole = record { kind = refl; ready = ready_new k q g base is fits; count = refl; whole = whole_new k q g base whole }
 
 -- ---- the blocks to which no other has support
 

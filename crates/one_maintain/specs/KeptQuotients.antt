@@ -1,5 +1,5 @@
 -- A 1-index that is kept: the quotient in force, and a draft over it of what a change to come will make of it.
-use Rattle.std.specs.Prelude.{◌≡◌, ℕ, Bool, true, false, IsTrue, IsSome, List, [], ◌∷◌, Option, Some, None, refl}
+use Rattle.std.specs.Prelude.{◌≡◌, ◌+◌, ◌≤◌, ℕ, Bool, true, false, IsTrue, IsSome, List, [], ◌∷◌, Option, Some, None, refl}
 use Rattle.std.specs.Coded.{Coded, code_by, coded×, coded_bool}
 use Rattle.graph_spec.specs.Members.{at}
 use Rattle.graph_spec.specs.Graphs.{Graph}
@@ -14,7 +14,7 @@ use Rattle.quotient_draft.specs.Basis.{IsOver}
 use Rattle.quotient_draft.specs.ReservedCapacity.{HasRoomFor}
 use Rattle.index_api.specs.Meanings.{Meaning}
 use Rattle.one_merge.specs.ParentlessBlocks.{ParentlessLists, CoversBase, CoversShown}
-use Rattle.one_update.specs.OneDrafts.{IsSupported}
+use Rattle.one_update.specs.OneDrafts.{IsSupported, most_steps}
 
 pub record KeptQuotient : Type 0 where
   pub base : Quotient
@@ -67,6 +67,10 @@ pub record IsSoundKept (base : Quotient) (draft : Drafted) (staged : Bool) (note
 -- the upkeep of a 1-index leads from the partition of the base to that of the view
 abbrev pub IsNextOf : Graph → Change → Quotient → View → Type 0
 IsNextOf g c base v = OneStep g base.blocks.block_of c (after c g) v.block_of
+
+-- how many steps a change may take
+abbrev pub TakesFewSteps : List (Option View) → Change → Graph → ℕ → ℕ → Type 0
+TakesFewSteps views c g steps steps2 = steps2 ≤ steps + most_steps g c
 
 -- where the change is a link between nodes whose blocks have support already, no step is taken
 abbrev pub IsFreeLink : Change → List (Option View) → ℕ → ℕ → Type 0

@@ -1,5 +1,5 @@
-// A quotient in force, with what a change to come will make of it.
-ghost use Rattle.std.specs.Prelude.{◌≡◌, ◌+◌, ◌≤◌, ℕ, Bool, true, false, IsTrue, IfOk, OnOk, OnErr};
+// The quotient in force, with what a change to come will make of it.
+ghost use Rattle.std.specs.Prelude.{◌≡◌, ◌+◌, ◌≤◌, ℕ, false, IfOk, OnOk};
 ghost use Rattle.graph_spec.specs.Changes.{after, link};
 ghost use Rattle.bisim_spec.specs.Fits.{FitsOne};
 ghost use Rattle.graph_update.specs.NewChanges.{IsNew};
@@ -11,7 +11,10 @@ ghost use Rattle.one_update.specs.OneDrafts.{IsSupported, most_steps};
 ghost use Rattle.one_maintain.specs.KeptQuotients.{CanSettle, IsNextOf};
 
 use graph_update::Change;
-use label_graph::Graph;
+use index_api::Kind;
+use kept_index::KeptViews;
+use label_graph::{Graph, GraphView};
+use one_index::OneIndex;
 use one_merge::ParentlessBlocks;
 use one_update::draft_change;
 use px_base::{Memory, Steps};
@@ -23,7 +26,7 @@ use std::sync::ledger::Ledger;
 
 /// A 1-index in force, and a draft of what a change to come will make of it. Where none is staged nothing is drafted. The blocks to which
 /// no other has support are known, those of the base and those as shown.
-pub(crate) struct Kept {
+pub struct KeptSummary {
     base: Summary,
     parentless: ParentlessBlocks,
     draft: Draft,
@@ -31,9 +34,9 @@ pub(crate) struct Kept {
 }
 
 // Written out, so that the proof of an owner sees one call and not the drop of each table.
-impl Drop for Kept {
+impl Drop for KeptSummary {
     fn drop(self) {
-        let Kept {
+        let KeptSummary {
             base: _base,
             parentless: _parentless,
             draft: _draft,
@@ -42,7 +45,7 @@ impl Drop for Kept {
     }
 }
 
-impl Model for Kept {
+impl Model for KeptSummary {
     ghost use Rattle.one_maintain.specs.KeptQuotients.{KeptQuotient, IsSoundKept, kept_code};
 
     ghost Value = { KeptQuotient };
@@ -118,13 +121,13 @@ fn renew_parentless(alloc: Global, base: &Summary, parentless: &mut ParentlessBl
 }
 
 // A quotient with its parentless blocks and an empty draft.
-fn unstaged(base: Summary, parentless: ParentlessBlocks, draft: Draft) -> Kept
+fn unstaged(base: Summary, parentless: ParentlessBlocks, draft: Draft) -> KeptSummary
     requires covers { CoversBase base parentless }
     requires empty { draft ≡ no_changes }
     ensures base { result.base ≡ base }
     ensures unstaged { result.staged ≡ false }
 {
-    Kept {
+    KeptSummary {
         base,
         parentless,
         draft,
@@ -132,43 +135,51 @@ fn unstaged(base: Summary, parentless: ParentlessBlocks, draft: Draft) -> Kept
     }
 }
 
-impl Kept {
-    /// The quotient, with nothing staged.
-    pub(crate) fn of(alloc: Global, base: Summary) -> Result<Kept, Memory>
-        ensures base { IfOk result (λ k. k.base ≡ base) }
-        ensures unstaged { IfOk result (λ k. k.staged ≡ false) }
-    {
-        let parentless = ParentlessBlocks::of(alloc, &base)?;
-        let draft = Draft::new(alloc)?;
-        Ok(unstaged(base, parentless, draft))
+// The quotient, with nothing staged.
+fn of_base(alloc: Global, base: Summary) -> Result<KeptSummary, Memory>
+    ensures base { IfOk result (λ k. k.base ≡ base) }
+    ensures unstaged { IfOk result (λ k. k.staged ≡ false) }
+{
+    let parentless = ParentlessBlocks::of(alloc, &base)?;
+    let draft = Draft::new(alloc)?;
+    Ok(unstaged(base, parentless, draft))
+}
+
+impl KeptViews for KeptSummary {
+    ghost use Rattle.std.specs.Prelude.{refl};
+    ghost use Rattle.one_maintain.specs.KeptQuotients.{meaning_of as the_meaning_of, TakesFewSteps, IsFreeLink};
+
+    ghost meaning_of = { the_meaning_of };
+
+    ghost IsWithinCost = { TakesFewSteps };
+
+    ghost IsFree = { IsFreeLink };
+
+    ghost same_kind = { λ kept. refl };
+
+    ghost computed = { refl };
+
+    ghost no_view = { refl };
+
+    ghost none_staged = { refl };
+
+    fn kind() -> Kind {
+        Kind::One
     }
 
-    /// The quotient in force.
-    pub(crate) fn base(&self) -> &Summary
-        ensures { result.now ≡ self.now.base }
-    {
-        &self.base
+    fn build(alloc: Global, view: &GraphView<'_>, _k: u32) -> Result<KeptSummary, Memory> {
+        let summary = OneIndex::build(alloc, view)?;
+        let kept = of_base(alloc, summary)?;
+        Ok(kept)
     }
 
-    /// Stages what a change will make of the index, which fits the graph as it is.
-    pub(crate) fn prepare<L: Ledger>(
+    fn prepare<L: Ledger>(
         &mut self,
         alloc: Global,
         graph: &Graph,
         change: &Change,
         steps: &mut Steps<L>,
-    ) -> Result<(), Memory>
-        requires fits { FitsOne graph.now.graph (view_of self.old.base) }
-        requires unstaged { self.old.staged ≡ false }
-        requires new { IsNew (change_of change.now) graph.now.graph }
-        ensures same { view_of self.new.base ≡ view_of self.old.base }
-        ensures staged { OnOk result (self.new.staged ≡ true) }
-        ensures step { OnOk result (IsNextOf graph.now.graph (change_of change.now) self.old.base (settled_view self.new.base self.new.draft)) }
-        ensures fits { OnOk result (FitsOne (after (change_of change.now) graph.now.graph) (settled_view self.new.base self.new.draft)) }
-        ensures unstaged { OnErr result (self.new.staged ≡ false) }
-        ensures cost { steps.new ≤ steps.old + most_steps graph.now.graph (change_of change.now) }
-        ensures free { (u v : ℕ) → change_of change.now ≡ link u v → IsSupported (view_of self.old.base) u v → steps.new ≡ steps.old }
-    {
+    ) -> Result<(), Memory> {
         renew_parentless(alloc, &self.base, &mut self.parentless);
         match fill(
             alloc,
@@ -190,23 +201,18 @@ impl Kept {
         }
     }
 
-    /// Puts in force what is staged. It takes no memory.
-    pub(crate) fn commit(&mut self, alloc: Global)
-        requires staged { self.old.staged ≡ true }
-        ensures view { view_of self.new.base ≡ settled_view self.old.base self.old.draft }
-        ensures unstaged { self.new.staged ≡ false }
-    {
+    fn commit(&mut self, alloc: Global) {
         self.draft.settle(&mut self.base);
         renew(alloc, &mut self.draft);
         self.staged = false;
     }
 
-    /// Drops what is staged, if anything is.
-    pub(crate) fn cancel(&mut self, alloc: Global)
-        ensures base { self.new.base ≡ self.old.base }
-        ensures unstaged { self.new.staged ≡ false }
-    {
+    fn cancel(&mut self, alloc: Global) {
         empty(alloc, &mut self.draft);
         self.staged = false;
+    }
+
+    fn summary(&self, level: u32) -> Option<&Summary> {
+        if level == 0 { Some(&self.base) } else { None }
     }
 }

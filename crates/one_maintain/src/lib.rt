@@ -5,4 +5,5 @@ mod index;
 mod kept;
 
 pub use index::OneKept;
+pub use kept::KeptSummary;
 pub use one_update::{merge, split};

@@ -1,5 +1,5 @@
 use Rattle.one_maintain.proofs.Staged.{covers_cleared}
-use Rattle.one_maintain.proofs.kept.Kept.cancel.Goals as goal
+use Rattle.one_maintain.proofs.kept.KeptSummaryKeptViews.cancel.Goals as goal
 
 pub invariant_of-self : goal.invariant_of-self
 invariant_of-self c = record {

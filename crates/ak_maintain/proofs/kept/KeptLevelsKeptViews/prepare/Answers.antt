@@ -1,0 +1,34 @@
+use Rattle.std.proofs.Common.{rules, ◌≡◌, ◌+◌, None, length, sym, ap, ◌∙◌, subst}
+use Rattle.graph_update.specs.Verdicts.{change_of}
+use Rattle.ak_family.specs.LevelDrafts.{AreSeenAs}
+use Rattle.level_update.specs.FamilyDrafts.{FamilyFits}
+use Rattle.ak_maintain.specs.KeptFamilies.{KeptFamily}
+use Rattle.ak_maintain.proofs.Staged.{ready_kept, kept_total, prepared, kept_meaning}
+use Rattle.ak_maintain.proofs.kept.KeptLevelsKeptViews.prepare.Goals as goal
+
+pub drafted_with_reserved-requires-clause-fits : goal.drafted_with_reserved-requires-clause-fits
+drafted_with_reserved-requires-clause-fits g c =
+    subst (λ (k : KeptFamily). FamilyFits c.args.graph.now.graph k.base) (sym c.self.view_is) (ready_kept c.args.self.now c.args.graph.now.graph c.requires.ready).fits
+
+pub returns-in_err-draft-clause-err : goal.returns-in_err-draft-clause-err
+returns-in_err-draft-clause-err g c =
+    let family = c.drafted_with_reserved.new.family in
+    let same = subst (λ (k : KeptFamily). AreSeenAs k.base family) c.self.view_is c.drafted_with_reserved.ensures.same in
+    let none : c.self.inside.staged ≡ None =
+    ap (λ (k : KeptFamily). k.staged) c.self.view_is ∙ (ready_kept c.args.self.now c.args.graph.now.graph c.requires.ready).unstaged in
+    let kept = kept_meaning c.args.self.now (record { base = family; staged = c.self.inside.staged }) c.args.graph.now.graph c.requires.ready same none in
+    search rules
+
+pub returns-in_err-draft-clause-cost : goal.returns-in_err-draft-clause-cost
+returns-in_err-draft-clause-cost g c = λ k e.
+    c.drafted_with_reserved.ensures.cost k (ap (λ (x : KeptFamily). length x.base) c.self.view_is ∙ kept_total c.args.self.now (k + 1) e)
+
+pub returns-clause-staged : goal.returns-clause-staged
+returns-clause-staged g c =
+    let family = c.drafted_with_reserved.new.family in
+    let same = subst (λ (k : KeptFamily). AreSeenAs k.base family) c.self.view_is c.drafted_with_reserved.ensures.same in
+    prepared c.args.self.now family c.in_ok-draft.draft c.args.graph.now.graph (change_of c.args.change.now) c.requires.ready same c.in_ok-draft.ensures.fits
+
+pub returns-clause-cost : goal.returns-clause-cost
+returns-clause-cost g c = λ k e.
+    c.drafted_with_reserved.ensures.cost k (ap (λ (x : KeptFamily). length x.base) c.self.view_is ∙ kept_total c.args.self.now (k + 1) e)

@@ -1,7 +1,0 @@
-use Rattle.one_maintain.proofs.Staged.{built}
-use Rattle.one_maintain.proofs.index.OneKeptPathIndex.build.Goals as goal
-
-pub returns-clause-built : goal.returns-clause-built
-returns-clause-built c =
-    built c.args.self.now.kept c.in_ok-kept.kept c.in_ok-summary.summary c.args.view.now c.args._k c.in_ok-kept.ensures.base c.in_ok-kept.ensures.unstaged c.in_ok-summary.ensures.fits
-    c.in_ok-summary.ensures.whole
