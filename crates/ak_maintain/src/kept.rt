@@ -19,8 +19,8 @@ use std::alloc::Global;
 use std::marker::Model;
 use std::sync::ledger::Ledger;
 
-/// The A(0)- to A(k)-indexes in force, and a draft of what a change to come will make of them. A draft is made for each change, and
-/// dropped with it.
+/// The A(0)- to A(k)-indexes in force, and a draft of what a change to come will make of them. A draft is made for each
+/// change, and dropped with it.
 pub struct KeptLevels {
     family: AkFamily,
     staged: Option<AkDraft>,

@@ -43,9 +43,10 @@ is_kept kept (A level) = has_kind kept.kinds kind.A && nat_le level kept.k
 is_kept kept One = has_kind kept.kinds kind.One
 is_kept kept Fb = has_kind kept.kinds kind.Fb
 
--- The relation of the index: the two nodes are in one of its blocks. For the A(i)-index it is bisimilarity to level i of the graph as
--- it is now, and for the forward and backward index full bisimilarity by parents and children. The partition of the 1-index is one of
--- several where walks come back to their beginning, so there the blocks in force decide.
+-- The relation of the index: the two nodes are in one of its blocks. For the A(i)-index it is bisimilarity to level i
+-- of the graph as it is now, and for the forward and backward index full bisimilarity by parents and children. The
+-- partition of the 1-index is one of several where walks come back to their beginning, so there the blocks in force
+-- decide.
 abbrev pub Relates : Graph → KeptIndexes → Via → ℕ → ℕ → Type 0
 Relates g kept Data u v = ⊥
 Relates g kept (A level) u v = Bis (shape_of g) level u v

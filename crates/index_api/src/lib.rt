@@ -1,8 +1,8 @@
 //! Indexes of a graph, of any kind: which there are, through which one a query is answered, and the interface through which an
 //! index is kept while its graph changes.
 //!
-//! What a call of an index leaves is a record over its `Meaning`: `IsBuilt`, `IsPrepared`, `IsCommitted`, `IsRefreshed`. An error leaves
-//! the meaning as it was. A box of an index is an index.
+//! What a call of an index leaves is a record over its `Meaning`: `IsBuilt`, `IsPrepared`, `IsCommitted`,
+//! `IsRefreshed`. An error leaves the meaning as it was. A box of an index is an index.
 #![tactic(auto)]
 
 mod answers;

@@ -16,9 +16,10 @@ use quotient::Summary;
 /// An index over a graph, kept while the graph changes. A change is prepared while the graph is still as it was, which takes
 /// all the memory that the index needs; then it is committed with the graph, which can't fail, or it is cancelled.
 ///
-/// The views of an index are index graphs, one for each of its levels from 0 on. That of the forward and backward index may be
-/// not computed; each other one is there once the index is built. `build`, `prepare` and `refresh` answer `Memory` only where memory
-/// runs out, and then leave all as it was. The other calls take no memory, and no call changes the kind.
+/// The views of an index are index graphs, one for each of its levels from 0 on. That of the forward and backward index
+/// may be not computed; each other one is there once the index is built. `build`, `prepare` and `refresh` answer
+/// `Memory` only where memory runs out, and then leave all as it was. The other calls take no memory, and no call
+/// changes the kind.
 pub trait PathIndex: Drop {
     /// The kind, the views, and the views that are staged.
     ghost meaning: { Self → Meaning };
@@ -27,26 +28,27 @@ pub trait PathIndex: Drop {
     fn kind(&self) -> Kind
         ensures { result ≡ (meaning self.now).kind };
 
-    /// Builds the index of the graph, instead of the views that there are, with nothing staged. The A(k)-family has a view for each
-    /// level up to `k`, each other index has one. That of the 1-index is full bisimilarity. The cost and the memory are the index's:
-    /// `AkFamily::build` says those of `AkIndex`, `OneIndex::build` those of `OneKept`, and `FbIndex` its own.
+    /// Builds the index of the graph, instead of the views that there are, with nothing staged. The A(k)-family has a
+    /// view for each level up to `k`, each other index has one. That of the 1-index is full bisimilarity. The cost and
+    /// the memory are the index's: `AkFamily::build` says those of `AkIndex`, `OneIndex::build` those of `OneKept`, and
+    /// `FbIndex` its own.
     fn build(&mut self, view: &GraphView<'_>, k: u32) -> Result<(), Memory>
         requires few { k ≤ 8 }
         ensures built { OnOk result (IsBuilt (meaning self.old) (meaning self.new) view.now k) }
         ensures err { OnErr result (meaning self.new ≡ meaning self.old) };
 
-    /// Stages what a change will make of the index. The graph is as it was, and `judge` accepts the change as new within some limits. The
-    /// partition of the 1-index moves by one step (Yi, He, Stanoi and Yang 2004): nodes that the change doesn't reach stay together or apart.
-    /// The cost and the memory are the index's, and grow with what the change affects: `AkIndex` and `OneKept` say theirs, and `FbIndex`
-    /// takes O(1), no memory.
+    /// Stages what a change will make of the index. The graph is as it was, and `judge` accepts the change as new
+    /// within some limits. The partition of the 1-index moves by one step (Yi, He, Stanoi and Yang 2004): nodes that
+    /// the change doesn't reach stay together or apart. The cost and the memory are the index's, and grow with what the
+    /// change affects: `AkIndex` and `OneKept` say theirs, and `FbIndex` takes O(1), no memory.
     fn prepare(&mut self, graph: &Graph, change: &Change) -> Result<(), Memory>
         requires ready { IsReady (meaning self.old) graph.now.graph }
         requires new { IsNew (change_of change.now) graph.now.graph }
         ensures staged { OnOk result (IsPrepared (meaning self.old) (meaning self.new) (change_of change.now) graph.now.graph) }
         ensures err { OnErr result (meaning self.new ≡ meaning self.old) };
 
-    /// Puts what is staged in force. Expected O(d) for d drafted entries and numbers in their keys, and for `FbIndex` the time to drop
-    /// its view; no memory.
+    /// Puts what is staged in force. Expected O(d) for d drafted entries and numbers in their keys, and for `FbIndex`
+    /// the time to drop its view; no memory.
     fn commit(&mut self)
         requires staged { IsSome (meaning self.old).staged }
         ensures { IsCommitted (meaning self.old) (meaning self.new) };

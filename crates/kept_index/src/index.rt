@@ -14,7 +14,8 @@ use std::alloc::Global;
 use std::marker::Brand;
 use std::sync::ledger::{Blank, Ledger};
 
-/// An index of a graph over what it keeps, which is nothing before its first build. Each kind is an alias, as `AkIndex` and `OneKept`.
+/// An index of a graph over what it keeps, which is nothing before its first build. Each kind is an alias, as `AkIndex`
+/// and `OneKept`.
 pub struct KeptIndex<K> {
     alloc: Global,
     kept: Option<K>,
@@ -38,8 +39,8 @@ impl<K: KeptViews> KeptIndex<K> {
         Ok(KeptIndex { alloc, kept: None })
     }
 
-    /// Stages what a change will make of the index, as `prepare` does, and counts steps. How many they are at most, and the time and the
-    /// memory, each alias of the index says. Where memory runs out, it leaves the index as it was.
+    /// Stages what a change will make of the index, as `prepare` does, and counts steps. How many they are at most, and
+    /// the time and the memory, each alias of the index says. Where memory runs out, it leaves the index as it was.
     pub fn prepare_counted<L: Ledger>(
         &mut self,
         graph: &Graph,

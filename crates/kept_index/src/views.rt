@@ -19,8 +19,8 @@ use quotient::Summary;
 use std::alloc::Global;
 use std::sync::ledger::Ledger;
 
-/// What an index keeps: its views in force, and a draft of what a change to come will make of them, where one is prepared. The calls are
-/// those of `PathIndex`, with its costs.
+/// What an index keeps: its views in force, and a draft of what a change to come will make of them, where one is
+/// prepared. The calls are those of `PathIndex`, with its costs.
 pub trait KeptViews: Drop {
     /// What an index means that keeps this, or nothing before its first build.
     ghost meaning_of: { Option Self → Meaning };

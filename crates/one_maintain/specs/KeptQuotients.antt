@@ -55,7 +55,8 @@ abbrev pub meaning_of : Option KeptQuotient → Meaning
 meaning_of None = record { kind = One; views = []; staged = None }
 meaning_of (Some k) = record { kind = One; views = views_of k.base; staged = staged_views k.base k.draft k.staged }
 
--- what is kept: a draft that can be settled, or none, and the blocks without other parents, those of the base and those as shown
+-- what is kept: a draft that can be settled, or none, and the blocks without other parents, those of the base and those
+-- as shown
 pub record IsSoundKept (base : Quotient) (draft : Drafted) (staged : Bool) (noted : ParentlessLists) : Type 0 where
   -- a staged draft can be settled, else nothing is drafted
   pub kept : IsKeptDraft base draft staged
@@ -65,8 +66,8 @@ pub record IsSoundKept (base : Quotient) (draft : Drafted) (staged : Bool) (note
   pub shown : CoversShown base draft noted
 
 -- the upkeep of a 1-index leads from the partition of the base to that of the view
-abbrev pub IsNextOf : Graph → Change → Quotient → View → Type 0
-IsNextOf g c base v = OneStep g base.blocks.block_of c (after c g) v.block_of
+abbrev pub MovesByOneStep : Graph → Change → Quotient → View → Type 0
+MovesByOneStep g c base v = OneStep g base.blocks.block_of c (after c g) v.block_of
 
 -- how many steps a change may take
 abbrev pub TakesFewSteps : List (Option View) → Change → Graph → ℕ → ℕ → Type 0

@@ -8,7 +8,7 @@ ghost use Rattle.quotient.specs.Quotients.{view_of};
 ghost use Rattle.quotient_draft.specs.Drafts.{no_changes, settled_view};
 ghost use Rattle.one_merge.specs.ParentlessBlocks.{CoversBase, CoversShown};
 ghost use Rattle.one_update.specs.OneDrafts.{IsSupported, most_steps};
-ghost use Rattle.one_maintain.specs.KeptQuotients.{CanSettle, IsNextOf};
+ghost use Rattle.one_maintain.specs.KeptQuotients.{CanSettle, MovesByOneStep};
 
 use graph_update::Change;
 use index_api::Kind;
@@ -24,8 +24,8 @@ use std::alloc::Global;
 use std::marker::Model;
 use std::sync::ledger::Ledger;
 
-/// A 1-index in force, and a draft of what a change to come will make of it. Where none is staged nothing is drafted. The blocks to which
-/// no other has support are known, those of the base and those as shown.
+/// A 1-index in force, and a draft of what a change to come will make of it. Where none is staged nothing is drafted.
+/// The blocks to which no other has support are known, those of the base and those as shown.
 pub struct KeptSummary {
     base: Summary,
     parentless: ParentlessBlocks,
@@ -76,7 +76,7 @@ fn fill<L: Ledger>(
     ensures covers { CoversBase base.new parentless.new }
     ensures shown { OnOk result (CoversShown base.new draft.new parentless.new) }
     ensures ready { OnOk result (CanSettle base.new draft.new) }
-    ensures step { OnOk result (IsNextOf graph.now.graph (change_of change.now) base.old (settled_view base.new draft.new)) }
+    ensures step { OnOk result (MovesByOneStep graph.now.graph (change_of change.now) base.old (settled_view base.new draft.new)) }
     ensures fits { OnOk result (FitsOne (after (change_of change.now) graph.now.graph) (settled_view base.new draft.new)) }
     ensures cost { steps.new ≤ steps.old + most_steps graph.now.graph (change_of change.now) }
     ensures free { (u v : ℕ) → change_of change.now ≡ link u v → IsSupported (view_of base.old) u v → steps.new ≡ steps.old }
@@ -106,8 +106,9 @@ fn renew(alloc: Global, draft: &mut Draft)
     }
 }
 
-// Makes the parentless blocks again from the base where far more were noted since they were made than there were then, so that numbers that are
-// no longer blocks go. It passes over all blocks; where memory for it runs out, the parentless blocks stay.
+// Makes the parentless blocks again from the base where far more were noted since they were made than there were then,
+// so that numbers that are no longer blocks go. It passes over all blocks; where memory for it runs out, the parentless
+// blocks stay.
 fn renew_parentless(alloc: Global, base: &Summary, parentless: &mut ParentlessBlocks)
     requires covers { CoversBase base.now parentless.old }
     ensures covers { CoversBase base.now parentless.new }

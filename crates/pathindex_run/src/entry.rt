@@ -27,8 +27,9 @@ use std::alloc::Global;
 /// Carries out what the words ask for, and answers the exit status. The words are those after the
 /// program's name: `SCRIPT [--graph FILE] [--k N] [--without-one] [--without-fb]`, or `--make SEED`.
 ///
-/// The graph file, where one is named, is loaded first; it is RDF 1.1 N-Triples. The engine drops the indexes that a flag leaves
-/// out, and builds the others. Then the script's lines are read from the shelf, and what they print is written to the sink.
+/// The graph file, where one is named, is loaded first; it is RDF 1.1 N-Triples. The engine drops the indexes that a
+/// flag leaves out, and builds the others. Then the script's lines are read from the shelf, and what they print is
+/// written to the sink.
 ///
 /// With a seed, from 0 to 2^64 - 1, a graph file and a script are made from it and used instead of files: the engine keeps
 /// all its indexes, k is 2, and the shelf isn't called. Changes that are accepted and indexes that are forgotten print nothing
@@ -44,11 +45,11 @@ use std::alloc::Global;
 /// | 6 | a call of the sink failed |
 /// | 7 | memory runs out |
 ///
-/// Where the shelf is observable, a graph file that loads and a script with no line that is bad give 0, 1 or 7 where no call
-/// fails and no count of faults stands at its last value. So does every seed, where no call of the sink fails and its count
-/// doesn't stand there. At 5, 6 and 7 a prefix of what the run prints is written. O(b) for b bytes of both files, and what opening
-/// the engine and the commands cost (`Engine`); beside the engine it takes memory for a block of the script, its longest line,
-/// and what is gathered of the output.
+/// Where the shelf is observable, a graph file that loads and a script with no line that is bad give 0, 1 or 7 where no
+/// call fails and no count of faults stands at its last value. So does every seed, where no call of the sink fails and
+/// its count doesn't stand there. At 5, 6 and 7 a prefix of what the run prints is written. O(b) for b bytes of both
+/// files, and what opening the engine and the commands cost (`Engine`); beside the engine it takes memory for a block
+/// of the script, its longest line, and what is gathered of the output.
 pub fn run<B: PathIndex, H: Shelf, K: Sink>(
     alloc: Global,
     words: &[String],

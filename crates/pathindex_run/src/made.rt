@@ -54,7 +54,8 @@ fn load_made(alloc: Global, seed: u64) -> Result<Graph, LoadError>
     }
 }
 
-/// Makes the texts of the seed, loads the graph file, and runs the script. The graph file's text is dropped before the script is made.
+/// Makes the texts of the seed, loads the graph file, and runs the script. The graph file's text is dropped before the
+/// script is made.
 pub(crate) fn run_made<B: PathIndex, K: Sink>(
     alloc: Global,
     seed: u64,

@@ -19,7 +19,8 @@ use test_graphs::graph_from;
 /// How many nodes the graph has: enough that two candidates are few.
 const NODES: NodeId = 800;
 
-/// A chain of an `a`, a `b` and a `c`, one of a `b` and a `c`, and a `d` whose children are all other nodes, with the label `e`.
+/// A chain of an `a`, a `b` and a `c`, one of a `b` and a `c`, and a `d` whose children are all other nodes, with the
+/// label `e`.
 fn chains_and_star<L: Ledger>(alloc: Global, blank: Blank) -> Result<Graph, Fail>
     requires name { blank.name ≡ L.name }
     requires parts { blank.parts ≡ L.parts }

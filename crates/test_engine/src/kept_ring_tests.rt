@@ -1,4 +1,5 @@
-// The 1-index of two rings, one of which loses or gains an edge: what is kept is stable, and no two of its blocks can be merged.
+// The 1-index of two rings, one of which loses or gains an edge: what is kept is stable, and no two of its blocks can
+// be merged.
 ghost use Rattle.std.specs.Prelude.{◌≡◌, ◌<◌};
 
 use crate::one_tests::{Task, is_built, lend, makes};

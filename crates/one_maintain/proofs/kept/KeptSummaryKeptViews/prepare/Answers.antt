@@ -4,7 +4,7 @@ use Rattle.graph_update.specs.Verdicts.{change_of}
 use Rattle.quotient.specs.Quotients.{view_of}
 use Rattle.quotient_draft.specs.Drafts.{settled_view}
 use Rattle.one_update.specs.OneDrafts.{IsSupported}
-use Rattle.one_maintain.specs.KeptQuotients.{KeptQuotient, IsKeptDraft, IsNextOf}
+use Rattle.one_maintain.specs.KeptQuotients.{KeptQuotient, IsKeptDraft, MovesByOneStep}
 use Rattle.one_maintain.proofs.Staged.{ready_kept, prepared, kept_meaning, same_view, covers_cleared}
 use Rattle.one_maintain.proofs.kept.KeptSummaryKeptViews.prepare.Goals as goal
 
@@ -36,7 +36,7 @@ returns-in-Ok-clause-staged g c =
     let change = change_of c.args.change.now in
     let k2 : KeptQuotient = record { base = c.fill.new.base; draft = c.fill.new.draft; staged = true } in
     let same = subst (λ (k : KeptQuotient). view_of k2.base ≡ view_of k.base) c.self.view_is c.fill.ensures.same in
-    let step = subst (λ (k : KeptQuotient). IsNextOf graph change k.base (settled_view k2.base k2.draft)) c.self.view_is c.in-Ok.ensures.step in
+    let step = subst (λ (k : KeptQuotient). MovesByOneStep graph change k.base (settled_view k2.base k2.draft)) c.self.view_is c.in-Ok.ensures.step in
     prepared c.args.self.now k2 graph change same refl step c.in-Ok.ensures.fits
 
 pub returns-in-Err-clause-err : goal.returns-in-Err-clause-err
