@@ -11,7 +11,7 @@ use kept_index::KeptIndex;
 /// `prepare_counted` counts at most `8 * (r + 1) * w` steps, where the change reaches `r` nodes, and `w` is one for
 /// each of them, one for each of its parents and one for each of its children. A link takes none where the blocks of
 /// its ends have support already, and then expected O(1) time and memory. Else the time and the memory are those of
-/// `one_update::draft_change`. A new search for the blocks without other parents passes over all blocks: O(b) more, for
+/// `one_update::draft_change`. A new search for the parentless blocks passes over all blocks: O(b) more, for
 /// b blocks.
 ///
 /// The change is staged before the graph changes:

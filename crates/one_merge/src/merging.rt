@@ -85,9 +85,10 @@ fn merge_pairs(
     Ok(())
 }
 
-/// Merges blocks as shown until no two can be merged, where of any two that can be, one is among the merge candidates. It skips
-/// numbers of no block, and blocks without members. The supports must be those of a graph with at most 2^30 edges, and
-/// blocks with members have labels. Where memory runs out, the draft may hold a part of this.
+/// Merges blocks as shown until no two can be merged, where of any two that can be, one is among the merge candidates.
+/// `parentless` lists each parentless block of the base, and maybe others. It skips numbers of no block, and blocks
+/// without members. The supports must be those of a graph with at most 2^30 edges, and blocks with members have labels.
+/// Where memory runs out, the draft may hold a part of this.
 ///
 /// Of two blocks that are merged the one with fewer members and children is moved, and each block next to it is written
 /// once. A candidate is compared with another parent of it and that parent's children: a parent with few children is

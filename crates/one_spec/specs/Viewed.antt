@@ -5,8 +5,8 @@ use Rattle.bisim_spec.specs.Stability.{Stable, Minimal}
 use Rattle.one_spec.specs.Merges.{Merges, IsChildBlock}
 use Rattle.one_spec.specs.Named.{IsLabelled}
 
--- The partition is a stable one of the graph, its blocks have the labels of their members, and blocks are adjacent in
--- the tables exactly where an edge leads between them.
+-- The partition is a stable one of the graph, two blocks have one label in the tables exactly if their members have, and
+-- blocks are adjacent there exactly if an edge leads between them.
 pub record IsViewed (s : Shape) (block : List (Option ℕ)) (labels : ℕ → Option ℕ) (adjacent : ℕ → ℕ → Bool) : Type 0 where
   pub shape : IsShape s
   pub stable : Stable s block

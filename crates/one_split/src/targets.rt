@@ -132,8 +132,9 @@ fn part_all<L: Ledger>(
 }
 
 /// Splits blocks in the draft until the partition shown is stable on the graph after the change, where before it was
-/// stable except perhaps at the targets. Targets without a block are skipped. The blocks that are made are put into
-/// `made`. Whatever set is closed under children and holds the targets, only its nodes are read and moved.
+/// stable except perhaps at the targets. Targets without a block are skipped, and each is listed once. The blocks that
+/// are made are put into `made`, which is empty before. Whatever set is closed under children and holds the targets,
+/// only its nodes are read and moved.
 ///
 /// It takes at most `4 * ((r + 1) * w)` steps, where the set has `r` nodes and weighs `w`: one for each of them, one
 /// for each parent and one for each child. After `Memory`, which also comes past 2^31 blocks, the draft must be

@@ -32,7 +32,7 @@ use Rattle.one_spec.proofs.MergedPairs.{merges_stable, merges_keep, outside_merg
 use Rattle.one_spec.proofs.OneSteps.{reach_closed}
 use Rattle.one_spec.proofs.Sums.{sum_without}
 use Rattle.one_spec.proofs.MergeCandidates.{unmarked_candidates}
-use Rattle.one_update.specs.OneDrafts.{IsSplitOf, reached, rounds_cost}
+use Rattle.one_update.specs.OneDrafts.{KeepsUnreached, reached, rounds_cost}
 use Rattle.one_update.proofs.PhaseLaws.{HasMerge, HasSplit, more_times, own_has, target_reached}
 
 -- what the split clause says of the nodes that are reached
@@ -45,7 +45,7 @@ off_target : (g : Graph) (c : Change) (n : ℕ) → reached g c n ≡ false → 
 off_target g c n h = false_from_ne_true (target c g n) (λ t. both_ways (reached g c n) h (reach_start (shape_of (after c g)) (target c g) n t))
 
 -- nodes out of reach are together as in the base, whether or not they are said to be nodes of both graphs
-unreached_same : (g : Graph) (c : Change) (p p2 : List (Option ℕ)) → IsSplitOf g c p p2 → Stable (shape_of (after c g)) p2
+unreached_same : (g : Graph) (c : Change) (p p2 : List (Option ℕ)) → KeepsUnreached g c p p2 → Stable (shape_of (after c g)) p2
     → SameOutside p p2 (λ n. IsFalse (reached g c n))
 unreached_same g c p p2 split stable = record {
   into = λ x y ox oy t.
@@ -69,7 +69,7 @@ pub record HaveBlocks (nodes : List ℕ) (p : List (Option ℕ)) (blocks : List 
   pub there : (n b : ℕ) → IsTrue (has nodes n) → at p n ≡ Some b → IsTrue (has blocks b)
 
 -- of each two blocks that can be merged one has members that are all reached, so it is listed
-reached_candidates : (g : Graph) (c : Change) (p p2 : List (Option ℕ)) (nodes blocks : List ℕ) → IsGraph (after c g) → IsSplitOf g c p p2
+reached_candidates : (g : Graph) (c : Change) (p p2 : List (Option ℕ)) (nodes blocks : List ℕ) → IsGraph (after c g) → KeepsUnreached g c p p2
     → Stable (shape_of (after c g)) p2 → Lists (reached g c) nodes → HaveBlocks nodes p2 blocks → AreMergeCandidates (shape_of (after c g)) p2 (λ b. IsTrue (has blocks b))
 reached_candidates g c p p2 nodes blocks graph2 split stable listed have = record {
   one = λ a b can. elim (unmarked.one a b can) [
@@ -98,7 +98,7 @@ pub record IsMergedWhole (s : Shape) (inside : ℕ → Bool) (p p2 : List (Optio
   pub same : SameBut p p2 inside
 
 pub merged_whole : (g : Graph) (c : Change) (p p2 p3 : List (Option ℕ)) (labels : ℕ → Option ℕ) (support : ℕ → ℕ → ℕ) (nodes blocks : List ℕ) → IsGraph (after c g)
-    → IsSplitOf g c p p2 → Stable (shape_of (after c g)) p2 → AreNamed p2 labels (label_number (after c g)) → AreEdgeCounts (after c g) p2 support
+    → KeepsUnreached g c p p2 → Stable (shape_of (after c g)) p2 → AreNamed p2 labels (label_number (after c g)) → AreEdgeCounts (after c g) p2 support
     → Lists (reached g c) nodes → HaveBlocks nodes p2 blocks → HasMerge p2 p3 labels support blocks → IsMergedWhole (shape_of (after c g)) (reached g c) p2 p3
 merged_whole g c p p2 p3 labels support nodes blocks graph2 split stable named supports listed have merge =
     let s2 = shape_of (after c g) in
@@ -142,7 +142,7 @@ search_light g c t old new target_is cost =
 
 -- Where nodes kept the blocks that they had, what a split makes of the partition is what merging asks.
 pub split_of : (g : Graph) (c : Change) (p p1 p2 : List (Option ℕ)) → Stable (shape_of g) p → Minimal (shape_of g) p → KeepsBlocks (shape_of g) (shape_of (after c g)) p p1
-    → SameBut p1 p2 (reached g c) → IsSplitOf g c p p2
+    → SameBut p1 p2 (reached g c) → KeepsUnreached g c p p2
 split_of g c p p1 p2 stable minimal keeps same = record {
   stable = stable;
   minimal = minimal;

@@ -72,9 +72,9 @@ pub record IsNodeChange (c : Change) : Type 0 where
   pub label : List ℕ
   pub is : c ≡ node label
 
--- The partition shown came by splitting that of the base: this one was stable and no two of its blocks could be merged,
--- and nodes of both graphs that the change doesn't reach are together as in it.
-pub record IsSplitOf (g : Graph) (c : Change) (block shown : List (Option ℕ)) : Type 0 where
+-- The base was stable, and no two of its blocks could be merged; nodes of both graphs that the change doesn't reach are
+-- shown together exactly as in it. Nothing is said of the nodes that it reaches.
+pub record KeepsUnreached (g : Graph) (c : Change) (block shown : List (Option ℕ)) : Type 0 where
   pub stable : Stable (shape_of g) block
   pub minimal : Minimal (shape_of g) block
   pub outside : (u v : ℕ) → IsNode (shape_of g) u → IsNode (shape_of g) v → IsNode (shape_of (after c g)) u → IsNode (shape_of (after c g)) v → IsFalse (reached g c u)
@@ -124,9 +124,9 @@ ListsBlocksOf nodes block list = (n b : ℕ) → IsTrue (has nodes n) → at blo
 abbrev pub OfBlocks : Quotient → ℕ → ℕ → (ℕ → ℕ → Type 0) → Type 0
 OfBlocks q u v P = (a b : ℕ) → at q.blocks.block_of u ≡ Some a → at q.blocks.block_of v ≡ Some b → P a b
 
--- what a draft shows came by splitting its base, in the graph after the change
-abbrev pub IsSplitFrom : Pending → Quotient → Drafted → Type 0
-IsSplitFrom a q d = IsSplitOf a.before a.change q.blocks.block_of (shown_blocks q d)
+-- what a draft shows is as its base was, but for nodes that the change reaches
+abbrev pub ShowsUnreached : Pending → Quotient → Drafted → Type 0
+ShowsUnreached a q d = KeepsUnreached a.before a.change q.blocks.block_of (shown_blocks q d)
 
 -- the nodes that a change reaches, in the graph after it
 abbrev pub reached_after : Pending → ℕ → Bool

@@ -7,7 +7,7 @@ ghost use Rattle.one_spec.specs.SplitRoundSteps.{IsRefinement, SameBut};
 ghost use Rattle.graph_update.specs.PendingChanges.{graph_after};
 ghost use Rattle.quotient_draft.specs.Drafts.{shown_blocks};
 ghost use Rattle.quotient_draft.specs.Basis.{IsOver};
-ghost use Rattle.one_update.specs.OneDrafts.{rounds_cost, ShowsStable, ShowsStableBut, KeepsMinimal, IsSplitFrom, ListsBlocksOf, reached_after};
+ghost use Rattle.one_update.specs.OneDrafts.{rounds_cost, ShowsStable, ShowsStableBut, KeepsMinimal, ShowsUnreached, ListsBlocksOf, reached_after};
 
 use crate::resettling::add_block;
 use affected_nodes::reached_nodes;
@@ -42,7 +42,7 @@ pub fn split<L: Ledger>(
     ensures shown { OnOk result (ShowsStable (graph_after after.now) base.now draft.new) }
     ensures within { OnOk result (IsRefinement (shown_blocks base.now draft.old) (shown_blocks base.now draft.new)) }
     ensures same { OnOk result (SameBut (shown_blocks base.now draft.old) (shown_blocks base.now draft.new) (reached_after after.now)) }
-    ensures split { OnOk result (KeepsMinimal after.now base.now draft.old → IsSplitFrom after.now base.now draft.new) }
+    ensures split { OnOk result (KeepsMinimal after.now base.now draft.old → ShowsUnreached after.now base.now draft.new) }
     ensures cost { steps.new ≤ steps.old + 4 * rounds_cost (shape_of (graph_after after.now)) (reached_after after.now) }
 {
     // Called for its contract: there is a graph, so that what is reached is closed under edges.
@@ -68,10 +68,10 @@ fn add_blocks(
     Ok(())
 }
 
-/// Merges blocks in the draft until no two can be merged, where the partition shown is stable on the graph after the
-/// change and came by splitting that of the base, no two blocks of which could be merged. The graph is read only to
-/// find what the target reaches: of each two blocks that can be merged one has no other members. The rest is done by
-/// the tables of blocks, which are looked through once for the blocks to which no other has support.
+/// Merges blocks in the draft until no two can be merged, if the partition shown is stable on the graph after the
+/// change and is the base's outside the reach, and no two blocks of the base could be merged. The graph is read only to
+/// find what the target reaches: of each two blocks that can be merged one has only reached nodes as members. The rest
+/// is done by the tables of blocks, which are looked through once for the blocks to which no other has support.
 ///
 /// It takes at most `3 * (r + 1) * w` steps, where the target reaches `r` nodes, and `w` is one for each of them, one
 /// for each of its parents and one for each of its children. After `Memory` the draft must be cleared before it is used
@@ -89,7 +89,7 @@ pub fn merge<L: Ledger>(
 ) -> Result<(), Memory>
     requires target { IsOnlyTarget after.now.before after.now.change target }
     requires shown { ShowsStable (graph_after after.now) base.now draft.old }
-    requires split { IsSplitFrom after.now base.now draft.old }
+    requires split { ShowsUnreached after.now base.now draft.old }
     ensures shown { OnOk result (ShowsStable (graph_after after.now) base.now draft.new) }
     ensures minimal { OnOk result (Minimal (shape_of (graph_after after.now)) (shown_blocks base.now draft.new)) }
     ensures same { OnOk result (SameBut (shown_blocks base.now draft.old) (shown_blocks base.now draft.new) (reached_after after.now)) }

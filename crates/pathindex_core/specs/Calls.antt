@@ -39,7 +39,7 @@ pub record IsForgotten (kind : Kind) (e f : EngineSeen) : Type 0 where
   -- so do the other indexes
   pub boxes : f.boxes ≡ filter (λ m. not (is_kind kind m.kind)) e.boxes
 
--- The engine was asked something: at most, a view that wasn't computed is.
+-- The engine was asked something: at most it computes a view that wasn't computed.
 pub record IsAsked (e f : EngineSeen) : Type 0 where
   -- the graph, the limits and the highest level stay
   pub opened : f.opened ≡ e.opened

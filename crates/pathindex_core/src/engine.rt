@@ -34,7 +34,8 @@ use std::sync::ledger::{Blank, Ledger};
 /// through the engine.
 ///
 /// Clauses see the indexes themselves and what the engine is opened with (`EngineOf`); by what the indexes mean it is
-/// `seen B.meaning engine` (`EngineSeen`). What a call makes of it is a record in `specs/Calls.antt`.
+/// `seen B.meaning engine` (`EngineSeen`). What a call makes of it is a record in `specs/Calls.antt` or
+/// `specs/QueryAnswers.antt`, and for `open` `IsBuilt` of `index_api`.
 ///
 /// An edge is added, and the 1-index is asked:
 ///
@@ -137,7 +138,7 @@ impl<B: PathIndex> Engine<B> {
     ///
     /// O(i) for i indexes, and what the change takes in the graph and `prepare` and `commit` in each index. How much
     /// that is depends on what the change reaches, and not on the size of the graph, except where a table moves as it
-    /// grows, keys are dropped, a view of the forward and backward index goes, or the blocks without other parents are
+    /// grows, keys are dropped, a view of the forward and backward index goes, or the parentless blocks are
     /// searched for again, which passes over the blocks of the 1-index: `AkIndex`, `OneKept` and `FbIndex` say how much
     /// time and memory that takes.
     pub fn update(&mut self, alloc: Global, change: Change) -> Result<Applied, UpdateError>
@@ -180,11 +181,11 @@ impl<B: PathIndex> Engine<B> {
     }
 
     /// The answers of a query, asked of the graph itself or through an index, and how they were found. `NoIndex` comes
-    /// exactly where the index isn't kept, memory or not. The view of the forward and backward index is first computed,
-    /// where it isn't: that takes what `FbIndex` takes; of the graph it reads one view. Of the graph itself a query
-    /// costs one view of the graph; through an index that is exact for it and computed, it reads nothing of the graph.
-    /// Answered or not, the graph, its limits, the levels, which indexes are kept, the blocks of the 1-index and each
-    /// view that is computed stay. `path` and `branch` say how much time and memory it takes.
+    /// exactly if the index isn't kept, memory or not. If the forward and backward index is asked and its view isn't
+    /// computed, it is computed first: that takes what `FbIndex` takes, and reads one view of the graph. Of the graph
+    /// itself a query costs one view of the graph; through an index that is exact for it and computed, it reads nothing
+    /// of the graph. Answered or not, the graph, its limits, the levels, which indexes are kept, the blocks of the
+    /// 1-index and each view that is computed stay. `path` and `branch` say how much time and memory it takes.
     pub fn ask<L: Ledger>(
         &mut self,
         alloc: Global,
@@ -247,10 +248,10 @@ impl<B: PathIndex> Engine<B> {
         self.ask(alloc, via, &Query::Branch(query), steps)
     }
 
-    /// The list of the blocks of an index that isn't the graph itself, each with its nodes. `NoIndex` comes exactly
-    /// where the index isn't kept, memory or not. That of the forward and backward index is first computed, where it
-    /// isn't: that takes what `FbIndex` takes; of the graph it reads one view. Else nothing of the graph is read. An
-    /// error leaves the graph and each view that is computed.
+    /// Lists the blocks of an index, each with its nodes; `via` isn't `Data`. `NoIndex` comes exactly if the index isn't
+    /// kept, memory or not. If the forward and backward index is listed and its view isn't computed, it is computed
+    /// first: that takes what `FbIndex` takes, and reads one view of the graph. Otherwise nothing of the graph is read.
+    /// An error leaves the graph and each view that is computed.
     ///
     /// O(m log m + t) for m nodes and t bytes of text where fewer than half of the node numbers ever allocated are
     /// still live; it takes O(m) memory beside the text. Else O(m + s + t) for block numbers of the index below s; it

@@ -45,11 +45,11 @@ use std::alloc::Global;
 /// | 6 | a call of the sink failed |
 /// | 7 | memory runs out |
 ///
-/// Where the shelf is observable, a graph file that loads and a script with no line that is bad give 0, 1 or 7 where no
-/// call fails and no count of faults stands at its last value. So does every seed, where no call of the sink fails and
-/// its count doesn't stand there. At 5, 6 and 7 a prefix of what the run prints is written. O(b) for b bytes of both
-/// files, and what opening the engine and the commands cost (`Engine`); beside the engine it takes memory for a block
-/// of the script, its longest line, and what is gathered of the output.
+/// If the shelf is observable, the graph file loads, no line of the script is bad, no call fails and neither count of
+/// failed calls is full, the status is 0, 1 or 7. With a seed it is so if no write fails and the sink's count isn't
+/// full. At 5, 6 and 7 a prefix of what the run prints is written. O(b) for b bytes of both files, and what opening the
+/// engine and the commands cost (`Engine`); beside the engine it takes memory for a block of the script, its longest
+/// line, and what is gathered of the output.
 pub fn run<B: PathIndex, H: Shelf, K: Sink>(
     alloc: Global,
     words: &[String],

@@ -21,9 +21,9 @@ keeps s kind = has_kind s.kept.kinds kind
 
 -- A state with which a run begins: this graph, and indexes of these kinds with levels up to k. The blocks of the 1-index, where it
 -- is kept, are full bisimilarity.
-pub record BeginsRun (g : Graph) (allocated : List Kind) (k : ℕ) (s : State) : Type 0 where
+pub record BeginsRun (g : Graph) (given : List Kind) (k : ℕ) (s : State) : Type 0 where
   pub graph : s.graph ≡ g
-  pub kinds : s.kept.kinds ≡ allocated
+  pub kinds : s.kept.kinds ≡ given
   pub level : s.kept.k ≡ k
   pub one : IsTrue (keeps s One) → Agrees (shape_of g) s.kept.one (Bisim (shape_of g))
   pub none : keeps s One ≡ false → s.kept.one ≡ []
