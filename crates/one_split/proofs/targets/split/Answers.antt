@@ -155,7 +155,7 @@ rounds-smaller g c =
     let nodes = few_nodes s every in
     let more : (length c.rounds.made.items < length c.round.new.made.items) ⊎ (length c.in_ok-next-2.next.items ≡ 0) =
     elim c.in_ok-next-2.ensures.round.more [ inl grew ↦ inl grew | inr none ↦ inr (ap length none) ] in
-    left_falls (length (graph_after c.args.after.now).given) (length c.rounds.made.items) (length c.round.new.made.items) (length c.rounds.next.items) (length c.in_ok-next-2.next.items)
+    left_falls (length (graph_after c.args.after.now).allocated) (length c.rounds.made.items) (length c.round.new.made.items) (length c.rounds.next.items) (length c.in_ok-next-2.next.items)
     (omega (arith, few, nodes)) c.in_ok-next-2.ensures.round.least some more
 
 pub returns-clause-cost : goal.returns-clause-cost

@@ -29,4 +29,4 @@ invariant-rounds g l = record {
 }
 
 abbrev pub decreases-rounds : goal.decreases-rounds
-decreases-rounds g l = 2 * (length (graph_after l.after).given - length l.made.items) + cond (nat_eq (length l.next.items) 0) 0 1
+decreases-rounds g l = 2 * (length (graph_after l.after).allocated - length l.made.items) + cond (nat_eq (length l.next.items) 0) 0 1

@@ -14,11 +14,11 @@ split_at-requires c = omega (arith, c.in-Some.ensures.0.high)
 
 pub returns-clause-prefix : goal.returns-clause-prefix
 returns-clause-prefix c =
-    (drop (c.in-Some.end + 1) c.args.b.now, sym (ap (λ z. z ++ drop (c.in-Some.end + 1) c.args.b.now) c.split_at.ensures.prefix ∙ take-append-drop (c.in-Some.end + 1) c.args.b.now))
+    (drop (c.in-Some.end + 1) c.args.b.now, sym (ap (λ z. z ++ drop (c.in-Some.end + 1) c.args.b.now) c.split_at.ensures.front ∙ take-append-drop (c.in-Some.end + 1) c.args.b.now))
 
 pub returns-clause-whole : goal.returns-clause-whole
 returns-clause-whole c xs ys is none =
     let end : c.in-Some.end ≡ length xs =
     end-first xs ys _ none (subst (λ (z : List ℕ). Nowhere (Passes (is_byte 62) z) 0 c.in-Some.end) is c.in-Some.ensures.0.before)
     (subst (λ (z : List ℕ). Passes (is_byte 62) z c.in-Some.end) is c.in-Some.ensures.1) in
-    c.split_at.ensures.prefix ∙ ap (λ n. take (n + 1) c.args.b.now) end ∙ cut-there c.args.b.now xs ys is
+    c.split_at.ensures.front ∙ ap (λ n. take (n + 1) c.args.b.now) end ∙ cut-there c.args.b.now xs ys is

@@ -14,7 +14,7 @@ split_at-requires c =
 pub returns-clause-found : goal.returns-clause-found
 returns-clause-found c =
     run-added (inner c.args.quote) (Escape c.args.quote) (escape_at c.args.quote) (closing c.args.quote) (quote_kind c.args.quote) (quote_escapes c.args.quote) c.args.rest.now (string_bytes c.args.text.now) _ _ _ _ c.utf8.rest
-    (c.run_len.ensures.is ∙ ap (position_or_len (λ b. not (inner c.args.quote b))) c.as_bytes.ensures.value) c.split_at.ensures.prefix c.split_at.ensures.back c.in_ok-push_str.ensures.bytes
+    (c.run_len.ensures.is ∙ ap (position_or_len (λ b. not (inner c.args.quote b))) c.as_bytes.ensures.value) c.split_at.ensures.front c.split_at.ensures.back c.in_ok-push_str.ensures.bytes
 
 pub returns-clause-ended : goal.returns-clause-ended
 returns-clause-ended c =

@@ -21,10 +21,10 @@ split_at-requires c =
 
 pub returns-clause-found : goal.returns-clause-found
 returns-clause-found c cs =
-    tag-found c.args.text.now c.in-Some.behind.now _ _ c.in_ok-lower.field-0 cs (read_of c.args.text.now c.as_bytes.result.now _ c.as_bytes.ensures.value c.in-Some.ensures) c.split_at.ensures.prefix c.split_at.ensures.back
+    tag-found c.args.text.now c.in-Some.behind.now _ _ c.in_ok-lower.field-0 cs (read_of c.args.text.now c.as_bytes.result.now _ c.as_bytes.ensures.value c.in-Some.ensures) c.split_at.ensures.front c.split_at.ensures.back
     c.in_ok-lower.ensures
 
 pub returns-clause-whole : goal.returns-clause-whole
 returns-clause-whole c s r tag =
-    tag-only c.args.text.now c.in-Some.behind.now s r tag _ _ c.in_ok-lower.field-0 (read_of c.args.text.now c.as_bytes.result.now _ c.as_bytes.ensures.value c.in-Some.ensures) c.split_at.ensures.prefix c.split_at.ensures.back
+    tag-only c.args.text.now c.in-Some.behind.now s r tag _ _ c.in_ok-lower.field-0 (read_of c.args.text.now c.as_bytes.result.now _ c.as_bytes.ensures.value c.in-Some.ensures) c.split_at.ensures.front c.split_at.ensures.back
     c.in_ok-lower.ensures
