@@ -12,8 +12,8 @@ use Rattle.script_interpreter.proofs.interpreter.ask.Goals as goal
 pub returns-in_err-text-in-Ok-clause-ready : goal.returns-in_err-text-in-Ok-clause-ready
 returns-in_err-text-in-Ok-clause-ready g c = open_asked _ _ c.requires.ready c.ask.ensures.sound c.ask.ensures.asked
 
-pub returns-clause-ready : goal.returns-clause-ready
-returns-clause-ready g c = open_asked _ _ c.requires.ready c.ask.ensures.sound c.ask.ensures.asked
+pub returns-in_ok-text-in-Ok-clause-ready : goal.returns-in_ok-text-in-Ok-clause-ready
+returns-in_ok-text-in-Ok-clause-ready g c = open_asked _ _ c.requires.ready c.ask.ensures.sound c.ask.ensures.asked
 
 pub returns-in-Err-NoIndex-clause-ready : goal.returns-in-Err-NoIndex-clause-ready
 returns-in-Err-NoIndex-clause-ready g c = open_asked _ _ c.requires.ready c.ask.ensures.sound c.ask.ensures.asked
@@ -21,8 +21,8 @@ returns-in-Err-NoIndex-clause-ready g c = open_asked _ _ c.requires.ready c.ask.
 pub returns-in-Err-Memory-clause-ready : goal.returns-in-Err-Memory-clause-ready
 returns-in-Err-Memory-clause-ready g c = open_asked _ _ c.requires.ready c.ask.ensures.sound c.ask.ensures.asked
 
-pub returns-clause-ok : goal.returns-clause-ok
-returns-clause-ok g c =
+pub returns-in_ok-text-in-Ok-clause-ok : goal.returns-in_ok-text-in-Ok-clause-ok
+returns-in_ok-text-in-Ok-clause-ok g c =
     let a = c.in-Ok.answer in
     let old = c.args.output.now in
     let text = rw c.prints_nodes.ensures at c.in_ok-text-in-Ok.ensures in

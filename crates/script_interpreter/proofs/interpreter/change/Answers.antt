@@ -22,4 +22,4 @@ pub returns-in-Err-Refused-clause-ok : goal.returns-in-Err-Refused-clause-ok
 returns-in-Err-Refused-clause-ok g c =
     let refused = (c.in-Err-Refused.ensures.refused c.in-Err-Refused.refusal).0 (ap Err c.in-Err-Refused.field-0-is) in
     on_ok_weaker c.refuse.result
-    (λ t. refused_obeyed (change_of c.args.change) _ _ c.in-Err-Refused.refusal _ _ c.requires.ready c.in-Err-Refused.ensures.err refused (rw c.in-Err-Refused.field-0-is at t)) c.refuse.ensures.ok
+    (λ t. refused_obeyed (change_of c.args.change) _ _ c.in-Err-Refused.refusal _ _ c.requires.ready c.in-Err-Refused.ensures.err refused t) c.refuse.ensures.ok
