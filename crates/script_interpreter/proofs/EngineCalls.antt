@@ -1,6 +1,6 @@
 -- What each call of the engine makes of the state of a run.
 use Rattle.std.proofs.Common.{◌≡◌, Bool, true, false, List, [], ◌∷◌, Some, Ok, Err, refl, sym, ap, ◌∙◌, subst, cond, true≢false}
-use Rattle.std.specs.Prelude.{◌++◌, ◌||◌, ◌↔◌, ℕ, All, is_err, not}
+use Rattle.std.specs.Prelude.{◌||◌, ◌↔◌, ℕ, All, is_err, not}
 use Rattle.std.specs.List.{filter}
 use Rattle.graph_spec.specs.declared.refusal.Refusal.{Refusal}
 use Rattle.graph_spec.specs.declared.refusal.Refusal.TheVariants.{NoIndex}
@@ -22,6 +22,7 @@ use Rattle.pathindex_core.specs.Updates.{IsUpdated, graph_or, outcome_in, opened
 use Rattle.script_interpreter.specs.declared.printing.Printing.{Printing}
 use Rattle.script_interpreter.specs.Rules.{if_whole, rules_for}
 use Rattle.script_interpreter.specs.LineTexts.{applied_line, refused_line, ok_line, reply}
+use Rattle.script_interpreter.specs.Outputs.{Gathered, with_printed}
 use Rattle.script_interpreter.specs.States.{State, BeginsRun}
 use Rattle.script_interpreter.specs.EngineStates.{IsOpen, state_in}
 use Rattle.script_interpreter.specs.Indexes.{ShowsAnswers, ShowsExtents, unkept, ShowsSizes}
@@ -52,11 +53,11 @@ open_made c e f answer o sound m = record {
   limits_are = o.limits_are;
 }
 
-pub made_obeyed : (printing : Printing) (c : Change) (e f : EngineSeen) (answer : Applied) (out gathered : List ℕ) → IsOpen e → IsMade c e f answer → ((r : Refusal) → outcome_in c e.opened ≡ Err r → ⊥)
-    → gathered ≡ out ++ if_whole printing (applied_line answer) → Obeyed (rules_for printing) (state_in e) (change c) out false (state_in f) gathered
-made_obeyed printing c e f answer out gathered ready m accepted g =
+pub made_obeyed : (c : Change) (e f : EngineSeen) (answer : Applied) (old new : Gathered) → IsOpen e → IsMade c e f answer → ((r : Refusal) → outcome_in c e.opened ≡ Err r → ⊥)
+    → new ≡ with_printed old (if_whole old.printing (applied_line answer)) false → Obeyed (state_in e) (change c) old (state_in f) new
+made_obeyed c e f answer old new ready m accepted g =
     let o = ready.opened in
-    elim (apply c o.graph o.limits) as (λ x. apply c o.graph o.limits ≡ x → Obeyed (rules_for printing) (state_in e) (change c) out false (state_in f) gathered) [
+    elim (apply c o.graph o.limits) as (λ x. apply c o.graph o.limits ≡ x → Obeyed (state_in e) (change c) old (state_in f) new) [
       | Ok h ↦ λ q.
           (let p : Opened = record o { graph = h } in
           let f_is : f.opened ≡ Some p = m.opened ∙ ap (opened_after c) ready.opened_is ∙ ap (λ x. Some (record o { graph = graph_or o.graph x })) q in
@@ -67,24 +68,26 @@ made_obeyed printing c e f answer out gathered ready m accepted g =
           let changed : IsChanged (state_in e) c h (state_in f) = subst (λ t. IsChanged (state_in e) c h t) (seen_as f p f_is) (subst (λ s. IsChanged s c h (state_in (record { boxes = f.boxes; opened = Some p }))) (seen_as e o ready.opened_is) moved) in
           let outcome : apply c (state_in e).graph program_limits ≡ Ok h = ap (λ x. apply c (graph_in x) program_limits) ready.opened_is ∙ ap (apply c o.graph) (sym ready.limits_are) ∙ q in
           record {
-            printed = if_whole printing (applied_line (applied_of c (state_in e).graph));
-            obeys = subst (λ x. Obeys (rules_for printing) (state_in e) (change c) (reply printing c (state_in e).graph x) (is_err x) (state_in f)) outcome
+            printed = if_whole old.printing (applied_line (applied_of c (state_in e).graph));
+            refuses = false;
+            obeys = subst (λ x. Obeys (rules_for old.printing) (state_in e) (change c) (reply old.printing c (state_in e).graph x) (is_err x) (state_in f)) outcome
                 (changes c (state_in f) (subst (λ x. Becomes (state_in e) c x (state_in f)) (sym outcome) changed));
-            gathered_is = g ∙ ap (λ a. out ++ if_whole printing (applied_line a)) m.applied;
+            gathered_is = g ∙ ap (λ a. with_printed old (if_whole old.printing (applied_line a)) false) m.applied;
           })
       | Err r ↦ λ q. absurd (accepted r (ap (outcome_in c) ready.opened_is ∙ q))
     ] refl
 
 -- a change was refused, and all is as it was
-pub refused_obeyed : (printing : Printing) (c : Change) (e f : EngineSeen) (r : Refusal) (out gathered : List ℕ) → IsOpen e → f ≡ e → outcome_in c e.opened ≡ Err r
-    → gathered ≡ out ++ refused_line r → Obeyed (rules_for printing) (state_in e) (change c) out true (state_in f) gathered
-refused_obeyed printing c e f r out gathered ready same q g =
+pub refused_obeyed : (c : Change) (e f : EngineSeen) (r : Refusal) (old new : Gathered) → IsOpen e → f ≡ e → outcome_in c e.opened ≡ Err r
+    → new ≡ with_printed old (refused_line r) true → Obeyed (state_in e) (change c) old (state_in f) new
+refused_obeyed c e f r old new ready same q g =
     let o = ready.opened in
     let outcome : apply c (state_in e).graph program_limits ≡ Err r =
     ap (λ x. apply c (graph_in x) program_limits) ready.opened_is ∙ ap (apply c o.graph) (sym ready.limits_are) ∙ ap (outcome_in c) (sym ready.opened_is) ∙ q in
     record {
       printed = refused_line r;
-      obeys = subst (λ x. Obeys (rules_for printing) (state_in e) (change c) (reply printing c (state_in e).graph x) (is_err x) (state_in f)) outcome
+      refuses = true;
+      obeys = subst (λ x. Obeys (rules_for old.printing) (state_in e) (change c) (reply old.printing c (state_in e).graph x) (is_err x) (state_in f)) outcome
           (changes c (state_in f) (subst (λ x. Becomes (state_in e) c x (state_in f)) (sym outcome) (ap state_in same)));
       gathered_is = g;
     }
@@ -99,38 +102,42 @@ asks_query : (printing : Printing) (s : State) (via : Via) (q : Query) (text : L
 asks_query printing s via (path e) text refuses h = asks_path via e text refuses h
 asks_query printing s via (branch q) text refuses h = asks_branch via q text refuses h
 
-pub query_obeyed : (printing : Printing) (e f : EngineSeen) (via : Via) (q : Query) (text out gathered : List ℕ) (refuses : Bool) → IsAsked e f
-    → ShowsAnswers printing (state_in e) q via text refuses → gathered ≡ out ++ text → Obeyed (rules_for printing) (state_in e) (query_command via q) out refuses (state_in f) gathered
-query_obeyed printing e f via q text out gathered refuses a s g = record {
+pub query_obeyed : (e f : EngineSeen) (via : Via) (q : Query) (text : List ℕ) (refuses : Bool) (old new : Gathered) → IsAsked e f
+    → ShowsAnswers old.printing (state_in e) q via text refuses → new ≡ with_printed old text refuses → Obeyed (state_in e) (query_command via q) old (state_in f) new
+query_obeyed e f via q text refuses old new a s g = record {
   printed = text;
-  obeys = subst (Obeys (rules_for printing) (state_in e) (query_command via q) text refuses) (sym (same_asked e f a)) (asks_query printing (state_in e) via q text refuses s);
+  refuses = refuses;
+  obeys = subst (Obeys (rules_for old.printing) (state_in e) (query_command via q) text refuses) (sym (same_asked e f a)) (asks_query old.printing (state_in e) via q text refuses s);
   gathered_is = g;
 }
 
-pub list_obeyed : (printing : Printing) (e f : EngineSeen) (via : Via) (text out gathered : List ℕ) (refuses : Bool) → IsAsked e f
-    → ShowsExtents (state_in e) via text refuses → gathered ≡ out ++ text → Obeyed (rules_for printing) (state_in e) (extents via) out refuses (state_in f) gathered
-list_obeyed printing e f via text out gathered refuses a s g = record {
+pub list_obeyed : (e f : EngineSeen) (via : Via) (text : List ℕ) (refuses : Bool) (old new : Gathered) → IsAsked e f
+    → ShowsExtents (state_in e) via text refuses → new ≡ with_printed old text refuses → Obeyed (state_in e) (extents via) old (state_in f) new
+list_obeyed e f via text refuses old new a s g = record {
   printed = text;
-  obeys = subst (Obeys (rules_for printing) (state_in e) (extents via) text refuses) (sym (same_asked e f a)) (lists via text refuses s);
+  refuses = refuses;
+  obeys = subst (Obeys (rules_for old.printing) (state_in e) (extents via) text refuses) (sym (same_asked e f a)) (lists via text refuses s);
   gathered_is = g;
 }
 
-pub sizes_obeyed : (printing : Printing) (e f : EngineSeen) (text out gathered : List ℕ) → IsAsked e f
-    → ShowsSizes (state_in e) text → gathered ≡ out ++ text → Obeyed (rules_for printing) (state_in e) sizes out false (state_in f) gathered
-sizes_obeyed printing e f text out gathered a s g = record {
+pub sizes_obeyed : (e f : EngineSeen) (text : List ℕ) (old new : Gathered) → IsAsked e f
+    → ShowsSizes (state_in e) text → new ≡ with_printed old text false → Obeyed (state_in e) sizes old (state_in f) new
+sizes_obeyed e f text old new a s g = record {
   printed = text;
-  obeys = subst (Obeys (rules_for printing) (state_in e) sizes text false) (sym (same_asked e f a)) (measures text s);
+  refuses = false;
+  obeys = subst (Obeys (rules_for old.printing) (state_in e) sizes text false) (sym (same_asked e f a)) (measures text s);
   gathered_is = g;
 }
 
 pub open_forgotten : (kind : Kind) (e f : EngineSeen) → IsOpen e → IsSound f → IsForgotten kind e f → IsOpen f
 open_forgotten kind e f o sound a = record { sound = sound; opened = o.opened; opened_is = a.opened ∙ o.opened_is; limits_are = o.limits_are }
 
-pub forget_obeyed : (printing : Printing) (kind : Kind) (e f : EngineSeen) (out gathered : List ℕ) → IsForgotten kind e f → has_kind (kinds_of e.boxes) kind ≡ true → gathered ≡ out ++ if_whole printing ok_line
-    → Obeyed (rules_for printing) (state_in e) (forget kind) out false (state_in f) gathered
-forget_obeyed printing kind e f out gathered a h g = record {
-  printed = if_whole printing ok_line;
-  obeys = subst (Obeys (rules_for printing) (state_in e) (forget kind) (if_whole printing ok_line) false) (sym (forgotten_state kind e f a.opened a.boxes)) (forgets kind h);
+pub forget_obeyed : (kind : Kind) (e f : EngineSeen) (old new : Gathered) → IsForgotten kind e f → has_kind (kinds_of e.boxes) kind ≡ true
+    → new ≡ with_printed old (if_whole old.printing ok_line) false → Obeyed (state_in e) (forget kind) old (state_in f) new
+forget_obeyed kind e f old new a h g = record {
+  printed = if_whole old.printing ok_line;
+  refuses = false;
+  obeys = subst (Obeys (rules_for old.printing) (state_in e) (forget kind) (if_whole old.printing ok_line) false) (sym (forgotten_state kind e f a.opened a.boxes)) (forgets kind h);
   gathered_is = g;
 }
 
@@ -143,11 +150,12 @@ all_left kind (m ∷ ms) h =
     ] h
 
 -- none of that kind is kept, and all is as it was
-pub lacks_obeyed : (printing : Printing) (kind : Kind) (e f : EngineSeen) (out gathered : List ℕ) → IsForgotten kind e f → has_kind (kinds_of e.boxes) kind ≡ false → gathered ≡ out ++ refused_line NoIndex
-    → Obeyed (rules_for printing) (state_in e) (forget kind) out true (state_in f) gathered
-lacks_obeyed printing kind e f out gathered a h g = record {
+pub lacks_obeyed : (kind : Kind) (e f : EngineSeen) (old new : Gathered) → IsForgotten kind e f → has_kind (kinds_of e.boxes) kind ≡ false
+    → new ≡ with_printed old (refused_line NoIndex) true → Obeyed (state_in e) (forget kind) old (state_in f) new
+lacks_obeyed kind e f old new a h g = record {
   printed = refused_line NoIndex;
-  obeys = subst (Obeys (rules_for printing) (state_in e) (forget kind) (refused_line NoIndex) true) (sym (ap state_in same)) (lacks kind h);
+  refuses = true;
+  obeys = subst (Obeys (rules_for old.printing) (state_in e) (forget kind) (refused_line NoIndex) true) (sym (ap state_in same)) (lacks kind h);
   gathered_is = g;
 }
   where
@@ -160,9 +168,11 @@ kept_kind true x e h = refl
 kept_kind false x e h = absurd (no_refusal x e h.1 refl)
 
 -- the list of the graph itself is refused
-pub data_obeyed : (printing : Printing) (e : EngineSeen) (via : Via) (out gathered : List ℕ) → via ≡ Data → gathered ≡ out ++ refused_line NoIndex → Obeyed (rules_for printing) (state_in e) (extents via) out true (state_in e) gathered
-data_obeyed printing e via out gathered d g = record {
+pub data_obeyed : (e : EngineSeen) (via : Via) (old new : Gathered) → via ≡ Data → new ≡ with_printed old (refused_line NoIndex) true
+    → Obeyed (state_in e) (extents via) old (state_in e) new
+data_obeyed e via old new d g = record {
   printed = refused_line NoIndex;
+  refuses = true;
   obeys = lists via (refused_line NoIndex) true (unkept via (ap (is_kept (state_in e).kept) d));
   gathered_is = g;
 }

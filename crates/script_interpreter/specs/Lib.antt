@@ -1,5 +1,6 @@
 pub mod Rules
 pub mod LineTexts
+pub mod Outputs
 pub mod States
 pub mod EngineStates
 pub mod Indexes

@@ -1,17 +1,19 @@
 -- What one step of a run does.
-use Rattle.std.specs.Prelude.{◌≡◌, ℕ, ◌+◌, ◌++◌, Bool, true, false, List, ◌∷◌, IsTrue, ⊤, Option, None, Some}
+use Rattle.std.specs.Prelude.{◌≡◌, ℕ, ◌+◌, ◌++◌, Bool, false, List, ◌∷◌, IsTrue, ⊤, Option, None, Some}
 use Rattle.std.specs.Io.KnownBytes.{Appends}
 use Rattle.px_base.specs.declared.lines.TheConstants.{LINE_BYTES, SCRIPT_BYTES}
 use Rattle.px_base.specs.ReaderStates.{ReaderState, IsFirst, IsOver}
 use Rattle.graph_spec.specs.Lines.{Line, cut}
-use Rattle.script_interpreter.specs.Rules.{Rules}
+use Rattle.graph_spec.specs.ProgramLimits.{program_limits}
+use Rattle.script_interpreter.specs.Rules.{Rules, rules_for}
+use Rattle.script_interpreter.specs.Outputs.{Gathered, with_printed}
 use Rattle.script_interpreter.specs.LineTexts.{bad_line}
 use Rattle.index_api.specs.declared.kinds.Via.{Via}
 use Rattle.branch_query.specs.Queries as query
 use Rattle.branch_query.specs.Queries.{Query}
 use Rattle.script_read.specs.Commands.{Command, path, branch, SpellsNothing}
 use Rattle.script_interpreter.specs.declared.interpreter.Outcome.{Outcome}
-use Rattle.script_interpreter.specs.declared.interpreter.Outcome.TheVariants.{Done, Refused, Bad}
+use Rattle.script_interpreter.specs.declared.interpreter.Outcome.TheVariants.{Done, Bad}
 use Rattle.script_interpreter.specs.declared.script.Next.{Next}
 use Rattle.script_interpreter.specs.declared.script.Next.TheVariants.{Taken, AtBad, AtEnd}
 use Rattle.script_interpreter.specs.States.{State}
@@ -27,29 +29,30 @@ abbrev pub query_command : Via → Query → Command
 query_command via (query.path e) = path via e
 query_command via (query.branch q) = branch via q
 
--- A command was carried out, and what it prints is gathered; whether that is a refusal.
-pub record Obeyed (rules : Rules) (s : State) (c : Command) (out : List ℕ) (refuses : Bool) (t : State) (gathered : List ℕ) : Type 0 where
+-- a command was carried out, and what it prints is gathered
+pub record Obeyed (s : State) (c : Command) (old : Gathered) (t : State) (new : Gathered) : Type 0 where
   pub printed : List ℕ
-  pub obeys : Obeys rules s c printed refuses t
-  pub gathered_is : gathered ≡ out ++ printed
+  pub refuses : Bool
+  pub obeys : Obeys (rules_for old.printing) s c printed refuses t
+  pub gathered_is : new ≡ with_printed old printed refuses
 
 -- a line was taken, and what it prints is gathered
-pub record IsTaken (rules : Rules) (s : State) (line out : List ℕ) (refuses : Bool) (t : State) (gathered : List ℕ) : Type 0 where
+pub record IsTaken (s : State) (line : List ℕ) (old : Gathered) (t : State) (new : Gathered) : Type 0 where
   pub printed : List ℕ
-  pub does : Does rules s line printed refuses t
-  pub gathered_is : gathered ≡ out ++ printed
+  pub refuses : Bool
+  pub does : Does (rules_for old.printing) s line printed refuses t
+  pub gathered_is : new ≡ with_printed old printed refuses
 
 -- nothing was gathered, and the state is as it was, since the line is bad
-pub record IsLeft (rules : Rules) (s : State) (line out : List ℕ) (t : State) (gathered : List ℕ) : Type 0 where
-  pub bad : SpellsNothing rules.limits line
+pub record IsLeft (s : State) (line : List ℕ) (old : Gathered) (t : State) (new : Gathered) : Type 0 where
+  pub bad : SpellsNothing program_limits line
   pub state : t ≡ s
-  pub gathered_is : gathered ≡ out
+  pub gathered_is : new ≡ old
 
 -- what a line comes to
-abbrev pub LineComes : Rules → State → List ℕ → List ℕ → Outcome → State → List ℕ → Type 0
-LineComes rules s line out Done t gathered = IsTaken rules s line out false t gathered
-LineComes rules s line out Refused t gathered = IsTaken rules s line out true t gathered
-LineComes rules s line out Bad t gathered = IsLeft rules s line out t gathered
+abbrev pub LineComes : State → List ℕ → Gathered → Outcome → State → Gathered → Type 0
+LineComes s line old Done t new = IsTaken s line old t new
+LineComes s line old Bad t new = IsLeft s line old t new
 
 -- how far the run has come, by its state, whether some line printed `refused`, and its reader
 abbrev pub progress : State → Bool → ReaderState → Progress

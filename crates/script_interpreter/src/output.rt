@@ -1,15 +1,150 @@
-// What was printed and isn't written yet.
-ghost use Rattle.std.specs.Prelude.{◌≡◌, ◌++◌, ◌∷◌, [], OnOk, OnErr, decimal};
+// What a run prints.
+ghost use Rattle.std.specs.Prelude.{◌≡◌, ◌++◌, ◌∷◌, [], OnOk, OnErr, decimal, length, true, false};
 ghost use Rattle.std.specs.Io.KnownBytes.{Appends};
 ghost use Rattle.px_base.specs.Causes.{HasCause};
 ghost use Rattle.px_base.specs.Files.{AppendsPrefix};
+ghost use Rattle.script_interpreter.specs.Rules.{if_whole, prints_nodes};
+ghost use Rattle.script_interpreter.specs.LineTexts.{applied_line, bad_line, ok_line, refused_line};
+ghost use Rattle.script_interpreter.specs.Outputs.{with_printed};
 ghost use Rattle.script_interpreter.specs.RunSteps.{Extends};
 
+use crate::printing::Printing;
+use graph_update::Applied;
 use itoa::Buffer;
-use px_base::{Failed, Memory, Sink, put_all};
+use px_base::{Failed, Memory, Refusal, Sink, put_all};
+use std::alloc::Global;
+use std::marker::Model;
+
+/// What was printed and isn't written yet, and whether some line of the run printed a refusal. Where memory runs out,
+/// nothing is gathered.
+#[derive(Drop)]
+pub(crate) struct Output {
+    printing: Printing,
+    bytes: Vec<u8>,
+    refused: bool,
+}
+
+impl Model for Output {
+    ghost use Rattle.script_interpreter.specs.Outputs.{Gathered};
+
+    ghost Value = { Gathered };
+
+    ghost view = { λ o. record { printing = o.printing; text = o.bytes.items; refused = o.refused } };
+}
+
+impl Output {
+    /// Nothing was printed.
+    pub(crate) fn new(alloc: Global, printing: Printing) -> Output
+        ensures { result ≡ record { printing = printing; text = []; refused = false } }
+    {
+        Output {
+            printing,
+            bytes: Vec::new(alloc),
+            refused: false,
+        }
+    }
+
+    /// How many bytes are gathered.
+    pub(crate) fn len(&self) -> usize
+        ensures { result ≡ length self.now.text }
+    {
+        self.bytes.len()
+    }
+
+    /// Whether some line printed a refusal.
+    pub(crate) fn is_refused(&self) -> bool
+        ensures { result ≡ self.now.refused }
+    {
+        self.refused
+    }
+
+    /// Whether an answer prints its nodes.
+    pub(crate) fn prints_nodes(&self) -> bool
+        ensures { result ≡ prints_nodes self.now.printing }
+    {
+        self.printing.prints_nodes()
+    }
+
+    /// Gathers a text.
+    pub(crate) fn push(&mut self, text: &[u8]) -> Result<(), Memory>
+        ensures ok { OnOk result (self.new ≡ with_printed self.old text.now false) }
+        ensures err { OnErr result (self.new ≡ self.old) }
+    {
+        self.bytes.extend_from_slice(text)?;
+        Ok(())
+    }
+
+    /// Gathers what an accepted change did, where that is printed.
+    pub(crate) fn push_applied(&mut self, applied: Applied) -> Result<(), Memory>
+        ensures ok { OnOk result (self.new ≡ with_printed self.old (if_whole self.old.printing (applied_line applied)) false) }
+        ensures err { OnErr result (self.new ≡ self.old) }
+    {
+        push_applied(&mut self.bytes, applied, self.printing)
+    }
+
+    /// Gathers that a command was carried out, where that is printed.
+    pub(crate) fn push_ok(&mut self) -> Result<(), Memory>
+        ensures ok { OnOk result (self.new ≡ with_printed self.old (if_whole self.old.printing ok_line) false) }
+        ensures err { OnErr result (self.new ≡ self.old) }
+    {
+        push_applied(&mut self.bytes, Applied::Done, self.printing)
+    }
+
+    /// Gathers that the line of that number is bad.
+    pub(crate) fn push_bad(&mut self, line: u32) -> Result<(), Memory>
+        ensures ok { OnOk result (self.new ≡ with_printed self.old (bad_line line) false) }
+        ensures err { OnErr result (self.new ≡ self.old) }
+    {
+        push_number(&mut self.bytes, b"bad ", line)
+    }
+
+    /// Gathers why something is refused.
+    pub(crate) fn refuse(&mut self, refusal: Refusal) -> Result<(), Memory>
+        ensures ok { OnOk result (self.new ≡ with_printed self.old (refused_line refusal) true) }
+        ensures err { OnErr result (self.new ≡ self.old) }
+    {
+        push_line(&mut self.bytes, b"refused ", refusal.word().as_bytes())?;
+        self.refused = true;
+        Ok(())
+    }
+
+    /// Writes what is gathered, and leaves nothing gathered.
+    pub(crate) fn flush<K: Sink>(&mut self, sink: &mut K) -> Result<(), Failed>
+        ensures all { OnOk result (Appends (K.written sink.old) (K.written sink.new) self.old.text) }
+        ensures empty { OnOk result (self.new ≡ record self.old { text = [] }) }
+        ensures part { OnErr result (AppendsPrefix (K.written sink.old) (K.written sink.new) self.old.text) }
+        ensures cause { HasCause (K.faults sink.old) (K.faults sink.new) result }
+    {
+        put_all(sink, self.bytes.as_slice())?;
+        self.bytes.clear();
+        Ok(())
+    }
+}
+
+/// Appends what an accepted change did, or nothing in a brief run.
+fn push_applied(out: &mut Vec<u8>, applied: Applied, printing: Printing) -> Result<(), Memory>
+    ensures ok { OnOk result (out.new.items ≡ out.old.items ++ if_whole printing (applied_line applied)) }
+    ensures err { OnErr result (out.new.items ≡ out.old.items) }
+{
+    match printing {
+        Printing::Whole => push_change(out, applied),
+        Printing::Brief => Ok(()),
+    }
+}
+
+/// Appends what an accepted change did.
+fn push_change(out: &mut Vec<u8>, applied: Applied) -> Result<(), Memory>
+    ensures ok { OnOk result (out.new.items ≡ out.old.items ++ applied_line applied) }
+    ensures err { OnErr result (out.new.items ≡ out.old.items) }
+{
+    match applied {
+        Applied::Added(node) => push_number(out, b"added n", node),
+        Applied::Done => push_line(out, b"ok", b""),
+    }
+}
 
 /// Appends the two texts and LF, or nothing where memory runs out.
-pub(crate) fn push_line(out: &mut Vec<u8>, head: &[u8], tail: &[u8]) -> Result<(), Memory>
+fn push_line(out: &mut Vec<u8>, head: &[u8], tail: &[u8]) -> Result<(), Memory>
     ensures ok { OnOk result (out.new.items ≡ out.old.items ++ (head.now ++ tail.now ++ 10 ∷ [])) }
     ensures err { OnErr result (out.new.items ≡ out.old.items) }
 {
@@ -35,22 +170,10 @@ fn push_parts(out: &mut Vec<u8>, head: &[u8], tail: &[u8]) -> Result<(), Memory>
 }
 
 /// Appends the text, the number and LF, or nothing where memory runs out.
-pub(crate) fn push_number(out: &mut Vec<u8>, head: &[u8], number: u32) -> Result<(), Memory>
+fn push_number(out: &mut Vec<u8>, head: &[u8], number: u32) -> Result<(), Memory>
     ensures ok { OnOk result (out.new.items ≡ out.old.items ++ (head.now ++ decimal number ++ 10 ∷ [])) }
     ensures err { OnErr result (out.new.items ≡ out.old.items) }
 {
     let mut buffer = Buffer::new();
     push_line(out, head, buffer.format(number).as_bytes())
-}
-
-/// Writes what is gathered, and leaves nothing gathered.
-pub(crate) fn flush<K: Sink>(out: &mut Vec<u8>, sink: &mut K) -> Result<(), Failed>
-    ensures all { OnOk result (Appends (K.written sink.old) (K.written sink.new) out.old.items) }
-    ensures empty { OnOk result (out.new.items ≡ []) }
-    ensures part { OnErr result (AppendsPrefix (K.written sink.old) (K.written sink.new) out.old.items) }
-    ensures cause { HasCause (K.faults sink.old) (K.faults sink.new) result }
-{
-    put_all(sink, out.as_slice())?;
-    out.clear();
-    Ok(())
 }

@@ -1,5 +1,5 @@
 // The run of a script, line by line.
-ghost use Rattle.std.specs.Prelude.{◌≡◌, ◌≢◌, ◌<◌, ◌≤◌, ◌++◌, IfOk, OnOk, OnErr, IsErrOf, IsTrue, Err};
+ghost use Rattle.std.specs.Prelude.{◌≡◌, ◌≢◌, ◌<◌, ◌≤◌, IfOk, OnOk, OnErr, IsErrOf, IsTrue, Err, false};
 ghost use Rattle.std.specs.Io.KnownBytes.{Appends};
 ghost use Rattle.px_base.specs.Causes.{Rose, HasCause};
 ghost use Rattle.px_base.specs.Files.{AppendsPrefix};
@@ -11,11 +11,12 @@ ghost use Rattle.script_interpreter.specs.Runs.{Progress, end_status};
 ghost use Rattle.script_interpreter.specs.Endings.{status_at};
 ghost use Rattle.script_interpreter.specs.EngineStates.{state_of, IsOpen, IsIn};
 ghost use Rattle.script_interpreter.specs.LineTexts.{bad_line};
+ghost use Rattle.script_interpreter.specs.Outputs.{with_printed};
 ghost use Rattle.script_interpreter.specs.Observable.{RanObservable, PrefixObservable};
 ghost use Rattle.script_interpreter.specs.declared.script.Stop.TheVariants.{Sink as SinkStop, Memory as MemoryStop};
 
 use crate::interpreter::{Outcome, take};
-use crate::output::{flush, push_number};
+use crate::output::Output;
 use crate::printing::Printing;
 use index_api::PathIndex;
 use pathindex_core::Engine;
@@ -72,13 +73,13 @@ pub(crate) enum Next {
 }
 
 /// Gathers that the line of that number is bad.
-fn push_bad(out: &mut Vec<u8>, line: u32) -> Result<Next, Stop>
-    ensures ok { IfOk result (λ next. (next ≡ Next.AtBad) × (out.new.items ≡ out.old.items ++ bad_line line)) }
-    ensures err { OnErr result (out.new.items ≡ out.old.items) }
+fn push_bad(output: &mut Output, line: u32) -> Result<Next, Stop>
+    ensures ok { IfOk result (λ next. (next ≡ Next.AtBad) × (output.new ≡ with_printed output.old (bad_line line) false)) }
+    ensures err { OnErr result (output.new ≡ output.old) }
     ensures memory { result ≢ Err Stop.Shelf }
     ensures no_sink { result ≢ Err Stop.Sink }
 {
-    match push_number(out, b"bad ", line) {
+    match output.push_bad(line) {
         Ok(()) => Ok(Next::AtBad),
         Err(_) => Err(Stop::Memory),
     }
@@ -89,37 +90,32 @@ fn next_line<B: PathIndex, H: Shelf>(
     alloc: Global,
     reader: &mut LineReader,
     engine: &mut Engine<B>,
-    refused: &mut bool,
-    printing: Printing,
     shelf: &mut H,
-    out: &mut Vec<u8>,
+    output: &mut Output,
 ) -> Result<Next, Stop>
     requires can { CanRead reader.old (H.is_open shelf.old) }
     requires ready { IsOpen (seen B.meaning engine.old) }
     ensures ready { IsOpen (seen B.meaning engine.new) }
-    ensures goes { IfOk result (λ next. Goes (rules_for printing) (progress (state_of B.meaning engine.old) refused.old reader.old)
-        (stream reader.old (H.left shelf.old)) out.old.items next (progress (state_of B.meaning engine.new) refused.new reader.new)
-        (stream reader.new (H.left shelf.new)) out.new.items) }
+    ensures goes { IfOk result (λ next. Goes (rules_for output.old.printing)
+        (progress (state_of B.meaning engine.old) output.old.refused reader.old) (stream reader.old (H.left shelf.old)) output.old.text next
+        (progress (state_of B.meaning engine.new) output.new.refused reader.new) (stream reader.new (H.left shelf.new)) output.new.text) }
+    ensures printing { output.new.printing ≡ output.old.printing }
     ensures can { IfOk result (λ next. OnTaken next (CanRead reader.new (H.is_open shelf.new))) }
     ensures nearer { IfOk result (λ next. OnTaken next ((reader.old.taken < reader.new.taken) × (reader.new.taken ≤ SCRIPT_BYTES))) }
-    ensures gathered { OnErr result (out.new.items ≡ out.old.items) }
+    ensures gathered { OnErr result (output.new ≡ output.old) }
     ensures files { H.files shelf.new ≡ H.files shelf.old }
     ensures fault { IsErrOf result Stop.Shelf → Rose (H.faults shelf.old) (H.faults shelf.new) }
     ensures no_fault { result ≢ Err Stop.Shelf → H.faults shelf.new ≡ H.faults shelf.old }
     ensures no_sink { result ≢ Err Stop.Sink }
 {
     match reader.next(shelf) {
-        Ok(true) => match take(alloc, engine, reader.line(), printing, out) {
+        Ok(true) => match take(alloc, engine, reader.line(), output) {
             Ok(Outcome::Done) => Ok(Next::Taken),
-            Ok(Outcome::Refused) => {
-                *refused = true;
-                Ok(Next::Taken)
-            }
-            Ok(Outcome::Bad) => push_bad(out, reader.number()),
+            Ok(Outcome::Bad) => push_bad(output, reader.number()),
             Err(_) => Err(Stop::Memory),
         },
         Ok(false) => Ok(Next::AtEnd),
-        Err(LineFault::Limit) => push_bad(out, reader.number()),
+        Err(LineFault::Limit) => push_bad(output, reader.number()),
         Err(LineFault::Fault) => Err(Stop::Shelf),
         Err(LineFault::Memory) => Err(Stop::Memory),
     }
@@ -127,27 +123,32 @@ fn next_line<B: PathIndex, H: Shelf>(
 
 /// Writes what is gathered where there is much of it, and before the next line is read of the shelf, so that a
 /// failing read loses no line that was taken.
-fn flush_if_due<K: Sink>(reader: &LineReader, out: &mut Vec<u8>, sink: &mut K) -> Result<(), Failed>
-    ensures written { OnOk result (Writes (K.written sink.old) (K.written sink.new) out.old.items out.new.items) }
-    ensures part { OnErr result (AppendsPrefix (K.written sink.old) (K.written sink.new) out.old.items) }
+fn flush_if_due<K: Sink>(
+    reader: &LineReader,
+    output: &mut Output,
+    sink: &mut K,
+) -> Result<(), Failed>
+    ensures written { OnOk result (Writes (K.written sink.old) (K.written sink.new) output.old.text output.new.text) }
+    ensures kept { OnOk result (output.new ≡ record output.old { text = output.new.text }) }
+    ensures part { OnErr result (AppendsPrefix (K.written sink.old) (K.written sink.new) output.old.text) }
     ensures cause { HasCause (K.faults sink.old) (K.faults sink.new) result }
 {
-    if out.len() >= PIECE_BYTES || !reader.has_line_ahead() {
-        flush(out, sink)?;
+    if output.len() >= PIECE_BYTES || !reader.has_line_ahead() {
+        output.flush(sink)?;
     }
     Ok(())
 }
 
 /// Writes what is gathered, and ends so.
-fn finish<K: Sink>(ending: Ending, out: &mut Vec<u8>, sink: &mut K) -> Result<Ending, Stop>
+fn finish<K: Sink>(ending: Ending, output: &mut Output, sink: &mut K) -> Result<Ending, Stop>
     ensures ending { IfOk result (λ e. e ≡ ending) }
-    ensures all { OnOk result (Appends (K.written sink.old) (K.written sink.new) out.old.items) }
-    ensures part { OnErr result (AppendsPrefix (K.written sink.old) (K.written sink.new) out.old.items) }
+    ensures all { OnOk result (Appends (K.written sink.old) (K.written sink.new) output.old.text) }
+    ensures part { OnErr result (AppendsPrefix (K.written sink.old) (K.written sink.new) output.old.text) }
     ensures sink { IsErrOf result Stop.Sink → Rose (K.faults sink.old) (K.faults sink.new) }
     ensures no_sink { result ≢ Err Stop.Sink → K.faults sink.new ≡ K.faults sink.old }
     ensures no_shelf { result ≢ Err Stop.Shelf }
 {
-    match flush(out, sink) {
+    match output.flush(sink) {
         Ok(()) => Ok(ending),
         Err(_) => Err(Stop::Sink),
     }
@@ -187,24 +188,15 @@ pub fn run_lines<B: PathIndex, H: Shelf, K: Sink>(
     ensures no_sink_fault { result ≢ Err Stop.Sink → K.faults sink.new ≡ K.faults sink.old }
 {
     let mut reader = LineReader::new(alloc, LINE_BYTES, SCRIPT_BYTES)?;
-    let mut refused = false;
-    let mut out = Vec::new(alloc);
+    let mut output = Output::new(alloc, printing);
     'lines: loop {
-        flush_if_due(&reader, &mut out, sink)?;
-        match next_line(
-            alloc,
-            &mut reader,
-            engine,
-            &mut refused,
-            printing,
-            shelf,
-            &mut out,
-        ) {
+        flush_if_due(&reader, &mut output, sink)?;
+        match next_line(alloc, &mut reader, engine, shelf, &mut output) {
             Ok(Next::Taken) => (),
-            Ok(Next::AtBad) => return finish(Ending::Bad, &mut out, sink),
-            Ok(Next::AtEnd) => return finish(ending_of(refused), &mut out, sink),
+            Ok(Next::AtBad) => return finish(Ending::Bad, &mut output, sink),
+            Ok(Next::AtEnd) => return finish(ending_of(output.is_refused()), &mut output, sink),
             Err(Stop::Memory) => {
-                flush(&mut out, sink)?;
+                output.flush(sink)?;
                 return Err(Stop::Memory);
             }
             Err(stop) => return Err(stop),

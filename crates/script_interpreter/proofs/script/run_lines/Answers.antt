@@ -1,4 +1,4 @@
-use Rattle.std.proofs.Common.{◌≡◌, ◌∙◌, ap, rules, refl}
+use Rattle.std.proofs.Common.{◌≡◌, ◌∙◌, ap, sym, rules}
 use Rattle.std.specs.Prelude.{is_some}
 use Rattle.std.proofs.lemmas.Result.{err_from_is_err_and}
 use Rattle.pathindex_core.specs.Engines.{seen}
@@ -18,7 +18,8 @@ returns-in_err-reader-clause-part g c =
 
 pub lines-init : goal.lines-init
 lines-init g c = record {
-  reached = rw (c.in_ok-reader.ensures, c.new-out.ensures.items) (reached-start (rules_for c.args.printing) (state_in (seen g.B.PathIndex.meaning c.args.engine.now)) (g.H.Shelf.left c.args.shelf.now) (g.K.Sink.written c.args.sink.now));
+  reached = rw (c.in_ok-reader.ensures, c.new-output.ensures) (reached-start (rules_for c.args.printing) (state_in (seen g.B.PathIndex.meaning c.args.engine.now)) (g.H.Shelf.left c.args.shelf.now) (g.K.Sink.written c.args.sink.now));
+  printing = ap (λ o. o.printing) c.new-output.ensures;
   ready = c.requires.ready;
   can = rw c.in_ok-reader.ensures (search rules);
   taken = rw c.in_ok-reader.ensures (search rules);
@@ -34,9 +35,10 @@ returns-in_err-flush_if_due-clause-part g c =
 
 pub lines-preserved : goal.lines-preserved
 lines-preserved g c =
-    let goes = rw c.in-Ok-Taken.field-0-is at c.in-Ok-Taken.ensures.goes in
+    let goes = rw (c.in-Ok-Taken.field-0-is, c.in_ok-flush_if_due.ensures.kept, c.lines.invariant.printing) at c.in-Ok-Taken.ensures.goes in
     record {
       reached = reached-more (reached-written c.lines.invariant.reached _ _ c.in_ok-flush_if_due.ensures.written) goes.0 goes.1 _ _ _ goes.2 goes.3 goes.4;
+      printing = c.next_line.ensures.printing ∙ ap (λ o. o.printing) c.in_ok-flush_if_due.ensures.kept ∙ c.lines.invariant.printing;
       ready = c.next_line.ensures.ready;
       can = rw c.in-Ok-Taken.field-0-is at c.in-Ok-Taken.ensures.can;
       taken = (rw c.in-Ok-Taken.field-0-is at c.in-Ok-Taken.ensures.nearer).1;
@@ -47,28 +49,28 @@ lines-preserved g c =
 
 pub returns-in-Ok-AtBad-clause-ran : goal.returns-in-Ok-AtBad-clause-ran
 returns-in-Ok-AtBad-clause-ran g c =
-    let goes = rw c.in-Ok-AtBad.field-0-is at c.in-Ok-AtBad.ensures.goes in
+    let goes = rw (c.in-Ok-AtBad.field-0-is, c.in_ok-flush_if_due.ensures.kept, c.lines.invariant.printing) at c.in-Ok-AtBad.ensures.goes in
     ok_fact c.finish.result Bad _ _ c.finish.ensures.ending c.finish.ensures.all
     (λ w. ran-bad _ _ (reached-written c.lines.invariant.reached _ _ c.in_ok-flush_if_due.ensures.written) goes.0 _ _ goes.2 w _ (record { is_open = ap is_some c.next_line.ensures.ready.opened_is; state = goes.1 }))
 
 pub returns-in-Ok-AtBad-clause-part : goal.returns-in-Ok-AtBad-clause-part
 returns-in-Ok-AtBad-clause-part g c =
-    let goes = rw c.in-Ok-AtBad.field-0-is at c.in-Ok-AtBad.ensures.goes in
+    let goes = rw (c.in-Ok-AtBad.field-0-is, c.in_ok-flush_if_due.ensures.kept, c.lines.invariant.printing) at c.in-Ok-AtBad.ensures.goes in
     err_fact c.finish.result _ _ c.finish.ensures.part
     (λ w. prefix-bad _ _ (reached-written c.lines.invariant.reached _ _ c.in_ok-flush_if_due.ensures.written) goes.0 _ _ goes.2 (part_written _ _ _ w))
 
 pub returns-in-Ok-AtEnd-clause-ran : goal.returns-in-Ok-AtEnd-clause-ran
 returns-in-Ok-AtEnd-clause-ran g c =
-    let goes = rw c.in-Ok-AtEnd.field-0-is at c.in-Ok-AtEnd.ensures.goes in
-    let p = progress (state_in (seen g.B.PathIndex.meaning c.lines.engine)) c.lines.refused c.lines.reader in
-    let q = progress (state_in (seen g.B.PathIndex.meaning c.next_line.new.engine)) c.next_line.new.refused c.next_line.new.reader in
-    let e : status_at c.ending_of.result ≡ end_status p = c.ending_of.ensures q refl ∙ goes.2 in
+    let goes = rw (c.in-Ok-AtEnd.field-0-is, c.in_ok-flush_if_due.ensures.kept) at c.in-Ok-AtEnd.ensures.goes in
+    let p = progress (state_in (seen g.B.PathIndex.meaning c.lines.engine)) c.lines.output.refused c.lines.reader in
+    let q = progress (state_in (seen g.B.PathIndex.meaning c.next_line.new.engine)) c.next_line.new.output.refused c.next_line.new.reader in
+    let e : status_at c.ending_of.result ≡ end_status p = c.ending_of.ensures q (sym c.is_refused.ensures) ∙ goes.2 in
     ok_fact c.finish-in-Ok-AtEnd.result c.ending_of.result _ _ c.finish-in-Ok-AtEnd.ensures.ending c.finish-in-Ok-AtEnd.ensures.all
     (λ w. rw e (ran-over _ _ (reached-written c.lines.invariant.reached _ _ c.in_ok-flush_if_due.ensures.written) goes.0 _ _ goes.3 w _ (record { is_open = ap is_some c.next_line.ensures.ready.opened_is; state = goes.1 })))
 
 pub returns-in-Ok-AtEnd-clause-part : goal.returns-in-Ok-AtEnd-clause-part
 returns-in-Ok-AtEnd-clause-part g c =
-    let goes = rw c.in-Ok-AtEnd.field-0-is at c.in-Ok-AtEnd.ensures.goes in
+    let goes = rw (c.in-Ok-AtEnd.field-0-is, c.in_ok-flush_if_due.ensures.kept) at c.in-Ok-AtEnd.ensures.goes in
     err_fact c.finish-in-Ok-AtEnd.result _ _ c.finish-in-Ok-AtEnd.ensures.part
     (λ w. prefix-over _ _ (reached-written c.lines.invariant.reached _ _ c.in_ok-flush_if_due.ensures.written) goes.0 _ _ goes.3 (part_written _ _ _ w))
 

@@ -10,8 +10,9 @@ use Rattle.script_interpreter.proofs.script.run_lines.Given as goal
 
 abbrev pub invariant-lines : goal.invariant-lines
 invariant-lines g l = record {
-  reached : Reached (rules_for l.fn.printing) (state_in (seen g.B.PathIndex.meaning l.fn.engine)) (g.H.Shelf.left l.fn.shelf) (stream l.reader (g.H.Shelf.left l.shelf)) (g.K.Sink.written l.fn.sink) (g.K.Sink.written l.sink) l.out.items
-      (progress (state_in (seen g.B.PathIndex.meaning l.engine)) l.refused l.reader);
+  reached : Reached (rules_for l.fn.printing) (state_in (seen g.B.PathIndex.meaning l.fn.engine)) (g.H.Shelf.left l.fn.shelf) (stream l.reader (g.H.Shelf.left l.shelf)) (g.K.Sink.written l.fn.sink) (g.K.Sink.written l.sink) l.output.text
+      (progress (state_in (seen g.B.PathIndex.meaning l.engine)) l.output.refused l.reader);
+  printing : l.output.printing ≡ l.fn.printing;
   ready : IsOpen (seen g.B.PathIndex.meaning l.engine);
   can : CanRead l.reader (g.H.Shelf.is_open l.shelf);
   taken : l.reader.taken ≤ SCRIPT_BYTES;

@@ -1,0 +1,14 @@
+-- What is gathered of the output of a run.
+use Rattle.std.specs.Prelude.{ℕ, Bool, ◌||◌, List, ◌++◌}
+use Rattle.script_interpreter.specs.declared.printing.Printing.{Printing}
+
+pub record Gathered : Type 0 where
+  pub printing : Printing
+  -- what was printed and isn't written yet
+  pub text : List ℕ
+  -- whether some line printed `refused`
+  pub refused : Bool
+
+-- the same after a line that printed this, and told whether it is a refusal
+abbrev pub with_printed : Gathered → List ℕ → Bool → Gathered
+with_printed g printed refuses = record g { text = g.text ++ printed; refused = refuses || g.refused }
