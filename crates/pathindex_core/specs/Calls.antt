@@ -40,7 +40,7 @@ pub record IsForgotten (kind : Kind) (e f : EngineSeen) : Type 0 where
   pub boxes : f.boxes ≡ filter (λ m. not (is_kind kind m.kind)) e.boxes
 
 -- The engine was asked something: at most it computes a view that wasn't computed.
-pub record IsAsked (e f : EngineSeen) : Type 0 where
+pub record KeepsAllButViews (e f : EngineSeen) : Type 0 where
   -- the graph, the limits and the highest level stay
   pub opened : f.opened ≡ e.opened
   -- each view that is computed stays

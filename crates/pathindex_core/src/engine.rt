@@ -8,7 +8,7 @@ ghost use Rattle.pathindex_core.specs.QueryAnswers.{IsQueried};
 ghost use Rattle.index_api.specs.declared.kinds.Via.TheVariants.{Data as TheGraph};
 ghost use Rattle.index_api.specs.Meanings.{IsBuilt};
 ghost use Rattle.index_api.specs.IndexKinds.{kinds_of, has_kind};
-ghost use Rattle.pathindex_core.specs.Calls.{IsMade, IsForgotten, IsAsked, IsListed, IsMeasured};
+ghost use Rattle.pathindex_core.specs.Calls.{IsMade, IsForgotten, KeepsAllButViews, IsListed, IsMeasured};
 ghost use Rattle.pathindex_core.specs.Engines.{graph_in, EachBecomes, IsSound, seen};
 ghost use Rattle.pathindex_core.specs.Updates.{outcome_in};
 
@@ -196,7 +196,7 @@ impl<B: PathIndex> Engine<B> {
         requires open { IsSome self.old.opened }
         requires sound { IsSound (seen B.meaning self.old) }
         ensures sound { IsSound (seen B.meaning self.new) }
-        ensures asked { IsAsked (seen B.meaning self.old) (seen B.meaning self.new) }
+        ensures asked { KeepsAllButViews (seen B.meaning self.old) (seen B.meaning self.new) }
         ensures queried { IsQueried (seen B.meaning self.old) (seen B.meaning self.new) via (query_of query.now) result steps.old steps.new }
     {
         match &self.state {
@@ -221,7 +221,7 @@ impl<B: PathIndex> Engine<B> {
         requires open { IsSome self.old.opened }
         requires sound { IsSound (seen B.meaning self.old) }
         ensures sound { IsSound (seen B.meaning self.new) }
-        ensures asked { IsAsked (seen B.meaning self.old) (seen B.meaning self.new) }
+        ensures asked { KeepsAllButViews (seen B.meaning self.old) (seen B.meaning self.new) }
         ensures queried { IsQueried (seen B.meaning self.old) (seen B.meaning self.new) via (path expr.now) result steps.old steps.new }
     {
         self.ask(alloc, via, &Query::Path(expr), steps)
@@ -242,7 +242,7 @@ impl<B: PathIndex> Engine<B> {
         requires open { IsSome self.old.opened }
         requires sound { IsSound (seen B.meaning self.old) }
         ensures sound { IsSound (seen B.meaning self.new) }
-        ensures asked { IsAsked (seen B.meaning self.old) (seen B.meaning self.new) }
+        ensures asked { KeepsAllButViews (seen B.meaning self.old) (seen B.meaning self.new) }
         ensures queried { IsQueried (seen B.meaning self.old) (seen B.meaning self.new) via (branch query.now) result steps.old steps.new }
     {
         self.ask(alloc, via, &Query::Branch(query), steps)
@@ -266,7 +266,7 @@ impl<B: PathIndex> Engine<B> {
         requires sound { IsSound (seen B.meaning self.old) }
         requires index { via ≢ TheGraph }
         ensures sound { IsSound (seen B.meaning self.new) }
-        ensures asked { IsAsked (seen B.meaning self.old) (seen B.meaning self.new) }
+        ensures asked { KeepsAllButViews (seen B.meaning self.old) (seen B.meaning self.new) }
         ensures listed { IsListed (seen B.meaning self.old) (seen B.meaning self.new) via result steps.old steps.new }
     {
         match &self.state {
@@ -283,7 +283,7 @@ impl<B: PathIndex> Engine<B> {
         requires open { IsSome self.old.opened }
         requires sound { IsSound (seen B.meaning self.old) }
         ensures sound { IsSound (seen B.meaning self.new) }
-        ensures asked { IsAsked (seen B.meaning self.old) (seen B.meaning self.new) }
+        ensures asked { KeepsAllButViews (seen B.meaning self.old) (seen B.meaning self.new) }
         ensures measured { IsMeasured (seen B.meaning self.old) (seen B.meaning self.new) result steps.old steps.new }
     {
         match &self.state {

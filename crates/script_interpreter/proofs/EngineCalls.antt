@@ -17,7 +17,7 @@ use Rattle.index_api.specs.IndexKinds.{is_kind, has_kind, kinds_of, is_kept}
 use Rattle.branch_query.specs.Queries.{Query, path, branch}
 use Rattle.script_read.specs.Commands.{change, extents, sizes, forget}
 use Rattle.pathindex_core.specs.Engines.{Opened, EngineSeen, EachBecomes, IsKeptFor, AreKeptFor, IsSound, graph_in}
-use Rattle.pathindex_core.specs.Calls.{IsMade, IsForgotten, IsAsked}
+use Rattle.pathindex_core.specs.Calls.{IsMade, IsForgotten, KeepsAllButViews}
 use Rattle.pathindex_core.specs.Updates.{IsUpdated, graph_or, outcome_in, opened_after}
 use Rattle.script_interpreter.specs.declared.printing.Printing.{Printing}
 use Rattle.script_interpreter.specs.Rules.{if_whole, rules_for}
@@ -92,17 +92,17 @@ refused_obeyed c e f r old new ready same q g =
       gathered_is = g;
     }
 
-pub open_asked : (e f : EngineSeen) → IsOpen e → IsSound f → IsAsked e f → IsOpen f
+pub open_asked : (e f : EngineSeen) → IsOpen e → IsSound f → KeepsAllButViews e f → IsOpen f
 open_asked e f o sound a = record { sound = sound; opened = o.opened; opened_is = a.opened ∙ o.opened_is; limits_are = o.limits_are }
 
-same_asked : (e f : EngineSeen) → IsAsked e f → state_in f ≡ state_in e
+same_asked : (e f : EngineSeen) → KeepsAllButViews e f → state_in f ≡ state_in e
 same_asked e f a i = record { graph = graph_in (a.opened i); kept = a.kept i }
 
 asks_query : (printing : Printing) (s : State) (via : Via) (q : Query) (text : List ℕ) (refuses : Bool) → ShowsAnswers printing s q via text refuses → Obeys (rules_for printing) s (query_command via q) text refuses s
 asks_query printing s via (path e) text refuses h = asks_path via e text refuses h
 asks_query printing s via (branch q) text refuses h = asks_branch via q text refuses h
 
-pub query_obeyed : (e f : EngineSeen) (via : Via) (q : Query) (text : List ℕ) (refuses : Bool) (old new : Gathered) → IsAsked e f
+pub query_obeyed : (e f : EngineSeen) (via : Via) (q : Query) (text : List ℕ) (refuses : Bool) (old new : Gathered) → KeepsAllButViews e f
     → ShowsAnswers old.printing (state_in e) q via text refuses → new ≡ with_printed old text refuses → Obeyed (state_in e) (query_command via q) old (state_in f) new
 query_obeyed e f via q text refuses old new a s g = record {
   printed = text;
@@ -111,7 +111,7 @@ query_obeyed e f via q text refuses old new a s g = record {
   gathered_is = g;
 }
 
-pub list_obeyed : (e f : EngineSeen) (via : Via) (text : List ℕ) (refuses : Bool) (old new : Gathered) → IsAsked e f
+pub list_obeyed : (e f : EngineSeen) (via : Via) (text : List ℕ) (refuses : Bool) (old new : Gathered) → KeepsAllButViews e f
     → ShowsExtents (state_in e) via text refuses → new ≡ with_printed old text refuses → Obeyed (state_in e) (extents via) old (state_in f) new
 list_obeyed e f via text refuses old new a s g = record {
   printed = text;
@@ -120,7 +120,7 @@ list_obeyed e f via text refuses old new a s g = record {
   gathered_is = g;
 }
 
-pub sizes_obeyed : (e f : EngineSeen) (text : List ℕ) (old new : Gathered) → IsAsked e f
+pub sizes_obeyed : (e f : EngineSeen) (text : List ℕ) (old new : Gathered) → KeepsAllButViews e f
     → ShowsSizes (state_in e) text → new ≡ with_printed old text false → Obeyed (state_in e) sizes old (state_in f) new
 sizes_obeyed e f text old new a s g = record {
   printed = text;

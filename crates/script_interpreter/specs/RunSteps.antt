@@ -63,8 +63,8 @@ abbrev pub FirstIsBad : Rules → Progress → Option (List ℕ) → Type 0
 FirstIsBad rules p None = ⊤
 FirstIsBad rules p (Some text) = (l : Line) × (ls : List Line) × (cut text ≡ l ∷ ls) × IsBad rules p l
 
--- The run takes a line and gathers what it prints, or it ends: at a bad line, or at the end of the script. Where it ends its state is
--- as it was.
+-- The run takes a line and gathers what it prints, or it ends: at a bad line, or at the end of the script. Where it
+-- ends its state is as it was.
 abbrev pub Goes : Rules → Progress → Option (List ℕ) → List ℕ → Next → Progress → Option (List ℕ) → List ℕ → Type 0
 Goes rules p before out Taken q after gathered = (l : Line) × (printed : List ℕ)
     × IsFirst l before after × TakesLine rules p l printed q × (gathered ≡ out ++ printed)

@@ -20,8 +20,8 @@ use Rattle.script_interpreter.specs.States.{State, keeps, forgotten}
 use Rattle.script_interpreter.specs.Indexes.{ShowsAnswers, ShowsExtents, ShowsSizes}
 use Rattle.script_read.specs.Commands.{Command, change, path, branch, extents, sizes, forget, IsQuiet, IsSpelled, PassesLimit, SpellsNothing}
 
--- An accepted change leads from the state s to t, whose graph is h. The same indexes are kept. A change that alters nothing leaves
--- the whole state. Each other one moves the blocks of the 1-index, where it is kept, by one step.
+-- An accepted change leads from the state s to t, whose graph is h. The same indexes are kept. A change that alters
+-- nothing leaves the whole state. Each other one moves the blocks of the 1-index, where it is kept, by one step.
 pub record IsChanged (s : State) (c : Change) (h : Graph) (t : State) : Type 0 where
   pub graph : t.graph ≡ h
   pub kinds : t.kept.kinds ≡ s.kept.kinds

@@ -19,8 +19,8 @@ pub record State : Type 0 where
 abbrev pub keeps : State → Kind → Bool
 keeps s kind = has_kind s.kept.kinds kind
 
--- A state with which a run begins: this graph, and indexes of these kinds with levels up to k. The blocks of the 1-index, where it
--- is kept, are full bisimilarity.
+-- A state with which a run begins: this graph, and indexes of these kinds with levels up to k. The blocks of the
+-- 1-index, where it is kept, are full bisimilarity.
 pub record BeginsRun (g : Graph) (given : List Kind) (k : ℕ) (s : State) : Type 0 where
   pub graph : s.graph ≡ g
   pub kinds : s.kept.kinds ≡ given

@@ -165,8 +165,9 @@ fn ending_of(refused: bool) -> Ending
     }
 }
 
-/// Runs the script that is open, on the graph of the engine, to its end or to a line that is bad. O(t) for t bytes of the script, and
-/// what the commands cost (`Engine`); it takes memory for a block of the script, its longest line, and what is gathered of the output.
+/// Runs the script that is open, on the graph of the engine, to its end or to a line that is bad. O(t) for t bytes of
+/// the script, and what the commands cost (`Engine`); it takes memory for a block of the script, its longest line, and
+/// what is gathered of the output.
 pub fn run_lines<B: PathIndex, H: Shelf, K: Sink>(
     alloc: Global,
     engine: &mut Engine<B>,
