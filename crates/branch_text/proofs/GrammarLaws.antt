@@ -1,5 +1,5 @@
 -- What the readers of tokens keep.
-use Rattle.std.proofs.Common.{◌≡◌, ℕ, List, [], ◌∷◌, ◌++◌, length, refl, sym, ap, ◌∙◌, subst}
+use Rattle.std.proofs.Common.{◌≡◌, List, [], ◌∷◌, ◌++◌, length, refl, sym, ap, ◌∙◌, subst, rules}
 use Rattle.branch_spec.specs.Trees as tree
 use Rattle.branch_spec.specs.Tokens.{Token, lab, underscore, axis, left, right, opening, closing, not_word, and_word, or_word, nothing, test_onto, step_onto, preds_onto, or_onto, and_onto, cond_onto, chain_onto, tokens, EndsOr, EndsAnd, EndsChain, EndsStep}
 use Rattle.branch_spec.proofs.OneQuery.{ends_or_and, ends_and_chain, chain_ends, one_test, one_step, one_or, one_and, one_cond, one_chain}
@@ -9,8 +9,7 @@ use Rattle.branch_expr.specs.declared.tree.And.{And}
 use Rattle.branch_expr.specs.declared.tree.Hop.{Hop}
 use Rattle.branch_expr.specs.QueryTrees.{preds_of, step_of, chain_of, cond_of, and_from, and_of, or_from}
 use Rattle.branch_text.specs.declared.token.Token as token
-use Rattle.branch_text.specs.declared.token.Token.TheVariants.{Label, Any, Along, Left, Right, Open, Close, Not, And as AndWord, Or as OrWord}
-use Rattle.branch_text.specs.BranchTokens.{token_of, seen}
+use Rattle.branch_text.specs.BranchTokens.{seen}
 
 -- one part more
 pub preds_more : (ps : List tree.Or) (o : tree.Or) (q : List Token) → preds_onto (preds_of (ps ++ o ∷ [])) q ≡ preds_onto (preds_of ps) (left ∷ or_onto o (right ∷ q))
@@ -175,81 +174,17 @@ rel_inside b x (tree.group o) r k = cc
 rel_inside b x (tree.rel a s ch) r k = (a, s, ch, k)
 rel_inside b x tree.always r k = cc
 
-abbrev pub BeginsCond : List Token → Type 0
-BeginsCond [] = ⊥
-BeginsCond (lab t ∷ r) = ⊥
-BeginsCond (underscore ∷ r) = ⊥
-BeginsCond (axis a ∷ r) = Unit {0}
-BeginsCond (left ∷ r) = ⊥
-BeginsCond (right ∷ r) = ⊥
-BeginsCond (opening ∷ r) = Unit {0}
-BeginsCond (closing ∷ r) = ⊥
-BeginsCond (not_word ∷ r) = Unit {0}
-BeginsCond (and_word ∷ r) = ⊥
-BeginsCond (or_word ∷ r) = ⊥
-BeginsCond (nothing ∷ r) = Unit {0}
+-- no token is seen as what holds everywhere
+none_always : (ts : List token.Token) (r : List Token) → seen ts ≡ nothing ∷ r → ⊥
+none_always [] r k = cc
+none_always (t ∷ ts) r k = search rules
 
-cond_begins : (c : tree.Cond) (r : List Token) → BeginsCond (cond_onto c r)
-cond_begins (tree.fails o) r = tt
-cond_begins (tree.group o) r = tt
-cond_begins (tree.rel a s ch) r = tt
-cond_begins tree.always r = tt
-
-pub no_cond : (x : List Token) (c : tree.Cond) (r : List Token) → x ≡ [] → x ≡ cond_onto c r → ⊥
-no_cond x c r e k = subst BeginsCond (sym k ∙ e) (cond_begins c r)
-
-other_begins : (t : token.Token) (y : List Token) → (t ≡ Not → ⊥) → (t ≡ Open → ⊥) → ((a : _) → t ≡ Along a → ⊥) → BeginsCond (token_of t ∷ y) → ⊥
-other_begins (Label x) y n o a h = h
-other_begins Any y n o a h = h
-other_begins (Along x) y n o a h = a x refl
-other_begins Left y n o a h = h
-other_begins Right y n o a h = h
-other_begins Open y n o a h = o refl
-other_begins Close y n o a h = h
-other_begins Not y n o a h = n refl
-other_begins AndWord y n o a h = h
-other_begins OrWord y n o a h = h
-
-pub other_cond : (x : List Token) (t : token.Token) (y : List Token) (c : tree.Cond) (r : List Token) → x ≡ token_of t ∷ y → (t ≡ Not → ⊥) → (t ≡ Open → ⊥) → ((a : _) → t ≡ Along a → ⊥)
-    → x ≡ cond_onto c r → ⊥
-other_cond x t y c r e n o a k = other_begins t y n o a (subst BeginsCond (sym k ∙ e) (cond_begins c r))
-
--- with what a test begins
-abbrev pub BeginsTest : List Token → Type 0
-BeginsTest [] = ⊥
-BeginsTest (lab t ∷ r) = Unit {0}
-BeginsTest (underscore ∷ r) = Unit {0}
-BeginsTest (axis a ∷ r) = ⊥
-BeginsTest (left ∷ r) = ⊥
-BeginsTest (right ∷ r) = ⊥
-BeginsTest (opening ∷ r) = ⊥
-BeginsTest (closing ∷ r) = ⊥
-BeginsTest (not_word ∷ r) = ⊥
-BeginsTest (and_word ∷ r) = ⊥
-BeginsTest (or_word ∷ r) = ⊥
-BeginsTest (nothing ∷ r) = ⊥
-
-test_begins : (t : tree.Test) (r : List Token) → BeginsTest (test_onto t r)
-test_begins (tree.label t) r = tt
-test_begins tree.any r = tt
-
-pub no_test : (x : List Token) (t : tree.Test) (r : List Token) → x ≡ [] → x ≡ test_onto t r → ⊥
-no_test x t r e k = subst BeginsTest (sym k ∙ e) (test_begins t r)
-
-other_test_begins : (t : token.Token) (y : List Token) → ((x : List ℕ) → t ≡ Label x → ⊥) → (t ≡ Any → ⊥) → BeginsTest (token_of t ∷ y) → ⊥
-other_test_begins (Label x) y l a h = l x refl
-other_test_begins Any y l a h = a refl
-other_test_begins (Along x) y l a h = h
-other_test_begins Left y l a h = h
-other_test_begins Right y l a h = h
-other_test_begins Open y l a h = h
-other_test_begins Close y l a h = h
-other_test_begins Not y l a h = h
-other_test_begins AndWord y l a h = h
-other_test_begins OrWord y l a h = h
-
-pub other_test : (x : List Token) (t : token.Token) (y : List Token) (u : tree.Test) (r : List Token) → x ≡ token_of t ∷ y → ((w : List ℕ) → t ≡ Label w → ⊥) → (t ≡ Any → ⊥) → x ≡ test_onto u r → ⊥
-other_test x t y u r e l a k = other_test_begins t y l a (subst BeginsTest (sym k ∙ e) (test_begins u r))
+pub no_cond : (ts : List token.Token) (c : tree.Cond) (r : List Token) → ((q : List Token) → seen ts ≡ not_word ∷ q → ⊥) → ((q : List Token) → seen ts ≡ opening ∷ q → ⊥)
+    → ((a : tree.Axis) (q : List Token) → seen ts ≡ axis a ∷ q → ⊥) → seen ts ≡ cond_onto c r → ⊥
+no_cond ts (tree.fails o) r n p a k = n (opening ∷ or_onto o (closing ∷ r)) k
+no_cond ts (tree.group o) r n p a k = p (or_onto o (closing ∷ r)) k
+no_cond ts (tree.rel b s ch) r n p a k = a b (step_onto s (chain_onto ch r)) k
+no_cond ts tree.always r n p a k = none_always ts r k
 
 seen_nil : (ts : List token.Token) → seen ts ≡ [] → length ts ≡ 0
 seen_nil [] e = refl

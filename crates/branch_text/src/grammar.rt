@@ -6,10 +6,7 @@ ghost use Rattle.branch_expr.specs.QueryTrees.{test_of, step_of, chain_of, rel_o
 ghost use Rattle.branch_text.specs.BranchTokens.{seen};
 ghost use Rattle.branch_text.specs.Heads.{HasNoTest, HasNoPred, HasNoGroup, HasNoStep, HasNoChain, HasNoRel, HasNoUnit, HasNoCond, HasNoAnd, HasNoOr, EndsUnitBefore, EndsCondBefore};
 
-use crate::token::{
-    Token, after_and, after_close, after_left, after_open, after_or, after_right, ends_cond,
-    ends_step, first_axis, first_token,
-};
+use crate::token::{Mark, Token, after, ends_cond, ends_step, first_axis, first_label};
 use branch_expr::{And, BranchTree, Cond, Hop, Or, Rel, Step, Test};
 use path_query::ReadError;
 use std::alloc::Global;
@@ -20,14 +17,13 @@ fn read_test<'t>(alloc: Global, left: &'t [Token]) -> Result<(Test, &'t [Token])
     ensures shorter { IfOk result (λ r. length r.1.now < length left.now) }
     ensures syntax { IsErrOf result ReadError.Syntax → HasNoTest (seen left.now) }
 {
-    let Some((token, rest)) = first_token(left) else {
+    if let Some(rest) = after(left, Mark::Any) {
+        return Ok((Test::Any, rest));
+    }
+    let Some((label, rest)) = first_label(left) else {
         return Err(ReadError::Syntax);
     };
-    match token {
-        Token::Label(label) => Ok((Test::Label(label.copy(alloc)?), rest)),
-        Token::Any => Ok((Test::Any, rest)),
-        _ => Err(ReadError::Syntax),
-    }
+    Ok((Test::Label(label.copy(alloc)?), rest))
 }
 
 /// What stands in brackets at the front, and what follows them.
@@ -38,10 +34,10 @@ fn read_pred<'t>(alloc: Global, left: &'t [Token]) -> Result<(Or, &'t [Token]), 
     ensures syntax { IsErrOf result ReadError.Syntax → HasNoPred (seen left.now) }
 {
     let (or, inside) = read_or(alloc, left)?;
-    let Some(after) = after_right(inside) else {
+    let Some(rest) = after(inside, Mark::Right) else {
         return Err(ReadError::Syntax);
     };
-    Ok((or, after))
+    Ok((or, rest))
 }
 
 /// The step at the front, and what follows it.
@@ -54,8 +50,8 @@ fn read_step<'t>(alloc: Global, left: &'t [Token]) -> Result<(Step, &'t [Token])
 {
     let (test, mut behind) = read_test(alloc, left)?;
     let mut preds = Vec::new(alloc);
-    'predicates: while let Some(after) = after_left(behind) {
-        let (pred, next) = read_pred(alloc, after)?;
+    'predicates: while let Some(start) = after(behind, Mark::Left) {
+        let (pred, next) = read_pred(alloc, start)?;
         preds.push(pred)?;
         behind = next;
     }
@@ -109,14 +105,14 @@ fn read_group<'t>(alloc: Global, left: &'t [Token]) -> Result<(Or, &'t [Token]),
     ensures shorter { IfOk result (λ r. length r.1.now < length left.now) }
     ensures syntax { IsErrOf result ReadError.Syntax → HasNoGroup (seen left.now) }
 {
-    let Some(start) = after_open(left) else {
+    let Some(start) = after(left, Mark::Open) else {
         return Err(ReadError::Syntax);
     };
     let (or, inside) = read_or(alloc, start)?;
-    let Some(after) = after_close(inside) else {
+    let Some(rest) = after(inside, Mark::Close) else {
         return Err(ReadError::Syntax);
     };
-    Ok((or, after))
+    Ok((or, rest))
 }
 
 /// What is denied at the front, after its `not`, and what follows it.
@@ -165,15 +161,16 @@ fn read_unit<'t>(alloc: Global, left: &'t [Token]) -> Result<(Cond, &'t [Token])
     ensures only { IfOk result (λ p. EndsCondBefore (seen left.now) (seen p.1.now)) }
     ensures syntax { IsErrOf result ReadError.Syntax → HasNoCond (seen left.now) }
 {
-    let Some((token, rest)) = first_token(left) else {
-        return Err(ReadError::Syntax);
-    };
-    match token {
-        Token::Not => read_not(alloc, rest),
-        Token::Open => read_parentheses(alloc, left),
-        Token::Along(_) => read_steps(alloc, left),
-        _ => Err(ReadError::Syntax),
+    if let Some(denied) = after(left, Mark::Not) {
+        return read_not(alloc, denied);
     }
+    if after(left, Mark::Open).is_some() {
+        return read_parentheses(alloc, left);
+    }
+    if first_axis(left).is_some() {
+        return read_steps(alloc, left);
+    }
+    Err(ReadError::Syntax)
 }
 
 /// The condition at the front, and what follows it.
@@ -202,8 +199,8 @@ fn read_and<'t>(alloc: Global, left: &'t [Token]) -> Result<(And, &'t [Token]), 
 {
     let (first, mut behind) = read_cond(alloc, left)?;
     let mut more = Vec::new(alloc);
-    'conditions: while let Some(after) = after_and(behind) {
-        let (cond, next) = read_cond(alloc, after)?;
+    'conditions: while let Some(start) = after(behind, Mark::And) {
+        let (cond, next) = read_cond(alloc, start)?;
         more.push(cond)?;
         behind = next;
     }
@@ -220,8 +217,8 @@ fn read_or<'t>(alloc: Global, left: &'t [Token]) -> Result<(Or, &'t [Token]), Re
 {
     let (first, mut behind) = read_and(alloc, left)?;
     let mut more = Vec::new(alloc);
-    'alternatives: while let Some(after) = after_or(behind) {
-        let (and, next) = read_and(alloc, after)?;
+    'alternatives: while let Some(start) = after(behind, Mark::Or) {
+        let (and, next) = read_and(alloc, start)?;
         more.push(and)?;
         behind = next;
     }

@@ -6,7 +6,7 @@ ghost use Rattle.branch_expr.specs.Axes.{axis_of};
 ghost use Rattle.branch_text.specs.BranchTokens.{token_of};
 ghost use Rattle.branch_text.specs.BranchTokenPrefixes.{mark_at, axis_prefix, sign_prefix, word_token, word_prefix, mark_prefix, iri_len, label_len};
 
-use crate::token::Token;
+use crate::token::{Mark, Token};
 use branch_expr::Axis;
 use path_query::name_len;
 
@@ -15,15 +15,15 @@ fn mark_at(byte: u8) -> Option<Token>
     ensures { option_map token_of result ≡ mark_at byte }
 {
     if byte == b'_' {
-        Some(Token::Any)
+        Some(Token::Mark(Mark::Any))
     } else if byte == b'[' {
-        Some(Token::Left)
+        Some(Token::Mark(Mark::Left))
     } else if byte == b']' {
-        Some(Token::Right)
+        Some(Token::Mark(Mark::Right))
     } else if byte == b'(' {
-        Some(Token::Open)
+        Some(Token::Mark(Mark::Open))
     } else if byte == b')' {
-        Some(Token::Close)
+        Some(Token::Mark(Mark::Close))
     } else {
         None
     }
@@ -59,11 +59,11 @@ fn word_token(word: &[u8]) -> Option<Token>
     ensures { option_map token_of result ≡ word_token word.now }
 {
     if word == b"not".as_slice() {
-        Some(Token::Not)
+        Some(Token::Mark(Mark::Not))
     } else if word == b"and".as_slice() {
-        Some(Token::And)
+        Some(Token::Mark(Mark::And))
     } else if word == b"or".as_slice() {
-        Some(Token::Or)
+        Some(Token::Mark(Mark::Or))
     } else {
         None
     }

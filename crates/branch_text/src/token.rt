@@ -1,22 +1,18 @@
 // Tokens of branching queries.
-ghost use Rattle.std.specs.Prelude.{◌≡◌, ◌↔◌, ◌<◌, [], ◌∷◌, List, length, IsTrue, IfSome, IfNone};
+ghost use Rattle.std.specs.Prelude.{◌≡◌, ◌↔◌, ◌<◌, ◌∷◌, ℕ, List, length, IsTrue, IfSome, IfNone};
 ghost use Rattle.branch_spec.specs.Trees as tree;
 ghost use Rattle.branch_spec.specs.Tokens as tokens;
 ghost use Rattle.branch_expr.specs.Axes.{axis_of};
-ghost use Rattle.branch_text.specs.BranchTokens.{token_of, seen};
+ghost use Rattle.branch_text.specs.BranchTokens.{mark_token, token_of, seen};
 
 use branch_expr::Axis;
 use px_base::Text;
 
-/// A token.
-#[derive(Drop)]
-pub(crate) enum Token {
-    /// A label.
-    Label(Text),
+/// A token without content.
+#[derive(Clone, Copy, PartialEq, Eq)]
+pub(crate) enum Mark {
     /// `_`
     Any,
-    /// `/`, `//`, `\` or `\\`
-    Along(Axis),
     /// `[`
     Left,
     /// `]`
@@ -33,13 +29,27 @@ pub(crate) enum Token {
     Or,
 }
 
-/// The token at the front, and what follows it.
-pub(crate) fn first_token(left: &[Token]) -> Option<(&Token, &[Token])>
-    ensures some { IfSome result (λ p. seen left.now ≡ token_of p.0.now ∷ seen p.1.now) }
+/// A token.
+#[derive(Drop)]
+pub(crate) enum Token {
+    /// A label.
+    Label(Text),
+    /// `/`, `//`, `\` or `\\`
+    Along(Axis),
+    /// Any other.
+    Mark(Mark),
+}
+
+/// The label at the front, and what follows it.
+pub(crate) fn first_label(left: &[Token]) -> Option<(&Text, &[Token])>
+    ensures some { IfSome result (λ p. seen left.now ≡ tokens.lab p.0.now ∷ seen p.1.now) }
     ensures shorter { IfSome result (λ p. length p.1.now < length left.now) }
-    ensures none { IfNone result (seen left.now ≡ []) }
+    ensures none { IfNone result ((t : List ℕ) (r : List tokens.Token) → seen left.now ≡ tokens.lab t ∷ r → ⊥) }
 {
-    left.split_first()
+    match left.split_first() {
+        Some((Token::Label(label), rest)) => Some((label, rest)),
+        _ => None,
+    }
 }
 
 /// The axis at the front, and what follows it.
@@ -54,74 +64,24 @@ pub(crate) fn first_axis(left: &[Token]) -> Option<(Axis, &[Token])>
     }
 }
 
-/// What follows a `[` at the front.
-pub(crate) fn after_left(left: &[Token]) -> Option<&[Token]>
-    ensures some { IfSome result (λ r. seen left.now ≡ tokens.left ∷ seen r.now) }
-    ensures shorter { IfSome result (λ r. length r.now < length left.now) }
-    ensures none { IfNone result ((r : List tokens.Token) → seen left.now ≡ tokens.left ∷ r → ⊥) }
+/// Whether the token is this mark.
+fn is_mark(token: &Token, mark: Mark) -> bool
+    ensures { IsTrue result ↔ (token_of token.now ≡ mark_token mark) }
 {
-    match left.split_first() {
-        Some((Token::Left, rest)) => Some(rest),
-        _ => None,
+    match token {
+        Token::Mark(found) => *found == mark,
+        _ => false,
     }
 }
 
-/// What follows a `]` at the front.
-pub(crate) fn after_right(left: &[Token]) -> Option<&[Token]>
-    ensures some { IfSome result (λ r. seen left.now ≡ tokens.right ∷ seen r.now) }
+/// What follows the mark, where it is at the front.
+pub(crate) fn after(left: &[Token], mark: Mark) -> Option<&[Token]>
+    ensures some { IfSome result (λ r. seen left.now ≡ mark_token mark ∷ seen r.now) }
     ensures shorter { IfSome result (λ r. length r.now < length left.now) }
-    ensures none { IfNone result ((r : List tokens.Token) → seen left.now ≡ tokens.right ∷ r → ⊥) }
+    ensures none { IfNone result ((r : List tokens.Token) → seen left.now ≡ mark_token mark ∷ r → ⊥) }
 {
     match left.split_first() {
-        Some((Token::Right, rest)) => Some(rest),
-        _ => None,
-    }
-}
-
-/// What follows a `(` at the front.
-pub(crate) fn after_open(left: &[Token]) -> Option<&[Token]>
-    ensures some { IfSome result (λ r. seen left.now ≡ tokens.opening ∷ seen r.now) }
-    ensures shorter { IfSome result (λ r. length r.now < length left.now) }
-    ensures none { IfNone result ((r : List tokens.Token) → seen left.now ≡ tokens.opening ∷ r → ⊥) }
-{
-    match left.split_first() {
-        Some((Token::Open, rest)) => Some(rest),
-        _ => None,
-    }
-}
-
-/// What follows a `)` at the front.
-pub(crate) fn after_close(left: &[Token]) -> Option<&[Token]>
-    ensures some { IfSome result (λ r. seen left.now ≡ tokens.closing ∷ seen r.now) }
-    ensures shorter { IfSome result (λ r. length r.now < length left.now) }
-    ensures none { IfNone result ((r : List tokens.Token) → seen left.now ≡ tokens.closing ∷ r → ⊥) }
-{
-    match left.split_first() {
-        Some((Token::Close, rest)) => Some(rest),
-        _ => None,
-    }
-}
-
-/// What follows an `and` at the front.
-pub(crate) fn after_and(left: &[Token]) -> Option<&[Token]>
-    ensures some { IfSome result (λ r. seen left.now ≡ tokens.and_word ∷ seen r.now) }
-    ensures shorter { IfSome result (λ r. length r.now < length left.now) }
-    ensures none { IfNone result ((r : List tokens.Token) → seen left.now ≡ tokens.and_word ∷ r → ⊥) }
-{
-    match left.split_first() {
-        Some((Token::And, rest)) => Some(rest),
-        _ => None,
-    }
-}
-
-/// What follows an `or` at the front.
-pub(crate) fn after_or(left: &[Token]) -> Option<&[Token]>
-    ensures some { IfSome result (λ r. seen left.now ≡ tokens.or_word ∷ seen r.now) }
-    ensures shorter { IfSome result (λ r. length r.now < length left.now) }
-    ensures none { IfNone result ((r : List tokens.Token) → seen left.now ≡ tokens.or_word ∷ r → ⊥) }
-{
-    match left.split_first() {
-        Some((Token::Or, rest)) => Some(rest),
+        Some((token, rest)) if is_mark(token, mark) => Some(rest),
         _ => None,
     }
 }
@@ -134,7 +94,7 @@ pub(crate) fn ends_step(left: &[Token]) -> bool
         None => true,
         Some((token, _)) => matches!(
             token,
-            Token::Along(_) | Token::Right | Token::Close | Token::And | Token::Or
+            Token::Along(_) | Token::Mark(Mark::Right | Mark::Close | Mark::And | Mark::Or)
         ),
     }
 }
@@ -145,6 +105,9 @@ pub(crate) fn ends_cond(left: &[Token]) -> bool
 {
     match left.split_first() {
         None => true,
-        Some((token, _)) => matches!(token, Token::Right | Token::Close | Token::And | Token::Or),
+        Some((token, _)) => matches!(
+            token,
+            Token::Mark(Mark::Right | Mark::Close | Mark::And | Mark::Or)
+        ),
     }
 }

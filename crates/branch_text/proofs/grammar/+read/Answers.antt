@@ -1,4 +1,4 @@
-use Rattle.std.proofs.Common.{◌≡◌, ◌∷◌, ◌∙◌, sym, ap, subst, Err, arith, true≢false}
+use Rattle.std.proofs.Common.{◌≡◌, ◌∷◌, ◌∙◌, sym, ap, subst, Err, arith, true≢false, rules}
 use Rattle.std.proofs.lemmas.Result.{err_from_is_err_and}
 use Rattle.branch_spec.specs.Tokens.{axis, left, right, opening, closing, and_word, or_word, test_onto, preds_onto, or_onto, and_onto, chain_onto, EndsStep}
 use Rattle.branch_spec.proofs.OneQuery.{chain_ends, one_chain}
@@ -34,7 +34,7 @@ read_step-returns-in_err-pred-clause-syntax t c e s r ends k =
     let l = c.predicates in
     let u = test_of l.test-1 in
     let so_far = l.invariant.so_far ∙ ap (λ q. test_onto u (preds_onto (preds_of l.preds.items) q)) c.in-Some.ensures.some in
-    let f = readings.step_peel u l.preds.items (seen c.in-Some.after.now) s r ends (sym so_far ∙ k) in
+    let f = readings.step_peel u l.preds.items (seen c.in-Some.start.now) s r ends (sym so_far ∙ k) in
     c.in_err-pred.ensures.syntax was f.0 (preds_onto f.1 r) f.2
 
 pub read_step-predicates-preserved : goal.read_step-predicates-preserved
@@ -100,10 +100,10 @@ read_group-returns-in_err-or-clause-syntax t c e o r k =
     let was : Err c.in_err-or.field-0.0 ≡ Err Syntax = cc (p.1, p.2, e) in
     c.in_err-or.ensures.syntax was o (closing ∷ r) tt (readings.tail_one (seen c.args.left.now) opening (seen c.in-Some.start.now) (or_onto o (closing ∷ r)) c.in-Some.ensures.some k)
 
-pub read_group-returns-in_default-after_close-clause-syntax : goal.read_group-returns-in_default-after_close-clause-syntax
-read_group-returns-in_default-after_close-clause-syntax t c e o r k =
+pub read_group-returns-in_default-after-clause-syntax : goal.read_group-returns-in_default-after-clause-syntax
+read_group-returns-in_default-after-clause-syntax t c e o r k =
     let inner = readings.tail_one (seen c.args.left.now) opening (seen c.in-Some.start.now) (or_onto o (closing ∷ r)) c.in-Some.ensures.some k in
-    readings.unclosed (seen c.in-Some.start.now) c.in_ok-or.or o (seen c.in_ok-or.inside.now) r closing tt c.in_ok-or.ensures.ok c.in_ok-or.ensures.ends c.in_default-after_close.ensures.none inner
+    readings.unclosed (seen c.in-Some.start.now) c.in_ok-or.or o (seen c.in_ok-or.inside.now) r closing tt c.in_ok-or.ensures.ok c.in_ok-or.ensures.ends c.in_default-after.ensures.none inner
 
 pub read_not-returns-in_err-or-clause-syntax : goal.read_not-returns-in_err-or-clause-syntax
 read_not-returns-in_err-or-clause-syntax t c e x r k =
@@ -157,7 +157,7 @@ read_and-returns-in_err-cond-clause-syntax t c e x r ends k =
     let l = c.conditions in
     let first = cond_of l.first-1 in
     let so_far = l.invariant.so_far ∙ ap (and_onto (and_from first l.more.items)) c.in-Some.ensures.some in
-    let f = readings.and_peel first l.more.items (seen c.in-Some.after.now) x r ends (sym so_far ∙ k) in
+    let f = readings.and_peel first l.more.items (seen c.in-Some.start.now) x r ends (sym so_far ∙ k) in
     let b = readings.and_begins f.0 r ends in
     c.in_err-cond.ensures.syntax was b.0 b.1 b.2 (f.1 ∙ b.3)
 
@@ -191,7 +191,7 @@ read_or-returns-in_err-and-clause-syntax t c e x r ends k =
     let l = c.alternatives in
     let first = and_of c.in_ok-first.first in
     let so_far = l.invariant.so_far ∙ ap (or_onto (or_from first l.more.items)) c.in-Some.ensures.some in
-    let f = readings.or_peel first l.more.items (seen c.in-Some.after.now) x r ends (sym so_far ∙ k) in
+    let f = readings.or_peel first l.more.items (seen c.in-Some.start.now) x r ends (sym so_far ∙ k) in
     let b = readings.or_begins f.0 r ends in
     c.in_err-and.ensures.syntax was b.0 b.1 b.2 (f.1 ∙ b.3)
 
@@ -211,12 +211,9 @@ read_or-alternatives-preserved t c =
       shorter = omega arith;
     }
 
-pub read_unit-returns-in_default-clause-syntax : goal.read_unit-returns-in_default-clause-syntax
-read_unit-returns-in_default-clause-syntax t c e x r ends k = readings.no_cond (seen c.args.left.now) x r c.in_default.ensures.none k
-
-pub read_unit-returns-in_default-token-clause-syntax : goal.read_unit-returns-in_default-token-clause-syntax
-read_unit-returns-in_default-token-clause-syntax t c e x r ends k =
-    readings.other_cond (seen c.args.left.now) c.in-Some.token.now (seen c.in-Some.rest.now) x r c.in-Some.ensures.some c.in_default-token.not-Not c.in_default-token.not-Open c.in_default-token.not-Along k
+pub read_unit-returns-clause-syntax : goal.read_unit-returns-clause-syntax
+read_unit-returns-clause-syntax t c e x r ends k =
+    readings.no_cond c.args.left.now x r c.in_default.ensures.none (search rules) (search rules) k
 
 pub read_step-returns-clause-syntax : goal.read_step-returns-clause-syntax
 read_step-returns-clause-syntax t c e s r ends k =
