@@ -9,8 +9,8 @@ use std::test::Fail;
 
 // Puts a node that has no block into one.
 fn put(rt: &impl Abort, blocks: &mut Blocks, n: NodeId, b: u32)
-    requires { n < length blocks.old.block_of + blocks.old.room.nodes }
-    ensures { length blocks.old.block_of + blocks.old.room.nodes ≤ length blocks.new.block_of + blocks.new.room.nodes }
+    requires { n < length blocks.old.block_of + blocks.old.reserved.nodes }
+    ensures { length blocks.old.block_of + blocks.old.reserved.nodes ≤ length blocks.new.block_of + blocks.new.reserved.nodes }
 {
     assert!(rt; blocks.is_block(b));
     assert!(rt; blocks.block_of(n).is_none(), "{n}");

@@ -21,8 +21,8 @@ const EDGES: &[(NodeId, NodeId)] = &[(0, 1), (0, 2), (1, 3), (1, 4), (2, 4), (2,
 
 // Puts a node that has no block into one.
 fn put(rt: &impl Abort, blocks: &mut Blocks, n: NodeId, b: u32)
-    requires { 6 ≤ length blocks.old.block_of + blocks.old.room.nodes }
-    ensures { 6 ≤ length blocks.new.block_of + blocks.new.room.nodes }
+    requires { 6 ≤ length blocks.old.block_of + blocks.old.reserved.nodes }
+    ensures { 6 ≤ length blocks.new.block_of + blocks.new.reserved.nodes }
 {
     assert!(rt; n < 6);
     assert!(rt; blocks.is_block(b));
