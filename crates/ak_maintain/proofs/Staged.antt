@@ -81,5 +81,5 @@ built f g n count fits = record {
   kind = refl;
   ready = record { fits = family_fits g f (omega (arith, count)) fits; unstaged = refl };
   count = view_total f ∙ count;
-  whole = tt;
+  full = tt;
 }

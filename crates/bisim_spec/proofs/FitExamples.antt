@@ -21,7 +21,7 @@ use Rattle.bisim_spec.proofs.Ranks.{acyclic_full}
 use Rattle.bisim_spec.proofs.StabilityTests.{partition_decides}
 use Rattle.bisim_spec.proofs.Examples.{level_decides, fb_full_decides}
 
--- nodes n0 and n1 were given, and n1 is gone
+-- nodes n0 and n1 were added, and n1 is gone
 abbrev one_left : Graph
 one_left = record { allocated = Some (codes "a") ∷ None ∷ []; edges = set.empty; seen = codes "a" ∷ [] }
 

@@ -4,7 +4,7 @@
 use Rattle.std.specs.Prelude.{ℕ, ◌&&◌, Bool, List, is_some}
 use Rattle.graph_spec.specs.Shapes.{Shape}
 use Rattle.bisim_spec.specs.Below.{any_below}
-use Rattle.branch_query.specs.Queries.{Query, IsQueryAnswer, AreQueryAnswers, form_of}
+use Rattle.branch_query.specs.Queries.{Query, IsQueryAnswer, AreQueryAnswers, searched_form}
 
 -- whether an edge leads from some node to which x is related to some node to which y is related
 abbrev pub has_edge_between : Shape → (ℕ → ℕ → Bool) → ℕ → ℕ → Bool
@@ -21,8 +21,8 @@ loose s r = record {
 
 -- the node answers the query, or its relaxed form, over the loose graph
 abbrev pub IsCandidate : Shape → (ℕ → ℕ → Bool) → Query → Bool → ℕ → Type 0
-IsCandidate s r q whole v = IsQueryAnswer (loose s r) (form_of whole q) v
+IsCandidate s r q whole v = IsQueryAnswer (loose s r) (searched_form whole q) v
 
 -- the nodes are the candidates of the whole query, or of its relaxed form, each once, in the order of their numbers
 abbrev pub AreCandidates : Shape → (ℕ → ℕ → Bool) → Query → Bool → List ℕ → Type 0
-AreCandidates s r q whole nodes = AreQueryAnswers (loose s r) (form_of whole q) nodes
+AreCandidates s r q whole nodes = AreQueryAnswers (loose s r) (searched_form whole q) nodes

@@ -40,6 +40,6 @@ relaxed (path e) = path e
 relaxed (branch q) = branch (relax q)
 
 -- the whole query, or its relaxed form
-abbrev pub form_of : Bool → Query → Query
-form_of true q = q
-form_of false q = relaxed q
+abbrev pub searched_form : Bool → Query → Query
+searched_form true q = q
+searched_form false q = relaxed q

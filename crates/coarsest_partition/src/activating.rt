@@ -44,7 +44,8 @@ fn activate_shared(
 ) -> Result<(), Memory>
     requires below { (m : ℕ) → has nodes.now m ≡ true → m < active_nodes.old.size }
     ensures size { active_nodes.new.size ≡ active_nodes.old.size }
-    ensures nodes { OnOk result ((m : ℕ) → has active_nodes.new.nodes m ≡ (has active_nodes.old.nodes m || (has nodes.now m && not (is_alone blocks.now m)))) }
+    ensures nodes { OnOk result ((m : ℕ) → has active_nodes.new.nodes m ≡
+        (has active_nodes.old.nodes m || (has nodes.now m && not (is_alone blocks.now m)))) }
 {
     for n in nodes {
         add_shared(active_nodes, blocks, *n)?;

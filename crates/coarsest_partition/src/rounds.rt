@@ -28,7 +28,8 @@ fn add_placed(active_nodes: &mut NodeSet, blocks: &Blocks, n: NodeId) -> Result<
     ensures size { active_nodes.new.size ≡ active_nodes.old.size }
     ensures here { OnOk result (IsSome (at blocks.now.block_of n) → has active_nodes.new.nodes n ≡ true) }
     ensures stay { OnOk result ((m : ℕ) → has active_nodes.old.nodes m ≡ true → has active_nodes.new.nodes m ≡ true) }
-    ensures only { OnOk result ((m : ℕ) → has active_nodes.new.nodes m ≡ true → (has active_nodes.old.nodes m ≡ true) ⊎ IsSome (at blocks.now.block_of m)) }
+    ensures only { OnOk result ((m : ℕ) → has active_nodes.new.nodes m ≡ true
+        → (has active_nodes.old.nodes m ≡ true) ⊎ IsSome (at blocks.now.block_of m)) }
 {
     if blocks.block_of(n).is_some() {
         return active_nodes.add(n);

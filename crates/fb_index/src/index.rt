@@ -67,7 +67,7 @@ impl PathIndex for FbIndex {
 
     // The view is computed.
     fn build(&mut self, view: &GraphView<'_>, _k: u32) -> Result<(), Memory>
-        requires few { _k ≤ 8 }
+        requires level { _k ≤ 8 }
         ensures built { OnOk result (IsBuilt (fb_meaning self.old) (fb_meaning self.new) view.now _k) }
         ensures err { OnErr result (fb_meaning self.new ≡ fb_meaning self.old) }
         ensures computed { OnOk result (IsSome self.new.summary) }

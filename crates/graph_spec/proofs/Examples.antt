@@ -62,14 +62,14 @@ added = refl
 added_again : (g : Graph) → g ≡ with_node (with_node empty_graph (codes "a")) (codes "a") → g.seen ≡ codes "a" ∷ []
 added_again g e = ap (λ h. h.seen) e
 
--- a link to a number that isn't given is refused for that, whatever the limits
+-- a link to a number that isn't allocated is refused for that, whatever the limits
 missing : (limits : Limits) → apply (link 0 7) (with_node empty_graph (codes "a")) limits ≡ Err NoNode
 missing limits = refl
 
 abbrev two : Graph
 two = with_node (with_node empty_graph (codes "a")) (codes "b")
 
--- an edge that is there can be taken away; the one the other way round can't, nor one to a number that isn't given
+-- an edge that is there can be taken away; the one the other way round can't, nor one to a number that isn't allocated
 unlinked : (limits : Limits) → apply (unlink 0 1) (with_edge two 0 1) limits ≡ Ok (without_edge (with_edge two 0 1) 0 1)
 unlinked limits = ap (λ b. if b then Ok (without_edge (with_edge two 0 1) 0 1) else Err NoEdge) (set.contains-insert edge_cmp_total set.empty (0, 1) (0, 1))
 
@@ -90,7 +90,7 @@ no_edges (e ∷ es) h =
     let same : eq_by_cmp edge_cmp e e ≡ true = eq_pair e.0 e.1 e.0 e.1 ∙ and_from (nat_eq e.0 e.0) (nat_eq e.1 e.1) (nat_eq_equiv.refl e.0) (nat_eq_equiv.refl e.1) in
     absurd (true≢false (sym (ap (λ b. b || list_any (eq_by_cmp edge_cmp e) es) same) ∙ h e))
 
--- a node without edges can be dropped; its number is never given again
+-- a node without edges can be dropped; its number is never allocated again
 dropped : (limits : Limits) → apply (drop 0) (with_node empty_graph (codes "a")) limits ≡ Ok (record { allocated = None ∷ []; edges = set.empty; seen = codes "a" ∷ [] })
 dropped limits =
     ap (λ es. if list_any (λ e. nat_eq e.0 0 || nat_eq e.1 0) es then Err InUse else Ok (without_node (with_node empty_graph (codes "a")) 0))

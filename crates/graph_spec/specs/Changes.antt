@@ -14,7 +14,7 @@ pub data Change : Type 0 where
   link : ℕ → ℕ → Change
   -- that edge is taken away
   unlink : ℕ → ℕ → Change
-  -- the node is taken away; its number is never given again
+  -- the node is taken away; its number is never allocated again
   drop : ℕ → Change
 
 abbrev pub with_label : List (List ℕ) → List ℕ → List (List ℕ)

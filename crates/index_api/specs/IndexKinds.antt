@@ -45,8 +45,7 @@ is_kept kept Fb = has_kind kept.kinds kind.Fb
 
 -- The relation of the index: the two nodes are in one of its blocks. For the A(i)-index it is bisimilarity to level i
 -- of the graph as it is now, and for the forward and backward index full bisimilarity by parents and children. The
--- partition of the 1-index is one of several where walks come back to their beginning, so there the blocks in force
--- decide.
+-- partition of the 1-index is one of several on graphs with cycles, so there the blocks in force decide.
 abbrev pub Relates : Graph → KeptIndexes → Via → ℕ → ℕ → Type 0
 Relates g kept Data u v = ⊥
 Relates g kept (A level) u v = Bis (shape_of g) level u v

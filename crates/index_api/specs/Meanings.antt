@@ -33,19 +33,19 @@ pub record IsReady (m : Meaning) (g : Graph) : Type 0 where
   pub fits : Fits m.kind m.views g
   pub unstaged : m.staged ≡ None
 
--- A view as a build makes it: that of the 1-index is full bisimilarity, also where walks come back to their beginning.
-abbrev pub BeginsWhole : Kind → Graph → Option View → Type 0
-BeginsWhole A g o = ⊤
-BeginsWhole One g None = ⊤
-BeginsWhole One g (Some v) = Agrees (shape_of g) v.block_of (Bisim (shape_of g))
-BeginsWhole Fb g o = ⊤
+-- A view as a build makes it: that of the 1-index is full bisimilarity, also on graphs with cycles.
+abbrev pub BeginsFull : Kind → Graph → Option View → Type 0
+BeginsFull A g o = ⊤
+BeginsFull One g None = ⊤
+BeginsFull One g (Some v) = Agrees (shape_of g) v.block_of (Bisim (shape_of g))
+BeginsFull Fb g o = ⊤
 
 -- the index is built from the graph, with levels up to k where it has levels
 pub record IsBuilt (old new : Meaning) (g : Graph) (k : ℕ) : Type 0 where
   pub kind : new.kind ≡ old.kind
   pub ready : IsReady new g
   pub count : length new.views ≡ view_count old.kind k
-  pub whole : BeginsWhole old.kind g (view_at new.views 0)
+  pub full : BeginsFull old.kind g (view_at new.views 0)
 
 -- How a change leads from one view to the next. The partition of the 1-index moves by one step. The others are determined
 -- by the graph after the change alone.

@@ -42,7 +42,7 @@ impl Via {
     /// The index at place `n`, counted from 0, in the list of all indexes with levels up to `k`: the A(i)-indexes
     /// from level 0 up to `k`, then the 1-index, then the forward and backward index. None exactly past these. O(1), no memory.
     pub fn nth(n: u32, k: u32) -> Option<Via>
-        requires few { k ≤ 8 }
+        requires level { k ≤ 8 }
         ensures { result ≡ slice_get (all_indexes k) n }
     {
         if n <= k {

@@ -33,7 +33,7 @@ pub trait PathIndex: Drop {
     /// the memory are the index's: `AkFamily::build` says those of `AkIndex`, `OneIndex::build` those of `OneKept`, and
     /// `FbIndex` its own.
     fn build(&mut self, view: &GraphView<'_>, k: u32) -> Result<(), Memory>
-        requires few { k ≤ 8 }
+        requires level { k ≤ 8 }
         ensures built { OnOk result (IsBuilt (meaning self.old) (meaning self.new) view.now k) }
         ensures err { OnErr result (meaning self.new ≡ meaning self.old) };
 

@@ -5,7 +5,7 @@ use Rattle.std.specs.List.Sorted.{IsStrictlyIncreasing}
 use Rattle.graph_spec.specs.Members.{has, at}
 use Rattle.px_base.specs.BitSets.{BitSet}
 use Rattle.bisim_spec.specs.IndexGraphs.{View, shape_of_view}
-use Rattle.branch_query.specs.Queries.{Query, form_of, IsQueryAnswer}
+use Rattle.branch_query.specs.Queries.{Query, searched_form, IsQueryAnswer}
 use Rattle.index_eval.specs.Extents.{is_in_blocks, AreOfBlocks}
 use Rattle.index_eval.specs.Candidates.{AreOfAnsweringBlocks, AreCandidatesOfEach, HaveAnswersOfEach, AreAnswersOfEach}
 use Rattle.index_eval.proofs.BlockSets.{are_of_blocks}
@@ -15,10 +15,10 @@ use Rattle.index_eval.proofs.Exact.{exact_answers}
 module _ (texts : List (List ℕ)) (v : View) (q : Query) (whole : Bool) where
   -- over the texts of a graph, and the form that is asked
   over : (set : BitSet) → AreOfAnsweringBlocks texts v q whole set.members → (seen : List (List ℕ)) → seen ≡ texts → (b : Bool) → whole ≡ b
-      → AreOfBlocks v.block_of (IsQueryAnswer (shape_of_view seen v) (form_of b q)) set.members
+      → AreOfBlocks v.block_of (IsQueryAnswer (shape_of_view seen v) (searched_form b q)) set.members
   over set h seen e b w =
-      subst (λ t. AreOfBlocks v.block_of (IsQueryAnswer (shape_of_view t v) (form_of b q)) set.members) (sym e)
-      (subst (λ c. AreOfBlocks v.block_of (IsQueryAnswer (shape_of_view texts v) (form_of c q)) set.members) w h)
+      subst (λ t. AreOfBlocks v.block_of (IsQueryAnswer (shape_of_view t v) (searched_form b q)) set.members) (sym e)
+      (subst (λ c. AreOfBlocks v.block_of (IsQueryAnswer (shape_of_view texts v) (searched_form c q)) set.members) w h)
 
   pub candidates_of_each : (set : BitSet) → AreOfAnsweringBlocks texts v q whole set.members → AreCandidatesOfEach texts v q whole set.members
   candidates_of_each set h g r is_graph seen fits agrees = are_candidates g is_graph v fits r agrees q whole set.members (over set h g.seen seen whole (λ i. whole))

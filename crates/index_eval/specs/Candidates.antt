@@ -6,7 +6,7 @@ use Rattle.graph_spec.specs.Members.{has}
 use Rattle.bisim_spec.specs.Partitions.{Agrees, IsPartition}
 use Rattle.bisim_spec.specs.IndexGraphs.{View, ViewFits, shape_of_view}
 use Rattle.index_api.specs.declared.kinds.Via.{Via}
-use Rattle.branch_query.specs.Queries.{Query, form_of, IsQueryAnswer, AreQueryAnswers}
+use Rattle.branch_query.specs.Queries.{Query, searched_form, IsQueryAnswer, AreQueryAnswers}
 use Rattle.branch_query.specs.Candidates.{AreCandidates}
 use Rattle.index_eval.specs.Exactness.{IsExact, FitsVia}
 use Rattle.index_eval.specs.Extents.{AreOfBlocks}
@@ -16,7 +16,7 @@ use Rattle.index_eval.specs.Extents.{AreOfBlocks}
 module _ (texts : List (List ℕ)) (v : View) (q : Query) (whole : Bool) where
   -- the members of the blocks that answer the query, or its relaxed form, over the index graph
   abbrev pub AreOfAnsweringBlocks : List ℕ → Type 0
-  AreOfAnsweringBlocks nodes = AreOfBlocks v.block_of (IsQueryAnswer (shape_of_view texts v) (form_of whole q)) nodes
+  AreOfAnsweringBlocks nodes = AreOfBlocks v.block_of (IsQueryAnswer (shape_of_view texts v) (searched_form whole q)) nodes
 
   -- the candidates by any relation with which the partition agrees
   abbrev pub AreCandidatesOfEach : List ℕ → Type 0

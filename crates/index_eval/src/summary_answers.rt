@@ -5,7 +5,7 @@ ghost use Rattle.graph_spec.specs.Members.{has, at};
 ghost use Rattle.block_partition.specs.LabelledPartitions.{is_member};
 ghost use Rattle.bisim_spec.specs.IndexGraphs.{shape_of_view};
 ghost use Rattle.quotient.specs.Quotients.{view_of};
-ghost use Rattle.branch_query.specs.Queries.{query_of, form_of, AreQueryAnswers};
+ghost use Rattle.branch_query.specs.Queries.{query_of, searched_form, AreQueryAnswers};
 ghost use Rattle.index_eval.specs.Extents.{is_in_blocks};
 ghost use Rattle.index_eval.specs.Candidates.{AreOfAnsweringBlocks, AreCandidatesOfEach, HaveAnswersOfEach, AreAnswersOfEach};
 
@@ -24,7 +24,7 @@ fn answering_blocks(
     whole: bool,
 ) -> Result<Bits, Memory>
     requires labelled { (b l : ℕ) → at summary.now.blocks.labels b ≡ Some l → l < length labels.now.texts }
-    ensures { IfOk result (λ b. AreQueryAnswers (shape_of_view labels.now.texts (view_of summary.now)) (form_of whole (query_of q.now)) b.members) }
+    ensures { IfOk result (λ b. AreQueryAnswers (shape_of_view labels.now.texts (view_of summary.now)) (searched_form whole (query_of q.now)) b.members) }
 {
     // Called for its contract: as a graph the summary is the index graph.
     let _known = summary.blocks();

@@ -5,7 +5,7 @@ use Rattle.bisim_spec.specs.declared.kind.Kind.{Kind}
 use Rattle.bisim_spec.specs.declared.kind.Kind.TheVariants.{A, One, Fb}
 use Rattle.bisim_spec.specs.IndexGraphs.{View}
 use Rattle.bisim_spec.specs.Fits.{FitsAt, HasCount, view_at, view_count}
-use Rattle.index_api.specs.Meanings.{Meaning, IsReady, IsBuilt, IsRefreshed, BeginsWhole}
+use Rattle.index_api.specs.Meanings.{Meaning, IsReady, IsBuilt, IsRefreshed, BeginsFull}
 use Rattle.index_api.specs.IndexKinds.{is_kind}
 
 -- each index has a view
@@ -24,7 +24,7 @@ built_from m m0 new g k e built = record {
   kind = built.kind ∙ sym e;
   ready = built.ready;
   count = subst (λ x. length new.views ≡ view_count x k) (sym e) built.count;
-  whole = subst (λ x. BeginsWhole x g (view_at new.views 0)) (sym e) built.whole;
+  full = subst (λ x. BeginsFull x g (view_at new.views 0)) (sym e) built.full;
 }
 
 view_there : (kind : Kind) (g : Graph) (i : ℕ) (o : Option View) → is_kind kind Fb ≡ false → FitsAt kind g i o → IsSome o

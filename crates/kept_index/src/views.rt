@@ -37,7 +37,7 @@ pub trait KeptViews: Drop {
 
     /// Builds the views of the graph, with nothing staged.
     fn build(alloc: Global, view: &GraphView<'_>, k: u32) -> Result<Self, Memory>
-        requires few { k ≤ 8 }
+        requires level { k ≤ 8 }
         ensures { IfOk result (λ kept. IsBuilt (meaning_of None) (meaning_of (Some kept)) view.now k) };
 
     /// Stages what a change will make of the views, and counts steps. Where memory runs out, it leaves the views as they were.

@@ -115,14 +115,14 @@ ready_new k q g base is fits = record {
   unstaged = ap (staged_views k.base k.draft) is;
 }
 
-whole_new : (k : KeptQuotient) (q : Quotient) (g : Graph) → k.base ≡ q → Agrees (shape_of g) q.blocks.block_of (Bisim (shape_of g))
+full_new : (k : KeptQuotient) (q : Quotient) (g : Graph) → k.base ≡ q → Agrees (shape_of g) q.blocks.block_of (Bisim (shape_of g))
     → Agrees (shape_of g) k.base.blocks.block_of (Bisim (shape_of g))
-whole_new k q g base whole = subst (λ (x : Quotient). Agrees (shape_of g) x.blocks.block_of (Bisim (shape_of g))) (sym base) whole
+full_new k q g base full = subst (λ (x : Quotient). Agrees (shape_of g) x.blocks.block_of (Bisim (shape_of g))) (sym base) full
 
 -- the view of a quotient that is built
 pub built : (k : KeptQuotient) (q : Quotient) (g : Graph) (n : ℕ) → k.base ≡ q → k.staged ≡ false → FitsOne g (view_of q) → Agrees (shape_of g) q.blocks.block_of (Bisim (shape_of g))
     → IsBuilt (meaning_of None) (meaning_of (Some k)) g n
-built k q g n base is fits whole = record { kind = refl; ready = ready_new k q g base is fits; count = refl; whole = whole_new k q g base whole }
+built k q g n base is fits full = record { kind = refl; ready = ready_new k q g base is fits; count = refl; full = full_new k q g base full }
 
 -- ---- the blocks to which no other has support
 

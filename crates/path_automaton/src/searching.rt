@@ -31,7 +31,8 @@ fn advance<G: Digraph, S: Scope>(
     requires places { ArePlacesWithin G.Digraph g.now (S.keeps scope.now) places.now }
     requires room { G.span g.now + 1 ≤ length (row frontier.old.rows.items state) }
     ensures spreads { OnOk result (SpreadsAt state (NextOfWithin G.Digraph g.now (S.keeps scope.now) test places.now) frontier.old frontier.new) }
-    ensures marked { OnOk result ((c : ℕ) → NextOfWithin G.Digraph g.now (S.keeps scope.now) test places.now c → IsMarked frontier.new.rows.items state c) }
+    ensures marked { OnOk result ((c : ℕ) → NextOfWithin G.Digraph g.now (S.keeps scope.now) test places.now c
+        → IsMarked frontier.new.rows.items state c) }
 {
     found.clear();
     let alloc = frontier.alloc;
@@ -171,7 +172,8 @@ fn note_ends(program: &Program, answers: &mut Bits, state: u32, places: &[u32])
     requires rising { IsStrictlyIncreasing answers.old.members }
     ensures size { answers.new.size ≡ answers.old.size }
     ensures kept { (v : ℕ) → IsTrue (has answers.old.members v) → IsTrue (has answers.new.members v) }
-    ensures noted { EndsHere (state_at program.now) state → (v : ℕ) → IsTrue (has places.now v) → v < answers.old.size → IsTrue (has answers.new.members v) }
+    ensures noted { EndsHere (state_at program.now) state → (v : ℕ) → IsTrue (has places.now v)
+        → v < answers.old.size → IsTrue (has answers.new.members v) }
     ensures source { AddsOnly (λ v. EndsHere (state_at program.now) state × (v < answers.old.size) × IsTrue (has places.now v)) answers.old answers.new }
     ensures rising { IsStrictlyIncreasing answers.new.members }
 {

@@ -57,7 +57,8 @@ pub fn name_len(bytes: &[u8]) -> usize
 /// The name at the front, as long as it can be, and its length.
 fn read_name(alloc: Global, text: &[u8]) -> Result<Option<(Text, usize)>, Memory>
     ensures found { IfOk result (λ r. IfSome r (λ f. (f.1 ≤ length text.now) × IsPlainLabel (take f.1 text.now) × (f.0 ≡ take f.1 text.now))) }
-    ensures only { (n : ℕ) → n ≤ length text.now → IsPlainLabel (take n text.now) → EndsName (drop n text.now) → IfOk result (IsRead (take n text.now) n) }
+    ensures only { (n : ℕ) → n ≤ length text.now → IsPlainLabel (take n text.now) → EndsName (drop n text.now)
+        → IfOk result (IsRead (take n text.now) n) }
 {
     let len = name_len(text);
     let (name, _) = text.split_at(len);

@@ -17,7 +17,7 @@ use Rattle.pathindex_core.specs.declared.errors.AskError.TheVariants.{NoIndex}
 use Rattle.pathindex_core.specs.Boxes.{IsFbComputed}
 use Rattle.pathindex_core.specs.Engines.{EngineSeen, EachBecomes, graph_in, kept_in}
 use Rattle.pathindex_core.specs.Updates.{IsUpdated, opened_after}
-use Rattle.pathindex_core.specs.QueryAnswers.{after_view}
+use Rattle.pathindex_core.specs.QueryAnswers.{counting_view}
 
 -- An accepted change was made, and answered so.
 pub record IsMade (c : Change) (e f : EngineSeen) (answer : Applied) : Type 0 where
@@ -60,7 +60,7 @@ pub record IsListed (e f : EngineSeen) (via : Via) (result : Result (List ℕ) A
   -- where another one is listed, every index stays as it is
   pub others : via ≢ Fb → f.boxes ≡ e.boxes
   -- of the graph one view at most is read
-  pub cost : after ≤ after_view before (graph_in e.opened)
+  pub cost : after ≤ counting_view before (graph_in e.opened)
   -- nothing, where it isn't the forward and backward index that is listed
   pub free : via ≢ Fb → after ≡ before
   -- nor where its view is computed already, or isn't kept
@@ -73,6 +73,6 @@ pub record IsMeasured (e f : EngineSeen) (result : Result (List ℕ) Memory) (be
   -- unless memory runs out, the view of the forward and backward index is computed afterwards, where that one is kept
   pub computed : OnOk result (IsFbComputed f.boxes)
   -- of the graph one view at most is read
-  pub cost : after ≤ after_view before (graph_in e.opened)
+  pub cost : after ≤ counting_view before (graph_in e.opened)
   -- nothing, where that index isn't kept or its view is computed already
   pub still : IsFbComputed e.boxes → after ≡ before

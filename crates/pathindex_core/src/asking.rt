@@ -82,7 +82,7 @@ fn ask_view<L: Ledger>(
     })
 }
 
-/// Asks an index whose view is computed, where it is kept.
+/// Asks an index whose view is computed, if it is kept.
 fn ask_index<B: PathIndex, L: Ledger>(
     alloc: Global,
     boxes: &Vec<B>,
@@ -108,7 +108,7 @@ fn ask_index<B: PathIndex, L: Ledger>(
     }
 }
 
-/// Asks an index, where it is kept. The view of the forward and backward index is first computed, where it isn't.
+/// Asks an index, if it is kept. The view of the forward and backward index is computed first, if it isn't.
 fn ask_kept<B: PathIndex, L: Ledger>(
     alloc: Global,
     boxes: &mut Vec<B>,
@@ -130,7 +130,7 @@ fn ask_kept<B: PathIndex, L: Ledger>(
     }
 }
 
-/// Asks the graph itself, or an index where it is kept.
+/// Asks the graph itself, or an index if it is kept.
 pub(crate) fn ask<B: PathIndex, L: Ledger>(
     alloc: Global,
     boxes: &mut Vec<B>,

@@ -20,7 +20,7 @@ fn is_kind(kind: Kind, other: Kind) -> bool
     kind == other
 }
 
-/// The place of the box of a kind, and None exactly where there is none.
+/// The place of the box of a kind, and None exactly if there is none.
 pub(crate) fn box_place<B: PathIndex>(boxes: &Vec<B>, kind: Kind) -> Option<usize>
     ensures { MatchOption result (has_kind (kinds_of (map B.meaning boxes.now.items)) kind ≡ false) (StandsAt (map B.meaning boxes.now.items) kind) }
 {
@@ -47,7 +47,7 @@ pub(crate) fn build_all<B: PathIndex>(
     view: &GraphView<'_>,
     k: u32,
 ) -> Result<(), Memory>
-    requires few { k ≤ 8 }
+    requires level { k ≤ 8 }
     ensures ok { OnOk result (EachBecomes (λ a b. IsBuilt a b view.now k) (map B.meaning boxes.old.items) (map B.meaning boxes.new.items)) }
     ensures kinds { kinds_of (map B.meaning boxes.new.items) ≡ kinds_of (map B.meaning boxes.old.items) }
 {

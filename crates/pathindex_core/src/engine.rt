@@ -60,13 +60,14 @@ impl<B> Model for Engine<B> {
     ghost view = { λ e. record { boxes = e.boxes.items; opened = opened_of e.state } };
 }
 
-fn build_counted<B: PathIndex, L: Ledger>(
+/// Builds each box of the graph, and counts no steps.
+fn build_boxes<B: PathIndex, L: Ledger>(
     boxes: &mut Vec<B>,
     graph: &Graph,
     k: u32,
     blank: Blank,
 ) -> Result<(), Memory>
-    requires few { k ≤ 8 }
+    requires level { k ≤ 8 }
     requires name { blank.name ≡ L.name }
     requires parts { blank.parts ≡ L.parts }
     requires some { 0 < blank.parts }
@@ -76,15 +77,6 @@ fn build_counted<B: PathIndex, L: Ledger>(
     let mut steps = Steps::<L>::new(blank);
     let view = graph.view(&mut steps);
     build_all(boxes, &view, k)
-}
-
-/// Builds each box of the graph.
-fn build_of<B: PathIndex>(boxes: &mut Vec<B>, graph: &Graph, k: u32) -> Result<(), Memory>
-    requires few { k ≤ 8 }
-    ensures ok { OnOk result (EachBecomes (λ a b. IsBuilt a b graph.now.graph k) (map B.meaning boxes.old.items) (map B.meaning boxes.new.items)) }
-    ensures kinds { kinds_of (map B.meaning boxes.new.items) ≡ kinds_of (map B.meaning boxes.old.items) }
-{
-    build_counted::<B, Brand>(boxes, graph, k, Blank::new(1))
 }
 
 impl<B: PathIndex> Engine<B> {
@@ -106,7 +98,7 @@ impl<B: PathIndex> Engine<B> {
     /// 1-index and the forward and backward index take r rounds; it takes O(k (n + m)) memory, for a k of at least 1.
     pub fn open(&mut self, graph: Graph, limits: Limits, k: u32) -> Result<(), Memory>
         requires closed { self.old.opened ≡ None }
-        requires few { k ≤ 8 }
+        requires level { k ≤ 8 }
         requires sound { IsSound (seen B.meaning self.old) }
         ensures sound { IsSound (seen B.meaning self.new) }
         ensures opened { OnOk result (self.new.opened ≡ Some (record { graph = graph.graph; limits = limits; k = k })) }
@@ -114,7 +106,7 @@ impl<B: PathIndex> Engine<B> {
         ensures err { OnErr result (self.new.opened ≡ None) }
         ensures kinds { kinds_of (map B.meaning self.new.boxes) ≡ kinds_of (map B.meaning self.old.boxes) }
     {
-        build_of(&mut self.boxes, &graph, k)?;
+        build_boxes::<B, Brand>(&mut self.boxes, &graph, k, Blank::new(1))?;
         self.state = Some(Open { graph, limits, k });
         Ok(())
     }
@@ -131,9 +123,9 @@ impl<B: PathIndex> Engine<B> {
     }
 
     /// Makes a change in the graph and in each index, and says which number a new node got. `Refused` comes exactly
-    /// where the change is refused within the engine's limits, memory or not. An error leaves all as it was. So does
+    /// if the change is refused within the engine's limits, memory or not. An error leaves all as it was. So does
     /// the link of an edge that is there, which takes no memory. Each other change takes all its memory before the
-    /// graph or an index changes, and the partition of the 1-index, where it is kept, moves by one step (Yi, He, Stanoi
+    /// graph or an index changes, and the partition of the 1-index, if it is kept, moves by one step (Yi, He, Stanoi
     /// and Yang 2004).
     ///
     /// O(i) for i indexes, and what the change takes in the graph and `prepare` and `commit` in each index. How much
@@ -162,7 +154,7 @@ impl<B: PathIndex> Engine<B> {
         }
     }
 
-    /// Takes out the index of a kind and drops it; all else stays. `NoIndex` comes exactly where none of that kind is
+    /// Takes out the index of a kind and drops it; all else stays. `NoIndex` comes exactly if none of that kind is
     /// kept, and no other refusal. O(i) for i indexes, and what it takes to drop one; no memory.
     pub fn forget(&mut self, kind: Kind) -> Result<(), Refusal>
         requires sound { IsSound (seen B.meaning self.old) }
@@ -209,7 +201,7 @@ impl<B: PathIndex> Engine<B> {
     ///
     /// O(m (n + e)) for an expression of m tokens and a graph with n node numbers and e edges; it takes O(m n) memory.
     /// Through an index n and e are the numbers of its blocks and of the pairs with support, and O(s) is added to both
-    /// time and memory for s node numbers; where the index isn't exact, what `data_validate::check` takes is added: up
+    /// time and memory for s node numbers; if the index isn't exact, what `data_validate::check` takes is added: up
     /// to O(m s) memory.
     pub fn path<L: Ledger>(
         &mut self,
@@ -276,9 +268,9 @@ impl<B: PathIndex> Engine<B> {
     }
 
     /// The size of the graph and of each index that is kept, in the order of `Via::nth`. The view of the forward and
-    /// backward index is first computed, where the index is kept and it isn't: that takes what `FbIndex` takes; of the
+    /// backward index is computed first, if the index is kept and it isn't: that takes what `FbIndex` takes; of the
     /// graph it reads one view. Else nothing of the graph is read. `Memory` leaves the graph and each view that is
-    /// computed. O(k) for levels up to k where nothing is computed; it takes the memory of the text.
+    /// computed. O(k) for levels up to k if nothing is computed; it takes the memory of the text.
     pub fn sizes<L: Ledger>(&mut self, alloc: Global, steps: &mut Steps<L>) -> Result<Text, Memory>
         requires open { IsSome self.old.opened }
         requires sound { IsSound (seen B.meaning self.old) }

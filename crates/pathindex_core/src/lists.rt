@@ -18,7 +18,7 @@ use px_base::{Memory, Steps, Text};
 use std::alloc::Global;
 use std::sync::ledger::Ledger;
 
-/// The list of the blocks of an index whose view is computed, where it is kept.
+/// The list of the blocks of an index whose view is computed, if it is kept.
 fn text_of<B: PathIndex>(
     alloc: Global,
     boxes: &Vec<B>,
@@ -39,7 +39,7 @@ fn text_of<B: PathIndex>(
     }
 }
 
-/// The list of the blocks of an index, where it is kept.
+/// The list of the blocks of an index, if it is kept.
 pub(crate) fn list<B: PathIndex, L: Ledger>(
     alloc: Global,
     boxes: &mut Vec<B>,
@@ -59,7 +59,7 @@ pub(crate) fn list<B: PathIndex, L: Ledger>(
     }
 }
 
-/// Appends the line of the size of an index, where it is kept.
+/// Appends the line of the size of an index, if it is kept.
 fn push_size<B: PathIndex>(
     alloc: Global,
     out: &mut String,
@@ -84,11 +84,11 @@ fn push_size<B: PathIndex>(
     }
 }
 
-/// The sizes, where the forward and backward index is computed if it is kept.
+/// The sizes; the forward and backward index is computed if it is kept.
 fn sizes_of<B: PathIndex>(alloc: Global, boxes: &Vec<B>, state: &Open) -> Result<Text, Memory>
     requires kept { All (IsKeptFor (opened state.now)) (map B.meaning boxes.now.items) }
     requires computed { IsFbComputed (map B.meaning boxes.now.items) }
-    requires few { state.now.k ≤ 8 }
+    requires level { state.now.k ≤ 8 }
     ensures { IfOk result (ListsSizes state.now.graph.graph (kept_of (map B.meaning boxes.now.items) state.now.k)) }
 {
     let head = sizes_head(alloc, state.graph.node_count(), state.graph.edge_count())?;
@@ -109,7 +109,7 @@ pub(crate) fn measure<B: PathIndex, L: Ledger>(
     steps: &mut Steps<L>,
 ) -> Result<Text, Memory>
     requires kept { All (IsKeptFor (opened state.now)) (map B.meaning boxes.old.items) }
-    requires few { state.now.k ≤ 8 }
+    requires level { state.now.k ≤ 8 }
     ensures kept { All (IsKeptFor (opened state.now)) (map B.meaning boxes.new.items) }
     ensures keeps { EachBecomes KeepsViews (map B.meaning boxes.old.items) (map B.meaning boxes.new.items) }
     ensures measured { IsMeasured (open_seen (map B.meaning boxes.old.items) state.now) (open_seen (map B.meaning boxes.new.items) state.now)

@@ -41,7 +41,7 @@ fn make<B: PathIndex>(
     Ok(applied)
 }
 
-/// Judges a change, and makes it where it is accepted. A refusal and `Memory` leave all as it was, and so does a change
+/// Judges a change, and makes it if it is accepted. A refusal and `Memory` leave all as it was, and so does a change
 /// that alters nothing, which takes no memory.
 pub(crate) fn update<B: PathIndex>(
     alloc: Global,

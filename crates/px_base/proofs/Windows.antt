@@ -40,7 +40,7 @@ pub first-split : (xs : List ℕ) (b : ℕ) → slice_get xs 0 ≡ Some b → xs
 first-split [] b e = cc
 first-split (x ∷ xs) b e = let q : x ≡ b = cc in ap (λ y. y ∷ xs) q
 
--- the same for the rest as it is sliced, and what is told by its length
+-- the same for the rest as it is sliced, and what its length says
 pub end-sliced : (xs : List ℕ) (n : ℕ) → IsUncut (take n xs) → has_end xs ≡ has_end (take (length xs - n) (drop n xs))
 end-sliced xs n p = end-dropped xs n p ∙ ap has_end (sym (take_all (length xs - n) (drop n xs) (rw length-drop (omega arith))))
 

@@ -1,4 +1,4 @@
-// A shelf and a sink in memory, of which everything is observable, and which fail when they are told to.
+// A shelf and a sink in memory, of which everything is observable, and which fail as they are planned to.
 ghost use Rattle.std.specs.Prelude.{◌≡◌, ◌-◌, ◌<◌, ◌≤◌, ◌↔◌, ◌||◌, ◌==◌, [], length, take, map, min, Some, None, is_some, is_err, Ok, true, IfOk, OnOk, IsOk, IsTrue, unwrap_or, if◌then◌else◌};
 ghost use Rattle.std.specs.Io.{ReadsAtMost};
 ghost use Rattle.std.specs.Io.KnownBytes.{ReadConsumes, WriteAppends};

@@ -100,7 +100,7 @@ fn gather<H: Shelf>(
     }
 }
 
-/// Puts the next line in place of the old one, and takes its end. `Limit` where the line has more
+/// Replaces the old line by the next one, and takes its end. `Limit` where the line has more
 /// bytes than `line_limit`, or with its end more than `room`.
 fn take_line<H: Shelf>(
     window: &mut Window,

@@ -1,4 +1,4 @@
-// Calls that fail because they were told to.
+// Calls that fail as planned.
 ghost use Rattle.std.specs.Prelude.{◌≡◌, is_err, if◌then◌else◌};
 ghost use Rattle.graph_spec.specs.Members.{has};
 ghost use Rattle.px_base.specs.Causes.{HasCause, Rose, one_more};

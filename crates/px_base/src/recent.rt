@@ -47,7 +47,7 @@ impl Recent {
         }
     }
 
-    /// Puts a number in the slot of these two, in place of the one that was there. O(1), no memory.
+    /// Puts a number in the slot of these two, and drops the one that was there. O(1), no memory.
     #[inline(always)]
     pub fn put(&mut self, a: u32, b: u32, number: u32) {
         if let Some(slot) = self.slots.get_mut(slot_of(a, b)) {

@@ -35,7 +35,7 @@ pub trait Shelf {
     /// How often a call has failed, up to the last value of a u64.
     ghost faults: { Self → ℕ };
 
-    /// Opens the file of that name in place of the open one. `Ok(false)`: there is none. Where it
+    /// Opens the file of that name instead of the open one. `Ok(false)`: there is none. Where it
     /// fails, the count of faults rises. O(1) beside what the system takes, no memory.
     fn open(&mut self, name: &str) -> Result<bool, Failed>
         ensures files { files self.new ≡ files self.old }

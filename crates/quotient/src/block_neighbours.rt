@@ -24,7 +24,10 @@ impl Model for BlockNeighbours {
 
     ghost Value = { KeptLists };
 
-    ghost view = { λ n. record { lists = map (λ list. list.items) n.lists.items; reserved = map (λ list. list.capacity - small_vec_len list) n.lists.items } };
+    ghost view = { λ n. record {
+      lists = map (λ list. list.items) n.lists.items;
+      reserved = map (λ list. list.capacity - small_vec_len list) n.lists.items;
+    } };
 }
 
 impl BlockNeighbours {

@@ -48,7 +48,11 @@ impl Model for Summary {
     ghost use Rattle.quotient.specs.QuotientNeighbours.{IsSoundQuotient};
     ghost use Rattle.quotient.specs.QuotientTables.{room_of};
 
-    ghost view = { λ s. record { blocks = s.blocks; supports = s.joins.supports.pairs; reserved = room_of s.joins.supports s.joins.children s.joins.parents } };
+    ghost view = { λ s. record {
+      blocks = s.blocks;
+      supports = s.joins.supports.pairs;
+      reserved = room_of s.joins.supports s.joins.children s.joins.parents;
+    } };
 
     ghost invariant = { λ s. IsSoundQuotient s.blocks s.joins.supports.pairs s.joins.children.lists s.joins.parents.lists };
 }

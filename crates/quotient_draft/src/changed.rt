@@ -125,7 +125,8 @@ impl Changed {
 
     /// Reserves capacity in the base for the children and the parents that blocks may get.
     pub(crate) fn reserve_in(&self, base: &mut Summary) -> Result<(), Memory>
-        requires ends { (p : ℕ × ℕ) (n : ℕ) → lookup (is_pair p) self.now ≡ Some n → (p.0 < base.old.reserved.span) × (p.1 < base.old.reserved.span) }
+        requires ends { (p : ℕ × ℕ) (n : ℕ) → lookup (is_pair p) self.now ≡ Some n
+            → (p.0 < base.old.reserved.span) × (p.1 < base.old.reserved.span) }
         ensures same { view_of base.new ≡ view_of base.old }
         ensures blocks { base.new.blocks.reserved ≡ base.old.blocks.reserved }
         ensures pairs { base.new.reserved.pairs ≡ base.old.reserved.pairs }

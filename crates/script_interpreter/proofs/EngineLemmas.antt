@@ -11,7 +11,7 @@ use Rattle.bisim_spec.specs.Bisimilarity.{Bisim}
 use Rattle.bisim_spec.specs.Partitions.{Agrees}
 use Rattle.bisim_spec.specs.IndexGraphs.{View}
 use Rattle.bisim_spec.specs.Fits.{Fits, FitsAt, FitsOne, view_at}
-use Rattle.index_api.specs.Meanings.{Meaning, IsBuilt, BeginsWhole, IsViewStep, blocks_in}
+use Rattle.index_api.specs.Meanings.{Meaning, IsBuilt, BeginsFull, IsViewStep, blocks_in}
 use Rattle.index_api.specs.IndexKinds.{is_kind, has_kind, kinds_of, index_of, kept_view}
 use Rattle.pathindex_core.specs.Engines.{Opened, EngineSeen, EachBecomes, IsKeptFor, graph_in, level_in}
 use Rattle.pathindex_core.specs.Updates.{IsMoved, IsUpdated}
@@ -131,8 +131,8 @@ first_state g o olds news same built kinds all = record {
   none = λ h. ap (λ x. blocks_in (option_and_then (λ b. view_at b.views 0) x)) (none_found kind.One news h);
 }
   where
-    begins : (k : Kind) (x : Option View) (v : View) → k ≡ kind.One → x ≡ Some v → BeginsWhole k g x → Agrees (shape_of g) v.block_of (Bisim (shape_of g))
-    begins k x v e f w = subst (λ y. BeginsWhole kind.One g y) f (subst (λ z. BeginsWhole z g x) e w)
+    begins : (k : Kind) (x : Option View) (v : View) → k ≡ kind.One → x ≡ Some v → BeginsFull k g x → Agrees (shape_of g) v.block_of (Bisim (shape_of g))
+    begins k x v e f w = subst (λ y. BeginsFull kind.One g y) f (subst (λ z. BeginsFull z g x) e w)
 
     by_found : (one : HasOne o.graph news) (x y : Option Meaning) → Both (λ a b. IsBuilt a b g o.k) x y → y ≡ Some one.index → Agrees (shape_of g) one.view.block_of (Bisim (shape_of g))
     by_found one None None neither e = absurd (cc)
@@ -140,7 +140,7 @@ first_state g o olds news same built kinds all = record {
     by_found one (Some a) None f e = elim f [ ]
     by_found one (Some a) (Some b) (both _ _ r) e =
         let same : b ≡ one.index = cc in
-        begins a.kind (view_at b.views 0) one.view (sym r.kind ∙ ap (λ m. m.kind) same ∙ one.of_kind) (ap (λ m. view_at m.views 0) same ∙ one.view_is) r.whole
+        begins a.kind (view_at b.views 0) one.view (sym r.kind ∙ ap (λ m. m.kind) same ∙ one.of_kind) (ap (λ m. view_at m.views 0) same ∙ one.view_is) r.full
 
     whole : (one : HasOne o.graph news) → Both (λ a b. IsBuilt a b g o.k) (index_of olds kind.One) (index_of news kind.One) → Agrees (shape_of g) (one_in news) (Bisim (shape_of g))
     whole one f = subst (λ p. Agrees (shape_of g) p (Bisim (shape_of g))) (sym one.blocks) (by_found one _ _ f one.index_is)

@@ -41,7 +41,8 @@ fn read_blank_node<'a>(
     text: &'a str,
 ) -> Result<Option<(Term, &'a str)>, Memory>
     ensures found { (cs : List ℕ) → IsText text.now cs → IfRead result (λ f. Prefix (λ s. IsSubject s f.0) cs f.1.now) }
-    ensures whole { EachPrefix IsBlankNode text.now (λ label r. EndsLabel r → IsRead result (λ f. (f.0 ≡ Term.Blank label) × (f.1.now ≡ encode_utf8_all r))) }
+    ensures whole { EachPrefix IsBlankNode text.now (λ label r. EndsLabel r
+        → IsRead result (λ f. (f.0 ≡ Term.Blank label) × (f.1.now ≡ encode_utf8_all r))) }
 {
     let Some((label, rest)) = read_label(spare, text)? else {
         return Ok(None);

@@ -160,7 +160,8 @@ fn quoted_body<'a>(
     body: &'a str,
 ) -> Result<Option<(String, &'a str)>, AllocError>
     ensures found { IfRead result (λ f. IsBodyPrefix (PieceIn quote) (closing_of quote) body.now (string_bytes f.0) f.1.now) }
-    ensures only { (v tail : List ℕ) → BodyIn quote body.now v tail → IsRead result (λ f. (string_bytes f.0 ≡ encode_utf8_all v) × (f.1.now ≡ tail)) }
+    ensures only { (v tail : List ℕ) → BodyIn quote body.now v tail
+        → IsRead result (λ f. (string_bytes f.0 ≡ encode_utf8_all v) × (f.1.now ≡ tail)) }
 {
     let mut text = spare.take();
     let mut rest = body;
@@ -183,7 +184,8 @@ pub(crate) fn read_quoted<'a>(
     text: &'a str,
 ) -> Result<Option<(String, &'a str)>, AllocError>
     ensures found { IfRead result (λ f. (v : List ℕ) × (string_bytes f.0 ≡ encode_utf8_all v) × IsQuoted quote text.now v f.1.now) }
-    ensures only { (v tail : List ℕ) → IsQuoted quote text.now v tail → IsRead result (λ f. (string_bytes f.0 ≡ encode_utf8_all v) × (f.1.now ≡ tail)) }
+    ensures only { (v tail : List ℕ) → IsQuoted quote text.now v tail
+        → IsRead result (λ f. (string_bytes f.0 ≡ encode_utf8_all v) × (f.1.now ≡ tail)) }
 {
     let Some(body) = past_byte(quote.opening(), text) else {
         return Ok(None);

@@ -64,7 +64,8 @@ pub(crate) fn read_tag<'a>(
     text: &'a str,
 ) -> Result<Option<(Text, &'a str)>, Memory>
     ensures found { (cs : List ℕ) → IsText text.now cs → IfRead result (λ f. Prefix (λ s. IsTag s f.0) cs f.1.now) }
-    ensures whole { EachPrefix IsTag text.now (λ tag r. EndsTag (encode_utf8_all r) → IsRead result (λ f. (f.0 ≡ tag) × (f.1.now ≡ encode_utf8_all r))) }
+    ensures whole { EachPrefix IsTag text.now (λ tag r. EndsTag (encode_utf8_all r)
+        → IsRead result (λ f. (f.0 ≡ tag) × (f.1.now ≡ encode_utf8_all r))) }
 {
     let Some(behind) = past_tag(text.as_bytes()) else {
         return Ok(None);

@@ -1,7 +1,7 @@
 use Rattle.std.proofs.lemmas.Result.{IfOk-weaker}
 use Rattle.bisim_spec.specs.IndexGraphs.{shape_of_view}
 use Rattle.quotient.specs.Quotients.{view_of}
-use Rattle.branch_query.specs.Queries.{query_of, form_of, IsQueryAnswer}
+use Rattle.branch_query.specs.Queries.{query_of, searched_form, IsQueryAnswer}
 use Rattle.index_eval.proofs.BlockAnswers.{answering_block}
 use Rattle.index_eval.specs.Candidates.{AreOfAnsweringBlocks, AreCandidatesOfEach, HaveAnswersOfEach, AreAnswersOfEach}
 use Rattle.index_eval.proofs.Gathered.{gathered, candidates_of_each, kept_of_each, exact_of_each}
@@ -10,13 +10,13 @@ use Rattle.index_eval.proofs.summary_answers.candidates.Goals as goal
 pub extents-requires : goal.extents-requires
 extents-requires c = record {
   live = λ b m.
-      answering_block c.args.labels.now.texts (view_of c.args.summary.now) (form_of c.args.whole (query_of c.args.q.now)) b (c.in_ok-blocks.ensures.sound b m);
+      answering_block c.args.labels.now.texts (view_of c.args.summary.now) (searched_form c.args.whole (query_of c.args.q.now)) b (c.in_ok-blocks.ensures.sound b m);
 }
 
 pub returns-clause-members : goal.returns-clause-members
 returns-clause-members c =
     let blocks = c.in_ok-blocks.ensures in
-    gathered c.args.summary.now.blocks.block_of (IsQueryAnswer (shape_of_view c.args.labels.now.texts (view_of c.args.summary.now)) (form_of c.args.whole (query_of c.args.q.now)))
+    gathered c.args.summary.now.blocks.block_of (IsQueryAnswer (shape_of_view c.args.labels.now.texts (view_of c.args.summary.now)) (searched_form c.args.whole (query_of c.args.q.now)))
     c.in_ok-blocks.blocks.members blocks.sound blocks.complete c.extents.result c.extents.ensures.rising c.extents.ensures.members
 
 pub returns-clause-candidates : goal.returns-clause-candidates

@@ -13,5 +13,5 @@ returns-clause-built c = record {
   kind = refl;
   ready = record { fits = record { count = refl; each = not_computed _ }; unstaged = refl };
   count = refl;
-  whole = tt;
+  full = tt;
 }
