@@ -1,7 +1,7 @@
 #!/usr/bin/env python3
 """Prints how long and how many things are in this repository: measure_house.py [TIMES], where TIMES is a file that tools/time_gate.py wrote.
 
-The lines of contracts over 160 characters, the functions with more than twelve clauses of their own, the words of README.md and docs/, the
+The source lines over 160 bytes, indentation included, the functions with more than twelve clauses of their own, the words of README.md and docs/, the
 must-fail edits and the longest source files; and, from TIMES, the table of what each crate takes of the processor.
 """
 import pathlib
@@ -11,14 +11,13 @@ import sys
 ROOT = pathlib.Path(__file__).resolve().parent.parent
 LONGEST, MOST_CLAUSES, MOST_EDITS, FILES = 160, 12, 3, 10
 CLAUSE = re.compile(r"(requires|ensures)\b")
-CONTRACT = re.compile(r"(requires|ensures|invariant|ghost (?!use\b))")
 FUNCTION = re.compile(r"(?:pub(?:\([a-z]+\))? )?(?:unsafe )?(?:const )?fn (\w+)")
 
 
 def sources():
-    """Yields each source file with its path below crates/ and its lines, without blanks at their ends."""
+    """Yields each source file with its path below crates/ and its lines."""
     for file in sorted(ROOT.glob("crates/*/src/**/*.rt")):
-        yield str(file.relative_to(ROOT / "crates")), [line.strip() for line in file.read_text().splitlines()]
+        yield str(file.relative_to(ROOT / "crates")), file.read_text().splitlines()
 
 
 def show(title, rows):
@@ -30,7 +29,7 @@ def show(title, rows):
 def clauses(lines):
     """Returns how many clauses each function has, by the line and the name of it."""
     counts, function = {}, None
-    for number, line in enumerate(lines, 1):
+    for number, line in enumerate(map(str.strip, lines), 1):
         if found := FUNCTION.match(line):
             function = number, found[1]
         elif CLAUSE.match(line) and function:
@@ -41,9 +40,10 @@ def clauses(lines):
 def show_contracts():
     long, many = [], []
     for path, lines in sources():
-        long += [f"{path}:{number} {len(line)}" for number, line in enumerate(lines, 1) if CONTRACT.match(line) and len(line) > LONGEST]
+        sizes = [(number, len(line.encode())) for number, line in enumerate(lines, 1) if not line.startswith("ghost use")]
+        long += [f"{path}:{number} {size}" for number, size in sizes if size > LONGEST]
         many += [f"{path}:{number} {name} {count}" for (number, name), count in clauses(lines).items() if count > MOST_CLAUSES]
-    show(f"lines of contracts over {LONGEST} characters", long)
+    show(f"source lines over {LONGEST} bytes", long)
     show(f"functions with more than {MOST_CLAUSES} clauses", many)
 
 

@@ -12,10 +12,13 @@ use std::alloc::Global;
 
 /// Two chains, and a node above the second one: their lists before it is linked, then, and after.
 const CHAINS: &str =
-    "node a\nnode b\nnode c\nlink n0 n1\nlink n1 n2\nnode a\nnode b\nnode c\nlink n3 n4\nlink n4 n5\nnode x\nextents one\nlink n6 n3\nextents one\nextents a2\nunlink n6 n3\nextents one\nextents a2\n";
+    "node a\nnode b\nnode c\nlink n0 n1\nlink n1 n2\nnode a\nnode b\nnode c\nlink n3 n4\nlink n4 n5\nnode x\nextents one\nlink n6 n3\n\
+    extents one\nextents a2\nunlink n6 n3\nextents one\nextents a2\n";
 
 const LISTS: &str =
-    "added n0\nadded n1\nadded n2\nok\nok\nadded n3\nadded n4\nadded n5\nok\nok\nadded n6\nblocks 4\na n0 n3\nb n1 n4\nc n2 n5\nx n6\nok\nblocks 7\na n0\nb n1\nc n2\na n3\nb n4\nc n5\nx n6\nblocks 6\na n0\nb n1\nc n2 n5\na n3\nb n4\nx n6\nok\nblocks 4\na n0 n3\nb n1 n4\nc n2 n5\nx n6\nblocks 4\na n0 n3\nb n1 n4\nc n2 n5\nx n6\n";
+    "added n0\nadded n1\nadded n2\nok\nok\nadded n3\nadded n4\nadded n5\nok\nok\nadded n6\nblocks 4\na n0 n3\nb n1 n4\nc n2 n5\nx n6\nok\n\
+    blocks 7\na n0\nb n1\nc n2\na n3\nb n4\nc n5\nx n6\nblocks 6\na n0\nb n1\nc n2 n5\na n3\nb n4\nx n6\nok\nblocks 4\na n0 n3\nb n1 n4\n\
+    c n2 n5\nx n6\nblocks 4\na n0 n3\nb n1 n4\nc n2 n5\nx n6\n";
 
 /// A run of the chains, where shelf and sink move a byte at a time, and these calls on them fail, 0 for none.
 #[derive(Drop)]

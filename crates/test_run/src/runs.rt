@@ -131,7 +131,8 @@ const SCRIPTS: &[(&str, &str, u8)] = &[
         0,
     ),
     (
-        "path data (((((((((((((((((((((((((((((((((((((((((((((((((((((((((((((((((a)))))))))))))))))))))))))))))))))))))))))))))))))))))))))))))))))\npath data a**\n",
+        "path data (((((((((((((((((((((((((((((((((((((((((((((((((((((((((((((((((a)))))))))))))))))))))))))))))))))))))))))))))))))))))))))))))))))\n\
+        path data a**\n",
         "refused limit\nbad 2\n",
         4,
     ),
@@ -154,8 +155,10 @@ const SCRIPTS: &[(&str, &str, u8)] = &[
     ("# x\rnode a\r\r\nnod\r", "added n0\nbad 4\n", 4),
     // two chains, and a node above the second one: their lists before it is linked, then, and after
     (
-        "node a\nnode b\nnode c\nlink n0 n1\nlink n1 n2\nnode a\nnode b\nnode c\nlink n3 n4\nlink n4 n5\nnode x\nextents a2\nlink n6 n3\nextents a2\nunlink n6 n3\nextents a2\n",
-        "added n0\nadded n1\nadded n2\nok\nok\nadded n3\nadded n4\nadded n5\nok\nok\nadded n6\nblocks 4\na n0 n3\nb n1 n4\nc n2 n5\nx n6\nok\nblocks 6\na n0\nb n1\nc n2 n5\na n3\nb n4\nx n6\nok\nblocks 4\na n0 n3\nb n1 n4\nc n2 n5\nx n6\n",
+        "node a\nnode b\nnode c\nlink n0 n1\nlink n1 n2\nnode a\nnode b\nnode c\nlink n3 n4\nlink n4 n5\nnode x\nextents a2\nlink n6 n3\n\
+        extents a2\nunlink n6 n3\nextents a2\n",
+        "added n0\nadded n1\nadded n2\nok\nok\nadded n3\nadded n4\nadded n5\nok\nok\nadded n6\nblocks 4\na n0 n3\nb n1 n4\nc n2 n5\nx n6\n\
+        ok\nblocks 6\na n0\nb n1\nc n2 n5\na n3\nb n4\nx n6\nok\nblocks 4\na n0 n3\nb n1 n4\nc n2 n5\nx n6\n",
         0,
     ),
     // Sets of parents count, and not their number.
@@ -167,13 +170,15 @@ const SCRIPTS: &[(&str, &str, u8)] = &[
     // Children don't count, and neither do nodes that are gone.
     (
         "node a\nnode b\nlink n0 n1\nnode a\nnode x\ndrop n3\nextents a2\nsizes\n",
-        "added n0\nadded n1\nok\nadded n2\nadded n3\nok\nblocks 2\na n0 n2\nb n1\nnodes 3 edges 1\na0 blocks 2 edges 1\na1 blocks 2 edges 1\na2 blocks 2 edges 1\n",
+        "added n0\nadded n1\nok\nadded n2\nadded n3\nok\nblocks 2\na n0 n2\nb n1\nnodes 3 edges 1\na0 blocks 2 edges 1\na1 blocks 2 edges 1\n\
+        a2 blocks 2 edges 1\n",
         0,
     ),
     // Two chains that level 1 takes for one behind their first nodes: the candidates are looked up, or are the answers.
     (
         "node a\nnode b\nnode c\nlink n0 n1\nlink n1 n2\nnode x\nnode b\nnode c\nlink n3 n4\nlink n4 n5\npath a1 a/b/c\npath a2 a/b/c\npath a2 a//c\n",
-        "added n0\nadded n1\nadded n2\nok\nok\nadded n3\nadded n4\nadded n5\nok\nok\nanswers 1 candidates 2 checked\nn2\nanswers 1 candidates 1 exact\nn2\nanswers 1 candidates 1 checked\nn2\n",
+        "added n0\nadded n1\nadded n2\nok\nok\nadded n3\nadded n4\nadded n5\nok\nok\nanswers 1 candidates 2 checked\nn2\n\
+        answers 1 candidates 1 exact\nn2\nanswers 1 candidates 1 checked\nn2\n",
         0,
     ),
     // The first node has a child, which no level sees.
