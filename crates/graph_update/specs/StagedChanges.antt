@@ -2,7 +2,7 @@
 use Rattle.std.specs.Prelude.{◌≡◌, length}
 use Rattle.graph_spec.specs.Graphs.{Graph}
 use Rattle.graph_spec.specs.Changes.{Change, node, link, unlink, drop}
-use Rattle.label_graph.specs.ReservedGraphs.{ReservedGraph, Reservation, label_reserved, pair_reserved}
+use Rattle.label_graph.specs.ReservedGraphs.{ReservedGraph, Reservation, none_reserved, label_reserved, pair_reserved}
 use Rattle.graph_update.specs.declared.changes.Applied.{Applied}
 use Rattle.graph_update.specs.declared.changes.Applied.TheVariants.{Added, Done}
 use Rattle.graph_update.specs.declared.staging.Plan.{Plan}
@@ -15,12 +15,12 @@ plan_of (link u v) = Link u v
 plan_of (unlink u v) = Unlink u v
 plan_of (drop u) = Drop u
 
--- what is reserved is what the change needs; to take something away needs nothing
+-- what is reserved is what the change needs, and no more; to take something away needs nothing
 abbrev pub IsReservedFor : Change → Reservation → Type 0
 IsReservedFor (node t) reserved = reserved ≡ label_reserved t
 IsReservedFor (link u v) reserved = reserved ≡ pair_reserved u v
-IsReservedFor (unlink u v) reserved = Unit {0}
-IsReservedFor (drop u) reserved = Unit {0}
+IsReservedFor (unlink u v) reserved = reserved ≡ none_reserved
+IsReservedFor (drop u) reserved = reserved ≡ none_reserved
 
 -- the change is staged in the graph
 pub record IsStaged (c : Change) (held : ReservedGraph) (plan : Plan) : Type 0 where

@@ -43,14 +43,15 @@ impl Model for Staged {
 }
 
 /// Takes all the memory that a change needs, which `judge` accepts as new within some limits. The graph stays as it is
-/// seen, and where memory runs out so does its reservation. Expected O(b), amortized, for a node whose label has b bytes, and
+/// seen; what was reserved before is no more, and where memory runs out nothing is. Expected O(b), amortized, for a node whose label has b bytes, and
 /// O(1), amortized, for an edge; it takes the memory that `Graph` takes for them. A removal is O(1), no memory.
 pub fn stage(alloc: Global, graph: &mut Graph, change: &Change) -> Result<Staged, Memory>
     requires new { IsNew (change_of change.now) graph.old.graph }
     ensures graph { graph.new.graph ≡ graph.old.graph }
     ensures staged { IfOk result (λ staged. IsStaged (change_of change.now) graph.new staged) }
-    ensures err { OnErr result (graph.new ≡ graph.old) }
+    ensures err { OnErr result (graph.new ≡ record { graph = graph.old.graph; reserved = none_reserved }) }
 {
+    graph.clear_room();
     let plan = match change {
         Change::Node(label) => {
             graph.reserve_node(alloc, label)?;

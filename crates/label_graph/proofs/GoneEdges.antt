@@ -1,5 +1,5 @@
 -- One edge less.
-use Rattle.std.proofs.Common.{◌≡◌, ℕ, zero, suc, ◌-◌, ◌<◌, Bool, true, false, cond, List, None, refl, sym, ap, ◌∙◌, subst, arith, nat_eq, IsTrue, true≢false}
+use Rattle.std.proofs.Common.{◌≡◌, ℕ, zero, suc, ◌-◌, ◌<◌, Bool, true, false, cond, List, refl, sym, ap, ◌∙◌, subst, arith, nat_eq, IsTrue, true≢false}
 use Rattle.std.specs.Prelude.{IsSome, ◌&&◌, not}
 use Rattle.std.specs.List.{IsDistinct}
 use Rattle.std.specs.Ordering.{eq_by_cmp}
@@ -9,14 +9,11 @@ use Rattle.graph_spec.specs.Graphs.{Edges, edge_cmp}
 use Rattle.graph_spec.specs.Changes.{without_edge}
 use Rattle.graph_spec.specs.Members.{has}
 use Rattle.graph_spec.proofs.EdgeOrder.{edge_cmp_total, edge_cmp-IsAntisymmetric}
-use Rattle.label_graph.specs.Nodes.{Node, labels_of, number_at, texts_of, children_of, parents_of, edges_of, Mirrors, LacksEdge, IsLive}
-use Rattle.label_graph.specs.declared.node.Reserved.{Reserved}
-use Rattle.label_graph.specs.declared.node.Reserved.TheVariants.{Nothing}
+use Rattle.label_graph.specs.Nodes.{Node, number_at, texts_of, children_of, parents_of, edges_of, Mirrors, LacksEdge, IsLive, IsKept, KeepsReserved}
 use Rattle.label_graph.specs.ReservedGraphs.{graph_by}
 use Rattle.label_graph.specs.LabelTable.{LabelTable}
 use Rattle.label_graph.specs.Soundness.{IsSoundGraph, AreSound, HaveLabelNumbers}
 use Rattle.label_graph.proofs.EdgeLists.{has_edge-children, and_comm}
-use Rattle.label_graph.proofs.KeepsSound.{labels-cleared}
 use Rattle.graph_spec.proofs.EdgeOrder.{eq_pair}
 
 -- a set with an edge isn't empty
@@ -31,7 +28,7 @@ second : (a b : Bool) → IsTrue (a && b) → IsTrue b
 second true b h = h
 second false b h = absurd (true≢false (sym h))
 
-module _ (old new : List Node) (u v : ℕ) (l : LacksEdge old new u v) where
+module _ (shown : ℕ) (old new : List Node) (u v : ℕ) (l : LacksEdge shown old new u v) where
   child-but : (a b : ℕ) → has (children_of new a) b ≡ (not (nat_eq a u && nat_eq b v) && has (children_of old a) b)
   child-but a b =
       elim (nat_eq a u) as (λ x. nat_eq a u ≡ x → has (children_of new a) b ≡ (not (x && nat_eq b v) && has (children_of old a) b)) [
@@ -76,10 +73,10 @@ module _ (old new : List Node) (u v : ℕ) (l : LacksEdge old new u v) where
         | false ↦ λ q. subst (IsDistinct nat_eq) (sym (l.other_parents n (eqb-false n v q))) (once n)
       ] refl
 
-  live : (w : ℕ) → IsLive old w → IsLive new w
+  live : (w : ℕ) → IsLive shown old w → IsLive shown new w
   live w h = subst (λ ls. IsSome (number_at ls w)) (sym l.labels) h
 
-  lists-taken : (edges : ℕ) → AreSound old edges → has (children_of old u) v ≡ true → AreSound new (edges - 1)
+  lists-taken : (edges : ℕ) → AreSound shown old edges → has (children_of old u) v ≡ true → AreSound shown new (edges - 1)
   lists-taken edges s there = record {
     mirrors = mirrors-taken s.mirrors;
     children_once = children-once-after s.children_once;
@@ -94,15 +91,23 @@ module _ (old new : List Node) (u v : ℕ) (l : LacksEdge old new u v) where
     few_edges = omega (arith, s.few_edges);
   }
 
+  kept : (w : ℕ) → IsKept shown new w → IsKept shown old w
+  kept w k h = subst (λ ls. IsSome (number_at ls w)) l.labels (k h)
+
   module _ (table : LabelTable) where
-    pub sound-less : (capacity edges count : ℕ) (r : Reserved) (more : ℕ) → IsSoundGraph table old capacity edges count r → has (children_of old u) v ≡ true
-        → IsSoundGraph (record { texts = table.texts; ahead = None }) new more (edges - 1) count Nothing
-    sound-less capacity edges count r more o there = record {
+    pub sound-less : (edges count : ℕ) (numbers : List ℕ) (pairs : List (ℕ × ℕ)) → IsSoundGraph table shown old edges count numbers pairs → has (children_of old u) v ≡ true → KeepsReserved old new
+        → IsSoundGraph table shown new (edges - 1) count numbers pairs
+    sound-less edges count numbers pairs o there r = record {
       lists = lists-taken edges o.lists there;
-      labels = subst (λ ls. HaveLabelNumbers (record { texts = table.texts; ahead = None }) ls count) (sym l.labels) (labels-cleared table (labels_of old) count o.labels);
-      reserved = refl;
+      labels = subst (λ ls. HaveLabelNumbers table ls count) (sym l.labels) o.labels;
+      reserved = record {
+        next = o.reserved.next;
+        rows = omega (arith, o.reserved.rows, r.size);
+        children = λ w k. omega (arith, o.reserved.children w (kept w k), r.child w);
+        parents = λ w k. omega (arith, o.reserved.parents w (kept w k), r.parent w);
+      };
     }
 
     -- the graph has one edge less
-    pub edge-taken : graph_by (record { texts = table.texts; ahead = None }) new ≡ without_edge (graph_by table old) u v
+    pub edge-taken : graph_by table shown new ≡ without_edge (graph_by table shown old) u v
     edge-taken i = record { allocated = texts_of table.texts (l.labels i); edges = edges-taken i; seen = table.texts }

@@ -1,20 +1,18 @@
 -- One node less.
-use Rattle.std.proofs.Common.{◌≡◌, ◌≢◌, ℕ, zero, suc, ◌+◌, ◌-◌, ◌<◌, true, cond, List, [], ◌∷◌, length, Option, None, Some, refl, sym, ap, ◌∙◌, subst, arith, IsTrue, true≢false, length-set}
-use Rattle.std.specs.Prelude.{slice_get, slice_set, is_some, option_and_then}
+use Rattle.std.proofs.Common.{◌≡◌, ◌≢◌, ℕ, zero, suc, ◌+◌, ◌-◌, ◌<◌, true, cond, List, [], ◌∷◌, length, Option, None, Some, refl, sym, ap, ◌∙◌, subst, arith, IsTrue, true≢false, length-set, length-take, map}
+use Rattle.std.specs.Prelude.{slice_get, slice_set, is_some, IsSome, option_and_then}
 use Rattle.std.specs.List.{count_by}
-use Rattle.std.proofs.lemmas.List.{map-set}
+use Rattle.std.proofs.lemmas.List.{map-set, length-map}
 use Rattle.std.proofs.lemmas.List.Sums.{sum_by-cons}
 use Rattle.graph_spec.specs.Graphs.{is_live}
 use Rattle.graph_spec.specs.Changes.{without_node}
 use Rattle.graph_spec.specs.Members.{has}
-use Rattle.label_graph.specs.Nodes.{Node, labels_of, number_at, texts_of, children_of, parents_of, IsLive}
-use Rattle.label_graph.specs.declared.node.Reserved.{Reserved}
-use Rattle.label_graph.specs.declared.node.Reserved.TheVariants.{Nothing}
+use Rattle.label_graph.specs.Nodes.{Node, labels_of, number_at, texts_of, children_of, parents_of, IsLive, IsKept, KeepsReserved}
 use Rattle.label_graph.specs.ReservedGraphs.{graph_by}
 use Rattle.label_graph.specs.LabelTable.{LabelTable}
 use Rattle.label_graph.specs.Soundness.{IsSoundGraph, HaveLabelNumbers}
 use Rattle.label_graph.proofs.EdgeLists.{has_edge-children}
-use Rattle.label_graph.proofs.KeepsSound.{edges-same, lists-as, labels-cleared}
+use Rattle.label_graph.proofs.KeepsSound.{edges-same, lists-as}
 use Rattle.graph_spec.proofs.Uses.{IsBare}
 
 -- the other numbers stay
@@ -38,10 +36,17 @@ count-less (None ∷ xs) zero h = absurd (true≢false (sym h))
 count-less (Some x ∷ xs) zero h = omega (arith, sum_by-cons (λ t. cond (is_some t) 1 0) None xs, sum_by-cons (λ t. cond (is_some t) 1 0) (Some x) xs)
 count-less (t ∷ xs) (suc i) h = omega (arith, sum_by-cons (λ t. cond (is_some t) 1 0) t (slice_set xs i None), sum_by-cons (λ t. cond (is_some t) 1 0) t xs, count-less xs i h)
 
-pub live-below : (nodes : List Node) (n : ℕ) → IsLive nodes n → n < length nodes
-live-below [] n h = absurd (true≢false (sym h))
-live-below (x ∷ xs) zero h = omega arith
-live-below (x ∷ xs) (suc n) h = omega (arith, live-below xs n h)
+number-below : (ls : List (Option ℕ)) (n : ℕ) → IsSome (number_at ls n) → n < length ls
+number-below [] n h = absurd (true≢false (sym h))
+number-below (x ∷ xs) zero h = omega arith
+number-below (x ∷ xs) (suc n) h = omega (arith, number-below xs n h)
+
+pub live-below : (shown : ℕ) (nodes : List Node) (n : ℕ) → IsLive shown nodes n → n < length nodes
+live-below shown nodes n h =
+    omega (arith, number-below (labels_of shown nodes) n h, length-take shown (map (λ x. x.label) nodes), length-map nodes (λ x. x.label))
+
+pub live-shown : (shown : ℕ) (nodes : List Node) (n : ℕ) → IsLive shown nodes n → n < shown
+live-shown shown nodes n h = omega (arith, number-below (labels_of shown nodes) n h, length-take shown (map (λ x. x.label) nodes))
 
 module _ (table : LabelTable) (numbers : List (Option ℕ)) (count u : ℕ) (a : HaveLabelNumbers table numbers count)
     (live : is_some (option_and_then (λ l. l) (slice_get (texts_of table.texts numbers) u)) ≡ true) where
@@ -62,32 +67,42 @@ module _ (table : LabelTable) (numbers : List (Option ℕ)) (count u : ℕ) (a :
         node_count_is = omega (arith, a.node_count_is, count-less (texts_of table.texts numbers) u live, ap (count_by is_some) texts-less);
       }
 
-module _ (table : LabelTable) (old new : List Node) (u : ℕ) (live : IsTrue (is_live (graph_by table old) u))
-    (labels : labels_of new ≡ slice_set (labels_of old) u None)
+module _ (table : LabelTable) (shown : ℕ) (old new : List Node) (u : ℕ) (live : IsTrue (is_live (graph_by table shown old) u))
+    (labels : labels_of shown new ≡ slice_set (labels_of shown old) u None)
     (children : (w : ℕ) → children_of new w ≡ children_of old w) (parents : (w : ℕ) → parents_of new w ≡ parents_of old w) where
-  still-live : (w : ℕ) → w ≢ u → IsLive old w → IsLive new w
-  still-live w h l = ap is_some (ap (λ ls. number_at ls w) labels ∙ number-other (labels_of old) u w h) ∙ l
+  still-live : (w : ℕ) → w ≢ u → IsLive shown old w → IsLive shown new w
+  still-live w h l = ap is_some (ap (λ ls. number_at ls w) labels ∙ number-other (labels_of shown old) u w h) ∙ l
 
-  module _ (bare : IsBare (graph_by table old) u) where
-    pub sound-gone : (capacity edges count : ℕ) (r : Reserved) (more : ℕ) → IsSoundGraph table old capacity edges count r
-        → IsSoundGraph (record { texts = table.texts; ahead = None }) new more edges (count - 1) Nothing
-    sound-gone capacity edges count r more o = record {
-      lists = lists-as old new edges children parents (λ a b h.
+  live-before : (w : ℕ) (o : Option ℕ) → number_at (labels_of shown new) w ≡ o → IsSome o → IsLive shown old w
+  live-before w None e h = absurd (true≢false (sym h))
+  live-before w (Some l) e h = ap is_some (number-left (labels_of shown old) u w l (ap (λ ls. number_at ls w) (sym labels) ∙ e))
+
+  kept : (w : ℕ) → IsKept shown new w → IsKept shown old w
+  kept w k h = live-before w (number_at (labels_of shown new) w) refl (k h)
+
+  module _ (bare : IsBare (graph_by table shown old) u) (r : KeepsReserved old new) where
+    pub sound-gone : (edges count : ℕ) (numbers : List ℕ) (pairs : List (ℕ × ℕ)) → IsSoundGraph table shown old edges count numbers pairs → IsSoundGraph table shown new edges (count - 1) numbers pairs
+    sound-gone edges count numbers pairs o = record {
+      lists = lists-as shown shown old new edges children parents (λ a b h.
           let e = o.lists.ends a b h in
           let there = has_edge-children old a b ∙ h in
           record {
             from = still-live a (λ s. true≢false (sym (ap (λ k. has (children_of old k) b) (sym s) ∙ h) ∙ sym (has_edge-children old u b) ∙ bare.from b)) e.from;
             onto = still-live b (λ s. true≢false (sym (ap (has (children_of old a)) (sym s) ∙ h) ∙ sym (has_edge-children old a u) ∙ bare.onto a)) e.onto;
           }) o.lists;
-      labels = subst (λ ls. HaveLabelNumbers (record { texts = table.texts; ahead = None }) ls (count - 1)) (sym labels)
-          (labels-cleared table (slice_set (labels_of old) u None) (count - 1) (labels-less table (labels_of old) count u o.labels live));
-      reserved = refl;
+      labels = subst (λ ls. HaveLabelNumbers table ls (count - 1)) (sym labels) (labels-less table (labels_of shown old) count u o.labels live);
+      reserved = record {
+        next = o.reserved.next;
+        rows = omega (arith, o.reserved.rows, r.size);
+        children = λ w k. omega (arith, o.reserved.children w (kept w k), r.child w);
+        parents = λ w k. omega (arith, o.reserved.parents w (kept w k), r.parent w);
+      };
     }
 
   -- the graph has one node less
-  pub node-taken : graph_by (record { texts = table.texts; ahead = None }) new ≡ without_node (graph_by table old) u
+  pub node-taken : graph_by table shown new ≡ without_node (graph_by table shown old) u
   node-taken i = record {
-    allocated = (ap (texts_of table.texts) labels ∙ map-set (option_and_then (slice_get table.texts)) (labels_of old) u None) i;
+    allocated = (ap (texts_of table.texts) labels ∙ map-set (option_and_then (slice_get table.texts)) (labels_of shown old) u None) i;
     edges = edges-same old new children i;
     seen = table.texts;
   }

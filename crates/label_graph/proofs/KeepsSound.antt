@@ -1,34 +1,34 @@
 -- What keeps the lists of nodes sound.
-use Rattle.std.proofs.Common.{◌≡◌, ℕ, ◌+◌, ◌<◌, ◌≤◌, ◌^◌, Bool, true, false, cond, List, [], ◌∷◌, ◌++◌, length, Option, None, Some, refl, sym, ap, ◌∙◌, subst, arith, nat_eq, IsTrue, append-nil, rules, true≢false, ◌⊎◌, inl, inr}
+use Rattle.std.proofs.Common.{◌≡◌, ℕ, ◌+◌, ◌<◌, ◌≤◌, ◌^◌, Bool, true, false, cond, List, [], ◌∷◌, ◌++◌, length, Option, refl, sym, ap, ◌∙◌, subst, arith, nat_eq, IsTrue, append-nil, append_assoc, length-append, rules, true≢false, ◌⊎◌, inl, inr}
 use Rattle.std.specs.Prelude.{IsSome, bytes_eq, ◌&&◌, ◌||◌, if◌then◌else◌}
 use Rattle.std.specs.List.{IsDistinct}
 use Rattle.std.specs.Cmp.{IsEquivalence}
 use Rattle.std.specs.Cmp.Rules.{comparing}
 use Rattle.std.specs.FinSet as set
-use Rattle.std.proofs.lemmas.List.{length-map}
 use Rattle.std.proofs.lemmas.List.Folds.{list_any-append}
 use Rattle.std.proofs.lemmas.Map.Keys.{IsDistinct-push}
 use Rattle.std.proofs.lemmas.Bool.{eqb-true}
 use Rattle.graph_spec.specs.Graphs.{edge_cmp, is_seen}
 use Rattle.graph_spec.specs.Members.{has}
 use Rattle.graph_spec.proofs.EdgeOrder.{edge_cmp_total, edge_cmp-IsAntisymmetric}
-use Rattle.label_graph.specs.Nodes.{Node, labels_of, number_at, children_of, parents_of, edges_of, SameNodes, HasReserved, IsLive}
-use Rattle.label_graph.specs.declared.node.Reserved.{Reserved}
-use Rattle.label_graph.specs.declared.node.Reserved.TheVariants.{Nothing, Label, Pair}
-use Rattle.label_graph.specs.LabelTable.{LabelTable, entries, with_ahead}
-use Rattle.label_graph.specs.Soundness.{IsSoundGraph, AreSound, HaveLabelNumbers, EndsLive, IsNext, ReservedFits}
+use Rattle.label_graph.specs.Nodes.{Node, NodeTable, labels_of, number_at, children_of, parents_of, child_reserved, parent_reserved, edges_of, SameNodes, HasReserved, IsLive, IsKept}
+use Rattle.label_graph.specs.ReservedGraphs.{starting, ending}
+use Rattle.label_graph.specs.LabelTable.{LabelTable, entries, with_ahead, IsPlaced}
+use Rattle.label_graph.specs.Soundness.{IsSoundGraph, AreSound, HaveLabelNumbers, EndsLive, ReservedFits, AreNext}
 use Rattle.label_graph.proofs.EdgeLists.{has_edge-children, edges-pushed, mirrors-pushed, one}
 use Rattle.label_graph.proofs.SoundNodes.{texts-once}
-use Rattle.label_graph.proofs.Tables.{bytes_laws}
+use Rattle.label_graph.proofs.Tables.{distinct-more}
+use Rattle.label_graph.proofs.ReservedLabels.{next-entry, next-new}
+use Rattle.label_graph.proofs.ReservedPairs.{starting-more, ending-more}
 
 pub edges-same : (old new : List Node) → ((w : ℕ) → children_of new w ≡ children_of old w) → edges_of new ≡ edges_of old
 edges-same old new c = set.same_set edge_cmp_total edge_cmp-IsAntisymmetric (edges_of new) (edges_of old) (λ q.
     has_edge-children new q.0 q.1 ∙ ap (λ l. has l q.1) (c q.0) ∙ sym (has_edge-children old q.0 q.1))
 
 -- the lists stay, and edges lead from live nodes to live nodes
-pub lists-as : (old new : List Node) (edges : ℕ) → ((w : ℕ) → children_of new w ≡ children_of old w) → ((w : ℕ) → parents_of new w ≡ parents_of old w)
-    → ((u v : ℕ) → IsTrue (has (children_of old u) v) → EndsLive new u v) → AreSound old edges → AreSound new edges
-lists-as old new edges c p ends s = record {
+pub lists-as : (before shown : ℕ) (old new : List Node) (edges : ℕ) → ((w : ℕ) → children_of new w ≡ children_of old w) → ((w : ℕ) → parents_of new w ≡ parents_of old w)
+    → ((u v : ℕ) → IsTrue (has (children_of old u) v) → EndsLive shown new u v) → AreSound before old edges → AreSound shown new edges
+lists-as before shown old new edges c p ends s = record {
   mirrors = λ u v. ap (λ l. has l v) (c u) ∙ s.mirrors u v ∙ ap (λ l. has l u) (sym (p v));
   children_once = λ n. subst (IsDistinct nat_eq) (sym (c n)) (s.children_once n);
   parents_once = λ n. subst (IsDistinct nat_eq) (sym (p n)) (s.parents_once n);
@@ -38,29 +38,26 @@ lists-as old new edges c p ends s = record {
 }
 
 -- the lists stay, and live nodes stay live
-pub lists-kept : (old new : List Node) (edges : ℕ) → ((w : ℕ) → children_of new w ≡ children_of old w) → ((w : ℕ) → parents_of new w ≡ parents_of old w)
-    → ((w : ℕ) → IsLive old w → IsLive new w) → AreSound old edges → AreSound new edges
-lists-kept old new edges c p live s =
-    lists-as old new edges c p (λ u v h. let e = s.ends u v h in record { from = live u e.from; onto = live v e.onto }) s
+pub lists-kept : (before shown : ℕ) (old new : List Node) (edges : ℕ) → ((w : ℕ) → children_of new w ≡ children_of old w) → ((w : ℕ) → parents_of new w ≡ parents_of old w)
+    → ((w : ℕ) → IsLive before old w → IsLive shown new w) → AreSound before old edges → AreSound shown new edges
+lists-kept before shown old new edges c p live s =
+    lists-as before shown old new edges c p (λ u v h. let e = s.ends u v h in record { from = live u e.from; onto = live v e.onto }) s
 
-count-of : (nodes : List Node) → length (labels_of nodes) ≡ length nodes
-count-of nodes = length-map nodes (λ n. n.label)
+-- nodes that are kept are kept before
+kept-same : (shown : ℕ) (old new : List Node) → labels_of shown new ≡ labels_of shown old → (w : ℕ) → IsKept shown new w → IsKept shown old w
+kept-same shown old new e w k h = subst (λ ls. IsSome (number_at ls w)) e (k h)
 
-fits-same : (table : LabelTable) (old new : List Node) (capacity more : ℕ) (r : Reserved) → capacity ≤ more → SameNodes old new → ReservedFits table old capacity r → ReservedFits table new more r
-fits-same table old new capacity more Nothing h s f = f
-fits-same table old new capacity more (Label l) h s f = record {
-  next = f.next;
-  spare = omega (arith, f.spare, count-of old, count-of new, ap length s.labels);
-}
-fits-same table old new capacity more (Pair u v) h s f = record {
-  none_ahead = f.none_ahead;
-  from = subst (λ l. IsSome (number_at l u)) (sym s.labels) f.from;
-  onto = subst (λ l. IsSome (number_at l v)) (sym s.labels) f.onto;
-  reserved = record { child = omega (arith, f.reserved.child, s.child_reserves u f.from); parent = omega (arith, f.reserved.parent, s.parent_reserves v f.onto) };
+-- nothing is reserved
+pub fits-cleared : (table : LabelTable) (shown : ℕ) (nodes : List Node) → shown ≤ length nodes → ReservedFits (record { texts = table.texts; ahead = [] }) shown nodes [] []
+fits-cleared table shown nodes h = record {
+  next = ap length (sym (append-nil table.texts));
+  rows = omega (arith, h);
+  children = λ w k. omega arith;
+  parents = λ w k. omega arith;
 }
 
 -- nothing lies ahead of the labels
-pub labels-cleared : (table : LabelTable) (numbers : List (Option ℕ)) (count : ℕ) → HaveLabelNumbers table numbers count → HaveLabelNumbers (record { texts = table.texts; ahead = None }) numbers count
+pub labels-cleared : (table : LabelTable) (numbers : List (Option ℕ)) (count : ℕ) → HaveLabelNumbers table numbers count → HaveLabelNumbers (record { texts = table.texts; ahead = [] }) numbers count
 labels-cleared table numbers count a = record {
   few_nodes = a.few_nodes;
   few_labels = a.few_labels;
@@ -69,42 +66,89 @@ labels-cleared table numbers count a = record {
   node_count_is = a.node_count_is;
 }
 
-module _ (table : LabelTable) (edges count : ℕ) where
-  -- the same nodes, of which no live one has less reserved
-  pub sound-same : (old new : List Node) (capacity more : ℕ) (r : Reserved) → capacity ≤ more → SameNodes old new → IsSoundGraph table old capacity edges count r → IsSoundGraph table new more edges count r
-  sound-same old new capacity more r h s o = record {
-    lists = lists-kept old new edges s.children s.parents (λ w l. subst (λ ls. IsSome (number_at ls w)) (sym s.labels) l) o.lists;
-    labels = subst (λ ls. HaveLabelNumbers table ls count) (sym s.labels) o.labels;
-    reserved = fits-same table old new capacity more r h s o.reserved;
+module _ (table : LabelTable) (shown : ℕ) (nodes : List Node) (edges count : ℕ) (numbers : List ℕ) (pairs : List (ℕ × ℕ)) (o : IsSoundGraph table shown nodes edges count numbers pairs) where
+  pub sound-cleared : IsSoundGraph (record { texts = table.texts; ahead = [] }) shown nodes edges count [] []
+  sound-cleared = record {
+    lists = o.lists;
+    labels = labels-cleared table (labels_of shown nodes) count o.labels;
+    reserved = fits-cleared table shown nodes (omega (arith, o.reserved.rows));
   }
 
-  module _ (nodes : List Node) (capacity : ℕ) (r : Reserved) (o : IsSoundGraph table nodes capacity edges count r) where
-    -- an edge is what is reserved
-    pub sound-pair : (u v : ℕ) → IsLive nodes u → IsLive nodes v → HasReserved nodes u v → IsSoundGraph (record { texts = table.texts; ahead = None }) nodes capacity edges count (Pair u v)
-    sound-pair u v from onto reserved = record {
-      lists = o.lists;
-      labels = labels-cleared table (labels_of nodes) count o.labels;
-      reserved = record { none_ahead = refl; from = from; onto = onto; reserved = reserved };
+  -- the same nodes, of which none that isn't gone has less reserved
+  module _ (new : List Node) (s : SameNodes shown nodes new) where
+    lists-same : AreSound shown new edges
+    lists-same = lists-kept shown shown nodes new edges s.children s.parents (λ w l. subst (λ ls. IsSome (number_at ls w)) (sym s.labels) l) o.lists
+
+    labels-same : HaveLabelNumbers table (labels_of shown new) count
+    labels-same = subst (λ ls. HaveLabelNumbers table ls count) (sym s.labels) o.labels
+
+    children-same : (w : ℕ) → IsKept shown new w → starting w pairs ≤ child_reserved new w
+    children-same w k = let h = kept-same shown nodes new s.labels w k in omega (arith, o.reserved.children w h, s.child_reserves w h)
+
+    parents-same : (w : ℕ) → IsKept shown new w → ending w pairs ≤ parent_reserved new w
+    parents-same w k = let h = kept-same shown nodes new s.labels w k in omega (arith, o.reserved.parents w h, s.parent_reserves w h)
+
+    pub sound-same : IsSoundGraph table shown new edges count numbers pairs
+    sound-same = record {
+      lists = lists-same;
+      labels = labels-same;
+      reserved = record { next = o.reserved.next; rows = omega (arith, o.reserved.rows, s.size); children = children-same; parents = parents-same };
     }
 
-    ahead-once : (t : List ℕ) (b : Bool) → is_seen table.texts t ≡ b → IsDistinct bytes_eq (entries (record { texts = table.texts; ahead = if b then None else Some t }))
-    ahead-once t true e = subst (IsDistinct bytes_eq) (sym (append-nil table.texts)) (texts-once table o.labels.once)
-    ahead-once t false e = IsDistinct-push bytes_laws table.texts t (texts-once table o.labels.once) e
+    -- one more edge is reserved
+    module _ (u v n m : ℕ) (r : HasReserved new u v (n + 1) (m + 1)) (from : n ≡ starting u pairs) (onto : m ≡ ending v pairs) where
+      children-more : (w : ℕ) → IsKept shown new w → starting w (pairs ++ (u, v) ∷ []) ≤ child_reserved new w
+      children-more w k =
+          subst (λ x. x ≤ child_reserved new w) (sym (starting-more pairs u v w)) (elim (nat_eq u w) as (λ b. nat_eq u w ≡ b → starting w pairs + (if b then 1 else 0) ≤ child_reserved new w) [
+            | true ↦ λ q. let e = eqb-true u w q in omega (arith, from, r.child, ap (λ x. starting x pairs) e, ap (child_reserved new) e)
+            | false ↦ λ q. omega (arith, children-same w k)
+          ] refl)
 
-    -- a label is what is reserved
-    pub sound-label : (t : List ℕ) (more l : ℕ) → length nodes < more → IsNext (with_ahead table t).ahead (length table.texts) l
-        → IsSoundGraph (with_ahead table t) nodes more edges count (Label l)
-    sound-label t more l h n = record {
-      lists = o.lists;
-      labels = record {
-        few_nodes = o.labels.few_nodes;
-        few_labels = o.labels.few_labels;
-        once = ahead-once t (is_seen table.texts t) refl;
-        below = o.labels.below;
-        node_count_is = o.labels.node_count_is;
-      };
-      reserved = record { next = n; spare = h };
-    }
+      parents-more : (w : ℕ) → IsKept shown new w → ending w (pairs ++ (u, v) ∷ []) ≤ parent_reserved new w
+      parents-more w k =
+          subst (λ x. x ≤ parent_reserved new w) (sym (ending-more pairs u v w)) (elim (nat_eq v w) as (λ b. nat_eq v w ≡ b → ending w pairs + (if b then 1 else 0) ≤ parent_reserved new w) [
+            | true ↦ λ q. let e = eqb-true v w q in omega (arith, onto, r.parent, ap (λ x. ending x pairs) e, ap (parent_reserved new) e)
+            | false ↦ λ q. omega (arith, parents-same w k)
+          ] refl)
+
+      pub sound-pair : IsSoundGraph table shown new edges count numbers (pairs ++ (u, v) ∷ [])
+      sound-pair = record {
+        lists = lists-same;
+        labels = labels-same;
+        reserved = record { next = o.reserved.next; rows = omega (arith, o.reserved.rows, s.size); children = children-more; parents = parents-more };
+      }
+
+    -- one more label is reserved
+    module _ (t : List ℕ) (l : ℕ) (spare : shown + length numbers < length new) where
+      ahead-once : (b : Bool) → is_seen (entries table) t ≡ b → IsDistinct bytes_eq (entries (record { texts = table.texts; ahead = if b then table.ahead else table.ahead ++ t ∷ [] }))
+      ahead-once true e = o.labels.once
+      ahead-once false e = subst (IsDistinct bytes_eq) (append_assoc table.texts table.ahead (t ∷ [])) (distinct-more (entries table) t o.labels.once e)
+
+      next-ahead : (b : Bool) → IsPlaced b (length (entries table)) l
+          → AreNext (length table.texts) (length (table.texts ++ (if b then table.ahead else table.ahead ++ t ∷ []))) (numbers ++ l ∷ [])
+      next-ahead true p = next-entry (length table.texts) (length (entries table)) l numbers o.reserved.next p
+      next-ahead false p =
+          subst (λ n. AreNext (length table.texts) n (numbers ++ l ∷ []))
+          (omega (arith, length-append table.texts table.ahead, length-append table.ahead (t ∷ []), length-append table.texts (table.ahead ++ t ∷ [])))
+          (next-new (length table.texts) (length (entries table)) l numbers o.reserved.next p)
+
+      pub sound-label : IsPlaced (is_seen (entries table) t) (length (entries table)) l → IsSoundGraph (with_ahead table t) shown new edges count (numbers ++ l ∷ []) pairs
+      sound-label p = record {
+        lists = lists-same;
+        labels = record {
+          few_nodes = labels-same.few_nodes;
+          few_labels = labels-same.few_labels;
+          once = ahead-once (is_seen (entries table) t) refl;
+          below = labels-same.below;
+          node_count_is = labels-same.node_count_is;
+        };
+        reserved = record {
+          next = next-ahead (is_seen (entries table) t) p;
+          rows = omega (arith, spare, length-append numbers (l ∷ []));
+          children = children-same;
+          parents = parents-same;
+        };
+      }
 
 nat_laws : IsEquivalence nat_eq
 nat_laws = search (comparing, rules)
@@ -121,11 +165,11 @@ either false true false h = absurd (true≢false (sym h))
 either false false c h = absurd (true≢false (sym h))
 
 -- an edge is written into both lists
-module _ (old new : List Node) (edges u v : ℕ) (s : AreSound old edges) (absent : has (children_of old u) v ≡ false) (few : edges < 2 ^ 30)
-    (from : IsLive old u) (onto : IsLive old v) (labels : labels_of new ≡ labels_of old)
+module _ (shown : ℕ) (old new : List Node) (edges u v : ℕ) (s : AreSound shown old edges) (absent : has (children_of old u) v ≡ false) (few : edges < 2 ^ 30)
+    (from : IsLive shown old u) (onto : IsLive shown old v) (labels : labels_of shown new ≡ labels_of shown old)
     (children : (w : ℕ) → children_of new w ≡ children_of old w ++ (if nat_eq w u then v ∷ [] else []))
     (parents : (w : ℕ) → parents_of new w ≡ parents_of old w ++ (if nat_eq w v then u ∷ [] else [])) where
-  live : (w : ℕ) → IsLive old w → IsLive new w
+  live : (w : ℕ) → IsLive shown old w → IsLive shown new w
   live w l = subst (λ ls. IsSome (number_at ls w)) (sym labels) l
 
   child-or : (a b : ℕ) → has (children_of new a) b ≡ (has (children_of old a) b || (nat_eq a u && nat_eq b v))
@@ -133,17 +177,17 @@ module _ (old new : List Node) (edges u v : ℕ) (s : AreSound old edges) (absen
       ap (λ l. has l b) (children a) ∙ list_any-append (nat_eq b) (children_of old a) (if nat_eq a u then v ∷ [] else [])
       ∙ ap (λ x. has (children_of old a) b || x) (one (nat_eq a u) b v)
 
-  ends-after : (a b : ℕ) → IsTrue (has (children_of new a) b) → EndsLive new a b
+  ends-after : (a b : ℕ) → IsTrue (has (children_of new a) b) → EndsLive shown new a b
   ends-after a b h =
       elim (either (has (children_of old a) b) (nat_eq a u) (nat_eq b v) (sym (child-or a b) ∙ h)) [
         | inl k ↦ let e = s.ends a b k in record { from = live a e.from; onto = live b e.onto }
         | inr k ↦ record {
-          from = live a (subst (IsLive old) (sym (eqb-true a u k.0)) from);
-          onto = live b (subst (IsLive old) (sym (eqb-true b v k.1)) onto);
+          from = live a (subst (IsLive shown old) (sym (eqb-true a u k.0)) from);
+          onto = live b (subst (IsLive shown old) (sym (eqb-true b v k.1)) onto);
         }
       ]
 
-  pub lists-pushed : AreSound new (edges + 1)
+  pub lists-pushed : AreSound shown new (edges + 1)
   lists-pushed = record {
     mirrors = mirrors-pushed old new u v s.mirrors children parents;
     children_once = λ n. subst (IsDistinct nat_eq) (sym (children n)) (once-more (nat_eq n u) (children_of old n) v (s.children_once n)
@@ -158,9 +202,9 @@ module _ (old new : List Node) (edges u v : ℕ) (s : AreSound old edges) (absen
     few_edges = omega arith;
   }
 
-empty : (capacity : ℕ) → IsSoundGraph (record { texts = []; ahead = None }) [] capacity 0 0 Nothing
+empty : IsSoundGraph (record { texts = []; ahead = [] }) 0 [] 0 0 [] []
 unfolding IsDistinct
-empty capacity = record {
+empty = record {
   lists = record {
     mirrors = λ u v. refl;
     children_once = λ n. tt;
@@ -176,9 +220,13 @@ empty capacity = record {
     below = λ n l e. cc;
     node_count_is = refl;
   };
-  reserved = refl;
+  reserved = fits-cleared (record { texts = []; ahead = [] }) 0 [] (omega arith);
 }
 
-pub sound-empty : (table : LabelTable) (nodes : List Node) (capacity : ℕ) → table ≡ record { texts = []; ahead = None } → nodes ≡ [] → IsSoundGraph table nodes capacity 0 0 Nothing
-sound-empty table nodes capacity t n =
-    subst (λ x. IsSoundGraph x nodes capacity 0 0 Nothing) (sym t) (subst (λ x. IsSoundGraph (record { texts = []; ahead = None }) x capacity 0 0 Nothing) (sym n) (empty capacity))
+pub sound-empty : (table : LabelTable) (nodes : NodeTable) (numbers : List ℕ) (pairs : List (ℕ × ℕ)) → table ≡ record { texts = []; ahead = [] } → nodes ≡ record { nodes = []; shown = 0 } → numbers ≡ [] → pairs ≡ []
+    → IsSoundGraph table nodes.shown nodes.nodes 0 0 numbers pairs
+sound-empty table nodes numbers pairs t n l p =
+    subst (λ x. IsSoundGraph x nodes.shown nodes.nodes 0 0 numbers pairs) (sym t)
+    (subst (λ x. IsSoundGraph (record { texts = []; ahead = [] }) x.shown x.nodes 0 0 numbers pairs) (sym n)
+    (subst (λ x. IsSoundGraph (record { texts = []; ahead = [] }) 0 [] 0 0 x pairs) (sym l)
+    (subst (λ x. IsSoundGraph (record { texts = []; ahead = [] }) 0 [] 0 0 [] x) (sym p) empty)))

@@ -1,6 +1,8 @@
 pub mod Positions
 pub mod SearchedPieces
 pub mod Tables
+pub mod ReservedLabels
+pub mod ReservedPairs
 pub mod EdgeLists
 pub mod Exchanged
 pub mod ListWithout
@@ -9,6 +11,7 @@ pub mod GetNodes
 pub mod NodeReserves
 pub mod SegmentLemmas
 pub mod RowLemmas
+pub mod RowLabels
 pub mod RowEdges
 pub mod Removals
 pub mod Reuses

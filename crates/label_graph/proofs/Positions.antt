@@ -1,8 +1,9 @@
 -- The first place that passes, and the text there.
-use Rattle.std.proofs.Common.{◌≡◌, ℕ, zero, suc, ◌+◌, ◌<◌, ◌≤◌, min, Bool, true, false, cond, List, [], ◌∷◌, length, take, None, Some, refl, ap, sym, ◌∙◌, arith, length-take, nat_lt, not, get_or}
+use Rattle.std.proofs.Common.{◌≡◌, ℕ, zero, suc, ◌+◌, ◌<◌, ◌≤◌, min, Bool, true, false, cond, List, [], ◌∷◌, length, take, None, Some, refl, ap, sym, ◌∙◌, arith, length-take, nat_lt, nat_eq, not, get_or}
 use Rattle.std.specs.Prelude.{position, bytes_eq, slice_get, ◌||◌}
 use Rattle.std.specs.List.{prefix_len, position_or_len, list_any, IsDistinct}
 use Rattle.std.proofs.lemmas.Bool.Decides.{nat_tests}
+use Rattle.std.proofs.lemmas.Cmp.{nat_eq_equiv}
 use Rattle.std.proofs.lemmas.List.Folds.{list_any_at}
 use Rattle.std.proofs.lemmas.List.Quantifiers.{position-Some}
 use Rattle.std.proofs.lemmas.List.Sums.{position_or_len_is}
@@ -75,4 +76,14 @@ position-at texts i t d e =
     let at = position_or_len_is (bytes_eq t) texts i t (omega arith)
     (λ k h. bytes_laws.symm t (get_or texts k t) ∙ ap (bytes_eq (get_or texts k t)) (sym s) ∙ apart_from_distinct bytes_eq texts k i t d h w)
     (λ h. ap (bytes_eq t) s ∙ bytes_laws.refl t) in
+    is_found _ _ i (omega (arith, at, w)) at
+
+-- and so is a number in a list of distinct numbers
+pub number-position : (xs : List ℕ) (i n : ℕ) → IsDistinct nat_eq xs → slice_get xs i ≡ Some n → position (nat_eq n) xs ≡ Some i
+number-position xs i n d e =
+    let w = slice_get_within xs i n e in
+    let s = get_or_from_slice_get xs i n n e in
+    let at = position_or_len_is (nat_eq n) xs i n (omega arith)
+    (λ k h. nat_eq_equiv.symm n (get_or xs k n) ∙ ap (nat_eq (get_or xs k n)) (sym s) ∙ apart_from_distinct nat_eq xs k i n d h w)
+    (λ h. ap (nat_eq n) s ∙ nat_eq_equiv.refl n) in
     is_found _ _ i (omega (arith, at, w)) at

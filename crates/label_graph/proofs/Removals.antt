@@ -1,5 +1,5 @@
 -- Nodes from which an edge is taken, and then what the graph lacks.
-use Rattle.std.proofs.Common.{◌≡◌, ℕ, ◌<◌, List, length, sym, ap, ◌∙◌, subst, arith, get_or, set, length-set, nat_eq}
+use Rattle.std.proofs.Common.{◌≡◌, ℕ, ◌<◌, List, length, sym, ap, ◌∙◌, subst, arith, get_or, set, length-set, nat_eq, take}
 use Rattle.std.specs.List.{IsDistinct}
 use Rattle.label_graph.specs.Nodes.{Node, children_of, parents_of, IsWithout, LacksEdge}
 use Rattle.label_graph.proofs.SetNodes.{children-at, parents-at, children-set_same, parents-set_same, children-set_other, parents-set_other, children-set_kept, parents-set_kept}
@@ -34,10 +34,10 @@ module _ (nodes : List Node) (u v : ℕ) (first second a b : Node) (from : u < l
       children-both : (w : ℕ) → children_of (set (set nodes u first) v second) w ≡ children_of (set nodes u first) w
       children-both = children-set_kept (set nodes u first) v second within (children_kept ∙ ap (λ n. n.children.items) is_b ∙ sym (children-at (set nodes u first) v b within))
 
-      pub lacks-edge : first.label ≡ a.label → second.label ≡ b.label → IsWithout a.children.items first.children.items v → IsWithout b.parents.items second.parents.items u
-          → LacksEdge nodes (set (set nodes u first) v second) u v
-      lacks-edge label_kept label_kept_too child parent = record {
-        labels = labels-both nodes u v first second a b from to is_a is_b label_kept label_kept_too;
+      pub lacks-edge : (shown : ℕ) → first.label ≡ a.label → second.label ≡ b.label → IsWithout a.children.items first.children.items v → IsWithout b.parents.items second.parents.items u
+          → LacksEdge shown nodes (set (set nodes u first) v second) u v
+      lacks-edge shown label_kept label_kept_too child parent = record {
+        labels = ap (take shown) (labels-both nodes u v first second a b from to is_a is_b label_kept label_kept_too);
         child = without-by a.children.items first.children.items _ _ v (children-first nodes u a from is_a) (children-both u ∙ children-set_same nodes u first from) child;
         other_children = λ w h. children-both w ∙ children-set_other nodes u first w h;
         parent = without-by b.parents.items second.parents.items _ _ u parents-second (parents-set_same (set nodes u first) v second within) parent;

@@ -1,14 +1,14 @@
 -- Rows of which two exchange the room of a list, or the room of an empty list is written.
-use Rattle.std.proofs.Common.{◌≡◌, ◌≢◌, false, ℕ, zero, suc, ◌-◌, ◌<◌, ◌≤◌, List, [], ◌∷◌, Option, None, Some, length, map, refl, sym, ap, ◌∙◌, subst, arith, get_or, set, length-set, ◌⊎◌, inl, inr, true≢false}
+use Rattle.std.proofs.Common.{◌≡◌, ◌≢◌, false, ℕ, zero, suc, ◌-◌, ◌<◌, ◌≤◌, List, [], ◌∷◌, Option, None, Some, length, take, refl, sym, ap, ◌∙◌, subst, arith, get_or, set, length-set, ◌⊎◌, inl, inr, true≢false}
 use Rattle.std.specs.Prelude.{slice_get, is_some}
 use Rattle.std.proofs.lemmas.List.{get_or-set_same, get_or-set_other, length-map}
 use Rattle.std.proofs.lemmas.Option.{get_or_from_slice_get}
 use Rattle.label_graph.specs.declared.segment.Segment.{Segment}
 use Rattle.label_graph.specs.declared.node.Row.{Row}
-use Rattle.label_graph.specs.Nodes.{labels_of, number_at, IsLive, IsGoneBeside, children_of, parents_of, child_reserved, parent_reserved, SameNodes}
+use Rattle.label_graph.specs.Nodes.{labels_of, number_at, IsKept, IsGoneBeside, children_of, parents_of, child_reserved, parent_reserved, SameNodes}
 use Rattle.label_graph.specs.Segments.{items_in, LiesWithin, IsApart, Writes, Exchanges}
-use Rattle.label_graph.specs.NodeRows.{segments_of, AreHeld, node_in, nodes_in}
-use Rattle.label_graph.proofs.RowLemmas.{twice, twice-is, turned, children-list, parents-list}
+use Rattle.label_graph.specs.NodeRows.{segments_of, AreHeld, AreRows, row_labels, node_in, nodes_in}
+use Rattle.label_graph.proofs.RowLemmas.{twice, twice-is, turned, children-list, parents-list, labels-by, set-label, rows-written}
 
 -- a list by its number
 abbrev nowhere : Segment
@@ -41,13 +41,6 @@ parent_reserved-by cells [] w = refl
 parent_reserved-by cells (r ∷ rs) zero = refl
 parent_reserved-by cells (r ∷ rs) (suc w) = parent_reserved-by cells rs w
 
-abbrev row_labels : List Row → List (Option ℕ)
-row_labels = map (λ r. r.label)
-
-labels-by : (cells : List ℕ) (rows : List Row) → labels_of (nodes_in cells rows) ≡ row_labels rows
-labels-by cells [] = refl
-labels-by cells (r ∷ rs) = ap (λ l. r.label ∷ l) (labels-by cells rs)
-
 -- a list of a node is written
 pub set-children : (rows : List Row) (n : ℕ) (r : Row) (t : Segment) → r ≡ get_or rows n r → segments_of (set rows n (record r { children = t })) ≡ set (segments_of rows) (twice n) t
 set-children [] n r t is = refl
@@ -58,11 +51,6 @@ pub set-parents : (rows : List Row) (n : ℕ) (r : Row) (t : Segment) → r ≡ 
 set-parents [] n r t is = refl
 set-parents (y ∷ ys) zero r t is = ap (λ x. x.children ∷ t ∷ segments_of ys) is
 set-parents (y ∷ ys) (suc n) r t is = ap (λ l. y.children ∷ y.parents ∷ l) (set-parents ys n r t is)
-
-set-label : (rows : List Row) (n : ℕ) (r y : Row) → r ≡ get_or rows n r → y.label ≡ r.label → row_labels (set rows n y) ≡ row_labels rows
-set-label [] n r y is e = refl
-set-label (x ∷ xs) zero r y is e = ap (λ l. l ∷ row_labels xs) (e ∙ ap (λ z. z.label) is)
-set-label (x ∷ xs) (suc n) r y is e = ap (λ l. x.label ∷ l) (set-label xs n r y is e)
 
 list-count : (rows : List Row) → length (segments_of rows) ≡ twice (length rows)
 list-count [] = refl
@@ -158,9 +146,11 @@ module _ (cells more : List ℕ) (rows new : List Row) (k l : ℕ) (t q : Segmen
   room-kept = each (λ i u. i ≢ l → room_of cells (list_at rows i) ≤ room_of more u)
       (λ _. omega (arith, e.more, ap length e.list_items)) (λ ne. absurd (ne refl)) (λ i a b _. omega (arith, ap length (other-items i a b)))
 
-  pub same-exchanged : row_labels new ≡ row_labels rows → ((w : ℕ) → IsLive (nodes_in cells rows) w → (twice w ≢ l) × (suc (twice w) ≢ l)) → SameNodes (nodes_in cells rows) (nodes_in more new)
-  same-exchanged labels gone = record {
-    labels = labels-by more new ∙ labels ∙ sym (labels-by cells rows);
+  pub same-exchanged : (shown : ℕ) → length new ≡ length rows → row_labels new ≡ row_labels rows → ((w : ℕ) → IsKept shown (nodes_in cells rows) w → (twice w ≢ l) × (suc (twice w) ≢ l))
+      → SameNodes shown (nodes_in cells rows) (nodes_in more new)
+  same-exchanged shown size labels gone = record {
+    size = omega (arith, size, length-map rows (node_in cells), length-map new (node_in more));
+    labels = ap (take shown) (labels-by more new ∙ labels ∙ sym (labels-by cells rows));
     children = λ w. children-by more new w ∙ items-same (twice w) ∙ sym (children-by cells rows w);
     parents = λ w. parents-by more new w ∙ items-same (suc (twice w)) ∙ sym (parents-by cells rows w);
     child_reserves = λ w live. omega (arith, room-kept (twice w) (gone w live).0, child_reserved-by cells rows w, child_reserved-by more new w);
@@ -202,12 +192,16 @@ module _ (cells more : List ℕ) (rows : List Row) (k : ℕ) (s : Segment) (is :
 
 -- a node that has no place left, and a gone one
 module _ (cells : List ℕ) (rows : List Row) (u g : ℕ) (a b : Row) (below : u < length rows) (is_a : a ≡ get_or rows u a) (is_b : b ≡ get_or rows g b)
-    (gone : IsGoneBeside (nodes_in cells rows) u g) (h : AreHeld cells rows) where
-  given : g < length rows
-  given = omega (arith, gone.given, length-map rows (node_in cells))
+    {shown : ℕ} (gone : IsGoneBeside shown (nodes_in cells rows) u g) (o : AreRows cells rows shown) where
+  h : AreHeld cells rows
+  h = o.held
 
-  not-gone : (w : ℕ) → IsLive (nodes_in cells rows) w → w ≢ g
-  not-gone w live e = absurd (true≢false (sym live ∙ ap (λ n. is_some (number_at (labels_of (nodes_in cells rows)) n)) e ∙ ap is_some gone.gone))
+  given : g < length rows
+  given = omega (arith, gone.given, o.within)
+
+  not-gone : (w : ℕ) → IsKept shown (nodes_in cells rows) w → w ≢ g
+  not-gone w kept e =
+      absurd (true≢false (sym (kept (omega (arith, e, gone.given))) ∙ ap (λ n. is_some (number_at (labels_of shown (nodes_in cells rows)) n)) e ∙ ap is_some gone.gone))
 
   even-apart : twice u ≢ twice g
   even-apart e = gone.other (omega (arith, e, twice-is u, twice-is g))
@@ -257,12 +251,18 @@ module _ (cells : List ℕ) (rows : List Row) (u g : ℕ) (a b : Row) (below : u
           subst (λ s. Exchanges cells more s (list_at rows (twice g)) t q) (sym (at-child rows u a below is_a))
           (subst (λ s. Exchanges cells more a.children s t q) (sym (at-child rows g b given is_b)) e)
 
-      pub held-children : AreHeld more new_children
-      held-children = held-exchanged cells more rows new_children (twice u) (twice g) t q even-apart (even-below u below) (even-below g given) children-are children-exchange h
+      labels-children : row_labels new_children ≡ row_labels rows
+      labels-children = set-label (set rows u (record x { children = t })) g y (record y { children = q }) is_y refl ∙ set-label rows u x (record x { children = t }) is_x refl
 
-      pub same-children : SameNodes (nodes_in cells rows) (nodes_in more new_children)
+      size-children : length new_children ≡ length rows
+      size-children = length-set (set rows u (record x { children = t })) g (record y { children = q }) ∙ length-set rows u (record x { children = t })
+
+      pub held-children : AreRows more new_children shown
+      held-children = rows-written cells more rows new_children shown o size-children labels-children (held-exchanged cells more rows new_children (twice u) (twice g) t q even-apart (even-below u below) (even-below g given) children-are children-exchange h)
+
+      pub same-children : SameNodes shown (nodes_in cells rows) (nodes_in more new_children)
       same-children = same-exchanged cells more rows new_children (twice u) (twice g) t q even-apart (even-below u below) (even-below g given) children-are children-exchange h
-          (set-label (set rows u (record x { children = t })) g y (record y { children = q }) is_y refl ∙ set-label rows u x (record x { children = t }) is_x refl)
+          shown size-children labels-children
           (λ w live. ((λ f. not-gone w live (omega (arith, f, twice-is w, twice-is g))), (λ f. absurd (omega (arith, f, twice-is w, twice-is g)))))
 
     module _ (is_y : y ≡ get_or (set rows u (record x { parents = t })) g y) (e : Exchanges cells more a.parents b.parents t q) where
@@ -277,12 +277,18 @@ module _ (cells : List ℕ) (rows : List Row) (u g : ℕ) (a b : Row) (below : u
           subst (λ s. Exchanges cells more s (list_at rows (suc (twice g))) t q) (sym (at-parent rows u a below is_a))
           (subst (λ s. Exchanges cells more a.parents s t q) (sym (at-parent rows g b given is_b)) e)
 
-      pub held-parents : AreHeld more new_parents
-      held-parents = held-exchanged cells more rows new_parents (suc (twice u)) (suc (twice g)) t q odd-apart (odd-below u below) (odd-below g given) parents-are parents-exchange h
+      labels-parents : row_labels new_parents ≡ row_labels rows
+      labels-parents = set-label (set rows u (record x { parents = t })) g y (record y { parents = q }) is_y refl ∙ set-label rows u x (record x { parents = t }) is_x refl
 
-      pub same-parents : SameNodes (nodes_in cells rows) (nodes_in more new_parents)
+      size-parents : length new_parents ≡ length rows
+      size-parents = length-set (set rows u (record x { parents = t })) g (record y { parents = q }) ∙ length-set rows u (record x { parents = t })
+
+      pub held-parents : AreRows more new_parents shown
+      held-parents = rows-written cells more rows new_parents shown o size-parents labels-parents (held-exchanged cells more rows new_parents (suc (twice u)) (suc (twice g)) t q odd-apart (odd-below u below) (odd-below g given) parents-are parents-exchange h)
+
+      pub same-parents : SameNodes shown (nodes_in cells rows) (nodes_in more new_parents)
       same-parents = same-exchanged cells more rows new_parents (suc (twice u)) (suc (twice g)) t q odd-apart (odd-below u below) (odd-below g given) parents-are parents-exchange h
-          (set-label (set rows u (record x { parents = t })) g y (record y { parents = q }) is_y refl ∙ set-label rows u x (record x { parents = t }) is_x refl)
+          shown size-parents labels-parents
           (λ w live. ((λ f. absurd (omega (arith, f, twice-is w, twice-is g))), (λ f. not-gone w live (omega (arith, f, twice-is w, twice-is g)))))
 
 pub no-number : (o : Option ℕ) → is_some o ≡ false → o ≡ None

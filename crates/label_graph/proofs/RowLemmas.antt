@@ -1,5 +1,5 @@
 -- Rows of which one gets another list, whose cells are written.
-use Rattle.std.proofs.Common.{◌≡◌, ◌≢◌, ℕ, zero, suc, ◌*◌, ◌<◌, List, [], ◌∷◌, ◌++◌, Option, Some, length, map, refl, sym, ap, ◌∙◌, subst, arith, get_or, set, ◌⊎◌, inl, inr}
+use Rattle.std.proofs.Common.{◌≡◌, ◌≢◌, ℕ, zero, suc, ◌*◌, ◌<◌, ◌≤◌, List, [], ◌∷◌, ◌++◌, Option, None, Some, length, take, map, refl, sym, ap, ◌∙◌, subst, arith, get_or, set, ◌⊎◌, inl, inr}
 use Rattle.std.specs.Prelude.{slice_get, option_and_then}
 use Rattle.std.proofs.lemmas.List.{get_or-map, map-set, length-map}
 use Rattle.std.proofs.lemmas.Option.{slice_get-get_or}
@@ -7,7 +7,7 @@ use Rattle.label_graph.specs.declared.segment.Segment.{Segment}
 use Rattle.label_graph.specs.declared.node.Row.{Row}
 use Rattle.label_graph.specs.Nodes.{Node, labels_of, number_at, children_of, parents_of}
 use Rattle.label_graph.specs.Segments.{items_in, LiesWithin, IsApart, Writes}
-use Rattle.label_graph.specs.NodeRows.{segments_of, AreHeld, list_in, node_in, nodes_in}
+use Rattle.label_graph.specs.NodeRows.{segments_of, AreHeld, AreRows, row_labels, list_in, node_in, nodes_in}
 use Rattle.label_graph.proofs.SetNodes.{children-at, parents-at}
 
 abbrev pub twice : ℕ → ℕ
@@ -175,10 +175,10 @@ module _ (cells : List ℕ) (rows : List Row) (n : ℕ) (r : Row) (below : n < l
   pub parents-seen : items_in cells r.parents ≡ parents_of (nodes_in cells rows) n
   parents-seen = ap (λ x. x.parents.items) row-seen ∙ sym (parents-at (nodes_in cells rows) n (node_in cells r) below-seen)
 
-  pub label-seen : r.label ≡ number_at (labels_of (nodes_in cells rows)) n
+  pub label-seen : r.label ≡ number_at (map (λ x. x.label) (nodes_in cells rows)) n
   label-seen =
       ap (λ x. x.label) row-seen
-      ∙ sym (ap (option_and_then (λ l. l)) (slice_get-get_or (labels_of (nodes_in cells rows)) n r.label (omega (arith, below-seen, length-map (nodes_in cells rows) (λ x. x.label))))
+      ∙ sym (ap (option_and_then (λ l. l)) (slice_get-get_or (map (λ x. x.label) (nodes_in cells rows)) n r.label (omega (arith, below-seen, length-map (nodes_in cells rows) (λ x. x.label))))
       ∙ get_or-map (λ x. x.label) (nodes_in cells rows) n (node_in cells r) r.label below-seen)
 
 -- a row whose label alone is written has its lists
@@ -226,3 +226,33 @@ module _ (cells : List ℕ) (rows : List Row) (r : Row) (children : IsNowhere r.
     within = λ i s e. within-push i s (segments-push rows r i s children parents e);
     apart = λ i j s t ne e f. apart-push i j s t ne (segments-push rows r i s children parents e) (segments-push rows r j t children parents f);
   }
+
+-- labels by their rows
+pub labels-by : (cells : List ℕ) (rows : List Row) → map (λ x. x.label) (nodes_in cells rows) ≡ row_labels rows
+labels-by cells [] = refl
+labels-by cells (r ∷ rs) = ap (λ l. r.label ∷ l) (labels-by cells rs)
+
+pub set-label : (rows : List Row) (n : ℕ) (r y : Row) → r ≡ get_or rows n r → y.label ≡ r.label → row_labels (set rows n y) ≡ row_labels rows
+set-label [] n r y is e = refl
+set-label (x ∷ xs) zero r y is e = ap (λ l. l ∷ row_labels xs) (e ∙ ap (λ z. z.label) is)
+set-label (x ∷ xs) (suc n) r y is e = ap (λ l. x.label ∷ l) (set-label xs n r y is e)
+
+-- rows of which lists alone are written
+pub rows-written : (cells more : List ℕ) (rows new : List Row) (shown : ℕ) → AreRows cells rows shown → length new ≡ length rows → row_labels new ≡ row_labels rows → AreHeld more new → AreRows more new shown
+rows-written cells more rows new shown a size labels held = record {
+  held = held;
+  within = omega (arith, a.within, size);
+  spare = λ n h. ap (λ l. number_at l n) labels ∙ a.spare n h;
+}
+
+-- a node is live by the rows that are shown
+number-shown : (ls : List (Option ℕ)) (shown n : ℕ) → ((m : ℕ) → shown ≤ m → number_at ls m ≡ None) → number_at (take shown ls) n ≡ number_at ls n
+number-shown [] zero n h = refl
+number-shown [] (suc shown) n h = refl
+number-shown (x ∷ xs) zero n h = sym (h n (omega arith))
+number-shown (x ∷ xs) (suc shown) zero h = refl
+number-shown (x ∷ xs) (suc shown) (suc n) h = number-shown xs shown n (λ m l. h (suc m) (omega (arith, l)))
+
+pub label-shown : (cells : List ℕ) (rows : List Row) (shown n : ℕ) → AreRows cells rows shown → number_at (labels_of shown (nodes_in cells rows)) n ≡ number_at (map (λ x. x.label) (nodes_in cells rows)) n
+label-shown cells rows shown n a =
+    number-shown (map (λ x. x.label) (nodes_in cells rows)) shown n (λ m h. ap (λ l. number_at l m) (labels-by cells rows) ∙ a.spare m h)

@@ -1,8 +1,8 @@
 -- The rows of the nodes, and their lists among the cells.
-use Rattle.std.specs.Prelude.{◌≡◌, ◌≢◌, ℕ, List, [], ◌∷◌, Some, length, map, slice_get}
+use Rattle.std.specs.Prelude.{◌≡◌, ◌≢◌, ◌≤◌, ℕ, List, [], ◌∷◌, Option, None, Some, length, map, slice_get}
 use Rattle.label_graph.specs.declared.segment.Segment.{Segment}
 use Rattle.label_graph.specs.declared.node.Row.{Row}
-use Rattle.label_graph.specs.Nodes.{Node, NeighbourList}
+use Rattle.label_graph.specs.Nodes.{Node, NeighbourList, number_at}
 use Rattle.label_graph.specs.Segments.{items_in, LiesWithin, IsApart}
 
 -- all lists, each node's children and then its parents
@@ -13,7 +13,18 @@ segments_of (r ∷ rs) = r.children ∷ r.parents ∷ segments_of rs
 -- each list that takes cells lies among them, apart from the others
 pub record AreHeld (cells : List ℕ) (rows : List Row) : Type 0 where
   pub within : (i : ℕ) (s : Segment) → slice_get (segments_of rows) i ≡ Some s → LiesWithin (length cells) s
-  pub apart : (i j : ℕ) (s t : Segment) → i ≢ j → slice_get (segments_of rows) i ≡ Some s → slice_get (segments_of rows) j ≡ Some t → IsApart s t
+  pub apart : (i j : ℕ) (s t : Segment) → i ≢ j → slice_get (segments_of rows) i ≡ Some s
+      → slice_get (segments_of rows) j ≡ Some t → IsApart s t
+
+-- for each row the number of its node's label, or none
+abbrev pub row_labels : List Row → List (Option ℕ)
+row_labels = map (λ r. r.label)
+
+-- What the rows keep: their lists lie apart, and the rows behind those that are shown have no labels.
+pub record AreRows (cells : List ℕ) (rows : List Row) (shown : ℕ) : Type 0 where
+  pub held : AreHeld cells rows
+  pub within : shown ≤ length rows
+  pub spare : (n : ℕ) → shown ≤ n → number_at (row_labels rows) n ≡ None
 
 abbrev pub list_in : List ℕ → Segment → NeighbourList
 list_in cells s = record { items = items_in cells s; capacity = s.reserved }

@@ -1,5 +1,5 @@
 -- What a list of nodes stands for.
-use Rattle.std.specs.Prelude.{◌≡◌, ◌≢◌, ℕ, zero, suc, ◌+◌, ◌-◌, ◌<◌, ◌≤◌, ◌&&◌, not, List, [], ◌∷◌, ◌++◌, Option, None, IsSome, map, length, slice_get, option_and_then, nat_eq, refl}
+use Rattle.std.specs.Prelude.{◌≡◌, ◌≢◌, ℕ, zero, suc, ◌+◌, ◌-◌, ◌<◌, ◌≤◌, ◌&&◌, not, List, [], ◌∷◌, ◌++◌, Option, None, IsSome, map, length, slice_get, option_and_then, nat_eq, take, if◌then◌else◌, refl}
 use Rattle.std.specs.Coded.{Coded, code_by, coded×, coded_ℕ, coded_list, coded_option}
 use Rattle.std.specs.List.{IsDistinct}
 use Rattle.std.specs.FinSet as set
@@ -17,15 +17,16 @@ pub record Node : Type 0 where
   pub children : NeighbourList
   pub parents : NeighbourList
 
--- nodes, and how many fit with no more memory
+-- nodes, of which the first are shown; the others are for nodes to come
 pub record NodeTable : Type 0 where
   pub nodes : List Node
-  pub capacity : ℕ
+  pub shown : ℕ
 
 -- they are stored as their parts
 abbrev pub neighbour_list_code : Coded NeighbourList
 neighbour_list_code =
-    code_by (List ℕ × ℕ) (coded× (coded_list coded_ℕ) coded_ℕ) (λ l. (l.items, l.capacity)) (λ p. record { items = p.0; capacity = p.1 }) (λ _. refl)
+    code_by (List ℕ × ℕ) (coded× (coded_list coded_ℕ) coded_ℕ)
+    (λ l. (l.items, l.capacity)) (λ p. record { items = p.0; capacity = p.1 }) (λ _. refl)
 
 abbrev pub node_code : Coded Node
 node_code =
@@ -34,11 +35,11 @@ node_code =
 
 abbrev pub node_table_code : Coded NodeTable
 node_table_code =
-    code_by (List Node × ℕ) (coded× (coded_list node_code) coded_ℕ) (λ l. (l.nodes, l.capacity)) (λ p. record { nodes = p.0; capacity = p.1 }) (λ _. refl)
+    code_by (List Node × ℕ) (coded× (coded_list node_code) coded_ℕ) (λ l. (l.nodes, l.shown)) (λ p. record { nodes = p.0; shown = p.1 }) (λ _. refl)
 
--- for each node the number of its label, and none where it is gone
-abbrev pub labels_of : List Node → List (Option ℕ)
-labels_of = map (λ n. n.label)
+-- for each node that is shown the number of its label, and none where it is gone
+abbrev pub labels_of : ℕ → List Node → List (Option ℕ)
+labels_of shown nodes = take shown (map (λ n. n.label) nodes)
 
 -- the label's number of one node, and none past the end
 abbrev pub number_at : List (Option ℕ) → ℕ → Option ℕ
@@ -82,28 +83,45 @@ edges_of nodes = set.from_list (pairs_from 0 nodes)
 abbrev pub Mirrors : List Node → Type 0
 Mirrors nodes = (u v : ℕ) → has (children_of nodes u) v ≡ has (parents_of nodes v) u
 
--- the node's number is given, and the node isn't gone
-abbrev pub IsLive : List Node → ℕ → Type 0
-IsLive nodes n = IsSome (number_at (labels_of nodes) n)
+-- the node is shown, and isn't gone
+abbrev pub IsLive : ℕ → List Node → ℕ → Type 0
+IsLive shown nodes n = IsSome (number_at (labels_of shown nodes) n)
+
+-- the node isn't gone: it is live, or it is to come
+abbrev pub IsKept : ℕ → List Node → ℕ → Type 0
+IsKept shown nodes n = n < shown → IsLive shown nodes n
 
 -- g is a gone node, other than u
-pub record IsGoneBeside (nodes : List Node) (u g : ℕ) : Type 0 where
-  pub given : g < length nodes
+pub record IsGoneBeside (shown : ℕ) (nodes : List Node) (u g : ℕ) : Type 0 where
+  pub given : g < shown
   pub other : g ≢ u
-  pub gone : number_at (labels_of nodes) g ≡ None
+  pub gone : number_at (labels_of shown nodes) g ≡ None
 
--- the nodes are the same, and no live one has less reserved
-pub record SameNodes (old new : List Node) : Type 0 where
-  pub labels : labels_of new ≡ labels_of old
+-- the nodes that are shown are the same, none is lacking, and none that isn't gone has less reserved
+pub record SameNodes (shown : ℕ) (old new : List Node) : Type 0 where
+  pub size : length old ≤ length new
+  pub labels : labels_of shown new ≡ labels_of shown old
   pub children : (w : ℕ) → children_of new w ≡ children_of old w
   pub parents : (w : ℕ) → parents_of new w ≡ parents_of old w
-  pub child_reserves : (w : ℕ) → IsLive old w → child_reserved old w ≤ child_reserved new w
-  pub parent_reserves : (w : ℕ) → IsLive old w → parent_reserved old w ≤ parent_reserved new w
+  pub child_reserves : (w : ℕ) → IsKept shown old w → child_reserved old w ≤ child_reserved new w
+  pub parent_reserves : (w : ℕ) → IsKept shown old w → parent_reserved old w ≤ parent_reserved new w
 
--- one more child of u and one more parent of v fit
-pub record HasReserved (nodes : List Node) (u v : ℕ) : Type 0 where
-  pub child : 0 < child_reserved nodes u
-  pub parent : 0 < parent_reserved nodes v
+-- that many more children of u and that many more parents of v fit
+pub record HasReserved (nodes : List Node) (u v children parents : ℕ) : Type 0 where
+  pub child : children ≤ child_reserved nodes u
+  pub parent : parents ≤ parent_reserved nodes v
+
+-- no node has less reserved
+pub record KeepsReserved (old new : List Node) : Type 0 where
+  pub size : length new ≡ length old
+  pub child : (w : ℕ) → child_reserved old w ≤ child_reserved new w
+  pub parent : (w : ℕ) → parent_reserved old w ≤ parent_reserved new w
+
+-- no node has less reserved, but that u has one child less and v one parent less
+pub record UsesReserved (old new : List Node) (u v : ℕ) : Type 0 where
+  pub size : length new ≡ length old
+  pub child : (w : ℕ) → child_reserved old w ≤ child_reserved new w + (if nat_eq w u then 1 else 0)
+  pub parent : (w : ℕ) → parent_reserved old w ≤ parent_reserved new w + (if nat_eq w v then 1 else 0)
 
 -- the list has the others that it had, each once, and not that number
 pub record IsWithout (old new : List ℕ) (n : ℕ) : Type 0 where
@@ -111,8 +129,8 @@ pub record IsWithout (old new : List ℕ) (n : ℕ) : Type 0 where
   pub members : (m : ℕ) → has new m ≡ (not (nat_eq m n) && has old m)
 
 -- the nodes are the same, but that v isn't among the children of u, nor u among the parents of v
-pub record LacksEdge (old new : List Node) (u v : ℕ) : Type 0 where
-  pub labels : labels_of new ≡ labels_of old
+pub record LacksEdge (shown : ℕ) (old new : List Node) (u v : ℕ) : Type 0 where
+  pub labels : labels_of shown new ≡ labels_of shown old
   pub child : IsWithout (children_of old u) (children_of new u) v
   pub other_children : (w : ℕ) → w ≢ u → children_of new w ≡ children_of old w
   pub parent : IsWithout (parents_of old v) (parents_of new v) u

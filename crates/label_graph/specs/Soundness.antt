@@ -1,46 +1,37 @@
 -- What holds of each graph.
-use Rattle.std.specs.Prelude.{◌≡◌, ℕ, ◌<◌, ◌≤◌, ◌^◌, List, Option, None, Some, length, is_some, IsTrue, bytes_eq, nat_eq}
+use Rattle.std.specs.Prelude.{◌≡◌, ℕ, suc, ◌+◌, ◌<◌, ◌≤◌, ◌^◌, List, [], ◌∷◌, Option, Some, length, is_some, IsTrue, bytes_eq, nat_eq, if◌then◌else◌}
 use Rattle.std.specs.List.{IsDistinct, count_by}
 use Rattle.std.specs.FinSet as set
 use Rattle.graph_spec.specs.Members.{has}
 use Rattle.label_graph.specs.LabelTable.{LabelTable, entries}
-use Rattle.label_graph.specs.Nodes.{Node, labels_of, number_at, texts_of, children_of, parents_of, edges_of, Mirrors, HasReserved, IsLive}
-use Rattle.label_graph.specs.declared.node.Reserved.{Reserved}
-use Rattle.label_graph.specs.declared.node.Reserved.TheVariants.{Nothing, Label, Pair}
+use Rattle.label_graph.specs.Nodes.{Node, labels_of, number_at, texts_of, children_of, parents_of, child_reserved, parent_reserved, edges_of, Mirrors, IsLive, IsKept}
+use Rattle.label_graph.specs.ReservedGraphs.{starting, ending}
 
--- the number is that of the text ahead, or of a label where nothing lies ahead
-abbrev pub IsNext : Option (List ℕ) → ℕ → ℕ → Type 0
-IsNext None labels l = l < labels
-IsNext (Some t) labels l = l ≡ labels
+-- Numbers of labels that come in this order where n labels were seen: each was seen or is the next one. With the last one
+-- all entries are labels.
+abbrev pub AreNext : ℕ → ℕ → List ℕ → Type 0
+AreNext n all [] = n ≡ all
+AreNext n all (l ∷ ls) = (l ≤ n) × AreNext (if nat_eq l n then suc n else n) all ls
 
--- one more node with that label fits
-pub record LabelFits (table : LabelTable) (nodes : List Node) (capacity l : ℕ) : Type 0 where
-  pub next : IsNext table.ahead (length table.texts) l
-  pub spare : length nodes < capacity
-
--- one more edge between those nodes fits, and nothing lies ahead of the labels
-pub record PairFits (table : LabelTable) (nodes : List Node) (u v : ℕ) : Type 0 where
-  pub none_ahead : table.ahead ≡ None
-  pub from : IsLive nodes u
-  pub onto : IsLive nodes v
-  pub reserved : HasReserved nodes u v
-
-abbrev pub ReservedFits : LabelTable → List Node → ℕ → Reserved → Type 0
-ReservedFits table nodes capacity Nothing = table.ahead ≡ None
-ReservedFits table nodes capacity (Label l) = LabelFits table nodes capacity l
-ReservedFits table nodes capacity (Pair u v) = PairFits table nodes u v
+-- The reserved labels are the next ones, there is a row for each of their nodes, and of each node that isn't gone the edges
+-- fit that are reserved.
+pub record ReservedFits (table : LabelTable) (shown : ℕ) (nodes : List Node) (numbers : List ℕ) (pairs : List (ℕ × ℕ)) : Type 0 where
+  pub next : AreNext (length table.texts) (length (entries table)) numbers
+  pub rows : shown + length numbers ≤ length nodes
+  pub children : (w : ℕ) → IsKept shown nodes w → starting w pairs ≤ child_reserved nodes w
+  pub parents : (w : ℕ) → IsKept shown nodes w → ending w pairs ≤ parent_reserved nodes w
 
 -- edges lead from live nodes to live nodes
-pub record EndsLive (nodes : List Node) (u v : ℕ) : Type 0 where
-  pub from : IsLive nodes u
-  pub onto : IsLive nodes v
+pub record EndsLive (shown : ℕ) (nodes : List Node) (u v : ℕ) : Type 0 where
+  pub from : IsLive shown nodes u
+  pub onto : IsLive shown nodes v
 
 -- the lists of the nodes, and what they hold
-pub record AreSound (nodes : List Node) (edge_count : ℕ) : Type 0 where
+pub record AreSound (shown : ℕ) (nodes : List Node) (edge_count : ℕ) : Type 0 where
   pub mirrors : Mirrors nodes
   pub children_once : (n : ℕ) → IsDistinct nat_eq (children_of nodes n)
   pub parents_once : (n : ℕ) → IsDistinct nat_eq (parents_of nodes n)
-  pub ends : (u v : ℕ) → IsTrue (has (children_of nodes u) v) → EndsLive nodes u v
+  pub ends : (u v : ℕ) → IsTrue (has (children_of nodes u) v) → EndsLive shown nodes u v
   pub edge_count_is : edge_count ≡ set.len (edges_of nodes)
   pub few_edges : edge_count ≤ 2 ^ 30
 
@@ -52,7 +43,8 @@ pub record HaveLabelNumbers (table : LabelTable) (numbers : List (Option ℕ)) (
   pub below : (n l : ℕ) → number_at numbers n ≡ Some l → l < length table.texts
   pub node_count_is : node_count ≡ count_by is_some (texts_of table.texts numbers)
 
-pub record IsSoundGraph (table : LabelTable) (nodes : List Node) (capacity edge_count node_count : ℕ) (addition : Reserved) : Type 0 where
-  pub lists : AreSound nodes edge_count
-  pub labels : HaveLabelNumbers table (labels_of nodes) node_count
-  pub reserved : ReservedFits table nodes capacity addition
+pub record IsSoundGraph (table : LabelTable) (shown : ℕ) (nodes : List Node) (edge_count node_count : ℕ) (numbers : List ℕ)
+    (pairs : List (ℕ × ℕ)) : Type 0 where
+  pub lists : AreSound shown nodes edge_count
+  pub labels : HaveLabelNumbers table (labels_of shown nodes) node_count
+  pub reserved : ReservedFits table shown nodes numbers pairs

@@ -2,7 +2,7 @@
 ghost use Rattle.std.specs.Prelude.{◌≡◌, length};
 ghost use Rattle.label_graph.specs.Segments.{items_in, LiesWithin, Writes};
 
-use crate::segment::{Segment, is_short, more_reserved};
+use crate::segment::{Segment, is_short, more_reserved, spare};
 use px_base::NodeId;
 use std::marker::Model;
 
@@ -36,9 +36,9 @@ impl GoneLists {
         }
     }
 
-    /// The first gone node with the room that a list wants where it has no place left.
-    pub(crate) fn first_for(&self, list: &Segment) -> NodeId {
-        if list.len < list.reserved {
+    /// The first gone node with the room that a list wants where no more than that many numbers fit.
+    pub(crate) fn first_for(&self, list: &Segment, taken: usize) -> NodeId {
+        if spare(list) > taken {
             return NOBODY;
         }
         self.first(more_reserved(list.reserved))

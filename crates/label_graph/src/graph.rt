@@ -2,22 +2,24 @@
 ghost use Rattle.std.specs.Prelude.{◌≡◌, ◌<◌, ◌≤◌, ◌+◌, ◌^◌, ◌↔◌, length, IsTrue, IfOk, OnOk, OnErr, IfSome, IfNone, Some, slice_get, true, false, List, ℕ, is_some};
 ghost use Rattle.std.specs.FinSet as set;
 ghost use Rattle.graph_spec.specs.Graphs.{IsGraph, empty_graph, is_live, label_of, has_edge};
-ghost use Rattle.graph_spec.specs.Changes.{with_node, with_edge, without_edge, without_node, is_used};
+ghost use Rattle.graph_spec.specs.Changes.{with_edge, without_edge, without_node, is_used};
 ghost use Rattle.graph_spec.specs.Members.{Lists};
 ghost use Rattle.graph_spec.specs.Shapes.{shape_of};
-ghost use Rattle.label_graph.specs.ReservedGraphs.{none_reserved, label_reserved, pair_reserved};
+ghost use Rattle.label_graph.specs.ReservedGraphs.{none_reserved, with_reserved_label, with_reserved_pair, without_reserved_pair, has_pair, can_be_joined, AddsReserved};
 ghost use Rattle.label_graph.specs.GraphViews.{label_number, is_linked, numbered_shape, live_count, edge_count};
 
 use crate::labels::Labels;
-use crate::node::{Nodes, Reserved};
+use crate::node::Nodes;
+use crate::pairs::{ending, starting, take_pair};
 use crate::view::GraphView;
 use px_base::{Memory, NodeId, Steps, Text};
 use std::alloc::Global;
 use std::marker::Model;
 use std::sync::ledger::Ledger;
 
-/// A directed graph with a label on each node, and capacity reserved for at most one addition. Nodes have the
-/// numbers from 0 in the order in which they were added; at most 2^30 nodes and 2^30 edges.
+/// A directed graph with a label on each node, and capacity reserved for additions: a list of labels, for the nodes to
+/// come in their order, and a list of pairs, for edges. Nodes have the numbers from 0 in the order in which they were
+/// added; at most 2^30 nodes and 2^30 edges.
 ///
 /// An addition is made in two calls, of which only the first can fail:
 ///
@@ -33,7 +35,8 @@ pub struct Graph {
     nodes: Nodes,
     node_count: u32,
     edge_count: u32,
-    reserved: Reserved,
+    label_numbers: Vec<u32>,
+    pairs: Vec<(NodeId, NodeId)>,
 }
 
 impl Drop for Graph {
@@ -44,10 +47,13 @@ impl Drop for Graph {
             nodes,
             node_count: _,
             edge_count: _,
-            reserved: _,
+            label_numbers,
+            pairs,
         } = self;
         drop(labels);
         drop(nodes);
+        drop(label_numbers);
+        drop(pairs);
     }
 }
 
@@ -61,9 +67,12 @@ impl Model for Graph {
     ghost use Rattle.label_graph.specs.ReservedGraphs.{graph_by, reserved_by};
     ghost use Rattle.label_graph.specs.Soundness.{IsSoundGraph};
 
-    ghost view = { λ g. record { graph = graph_by g.labels g.nodes.nodes; reserved = reserved_by g.labels g.reserved } };
+    ghost view = { λ g. record {
+      graph = graph_by g.labels g.nodes.shown g.nodes.nodes;
+      reserved = reserved_by g.labels g.label_numbers.items g.pairs.items;
+    } };
 
-    ghost invariant = { λ g. IsSoundGraph g.labels g.nodes.nodes g.nodes.capacity g.edge_count g.node_count g.reserved };
+    ghost invariant = { λ g. IsSoundGraph g.labels g.nodes.shown g.nodes.nodes g.edge_count g.node_count g.label_numbers.items g.pairs.items };
 }
 
 // Reading.
@@ -100,7 +109,7 @@ impl Graph {
         ensures few { result ≤ 2 ^ 30 }
         ensures graph { IsGraph self.now.graph }
     {
-        self.nodes.len() as u32
+        self.nodes.shown() as u32
     }
 
     /// How many nodes are live: at most 2^30. O(1), no memory.
@@ -223,7 +232,7 @@ impl Graph {
     }
 }
 
-// Reserving for one addition, and the additions.
+// Reserving for additions, and the additions.
 impl Graph {
     /// A graph with no nodes. O(1); it takes 16 KiB.
     pub fn new(alloc: Global) -> Result<Graph, Memory>
@@ -235,95 +244,108 @@ impl Graph {
             nodes: Nodes::new(alloc),
             node_count: 0,
             edge_count: 0,
-            reserved: Reserved::Nothing,
+            label_numbers: Vec::new(alloc),
+            pairs: Vec::new(alloc),
         })
     }
 
-    /// Reserves capacity for a node with that label, instead of what was reserved. Where memory runs out that
-    /// reservation stays. Expected O(b) for a label of b bytes, amortized. A node takes 32 bytes, and a label that is
-    /// new its text and its entry in the table.
+    /// Reserves capacity for a node with that label, behind what is reserved. Where memory runs out all is as before.
+    /// Expected O(b) for a label of b bytes, amortized. A node takes 32 bytes, and a label that is new its text and its
+    /// entry in the table.
     pub fn reserve_node(&mut self, alloc: Global, label: &Text) -> Result<(), Memory>
         ensures graph { self.new.graph ≡ self.old.graph }
-        ensures ok { OnOk result (self.new.reserved ≡ label_reserved label.now) }
+        ensures ok { OnOk result (self.new.reserved ≡ with_reserved_label self.old.reserved label.now) }
         ensures err { OnErr result (self.new ≡ self.old) }
     {
-        self.nodes.reserve_node()?;
+        self.nodes.reserve_node(self.label_numbers.len())?;
+        self.label_numbers.reserve(1)?;
         let number = self.labels.reserve(alloc, label)?;
-        self.reserved = Reserved::Label(number);
+        self.label_numbers.push_reserved(number);
         Ok(())
     }
 
-    /// Reserves capacity for an edge between live nodes, instead of what was reserved. Where memory runs out that
-    /// reservation stays. O(1), amortized. An edge takes none to 32 bytes: a node's first child and its first parent
-    /// lie in the node, and each other takes 4 to 16.
+    /// Reserves capacity for an edge, behind what is reserved. Each of its ends is a live node, or one for which a label
+    /// is reserved. Where memory runs out all is as before. O(r), amortized, where r edges are reserved. An edge takes
+    /// none to 32 bytes: a node's first child and its first parent lie in the node, and each other takes 4 to 16.
     pub fn reserve_edge(&mut self, u: NodeId, v: NodeId) -> Result<(), Memory>
-        requires from { IsTrue (is_live self.old.graph u) }
-        requires onto { IsTrue (is_live self.old.graph v) }
+        requires from { IsTrue (can_be_joined self.old u) }
+        requires onto { IsTrue (can_be_joined self.old v) }
         ensures graph { self.new.graph ≡ self.old.graph }
-        ensures ok { OnOk result (self.new.reserved ≡ pair_reserved u v) }
+        ensures ok { OnOk result (self.new.reserved ≡ with_reserved_pair self.old.reserved u v) }
         ensures err { OnErr result (self.new ≡ self.old) }
     {
-        self.nodes.reserve_edge(u, v)?;
-        self.labels.clear();
-        self.reserved = Reserved::Pair(u, v);
+        self.pairs.reserve(1)?;
+        let from = starting(&self.pairs, u);
+        let onto = ending(&self.pairs, v);
+        self.nodes.reserve_edge(u, v, from, onto)?;
+        self.pairs.push_reserved((u, v));
         Ok(())
     }
 
-    /// Adds the node for which capacity is reserved, and gives its number, the next one. O(1), no memory.
+    /// Adds a node with the first label that is reserved, and gives its number, the next one. O(r) where r labels are
+    /// reserved, no memory.
     pub fn add_node(&mut self) -> NodeId
-        requires reserved { (t : List ℕ) × (self.old.reserved ≡ label_reserved t) }
+        requires reserved { 0 < length self.old.reserved.labels }
         requires few { length self.old.graph.allocated < 2 ^ 30 }
         ensures number { result ≡ length self.old.graph.allocated }
-        ensures added { (t : List ℕ) → self.old.reserved ≡ label_reserved t → self.new ≡ record { graph = with_node self.old.graph t; reserved = none_reserved } }
+        ensures added { AddsReserved self.old self.new }
     {
-        let Reserved::Label(label) = self.reserved else {
-            unreachable!()
-        };
-        let added = self.nodes.len() as u32;
-        self.labels.show();
+        let label = self.label_numbers.remove(0);
+        let added = self.nodes.shown() as u32;
+        self.labels.show(label);
         self.nodes.push_node(label);
         self.node_count += 1;
-        self.reserved = Reserved::Nothing;
         added
     }
 
-    /// Adds the edge for which capacity is reserved, and which isn't there yet. O(1), no memory.
+    /// Adds an edge between live nodes for which capacity is reserved, and which isn't there yet. O(r) where r edges are
+    /// reserved, no memory.
     pub fn add_edge(&mut self, u: NodeId, v: NodeId)
-        requires reserved { self.old.reserved ≡ pair_reserved u v }
+        requires reserved { IsTrue (has_pair self.old.reserved.pairs u v) }
+        requires from { IsTrue (is_live self.old.graph u) }
+        requires onto { IsTrue (is_live self.old.graph v) }
         requires absent { has_edge self.old.graph u v ≡ false }
         requires few { set.len self.old.graph.edges < 2 ^ 30 }
-        ensures { self.new ≡ record { graph = with_edge self.old.graph u v; reserved = none_reserved } }
+        ensures graph { self.new.graph ≡ with_edge self.old.graph u v }
+        ensures reserved { self.new.reserved ≡ without_reserved_pair self.old.reserved u v }
     {
+        take_pair(&mut self.pairs, u, v);
         self.nodes.push_edge(u, v);
         self.edge_count += 1;
-        self.reserved = Reserved::Nothing;
+    }
+
+    /// Leaves nothing reserved. The memory stays with the graph, for later additions. O(r) where r nodes and edges are
+    /// reserved, no memory.
+    pub fn clear_room(&mut self)
+        ensures { self.new ≡ record { graph = self.old.graph; reserved = none_reserved } }
+    {
+        self.labels.clear();
+        self.label_numbers.clear();
+        self.pairs.clear();
     }
 }
 
 // The removals.
 impl Graph {
-    /// Takes away an edge that is there, and any reservation. The order of `u`'s children and of `v`'s parents may
-    /// change. O(c + p) for c children of `u` and p parents of `v`, no memory.
+    /// Takes away an edge that is there; what is reserved stays. The order of `u`'s children and of `v`'s parents may
+    /// change. O(1) where each end is the first or the last in the list of the other, and else O(c + p) for c children
+    /// of `u` and p parents of `v`; no memory.
     pub fn remove_edge(&mut self, u: NodeId, v: NodeId)
         requires present { has_edge self.old.graph u v ≡ true }
-        ensures { self.new ≡ record { graph = without_edge self.old.graph u v; reserved = none_reserved } }
+        ensures { self.new ≡ record { graph = without_edge self.old.graph u v; reserved = self.old.reserved } }
     {
         self.nodes.remove_edge(u, v);
-        self.labels.clear();
         self.edge_count -= 1;
-        self.reserved = Reserved::Nothing;
     }
 
-    /// Takes away a live node at which no edge begins or ends, and any reservation. Its number is never allocated again,
-    /// and its label stays among those seen; the room of its neighbours goes to later edges. O(1), no memory.
+    /// Takes away a live node at which no edge begins or ends; what is reserved stays. Its number is never allocated
+    /// again, and its label stays among those seen; the cells of its lists go to later edges. O(1), no memory.
     pub fn remove_node(&mut self, u: NodeId)
         requires live { IsTrue (is_live self.old.graph u) }
         requires unused { is_used self.old.graph u ≡ false }
-        ensures { self.new ≡ record { graph = without_node self.old.graph u; reserved = none_reserved } }
+        ensures { self.new ≡ record { graph = without_node self.old.graph u; reserved = self.old.reserved } }
     {
         self.nodes.clear_label(u);
-        self.labels.clear();
         self.node_count -= 1;
-        self.reserved = Reserved::Nothing;
     }
 }

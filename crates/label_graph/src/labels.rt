@@ -1,17 +1,19 @@
 // The table of labels.
-ghost use Rattle.std.specs.Prelude.{◌≡◌, ◌<◌, ◌≤◌, ◌+◌, ◌^◌, [], length, slice_get, Some, bytes_eq, position, None, false, IfOk, IsTrue, OnOk, OnErr};
+ghost use Rattle.std.specs.Prelude.{◌≡◌, ◌<◌, ◌≤◌, ◌^◌, ◌++◌, ◌∷◌, [], length, slice_get, Some, bytes_eq, position, false, IfOk, IsTrue, OnOk, OnErr};
 ghost use Rattle.std.specs.List.{IsDistinct};
 ghost use Rattle.graph_spec.specs.Graphs.{is_seen};
-ghost use Rattle.label_graph.specs.LabelTable.{DropsPrevious, entries, with_ahead, with_ahead_effective};
-ghost use Rattle.label_graph.specs.Soundness.{IsNext};
+ghost use Rattle.label_graph.specs.LabelTable.{IsPlaced, entries, with_ahead, with_shown};
 
 use indexmap::IndexSet;
 use px_base::{Memory, Recent, Text};
 use std::alloc::Global;
 use std::marker::Model;
 
-/// The labels that were seen, in the order in which they came. A text may lie ahead of them that is no label yet: capacity
-/// for one more. Numbers of labels that were used recently are at hand by their texts.
+/// How many entries there are at most.
+const MOST_ENTRIES: usize = 1 << 31;
+
+/// The labels that were seen, in the order in which they came. Texts may lie ahead of them that are no labels yet, for which
+/// capacity is reserved. Numbers of labels that were used recently are at hand by their texts.
 ///
 /// The text of the label of a graph's node:
 ///
@@ -37,19 +39,19 @@ impl Drop for Labels {
 }
 
 impl Model for Labels {
-    ghost use Rattle.std.specs.Prelude.{take, slice_get};
+    ghost use Rattle.std.specs.Prelude.{take, drop};
     ghost use Rattle.label_graph.specs.LabelTable.{LabelTable, IsLabelTable};
 
     ghost Value = { LabelTable };
 
-    ghost view = { λ l. record { texts = take l.effective l.table.keys; ahead = slice_get l.table.keys l.effective } };
+    ghost view = { λ l. record { texts = take l.effective l.table.keys; ahead = drop l.effective l.table.keys } };
 
     ghost invariant = { λ l. IsLabelTable l.table.keys l.effective };
 }
 
 impl Labels {
     pub(crate) fn new(alloc: Global) -> Result<Labels, Memory>
-        ensures { IfOk result (λ l. l ≡ record { texts = []; ahead = None }) }
+        ensures { IfOk result (λ l. l ≡ record { texts = []; ahead = [] }) }
     {
         Ok(Labels {
             table: IndexSet::new(alloc),
@@ -88,77 +90,87 @@ impl Labels {
         }
     }
 
-    // Whether the number is that of the label.
+    // Whether the number is that of the entry.
     #[inline(always)]
     fn is_at(&self, l: u32, t: &Text) -> bool
-        ensures { IsTrue result → position (bytes_eq t.now) self.now.texts ≡ Some l }
+        ensures { IsTrue result → position (bytes_eq t.now) (entries self.now) ≡ Some l }
     {
-        (l as usize) < self.effective && self.table.as_slice()[l as usize] == *t
+        (l as usize) < self.table.len() && self.table.as_slice()[l as usize] == *t
     }
 
-    // The number of the label, as `find` gives it. It is looked up at hand first, and is at hand afterwards.
+    // The number of the entry, and `None` exactly where the text is none.
+    fn entry(&self, t: &Text) -> Option<u32>
+        ensures { result ≡ position (bytes_eq t.now) (entries self.now) }
+    {
+        let at = self.table.get_index_of(t)?;
+        Some(at as u32)
+    }
+
+    // The number of the entry, as `entry` gives it. It is looked up at hand first, and is at hand afterwards.
     fn recall(&mut self, t: &Text) -> Option<u32>
         ensures same { self.new ≡ self.old }
-        ensures place { result ≡ position (bytes_eq t.now) self.old.texts }
+        ensures place { result ≡ position (bytes_eq t.now) (entries self.old) }
     {
         let (a, b) = last_bytes(t);
         let near = self.recent.get(a, b);
         if self.is_at(near, t) {
             return Some(near);
         }
-        let l = self.find(t)?;
+        let l = self.entry(t)?;
         self.recent.put(a, b, l);
         Some(l)
     }
 
-    /// Reserves capacity for a label, instead of the text that was ahead, and gives the number that it has
-    /// or would have.
+    /// Reserves capacity for a label, and gives the number that it has or will have: where it isn't an entry yet, it
+    /// becomes the last one.
     pub(crate) fn reserve(&mut self, alloc: Global, text: &Text) -> Result<u32, Memory>
         ensures ahead { OnOk result (self.new ≡ with_ahead self.old text.now) }
         ensures number { IfOk result (λ l. slice_get (entries self.new) l ≡ Some text.now) }
-        ensures next { IfOk result (λ l. IsNext self.new.ahead (length self.new.texts) l) }
+        ensures placed { IfOk result (IsPlaced (is_seen (entries self.old) text.now) (length (entries self.old))) }
         ensures err { OnErr result (self.new ≡ self.old) }
     {
         match self.recall(text) {
-            Some(l) => {
-                self.clear();
-                Ok(l)
-            }
-            None => {
-                self.put_ahead(alloc, text)?;
-                Ok(self.len())
-            }
+            Some(l) => Ok(l),
+            None => self.put_ahead(alloc, text),
         }
     }
 
-    /// Takes out the text that is ahead.
+    /// Takes out the texts that are ahead.
     #[inline(always)]
     pub(crate) fn clear(&mut self)
-        ensures { self.new ≡ record self.old { ahead = None } }
+        ensures { self.new ≡ record self.old { ahead = [] } }
     {
         if self.table.len() > self.effective {
             self.table.truncate(self.effective);
         }
     }
 
-    /// Makes a label of the text that is ahead.
-    pub(crate) fn show(&mut self)
+    /// Makes a label of the entry, which is one already or is the first text ahead.
+    pub(crate) fn show(&mut self, l: u32)
         requires few { length self.old.texts < 2 ^ 30 }
-        ensures { self.new ≡ with_ahead_effective self.old }
+        requires next { l ≤ length self.old.texts }
+        requires entry { l < length (entries self.old) }
+        ensures { self.new ≡ with_shown self.old l }
     {
-        self.effective = self.table.len();
+        if l as usize >= self.effective {
+            self.effective += 1;
+        }
     }
 
-    // Puts a text that is no label ahead of the labels, instead of the one that was there.
-    fn put_ahead(&mut self, alloc: Global, text: &Text) -> Result<(), Memory>
-        requires unseen { is_seen self.old.texts text.now ≡ false }
-        ensures ok { OnOk result (self.new ≡ record self.old { ahead = Some text.now }) }
+    // Puts a text that is no entry behind the entries.
+    fn put_ahead(&mut self, alloc: Global, text: &Text) -> Result<u32, Memory>
+        requires unseen { is_seen (entries self.old) text.now ≡ false }
+        ensures ok { OnOk result (self.new ≡ record self.old { ahead = self.old.ahead ++ text.now ∷ [] }) }
+        ensures number { IfOk result (λ l. l ≡ length (entries self.old)) }
         ensures err { OnErr result (self.new ≡ self.old) }
     {
+        let l = self.table.len();
+        if l >= MOST_ENTRIES {
+            return Err(Memory);
+        }
         let key = text.copy(alloc)?;
         self.table.insert(key)?;
-        drop_previous(&mut self.table, self.effective);
-        Ok(())
+        Ok(l as u32)
     }
 }
 
@@ -167,17 +179,5 @@ fn last_bytes(t: &Text) -> (u32, u32) {
     match t.as_bytes() {
         [.., a, b, _] => (u32::from(*a), u32::from(*b)),
         _ => (0, 0),
-    }
-}
-
-// Where two entries stand behind the first ones, only the last of them stays.
-fn drop_previous(table: &mut IndexSet<Text>, effective: usize)
-    requires { effective ≤ length table.old.keys }
-    ensures dropped { DropsPrevious effective table.old.keys table.new.keys }
-    ensures kept { length table.old.keys ≤ effective + 1 → table.new.keys ≡ table.old.keys }
-    ensures once { IsDistinct bytes_eq table.new.keys }
-{
-    if table.len() > effective + 1 {
-        table.swap_remove_index(effective);
     }
 }

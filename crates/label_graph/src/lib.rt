@@ -6,6 +6,7 @@ mod gone;
 mod graph;
 mod labels;
 mod node;
+mod pairs;
 mod segment;
 #[cfg(test)]
 mod tests;

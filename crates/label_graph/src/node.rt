@@ -1,11 +1,11 @@
 // The nodes of a graph, and their lists of neighbours.
-ghost use Rattle.std.specs.Prelude.{◌≡◌, ◌<◌, ◌==◌, ◌++◌, ◌∷◌, [], ℕ, if◌then◌else◌, Some, None, IfOk, IfSome, OnOk, OnErr, length, slice_set, nat_eq, IsTrue, true};
+ghost use Rattle.std.specs.Prelude.{◌≡◌, ◌<◌, ◌≤◌, ◌+◌, ◌==◌, ◌++◌, ◌∷◌, [], ℕ, if◌then◌else◌, Some, None, IfOk, IfSome, OnOk, OnErr, length, slice_set, nat_eq, IsTrue, true};
 ghost use Rattle.std.specs.List.{IsDistinct};
 ghost use Rattle.graph_spec.specs.Members.{has};
-ghost use Rattle.label_graph.specs.Nodes.{labels_of, number_at, children_of, parents_of, Mirrors, SameNodes, HasReserved, IsGoneBeside, LacksEdge};
+ghost use Rattle.label_graph.specs.Nodes.{labels_of, number_at, children_of, parents_of, Mirrors, IsKept, SameNodes, HasReserved, KeepsReserved, UsesReserved, IsGoneBeside, LacksEdge};
 
 use crate::gone::GoneLists;
-use crate::segment::{EMPTY, Segment, exchange, items, make_place, push, take_out};
+use crate::segment::{EMPTY, Segment, exchange, is_last, items, make_place, push, take_out};
 use px_base::{Memory, NodeId};
 use std::alloc::Global;
 use std::marker::Model;
@@ -19,21 +19,22 @@ pub(crate) struct Row {
     pub(crate) parents: Segment,
 }
 
-/// What a graph has reserved: a node, by the number of its label in the table, or an edge.
-#[derive(Clone, Copy, Drop)]
-pub(crate) enum Reserved {
-    Nothing,
-    Label(u32),
-    Pair(NodeId, NodeId),
-}
+/// A row for a node to come.
+const SPARE: Row = Row {
+    children: EMPTY,
+    label: None,
+    parents: EMPTY,
+};
 
 /// The nodes, each with its label and with its neighbours, each once. Lists of neighbours lie in one array, so that no
 /// node takes an allocation of its own. A node takes 32 bytes. A list that never had two numbers takes no more; any
 /// other takes 4 to 16 bytes for each of the most neighbours that it ever had, and keeps them when it shrinks. Once its
 /// node is gone, its room goes to a list of the same kind, children or parents, that needs as much. What is noted of such
 /// room takes 256 bytes in all. So the cells depend on how much was in use at once, not on how many nodes there ever were.
+/// Behind the rows that are shown lie those of nodes to come, with the capacity that is reserved for their edges.
 pub(crate) struct Nodes {
     rows: Vec<Row>,
+    shown: usize,
     cells: Vec<u32>,
     gone_children: GoneLists,
     gone_parents: GoneLists,
@@ -44,6 +45,7 @@ impl Drop for Nodes {
     fn drop(self) {
         let Nodes {
             rows,
+            shown: _,
             cells,
             gone_children: _,
             gone_parents: _,
@@ -54,26 +56,25 @@ impl Drop for Nodes {
 }
 
 impl Model for Nodes {
-    ghost use Rattle.std.specs.Prelude.{vec_capacity};
     ghost use Rattle.label_graph.specs.Nodes.{NodeTable, node_table_code};
-    ghost use Rattle.label_graph.specs.NodeRows.{nodes_in, AreHeld};
+    ghost use Rattle.label_graph.specs.NodeRows.{nodes_in, AreRows};
 
     ghost Value = { NodeTable };
 
     ghost coded = { node_table_code };
 
-    ghost view = { λ n. record { nodes = nodes_in n.cells.items n.rows.items; capacity = vec_capacity n.rows } };
+    ghost view = { λ n. record { nodes = nodes_in n.cells.items n.rows.items; shown = n.shown } };
 
-    ghost invariant = { λ n. AreHeld n.cells.items n.rows.items };
+    ghost invariant = { λ n. AreRows n.cells.items n.rows.items n.shown };
 }
 
 // Reading.
 impl Nodes {
-    /// How many there are, gone ones too.
-    pub(crate) fn len(&self) -> usize
-        ensures { result ≡ length self.now.nodes }
+    /// How many are shown, gone ones too.
+    pub(crate) fn shown(&self) -> usize
+        ensures { result ≡ self.now.shown }
     {
-        self.rows.len()
+        self.shown
     }
 
     /// How many cells there are.
@@ -84,7 +85,7 @@ impl Nodes {
 
     /// The number of a node's label, and none where the node is gone or its number isn't allocated.
     pub(crate) fn label(&self, n: NodeId) -> Option<u32>
-        ensures { result ≡ number_at (labels_of self.now.nodes) n }
+        ensures { result ≡ number_at (labels_of self.now.shown self.now.nodes) n }
     {
         let row = self.rows.get(n as usize)?;
         row.label
@@ -118,7 +119,7 @@ impl Nodes {
     {
         let below = self.children(u);
         let above = self.parents(v);
-        if ends_with(below, v) || ends_with(above, u) {
+        if is_last(below, v) || is_last(above, u) {
             return true;
         }
         if below.len() <= above.len() {
@@ -133,64 +134,84 @@ impl Nodes {
 impl Nodes {
     /// No nodes.
     pub(crate) fn new(alloc: Global) -> Nodes
-        ensures { result.nodes ≡ [] }
+        ensures { result ≡ record { nodes = []; shown = 0 } }
     {
         Nodes {
             rows: Vec::new(alloc),
+            shown: 0,
             cells: Vec::new(alloc),
             gone_children: GoneLists::new(),
             gone_parents: GoneLists::new(),
         }
     }
 
-    /// Reserves capacity for a node.
-    pub(crate) fn reserve_node(&mut self) -> Result<(), Memory>
-        ensures same { self.new.nodes ≡ self.old.nodes }
-        ensures ok { OnOk result (length self.new.nodes < self.new.capacity) }
+    /// Reserves a row for a node to come, where there are rows for that many.
+    pub(crate) fn reserve_node(&mut self, ahead: usize) -> Result<(), Memory>
+        requires { self.old.shown + ahead ≤ length self.old.nodes }
+        ensures same { SameNodes self.old.shown self.old.nodes self.new.nodes }
+        ensures shown { self.new.shown ≡ self.old.shown }
+        ensures ok { OnOk result (self.old.shown + ahead < length self.new.nodes) }
         ensures err { OnErr result (self.new ≡ self.old) }
     {
-        self.rows.reserve(1)?;
+        if self.rows.len() > self.shown + ahead {
+            return Ok(());
+        }
+        self.rows.push(SPARE)?;
         Ok(())
     }
 
-    /// Appends a node with no neighbours.
+    /// Makes the first node to come one that is shown.
     pub(crate) fn push_node(&mut self, label: u32)
-        requires reserved { length self.old.nodes < self.old.capacity }
-        ensures labels { labels_of self.new.nodes ≡ labels_of self.old.nodes ++ Some label ∷ [] }
+        requires reserved { self.old.shown < length self.old.nodes }
+        ensures shown { self.new.shown ≡ self.old.shown + 1 }
+        ensures labels { labels_of self.new.shown self.new.nodes ≡ labels_of self.old.shown self.old.nodes ++ Some label ∷ [] }
         ensures children { (w : ℕ) → children_of self.new.nodes w ≡ children_of self.old.nodes w }
         ensures parents { (w : ℕ) → parents_of self.new.nodes w ≡ parents_of self.old.nodes w }
+        ensures reserved { KeepsReserved self.old.nodes self.new.nodes }
     {
-        self.rows.push_reserved(Row {
-            children: EMPTY,
-            label: Some(label),
-            parents: EMPTY,
-        });
+        self.rows[self.shown].label = Some(label);
+        self.shown += 1;
     }
 
-    /// Reserves capacity for an edge.
-    pub(crate) fn reserve_edge(&mut self, u: NodeId, v: NodeId) -> Result<(), Memory>
+    /// Reserves capacity for an edge beside that for so many from `u` and so many to `v`.
+    pub(crate) fn reserve_edge(
+        &mut self,
+        u: NodeId,
+        v: NodeId,
+        from: usize,
+        onto: usize,
+    ) -> Result<(), Memory>
         requires from { u < length self.old.nodes }
         requires onto { v < length self.old.nodes }
-        ensures same { SameNodes self.old.nodes self.new.nodes }
-        ensures capacity { self.new.capacity ≡ self.old.capacity }
-        ensures reserved { OnOk result (HasReserved self.new.nodes u v) }
+        requires kept { IsKept self.old.shown self.old.nodes u × IsKept self.old.shown self.old.nodes v }
+        requires reserved { HasReserved self.old.nodes u v from onto }
+        ensures same { SameNodes self.old.shown self.old.nodes self.new.nodes }
+        ensures shown { self.new.shown ≡ self.old.shown }
+        ensures reserved { OnOk result (HasReserved self.new.nodes u v (from + 1) (onto + 1)) }
     {
-        self.reuse_children(u);
-        self.reuse_parents(v);
-        self.reserve_behind(u, v)?;
+        self.reuse_children(u, from);
+        self.reuse_parents(v, onto);
+        self.reserve_behind(u, v, from, onto)?;
         Ok(())
     }
 
     // Reserves capacity for an edge behind all cells, where there is none.
-    fn reserve_behind(&mut self, u: NodeId, v: NodeId) -> Result<(), Memory>
+    fn reserve_behind(
+        &mut self,
+        u: NodeId,
+        v: NodeId,
+        from: usize,
+        onto: usize,
+    ) -> Result<(), Memory>
         requires from { u < length self.old.nodes }
         requires onto { v < length self.old.nodes }
-        ensures same { SameNodes self.old.nodes self.new.nodes }
-        ensures capacity { self.new.capacity ≡ self.old.capacity }
-        ensures reserved { OnOk result (HasReserved self.new.nodes u v) }
+        requires reserved { HasReserved self.old.nodes u v from onto }
+        ensures same { SameNodes self.old.shown self.old.nodes self.new.nodes }
+        ensures shown { self.new.shown ≡ self.old.shown }
+        ensures reserved { OnOk result (HasReserved self.new.nodes u v (from + 1) (onto + 1)) }
     {
-        make_place(&mut self.cells, &mut self.rows[u as usize].children)?;
-        make_place(&mut self.cells, &mut self.rows[v as usize].parents)?;
+        make_place(&mut self.cells, &mut self.rows[u as usize].children, from)?;
+        make_place(&mut self.cells, &mut self.rows[v as usize].parents, onto)?;
         Ok(())
     }
 
@@ -198,22 +219,26 @@ impl Nodes {
     pub(crate) fn push_edge(&mut self, u: NodeId, v: NodeId)
         requires from { u < length self.old.nodes }
         requires onto { v < length self.old.nodes }
-        requires reserved { HasReserved self.old.nodes u v }
+        requires reserved { HasReserved self.old.nodes u v 1 1 }
         ensures children { (w : ℕ) → children_of self.new.nodes w ≡ children_of self.old.nodes w ++ (if w == u then v ∷ [] else []) }
         ensures parents { (w : ℕ) → parents_of self.new.nodes w ≡ parents_of self.old.nodes w ++ (if w == v then u ∷ [] else []) }
-        ensures labels { labels_of self.new.nodes ≡ labels_of self.old.nodes }
+        ensures labels { labels_of self.new.shown self.new.nodes ≡ labels_of self.old.shown self.old.nodes }
+        ensures shown { self.new.shown ≡ self.old.shown }
+        ensures reserved { UsesReserved self.old.nodes self.new.nodes u v }
     {
         push(&mut self.cells, &mut self.rows[u as usize].children, v);
         push(&mut self.cells, &mut self.rows[v as usize].parents, u);
     }
 
-    /// Takes an edge out of both lists. It scans each of them once.
+    /// Takes an edge out of both lists. It scans each of them once, but for the last and the first places.
     pub(crate) fn remove_edge(&mut self, u: NodeId, v: NodeId)
         requires from { u < length self.old.nodes }
         requires onto { v < length self.old.nodes }
         requires children_once { IsDistinct nat_eq (children_of self.old.nodes u) }
         requires parents_once { IsDistinct nat_eq (parents_of self.old.nodes v) }
-        ensures { LacksEdge self.old.nodes self.new.nodes u v }
+        ensures lacking { LacksEdge self.old.shown self.old.nodes self.new.nodes u v }
+        ensures shown { self.new.shown ≡ self.old.shown }
+        ensures reserved { KeepsReserved self.old.nodes self.new.nodes }
     {
         take_out(&mut self.cells, &mut self.rows[u as usize].children, v);
         take_out(&mut self.cells, &mut self.rows[v as usize].parents, u);
@@ -221,8 +246,10 @@ impl Nodes {
 
     /// Takes the label of a node away, so that the node is gone. The room of its lists is used again.
     pub(crate) fn clear_label(&mut self, n: NodeId)
-        requires { n < length self.old.nodes }
-        ensures labels { labels_of self.new.nodes ≡ slice_set (labels_of self.old.nodes) n None }
+        requires { n < self.old.shown }
+        ensures labels { labels_of self.new.shown self.new.nodes ≡ slice_set (labels_of self.old.shown self.old.nodes) n None }
+        ensures shown { self.new.shown ≡ self.old.shown }
+        ensures reserved { KeepsReserved self.old.nodes self.new.nodes }
         ensures children { (w : ℕ) → children_of self.new.nodes w ≡ children_of self.old.nodes w }
         ensures parents { (w : ℕ) → parents_of self.new.nodes w ≡ parents_of self.old.nodes w }
     {
@@ -233,8 +260,10 @@ impl Nodes {
 
     // Takes the label away.
     fn mark_gone(&mut self, n: NodeId)
-        requires { n < length self.old.nodes }
-        ensures labels { labels_of self.new.nodes ≡ slice_set (labels_of self.old.nodes) n None }
+        requires { n < self.old.shown }
+        ensures labels { labels_of self.new.shown self.new.nodes ≡ slice_set (labels_of self.old.shown self.old.nodes) n None }
+        ensures shown { self.new.shown ≡ self.old.shown }
+        ensures reserved { KeepsReserved self.old.nodes self.new.nodes }
         ensures children { (w : ℕ) → children_of self.new.nodes w ≡ children_of self.old.nodes w }
         ensures parents { (w : ℕ) → parents_of self.new.nodes w ≡ parents_of self.old.nodes w }
     {
@@ -264,25 +293,25 @@ impl Nodes {
         self.gone_parents.offer(&mut self.cells, &row.parents, n);
     }
 
-    // The node g itself, where it is gone and another than u.
+    // The node g itself, if it is gone and another than u.
     fn gone_beside(&self, u: NodeId, g: NodeId) -> Option<NodeId>
-        ensures { IfSome result (IsGoneBeside self.now.nodes u) }
+        ensures { IfSome result (IsGoneBeside self.now.shown self.now.nodes u) }
     {
         let row = self.rows.get(g as usize)?;
-        if row.label.is_some() || g == u {
+        if row.label.is_some() || g == u || g as usize >= self.shown {
             return None;
         }
         Some(g)
     }
 
-    // Moves the children of a node that have no place left to the room of a gone node's.
-    fn reuse_children(&mut self, u: NodeId)
+    // Moves the children of a node, where no more than that many fit beside them, to the room of a gone node's.
+    fn reuse_children(&mut self, u: NodeId, taken: usize)
         requires { u < length self.old.nodes }
-        ensures same { SameNodes self.old.nodes self.new.nodes }
-        ensures capacity { self.new.capacity ≡ self.old.capacity }
+        ensures same { SameNodes self.old.shown self.old.nodes self.new.nodes }
+        ensures shown { self.new.shown ≡ self.old.shown }
     {
         let mut list = self.rows[u as usize].children;
-        let Some(g) = self.gone_beside(u, self.gone_children.first_for(&list)) else {
+        let Some(g) = self.gone_beside(u, self.gone_children.first_for(&list, taken)) else {
             return;
         };
         let mut room = self.rows[g as usize].children;
@@ -294,13 +323,13 @@ impl Nodes {
     }
 
     // The same for its parents.
-    fn reuse_parents(&mut self, u: NodeId)
+    fn reuse_parents(&mut self, u: NodeId, taken: usize)
         requires { u < length self.old.nodes }
-        ensures same { SameNodes self.old.nodes self.new.nodes }
-        ensures capacity { self.new.capacity ≡ self.old.capacity }
+        ensures same { SameNodes self.old.shown self.old.nodes self.new.nodes }
+        ensures shown { self.new.shown ≡ self.old.shown }
     {
         let mut list = self.rows[u as usize].parents;
-        let Some(g) = self.gone_beside(u, self.gone_parents.first_for(&list)) else {
+        let Some(g) = self.gone_beside(u, self.gone_parents.first_for(&list, taken)) else {
             return;
         };
         let mut room = self.rows[g as usize].parents;
@@ -310,11 +339,4 @@ impl Nodes {
         self.rows[g as usize].parents = room;
         self.offer_parents(g);
     }
-}
-
-// Whether the number is the last of the list.
-fn ends_with(list: &[NodeId], n: NodeId) -> bool
-    ensures { IsTrue result → has list.now n ≡ true }
-{
-    list.last() == Some(&n)
 }

@@ -1,5 +1,5 @@
 // Lists of numbers that lie among the cells of one array, or in a segment itself.
-ghost use Rattle.std.specs.Prelude.{◌≡◌, ◌<◌, ◌≤◌, ◌++◌, ◌∷◌, [], length, position, nat_eq, nat_lt, take, false, IfOk, OnOk};
+ghost use Rattle.std.specs.Prelude.{◌≡◌, ◌<◌, ◌≤◌, ◌+◌, ◌++◌, ◌∷◌, [], ◌-◌, length, position, nat_eq, nat_lt, take, slice_get, Some, true, false, IfOk, OnOk, IsTrue};
 ghost use Rattle.std.specs.List.{IsDistinct};
 ghost use Rattle.graph_spec.specs.Members.{has};
 ghost use Rattle.label_graph.specs.Nodes.{IsWithout};
@@ -54,16 +54,32 @@ pub(crate) fn items<'a>(cells: &'a [u32], segment: &'a Segment) -> &'a [u32]
     &cells[from..from + len]
 }
 
-/// Reserves capacity for one more number, where there is none. The list then lies behind all others.
+/// How many more numbers fit.
 #[inline(always)]
-pub(crate) fn make_place(cells: &mut Vec<u32>, segment: &mut Segment) -> Result<(), Memory>
+pub(crate) fn spare(segment: &Segment) -> usize
+    ensures { result ≡ segment.now.reserved - segment.now.len }
+{
+    if segment.len < segment.reserved {
+        (segment.reserved - segment.len) as usize
+    } else {
+        0
+    }
+}
+
+/// Reserves capacity for one number more than that many, where there isn't. The list then lies behind all others.
+#[inline(always)]
+pub(crate) fn make_place(
+    cells: &mut Vec<u32>,
+    segment: &mut Segment,
+    taken: usize,
+) -> Result<(), Memory>
     requires { LiesWithin (length cells.old.items) segment.old }
     ensures writes { Writes cells.old.items cells.new.items segment.old segment.new }
     ensures items { items_in cells.new.items segment.new ≡ items_in cells.old.items segment.old }
     ensures capacity { segment.old.reserved ≤ segment.new.reserved }
-    ensures ok { OnOk result (segment.new.len < segment.new.reserved) }
+    ensures ok { OnOk result (taken ≤ segment.old.reserved - segment.old.len → taken < segment.new.reserved - segment.new.len) }
 {
-    if segment.len < segment.reserved {
+    if spare(segment) > taken {
         return Ok(());
     }
     *segment = moved(cells, *segment)?;
@@ -160,6 +176,8 @@ pub(crate) fn push(cells: &mut Vec<u32>, segment: &mut Segment, n: u32)
     requires reserved { segment.old.len < segment.old.reserved }
     ensures writes { Writes cells.old.items cells.new.items segment.old segment.new }
     ensures items { items_in cells.new.items segment.new ≡ items_in cells.old.items segment.old ++ n ∷ [] }
+    ensures capacity { segment.new.reserved ≡ segment.old.reserved }
+    ensures len { segment.new.len ≡ segment.old.len + 1 }
 {
     if is_short(segment) {
         segment.first = n;
@@ -169,14 +187,17 @@ pub(crate) fn push(cells: &mut Vec<u32>, segment: &mut Segment, n: u32)
     segment.len += 1;
 }
 
-/// Takes a number out of a list that has it at most once. The last one comes into its place.
+/// Takes a number out of a list that has it at most once. The last one comes into its place. It is O(1) for the last and
+/// the first number of the list.
 pub(crate) fn take_out(cells: &mut Vec<u32>, segment: &mut Segment, n: u32)
     requires within { LiesWithin (length cells.old.items) segment.old }
     requires once { IsDistinct nat_eq (items_in cells.old.items segment.old) }
     ensures writes { Writes cells.old.items cells.new.items segment.old segment.new }
     ensures without { IsWithout (items_in cells.old.items segment.old) (items_in cells.new.items segment.new) n }
+    ensures capacity { segment.new.reserved ≡ segment.old.reserved }
+    ensures len { segment.new.len ≤ segment.old.len }
 {
-    let Some(place) = position_of(items(cells, segment), n) else {
+    let Some(place) = place_of(items(cells, segment), n) else {
         return;
     };
     segment.len -= 1;
@@ -185,6 +206,26 @@ pub(crate) fn take_out(cells: &mut Vec<u32>, segment: &mut Segment, n: u32)
     }
     let from = segment.first as usize;
     cells[from + place] = cells[from + segment.len as usize];
+}
+
+// The place at which the number stands, if it stands there once. The last place is looked at first.
+fn place_of(list: &[u32], n: u32) -> Option<usize>
+    requires { IsDistinct nat_eq list.now }
+    ensures { result ≡ position (nat_eq n) list.now }
+{
+    if is_last(list, n) {
+        return Some(list.len() - 1);
+    }
+    position_of(list, n)
+}
+
+// Whether the number is the last of the list.
+pub(crate) fn is_last(list: &[u32], n: u32) -> bool
+    ensures last { IsTrue result → slice_get list.now (length list.now - 1) ≡ Some n }
+    ensures some { IsTrue result → 0 < length list.now }
+    ensures member { IsTrue result → has list.now n ≡ true }
+{
+    list.last() == Some(&n)
 }
 
 // The first place at which the number stands.

@@ -10,7 +10,7 @@ pub items-requires : goal.items-requires
 items-requires c =
     subst (λ l. LiesWithin (length l) c.in-Some.row.now.parents) (sym c.deref-in-Some.ensures.value)
     (parent-within c.self.inside.cells.items c.self.inside.rows.items c.args.n c.in-Some.row.now (omega (arith, c.in-Some.ensures.lookup.3.0, ap length c.deref.ensures.value))
-    (c.in-Some.ensures.lookup.1 ∙ ap (λ l. get_or l c.args.n c.in-Some.row.now) c.deref.ensures.value) c.self.invariant)
+    (c.in-Some.ensures.lookup.1 ∙ ap (λ l. get_or l c.args.n c.in-Some.row.now) c.deref.ensures.value) c.self.invariant.held)
 
 pub returns-in-Some : goal.returns-in-Some
 returns-in-Some c =

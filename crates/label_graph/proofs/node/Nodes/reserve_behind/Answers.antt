@@ -1,15 +1,16 @@
-use Rattle.std.proofs.Common.{◌<◌, length, ap, arith}
+use Rattle.std.proofs.Common.{◌<◌, ◌+◌, length, ap, arith, subst, sym}
 use Rattle.std.proofs.lemmas.List.{length-map}
 use Rattle.label_graph.specs.NodeRows.{node_in}
+use Rattle.label_graph.specs.Nodes.{HasReserved}
 use Rattle.label_graph.proofs.RowLemmas.{child-within}
-use Rattle.label_graph.proofs.RowEdges.{held-once, same-first, second-within, held-twice, same-second, edge-reserved}
+use Rattle.label_graph.proofs.RowEdges.{held-once, same-first, second-within, held-twice, same-second, edge-reserved, child-reserved, parent-reserved}
 use Rattle.label_graph.proofs.node.Nodes.reserve_behind.Goals as goal
 
 pub make_place-requires : goal.make_place-requires
 make_place-requires c =
     let s = c.self.inside in
     let from : c.args.u < length s.rows.items = omega (arith, c.requires.from, ap (λ l. length l.nodes) c.self.view_is, length-map s.rows.items (node_in s.cells.items)) in
-    child-within s.cells.items s.rows.items c.args.u c.index_mut.result.now from c.index_mut.ensures.value c.self.invariant
+    child-within s.cells.items s.rows.items c.args.u c.index_mut.result.now from c.index_mut.ensures.value c.self.invariant.held
 
 pub invariant_of-self : goal.invariant_of-self
 invariant_of-self c =
@@ -63,4 +64,7 @@ returns-clause-reserved c =
     let s = c.self.inside in
     let from : c.args.u < length s.rows.items = omega (arith, c.requires.from, ap (λ l. length l.nodes) c.self.view_is, length-map s.rows.items (node_in s.cells.items)) in
     let onto : c.args.v < length s.rows.items = omega (arith, c.requires.onto, ap (λ l. length l.nodes) c.self.view_is, length-map s.rows.items (node_in s.cells.items)) in
-    edge-reserved s.cells.items s.rows.items c.args.u c.index_mut.result.now from c.index_mut.ensures.value c.self.invariant c.make_place.new.cells.items c.make_place.new.segment c.make_place.ensures.writes c.args.v c.index_mut-2.result.now onto c.index_mut-2.ensures.value c.make_place-2.new.cells.items c.make_place-2.new.segment c.make_place-2.ensures.writes c.make_place.ensures.items c.make_place.ensures.capacity c.make_place-2.ensures.items c.make_place-2.ensures.capacity c.in_ok-make_place.ensures.ok c.in_ok-make_place-2.ensures.ok
+    let fits = subst (λ l. HasReserved l.nodes c.args.u c.args.v c.args.from c.args.onto) (sym c.self.view_is) c.requires.reserved in
+    let child = child-reserved s.cells.items s.rows.items c.args.u c.index_mut.result.now from c.index_mut.ensures.value c.self.invariant c.args.v c.args.from c.args.onto fits in
+    let parent = parent-reserved s.cells.items s.rows.items c.args.u c.index_mut.result.now from c.index_mut.ensures.value c.self.invariant c.make_place.new.cells.items c.make_place.new.segment c.make_place.ensures.writes c.args.v c.index_mut-2.result.now onto c.index_mut-2.ensures.value c.args.from c.args.onto fits in
+    edge-reserved s.cells.items s.rows.items c.args.u c.index_mut.result.now from c.index_mut.ensures.value c.self.invariant c.make_place.new.cells.items c.make_place.new.segment c.make_place.ensures.writes c.args.v c.index_mut-2.result.now onto c.index_mut-2.ensures.value c.make_place-2.new.cells.items c.make_place-2.new.segment c.make_place-2.ensures.writes c.make_place.ensures.items c.make_place.ensures.capacity c.make_place-2.ensures.items c.make_place-2.ensures.capacity (c.args.from + 1) (c.args.onto + 1) (omega (arith, c.in_ok-make_place.ensures.ok child)) (omega (arith, c.in_ok-make_place-2.ensures.ok parent))

@@ -9,28 +9,28 @@ pub exchange-requires-clause-list : goal.exchange-requires-clause-list
 exchange-requires-clause-list c =
     let s = c.self.inside in
     let from : c.args.u < length s.rows.items = omega (arith, c.requires, ap (λ l. length l.nodes) c.self.view_is, length-map s.rows.items (node_in s.cells.items)) in
-    let gone = subst (λ l. IsGoneBeside l.nodes c.args.u c.in-Some.g) (sym c.self.view_is) c.in-Some.ensures in
+    let gone = subst (λ l. IsGoneBeside l.shown l.nodes c.args.u c.in-Some.g) (sym c.self.view_is) c.in-Some.ensures in
     parents-within s.cells.items s.rows.items c.args.u c.in-Some.g c.index.result.now c.index-2.result.now from c.index.ensures c.index-2.ensures gone c.self.invariant
 
 pub exchange-requires-clause-room : goal.exchange-requires-clause-room
 exchange-requires-clause-room c =
     let s = c.self.inside in
     let from : c.args.u < length s.rows.items = omega (arith, c.requires, ap (λ l. length l.nodes) c.self.view_is, length-map s.rows.items (node_in s.cells.items)) in
-    let gone = subst (λ l. IsGoneBeside l.nodes c.args.u c.in-Some.g) (sym c.self.view_is) c.in-Some.ensures in
+    let gone = subst (λ l. IsGoneBeside l.shown l.nodes c.args.u c.in-Some.g) (sym c.self.view_is) c.in-Some.ensures in
     gone-parents-within s.cells.items s.rows.items c.args.u c.in-Some.g c.index.result.now c.index-2.result.now from c.index.ensures c.index-2.ensures gone c.self.invariant
 
 pub exchange-requires-clause-apart : goal.exchange-requires-clause-apart
 exchange-requires-clause-apart c =
     let s = c.self.inside in
     let from : c.args.u < length s.rows.items = omega (arith, c.requires, ap (λ l. length l.nodes) c.self.view_is, length-map s.rows.items (node_in s.cells.items)) in
-    let gone = subst (λ l. IsGoneBeside l.nodes c.args.u c.in-Some.g) (sym c.self.view_is) c.in-Some.ensures in
+    let gone = subst (λ l. IsGoneBeside l.shown l.nodes c.args.u c.in-Some.g) (sym c.self.view_is) c.in-Some.ensures in
     parents-apart s.cells.items s.rows.items c.args.u c.in-Some.g c.index.result.now c.index-2.result.now from c.index.ensures c.index-2.ensures gone c.self.invariant
 
 pub invariant_of-self : goal.invariant_of-self
 invariant_of-self c =
     let s = c.self.inside in
     let from : c.args.u < length s.rows.items = omega (arith, c.requires, ap (λ l. length l.nodes) c.self.view_is, length-map s.rows.items (node_in s.cells.items)) in
-    let gone = subst (λ l. IsGoneBeside l.nodes c.args.u c.in-Some.g) (sym c.self.view_is) c.in-Some.ensures in
+    let gone = subst (λ l. IsGoneBeside l.shown l.nodes c.args.u c.in-Some.g) (sym c.self.view_is) c.in-Some.ensures in
     held-parents s.cells.items s.rows.items c.args.u c.in-Some.g c.index.result.now c.index-2.result.now from c.index.ensures c.index-2.ensures gone c.self.invariant
     c.exchange.new.cells.items c.exchange.new.list c.exchange.new.room c.index_mut.result.now c.index_mut-2.result.now c.index_mut.ensures.value c.index_mut-2.ensures.value c.exchange.ensures
 
@@ -38,7 +38,7 @@ pub returns-clause-same : goal.returns-clause-same
 returns-clause-same c =
     let s = c.self.inside in
     let from : c.args.u < length s.rows.items = omega (arith, c.requires, ap (λ l. length l.nodes) c.self.view_is, length-map s.rows.items (node_in s.cells.items)) in
-    let gone = subst (λ l. IsGoneBeside l.nodes c.args.u c.in-Some.g) (sym c.self.view_is) c.in-Some.ensures in
+    let gone = subst (λ l. IsGoneBeside l.shown l.nodes c.args.u c.in-Some.g) (sym c.self.view_is) c.in-Some.ensures in
     rw (← c.self.view_is, c.offer_parents.ensures)
     (same-parents s.cells.items s.rows.items c.args.u c.in-Some.g c.index.result.now c.index-2.result.now from c.index.ensures c.index-2.ensures gone c.self.invariant
     c.exchange.new.cells.items c.exchange.new.list c.exchange.new.room c.index_mut.result.now c.index_mut-2.result.now c.index_mut.ensures.value c.index_mut-2.ensures.value c.exchange.ensures)
