@@ -1,9 +1,9 @@
 -- The definitions at worked values, and at near misses. `shows_is` makes each test one of the relation.
-use Rattle.std.proofs.Common.{◌≡◌, ℕ, ◌⊎◌, inl, inr, List, [], ◌∷◌, length, refl, Bool, true, false, arith}
+use Rattle.std.proofs.Common.{◌≡◌, ℕ, inl, inr, List, [], ◌∷◌, length, refl, Bool, true, false, arith}
 use Rattle.std.specs.Prelude.{◌&&◌, nat_eq, codes, slice_get}
 use Rattle.std.specs.List.{list_any}
 use Rattle.graph_spec.specs.Shapes.{Shape}
-use Rattle.path_spec.specs.Trees.{star, child, below, Expr, only, or, last, then, Item, once, signed, Atom, label, group}
+use Rattle.path_spec.specs.Trees.{star, child, below, Expr, only, or, last, then, once, signed, Atom, label, group}
 use Rattle.walk_spec.specs.Shown.{Before, IsLeast}
 use Rattle.walk_spec.specs.Tests.{shows}
 use Rattle.walk_spec.proofs.ShownTests.{shows_is}

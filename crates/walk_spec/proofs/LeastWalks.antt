@@ -1,5 +1,5 @@
 -- The order of walks: of each two at most one comes first, so at most one walk is the least.
-use Rattle.std.proofs.Common.{◌≡◌, ℕ, ◌<◌, ◌⊎◌, inl, inr, List, [], ◌∷◌, length, refl, sym, ap, arith}
+use Rattle.std.proofs.Common.{◌≡◌, ℕ, ◌⊎◌, inl, inr, List, [], ◌∷◌, sym, ap, arith}
 use Rattle.graph_spec.specs.Shapes.{Shape}
 use Rattle.path_spec.specs.Trees.{Expr}
 use Rattle.walk_spec.specs.Shown.{EndIn, Shows, IsLess, Before, IsLeast}

@@ -1,6 +1,6 @@
 -- The nodes that walks show are the answers.
-use Rattle.std.proofs.Common.{◌≡◌, ℕ, List, [], ◌∷◌, map, Some, None, refl, sym, ap}
-use Rattle.graph_spec.specs.Shapes.{Shape, IsChild}
+use Rattle.std.proofs.Common.{◌≡◌, ℕ, List, [], ◌∷◌, map, Some, ap}
+use Rattle.graph_spec.specs.Shapes.{Shape}
 use Rattle.graph_spec.specs.Walks.{Leads}
 use Rattle.path_spec.specs.Trees.{Expr}
 use Rattle.path_spec.specs.Matches.{Word, Matches}

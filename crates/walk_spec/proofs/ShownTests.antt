@@ -1,11 +1,10 @@
 -- The test for walks that show why a node answers decides the definition.
-use Rattle.std.proofs.Common.{◌≡◌, ℕ, List, [], ◌∷◌, map, Bool, true, false, Option, Some, None, refl, sym, ap, ◌∙◌, subst, true≢false}
-use Rattle.std.specs.Prelude.{◌&&◌, ◌↔◌, nat_eq}
+use Rattle.std.proofs.Common.{◌≡◌, ℕ, List, [], ◌∷◌, map, true, Option, Some, None, refl, sym, ap, ◌∙◌, true≢false}
+use Rattle.std.specs.Prelude.{◌&&◌, ◌↔◌}
 use Rattle.std.proofs.lemmas.Bool.{and_from, and_parts, eqb-true, eq-eqb}
 use Rattle.graph_spec.specs.Shapes.{Shape}
 use Rattle.path_spec.specs.Trees.{Expr}
 use Rattle.path_spec.specs.Matches.{Word, Matches}
-use Rattle.path_spec.specs.Tests.{matches}
 use Rattle.path_spec.proofs.WordTests.{says}
 use Rattle.walk_spec.specs.Shown.{AreLinked, EndIn, Shows}
 use Rattle.walk_spec.specs.Tests.{labelled, word_of, are_linked, end_in, word_matches, shows}

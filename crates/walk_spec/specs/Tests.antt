@@ -1,5 +1,5 @@
 -- A plain test for whether a walk shows why a node answers.
-use Rattle.std.specs.Prelude.{ℕ, ◌&&◌, Bool, true, false, nat_eq, List, [], ◌∷◌, Option, None, Some, option_and_then}
+use Rattle.std.specs.Prelude.{ℕ, ◌&&◌, Bool, true, false, nat_eq, List, [], ◌∷◌, Option, None, Some}
 use Rattle.graph_spec.specs.Shapes.{Shape}
 use Rattle.path_spec.specs.Trees.{Expr}
 use Rattle.path_spec.specs.Matches.{Word}

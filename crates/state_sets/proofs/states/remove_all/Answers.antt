@@ -1,6 +1,12 @@
-use Rattle.std.proofs.Common.{◌∙◌, ℕ, drop, get_or, IsTrue}
-use Rattle.state_sets.proofs.Lists.{left_after, none_left}
+use Rattle.std.proofs.Common.{◌∙◌, ◌<◌, get_or, sym, subst}
+use Rattle.state_sets.proofs.Lists.{has_at, left_after, none_left}
 use Rattle.state_sets.proofs.states.remove_all.Goals as goal
+
+pub remove-requires : goal.remove-requires
+remove-requires c =
+    let list = c.args.list.now in
+    let i = c.loop-i.i in
+    subst (λ n. get_or list i 0 < n) (sym c.loop-i.invariant.size) (c.requires.below (get_or list i 0) (has_at list i c.loop-i-test.true))
 
 pub loop-i-preserved : goal.loop-i-preserved
 loop-i-preserved c =
