@@ -140,8 +140,12 @@ fn compile_seq(labels: &Labels, program: &mut Program, seq: &Seq, next: u32) -> 
     compile_item(labels, program, &seq.first.atom, seq.first.sign, after)
 }
 
+/// The state from which the expression is read, with the state `next` behind it. An alternative, an item, a sign and a
+/// separator take at most two states each. `Memory` comes only where memory runs out, or the states pass 2^32 - 1. O(m)
+/// for m tokens, and each label is looked up once for each place where it stands, in expected O(1) for each of its bytes;
+/// it takes O(m) memory.
 #[cycle(compile)]
-fn compile_expr(
+pub fn compile_expr(
     labels: &Labels,
     program: &mut Program,
     expr: &Expr,

@@ -13,5 +13,6 @@ mod parts;
 mod tree;
 
 pub use answers::{eval, eval_within};
+pub use compile::compile_expr;
 pub use lengths::longest;
 pub use tree::{Atom, Expr, Following, Item, Sep, Seq, Sign};

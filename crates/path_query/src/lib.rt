@@ -20,6 +20,6 @@ pub use expr::{ExprError, PathExpr};
 pub use labels::{name_len, read_label};
 pub use lexer::{Lexeme, lex};
 pub use parsing::is_past;
-pub use path_expr::{Atom, Expr, Following, Item, Sep, Seq, Sign};
+pub use path_expr::{Atom, Expr, Following, Item, Sep, Seq, Sign, compile_expr};
 pub use read_error::ReadError;
 pub use words::{skip_blanks, split_word, trim_end_blanks};

@@ -1,0 +1,5 @@
+pub mod Examples
+pub mod LeastWalks
+pub mod ShownAnswers
+pub mod ShownTests
+pub mod WayLaws
