@@ -43,8 +43,9 @@ impl Model for Staged {
 }
 
 /// Takes all the memory that a change needs, which `judge` accepts as new within some limits. The graph stays as it is
-/// seen; what was reserved before is no more, and where memory runs out nothing is. Expected O(b), amortized, for a node whose label has b bytes, and
-/// O(1), amortized, for an edge; it takes the memory that `Graph` takes for them. A removal is O(1), no memory.
+/// seen. What was reserved before is given up, and if memory runs out nothing is reserved. Expected O(b), amortized, for
+/// a node whose label has b bytes, and O(1), amortized, for an edge; it takes the memory that `Graph` takes for them. A
+/// removal is O(1), no memory.
 pub fn stage(alloc: Global, graph: &mut Graph, change: &Change) -> Result<Staged, Memory>
     requires new { IsNew (change_of change.now) graph.old.graph }
     ensures graph { graph.new.graph ≡ graph.old.graph }
