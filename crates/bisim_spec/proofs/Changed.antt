@@ -17,7 +17,7 @@ use Rattle.bisim_spec.proofs.Differs.{differs_applied}
 
 -- what is no target and a node after is a node before
 pub live_before : (target : ℕ → Bool) (s s2 : Shape) → DiffersAt target s s2 → (n : ℕ) → IsFalse (target n) → IsNode s2 n → IsNode s n
-live_before target s s2 d n off h = ap is_some (d.label n off) ∙ h
+live_before target s s2 d n off h = ap is_some (d.label n h off) ∙ h
 
 -- Nodes keep their blocks, a new node gets any, and one that goes loses its: what was a stable partition is stable after the
 -- change, but maybe at the targets.
@@ -25,11 +25,11 @@ pub stable_but_changed : (target : ℕ → Bool) (s s2 : Shape) (block block2 : 
     → KeepsBlocks s s2 block block2 → Stable s block → IsPartition s2 block2 → StableBut s2 block2 target
 stable_but_changed target s s2 block block2 shape shape2 d keeps st partition = record {
   partition = partition;
-  label = λ u v nu nv t. sym (d.label u nu) ∙ stable_label s block st u v (before u v nu nv t) ∙ d.label v nv;
+  label = λ u v nu nv t. sym (d.label u (first u v t) nu) ∙ stable_label s block st u v (before u v nu nv t) ∙ d.label v (second u v t) nv;
   parents = λ u v nu nv t q e.
-      let e0 : IsParent s q u = d.edge q u nu ∙ e in
+      let e0 : IsParent s q u = d.edge q u (first u v t) nu ∙ e in
       let r = stable_parents s block st u v (before u v nu nv t) q e0 in
-      let e2 : IsParent s2 r.0 v = sym (d.edge r.0 v nv) ∙ r.1 in (
+      let e2 : IsParent s2 r.0 v = sym (d.edge r.0 v (second u v t) nv) ∙ r.1 in (
         r.0,
         e2,
         (
@@ -40,15 +40,17 @@ stable_but_changed target s s2 block block2 shape shape2 d keeps st partition = 
       );
 }
   where
+    first : (u v : ℕ) → Together block2 u v → IsNode s2 u
+    first u v t = partition.only u (together_some block2 u v t)
+
+    second : (u v : ℕ) → Together block2 u v → IsNode s2 v
+    second u v t = first v u (together_sym block2 u v t)
+
     same : (n : ℕ) → IsFalse (target n) → IsNode s2 n → at block2 n ≡ at block n
     same n off h = keeps.kept n (live_before target s s2 d n off h) h
 
     before : (u v : ℕ) → IsFalse (target u) → IsFalse (target v) → Together block2 u v → Together block u v
-    before u v nu nv t = (
-      t.0,
-      sym (same u nu (partition.only u (together_some block2 u v t))) ∙ t.1,
-      sym (same v nv (partition.only v (together_some block2 v u (together_sym block2 u v t)))) ∙ t.2,
-    )
+    before u v nu nv t = (t.0, sym (same u nu (first u v t)) ∙ t.1, sym (same v nv (second u v t)) ∙ t.2)
 
 -- the same for a change that is accepted
 pub stable_but_applied : (c : Change) (g : Graph) (limits : Limits) (g2 : Graph) (block block2 : List (Option ℕ)) → IsGraph g → apply c g limits ≡ Ok g2

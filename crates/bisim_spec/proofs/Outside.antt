@@ -1,21 +1,22 @@
 -- What a change leaves as it was: the nodes that aren't reached from its targets.
 use Rattle.std.proofs.Common.{◌≡◌, ◌≢◌, ◌↔◌, ℕ, zero, suc, List, Option, Some, IsFalse, Bool, sym, ◌∙◌, ap, arith, inl, inr}
 use Rattle.std.proofs.lemmas.Bool.{false_from_ne_true, both_ways}
-use Rattle.graph_spec.specs.Shapes.{Shape, IsParent, IsShape}
+use Rattle.graph_spec.specs.Shapes.{Shape, IsNode, IsParent, IsShape}
 use Rattle.bisim_spec.specs.Bisimilarity.{Covers, Bis}
 use Rattle.graph_spec.specs.Members.{at}
-use Rattle.bisim_spec.specs.Partitions.{Together, IsPartition}
-use Rattle.bisim_spec.specs.Stability.{StableBut, Stable, Mergeable, Minimal, merged}
+use Rattle.bisim_spec.specs.Partitions.{Together}
+use Rattle.bisim_spec.specs.Stability.{Stable, Mergeable, Minimal, merged}
 use Rattle.bisim_spec.specs.Reach.{within_distance, reach}
 use Rattle.bisim_spec.proofs.Stable.{stable_label, stable_parents}
 use Rattle.bisim_spec.proofs.Together.{together_sym, together_at, merged_keeps, merged_a, merged_b, merged_cases}
 use Rattle.bisim_spec.proofs.MergeableBlocks.{mergeable_from}
 use Rattle.bisim_spec.proofs.Reached.{within_next, within_step, within_more, reach_start, unreached_parent}
 
--- the two shapes differ at the targets alone: in their labels, and in the edges that lead to them
+-- A node of the second shape that is no target has the label that it had in the first, and the same parents. A number that
+-- is no node of the second shape may have had any.
 pub record DiffersAt (target : ℕ → Bool) (s s2 : Shape) : Type 0 where
-  pub label : (n : ℕ) → IsFalse (target n) → s.label n ≡ s2.label n
-  pub edge : (p n : ℕ) → IsFalse (target n) → s.edge p n ≡ s2.edge p n
+  pub label : (n : ℕ) → IsNode s2 n → IsFalse (target n) → s.label n ≡ s2.label n
+  pub edge : (p n : ℕ) → IsNode s2 n → IsFalse (target n) → s.edge p n ≡ s2.edge p n
 
 -- such nodes have their labels and parents, and their parents are such nodes
 pub record IsOutside (s s2 : Shape) (Out : ℕ → Type 0) : Type 0 where
@@ -23,26 +24,19 @@ pub record IsOutside (s s2 : Shape) (Out : ℕ → Type 0) : Type 0 where
   pub label : (n : ℕ) → Out n → s.label n ≡ s2.label n
   pub edge : (p n : ℕ) → Out n → s.edge p n ≡ s2.edge p n
 
-pub outside_reach : (target : ℕ → Bool) (s s2 : Shape) → IsShape s2 → DiffersAt target s s2 → IsOutside s s2 (λ n. IsFalse (reach s2 target n))
-outside_reach target s s2 shape d =
-    let apart : (n : ℕ) → IsFalse (reach s2 target n) → IsFalse (target n) =
-    λ n h. false_from_ne_true (target n) (λ t. both_ways (reach s2 target n) h (reach_start s2 target n t))
-    in
-    record {
-      parents = λ p n h e. unreached_parent s2 shape target p n h e;
-      label = λ n h. d.label n (apart n h);
-      edge = λ p n h. d.edge p n (apart n h);
-    }
+-- a node that isn't reached from the targets
+abbrev pub IsOut : Shape → (ℕ → Bool) → ℕ → Type 0
+IsOut s from n = IsNode s n × IsFalse (reach s from n)
 
--- a partition that stays as it is: where it was stable it is so after the change, but maybe at the targets
-pub stable_but_targets : (target : ℕ → Bool) (s s2 : Shape) (block : List (Option ℕ)) → DiffersAt target s s2 → Stable s block → IsPartition s2 block
-    → StableBut s2 block target
-stable_but_targets target s s2 block d st partition = record {
-  partition = partition;
-  label = λ u v nu nv t. sym (d.label u nu) ∙ stable_label s block st u v t ∙ d.label v nv;
-  parents = λ u v nu nv t p e.
-      let q = stable_parents s block st u v t p (d.edge p u nu ∙ e) in
-      (q.0, sym (d.edge q.0 v nv) ∙ q.1, q.2);
+-- what isn't reached is no target
+pub off_target : (s : Shape) (from : ℕ → Bool) (n : ℕ) → IsFalse (reach s from n) → IsFalse (from n)
+off_target s from n h = false_from_ne_true (from n) (λ t. both_ways (reach s from n) h (reach_start s from n t))
+
+pub outside_reach : (target : ℕ → Bool) (s s2 : Shape) → IsShape s2 → DiffersAt target s s2 → IsOutside s s2 (IsOut s2 target)
+outside_reach target s s2 shape d = record {
+  parents = λ p n h e. (shape.from p n e, unreached_parent s2 shape target p n h.1 e);
+  label = λ n h. d.label n h.0 (off_target s2 target n h.1);
+  edge = λ p n h. d.edge p n h.0 (off_target s2 target n h.1);
 }
 
 -- By level: such nodes have their labels and parents, and from one level up their parents are such nodes.
@@ -79,25 +73,35 @@ bis_carried s s2 Out o (suc i) u v ou ov h = (
   },
 )
 
-outside_within : (target : ℕ → Bool) (s s2 : Shape) → IsShape s2 → DiffersAt target s s2 → IsOutsideBy s s2 (λ i n. IsFalse (within_distance s2 target i n))
+-- a node that isn't within so many edges of the targets
+abbrev pub IsFar : Shape → (ℕ → Bool) → ℕ → ℕ → Type 0
+IsFar s target i n = IsNode s n × IsFalse (within_distance s target i n)
+
+outside_within : (target : ℕ → Bool) (s s2 : Shape) → IsShape s2 → DiffersAt target s s2 → IsOutsideBy s s2 (IsFar s2 target)
 outside_within target s s2 shape d =
     let apart : (i n : ℕ) → IsFalse (within_distance s2 target i n) → IsFalse (target n) =
     λ i n h. false_from_ne_true (target n) (λ t. both_ways (within_distance s2 target i n) h (within_more s2 target 0 i n (omega arith) t))
     in
     record {
-      lower = λ i n h. false_from_ne_true (within_distance s2 target i n) (λ t. both_ways (within_distance s2 target (suc i) n) h (within_next s2 target i n t));
-      parents = λ i p n h e. false_from_ne_true (within_distance s2 target i p) (λ t. both_ways (within_distance s2 target (suc i) n) h (within_step s2 shape target i p n t e));
-      label = λ i n h. d.label n (apart i n h);
-      edge = λ i p n h. d.edge p n (apart i n h);
+      lower = λ i n h. (
+        h.0,
+        false_from_ne_true (within_distance s2 target i n) (λ t. both_ways (within_distance s2 target (suc i) n) h.1 (within_next s2 target i n t)),
+      );
+      parents = λ i p n h e. (
+        shape.from p n e,
+        false_from_ne_true (within_distance s2 target i p) (λ t. both_ways (within_distance s2 target (suc i) n) h.1 (within_step s2 shape target i p n t e)),
+      );
+      label = λ i n h. d.label n h.0 (apart i n h.1);
+      edge = λ i p n h. d.edge p n h.0 (apart i n h.1);
     }
 
 -- nodes that aren't within so many edges of the targets are bisimilar to that level exactly where they were
 pub bis_kept : (target : ℕ → Bool) (s s2 : Shape) → IsShape s2 → DiffersAt target s s2 → (i u v : ℕ)
-    → IsFalse (within_distance s2 target i u) → IsFalse (within_distance s2 target i v) → Bis s i u v ↔ Bis s2 i u v
-bis_kept target s s2 shape d i u v nu nv =
+    → IsFar s2 target i u → IsFar s2 target i v → Bis s i u v ↔ Bis s2 i u v
+bis_kept target s s2 shape d i u v fu fv =
     let out = outside_within target s s2 shape d in
-    let Out : ℕ → ℕ → Type 0 = λ i n. IsFalse (within_distance s2 target i n) in
-    (bis_carried s s2 Out out i u v nu nv, bis_carried s2 s Out (outside_back s s2 Out out) i u v nu nv)
+    let Out : ℕ → ℕ → Type 0 = IsFar s2 target in
+    (bis_carried s s2 Out out i u v fu fv, bis_carried s2 s Out (outside_back s s2 Out out) i u v fu fv)
 
 -- two partitions group these nodes alike
 pub record SameOutside (p p2 : List (Option ℕ)) (Out : ℕ → Type 0) : Type 0 where
