@@ -65,7 +65,8 @@ pub fn affected_nodes<L: Ledger>(
     requires allocated { (t : ℕ) → IsTrue (has targets.now t) → t < length (graph_after after.now).allocated }
     ensures within_distance { IfOk result (AreWithinDistance (shape_of (graph_after after.now)) (has targets.now) k) }
     ensures none { k ≡ 0 → steps.new ≡ steps.old }
-    ensures cost { steps.new ≤ steps.old + weight (shape_of (graph_after after.now)) (within_distance (shape_of (graph_after after.now)) (has targets.now) k) + 1 }
+    ensures cost { steps.new ≤ steps.old
+        + weight (shape_of (graph_after after.now)) (within_distance (shape_of (graph_after after.now)) (has targets.now) k) + 1 }
 {
     // Called for its contract: there is a graph, so that what is affected is among its nodes.
     let _known = after.created();

@@ -20,7 +20,7 @@ use Rattle.ak_family.proofs.KeySupports.{supported_keys, labels_alone}
 use Rattle.quotient_draft.proofs.Gone.{member_there}
 use Rattle.block_partition.specs.FilledTables.{SameBlocks}
 use Rattle.block_partition.proofs.Filled.{agrees_moved}
-use Rattle.ak_family.specs.BlockLabels.{BlocksHaveLabels}
+use Rattle.ak_family.specs.BlockLabels.{BlocksHaveListedLabels}
 
 -- level i is the last one, and has the blocks of the list
 pub record IsBuilt (g : Graph) (i : ℕ) (levels : List KeyedQuotient) (block : List (Option ℕ)) (labels : List ℕ) : Type 0 where
@@ -30,7 +30,7 @@ pub record IsBuilt (g : Graph) (i : ℕ) (levels : List KeyedQuotient) (block : 
   pub label_keys : AreLabelKeys g levels
   pub parent_keys : (j : ℕ) → j < i → AreParentKeys g levels j
   pub top : SameBlocks (blocks_at levels i) block
-  pub labelled : BlocksHaveLabels g block labels
+  pub labelled : BlocksHaveListedLabels g block labels
   pub keyed : (j : ℕ) → j ≤ i → AreKeyed (level_at levels j).quotient.blocks.labels (key_at (level_at levels j).keys)
   pub lowest : (n b : ℕ) → at (blocks_at levels 0) n ≡ Some b → at (level_at levels 0).quotient.blocks.labels b ≡ label_number g n
 
@@ -55,7 +55,7 @@ numbered_moved own own2 base base2 neighbour_of next next2 key key2 owns bases n
 }
 
 pub built_lowest : (g : Graph) (level : KeyedQuotient) (block : List (Option ℕ)) (labels : List ℕ) (keys : List (List ℕ)) (levels : List KeyedQuotient)
-    → Agrees (shape_of g) block (Bis (shape_of g) 0) → BlocksHaveLabels g block labels → AreNumbered (label_number g) [] no_neighbours block (slice_get keys)
+    → Agrees (shape_of g) block (Bis (shape_of g) 0) → BlocksHaveListedLabels g block labels → AreNumbered (label_number g) [] no_neighbours block (slice_get keys)
     → SameBlocks level.quotient.blocks.block_of block → ViewFits g (view_of level.quotient) → ((b : ℕ) → key_at level.keys b ≡ slice_get keys b)
     → ((n b : ℕ) → at level.quotient.blocks.block_of n ≡ Some b → at level.quotient.blocks.labels b ≡ label_number g n) → AreKeyed level.quotient.blocks.labels (key_at level.keys)
     → levels ≡ level ∷ [] → IsBuilt g 0 levels block labels
@@ -87,7 +87,7 @@ built_top g i levels block labels w = agrees_moved (shape_of g) block (blocks_at
 pub built_above : (g : Graph) (i : ℕ) (levels more : List KeyedQuotient) (level : KeyedQuotient) (block next : List (Option ℕ)) (labels found : List ℕ) (keys : List (List ℕ))
     → IsBuilt g i levels block labels
     → ((j : ℕ) → Agrees (shape_of g) block (Bis (shape_of g) j) → Agrees (shape_of g) next (Bis (shape_of g) (suc j)))
-    → BlocksHaveLabels g next found → AreNumbered (at block) block (is_neighbour Parents g) next (slice_get keys)
+    → BlocksHaveListedLabels g next found → AreNumbered (at block) block (is_neighbour Parents g) next (slice_get keys)
     → SameBlocks level.quotient.blocks.block_of next → ViewFits g (view_of level.quotient) → ((b : ℕ) → key_at level.keys b ≡ slice_get keys b)
     → AreKeyed level.quotient.blocks.labels (key_at level.keys) → more ≡ levels ++ level ∷ [] → IsBuilt g (i + 1) more next found
 built_above g i levels more level block next labels found keys w up is numbered same fits keys_same alike added =

@@ -16,7 +16,7 @@ use Rattle.quotient.specs.Quotients.{AreSupports, Quotient, view_of}
 use Rattle.key_table.specs.NumberedKeys.{AreDistinct}
 use Rattle.label_graph.specs.GraphViews.{label_number}
 use Rattle.keyed_quotient.specs.KeyedQuotients.{AreKeyed}
-use Rattle.ak_family.specs.BlockLabels.{BlocksHaveLabels}
+use Rattle.ak_family.specs.BlockLabels.{BlocksHaveListedLabels}
 
 is_some_get : {X : Type 0} (xs : List X) (b : ℕ) → is_some (slice_get xs b) ≡ nat_lt b (length xs)
 is_some_get xs b = elim (slice_get_cases xs b).1 [
@@ -39,12 +39,12 @@ keyed_as labels key key2 same k = record {
 }
 
 -- each block has the label of its members
-pub filled_labels : (g : Graph) (block : List (Option ℕ)) (labels : List ℕ) (q : Quotient) → BlocksHaveLabels g block labels → SameBlocks q.blocks.block_of block → HaveLabels q.blocks labels
+pub filled_labels : (g : Graph) (block : List (Option ℕ)) (labels : List ℕ) (q : Quotient) → BlocksHaveListedLabels g block labels → SameBlocks q.blocks.block_of block → HaveLabels q.blocks labels
     → (n b : ℕ) → at q.blocks.block_of n ≡ Some b → at q.blocks.labels b ≡ label_number g n
 filled_labels g block labels q is same have n b e = (let l = is n b (sym (same n) ∙ e) in have b ∙ l.1 ∙ sym l.2)
 
 -- the quotient is one of the graph
-pub filled_fits : (g : Graph) (block : List (Option ℕ)) (labels : List ℕ) (q : Quotient) → IsGraph g → IsPartition (shape_of g) block → BlocksHaveLabels g block labels
+pub filled_fits : (g : Graph) (block : List (Option ℕ)) (labels : List ℕ) (q : Quotient) → IsGraph g → IsPartition (shape_of g) block → BlocksHaveListedLabels g block labels
     → ((b : ℕ) → b < length labels → (n : ℕ) × (at block n ≡ Some b)) → SameBlocks q.blocks.block_of block → HaveLabels q.blocks labels
     → AreSupports g.edges q.blocks.block_of q.supports → ViewFits g (view_of q)
 filled_fits g block labels q s p is inhabited same have counted = record {

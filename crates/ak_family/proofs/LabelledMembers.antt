@@ -9,7 +9,7 @@ use Rattle.bisim_spec.proofs.Bisimilar.{none_or_some, is_some_at}
 use Rattle.bisim_levels.specs.NeighbourSides.{no_neighbours}
 use Rattle.bisim_levels.specs.Keys.{IsKey}
 use Rattle.bisim_levels.specs.Refinement.{AreNumbered, AreBlocksBelow}
-use Rattle.ak_family.specs.BlockLabels.{BlocksHaveLabels}
+use Rattle.ak_family.specs.BlockLabels.{BlocksHaveListedLabels}
 
 get_before : (xs : List ℕ) (x j : ℕ) → j < length xs → slice_get (xs ++ x ∷ []) j ≡ slice_get xs j
 get_before [] x j h = absurd (omega (arith, h))
@@ -57,20 +57,20 @@ abbrev pub AreFirst : List (List ℕ) → List ℕ → Type 0
 AreFirst keys own = (b : ℕ) (key : List ℕ) → slice_get keys b ≡ Some key → slice_get own b ≡ slice_get key 0
 
 -- a block that a node has, has a label
-pub labelled_below : (g : Graph) (block : List (Option ℕ)) (labels : List ℕ) → BlocksHaveLabels g block labels → (n b : ℕ) → at block n ≡ Some b → b < length labels
+pub labelled_below : (g : Graph) (block : List (Option ℕ)) (labels : List ℕ) → BlocksHaveListedLabels g block labels → (n b : ℕ) → at block n ≡ Some b → b < length labels
 labelled_below g block labels is n b e = let l = is n b e in slice_get_within labels b l.0 l.1
 
 -- the first number of a key of the lowest level is its members' label
 pub labelled_lowest : (g : Graph) (next : List (Option ℕ)) (keys : List (List ℕ)) (labels : List ℕ) → AreNumbered (label_number g) [] no_neighbours next (slice_get keys) → AreFirst keys labels
-    → BlocksHaveLabels g next labels
+    → BlocksHaveListedLabels g next labels
 labelled_lowest g next keys labels w first m b e =
     let k = member_key (label_number g) [] no_neighbours next (slice_get keys) w m b e in
     (k.is.number, first b k.numbers k.at ∙ key_first (label_number g) [] no_neighbours m k.numbers k.is, k.is.own_is)
 
 -- above it, it is a block of the level below, in which the members are
 pub labelled_above : (g : Graph) (block : List (Option ℕ)) (labels : List ℕ) (neighbour_of : ℕ → ℕ → Bool) (next : List (Option ℕ)) (keys : List (List ℕ)) (own found : List ℕ)
-    → BlocksHaveLabels g block labels → AreNumbered (at block) block neighbour_of next (slice_get keys) → AreFirst keys own
-    → ((b n : ℕ) → slice_get own b ≡ Some n → slice_get found b ≡ slice_get labels n) → BlocksHaveLabels g next found
+    → BlocksHaveListedLabels g block labels → AreNumbered (at block) block neighbour_of next (slice_get keys) → AreFirst keys own
+    → ((b n : ℕ) → slice_get own b ≡ Some n → slice_get found b ≡ slice_get labels n) → BlocksHaveListedLabels g next found
 labelled_above g block labels neighbour_of next keys own found is w first looked m b e =
     let k = member_key (at block) block neighbour_of next (slice_get keys) w m b e in
     let l = is m k.is.number k.is.own_is in
@@ -78,7 +78,7 @@ labelled_above g block labels neighbour_of next keys own found is w first looked
 
 -- and that block has a label
 pub own_below : (g : Graph) (block : List (Option ℕ)) (labels : List ℕ) (neighbour_of : ℕ → ℕ → Bool) (next : List (Option ℕ)) (keys : List (List ℕ)) (own : List ℕ)
-    → BlocksHaveLabels g block labels → AreNumbered (at block) block neighbour_of next (slice_get keys) → AreBlocksBelow next (length keys) → AreFirst keys own → length own ≡ length keys
+    → BlocksHaveListedLabels g block labels → AreNumbered (at block) block neighbour_of next (slice_get keys) → AreBlocksBelow next (length keys) → AreFirst keys own → length own ≡ length keys
     → (b n : ℕ) → slice_get own b ≡ Some n → n < length labels
 own_below g block labels neighbour_of next keys own is w blocks first count b n e =
     let within = slice_get_within own b n e in

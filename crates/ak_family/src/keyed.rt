@@ -9,7 +9,7 @@ ghost use Rattle.quotient.specs.Quotients.{view_of};
 ghost use Rattle.quotient.specs.QuotientNeighbours.{AreListed};
 ghost use Rattle.keyed_quotient.specs.KeyedQuotients.{AreKeyed, key_at};
 ghost use Rattle.block_partition.specs.FilledTables.{SameBlocks};
-ghost use Rattle.ak_family.specs.BlockLabels.{BlocksHaveLabels, HasTheirLabels};
+ghost use Rattle.ak_family.specs.BlockLabels.{BlocksHaveListedLabels, HasTheirLabels};
 
 use crate::labelled_levels::LabelledLevel;
 use block_partition::fill;
@@ -30,7 +30,7 @@ pub(crate) fn keyed_summary(
 ) -> Result<KeyedSummary, Memory>
     requires listed { AreListed view.now.edges edges.now }
     requires partition { IsPartition (shape_of view.now) labelled.now.block.items }
-    requires labelled { BlocksHaveLabels view.now labelled.now.block.items labelled.now.labels.items }
+    requires labelled { BlocksHaveListedLabels view.now labelled.now.block.items labelled.now.labels.items }
     requires span { AreBlocksBelow labelled.now.block.items (length keys) }
     requires distinct { AreDistinct keys }
     requires count { length labelled.now.labels.items ≡ length keys }

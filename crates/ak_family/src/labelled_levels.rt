@@ -7,7 +7,7 @@ ghost use Rattle.bisim_spec.specs.Partitions.{Agrees, IsPartition};
 ghost use Rattle.bisim_levels.specs.NeighbourSides.{no_neighbours};
 ghost use Rattle.bisim_levels.specs.Refinement.{AreNumbered, AreBlocksBelow, IsNextLevel};
 ghost use Rattle.key_table.specs.NumberedKeys.{AreDistinct};
-ghost use Rattle.ak_family.specs.BlockLabels.{BlocksHaveLabels, AreNumberedAbove};
+ghost use Rattle.ak_family.specs.BlockLabels.{BlocksHaveListedLabels, AreNumberedAbove};
 
 use crate::labels::{look_up, own_numbers};
 use bisim_levels::{label_level, next_level};
@@ -31,7 +31,7 @@ pub(crate) fn lowest(
     view: &GraphView<'_>,
 ) -> Result<(LabelledLevel, KeyTable), Memory>
     ensures agrees { IfOk result (λ l. Agrees (shape_of view.now) l.0.block.items (Bis (shape_of view.now) 0)) }
-    ensures labelled { IfOk result (λ l. BlocksHaveLabels view.now l.0.block.items l.0.labels.items) }
+    ensures labelled { IfOk result (λ l. BlocksHaveListedLabels view.now l.0.block.items l.0.labels.items) }
     ensures numbered { IfOk result (λ l. AreNumbered (label_number view.now) [] no_neighbours l.0.block.items (slice_get l.1)) }
     ensures span { IfOk result (λ l. AreBlocksBelow l.0.block.items (length l.1)) }
     ensures distinct { IfOk result (λ l. AreDistinct l.1) }
@@ -54,9 +54,9 @@ pub(crate) fn above(
     below: &LabelledLevel,
 ) -> Result<(LabelledLevel, KeyTable), Memory>
     requires partition { IsPartition (shape_of view.now) below.now.block.items }
-    requires labelled { BlocksHaveLabels view.now below.now.block.items below.now.labels.items }
+    requires labelled { BlocksHaveListedLabels view.now below.now.block.items below.now.labels.items }
     ensures agrees { IfOk result (λ l. IsNextLevel Bis (shape_of view.now) below.now.block.items l.0.block.items) }
-    ensures labelled { IfOk result (λ l. BlocksHaveLabels view.now l.0.block.items l.0.labels.items) }
+    ensures labelled { IfOk result (λ l. BlocksHaveListedLabels view.now l.0.block.items l.0.labels.items) }
     ensures numbered { IfOk result (λ l. AreNumberedAbove view.now below.now.block.items l.0.block.items (slice_get l.1)) }
     ensures span { IfOk result (λ l. AreBlocksBelow l.0.block.items (length l.1)) }
     ensures distinct { IfOk result (λ l. AreDistinct l.1) }

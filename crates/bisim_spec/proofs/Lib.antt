@@ -13,7 +13,7 @@ pub mod Ranks
 pub mod Outside
 pub mod EdgeSets
 pub mod Moves
-pub mod OneTarget
+pub mod ListedTargets
 pub mod Differs
 pub mod Changed
 pub mod EdgeSupports

@@ -1,9 +1,9 @@
 -- The nodes at which a change alters a graph, and what it leaves of a partition.
-use Rattle.std.specs.Prelude.{◌≡◌, ◌≢◌, ◌<◌, ℕ, Bool, List, [], ◌∷◌, Option, length, nat_eq}
+use Rattle.std.specs.Prelude.{◌≡◌, ◌≢◌, ◌<◌, ℕ, Bool, List, Option, IsTrue, length, nat_eq}
 use Rattle.graph_spec.specs.Graphs.{Graph}
 use Rattle.graph_spec.specs.Changes.{Change, node, link, unlink, drop, after}
 use Rattle.graph_spec.specs.Shapes.{Shape, IsNode, IsParent, shape_of}
-use Rattle.graph_spec.specs.Members.{at, has}
+use Rattle.graph_spec.specs.Members.{at, has, Lists}
 use Rattle.bisim_spec.specs.Partitions.{Together}
 
 -- whether the change alters the graph at the node: a node that comes, the end of an edge that comes or goes, a node that goes
@@ -13,10 +13,10 @@ target (link u v) g n = nat_eq n v
 target (unlink u v) g n = nat_eq n v
 target (drop u) g n = nat_eq n u
 
--- the change has this target and no other
-pub record IsOnlyTarget (g : Graph) (c : Change) (t : ℕ) : Type 0 where
-  pub is : (n : ℕ) → has (t ∷ []) n ≡ target c g n
-  pub allocated : t < length (after c g).allocated
+-- the list has just the targets of the change, each once, and their numbers are allocated in the graph after it
+pub record AreTargets (g : Graph) (c : Change) (targets : List ℕ) : Type 0 where
+  pub listed : Lists (target c g) targets
+  pub allocated : (t : ℕ) → IsTrue (has targets t) → t < length (after c g).allocated
 
 -- what is a node both before and after has the same block
 pub record KeepsBlocks (s s2 : Shape) (block block2 : List (Option ℕ)) : Type 0 where

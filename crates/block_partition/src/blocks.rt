@@ -71,7 +71,11 @@ impl Model for Blocks {
 
     ghost Value = { Partition };
 
-    ghost view = { λ b. record { block_of = b.block.places; labels = b.labels.items; reserved = record { nodes = b.nodes_reserved; blocks = b.blocks_reserved } } };
+    ghost view = { λ b. record {
+      block_of = b.block.places;
+      labels = b.labels.items;
+      reserved = record { nodes = b.nodes_reserved; blocks = b.blocks_reserved };
+    } };
 
     ghost invariant = { λ b. AreSoundTables b.block b.next b.prev b.first b.labels b.sizes b.freed b.live b.nodes_reserved b.blocks_reserved };
 }

@@ -11,20 +11,20 @@ use Rattle.bisim_levels.specs.NeighbourSides.{no_neighbours}
 use Rattle.bisim_levels.specs.Refinement.{Refines}
 use Rattle.bisim_levels.proofs.LabelledNodes.{node_number, number_node}
 use Rattle.bisim_levels.proofs.LevelLaws.{labels_agree}
-use Rattle.one_spec.specs.Named.{AreNamed}
+use Rattle.one_spec.specs.BlockLabels.{BlocksHaveLabels}
 use Rattle.level_spec.specs.Keyed.{AreApart, AreLabelled}
 
 some_same : (a b c d : ℕ) → Some a ≡ Some b → Some c ≡ Some d → a ≡ c → b ≡ d
 some_same a b c d e f h = cc
 
 refines : (g : Graph) (block labels : List (Option ℕ)) (key : ℕ → Option (List ℕ)) → IsGraph g → IsPartition (shape_of g) block
-    → AreNamed block (at labels) (label_number g) → AreLabelled labels key → AreApart key → Refines (label_number g) [] no_neighbours block
-refines g block labels key graph partition named labelled apart = record {
+    → BlocksHaveLabels block (at labels) (label_number g) → AreLabelled labels key → AreApart key → Refines (label_number g) [] no_neighbours block
+refines g block labels key graph partition block_labels labelled apart = record {
   kept = λ n h. partition.live n (number_node g n h);
   only = λ n h. node_number g graph n (partition.only n h);
   parted = λ u v t.
-      let a = named.is u t.0 t.1 in
-      let b = named.is v t.0 t.2 in
+      let a = block_labels.is u t.0 t.1 in
+      let b = block_labels.is v t.0 t.2 in
       let e = a.1 in
       let f = b.1 in
       let same : b.0 ≡ a.0 = cc in
@@ -36,8 +36,8 @@ refines g block labels key graph partition named labelled apart = record {
       let l = h.one_number in
       let x = some_of (at block u) (partition.live u (number_node g u (ap is_some l.1))) in
       let y = some_of (at block v) (partition.live v (number_node g v (ap is_some l.2))) in
-      let a = named.is u x.0 x.1 in
-      let b = named.is v y.0 y.1 in
+      let a = block_labels.is u x.0 x.1 in
+      let b = block_labels.is v y.0 y.1 in
       let ea = a.2 in
       let la = l.1 in
       let eb = b.2 in
@@ -50,5 +50,5 @@ refines g block labels key graph partition named labelled apart = record {
 
 -- where keys are labels, and no two blocks have one, the partition is that by labels
 pub lowest_agrees : (g : Graph) (block labels : List (Option ℕ)) (key : ℕ → Option (List ℕ)) → IsGraph g → IsPartition (shape_of g) block
-    → AreNamed block (at labels) (label_number g) → AreLabelled labels key → AreApart key → Agrees (shape_of g) block (Bis (shape_of g) 0)
-lowest_agrees g block labels key graph partition named labelled apart = labels_agree g graph block (refines g block labels key graph partition named labelled apart)
+    → BlocksHaveLabels block (at labels) (label_number g) → AreLabelled labels key → AreApart key → Agrees (shape_of g) block (Bis (shape_of g) 0)
+lowest_agrees g block labels key graph partition block_labels labelled apart = labels_agree g graph block (refines g block labels key graph partition block_labels labelled apart)

@@ -1,12 +1,12 @@
 -- Blocks that have keys, and nodes that are in the blocks of their keys.
 use Rattle.std.specs.Prelude.{◌≡◌, ℕ, Bool, List, [], ◌∷◌, Option, Some, IsFalse, option_and_then, slice_get}
 use Rattle.graph_spec.specs.Graphs.{Graph}
-use Rattle.graph_spec.specs.Shapes.{Shape, shape_of}
+use Rattle.graph_spec.specs.Shapes.{Shape, IsNode, shape_of}
 use Rattle.graph_spec.specs.Members.{at}
 use Rattle.label_graph.specs.GraphViews.{label_number}
 use Rattle.bisim_spec.specs.Partitions.{IsPartition}
 use Rattle.bisim_spec.specs.Reach.{within_distance}
-use Rattle.one_spec.specs.Named.{AreNamed}
+use Rattle.one_spec.specs.BlockLabels.{BlocksHaveLabels}
 use Rattle.one_spec.specs.EdgeCounts.{AreEdgeCounts}
 use Rattle.bisim_levels.specs.Keys.{IsKey}
 
@@ -22,9 +22,9 @@ pub record AreApart (key : ℕ → Option (List ℕ)) : Type 0 where
 pub record KeysStay (key key2 : ℕ → Option (List ℕ)) : Type 0 where
   pub kept : (b : ℕ) (numbers : List ℕ) → key b ≡ Some numbers → key2 b ≡ Some numbers
 
--- nodes that aren't within so many edges of the targets have the blocks that they had
+-- nodes of the graph after the change that aren't within so many edges of the targets have the blocks that they had
 pub record SameFar (target : ℕ → Bool) (s : Shape) (i : ℕ) (block block2 : List (Option ℕ)) : Type 0 where
-  pub same : (n : ℕ) → IsFalse (within_distance s target i n) → at block2 n ≡ at block n
+  pub same : (n : ℕ) → IsNode s n → IsFalse (within_distance s target i n) → at block2 n ≡ at block n
 
 -- the first number of a key: above the lowest level it is the block of the members one level below
 abbrev pub first_number : Option (List ℕ) → Option ℕ
@@ -38,7 +38,7 @@ pub record AreLabelled (labels : List (Option ℕ)) (key : ℕ → Option (List 
 -- are the numbers of edges.
 pub record IsLevelOf (g : Graph) (block labels : List (Option ℕ)) (support : ℕ → ℕ → ℕ) : Type 0 where
   pub partition : IsPartition (shape_of g) block
-  pub named : AreNamed block (at labels) (label_number g)
+  pub block_labels : BlocksHaveLabels block (at labels) (label_number g)
   pub supports : AreEdgeCounts g block support
 
 -- a block has the label of the block one level below with which its key begins

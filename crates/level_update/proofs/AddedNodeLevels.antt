@@ -12,7 +12,7 @@ use Rattle.label_graph.proofs.Positions.{text-at}
 use Rattle.bisim_spec.specs.Targets.{target}
 use Rattle.bisim_spec.specs.IndexGraphs.{support_at}
 use Rattle.bisim_spec.proofs.Bisimilar.{is_some_at, some_of}
-use Rattle.bisim_spec.proofs.Differs.{differs_node}
+use Rattle.bisim_spec.proofs.Differs.{label_with_node}
 use Rattle.graph_update.specs.PendingChanges.{Pending, graph_after}
 use Rattle.keyed_quotient.specs.KeyedQuotients.{KeyedQuotient, key_at}
 use Rattle.keyed_quotient.specs.Changes.{KeyedChanges, no_keyed_changes, blocks_as_shown, labels_as_shown, support_as_shown, shown_key}
@@ -70,7 +70,7 @@ next_lone : (g : Graph) (t : List ℕ) (n label : ℕ) → IsNext g t n label �
 next_lone g t n label w = subst (IsLone g.edges) (sym w.next) (past_lone g w.graph)
 
 old_label : (g : Graph) (t : List ℕ) (n label : ℕ) → IsNext g t n label → (m : ℕ) → m ≢ n → label_of g m ≡ label_of (with_node g t) m
-old_label g t n label w m o = (differs_node g t).label m (elim (eqb_tells m (length g.allocated)) [ inl s ↦ absurd (o (s.1 ∙ sym w.next)) | inr k ↦ k.0 ])
+old_label g t n label w m o = label_with_node g t m (λ e. o (e ∙ sym w.next))
 
 old_number : (g : Graph) (t : List ℕ) (n label : ℕ) → IsNext g t n label → (m l : ℕ) → m ≢ n → label_number g m ≡ Some l → label_number (with_node g t) m ≡ Some l
 old_number g t n label w m l o e =
@@ -94,13 +94,13 @@ node_added_level g t n label own q d is base w = record {
       | inr o ↦ ap is_some (sym (old_label g t n label is m o.1)) ∙ base.partition.only m (sym (ap is_some (there m o.1)) ∙ h)
     ];
   };
-  named = record {
+  block_labels = record {
     is = λ m x e. elim (eqb_tells m n) [
       | inl s ↦ (
           let same : w.block ≡ x = same_some w.block x (sym here ∙ ap (at (blocks_as_shown q d)) (sym s.1) ∙ e) in
           (label, ap (at (labels_as_shown q d)) (sym same) ∙ w.label_is, ap (label_number (with_node g t)) s.1 ∙ is.number))
       | inr o ↦ (
-          let r = base.named.is m x (sym (there m o.1) ∙ e) in
+          let r = base.block_labels.is m x (sym (there m o.1) ∙ e) in
           (r.0, w.has_block.labels_stay x r.0 r.1, old_number g t n label is m r.0 o.1 r.2))
     ];
   };

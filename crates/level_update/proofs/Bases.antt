@@ -36,7 +36,7 @@ pub record AreBases (g : Graph) (f : List KeyedQuotient) : Type 0 where
 base_level : (g : Graph) (i : ℕ) (v : View) → IsGraph g → FitsLevel g i v → IsLevelOf g v.block_of v.labels (support_at v.supports)
 base_level g i v graph fits = record {
   partition = fits.agrees.partition;
-  named = record { is = λ n b e. let r = fits.view.labelled n b e in (r.0, r.2, number_of g n r.0 r.1 graph r.3 r.4) };
+  block_labels = record { is = λ n b e. let r = fits.view.labelled n b e in (r.0, r.2, number_of g n r.0 r.1 graph r.3 r.4) };
   supports = record { each = fits.view.supports };
 }
 
@@ -73,8 +73,8 @@ base_up g f graph fits family i h = record {
       let m = (fits (i + 1) h).view.inhabited b live in
       let k = (base_keyed g f fits family i m.0 h).keyed b m.1 in
       let own = own_first g (blocks_at f i) (key_at (level_at f (i + 1)).keys) m.0 b number k.0 k.1 k.2 first in
-      let below = (base_level g i (view_of (level_at f i).quotient) graph (fits i lower)).named.is m.0 number own in
-      let here = (base_level g (i + 1) (view_of (level_at f (i + 1)).quotient) graph (fits (i + 1) h)).named.is m.0 b m.1 in
+      let below = (base_level g i (view_of (level_at f i).quotient) graph (fits i lower)).block_labels.is m.0 number own in
+      let here = (base_level g (i + 1) (view_of (level_at f (i + 1)).quotient) graph (fits (i + 1) h)).block_labels.is m.0 b m.1 in
       one_label g (at (level_at f i).quotient.blocks.labels) (at (level_at f (i + 1)).quotient.blocks.labels) number b m.0 below here;
 }
 

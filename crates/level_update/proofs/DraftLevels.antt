@@ -56,7 +56,7 @@ moving_placed target g f d d2 i nodes m p l = record {
   ];
   far = λ j h. elim (eqb_tells j (i + 1)) [
     | inl s ↦ subst (λ j. SameFar target (shape_of g) j (blocks_at f j) (blocks_shown f d2 j)) (sym s.1) (record {
-      same = λ n off. p.blocks n (l.members n ∙ off) ∙ (subst (λ j. SameFar target (shape_of g) j (blocks_at f j) (blocks_shown f d j)) s.1 (m.far j h)).same n off;
+      same = λ n node off. p.blocks n (l.members n ∙ off) ∙ (subst (λ j. SameFar target (shape_of g) j (blocks_at f j) (blocks_shown f d j)) s.1 (m.far j h)).same n node off;
     })
     | inr t ↦ subst (λ (x : KeyedChanges). SameFar target (shape_of g) j (blocks_at f j) (blocks_as_shown (level_at f j) x)) (sym (p.others j t.1)) (m.far j h)
   ];

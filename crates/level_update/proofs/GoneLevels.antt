@@ -12,7 +12,7 @@ use Rattle.graph_spec.proofs.Uses.{unused_bare}
 use Rattle.bisim_spec.specs.Reach.{within_distance}
 use Rattle.bisim_spec.specs.Targets.{target}
 use Rattle.bisim_spec.specs.IndexGraphs.{support_at}
-use Rattle.bisim_spec.proofs.Differs.{differs_drop}
+use Rattle.bisim_spec.proofs.Differs.{label_without_node}
 use Rattle.bisim_spec.proofs.Reached.{within_more}
 use Rattle.graph_update.specs.NewChanges.{IsNew}
 use Rattle.graph_update.specs.PendingChanges.{Pending}
@@ -30,7 +30,7 @@ use Rattle.level_update.proofs.Unchanged.{lowest_kept, up_kept, keys_kept}
 -- only the node itself has another block
 pub far_put : (n : ℕ) (o : Option ℕ) (block block2 : List (Option ℕ)) (s : Shape) (i : ℕ) → IsPut n o block block2 → SameFar (λ x. nat_eq x n) s i block block2
 far_put n o block block2 s i moved = record {
-  same = λ m off. put_other n o block block2 moved m (λ e. both_ways (within_distance s (λ x. nat_eq x n) i m) off (within_more s (λ x. nat_eq x n) 0 i m (omega arith) ((Decides-eqb m n).1 e)));
+  same = λ m node off. put_other n o block block2 moved m (λ e. both_ways (within_distance s (λ x. nat_eq x n) i m) off (within_more s (λ x. nat_eq x n) 0 i m (omega arith) ((Decides-eqb m n).1 e)));
 }
 
 gone_label : (allocated : List (Option (List ℕ))) (u : ℕ) → option_and_then (λ l. l) (slice_get (slice_set allocated u None) u) ≡ None
@@ -57,10 +57,10 @@ gone_level g u q d unused base w = record {
       | inr o ↦ ap is_some (sym (old m o.1)) ∙ base.partition.only m (sym (ap is_some (there m o.1)) ∙ h)
     ];
   };
-  named = record {
+  block_labels = record {
     is = λ m x e.
         let o = member m x e in
-        let r = base.named.is m x (sym (there m o) ∙ e) in
+        let r = base.block_labels.is m x (sym (there m o) ∙ e) in
         (r.0, ap (λ (ls : List (Option ℕ)). at ls x) w.keys.labels ∙ r.1, sym (ap (option_and_then (λ t. position (bytes_eq t) g.seen)) (old m o)) ∙ r.2);
   };
   supports = counts_lone g (without_node g u) u None q.quotient.blocks.block_of (blocks_as_shown q d) (support_at q.quotient.supports) (support_as_shown q d) refl base.supports
@@ -74,7 +74,7 @@ gone_level g u q d unused base w = record {
     there = put_other u None q.quotient.blocks.block_of (blocks_as_shown q d) (gone_put u q d w)
 
     old : (m : ℕ) → m ≢ u → label_of g m ≡ label_of (without_node g u) m
-    old m o = (differs_drop g u).label m (elim (eqb_tells m u) [ inl s ↦ absurd (o s.1) | inr k ↦ k.0 ])
+    old m o = label_without_node g u m o
 
     live : (m : ℕ) → IsNode (shape_of (without_node g u)) m → m ≢ u
     live m h e = true≢false (sym h ∙ ap (λ k. is_some (label_of (without_node g u) k)) e ∙ ap is_some (gone_label g.allocated u))

@@ -10,4 +10,4 @@ pub mod AddedNodeLevels
 pub mod LoneBlocks
 pub mod GoneLevels
 pub mod Below
-pub mod OnlyTargets
+pub mod TargetLaws

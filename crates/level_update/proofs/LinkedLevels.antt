@@ -42,8 +42,8 @@ kept_level g g2 q d same base w =
         live = λ n h. ap is_some (there n) ∙ base.partition.live n (sym (ap is_some (same.label n)) ∙ h);
         only = λ n h. ap is_some (same.label n) ∙ base.partition.only n (sym (ap is_some (there n)) ∙ h);
       };
-      named = record {
-        is = λ n b e. let r = base.named.is n b (sym (there n) ∙ e) in (r.0, ap (λ (ls : List (Option ℕ)). at ls b) w.keys.labels ∙ r.1, same.number n ∙ r.2);
+      block_labels = record {
+        is = λ n b e. let r = base.block_labels.is n b (sym (there n) ∙ e) in (r.0, ap (λ (ls : List (Option ℕ)). at ls b) w.keys.labels ∙ r.1, same.number n ∙ r.2);
       };
       supports = subst (λ (p : List (Option ℕ)). AreEdgeCounts g2 p (support_as_shown q d)) (sym w.blocks) w.counts;
     }
@@ -56,7 +56,7 @@ kept_moving target g g2 f d same base some over w = record {
   lowest = lowest_kept (level_at f 0) (changes_at d 0) (w 0 some).keys base.lowest;
   up = λ i h. up_kept (level_at f i) (level_at f (i + 1)) (changes_at d i) (changes_at d (i + 1)) (w i (omega (arith, h))).keys (w (i + 1) h).keys (base.up i h);
   stay = λ i h. keys_kept (level_at f i) (changes_at d i) (w i h).keys;
-  far = λ i h. record { same = λ n off. ap (λ (p : List (Option ℕ)). at p n) (w i h).blocks };
+  far = λ i h. record { same = λ n node off. ap (λ (p : List (Option ℕ)). at p n) (w i h).blocks };
 }
 
 linked_moving : (g : Graph) (u v : ℕ) (f : List KeyedQuotient) (d : List KeyedChanges) → has_edge g u v ≡ false → AreBases g f → 0 < length f → AreOver f d

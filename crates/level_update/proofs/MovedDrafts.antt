@@ -45,7 +45,8 @@ keyed_at : (target : ℕ → Bool) (g g2 : Graph) (f : List KeyedQuotient) (d : 
 keyed_at target g g2 f d w i n h =
     keyed_after target (shape_of g) (shape_of g2) (blocks_at f i) (blocks_shown f d i) (blocks_at f (i + 1)) (blocks_shown f d (i + 1)) (key_at (level_at f (i + 1)).keys)
     (key_shown f d (i + 1)) i (is_shape g2 w.graph) w.differs (w.moving.far i (omega (arith, h)))
-    (subst (λ j. SameFar target (shape_of g2) j (blocks_at f (i + 1)) (blocks_shown f d (i + 1))) (next_is i) (w.moving.far (i + 1) h)) (w.moving.stay (i + 1) h)
+    (subst (λ j. SameFar target (shape_of g2) j (blocks_at f (i + 1)) (blocks_shown f d (i + 1))) (next_is i) (w.moving.far (i + 1) h))
+    (w.moving.levels (i + 1) h).partition (w.moving.stay (i + 1) h)
     (λ m. w.bases.keyed i m h)
     (λ m on. w.within_keyed.each i m h (subst (λ j. IsTrue (within_distance (shape_of g2) target j m)) (sym (next_is i)) on)) n
 
@@ -53,7 +54,7 @@ keyed_at target g g2 f d w i n h =
 agrees_at : (target : ℕ → Bool) (g g2 : Graph) (f : List KeyedQuotient) (d : List KeyedChanges) → HaveMoved target g g2 f d → (i : ℕ) → i < length f
     → Agrees (shape_of g2) (blocks_shown f d i) (Bis (shape_of g2) i)
 agrees_at target g g2 f d w zero h =
-    lowest_agrees g2 (blocks_shown f d 0) (labels_shown f d 0) (key_shown f d 0) w.graph (w.moving.levels 0 h).partition (w.moving.levels 0 h).named w.moving.lowest (apart_at target g g2 f d w 0 h)
+    lowest_agrees g2 (blocks_shown f d 0) (labels_shown f d 0) (key_shown f d 0) w.graph (w.moving.levels 0 h).partition (w.moving.levels 0 h).block_labels w.moving.lowest (apart_at target g g2 f d w 0 h)
 agrees_at target g g2 f d w (suc i) h =
     let up : i + 1 < length f = omega (arith, h) in
     subst (λ j. Agrees (shape_of g2) (blocks_shown f d j) (Bis (shape_of g2) (suc i))) (next_is i)
@@ -94,7 +95,7 @@ level_fits g i q d level agrees = record {
   view = record {
     inhabited = λ b h. shown_inhabited (blocks_as_shown q d) (labels_as_shown q d) b h;
     labelled = λ n b e.
-        let k = level.named.is n b e in
+        let k = level.block_labels.is n b e in
         let r = text_of (label_of g n) g.seen k.0 k.2 in
         (k.0, r.0, shown_label (blocks_as_shown q d) (labels_as_shown q d) n b k.0 e k.1, r.1, r.2);
     supports = level.supports.each;

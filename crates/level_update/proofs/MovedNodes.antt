@@ -78,7 +78,7 @@ module _ (g : Graph) (f : List KeyedQuotient) (d d1 d2 : List KeyedChanges) (i n
   -- the block below has the node's label
   below_label : at (labels_shown f d i) own ≡ Some label
   below_label =
-      let l = t.lower.named.is n own own_is in
+      let l = t.lower.block_labels.is n own own_is in
       l.1 ∙ ap Some (one_of (label_number g n) l.0 label l.2 label_is)
 
   -- a key that a block has is the one that it had, or that of the block that was made
@@ -90,7 +90,7 @@ module _ (g : Graph) (f : List KeyedQuotient) (d d1 d2 : List KeyedChanges) (i n
         let same : numbers ≡ key = some_list numbers key (sym e ∙ ap (key_shown f d1 (i + 1)) s.1 ∙ block.key_is) in
         elim block.found [
           | inl had ↦ inl (ap (key_shown f d (i + 1)) s.1 ∙ had ∙ ap Some (sym same))
-          | inr named ↦ inr (same, ap (at (labels_shown f d1 (i + 1))) s.1 ∙ named)
+          | inr block_labels ↦ inr (same, ap (at (labels_shown f d1 (i + 1))) s.1 ∙ block_labels)
         ])
   ]
 
@@ -101,9 +101,9 @@ module _ (g : Graph) (f : List KeyedQuotient) (d d1 d2 : List KeyedChanges) (i n
     | inl old ↦ (
         let l = t.up.is c number (ap first_number old ∙ first) in
         (l.0, l.1, ap (λ (ls : List (Option ℕ)). at ls c) moved.labels ∙ block.labels_stay c l.0 l.2))
-    | inr (same, named) ↦ (
+    | inr (same, block_labels) ↦ (
         let begin : number ≡ own = some_same number own (sym first ∙ ap (λ xs. first_number (Some xs)) same ∙ begins (at (blocks_shown f d i)) (blocks_shown f d i) (has_edge g) n own key k own_is) in
-        (label, ap (at (labels_shown f d i)) begin ∙ below_label, ap (λ (ls : List (Option ℕ)). at ls c) moved.labels ∙ named))
+        (label, ap (at (labels_shown f d i)) begin ∙ below_label, ap (λ (ls : List (Option ℕ)). at ls c) moved.labels ∙ block_labels))
   ]
 
   -- the block has the node's label
@@ -122,13 +122,13 @@ module _ (g : Graph) (f : List KeyedQuotient) (d d1 d2 : List KeyedChanges) (i n
     lower = subst (λ (x : KeyedChanges). IsLevelOf g (blocks_as_shown (level_at f i) x) (labels_as_shown (level_at f i) x) (support_as_shown (level_at f i) x)) (sym same_below) t.lower;
     upper = record {
       partition = partition_put (shape_of g) (blocks_shown f d (i + 1)) (blocks_shown f d2 (i + 1)) n b t.upper.partition (t.lower.partition.only n (ap is_some own_is)) moved_blocks;
-      named = record {
+      block_labels = record {
         is = λ m c e. elim (eqb_tells m n) [
           | inl s ↦ (
               let same : b ≡ c = some_same b c (sym (moved_blocks m ∙ ap (λ x. cond x (Some b) (at (blocks_shown f d (i + 1)) m)) s.0) ∙ e) in
               (label, ap (at (labels_shown f d2 (i + 1))) (sym same) ∙ block_label, ap (label_number g) s.1 ∙ label_is))
           | inr o ↦ (
-              let l = t.upper.named.is m c (sym (moved_blocks m ∙ ap (λ x. cond x (Some b) (at (blocks_shown f d (i + 1)) m)) o.0) ∙ e) in
+              let l = t.upper.block_labels.is m c (sym (moved_blocks m ∙ ap (λ x. cond x (Some b) (at (blocks_shown f d (i + 1)) m)) o.0) ∙ e) in
               (l.0, kept_labels c l.0 l.1, l.2))
         ];
       };

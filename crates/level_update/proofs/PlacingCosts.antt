@@ -1,5 +1,5 @@
 -- What placing the affected nodes costs.
-use Rattle.std.proofs.Common.{◌≡◌, ℕ, zero, suc, ◌+◌, ◌*◌, ◌<◌, ◌≤◌, List, [], ◌∷◌, Option, Some, None, length, sym, ◌∙◌, subst, arith, inl, inr, true, Bool, take, get_or}
+use Rattle.std.proofs.Common.{◌≡◌, ℕ, zero, suc, ◌+◌, ◌*◌, ◌<◌, ◌≤◌, List, [], ◌∷◌, Option, Some, None, length, IsTrue, sym, ◌∙◌, subst, arith, inl, inr, true, Bool, take, get_or}
 use Rattle.std.specs.Prelude.{nat_eq}
 use Rattle.std.specs.List.{sum_by, IsDistinct}
 use Rattle.std.proofs.Math.Nat.{mul-le-mul_left}
@@ -16,7 +16,6 @@ use Rattle.affected_nodes.proofs.SearchCosts.{within_below, lost_most}
 use Rattle.level_spec.proofs.AffectedWeights.{affected_weight}
 use Rattle.one_spec.proofs.Sums.{where_in, sum_listed, sum_without, first_has, once_most, zeros, sum_three}
 use Rattle.level_update.specs.LevelCosts.{place_cost}
-use Rattle.level_update.proofs.MovedNodes.{only_one}
 
 -- an edge that is taken away ends at one node
 lost_onto_most : (n : ℕ) (lost : Option (ℕ × ℕ)) → sum_below n (lost_onto lost) ≤ 1
@@ -39,26 +38,26 @@ nodes_most a inside nodes once within =
     omega (arith, listed, parts, onto, from)
 
 -- the nodes within i edges, where those within k edges weigh w
-pub level_most : (a : Pending) (target i k : ℕ) (nodes : List ℕ) → IsShape (shape_of (graph_after a)) → target < (shape_of (graph_after a)).size
-    → Lists (within_distance (shape_of (graph_after a)) (has (target ∷ [])) i) nodes → i ≤ k
-    → sum_by (place_cost a) nodes ≤ 3 * weight (shape_of (graph_after a)) (within_distance (shape_of (graph_after a)) (has (target ∷ [])) k) + 3
-level_most a target i k nodes shape allocated l within =
+pub level_most : (a : Pending) (targets : List ℕ) (i k : ℕ) (nodes : List ℕ) → IsShape (shape_of (graph_after a))
+    → ((t : ℕ) → IsTrue (has targets t) → t < (shape_of (graph_after a)).size) → Lists (within_distance (shape_of (graph_after a)) (has targets) i) nodes → i ≤ k
+    → sum_by (place_cost a) nodes ≤ 3 * weight (shape_of (graph_after a)) (within_distance (shape_of (graph_after a)) (has targets) k) + 3
+level_most a targets i k nodes shape allocated l within =
     let s = shape_of (graph_after a) in
-    let most = nodes_most a (within_distance s (has (target ∷ [])) i) nodes l.once (λ n h.
+    let most = nodes_most a (within_distance s (has targets) i) nodes l.once (λ n h.
     let on = sym (l.members n) ∙ h in
-    (within_below s (has (target ∷ [])) shape (λ t e. targets t e) i n on, on)) in
-    let more = affected_weight s (has (target ∷ [])) i k within in
+    (within_below s (has targets) shape allocated i n on, on)) in
+    let more = affected_weight s (has targets) i k within in
     omega (arith, most, more)
-  where
-    targets : (t : ℕ) → has (target ∷ []) t ≡ true → t < (shape_of (graph_after a)).size
-    targets t e = subst (λ n. n < (shape_of (graph_after a)).size) (sym (only_one target t e)) allocated
 
--- what is affected weighs something, since the target is
-pub some_weight : (s : Shape) (target k : ℕ) → target < s.size → 1 ≤ weight s (within_distance s (has (target ∷ [])) k)
-some_weight s target k allocated =
-    let inside = within_distance s (has (target ∷ [])) k in
-    let on = within_more s (has (target ∷ [])) 0 k target (omega arith) (first_has target []) in
-    let one = sum_without s.size inside (weight_at s) target allocated on in
+-- what is affected weighs something, since a target does
+pub some_weight : (s : Shape) (targets : List ℕ) (k : ℕ) → 0 < length targets → ((t : ℕ) → IsTrue (has targets t) → t < s.size)
+    → 1 ≤ weight s (within_distance s (has targets) k)
+some_weight s [] k some allocated = absurd (omega (arith, some))
+some_weight s (t ∷ ts) k some allocated =
+    let inside = within_distance s (has (t ∷ ts)) k in
+    let there = first_has t ts in
+    let on = within_more s (has (t ∷ ts)) 0 k t (omega arith) there in
+    let one = sum_without s.size inside (weight_at s) t (allocated t there) on in
     omega (arith, one)
 
 mul-le : (a b c : ℕ) → a ≤ b → a * c ≤ b * c
@@ -75,13 +74,13 @@ total_most w k i before now some within many cost =
     omega (arith, cost, all, levels, search, one)
 
 -- what is spent is within the bound of all levels
-pub spent_most : (s : Shape) (target k i before now : ℕ) → target < s.size → i ≤ k → (k ≡ 0 → now ≡ before)
-    → now ≤ before + (weight s (within_distance s (has (target ∷ [])) k) + 1) + i * (3 * weight s (within_distance s (has (target ∷ [])) k) + 3) → (len m : ℕ) → len ≡ k + 1 → len ≡ m + 1
-    → now ≤ before + 8 * m * weight s (within_distance s (has (target ∷ [])) m)
-spent_most s target k i before now allocated within none cost len m count e =
+pub spent_most : (s : Shape) (targets : List ℕ) (k i before now : ℕ) → 0 < length targets → ((t : ℕ) → IsTrue (has targets t) → t < s.size) → i ≤ k → (k ≡ 0 → now ≡ before)
+    → now ≤ before + (weight s (within_distance s (has targets) k) + 1) + i * (3 * weight s (within_distance s (has targets) k) + 3) → (len m : ℕ) → len ≡ k + 1 → len ≡ m + 1
+    → now ≤ before + 8 * m * weight s (within_distance s (has targets) m)
+spent_most s targets k i before now some allocated within none cost len m count e =
     let same : k ≡ m = omega (arith, count, e) in
-    subst (λ m. now ≤ before + 8 * m * weight s (within_distance s (has (target ∷ [])) m)) same (elim (cases_lt 0 k) [
-      | inl many ↦ total_most (weight s (within_distance s (has (target ∷ [])) k)) k i before now (some_weight s target k allocated) within (omega (arith, many)) cost
+    subst (λ m. now ≤ before + 8 * m * weight s (within_distance s (has targets) m)) same (elim (cases_lt 0 k) [
+      | inl many ↦ total_most (weight s (within_distance s (has targets) k)) k i before now (some_weight s targets k some allocated) within (omega (arith, many)) cost
       | inr past ↦
           (let zero_is : k ≡ 0 = omega (arith, past) in
           let still = none zero_is in

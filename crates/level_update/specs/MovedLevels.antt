@@ -22,4 +22,5 @@ pub record HasMovedAffected (target : ℕ → Bool) (g : Graph) (f : List KeyedQ
 
 -- above the lowest level each affected node is in the block of its key
 pub record AreKeyedAffected (target : ℕ → Bool) (g : Graph) (f : List KeyedQuotient) (d : List KeyedChanges) : Type 0 where
-  pub each : (i n : ℕ) → i + 1 < length f → IsTrue (within_distance (shape_of g) target (i + 1) n) → IsKeyed (shape_of g) (blocks_shown f d i) (blocks_shown f d (i + 1)) (key_shown f d (i + 1)) n
+  pub each : (i n : ℕ) → i + 1 < length f → IsTrue (within_distance (shape_of g) target (i + 1) n)
+      → IsKeyed (shape_of g) (blocks_shown f d i) (blocks_shown f d (i + 1)) (key_shown f d (i + 1)) n

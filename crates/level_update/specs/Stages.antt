@@ -43,7 +43,8 @@ KeyHasLabel keys labels key label = (b : ℕ) → keys b ≡ Some key → at lab
 
 -- where both nodes have blocks, that of u has support to that of v
 abbrev pub AreSupported : KeyedQuotient → ℕ → ℕ → Type 0
-AreSupported q u v = (x y : ℕ) → at q.quotient.blocks.block_of u ≡ Some x → at q.quotient.blocks.block_of v ≡ Some y → 0 < support_at q.quotient.supports x y
+AreSupported q u v =
+    (x y : ℕ) → at q.quotient.blocks.block_of u ≡ Some x → at q.quotient.blocks.block_of v ≡ Some y → 0 < support_at q.quotient.supports x y
 
 -- One more edge leads from the block of u to that of v, and nothing else has changed.
 pub record IsLinked (u v : ℕ) (q : KeyedQuotient) (d : KeyedChanges) : Type 0 where

@@ -1,8 +1,8 @@
 // What a change makes of a family.
-ghost use Rattle.std.specs.Prelude.{◌≡◌, ◌+◌, ◌≤◌, ◌∷◌, [], ℕ, OnOk, length};
+ghost use Rattle.std.specs.Prelude.{◌≡◌, ◌+◌, ◌<◌, ◌≤◌, ℕ, OnOk, length};
 ghost use Rattle.graph_spec.specs.Changes.{after};
 ghost use Rattle.graph_spec.specs.Members.{has};
-ghost use Rattle.bisim_spec.specs.Targets.{IsOnlyTarget};
+ghost use Rattle.bisim_spec.specs.Targets.{AreTargets};
 ghost use Rattle.graph_update.specs.NewChanges.{IsNew};
 ghost use Rattle.graph_update.specs.PendingChanges.{graph_after};
 ghost use Rattle.graph_update.specs.Verdicts.{change_of};
@@ -21,21 +21,22 @@ use px_base::{Memory, NodeId, Steps};
 use std::alloc::Global;
 use std::sync::ledger::Ledger;
 
-// Moves the nodes that an edge affects as it comes or goes, once it is drafted at each level.
-fn move_affected_end<L: Ledger>(
+// Moves the nodes that a change affects by these targets, once its edges are drafted at each level.
+fn move_targets<L: Ledger>(
     alloc: Global,
     family: &AkFamily,
     draft: &mut AkDraft,
     after: &After<'_>,
-    v: NodeId,
+    targets: &[NodeId],
     steps: &mut Steps<L>,
 ) -> Result<(), Memory>
-    requires target { IsOnlyTarget after.now.before after.now.change v }
-    requires moving { HasMovedAffected (has (v ∷ [])) (graph_after after.now) family.now draft.old }
+    requires some { 0 < length targets.now }
+    requires targets { AreTargets after.now.before after.now.change targets.now }
+    requires moving { HasMovedAffected (has targets.now) (graph_after after.now) family.now draft.old }
     ensures moved { OnOk result (AreMoved after.now family.now draft.new) }
     ensures cost { (k : ℕ) → length family.now ≡ k + 1 → steps.new ≤ steps.old + most_steps after.now.before after.now.change k }
 {
-    move_affected(alloc, family, draft, after, v, steps)?;
+    move_affected(alloc, family, draft, after, targets, steps)?;
     Ok(())
 }
 
@@ -59,11 +60,11 @@ fn draft_pending<L: Ledger>(
         Change::Node(_) => draft_node(family, draft, after),
         Change::Link(u, v) => {
             draft_link(family, draft, after, *u, *v)?;
-            move_affected_end(alloc, family, draft, after, *v, steps)
+            move_targets(alloc, family, draft, after, &[*v], steps)
         }
         Change::Unlink(u, v) => {
             draft_unlink(family, draft, after, *u, *v)?;
-            move_affected_end(alloc, family, draft, after, *v, steps)
+            move_targets(alloc, family, draft, after, &[*v], steps)
         }
         Change::Drop(u) => draft_drop(family, draft, after, *u),
     }

@@ -3,7 +3,7 @@ ghost use Rattle.std.specs.Prelude.{◌≡◌, ◌<◌, ◌≤◌, ◌^◌, ◌�
 ghost use Rattle.graph_spec.specs.Changes.{link, unlink};
 ghost use Rattle.graph_spec.specs.Members.{at, has};
 ghost use Rattle.bisim_spec.specs.IndexGraphs.{support_at};
-ghost use Rattle.bisim_spec.specs.Targets.{IsOnlyTarget};
+ghost use Rattle.bisim_spec.specs.Targets.{AreTargets};
 ghost use Rattle.graph_update.specs.PendingChanges.{graph_after};
 ghost use Rattle.keyed_quotient.specs.Changes.{no_keyed_changes};
 ghost use Rattle.ak_family.specs.Families.{level_at, blocks_at};
@@ -86,7 +86,7 @@ pub(crate) fn draft_link(
     requires over { AreOver family.now draft.old }
     requires empty { AreEmpty draft.old }
     requires links { after.now.change ≡ link u v }
-    ensures target { IsOnlyTarget after.now.before after.now.change v }
+    ensures targets { AreTargets after.now.before after.now.change (v ∷ []) }
     ensures moving { OnOk result (HasMovedAffected (has (v ∷ [])) (graph_after after.now) family.now draft.new) }
 {
     'links: for i in 0..family.k() + 1 {
@@ -107,7 +107,7 @@ pub(crate) fn draft_unlink(
     requires over { AreOver family.now draft.old }
     requires empty { AreEmpty draft.old }
     requires unlinks { after.now.change ≡ unlink u v }
-    ensures target { IsOnlyTarget after.now.before after.now.change v }
+    ensures targets { AreTargets after.now.before after.now.change (v ∷ []) }
     ensures moving { OnOk result (HasMovedAffected (has (v ∷ [])) (graph_after after.now) family.now draft.new) }
 {
     'unlinks: for i in 0..family.k() + 1 {

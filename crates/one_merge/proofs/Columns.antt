@@ -103,28 +103,6 @@ column_all a b xs s new ne lists is x y = is x y ∙ by (has xs x) refl
       | inr none ↦ omega (arith, none)
     ]))
 
-written : (a b m u c now now2 : ℕ) (s : ℕ → ℕ → ℕ) → now ≡ cond (nat_eq u m && nat_eq c a) (s m a + s m b) (s u c) → now2 ≡ cond (nat_eq u m && nat_eq c b) 0 now
-    → now2 ≡ cond (nat_eq u m) (with_column a b s u c) (s u c)
-written a b m u c now now2 s first second =
-    second ∙ ap (λ n. cond (nat_eq u m && nat_eq c b) 0 n) first ∙ elim (eqb_tells u m) [
-      | inl t ↦ rw (t.0) (ap (λ k. cond (nat_eq c b) 0 (cond (nat_eq c a) (s k a + s k b) (s u c))) (sym t.1))
-      | inr f ↦ rw (f.0) refl
-    ]
-
-and_swap : (p q : Bool) → (p && q) ≡ (q && p)
-and_swap true true = refl
-and_swap true false = refl
-and_swap false true = refl
-and_swap false false = refl
-
--- a support is added in two writes
-pub added_by : (side : Side) (a b m : ℕ) (s mid new : ℕ → ℕ → ℕ) → SetsPair (edge_with side m a).0 (edge_with side m a).1 (support_by side s m a + support_by side s m b) s mid
-    → SetsPair (edge_with side m b).0 (edge_with side m b).1 0 mid new → AddsSupports side (λ u. nat_eq u m) a b s new
-added_by Parents a b m s mid new first second u c = written a b m u c (mid u c) (new u c) s (first u c) (second u c)
-added_by Children a b m s mid new first second u c =
-    written a b m u c (mid c u) (new c u) (flipped s) (first c u ∙ ap (λ t. cond t (s a m + s b m) (s c u)) (and_swap (nat_eq c a) (nat_eq u m)))
-    (second c u ∙ ap (λ t. cond t 0 (mid c u)) (and_swap (nat_eq c b) (nat_eq u m)))
-
 -- what is listed has support
 pub listed_some : (xs : List ℕ) (f : ℕ → ℕ) (x : ℕ) → Lists (λ z. nat_lt 0 (f z)) xs → IsTrue (has xs x) → 0 < f x
 listed_some xs f x lists h = (Decides-ltb 0 (f x)).0 (sym (lists.members x) ∙ h)

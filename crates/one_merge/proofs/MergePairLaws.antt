@@ -10,7 +10,7 @@ use Rattle.graph_spec.specs.Shapes.{Shape}
 use Rattle.graph_spec.proofs.MemberLaws.{or_false, has_push, has_more}
 use Rattle.bisim_spec.proofs.MergeableBlocks.{mergeable_blocks}
 use Rattle.one_spec.specs.Merges.{IsMergeablePair, IsMerged, one_more, none, AreMergeCandidates}
-use Rattle.one_spec.specs.Viewed.{IsViewed, IsDone}
+use Rattle.one_spec.specs.Viewed.{IsViewed, IsMergedToEnd}
 use Rattle.one_spec.proofs.MergedPairs.{can_swap}
 use Rattle.one_spec.proofs.MergeCandidates.{shared_parent, minimal_from, candidates_cleared}
 use Rattle.block_partition.specs.LabelledPartitions.{put}
@@ -216,7 +216,7 @@ pub merging_start : (s : Shape) (p : List (Option ℕ)) (labels : ℕ → Option
 merging_start s p labels adjacent merge_candidates v h = record { merges = none; viewed = v; candidates_are = h }
 
 pub merging_end : (s : Shape) (first p : List (Option ℕ)) (labels : ℕ → Option ℕ) (adjacent : ℕ → ℕ → Bool) (merge_candidates : List ℕ) → IsMerging s first p labels adjacent merge_candidates
-    → (IsViewed s p labels adjacent → AreMergeCandidates s p (λ b. IsTrue (has merge_candidates b)) → AreMergeCandidates s p (λ b. ⊥)) → IsDone s first p
+    → (IsViewed s p labels adjacent → AreMergeCandidates s p (λ b. IsTrue (has merge_candidates b)) → AreMergeCandidates s p (λ b. ⊥)) → IsMergedToEnd s first p
 merging_end s first p labels adjacent merge_candidates m over = record { merges = m.merges; minimal = minimal_from s p (over m.viewed m.candidates_are) }
 
 -- merge candidates are the same, whatever list has them

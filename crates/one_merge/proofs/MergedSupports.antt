@@ -13,7 +13,7 @@ use Rattle.bisim_spec.proofs.Bisimilar.{none_or_some}
 use Rattle.bisim_spec.proofs.EdgeSupports.{support_adjacent}
 use Rattle.bisim_spec.proofs.Together.{at_merged}
 use Rattle.one_spec.specs.Merges.{IsMergeablePair, IsMerged}
-use Rattle.one_spec.specs.Named.{AreNamed}
+use Rattle.one_spec.specs.BlockLabels.{BlocksHaveLabels}
 use Rattle.one_spec.specs.EdgeCounts.{AreEdgeCounts}
 use Rattle.one_spec.specs.Viewed.{IsViewed}
 use Rattle.one_spec.proofs.LabelledBlocks.{labelled_merged}
@@ -225,11 +225,11 @@ renamed_else : (a b x : ℕ) → x ≢ b → renamed a b x ≡ x
 renamed_else a b x ne = elim (eqb_tells x b) [ inl t ↦ absurd (ne t.1) | inr f ↦ ap (λ c. cond c a x) f.0 ]
 
 -- each node has the label of its block
-pub named_merged : (p p2 : List (Option ℕ)) (labels names : ℕ → Option ℕ) (a b : ℕ) → labels a ≡ labels b → IsMerged a b p p2 → AreNamed p labels names → AreNamed p2 labels names
-named_merged p p2 labels names a b alike m named = record {
+pub block_labels_merged : (p p2 : List (Option ℕ)) (labels node_labels : ℕ → Option ℕ) (a b : ℕ) → labels a ≡ labels b → IsMerged a b p p2 → BlocksHaveLabels p labels node_labels → BlocksHaveLabels p2 labels node_labels
+block_labels_merged p p2 labels node_labels a b alike m block_labels = record {
   is = λ n c h.
       let k = came_from a b p p2 n c m h in
-      let d = named.is n k.0 k.1 in
+      let d = block_labels.is n k.0 k.1 in
       (d.0, sym (ap labels k.2) ∙ same k.0 ∙ d.1, d.2);
 }
   where

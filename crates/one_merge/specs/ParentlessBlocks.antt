@@ -25,7 +25,8 @@ NotesParentless labels support parentless b = (label : ℕ) → labels b ≡ Som
 
 -- each block of the list that has a label, and to which no other block has support, is noted
 abbrev pub NotesAllParentless : (ℕ → Option ℕ) → (ℕ → ℕ → ℕ) → ParentlessLists → List ℕ → Type 0
-NotesAllParentless labels support parentless list = (b label : ℕ) → IsTrue (has list b) → labels b ≡ Some label → IsParentless support b → IsNoted parentless label b
+NotesAllParentless labels support parentless list =
+    (b label : ℕ) → IsTrue (has list b) → labels b ≡ Some label → IsParentless support b → IsNoted parentless label b
 
 -- Each block to which no other has support is noted for its label. Others may be noted too.
 pub record CoversParentless (labels : ℕ → Option ℕ) (support : ℕ → ℕ → ℕ) (parentless : ParentlessLists) : Type 0 where

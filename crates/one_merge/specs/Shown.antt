@@ -3,7 +3,7 @@ use Rattle.std.specs.Prelude.{◌≡◌, ℕ, List, Option, Some, if◌then◌el
 use Rattle.graph_spec.specs.Members.{at, has}
 use Rattle.graph_spec.specs.Graphs.{Graph}
 use Rattle.graph_spec.specs.Shapes.{Shape}
-use Rattle.one_spec.specs.Named.{AreNamed}
+use Rattle.one_spec.specs.BlockLabels.{BlocksHaveLabels}
 use Rattle.one_spec.specs.EdgeCounts.{AreEdgeCounts}
 use Rattle.one_spec.specs.Viewed.{IsViewed}
 use Rattle.quotient.specs.Quotients.{Quotient}
@@ -12,12 +12,12 @@ use Rattle.one_merge.specs.MergeTests.{shown_adjacent, AreMergeable, AreNotMerge
 use Rattle.one_merge.specs.Merged.{HasGraph}
 
 -- the draft shows a stable partition of the graph with the right tables
-abbrev pub IsShown : Shape → Quotient → Drafted → Type 0
-IsShown s q d = IsViewed s (shown_blocks q d) (at (shown_labels q d)) (shown_adjacent q d)
+abbrev pub ShowsStablePartition : Shape → Quotient → Drafted → Type 0
+ShowsStablePartition s q d = IsViewed s (shown_blocks q d) (at (shown_labels q d)) (shown_adjacent q d)
 
 -- the supports as shown are those of some graph with few edges, and blocks with members have labels
-abbrev pub HasShownGraph : Quotient → Drafted → Type 0
-HasShownGraph q d = HasGraph (shown_blocks q d) (at (shown_labels q d)) (shown_support q d)
+abbrev pub ShowsSupportsOfGraph : Quotient → Drafted → Type 0
+ShowsSupportsOfGraph q d = HasGraph (shown_blocks q d) (at (shown_labels q d)) (shown_support q d)
 
 -- the two blocks as shown can be merged
 abbrev pub AreShownMergeable : Quotient → Drafted → ℕ → ℕ → Type 0
@@ -32,12 +32,13 @@ abbrev pub StayEdgeCounts : Quotient → Drafted → Drafted → Type 0
 StayEdgeCounts q d d2 = (g : Graph) → AreEdgeCounts g (shown_blocks q d) (shown_support q d) → AreEdgeCounts g (shown_blocks q d2) (shown_support q d2)
 
 -- whatever the labels of nodes: where each node had that of its block, it has it still
-abbrev pub StayNamed : Quotient → Drafted → Drafted → Type 0
-StayNamed q d d2 = (names : ℕ → Option ℕ) → AreNamed (shown_blocks q d) (at (shown_labels q d)) names → AreNamed (shown_blocks q d2) (at (shown_labels q d2)) names
+abbrev pub LabelsStayRight : Quotient → Drafted → Drafted → Type 0
+LabelsStayRight q d d2 = (node_labels : ℕ → Option ℕ) → BlocksHaveLabels (shown_blocks q d) (at (shown_labels q d)) node_labels
+    → BlocksHaveLabels (shown_blocks q d2) (at (shown_labels q d2)) node_labels
 
 -- whatever the graph: where a stable partition of it was shown, with the right tables, one is still
-abbrev pub StaysShown : Quotient → Drafted → Drafted → Type 0
-StaysShown q d d2 = (s : Shape) → IsShown s q d → IsShown s q d2
+abbrev pub KeepsStablePartition : Quotient → Drafted → Drafted → Type 0
+KeepsStablePartition q d d2 = (s : Shape) → ShowsStablePartition s q d → ShowsStablePartition s q d2
 
 -- these nodes go into this block, and all others stay
 abbrev pub PutsNodes : List ℕ → ℕ → List (Option ℕ) → List (Option ℕ) → Type 0

@@ -5,10 +5,10 @@ use Rattle.graph_spec.specs.Shapes.{Shape}
 use Rattle.bisim_spec.specs.Below.{count_below}
 use Rattle.bisim_spec.specs.IndexGraphs.{support_at}
 use Rattle.one_spec.specs.Merges.{Merges, AreMergeCandidates}
-use Rattle.one_spec.specs.Viewed.{IsViewed, IsDone}
+use Rattle.one_spec.specs.Viewed.{IsViewed, IsMergedToEnd}
 use Rattle.quotient.specs.Quotients.{Quotient}
 use Rattle.quotient_draft.specs.Drafts.{Drafted, shown_labels, shown_blocks, shown_support, has_member}
-pub use Rattle.one_merge.specs.Shown.{IsShown, HasShownGraph, AreShownMergeable, AreShownNotMergeable, StayEdgeCounts, StayNamed}
+pub use Rattle.one_merge.specs.Shown.{ShowsStablePartition, ShowsSupportsOfGraph, AreShownMergeable, AreShownNotMergeable, StayEdgeCounts, LabelsStayRight}
 use Rattle.one_merge.specs.MergeTests.{shown_adjacent}
 
 -- of each two blocks as shown that can be merged one is among these
@@ -18,17 +18,21 @@ AreShownMergeCandidates s q d among = AreMergeCandidates s (shown_blocks q d) am
 -- whatever the graph: where of each two blocks that can be merged one was a candidate, one is now of this pair, or is
 -- still a candidate
 abbrev pub StayMergeCandidates : Quotient → Drafted → List ℕ → ℕ × ℕ → List ℕ → Type 0
-StayMergeCandidates q d merge_candidates pair merge_candidates2 = (s : Shape) → IsShown s q d → AreShownMergeCandidates s q d (λ b. IsTrue (has merge_candidates b))
+StayMergeCandidates q d merge_candidates pair merge_candidates2 =
+    (s : Shape) → ShowsStablePartition s q d → AreShownMergeCandidates s q d (λ b. IsTrue (has merge_candidates b))
     → AreShownMergeCandidates s q d (λ b. ((b ≡ pair.0) ⊎ (b ≡ pair.1)) ⊎ IsTrue (has merge_candidates2 b))
 
 -- whatever the graph: where of each two blocks that can be merged one was a candidate, no two can be
-abbrev pub AreUnmergeable : Quotient → Drafted → List ℕ → Type 0
-AreUnmergeable q d merge_candidates = (s : Shape) → IsShown s q d → AreShownMergeCandidates s q d (λ b. IsTrue (has merge_candidates b)) → AreShownMergeCandidates s q d (λ b. ⊥)
+abbrev pub NoTwoCanMerge : Quotient → Drafted → List ℕ → Type 0
+NoTwoCanMerge q d merge_candidates =
+    (s : Shape) → ShowsStablePartition s q d → AreShownMergeCandidates s q d (λ b. IsTrue (has merge_candidates b))
+    → AreShownMergeCandidates s q d (λ b. ⊥)
 
 -- whatever the graph: where of each two blocks that can be merged one is a candidate, pairs were merged until no two could be
 abbrev pub MergesToEnd : Quotient → Drafted → Drafted → List ℕ → Type 0
 MergesToEnd q d d2 merge_candidates =
-    (s : Shape) → IsShown s q d → AreShownMergeCandidates s q d (λ b. IsTrue (has merge_candidates b)) → IsDone s (shown_blocks q d) (shown_blocks q d2)
+    (s : Shape) → ShowsStablePartition s q d → AreShownMergeCandidates s q d (λ b. IsTrue (has merge_candidates b))
+    → IsMergedToEnd s (shown_blocks q d) (shown_blocks q d2)
 
 -- of these blocks none but a itself has support to a
 abbrev pub HasNoOther : Quotient → Drafted → List ℕ → ℕ → Type 0
@@ -47,7 +51,8 @@ abbrev pub inhabited : Quotient → Drafted → ℕ
 inhabited q d = count_below (length (shown_labels q d)) (has_member (shown_blocks q d))
 
 -- After some merges: pairs were merged, the tables fit, and of each two blocks that can be merged one is among these.
-pub record IsMerging (s : Shape) (first block : List (Option ℕ)) (labels : ℕ → Option ℕ) (adjacent : ℕ → ℕ → Bool) (merge_candidates : List ℕ) : Type 0 where
+pub record IsMerging (s : Shape) (first block : List (Option ℕ)) (labels : ℕ → Option ℕ)
+    (adjacent : ℕ → ℕ → Bool) (merge_candidates : List ℕ) : Type 0 where
   pub merges : Merges s first block
   pub viewed : IsViewed s block labels adjacent
   pub candidates_are : AreMergeCandidates s block (λ b. IsTrue (has merge_candidates b))

@@ -5,7 +5,7 @@ ghost use Rattle.graph_spec.specs.Members.{at, has};
 ghost use Rattle.quotient_draft.specs.Drafts.{shown_labels, shown_blocks, shown_support};
 ghost use Rattle.quotient_draft.specs.Basis.{IsOver};
 ghost use Rattle.one_merge.specs.MergeTests.{shown_adjacent};
-ghost use Rattle.one_merge.specs.ShownMerges.{HasShownGraph, AreShownMergeable, AreShownNotMergeable, HasNoOther, ListsOwnChildren, HasBaseSupports};
+ghost use Rattle.one_merge.specs.ShownMerges.{ShowsSupportsOfGraph, AreShownMergeable, AreShownNotMergeable, HasNoOther, ListsOwnChildren, HasBaseSupports};
 ghost use Rattle.one_merge.specs.ParentlessBlocks.{IsNoted, CoversBase};
 
 use crate::members::{children_count, has_members};
@@ -98,7 +98,7 @@ fn is_mergeable(
     others: &mut Vec<u32>,
 ) -> Result<bool, Memory>
     requires over { IsOver base.now.blocks.block_of base.now.blocks.labels draft.now }
-    requires graph { HasShownGraph base.now draft.now }
+    requires graph { ShowsSupportsOfGraph base.now draft.now }
     requires members { (n : ℕ) × (at (shown_blocks base.now draft.now) n ≡ Some a) }
     requires label { at (shown_labels base.now draft.now) a ≡ Some label }
     ensures yes { IfOk result (λ can. IsTrue can → AreShownMergeable base.now draft.now a b) }
@@ -201,7 +201,7 @@ fn find_among(
     others: &mut Vec<u32>,
 ) -> Result<Option<u32>, Memory>
     requires over { IsOver base.now.blocks.block_of base.now.blocks.labels draft.now }
-    requires graph { HasShownGraph base.now draft.now }
+    requires graph { ShowsSupportsOfGraph base.now draft.now }
     requires members { (n : ℕ) × (at (shown_blocks base.now draft.now) n ≡ Some a) }
     ensures some { IfOk result (λ found. IfSome found (AreShownMergeable base.now draft.now a)) }
     ensures none { IfOk result (λ found. IfNone found ((b : ℕ) → IsTrue (has blocks.now b) → AreShownNotMergeable base.now draft.now a b)) }
@@ -262,7 +262,7 @@ fn find_mergeable_lone(
     others: &mut Vec<u32>,
 ) -> Result<Option<u32>, Memory>
     requires over { IsOver base.now.blocks.block_of base.now.blocks.labels draft.now }
-    requires graph { HasShownGraph base.now draft.now }
+    requires graph { ShowsSupportsOfGraph base.now draft.now }
     requires covers { CoversBase base.now parentless.now }
     requires members { (n : ℕ) × (at (shown_blocks base.now draft.now) n ≡ Some a) }
     requires lone { (x : ℕ) → IsTrue (shown_adjacent base.now draft.now x a) → x ≡ a }
@@ -282,7 +282,7 @@ fn find_mergeable_near(
     others: &mut Vec<u32>,
 ) -> Result<Option<u32>, Memory>
     requires over { IsOver base.now.blocks.block_of base.now.blocks.labels draft.now }
-    requires graph { HasShownGraph base.now draft.now }
+    requires graph { ShowsSupportsOfGraph base.now draft.now }
     requires members { (n : ℕ) × (at (shown_blocks base.now draft.now) n ≡ Some a) }
     requires parent { (x ≢ a) × IsTrue (shown_adjacent base.now draft.now x a) }
     ensures some { IfOk result (λ found. IfSome found (AreShownMergeable base.now draft.now a)) }
@@ -306,7 +306,7 @@ pub(crate) fn find_mergeable(
     buffers: &mut Buffers,
 ) -> Result<Option<u32>, Memory>
     requires over { IsOver base.now.blocks.block_of base.now.blocks.labels draft.now }
-    requires graph { HasShownGraph base.now draft.now }
+    requires graph { ShowsSupportsOfGraph base.now draft.now }
     requires covers { CoversBase base.now parentless.now }
     ensures some { IfOk result (λ found. IfSome found (AreShownMergeable base.now draft.now a)) }
     ensures none { IfOk result (λ found. IfNone found ((b : ℕ) → AreShownNotMergeable base.now draft.now a b)) }

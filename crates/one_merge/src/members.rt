@@ -3,7 +3,7 @@ ghost use Rattle.std.specs.Prelude.{◌≡◌, ◌≢◌, ◌⊎◌, ℕ, Some, 
 ghost use Rattle.graph_spec.specs.Members.{at};
 ghost use Rattle.quotient_draft.specs.Drafts.{shown_blocks};
 ghost use Rattle.quotient_draft.specs.Basis.{IsOver};
-ghost use Rattle.one_merge.specs.ShownMerges.{HasShownGraph, AreShownMergeable};
+ghost use Rattle.one_merge.specs.ShownMerges.{ShowsSupportsOfGraph, AreShownMergeable};
 
 use quotient::Summary;
 use quotient_draft::{Draft, base_children};
@@ -11,7 +11,7 @@ use quotient_draft::{Draft, base_children};
 /// Whether the number is that of a block with members.
 pub(crate) fn has_members(base: &Summary, draft: &Draft, b: u32) -> bool
     requires over { IsOver base.now.blocks.block_of base.now.blocks.labels draft.now }
-    requires graph { HasShownGraph base.now draft.now }
+    requires graph { ShowsSupportsOfGraph base.now draft.now }
     ensures yes { IsTrue result → (n : ℕ) × (at (shown_blocks base.now draft.now) n ≡ Some b) }
     ensures no { IsFalse result → (n : ℕ) → at (shown_blocks base.now draft.now) n ≢ Some b }
 {
@@ -32,7 +32,7 @@ pub(crate) fn children_count(base: &Summary, draft: &Draft, b: u32) -> usize {
 /// The two blocks: first the one that costs more to move, by its members and its children.
 pub(crate) fn larger_first(base: &Summary, draft: &Draft, a: u32, b: u32) -> (u32, u32)
     requires over { IsOver base.now.blocks.block_of base.now.blocks.labels draft.now }
-    requires graph { HasShownGraph base.now draft.now }
+    requires graph { ShowsSupportsOfGraph base.now draft.now }
     requires mergeable_pair { AreShownMergeable base.now draft.now a b }
     ensures mergeable_pair { AreShownMergeable base.now draft.now result.0 result.1 }
     ensures one { (a ≡ result.0) ⊎ (a ≡ result.1) }

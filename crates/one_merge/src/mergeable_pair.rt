@@ -5,7 +5,7 @@ ghost use Rattle.graph_spec.specs.Members.{at};
 ghost use Rattle.quotient_draft.specs.Drafts.{shown_labels, shown_blocks};
 ghost use Rattle.quotient_draft.specs.Basis.{IsOver};
 ghost use Rattle.one_merge.specs.MergeTests.{shown_adjacent, adjacent_merged};
-ghost use Rattle.one_merge.specs.Shown.{AreShownMergeable, AreShownNotMergeable, HasShownGraph};
+ghost use Rattle.one_merge.specs.Shown.{AreShownMergeable, AreShownNotMergeable, ShowsSupportsOfGraph};
 
 use label_graph::Digraph;
 use px_base::Memory;
@@ -41,7 +41,7 @@ fn are_satisfied(base: &Summary, draft: &Draft, a: u32, b: u32, d: u32, blocks: 
 // Whether two blocks have one label.
 fn same_label(base: &Summary, draft: &Draft, a: u32, b: u32) -> bool
     requires over { IsOver base.now.blocks.block_of base.now.blocks.labels draft.now }
-    requires graph { HasShownGraph base.now draft.now }
+    requires graph { ShowsSupportsOfGraph base.now draft.now }
     requires first { (n : ℕ) × (at (shown_blocks base.now draft.now) n ≡ Some a) }
     requires second { (n : ℕ) × (at (shown_blocks base.now draft.now) n ≡ Some b) }
     ensures yes { IsTrue result → at (shown_labels base.now draft.now) a ≡ at (shown_labels base.now draft.now) b }
@@ -59,7 +59,8 @@ fn is_unsatisfied(base: &Summary, draft: &Draft, a: u32, b: u32, x: u32) -> bool
 
 // Whether this holds of one of the blocks. It stops at the first of which it does.
 fn is_any_unsatisfied(base: &Summary, draft: &Draft, a: u32, b: u32, blocks: &[u32]) -> bool
-    ensures { result ≡ list_any (λ x. shown_adjacent base.now draft.now x b && not (adjacent_merged (shown_adjacent base.now draft.now) a b a x)) blocks.now }
+    ensures { result ≡
+        list_any (λ x. shown_adjacent base.now draft.now x b && not (adjacent_merged (shown_adjacent base.now draft.now) a b a x)) blocks.now }
 {
     blocks.iter().any(|x| is_unsatisfied(base, draft, a, b, *x))
 }
@@ -67,7 +68,8 @@ fn is_any_unsatisfied(base: &Summary, draft: &Draft, a: u32, b: u32, blocks: &[u
 // Whether a parent of b in the base rules out that the two can be merged. No list is made, so it is cheap to test
 // first; parents that the draft adds are not seen.
 fn has_unsatisfied_parent(base: &Summary, draft: &Draft, a: u32, b: u32) -> bool
-    ensures { IsTrue result → (x : ℕ) × IsTrue (shown_adjacent base.now draft.now x b) × (adjacent_merged (shown_adjacent base.now draft.now) a b a x ≡ false) }
+    ensures { IsTrue result → (x : ℕ)
+        × IsTrue (shown_adjacent base.now draft.now x b) × (adjacent_merged (shown_adjacent base.now draft.now) a b a x ≡ false) }
 {
     is_any_unsatisfied(base, draft, a, b, base_parents(base, b))
 }
@@ -84,7 +86,7 @@ pub(crate) fn can_merge(
     list: &mut Vec<u32>,
 ) -> Result<bool, Memory>
     requires over { IsOver base.now.blocks.block_of base.now.blocks.labels draft.now }
-    requires graph { HasShownGraph base.now draft.now }
+    requires graph { ShowsSupportsOfGraph base.now draft.now }
     requires apart { a ≢ b }
     requires first { (n : ℕ) × (at (shown_blocks base.now draft.now) n ≡ Some a) }
     requires second { (n : ℕ) × (at (shown_blocks base.now draft.now) n ≡ Some b) }

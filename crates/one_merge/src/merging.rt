@@ -2,7 +2,7 @@
 ghost use Rattle.std.specs.Prelude.{ℕ, IsTrue, IfSome, IfNone, IfOk, OnOk};
 ghost use Rattle.graph_spec.specs.Members.{has};
 ghost use Rattle.quotient_draft.specs.Basis.{IsOver};
-ghost use Rattle.one_merge.specs.ShownMerges.{HasShownGraph, AreShownMergeable, StayMergeCandidates, AreUnmergeable, MergesToEnd, StayEdgeCounts, StayNamed};
+ghost use Rattle.one_merge.specs.ShownMerges.{ShowsSupportsOfGraph, AreShownMergeable, StayMergeCandidates, NoTwoCanMerge, MergesToEnd, StayEdgeCounts, LabelsStayRight};
 ghost use Rattle.one_merge.specs.ParentlessBlocks.{CoversBase};
 
 use crate::finding::{Buffers, find_mergeable};
@@ -24,11 +24,11 @@ fn next_pair(
     buffers: &mut Buffers,
 ) -> Result<Option<(u32, u32)>, Memory>
     requires over { IsOver base.now.blocks.block_of base.now.blocks.labels draft.now }
-    requires graph { HasShownGraph base.now draft.now }
+    requires graph { ShowsSupportsOfGraph base.now draft.now }
     requires covers { CoversBase base.now parentless.now }
     ensures some { IfOk result (λ pair. IfSome pair (λ r. AreShownMergeable base.now draft.now r.0 r.1)) }
     ensures rest { IfOk result (λ pair. IfSome pair (λ r. StayMergeCandidates base.now draft.now merge_candidates.old r merge_candidates.new)) }
-    ensures none { IfOk result (λ pair. IfNone pair (AreUnmergeable base.now draft.now merge_candidates.old)) }
+    ensures none { IfOk result (λ pair. IfNone pair (NoTwoCanMerge base.now draft.now merge_candidates.old)) }
 {
     'look: while let Some(a) = merge_candidates.take() {
         if let Some(b) = find_mergeable(base, draft, parentless, a, buffers)? {
@@ -64,12 +64,12 @@ fn merge_pairs(
     buffers: &mut Buffers,
 ) -> Result<(), Memory>
     requires over { IsOver base.now.blocks.block_of base.now.blocks.labels draft.old }
-    requires graph { HasShownGraph base.now draft.old }
+    requires graph { ShowsSupportsOfGraph base.now draft.old }
     requires covers { CoversBase base.now parentless.now }
     ensures over { OnOk result (IsOver base.now.blocks.block_of base.now.blocks.labels draft.new) }
     ensures merged { OnOk result (MergesToEnd base.now draft.old draft.new merge_candidates.old) }
     ensures supports { OnOk result (StayEdgeCounts base.now draft.old draft.new) }
-    ensures named { OnOk result (StayNamed base.now draft.old draft.new) }
+    ensures block_labels { OnOk result (LabelsStayRight base.now draft.old draft.new) }
 {
     'pairs: while let Some((a, b)) = next_pair(
         base,
@@ -107,12 +107,12 @@ pub fn merge(
     merge_candidates: &[u32],
 ) -> Result<(), Memory>
     requires over { IsOver base.now.blocks.block_of base.now.blocks.labels draft.old }
-    requires graph { HasShownGraph base.now draft.old }
+    requires graph { ShowsSupportsOfGraph base.now draft.old }
     requires covers { CoversBase base.now parentless.now }
     ensures over { OnOk result (IsOver base.now.blocks.block_of base.now.blocks.labels draft.new) }
     ensures merged { OnOk result (MergesToEnd base.now draft.old draft.new merge_candidates.now) }
     ensures supports { OnOk result (StayEdgeCounts base.now draft.old draft.new) }
-    ensures named { OnOk result (StayNamed base.now draft.old draft.new) }
+    ensures block_labels { OnOk result (LabelsStayRight base.now draft.old draft.new) }
 {
     let mut worklist = MergeCandidates::new(alloc);
     worklist.add_all(merge_candidates)?;

@@ -5,7 +5,7 @@ ghost use Rattle.bisim_spec.specs.Stability.{Mergeable};
 ghost use Rattle.one_spec.specs.Merges.{IsMerged};
 ghost use Rattle.quotient_draft.specs.Drafts.{shown_labels, shown_blocks};
 ghost use Rattle.quotient_draft.specs.Basis.{IsOver};
-ghost use Rattle.one_merge.specs.Shown.{HasShownGraph, AreShownMergeable, StayEdgeCounts, StayNamed, StaysShown, PutsNodes};
+ghost use Rattle.one_merge.specs.Shown.{ShowsSupportsOfGraph, AreShownMergeable, StayEdgeCounts, LabelsStayRight, KeepsStablePartition, PutsNodes};
 
 use crate::supports::merge_supports;
 use px_base::{Memory, NodeId};
@@ -26,15 +26,15 @@ pub(crate) fn merge_pair(
     list: &mut Vec<u32>,
 ) -> Result<(), Memory>
     requires over { IsOver base.now.blocks.block_of base.now.blocks.labels draft.old }
-    requires graph { HasShownGraph base.now draft.old }
+    requires graph { ShowsSupportsOfGraph base.now draft.old }
     requires mergeable_pair { AreShownMergeable base.now draft.old a b }
     ensures over { OnOk result (IsOver base.now.blocks.block_of base.now.blocks.labels draft.new) }
-    ensures graph { OnOk result (HasShownGraph base.now draft.new) }
+    ensures graph { OnOk result (ShowsSupportsOfGraph base.now draft.new) }
     ensures merged { OnOk result (IsMerged a b (shown_blocks base.now draft.old) (shown_blocks base.now draft.new)) }
     ensures labels { OnOk result (shown_labels base.now draft.new ≡ shown_labels base.now draft.old) }
     ensures supports { OnOk result (StayEdgeCounts base.now draft.old draft.new) }
-    ensures named { OnOk result (StayNamed base.now draft.old draft.new) }
-    ensures viewed { OnOk result (StaysShown base.now draft.old draft.new) }
+    ensures block_labels { OnOk result (LabelsStayRight base.now draft.old draft.new) }
+    ensures viewed { OnOk result (KeepsStablePartition base.now draft.old draft.new) }
 {
     merge_supports(base, draft, a, b, list)?;
     draft.fill_members(base, b, list)?;

@@ -10,7 +10,7 @@ use Rattle.label_graph.proofs.Positions.{text-at}
 use Rattle.bisim_spec.specs.Stability.{merged_at}
 use Rattle.bisim_spec.proofs.Bisimilar.{none_or_some}
 use Rattle.one_spec.specs.Merges.{IsMerged}
-use Rattle.one_spec.specs.Named.{AreNamed, IsLabelled}
+use Rattle.one_spec.specs.BlockLabels.{BlocksHaveLabels, IsLabelled}
 
 -- a number of a label stands for one text
 numbered_text : (o : Option (List ℕ)) (seen : List (List ℕ)) (d : ℕ) → option_and_then (λ t. position (bytes_eq t) seen) o ≡ Some d → o ≡ slice_get seen d
@@ -18,11 +18,11 @@ numbered_text None seen d h = absurd (cc)
 numbered_text (Some t) seen d h = sym (text-at t seen d h)
 
 -- where members have the label numbers of their blocks
-pub labelled_named : (g : Graph) (p : List (Option ℕ)) (labels : ℕ → Option ℕ) → AreNamed p labels (label_number g) → IsLabelled (shape_of g) p labels
-labelled_named g p labels named = record {
+pub labelled_by_numbers : (g : Graph) (p : List (Option ℕ)) (labels : ℕ → Option ℕ) → BlocksHaveLabels p labels (label_number g) → IsLabelled (shape_of g) p labels
+labelled_by_numbers g p labels block_labels = record {
   same = λ u v a b hu hv.
-      let x = named.is u a hu in
-      let y = named.is v b hv in (
+      let x = block_labels.is u a hu in
+      let y = block_labels.is v b hv in (
         λ e.
             let numbers : Some x.0 ≡ Some y.0 = sym x.1 ∙ e ∙ y.1 in
             let at : x.0 ≡ y.0 = cc in

@@ -1,7 +1,7 @@
 -- A change, then a split, then merges: how the partition of the 1-index moves.
-use Rattle.std.proofs.Common.{◌≡◌, ℕ, ◌⊎◌, List, [], Option, Some, None, IsTrue, IsFalse, is_some, refl, sym, ◌∙◌, ap, inl, inr, true, false, Bool}
+use Rattle.std.proofs.Common.{◌≡◌, ℕ, ◌⊎◌, List, [], Option, Some, None, IsTrue, refl, sym, ◌∙◌, ap, inl, inr, true, false, Bool}
 use Rattle.std.specs.Prelude.{◌&&◌, not}
-use Rattle.std.proofs.lemmas.Bool.{cases_Bool, and_parts, and_from, both_ways, false_from_ne_true, not-true, not_from_false}
+use Rattle.std.proofs.lemmas.Bool.{cases_Bool, and_parts, and_from, both_ways, not-true, not_from_false}
 use Rattle.graph_spec.specs.Graphs.{Graph}
 use Rattle.graph_spec.specs.Changes.{Change, after}
 use Rattle.graph_spec.specs.Members.{has, at}
@@ -11,9 +11,9 @@ use Rattle.bisim_spec.specs.Stability.{Stable, Minimal}
 use Rattle.bisim_spec.specs.Reach.{reach}
 use Rattle.bisim_spec.proofs.Bisimilar.{is_some_at}
 use Rattle.bisim_spec.proofs.Ranks.{acyclic_full}
-use Rattle.bisim_spec.proofs.Reached.{reach_start, reach_step}
+use Rattle.bisim_spec.proofs.Reached.{reach_step}
 use Rattle.bisim_spec.proofs.Together.{together_sym, together_some}
-use Rattle.bisim_spec.proofs.Outside.{DiffersAt, SameOutside, outside_reach}
+use Rattle.bisim_spec.proofs.Outside.{DiffersAt, SameOutside, IsOut, off_target, outside_reach}
 use Rattle.bisim_spec.specs.Targets.{KeepsBlocks, KeepsParents, target}
 use Rattle.one_spec.specs.Merges.{Merges, AreMergeCandidates}
 use Rattle.bisim_spec.specs.OneStep.{OneStep}
@@ -42,33 +42,20 @@ pub record Stages (from : ℕ → Bool) (s s2 : Shape) (p p1 p2 : List (Option �
 pub split_stable : (from : ℕ → Bool) (s s2 : Shape) (p p1 p2 : List (Option ℕ)) (made : List ℕ) → Stages from s s2 p p1 p2 made → Stable s2 p2
 split_stable from s s2 p p1 p2 made g = stable_at_end s2 p2 (has []) (λ n. refl) g.split.stable
 
-off_target : (from : ℕ → Bool) (s2 : Shape) (n : ℕ) → reach s2 from n ≡ false → from n ≡ false
-off_target from s2 n h = false_from_ne_true (from n) (λ t. both_ways (reach s2 from n) h (reach_start s2 from n t))
-
 same_block : (from : ℕ → Bool) (s s2 : Shape) (p p1 p2 : List (Option ℕ)) (made : List ℕ) → Stages from s s2 p p1 p2 made
     → (n : ℕ) → from n ≡ false → IsNode s2 n → at p1 n ≡ at p n
 same_block from s s2 p p1 p2 made g n off node = g.keeps.kept n (live_before from s s2 g.differs n off node) node
 
 -- out of reach nodes are together as before
 pub split_outside : (from : ℕ → Bool) (s s2 : Shape) (p p1 p2 : List (Option ℕ)) (made : List ℕ) → Stages from s s2 p p1 p2 made
-    → SameOutside p p2 (λ n. IsFalse (reach s2 from n))
+    → SameOutside p p2 (IsOut s2 from)
 split_outside from s s2 p p1 p2 made g = record {
-  into = λ x y ox oy t.
-      let nx = after x ox (g.stable.partition.only x (together_some p x y t)) in
-      let ny = after y oy (g.stable.partition.only y (together_some p y x (together_sym p x y t))) in
-      g.split.same.into x y ox oy (t.0, same x ox nx ∙ t.1, same y oy ny ∙ t.2);
-  back = λ x y ox oy t.
-      let k = g.split.same.back x y ox oy t in
-      let nx = g.partition.only x (together_some p1 x y k) in
-      let ny = g.partition.only y (together_some p1 y x (together_sym p1 x y k)) in
-      (k.0, sym (same x ox nx) ∙ k.1, sym (same y oy ny) ∙ k.2);
+  into = λ x y ox oy t. g.split.same.into x y ox.1 oy.1 (t.0, same x ox ∙ t.1, same y oy ∙ t.2);
+  back = λ x y ox oy t. (let k = g.split.same.back x y ox.1 oy.1 t in (k.0, sym (same x ox) ∙ k.1, sym (same y oy) ∙ k.2));
 }
   where
-    after : (n : ℕ) → reach s2 from n ≡ false → IsNode s n → IsNode s2 n
-    after n o h = sym (ap is_some (g.differs.label n (off_target from s2 n o))) ∙ h
-
-    same : (n : ℕ) → reach s2 from n ≡ false → IsNode s2 n → at p1 n ≡ at p n
-    same n o h = same_block from s s2 p p1 p2 made g n (off_target from s2 n o) h
+    same : (n : ℕ) → IsOut s2 from n → at p1 n ≡ at p n
+    same n o = same_block from s s2 p p1 p2 made g n (off_target s2 from n o.1) o.0
 
 -- nodes that are together once it is split were together before
 pub split_finer : (from : ℕ → Bool) (s s2 : Shape) (p p1 p2 : List (Option ℕ)) (made : List ℕ) → Stages from s s2 p p1 p2 made → IsFiner s p p2
@@ -99,16 +86,18 @@ split_candidates from s s2 p p1 p2 made g = record {
   ];
 }
   where
-    unmoved : (n a : ℕ) → is_still from p2 made n ≡ true → at p2 n ≡ Some a → IsUnmoved from p p2 n
+    unmoved : (n a : ℕ) → is_still from p2 made n ≡ true → at p2 n ≡ Some a → IsUnmoved from s2 p p2 n
     unmoved n a h e =
         let f = and_parts (not (from n)) (unmade made (at p2 n)) h in
         let off : from n ≡ false = not-true (from n) f.0 in
         let free : has made a ≡ false = not-true (has made a) (sym (ap (unmade made) e) ∙ f.1) in
+        let node : IsNode s2 n = g.split.stable.partition.only n (is_some_at (at p2 n) a e) in
         elim (g.split.moved_made n a e) [
           | inl there ↦ absurd (both_ways (has made a) free there)
           | inr was ↦ record {
+            node = node;
             off = off;
-            same = e ∙ sym was ∙ same_block from s s2 p p1 p2 made g n off (g.partition.only n (is_some_at (at p1 n) a was));
+            same = e ∙ sym was ∙ same_block from s s2 p p1 p2 made g n off node;
           }
         ]
 
@@ -135,11 +124,11 @@ one_step_from c g p p1 p2 p3 made stages merges min changes =
     let s2 = shape_of (after c g) in
     let from = target c g in
     let stable = merges_stable s2 p2 p3 merges (split_stable from s s2 p p1 p2 made stages) in
-    let outside = outside_merges s s2 (λ n. IsFalse (reach s2 from n)) p p2 p3 (outside_reach from s s2 stages.shape2 stages.differs)
+    let outside = outside_merges s s2 (IsOut s2 from) p p2 p3 (outside_reach from s s2 stages.shape2 stages.differs)
     (split_outside from s s2 p p1 p2 made stages) stages.stable stages.minimal merges in
     record {
       made = refl;
       index = record { stable = stable; minimal = min; whole = λ acyclic. acyclic_full s2 p3 stages.shape2 acyclic stable min };
-      outside = λ u v nu nv mu mv ou ov. (outside.back u v ou ov, outside.into u v ou ov);
+      outside = λ u v nu nv mu mv ou ov. (outside.back u v (mu, ou) (mv, ov), outside.into u v (mu, ou) (mv, ov));
       still = λ keeps. absurd (changes keeps);
     }

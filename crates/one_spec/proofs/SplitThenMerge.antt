@@ -12,9 +12,9 @@ use Rattle.bisim_spec.specs.Targets.{KeepsParents, target}
 use Rattle.one_spec.specs.Merges.{AreMergeCandidates}
 use Rattle.bisim_spec.specs.OneStep.{OneStep}
 use Rattle.one_spec.specs.EdgeCounts.{AreEdgeCounts}
-use Rattle.one_spec.specs.Named.{IsLabelled}
+use Rattle.one_spec.specs.BlockLabels.{IsLabelled}
 use Rattle.one_spec.proofs.OneSteps.{Stages, split_stable, split_candidates, one_step_from}
-use Rattle.one_spec.specs.Viewed.{IsViewed, IsDone}
+use Rattle.one_spec.specs.Viewed.{IsViewed, IsMergedToEnd}
 use Rattle.one_spec.specs.FirstCandidates.{AreFirstCandidates}
 
 -- where the supports are right, blocks are adjacent exactly where there is support
@@ -51,7 +51,7 @@ first_candidates from s s2 p p1 p2 made merge_candidates stages are = record {
 pub one_step_done : (c : Change) (g : Graph) (p p1 p2 p3 : List (Option ℕ)) (made merge_candidates : List ℕ) (labels : ℕ → Option ℕ) (support : ℕ → ℕ → ℕ) (adjacent : ℕ → ℕ → Bool)
     → Stages (target c g) (shape_of g) (shape_of (after c g)) p p1 p2 made → IsLabelled (shape_of (after c g)) p2 labels → AreEdgeCounts (after c g) p2 support
     → ((x y : ℕ) → adjacent x y ≡ nat_lt 0 (support x y)) → AreFirstCandidates (target c g) p2 made merge_candidates
-    → ((s : Shape) → IsViewed s p2 labels adjacent → AreMergeCandidates s p2 (λ b. IsTrue (has merge_candidates b)) → IsDone s p2 p3)
+    → ((s : Shape) → IsViewed s p2 labels adjacent → AreMergeCandidates s p2 (λ b. IsTrue (has merge_candidates b)) → IsMergedToEnd s p2 p3)
     → (KeepsParents c (after c g) p → ⊥) → OneStep g p c (after c g) p3
 one_step_done c g p p1 p2 p3 made merge_candidates labels support adjacent stages labelled supports is are merge changes =
     let s = shape_of g in

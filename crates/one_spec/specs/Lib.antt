@@ -1,7 +1,7 @@
 pub mod SplitRoundSteps
 pub mod Merges
 pub mod Splits
-pub mod Named
+pub mod BlockLabels
 pub mod EdgeCounts
 pub mod Viewed
 pub mod FirstCandidates

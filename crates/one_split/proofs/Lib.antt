@@ -4,7 +4,7 @@ pub mod Chosen
 pub mod ChosenTargetBlocks
 pub mod Groups
 pub mod Gone
-pub mod Named
+pub mod BlockLabels
 pub mod RoundEnds
 pub mod Bounds
 pub mod Total

@@ -17,13 +17,13 @@ use Rattle.one_spec.specs.SplitRoundSteps.{MayStayTogether}
 use Rattle.one_spec.proofs.SplitRounds.{same_but_moved, same_but_on, within_on}
 use Rattle.one_spec.proofs.Sums.{first_has, rest_apart}
 use Rattle.graph_update.proofs.NeighbourLists.{and_one}
-use Rattle.one_spec.specs.Named.{AreNamed, AreNamedOff}
+use Rattle.one_spec.specs.BlockLabels.{BlocksHaveLabels, BlocksHaveLabelsBut}
 use Rattle.one_split.specs.NodeTargetBlocks.{LabelsStay, AreBlocks}
-use Rattle.one_split.proofs.Named.{some_kept}
+use Rattle.one_split.proofs.BlockLabels.{some_kept}
 use Rattle.one_spec.specs.Splits.{IsClosed, IsSplitInside}
 use Rattle.one_split.proofs.Apart.{IsApart}
 use Rattle.graph_spec.proofs.MemberLaws.{has_push}
-use Rattle.one_split.specs.SplitStates.{either, IsSplitBut, IsFirst}
+use Rattle.one_split.specs.SplitStates.{either, IsSplitBut, IsFirstLeft}
 
 both_off : (x y : Bool) → x ≡ false → y ≡ false → (x || y) ≡ false
 both_off x y a b = rw (a, b) refl
@@ -39,7 +39,7 @@ other_than n t ne = elim (eqb_tells n t) [ inl s ↦ absurd (ne s.1) | inr d ↦
 
 -- the target is alone: nothing moves
 pub part_stays : (s : Shape) (inside : ℕ → Bool) (first p : List (Option ℕ)) (next : List ℕ) (rest rest2 : ℕ → Bool) (made : List ℕ) (t : ℕ) → IsShape s
-    → ((n : ℕ) → Together p n t → n ≡ t) → IsFirst rest rest2 t → IsSplitBut s inside first p next rest made → IsSplitBut s inside first p next rest2 made
+    → ((n : ℕ) → Together p n t → n ≡ t) → IsFirstLeft rest rest2 t → IsSplitBut s inside first p next rest made → IsSplitBut s inside first p next rest2 made
 part_stays s inside first p next rest rest2 made t shape alone is_first a = record {
   stable = record {
     partition = a.stable.partition;
@@ -88,7 +88,7 @@ part_stays s inside first p next rest rest2 made t shape alone is_first a = reco
 -- the target moves
 pub part_moves : (s : Shape) (inside : ℕ → Bool) (first p p2 : List (Option ℕ)) (next next2 : List ℕ) (rest rest2 : ℕ → Bool) (made made2 : List ℕ) (t b : ℕ) → IsShape s
     → IsClosed s inside → IsTrue (inside t) → IsNode s t → IsApart p p2 t b → ((m : ℕ) → has next2 m ≡ (has next m || s.edge t m)) → made2 ≡ made ++ b ∷ [] → IsDistinct nat_eq made2
-    → IsFirst rest rest2 t → IsSplitBut s inside first p next rest made → IsSplitBut s inside first p2 next2 rest2 made2
+    → IsFirstLeft rest rest2 t → IsSplitBut s inside first p next rest made → IsSplitBut s inside first p2 next2 rest2 made2
 part_moves s inside first p p2 next next2 rest rest2 made made2 t b shape closed within node apart children added once is_first a = record {
   stable = record {
     partition = partition;
@@ -260,39 +260,39 @@ parting_done s inside first p next next2 rest made none same a = record {
     off n h = both_off (has next n) (rest n) (sym (same n) ∙ h) (none n)
 
 -- labels
-pub named_alone : (t own d : ℕ) (p : List (Option ℕ)) (labels names : ℕ → Option ℕ) (rest rest2 : ℕ → Bool) → at p t ≡ Some own → labels own ≡ Some d → names t ≡ Some d
-    → IsFirst rest rest2 t → AreNamedOff rest p labels names → AreNamedOff rest2 p labels names
-named_alone t own d p labels names rest rest2 found l name is_first named = record {
+pub block_labels_alone : (t own d : ℕ) (p : List (Option ℕ)) (labels node_labels : ℕ → Option ℕ) (rest rest2 : ℕ → Bool) → at p t ≡ Some own → labels own ≡ Some d → node_labels t ≡ Some d
+    → IsFirstLeft rest rest2 t → BlocksHaveLabelsBut rest p labels node_labels → BlocksHaveLabelsBut rest2 p labels node_labels
+block_labels_alone t own d p labels node_labels rest rest2 found l name is_first block_labels = record {
   is = λ n b o e. elim (eqb_tells n t) [
     | inl s ↦ (
         let f : at p t ≡ Some b = ap (at p) (sym s.1) ∙ e in
         let same : own ≡ b = cc in
-        (d, ap labels (sym same) ∙ l, ap names s.1 ∙ name))
-    | inr k ↦ named.is n b (is_first.only n o k.1) e
+        (d, ap labels (sym same) ∙ l, ap node_labels s.1 ∙ name))
+    | inr k ↦ block_labels.is n b (is_first.only n o k.1) e
   ];
 }
 
-pub named_moved : (t b d : ℕ) (p q p2 : List (Option ℕ)) (labels labels2 names : ℕ → Option ℕ) (rest rest2 : ℕ → Bool) → q ≡ p
-    → ((m : ℕ) → at p2 m ≡ cond (nat_eq m t) (Some b) (at q m)) → labels2 b ≡ Some d → names t ≡ Some d → LabelsStay labels labels2 → IsFirst rest rest2 t
-    → AreNamedOff rest p labels names → AreNamedOff rest2 p2 labels2 names
-named_moved t b d p q p2 labels labels2 names rest rest2 same moved l name keep is_first named = record {
+pub block_labels_moved : (t b d : ℕ) (p q p2 : List (Option ℕ)) (labels labels2 node_labels : ℕ → Option ℕ) (rest rest2 : ℕ → Bool) → q ≡ p
+    → ((m : ℕ) → at p2 m ≡ cond (nat_eq m t) (Some b) (at q m)) → labels2 b ≡ Some d → node_labels t ≡ Some d → LabelsStay labels labels2 → IsFirstLeft rest rest2 t
+    → BlocksHaveLabelsBut rest p labels node_labels → BlocksHaveLabelsBut rest2 p2 labels2 node_labels
+block_labels_moved t b d p q p2 labels labels2 node_labels rest rest2 same moved l name keep is_first block_labels = record {
   is = λ n c o e. elim (eqb_tells n t) [
     | inl s ↦ (
         let found : at p2 n ≡ Some b = moved n ∙ ap (λ x. cond x (Some b) (at q n)) s.0 in
         let is : b ≡ c = cc in
-        (d, ap labels2 (sym is) ∙ l, ap names s.1 ∙ name))
+        (d, ap labels2 (sym is) ∙ l, ap node_labels s.1 ∙ name))
     | inr k ↦ (
         let found : at p n ≡ Some c = sym (ap (λ (xs : List (Option ℕ)). at xs n) same) ∙ sym (moved n ∙ ap (λ x. cond x (Some b) (at q n)) k.0) ∙ e in
-        let r = named.is n c (is_first.only n o k.1) found in
+        let r = block_labels.is n c (is_first.only n o k.1) found in
         (r.0, keep.kept c r.0 r.1, r.2))
   ];
 }
 
-pub named_done : (p : List (Option ℕ)) (labels names : ℕ → Option ℕ) (rest : ℕ → Bool) → ((n : ℕ) → IsFalse (rest n)) → AreNamedOff rest p labels names → AreNamed p labels names
-named_done p labels names rest none named = record { is = λ n b e. named.is n b (none n) e }
+pub block_labels_done : (p : List (Option ℕ)) (labels node_labels : ℕ → Option ℕ) (rest : ℕ → Bool) → ((n : ℕ) → IsFalse (rest n)) → BlocksHaveLabelsBut rest p labels node_labels → BlocksHaveLabels p labels node_labels
+block_labels_done p labels node_labels rest none block_labels = record { is = λ n b e. block_labels.is n b (none n) e }
 
 -- what is left of a list
-first_suc : (xs : List ℕ) (i : ℕ) → IsDistinct nat_eq xs → i < length xs → IsFirst (λ n. has (drop i xs) n) (λ n. has (drop (suc i) xs) n) (slice_index xs i)
+first_suc : (xs : List ℕ) (i : ℕ) → IsDistinct nat_eq xs → i < length xs → IsFirstLeft (λ n. has (drop i xs) n) (λ n. has (drop (suc i) xs) n) (slice_index xs i)
 first_suc [] i d h = absurd (omega (arith, h))
 first_suc (x ∷ xs) zero d h = record {
   here = first_has x xs;
@@ -302,10 +302,10 @@ first_suc (x ∷ xs) zero d h = record {
 }
 first_suc (x ∷ xs) (suc i) d h = first_suc xs i (IsDistinct-tail nat_eq x xs d) (omega (arith, h))
 
-pub first_at : (xs : List ℕ) (i : ℕ) → IsDistinct nat_eq xs → i < length xs → IsFirst (λ n. has (drop i xs) n) (λ n. has (drop (i + 1) xs) n) (slice_index xs i)
+pub first_at : (xs : List ℕ) (i : ℕ) → IsDistinct nat_eq xs → i < length xs → IsFirstLeft (λ n. has (drop i xs) n) (λ n. has (drop (i + 1) xs) n) (slice_index xs i)
 first_at xs i d h =
     let same : suc i ≡ i + 1 = omega arith in
-    subst (λ k. IsFirst (λ n. has (drop i xs) n) (λ n. has (drop k xs) n) (slice_index xs i)) same (first_suc xs i d h)
+    subst (λ k. IsFirstLeft (λ n. has (drop i xs) n) (λ n. has (drop k xs) n) (slice_index xs i)) same (first_suc xs i d h)
 
 pub none_left : (xs : List ℕ) (i : ℕ) → length xs ≤ i → (n : ℕ) → has (drop i xs) n ≡ false
 none_left [] zero h n = refl

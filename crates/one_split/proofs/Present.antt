@@ -15,10 +15,10 @@ use Rattle.bisim_spec.specs.Stability.{StableBut}
 use Rattle.bisim_spec.specs.Supports.{edges_between}
 use Rattle.bisim_spec.proofs.Bisimilar.{is_some_at}
 use Rattle.bisim_spec.proofs.Together.{together_some, together_sym}
-use Rattle.one_spec.specs.Named.{AreNamed, AreNamedOff}
+use Rattle.one_spec.specs.BlockLabels.{BlocksHaveLabels, BlocksHaveLabelsBut}
 use Rattle.one_spec.specs.EdgeCounts.{AreEdgeCounts}
 use Rattle.one_split.specs.NodeTargetBlocks.{MembersHaveLabels, LabelsStay}
-use Rattle.one_split.proofs.Named.{some_kept}
+use Rattle.one_split.proofs.BlockLabels.{some_kept}
 
 -- one more element is kept or not
 pub filter_more : (q : ℕ → Bool) (xs before now : List ℕ) (i d x : ℕ) → i < length xs → before ≡ filter q (take i xs) → get_or xs i d ≡ x
@@ -100,24 +100,24 @@ stable_present s p targets present a st = record {
     first : (u v : ℕ) → IsFalse (present u) → Together p u v → IsFalse (targets u)
     first u v off k = off_before p targets present u a off (together_some p u v k)
 
-pub named_present : (p : List (Option ℕ)) (labels names : ℕ → Option ℕ) (targets present : ℕ → Bool) → ArePresent p targets present → AreNamedOff targets p labels names
-    → AreNamedOff present p labels names
-named_present p labels names targets present a named = record {
-  is = λ n b off e. named.is n b (off_before p targets present n a off (is_some_at (at p n) b e)) e;
+pub block_labels_present : (p : List (Option ℕ)) (labels node_labels : ℕ → Option ℕ) (targets present : ℕ → Bool) → ArePresent p targets present → BlocksHaveLabelsBut targets p labels node_labels
+    → BlocksHaveLabelsBut present p labels node_labels
+block_labels_present p labels node_labels targets present a block_labels = record {
+  is = λ n b off e. block_labels.is n b (off_before p targets present n a off (is_some_at (at p n) b e)) e;
 }
 
 -- members are in blocks: the targets, and those with the labels of their blocks
-pub live_present : (p : List (Option ℕ)) (labels names : ℕ → Option ℕ) (targets : ℕ → Bool) → AreNamedOff targets p labels names
+pub live_present : (p : List (Option ℕ)) (labels node_labels : ℕ → Option ℕ) (targets : ℕ → Bool) → BlocksHaveLabelsBut targets p labels node_labels
     → ((n b : ℕ) → IsTrue (targets n) → at p n ≡ Some b → IsSome (labels b)) → MembersHaveLabels p labels
-live_present p labels names targets named live = record {
+live_present p labels node_labels targets block_labels live = record {
   some = λ n b e. elim (cases_Bool (targets n)) [
     | inl on ↦ live n b on e
-    | inr off ↦ (let d = named.is n b off e in is_some_at (labels b) d.0 d.1)
+    | inr off ↦ (let d = block_labels.is n b off e in is_some_at (labels b) d.0 d.1)
   ];
 }
 
-pub live_named : (p : List (Option ℕ)) (labels names : ℕ → Option ℕ) → AreNamed p labels names → MembersHaveLabels p labels
-live_named p labels names named = record { some = λ n b e. let d = named.is n b e in is_some_at (labels b) d.0 d.1 }
+pub live_block_labels : (p : List (Option ℕ)) (labels node_labels : ℕ → Option ℕ) → BlocksHaveLabels p labels node_labels → MembersHaveLabels p labels
+live_block_labels p labels node_labels block_labels = record { some = λ n b e. let d = block_labels.is n b e in is_some_at (labels b) d.0 d.1 }
 
 -- what is present is live
 pub node_present : (s : Shape) (p : List (Option ℕ)) (targets present : ℕ → Bool) (n : ℕ) → ArePresent p targets present → IsPartition s p → IsTrue (present n) → IsNode s n

@@ -22,9 +22,11 @@ IsCountedWhole p counts own = count_at counts own ≡ count_by (is_this own) p
 -- a node that isn't counted.
 pub record AreGroupTargetBlocks (p : List (Option ℕ)) (counts : List (ℕ × ℕ)) (keys : List (List ℕ)) (target_blocks : List (Option ℕ)) : Type 0 where
   pub whole : (k own : ℕ) → k < length target_blocks → target_block_at target_blocks k ≡ None → BeginsAt keys k own → IsCountedWhole p counts own
-  pub one : (j k own : ℕ) → j < length target_blocks → k < length target_blocks → target_block_at target_blocks j ≡ None → target_block_at target_blocks k ≡ None → BeginsAt keys j own → BeginsAt keys k own → j ≡ k
+  pub one : (j k own : ℕ) → j < length target_blocks → k < length target_blocks → target_block_at target_blocks j ≡ None
+      → target_block_at target_blocks k ≡ None → BeginsAt keys j own → BeginsAt keys k own → j ≡ k
   pub left : (k own b : ℕ) → target_block_at target_blocks k ≡ Some b → BeginsAt keys k own
-      → (IsCountedWhole p counts own → ⊥) ⊎ ((j : ℕ) × (j < length target_blocks) × (target_block_at target_blocks j ≡ None) × BeginsAt keys j own)
+      → (IsCountedWhole p counts own → ⊥)
+        ⊎ ((j : ℕ) × (j < length target_blocks) × (target_block_at target_blocks j ≡ None) × BeginsAt keys j own)
   pub fresh : (k n b : ℕ) → target_block_at target_blocks k ≡ Some b → at p n ≡ Some b → ⊥
   pub tells : (j k b : ℕ) → target_block_at target_blocks j ≡ Some b → target_block_at target_blocks k ≡ Some b → j ≡ k
 
@@ -35,7 +37,8 @@ StaysIf p counts own stays stays2 None =
 StaysIf p counts own stays stays2 (Some b) = Unit {0}
 
 -- where it goes, it goes to a block that was none, and leaves a group that stays, or a node that isn't counted
-abbrev pub GoesIf : List (Option ℕ) → (ℕ → Option ℕ) → (ℕ → Option ℕ) → List (ℕ × ℕ) → ℕ → List ℕ → List ℕ → Option ℕ → Type 0
+abbrev pub GoesIf : List (Option ℕ) → (ℕ → Option ℕ) → (ℕ → Option ℕ)
+    → List (ℕ × ℕ) → ℕ → List ℕ → List ℕ → Option ℕ → Type 0
 GoesIf p labels labels2 counts own stays stays2 None = Unit {0}
 GoesIf p labels labels2 counts own stays stays2 (Some b) =
     (stays2 ≡ stays) × ((n : ℕ) → at p n ≡ Some b → ⊥) × (labels b ≡ None) × IsSome (labels2 b)
@@ -44,12 +47,15 @@ GoesIf p labels labels2 counts own stays stays2 (Some b) =
 -- The nodes before the i-th have gone where their groups go, and the others have stayed.
 pub record HaveGone (p p2 : List (Option ℕ)) (nodes numbers : List ℕ) (target_blocks : List (Option ℕ)) (i : ℕ) : Type 0 where
   pub moved : (j b : ℕ) → j < i → target_block_at target_blocks (slice_index numbers j) ≡ Some b → at p2 (slice_index nodes j) ≡ Some b
-  pub kept : (m : ℕ) → ((j b : ℕ) → j < i → slice_index nodes j ≡ m → target_block_at target_blocks (slice_index numbers j) ≡ Some b → ⊥) → at p2 m ≡ at p m
+  pub kept : (m : ℕ) → ((j b : ℕ) → j < i → slice_index nodes j ≡ m → target_block_at target_blocks (slice_index numbers j) ≡ Some b → ⊥)
+      → at p2 m ≡ at p m
 
 -- the list has the children of those of the nodes before the i-th that have gone
 pub record ListsChildrenOf (s : Shape) (nodes numbers : List ℕ) (target_blocks : List (Option ℕ)) (i : ℕ) (next : List ℕ) : Type 0 where
-  pub into : (j b m : ℕ) → j < i → target_block_at target_blocks (slice_index numbers j) ≡ Some b → IsParent s (slice_index nodes j) m → IsTrue (has next m)
-  pub from : (m : ℕ) → IsTrue (has next m) → (j : ℕ) × (b : ℕ) × (j < i) × (target_block_at target_blocks (slice_index numbers j) ≡ Some b) × IsParent s (slice_index nodes j) m
+  pub into : (j b m : ℕ) → j < i → target_block_at target_blocks (slice_index numbers j) ≡ Some b → IsParent s (slice_index nodes j) m
+      → IsTrue (has next m)
+  pub from : (m : ℕ) → IsTrue (has next m)
+      → (j : ℕ) × (b : ℕ) × (j < i) × (target_block_at target_blocks (slice_index numbers j) ≡ Some b) × IsParent s (slice_index nodes j) m
 
 -- target blocks are blocks of the draft
 pub record TargetBlocksExist (target_blocks : List (Option ℕ)) (labels : ℕ → Option ℕ) : Type 0 where
@@ -62,7 +68,8 @@ pub record AreBlocks (labels : ℕ → Option ℕ) (made : List ℕ) : Type 0 wh
 
 -- the target blocks are put behind those that were made
 pub record AreAdded (target_blocks : List (Option ℕ)) (made made2 : List ℕ) : Type 0 where
-  pub from : (b : ℕ) → IsTrue (has made2 b) → IsTrue (has made b) ⊎ ((k : ℕ) × (k < length target_blocks) × (target_block_at target_blocks k ≡ Some b))
+  pub from : (b : ℕ) → IsTrue (has made2 b)
+      → IsTrue (has made b) ⊎ ((k : ℕ) × (k < length target_blocks) × (target_block_at target_blocks k ≡ Some b))
   pub more : (k b : ℕ) → target_block_at target_blocks k ≡ Some b → length made < length made2
   pub least : length made ≤ length made2
   pub keeps : (b : ℕ) → IsTrue (has made b) → IsTrue (has made2 b)

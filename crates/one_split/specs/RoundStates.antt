@@ -4,8 +4,9 @@ use Rattle.std.specs.List.{IsDistinct}
 use Rattle.graph_spec.specs.Graphs.{Graph, is_live}
 use Rattle.graph_spec.specs.Members.{at, has}
 use Rattle.graph_spec.specs.Shapes.{shape_of, IsShape}
+use Rattle.label_graph.specs.GraphViews.{label_number}
 use Rattle.bisim_spec.specs.Partitions.{IsPartition}
-use Rattle.one_spec.specs.Named.{AreNamed}
+use Rattle.one_spec.specs.BlockLabels.{BlocksHaveLabels}
 use Rattle.one_spec.specs.Splits.{IsClosed, IsSplitInside}
 use Rattle.one_spec.specs.EdgeCounts.{AreEdgeCounts}
 use Rattle.graph_update.specs.PendingChanges.{Pending, graph_after}
@@ -34,7 +35,8 @@ pub record IsRound (a : Pending) (base : Quotient) (d d2 : Drafted) (nodes made 
       → IsSplitInside (shape_of (graph_after a)) inside first (shown_blocks base d) nodes made
       → IsSplitInside (shape_of (graph_after a)) inside first (shown_blocks base d2) next made2
   pub once : IsDistinct nat_eq next
-  pub named : (names : ℕ → Option ℕ) → AreNamed (shown_blocks base d) (at (shown_labels base d)) names → AreNamed (shown_blocks base d2) (at (shown_labels base d2)) names
+  pub block_labels : (node_labels : ℕ → Option ℕ) → BlocksHaveLabels (shown_blocks base d) (at (shown_labels base d)) node_labels
+      → BlocksHaveLabels (shown_blocks base d2) (at (shown_labels base d2)) node_labels
   pub blocks : AreBlocks (at (shown_labels base d2)) made2
   pub supports : AreEdgeCounts (graph_after a) (shown_blocks base d2) (shown_support base d2)
   pub least : length made ≤ length made2
@@ -68,6 +70,10 @@ pub record ShowsPartition (a : Pending) (base : Quotient) (d : Drafted) : Type 0
   pub partition : IsPartition (shape_of (graph_after a)) (shown_blocks base d)
   -- supports are numbers of edges
   pub supports : AreEdgeCounts (graph_after a) (shown_blocks base d) (shown_support base d)
+
+-- each node's block has the label that the node has after the change
+abbrev pub ShowsRightLabels : Pending → Quotient → Drafted → Type 0
+ShowsRightLabels a base d = BlocksHaveLabels (shown_blocks base d) (at (shown_labels base d)) (label_number (graph_after a))
 
 -- where a group goes, it goes to a block that was none before it was drafted, as `GoesIf` says
 abbrev pub GoesAsDrafted : Quotient → Drafted → Drafted → List (ℕ × ℕ) → ℕ → List ℕ → List ℕ → Option ℕ → Type 0

@@ -7,7 +7,7 @@ use Rattle.label_graph.specs.GraphViews.{label_number}
 use Rattle.bisim_spec.specs.Partitions.{Together}
 use Rattle.bisim_spec.specs.Stability.{StableBut}
 use Rattle.bisim_spec.specs.Weights.{size_of, weight}
-use Rattle.one_spec.specs.Named.{AreNamedOff}
+use Rattle.one_spec.specs.BlockLabels.{BlocksHaveLabelsBut}
 use Rattle.one_spec.specs.SplitRoundSteps.{IsRefinement, SameBut}
 use Rattle.one_spec.specs.EdgeCounts.{AreEdgeCounts}
 use Rattle.one_spec.specs.Splits.{IsClosed, IsSplitInside}
@@ -22,7 +22,7 @@ pub record CanSplit (a : Pending) (base : Quotient) (d : Drafted) (targets made 
   pub over : IsOver base.blocks.block_of base.blocks.labels d
   pub once : IsDistinct nat_eq targets
   pub stable : StableBut (shape_of (graph_after a)) (shown_blocks base d) (has targets)
-  pub named : AreNamedOff (has targets) (shown_blocks base d) (at (shown_labels base d)) (label_number (graph_after a))
+  pub block_labels : BlocksHaveLabelsBut (has targets) (shown_blocks base d) (at (shown_labels base d)) (label_number (graph_after a))
   pub none : made ≡ []
   pub supports : AreEdgeCounts (graph_after a) (shown_blocks base d) (shown_support base d)
 
@@ -47,7 +47,7 @@ pub record IsSplitBut (s : Shape) (inside : ℕ → Bool) (first p : List (Optio
   pub made_off : (b n : ℕ) → IsTrue (has made b) → at p n ≡ Some b → IsFalse (rest n)
 
 -- the first of what is left is t, the rest is what comes behind it
-pub record IsFirst (rest rest2 : ℕ → Bool) (t : ℕ) : Type 0 where
+pub record IsFirstLeft (rest rest2 : ℕ → Bool) (t : ℕ) : Type 0 where
   pub here : IsTrue (rest t)
   pub gone : IsFalse (rest2 t)
   pub within : (n : ℕ) → IsTrue (rest2 n) → IsTrue (rest n)
@@ -59,18 +59,18 @@ HaveLiveBlocks targets base d = (n b : ℕ) → IsTrue (has targets n) → at (s
 
 -- Whatever closed set has the target: where the partition was stable except perhaps at some targets, of which this one
 -- is the first, it is so except perhaps at the others and at the nodes that are examined next.
-abbrev pub Parts : Pending → ℕ → Quotient → Drafted → Drafted → List ℕ → List ℕ → List ℕ → List ℕ → Type 0
-Parts a target base d d2 next next2 made made2 = (inside : ℕ → Bool) (first : List (Option ℕ)) (rest rest2 : ℕ → Bool)
-    → IsClosed (shape_of (graph_after a)) inside → IsTrue (inside target) → IsFirst rest rest2 target
+abbrev pub PartsTarget : Pending → ℕ → Quotient → Drafted → Drafted → List ℕ → List ℕ → List ℕ → List ℕ → Type 0
+PartsTarget a target base d d2 next next2 made made2 = (inside : ℕ → Bool) (first : List (Option ℕ)) (rest rest2 : ℕ → Bool)
+    → IsClosed (shape_of (graph_after a)) inside → IsTrue (inside target) → IsFirstLeft rest rest2 target
     → IsSplitBut (shape_of (graph_after a)) inside first (shown_blocks base d) next rest made
     → IsSplitBut (shape_of (graph_after a)) inside first (shown_blocks base d2) next2 rest2 made2
 
 -- where blocks had the labels of their members except perhaps at some targets, of which this one is the first, they
 -- have them except perhaps at the others
-abbrev pub NamesTarget : Pending → ℕ → Quotient → Drafted → Drafted → Type 0
-NamesTarget a target base d d2 = (rest rest2 : ℕ → Bool) → IsFirst rest rest2 target
-    → AreNamedOff rest (shown_blocks base d) (at (shown_labels base d)) (label_number (graph_after a))
-    → AreNamedOff rest2 (shown_blocks base d2) (at (shown_labels base d2)) (label_number (graph_after a))
+abbrev pub LabelsRightAfter : Pending → ℕ → Quotient → Drafted → Drafted → Type 0
+LabelsRightAfter a target base d d2 = (rest rest2 : ℕ → Bool) → IsFirstLeft rest rest2 target
+    → BlocksHaveLabelsBut rest (shown_blocks base d) (at (shown_labels base d)) (label_number (graph_after a))
+    → BlocksHaveLabelsBut rest2 (shown_blocks base d2) (at (shown_labels base d2)) (label_number (graph_after a))
 
 -- whatever set is closed under children and has the targets: blocks are split inside it
 abbrev pub SplitsInside : Pending → List ℕ → Quotient → Drafted → Drafted → List ℕ → List ℕ → Type 0

@@ -5,15 +5,14 @@ ghost use Rattle.graph_spec.specs.Members.{has, at};
 ghost use Rattle.graph_spec.specs.Graphs.{is_live};
 ghost use Rattle.graph_spec.specs.Shapes.{shape_of, IsShape};
 ghost use Rattle.label_graph.specs.GraphViews.{label_number};
-ghost use Rattle.one_spec.specs.Named.{AreNamed};
 ghost use Rattle.one_spec.specs.EdgeCounts.{AreEdgeCounts};
 ghost use Rattle.graph_update.specs.PendingChanges.{graph_after};
 ghost use Rattle.quotient_draft.specs.Drafts.{shown_blocks, shown_labels, shown_support};
 ghost use Rattle.quotient_draft.specs.Basis.{IsOver};
 ghost use Rattle.one_split.specs.SplitCosts.{move_cost, IsCharged, CostsPerBlock};
 ghost use Rattle.one_split.specs.NodeTargetBlocks.{AreBlocks, MembersHaveLabels};
-ghost use Rattle.one_split.specs.SplitStates.{CanSplit, HaveLiveBlocks, Parts, NamesTarget, SplitsInside, CostsInside};
-ghost use Rattle.one_split.specs.RoundStates.{ShowsPartition};
+ghost use Rattle.one_split.specs.SplitStates.{CanSplit, HaveLiveBlocks, PartsTarget, LabelsRightAfter, SplitsInside, CostsInside};
+ghost use Rattle.one_split.specs.RoundStates.{ShowsPartition, ShowsRightLabels};
 
 use crate::keys::own_block;
 use crate::next_nodes::NextNodes;
@@ -81,8 +80,9 @@ fn part_one<L: Ledger>(
     requires made { AreBlocks (at (shown_labels base.now draft.old)) made.old.items }
     ensures over { OnOk result (IsOver base.now.blocks.block_of base.now.blocks.labels draft.new) }
     ensures live { OnOk result (MembersHaveLabels (shown_blocks base.now draft.new) (at (shown_labels base.now draft.new))) }
-    ensures parting { OnOk result (Parts after.now target base.now draft.old draft.new next.old.list.items next.new.list.items made.old.items made.new.items) }
-    ensures named { OnOk result (NamesTarget after.now target base.now draft.old draft.new) }
+    ensures parting { OnOk result (PartsTarget after.now target base.now draft.old draft.new
+        next.old.list.items next.new.list.items made.old.items made.new.items) }
+    ensures block_labels { OnOk result (LabelsRightAfter after.now target base.now draft.old draft.new) }
     ensures made { OnOk result (AreBlocks (at (shown_labels base.now draft.new)) made.new.items) }
     ensures supports { OnOk result (AreEdgeCounts (graph_after after.now) (shown_blocks base.now draft.new) (shown_support base.now draft.new)) }
     ensures charged { OnOk result (IsCharged made.old.items made.new.items steps.old steps.new) }
@@ -117,7 +117,7 @@ fn part_all<L: Ledger>(
     ensures over { OnOk result (IsOver base.now.blocks.block_of base.now.blocks.labels draft.new) }
     ensures split { IfOk result (λ next. SplitsInside after.now targets.now base.now draft.old draft.new next.items made.new.items) }
     ensures once { IfOk result (λ next. IsDistinct nat_eq next.items) }
-    ensures named { OnOk result (AreNamed (shown_blocks base.now draft.new) (at (shown_labels base.now draft.new)) (label_number (graph_after after.now))) }
+    ensures block_labels { OnOk result (ShowsRightLabels after.now base.now draft.new) }
     ensures made { OnOk result (AreBlocks (at (shown_labels base.now draft.new)) made.new.items) }
     ensures supports { OnOk result (AreEdgeCounts (graph_after after.now) (shown_blocks base.now draft.new) (shown_support base.now draft.new)) }
     ensures charged { OnOk result (CostsPerBlock after.now targets.now made.new.items steps.old steps.new) }
@@ -152,7 +152,7 @@ pub fn split<L: Ledger>(
 ) -> Result<(), Memory>
     requires { CanSplit after.now base.now draft.old targets.now made.old.items }
     ensures over { OnOk result (IsOver base.now.blocks.block_of base.now.blocks.labels draft.new) }
-    ensures named { OnOk result (AreNamed (shown_blocks base.now draft.new) (at (shown_labels base.now draft.new)) (label_number (graph_after after.now))) }
+    ensures block_labels { OnOk result (ShowsRightLabels after.now base.now draft.new) }
     ensures split { OnOk result (SplitsInside after.now targets.now base.now draft.old draft.new [] made.new.items) }
     ensures made { OnOk result ((b : ℕ) → IsTrue (has made.new.items b) → IsSome (at (shown_labels base.now draft.new) b)) }
     ensures supports { OnOk result (AreEdgeCounts (graph_after after.now) (shown_blocks base.now draft.new) (shown_support base.now draft.new)) }

@@ -8,7 +8,7 @@ use Rattle.label_graph.proofs.Positions.{position-at}
 use Rattle.bisim_spec.specs.IndexGraphs.{View, ViewFits}
 use Rattle.quotient_draft.specs.Drafts.{no_changes}
 use Rattle.quotient_draft.specs.Basis.{IsOver}
-use Rattle.one_spec.specs.Named.{AreNamed}
+use Rattle.one_spec.specs.BlockLabels.{BlocksHaveLabels}
 
 -- blocks with the labels of their members, told by texts
 pub record AreTexted (g : Graph) (block : List (Option ℕ)) (labels : ℕ → Option ℕ) : Type 0 where
@@ -18,8 +18,8 @@ pub record AreTexted (g : Graph) (block : List (Option ℕ)) (labels : ℕ → O
 pub number_from : (g : Graph) (n l : ℕ) (t : List ℕ) → IsGraph g → slice_get g.seen l ≡ Some t → label_of g n ≡ Some t → label_number g n ≡ Some l
 number_from g n l t graph seen label = ap (option_and_then (λ s. position (bytes_eq s) g.seen)) label ∙ position-at g.seen l t graph.distinct seen
 
-pub named_texts : (g : Graph) (block : List (Option ℕ)) (labels : ℕ → Option ℕ) → IsGraph g → AreTexted g block labels → AreNamed block labels (label_number g)
-named_texts g block labels graph texts = record {
+pub block_labels_texts : (g : Graph) (block : List (Option ℕ)) (labels : ℕ → Option ℕ) → IsGraph g → AreTexted g block labels → BlocksHaveLabels block labels (label_number g)
+block_labels_texts g block labels graph texts = record {
   is = λ n b e. let r = texts.is n b e in (r.0, r.2, number_from g n r.0 r.1 graph r.3 r.4);
 }
 

@@ -22,11 +22,11 @@ use Rattle.quotient.specs.Quotients.{Quotient, view_of}
 use Rattle.quotient.specs.QuotientNeighbours.{one_if}
 use Rattle.quotient_draft.specs.Drafts.{Drafted, shown_blocks, shown_labels, shown_support, with_moves, with_added}
 use Rattle.quotient_draft.specs.Basis.{IsOver}
-use Rattle.one_spec.specs.Named.{AreNamed}
+use Rattle.one_spec.specs.BlockLabels.{BlocksHaveLabels}
 use Rattle.one_spec.specs.EdgeCounts.{AreEdgeCounts}
 use Rattle.one_spec.proofs.UnchangedPartition.{twin_link, twin_unlink, one_step_still, supported_other}
 use Rattle.one_update.specs.OneDrafts.{ShowsChange, IsDrafted, AreSupportsAlone}
-use Rattle.one_update.proofs.Bases.{named_texts, base_texts}
+use Rattle.one_update.proofs.Bases.{block_labels_texts, base_texts}
 
 blocks_same : (q : Quotient) (d : Drafted) → AreSupportsAlone d → shown_blocks q d ≡ q.blocks.block_of
 blocks_same q d alone = ap (with_moves q.blocks.block_of) alone.moves
@@ -74,11 +74,11 @@ supports_unlinked g u v a b q d present fits alone ends r = record {
 partition_same : (g : Graph) (q : Quotient) (d : Drafted) → FitsOne g (view_of q) → AreSupportsAlone d → IsPartition (shape_of g) (shown_blocks q d)
 partition_same g q d fits alone = subst (IsPartition (shape_of g)) (sym (blocks_same q d alone)) fits.index.stable.partition
 
-named_same : (g : Graph) (q : Quotient) (d : Drafted) → IsGraph g → FitsOne g (view_of q) → AreSupportsAlone d → AreNamed (shown_blocks q d) (at (shown_labels q d)) (label_number g)
-named_same g q d graph fits alone =
-    subst (λ (ls : List (Option ℕ)). AreNamed (shown_blocks q d) (at ls) (label_number g)) (sym (labels_same q d alone))
-    (subst (λ (p : List (Option ℕ)). AreNamed p (at q.blocks.labels) (label_number g)) (sym (blocks_same q d alone))
-    (named_texts g q.blocks.block_of (at q.blocks.labels) graph (base_texts g (view_of q) fits.view)))
+block_labels_same : (g : Graph) (q : Quotient) (d : Drafted) → IsGraph g → FitsOne g (view_of q) → AreSupportsAlone d → BlocksHaveLabels (shown_blocks q d) (at (shown_labels q d)) (label_number g)
+block_labels_same g q d graph fits alone =
+    subst (λ (ls : List (Option ℕ)). BlocksHaveLabels (shown_blocks q d) (at ls) (label_number g)) (sym (labels_same q d alone))
+    (subst (λ (p : List (Option ℕ)). BlocksHaveLabels p (at q.blocks.labels) (label_number g)) (sym (blocks_same q d alone))
+    (block_labels_texts g q.blocks.block_of (at q.blocks.labels) graph (base_texts g (view_of q) fits.view)))
 
 at_same : (q : Quotient) (d : Drafted) → AreSupportsAlone d → (n : ℕ) → at (shown_blocks q d) n ≡ at q.blocks.block_of n
 at_same q d alone n = ap (λ (p : List (Option ℕ)). at p n) (blocks_same q d alone)
@@ -87,12 +87,12 @@ pub changed_link : (g : Graph) (u v a b : ℕ) (q : Quotient) (d : Drafted) → 
     → AreSupportsAlone d → AreAt q.blocks.block_of u v a b → IsRaised q d a b → ShowsChange g (link u v) q d
 changed_link g u v a b q d graph absent fits over alone ends r =
     let partition = partition_same g q d fits alone in
-    let named = named_same g q d graph fits alone in
+    let block_labels = block_labels_same g q d graph fits alone in
     record {
       over = over;
       partition = record { live = partition.live; only = partition.only };
       keeps = record { kept = λ n h k. at_same q d alone n };
-      named = record { is = named.is };
+      block_labels = record { is = block_labels.is };
       supports = supports_linked g u v a b q d absent fits alone ends r;
     }
 
@@ -100,12 +100,12 @@ pub changed_unlink : (g : Graph) (u v a b : ℕ) (q : Quotient) (d : Drafted) �
     → AreSupportsAlone d → AreAt q.blocks.block_of u v a b → IsLowered q d a b → ShowsChange g (unlink u v) q d
 changed_unlink g u v a b q d graph present fits over alone ends r =
     let partition = partition_same g q d fits alone in
-    let named = named_same g q d graph fits alone in
+    let block_labels = block_labels_same g q d graph fits alone in
     record {
       over = over;
       partition = record { live = partition.live; only = partition.only };
       keeps = record { kept = λ n h k. at_same q d alone n };
-      named = record { is = named.is };
+      block_labels = record { is = block_labels.is };
       supports = supports_unlinked g u v a b q d present fits alone ends r;
     }
 
@@ -125,7 +125,7 @@ still_link g u v q d graph graph2 fits alone other changed = record {
   step = subst (OneStep g q.blocks.block_of (link u v) (with_edge g u v)) (sym (blocks_same q d alone))
       (one_step_still g q.blocks.block_of (link u v) u v other.parent (is_shape g graph) (is_shape (with_edge g u v) graph2) (twin_link g u v q.blocks.block_of other)
       fits.index.stable fits.index.minimal);
-  named = changed.named;
+  block_labels = changed.block_labels;
   supports = changed.supports;
 }
 
@@ -136,7 +136,7 @@ still_unlink g u v q d graph graph2 fits alone other changed = record {
   step = subst (OneStep g q.blocks.block_of (unlink u v) (without_edge g u v)) (sym (blocks_same q d alone))
       (one_step_still g q.blocks.block_of (unlink u v) u v other.parent (is_shape g graph) (is_shape (without_edge g u v) graph2) (twin_unlink g u v q.blocks.block_of other)
       fits.index.stable fits.index.minimal);
-  named = changed.named;
+  block_labels = changed.block_labels;
   supports = changed.supports;
 }
 

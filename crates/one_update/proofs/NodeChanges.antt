@@ -15,14 +15,14 @@ use Rattle.bisim_spec.specs.Supports.{joins, edges_between}
 use Rattle.bisim_spec.specs.IndexGraphs.{support_at}
 use Rattle.bisim_spec.specs.Fits.{FitsOne}
 use Rattle.bisim_spec.proofs.Bisimilar.{is_some_at}
-use Rattle.bisim_spec.proofs.Differs.{differs_node, differs_drop}
+use Rattle.bisim_spec.proofs.Differs.{label_with_node, label_without_node}
 use Rattle.bisim_spec.proofs.EdgeSets.{kept, same_len}
 use Rattle.quotient.specs.Quotients.{Quotient, view_of}
 use Rattle.quotient_draft.specs.Drafts.{Drafted, shown_blocks, shown_labels, with_supports, with_added}
 use Rattle.quotient_draft.specs.Basis.{IsOver}
 use Rattle.block_partition.proofs.PutNumbers.{at_put}
 use Rattle.one_update.specs.OneDrafts.{ShowsChange}
-use Rattle.one_update.proofs.Bases.{number_from, named_texts}
+use Rattle.one_update.proofs.Bases.{number_from, block_labels_texts}
 
 -- where nodes other than n have the blocks that they had
 pub record IsPut (n : ℕ) (o : Option ℕ) (p p2 : List (Option ℕ)) : Type 0 where
@@ -98,7 +98,7 @@ changed_node g t q d n b l graph graph2 fits over next number moved free labels 
     ];
   };
   keeps = record { kept = λ m h k. there m (before m h) };
-  named = record {
+  block_labels = record {
     is = λ m x e. elim (eqb_tells m n) [
       | inl s ↦ (
           let same : Some b ≡ Some x = sym here ∙ ap (at (shown_blocks q d)) (sym s.1) ∙ e in
@@ -123,7 +123,7 @@ changed_node g t q d n b l graph graph2 fits over next number moved free labels 
     there = put_other n (Some b) q.blocks.block_of (shown_blocks q d) moved
 
     old : (m : ℕ) → m ≢ n → label_of g m ≡ label_of (with_node g t) m
-    old m o = (differs_node g t).label m (elim (eqb_tells m (length g.allocated)) [ inl s ↦ absurd (o (s.1 ∙ sym next)) | inr k ↦ k.0 ])
+    old m o = label_with_node g t m (λ e. o (e ∙ sym next))
 
     before : (m : ℕ) → IsNode (shape_of g) m → m ≢ n
     before m h e = true≢false (sym h ∙ ap (λ k. is_some (label_of g k)) (e ∙ next) ∙ ap is_some (past_none g.allocated))
@@ -161,7 +161,7 @@ changed_drop g u q d graph unused fits over moved added none graph2 = record {
     ];
   };
   keeps = record { kept = λ m h k. there m (live m k) };
-  named = named_texts (without_node g u) (shown_blocks q d) (at (shown_labels q d)) graph2 (record {
+  block_labels = block_labels_texts (without_node g u) (shown_blocks q d) (at (shown_labels q d)) graph2 (record {
     is = λ m x e.
         let o = member m x e in
         let r = fits.view.labelled m x (sym (there m o) ∙ e) in
@@ -180,7 +180,7 @@ changed_drop g u q d graph unused fits over moved added none graph2 = record {
     there = put_other u None q.blocks.block_of (shown_blocks q d) moved
 
     old : (m : ℕ) → m ≢ u → label_of g m ≡ label_of (without_node g u) m
-    old m o = (differs_drop g u).label m (elim (eqb_tells m u) [ inl s ↦ absurd (o s.1) | inr k ↦ k.0 ])
+    old m o = label_without_node g u m o
 
     live : (m : ℕ) → IsNode (shape_of (without_node g u)) m → m ≢ u
     live m h e = true≢false (sym h ∙ ap (λ k. is_some (label_of (without_node g u) k)) e ∙ ap is_some (gone_label g.allocated u))

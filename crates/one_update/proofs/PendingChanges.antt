@@ -2,7 +2,6 @@
 use Rattle.std.proofs.Common.{◌≡◌, ℕ, zero, suc, ◌+◌, ◌-◌, ◌<◌, ◌≤◌, ◌^◌, List, [], ◌∷◌, ◌++◌, length, Option, Some, None, IsTrue, IsFalse, refl, sym, ◌∙◌, ap, subst, arith, inl, inr, true, false, Bool, cond, nat_lt, length-append, true≢false}
 use Rattle.std.specs.Prelude.{nat_eq, ◌&&◌}
 use Rattle.std.specs.List.{list_any}
-use Rattle.std.proofs.Math.Bool.{or-false}
 use Rattle.std.proofs.lemmas.Bool.{or_cases, or_left, or_right, or_parts, both_ways}
 use Rattle.std.proofs.lemmas.Bool.Decides.{Decides-ltb, Decides-eqb, eqb_tells}
 use Rattle.std.proofs.lemmas.List.{length-set}
@@ -13,9 +12,10 @@ use Rattle.graph_spec.specs.Shapes.{shape_of}
 use Rattle.graph_spec.proofs.GraphLaws.{is_shape}
 use Rattle.label_graph.specs.GraphViews.{label_number}
 use Rattle.block_partition.specs.LabelledPartitions.{put, IsLeastFree}
-use Rattle.bisim_spec.specs.Targets.{HasOther, IsOnlyTarget}
+use Rattle.bisim_spec.specs.Targets.{HasOther, AreTargets, target}
 use Rattle.bisim_spec.specs.IndexGraphs.{support_at}
 use Rattle.bisim_spec.specs.Weights.{parent_count}
+use Rattle.bisim_spec.proofs.ListedTargets.{one_target}
 use Rattle.bisim_spec.proofs.Moves.{between_most, block_get, block_from}
 use Rattle.bisim_spec.proofs.Together.{together_at, together_sym}
 use Rattle.graph_update.specs.NewChanges.{IsNew}
@@ -38,6 +38,14 @@ node_count a n kind count =
     let size : length (with_node a.before t).allocated ≡ length a.before.allocated + 1 = length-append a.before.allocated (Some t ∷ []) in
     let allocated : length (after a.change a.before).allocated ≡ length (with_node a.before t).allocated = ap (λ c. length (after c a.before).allocated) kind.is in
     omega (arith, count, size, allocated)
+
+pub node_target : (a : Pending) (n : ℕ) → IsNodeChange a.change → n + 1 ≡ length (graph_after a).allocated → AreTargets a.before a.change (n ∷ [])
+node_target a n kind count =
+    let t = kind.label in
+    let size : length (with_node a.before t).allocated ≡ length a.before.allocated + 1 = length-append a.before.allocated (Some t ∷ []) in
+    let allocated : length (after a.change a.before).allocated ≡ length (with_node a.before t).allocated = ap (λ c. length (after c a.before).allocated) kind.is in
+    let same : n ≡ length a.before.allocated = omega (arith, count, size, allocated) in
+    one_target a.before a.change n (λ m. ap (nat_eq m) same ∙ ap (λ (c : Change). target c a.before m) (sym kind.is)) (omega (arith, count))
 
 pub node_changed : (a : Pending) (q : Quotient) (d0 d1 d : Drafted) (n b l : ℕ) → IsBefore a q → IsNodeChange a.change → d0 ≡ no_changes → n + 1 ≡ length (graph_after a).allocated
     → label_number (graph_after a) n ≡ Some l → IsLeastFree (shown_labels q d0) b → d1 ≡ record d0 { added = d0.added ++ (b, l) ∷ [] }
@@ -63,11 +71,10 @@ drop_live a q u before is = subst (λ c. IsNew c a.before) is before.new
 pub drop_small : (a : Pending) (q : Quotient) (u : ℕ) → IsBefore a q → a.change ≡ drop u → u < length a.before.allocated
 drop_small a q u before is = (is_shape a.before before.graph).below u (drop_live a q u before is).live
 
-pub drop_target : (a : Pending) (q : Quotient) (u : ℕ) → IsBefore a q → a.change ≡ drop u → IsOnlyTarget a.before a.change u
-drop_target a q u before is = subst (λ c. IsOnlyTarget a.before c u) (sym is) (record {
-  is = λ n. or-false (nat_eq n u);
-  allocated = (let small = drop_small a q u before is in let same = length-set a.before.allocated u None in omega (arith, small, same));
-})
+pub drop_target : (a : Pending) (q : Quotient) (u : ℕ) → IsBefore a q → a.change ≡ drop u → AreTargets a.before a.change (u ∷ [])
+drop_target a q u before is =
+    one_target a.before a.change u (λ n. ap (λ (c : Change). target c a.before n) (sym is)) (subst (λ c. u < length (after c a.before).allocated) (sym is)
+    (let small = drop_small a q u before is in let same = length-set a.before.allocated u None in omega (arith, small, same)))
 
 pub drop_changed : (a : Pending) (q : Quotient) (d0 d : Drafted) (u : ℕ) → IsBefore a q → a.change ≡ drop u → d0 ≡ no_changes
     → ((m : ℕ) → at (shown_blocks q d) m ≡ cond (nat_eq m u) None (at (shown_blocks q d0) m)) → d.added ≡ d0.added → d.supports ≡ d0.supports
@@ -86,17 +93,15 @@ new_link a q u v before is = subst (λ c. IsNew c a.before) is before.new
 new_unlink : (a : Pending) (q : Quotient) (u v : ℕ) → IsBefore a q → a.change ≡ unlink u v → IsNew (unlink u v) a.before
 new_unlink a q u v before is = subst (λ c. IsNew c a.before) is before.new
 
-pub link_target : (a : Pending) (q : Quotient) (u v : ℕ) → IsBefore a q → a.change ≡ link u v → IsOnlyTarget a.before a.change v
-link_target a q u v before is = subst (λ c. IsOnlyTarget a.before c v) (sym is) (record {
-  is = λ n. or-false (nat_eq n v);
-  allocated = (is_shape a.before before.graph).below v (new_link a q u v before is).onto;
-})
+pub link_target : (a : Pending) (q : Quotient) (u v : ℕ) → IsBefore a q → a.change ≡ link u v → AreTargets a.before a.change (v ∷ [])
+link_target a q u v before is =
+    one_target a.before a.change v (λ n. ap (λ (c : Change). target c a.before n) (sym is)) (subst (λ c. v < length (after c a.before).allocated) (sym is)
+    ((is_shape a.before before.graph).below v (new_link a q u v before is).onto))
 
-pub unlink_target : (a : Pending) (q : Quotient) (u v : ℕ) → IsBefore a q → a.change ≡ unlink u v → IsOnlyTarget a.before a.change v
-unlink_target a q u v before is = subst (λ c. IsOnlyTarget a.before c v) (sym is) (record {
-  is = λ n. or-false (nat_eq n v);
-  allocated = (is_shape a.before before.graph).below v (new_unlink a q u v before is).onto;
-})
+pub unlink_target : (a : Pending) (q : Quotient) (u v : ℕ) → IsBefore a q → a.change ≡ unlink u v → AreTargets a.before a.change (v ∷ [])
+unlink_target a q u v before is =
+    one_target a.before a.change v (λ n. ap (λ (c : Change). target c a.before n) (sym is)) (subst (λ c. v < length (after c a.before).allocated) (sym is)
+    ((is_shape a.before before.graph).below v (new_unlink a q u v before is).onto))
 
 pub alone_from : (d0 d : Drafted) → d0 ≡ no_changes → d.added ≡ d0.added → d.moves ≡ d0.moves → AreSupportsAlone d
 alone_from d0 d empty added moves = record { moves = moves ∙ ap (λ (e : Drafted). e.moves) empty; added = added ∙ ap (λ (e : Drafted). e.added) empty }

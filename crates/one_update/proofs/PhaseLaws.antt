@@ -1,10 +1,6 @@
 -- A change, then splits, then merges, in a draft; and what they cost.
-use Rattle.std.proofs.Common.{◌≡◌, ℕ, ◌+◌, ◌*◌, ◌<◌, ◌≤◌, ◌^◌, List, [], ◌∷◌, Option, Some, IsTrue, refl, sym, ◌∙◌, ap, subst, arith, inl, inr, true, false, Bool, cond, nat_lt, ◌-◌, true≢false}
-use Rattle.std.specs.Prelude.{nat_eq, ◌||◌}
-use Rattle.std.specs.List.{IsDistinct}
+use Rattle.std.proofs.Common.{◌≡◌, ℕ, ◌+◌, ◌*◌, ◌<◌, ◌≤◌, ◌^◌, List, [], Option, Some, IsTrue, refl, sym, ◌∙◌, subst, arith, true, false, Bool, cond, nat_lt, ◌-◌}
 use Rattle.std.specs.FinSet as set
-use Rattle.std.proofs.Math.Bool.{or-false}
-use Rattle.std.proofs.lemmas.Bool.Decides.{eqb_tells}
 use Rattle.label_graph.specs.GraphViews.{label_number}
 use Rattle.graph_spec.specs.Graphs.{Graph, IsGraph}
 use Rattle.graph_spec.specs.Changes.{Change, node, link, unlink, drop, after}
@@ -13,8 +9,8 @@ use Rattle.graph_spec.specs.Shapes.{Shape, shape_of}
 use Rattle.graph_spec.proofs.EdgeOrder.{edge_cmp_total}
 use Rattle.graph_spec.proofs.GraphLaws.{is_shape}
 use Rattle.bisim_spec.specs.Stability.{StableBut}
-use Rattle.bisim_spec.proofs.OneTarget.{same_test}
-use Rattle.bisim_spec.specs.Targets.{KeepsParents, target, IsOnlyTarget}
+use Rattle.bisim_spec.proofs.ListedTargets.{same_test}
+use Rattle.bisim_spec.specs.Targets.{KeepsParents, target, AreTargets}
 use Rattle.bisim_spec.specs.Weights.{parent_count, weight_at, weight, size_of}
 use Rattle.bisim_spec.specs.OneStep.{OneStep}
 use Rattle.bisim_spec.specs.Fits.{FitsOne}
@@ -27,43 +23,39 @@ use Rattle.quotient.specs.Quotients.{Quotient, view_of}
 use Rattle.quotient_draft.specs.Drafts.{Drafted, shown_blocks, shown_labels, shown_support}
 use Rattle.one_merge.specs.Merged.{HasGraph}
 use Rattle.one_spec.specs.Merges.{AreMergeCandidates}
-use Rattle.one_spec.specs.Named.{AreNamed, AreNamedOff}
+use Rattle.one_spec.specs.BlockLabels.{BlocksHaveLabels, BlocksHaveLabelsBut}
 use Rattle.one_spec.specs.Splits.{IsClosed, IsSplitInside}
 use Rattle.one_spec.specs.EdgeCounts.{AreEdgeCounts}
 use Rattle.one_spec.specs.FirstCandidates.{AreFirstCandidates}
-use Rattle.one_spec.specs.Viewed.{IsViewed, IsDone}
+use Rattle.one_spec.specs.Viewed.{IsViewed, IsMergedToEnd}
 use Rattle.one_spec.proofs.SplitThenMerge.{one_step_done}
-use Rattle.one_spec.proofs.LabelledBlocks.{labelled_named}
+use Rattle.one_spec.proofs.LabelledBlocks.{labelled_by_numbers}
 use Rattle.one_spec.proofs.Sums.{sum_without}
 use Rattle.one_spec.proofs.OneSteps.{Stages, reach_closed}
 use Rattle.one_update.specs.OneDrafts.{ShowsChange, reached, rounds_cost}
 
-pub one_once : (t : ℕ) → IsDistinct nat_eq (t ∷ [])
-unfolding IsDistinct
-one_once t = (tt, tt)
-
-pub stable_there : (g : Graph) (c : Change) (t : ℕ) (q : Quotient) (d : Drafted) → IsGraph g → IsGraph (after c g) → FitsOne g (view_of q) → IsOnlyTarget g c t → ShowsChange g c q d
-    → StableBut (shape_of (after c g)) (shown_blocks q d) (has (t ∷ []))
-stable_there g c t q d graph graph2 fits target_is changed = subst (StableBut (shape_of (after c g)) (shown_blocks q d)) (sym (same_test g c t target_is))
+pub stable_there : (g : Graph) (c : Change) (targets : List ℕ) (q : Quotient) (d : Drafted) → IsGraph g → IsGraph (after c g) → FitsOne g (view_of q) → AreTargets g c targets → ShowsChange g c q d
+    → StableBut (shape_of (after c g)) (shown_blocks q d) (has targets)
+stable_there g c targets q d graph graph2 fits are changed = subst (StableBut (shape_of (after c g)) (shown_blocks q d)) (sym (same_test g c targets are))
     (stable_but_changed (target c g) (shape_of g) (shape_of (after c g)) q.blocks.block_of (shown_blocks q d) (is_shape g graph) (is_shape (after c g) graph2) (differs_after c g)
     changed.keeps fits.index.stable changed.partition)
 
-pub named_off : (off : ℕ → Bool) (p : List (Option ℕ)) (labels names : ℕ → Option ℕ) → AreNamed p labels names → AreNamedOff off p labels names
-named_off off p labels names named = record { is = λ n b h e. named.is n b e }
+pub block_labels_but : (off : ℕ → Bool) (p : List (Option ℕ)) (labels node_labels : ℕ → Option ℕ) → BlocksHaveLabels p labels node_labels → BlocksHaveLabelsBut off p labels node_labels
+block_labels_but off p labels node_labels block_labels = record { is = λ n b h e. block_labels.is n b e }
 
--- the target is reached
-pub target_reached : (g : Graph) (c : Change) (t : ℕ) → IsOnlyTarget g c t → (n : ℕ) → IsTrue (has (t ∷ []) n) → IsTrue (reached g c n)
-target_reached g c t target_is n h = reach_start (shape_of (after c g)) (target c g) n (sym (target_is.is n) ∙ h)
+-- the targets are reached
+pub targets_reached : (g : Graph) (c : Change) (targets : List ℕ) → AreTargets g c targets → (n : ℕ) → IsTrue (has targets n) → IsTrue (reached g c n)
+targets_reached g c targets are n h = reach_start (shape_of (after c g)) (target c g) n (sym (are.listed.members n) ∙ h)
 
 -- the split clause of this change
-pub record HasSplit (g : Graph) (c : Change) (t : ℕ) (p1 p2 : List (Option ℕ)) (made : List ℕ) : Type 0 where
-  pub split : (inside : ℕ → Bool) → IsClosed (shape_of (after c g)) inside → ((n : ℕ) → IsTrue (has (t ∷ []) n) → IsTrue (inside n))
+pub record HasSplit (g : Graph) (c : Change) (targets : List ℕ) (p1 p2 : List (Option ℕ)) (made : List ℕ) : Type 0 where
+  pub split : (inside : ℕ → Bool) → IsClosed (shape_of (after c g)) inside → ((n : ℕ) → IsTrue (has targets n) → IsTrue (inside n))
       → IsSplitInside (shape_of (after c g)) inside p1 p2 [] made
 
-stages : (g : Graph) (c : Change) (t : ℕ) (q : Quotient) (d : Drafted) (p2 : List (Option ℕ)) (made : List ℕ) → IsGraph g → IsGraph (after c g) → FitsOne g (view_of q)
-    → IsOnlyTarget g c t → ShowsChange g c q d → HasSplit g c t (shown_blocks q d) p2 made
+stages : (g : Graph) (c : Change) (targets : List ℕ) (q : Quotient) (d : Drafted) (p2 : List (Option ℕ)) (made : List ℕ) → IsGraph g → IsGraph (after c g) → FitsOne g (view_of q)
+    → AreTargets g c targets → ShowsChange g c q d → HasSplit g c targets (shown_blocks q d) p2 made
     → Stages (target c g) (shape_of g) (shape_of (after c g)) q.blocks.block_of (shown_blocks q d) p2 made
-stages g c t q d p2 made graph graph2 fits target_is changed split = record {
+stages g c targets q d p2 made graph graph2 fits are changed split = record {
   shape = is_shape g graph;
   shape2 = is_shape (after c g) graph2;
   differs = differs_after c g;
@@ -71,49 +63,43 @@ stages g c t q d p2 made graph graph2 fits target_is changed split = record {
   minimal = fits.index.minimal;
   partition = changed.partition;
   keeps = changed.keeps;
-  split = split.split (reached g c) (reach_closed (shape_of (after c g)) (target c g) (is_shape (after c g) graph2)) (target_reached g c t target_is);
+  split = split.split (reached g c) (reach_closed (shape_of (after c g)) (target c g) (is_shape (after c g) graph2)) (targets_reached g c targets are);
 }
 
--- the merge candidates are those that were made, and the block of the target
-pub record AreAdded (t : ℕ) (p2 : List (Option ℕ)) (made merge_candidates : List ℕ) : Type 0 where
+-- the merge candidates are those that were made, and the blocks of the targets
+pub record AreAdded (targets : List ℕ) (p2 : List (Option ℕ)) (made merge_candidates : List ℕ) : Type 0 where
   pub made_there : (b : ℕ) → IsTrue (has made b) → IsTrue (has merge_candidates b)
-  pub target_there : (b : ℕ) → at p2 t ≡ Some b → IsTrue (has merge_candidates b)
+  pub targets_there : (t b : ℕ) → IsTrue (has targets t) → at p2 t ≡ Some b → IsTrue (has merge_candidates b)
 
-only_target : (g : Graph) (c : Change) (t : ℕ) → IsOnlyTarget g c t → (n : ℕ) → IsTrue (target c g n) → n ≡ t
-only_target g c t target_is n h = elim (eqb_tells n t) [
-  | inl s ↦ s.1
-  | inr k ↦ absurd (true≢false (sym h ∙ sym (target_is.is n) ∙ or-false (nat_eq n t) ∙ k.0))
-]
-
-candidates_of : (g : Graph) (c : Change) (t : ℕ) (p2 : List (Option ℕ)) (made merge_candidates : List ℕ) → IsOnlyTarget g c t → AreAdded t p2 made merge_candidates
-    → AreFirstCandidates (target c g) p2 made merge_candidates
-candidates_of g c t p2 made merge_candidates target_is added = record {
+candidates_of : (g : Graph) (c : Change) (targets : List ℕ) (p2 : List (Option ℕ)) (made merge_candidates : List ℕ) → AreTargets g c targets
+    → AreAdded targets p2 made merge_candidates → AreFirstCandidates (target c g) p2 made merge_candidates
+candidates_of g c targets p2 made merge_candidates are added = record {
   made_there = added.made_there;
-  targets_there = λ n b on e. added.target_there b (ap (at p2) (sym (only_target g c t target_is n on)) ∙ e);
+  targets_there = λ t b on e. added.targets_there t b (are.listed.members t ∙ on) e;
 }
 
 -- the merge clause
 pub record HasMerge (p2 p3 : List (Option ℕ)) (labels : ℕ → Option ℕ) (support : ℕ → ℕ → ℕ) (merge_candidates : List ℕ) : Type 0 where
-  pub merged : (s : Shape) → IsViewed s p2 labels (λ x y. nat_lt 0 (support x y)) → AreMergeCandidates s p2 (λ b. IsTrue (has merge_candidates b)) → IsDone s p2 p3
+  pub merged : (s : Shape) → IsViewed s p2 labels (λ x y. nat_lt 0 (support x y)) → AreMergeCandidates s p2 (λ b. IsTrue (has merge_candidates b)) → IsMergedToEnd s p2 p3
 
-pub stepped : (g : Graph) (c : Change) (t : ℕ) (q : Quotient) (d d2 : Drafted) (p3 : List (Option ℕ)) (made merge_candidates : List ℕ) → IsGraph g → IsGraph (after c g)
-    → FitsOne g (view_of q) → IsOnlyTarget g c t → ShowsChange g c q d → HasSplit g c t (shown_blocks q d) (shown_blocks q d2) made
-    → AreNamed (shown_blocks q d2) (at (shown_labels q d2)) (label_number (after c g)) → AreEdgeCounts (after c g) (shown_blocks q d2) (shown_support q d2)
-    → AreAdded t (shown_blocks q d2) made merge_candidates → HasMerge (shown_blocks q d2) p3 (at (shown_labels q d2)) (shown_support q d2) merge_candidates
+pub stepped : (g : Graph) (c : Change) (targets : List ℕ) (q : Quotient) (d d2 : Drafted) (p3 : List (Option ℕ)) (made merge_candidates : List ℕ) → IsGraph g → IsGraph (after c g)
+    → FitsOne g (view_of q) → AreTargets g c targets → ShowsChange g c q d → HasSplit g c targets (shown_blocks q d) (shown_blocks q d2) made
+    → BlocksHaveLabels (shown_blocks q d2) (at (shown_labels q d2)) (label_number (after c g)) → AreEdgeCounts (after c g) (shown_blocks q d2) (shown_support q d2)
+    → AreAdded targets (shown_blocks q d2) made merge_candidates → HasMerge (shown_blocks q d2) p3 (at (shown_labels q d2)) (shown_support q d2) merge_candidates
     → (KeepsParents c (after c g) q.blocks.block_of → ⊥) → OneStep g q.blocks.block_of c (after c g) p3
-stepped g c t q d d2 p3 made merge_candidates graph graph2 fits target_is changed split named supports added merge moves =
+stepped g c targets q d d2 p3 made merge_candidates graph graph2 fits are changed split block_labels supports added merge moves =
     one_step_done c g q.blocks.block_of (shown_blocks q d) (shown_blocks q d2) p3 made merge_candidates (at (shown_labels q d2)) (shown_support q d2) (λ x y. nat_lt 0 (shown_support q d2 x y))
-    (stages g c t q d (shown_blocks q d2) made graph graph2 fits target_is changed split) (labelled_named (after c g) (shown_blocks q d2) (at (shown_labels q d2)) named) supports
-    (λ x y. refl) (candidates_of g c t (shown_blocks q d2) made merge_candidates target_is added) merge.merged moves
+    (stages g c targets q d (shown_blocks q d2) made graph graph2 fits are changed split) (labelled_by_numbers (after c g) (shown_blocks q d2) (at (shown_labels q d2)) block_labels) supports
+    (λ x y. refl) (candidates_of g c targets (shown_blocks q d2) made merge_candidates are added) merge.merged moves
 
 -- the supports are those of a graph with few edges, and blocks with members have labels
 pub has_graph : (g : Graph) (p : List (Option ℕ)) (labels : ℕ → Option ℕ) (support : ℕ → ℕ → ℕ) → AreEdgeCounts g p support → set.len g.edges ≤ 2 ^ 30
-    → AreNamed p labels (label_number g) → HasGraph p labels support
-has_graph g p labels support supports few named = record {
+    → BlocksHaveLabels p labels (label_number g) → HasGraph p labels support
+has_graph g p labels support supports few block_labels = record {
   graph = g;
   supports = supports;
   few = few;
-  live = λ n b e. let r = named.is n b e in is_some_at (labels b) r.0 r.1;
+  live = λ n b e. let r = block_labels.is n b e in is_some_at (labels b) r.0 r.1;
 }
 
 insert_most : (n : ℕ) (t : Bool) → n < 2 ^ 30 → cond t n (n + 1) ≤ 2 ^ 30
@@ -131,26 +117,31 @@ few_after (link u v) g new few = subst (λ n. n ≤ 2 ^ 30) (sym (set.len-insert
 few_after (unlink u v) g new few = subst (λ n. n ≤ 2 ^ 30) (sym (set.len-remove edge_cmp_total g.edges (u, v))) (remove_most (set.len g.edges) (set.contains g.edges (u, v)) few)
 few_after (drop u) g new few = few
 
--- what a split costs, where it is bounded by each closed set with the target
-pub reach_cost : (g : Graph) (c : Change) (t old new : ℕ) → IsGraph (after c g) → IsOnlyTarget g c t
-    → ((inside : ℕ → Bool) → IsClosed (shape_of (after c g)) inside → ((n : ℕ) → IsTrue (has (t ∷ []) n) → IsTrue (inside n))
+-- what a split costs, where it is bounded by each closed set with the targets
+pub reach_cost : (g : Graph) (c : Change) (targets : List ℕ) (old new : ℕ) → IsGraph (after c g) → AreTargets g c targets
+    → ((inside : ℕ → Bool) → IsClosed (shape_of (after c g)) inside → ((n : ℕ) → IsTrue (has targets n) → IsTrue (inside n))
     → new ≤ old + 4 * ((size_of (shape_of (after c g)) inside + 1) * weight (shape_of (after c g)) inside))
     → new ≤ old + 4 * rounds_cost (shape_of (after c g)) (reached g c)
-reach_cost g c t old new graph2 target_is cost =
-    cost (reached g c) (reach_closed (shape_of (after c g)) (target c g) (is_shape (after c g) graph2)) (target_reached g c t target_is)
-
-pub own_has : (t : ℕ) → has (t ∷ []) t ≡ true
-own_has t = elim (eqb_tells t t) [ inl s ↦ ap (λ b. b || false) s.0 | inr k ↦ absurd (k.1 refl) ]
+reach_cost g c targets old new graph2 are cost =
+    cost (reached g c) (reach_closed (shape_of (after c g)) (target c g) (is_shape (after c g) graph2)) (targets_reached g c targets are)
 
 pub more_times : (r w : ℕ) → w ≤ (r + 1) * w
 more_times r w = (let e : (r + 1) * w ≡ r * w + w = omega arith in omega (arith, e))
 
--- reading the parents of the target once costs no more than a split may
-pub read_light : (g : Graph) (c : Change) (t : ℕ) → IsOnlyTarget g c t → parent_count (shape_of (after c g)) t + 2 ≤ 4 * rounds_cost (shape_of (after c g)) (reached g c)
-read_light g c t target_is =
+-- what is reached weighs as much as a target does
+pub target_weight : (g : Graph) (c : Change) (targets : List ℕ) (t : ℕ) → AreTargets g c targets → IsTrue (has targets t)
+    → weight_at (shape_of (after c g)) t ≤ weight (shape_of (after c g)) (reached g c)
+target_weight g c targets t are there =
+    let s = shape_of (after c g) in
+    let own = sum_without s.size (reached g c) (weight_at s) t (are.allocated t there) (targets_reached g c targets are t there) in
+    omega (arith, own)
+
+-- reading the parents of a target once costs no more than a split may
+pub read_light : (g : Graph) (c : Change) (targets : List ℕ) (t : ℕ) → AreTargets g c targets → IsTrue (has targets t)
+    → parent_count (shape_of (after c g)) t + 2 ≤ 4 * rounds_cost (shape_of (after c g)) (reached g c)
+read_light g c targets t are there =
     let s = shape_of (after c g) in
     let set = reached g c in
-    let own = sum_without s.size set (weight_at s) t target_is.allocated (target_reached g c t target_is t (own_has t)) in
-    let some : weight_at s t ≤ weight s set = omega (arith, own) in
+    let some = target_weight g c targets t are there in
     let more = more_times (size_of s set) (weight s set) in
     omega (arith, some, more)

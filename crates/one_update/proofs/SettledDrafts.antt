@@ -50,7 +50,7 @@ drafted_fits g c q d drafted = record {
   view = record {
     inhabited = λ b h. shown_inhabited (shown_blocks q d) (shown_labels q d) b h;
     labelled = λ n b e.
-        let k = drafted.named.is n b e in
+        let k = drafted.block_labels.is n b e in
         let r = text_of (label_of (after c g) n) (after c g).seen k.0 k.2 in
         (k.0, r.0, shown_label (shown_blocks q d) (shown_labels q d) n b k.0 e k.1, r.1, r.2);
     supports = drafted.supports.each;

@@ -1,9 +1,7 @@
 -- A split and the merges after it, each by itself: what the change doesn't reach stays together.
-use Rattle.std.proofs.Common.{◌≡◌, ℕ, ◌+◌, ◌*◌, ◌≤◌, ◌<◌, List, [], ◌∷◌, Option, Some, IsTrue, IsFalse, is_some, refl, sym, ◌∙◌, ap, subst, arith, inl, inr, false, Bool, nat_lt, true≢false}
-use Rattle.std.specs.Prelude.{not, nat_eq}
-use Rattle.std.proofs.Math.Bool.{or-false}
-use Rattle.std.proofs.lemmas.Bool.Decides.{eqb_tells}
-use Rattle.std.proofs.lemmas.Bool.{cases_Bool, both_ways, false_from_ne_true, not-true, not_from_false}
+use Rattle.std.proofs.Common.{◌≡◌, ℕ, ◌+◌, ◌*◌, ◌≤◌, List, [], Option, Some, IsTrue, refl, sym, ◌∙◌, subst, arith, inl, inr, true, false, Bool, nat_lt}
+use Rattle.std.specs.Prelude.{not}
+use Rattle.std.proofs.lemmas.Bool.{cases_Bool, both_ways, not-true, not_from_false}
 use Rattle.label_graph.specs.GraphViews.{label_number}
 use Rattle.graph_spec.specs.Graphs.{Graph, IsGraph}
 use Rattle.graph_spec.specs.Changes.{Change, after}
@@ -12,57 +10,43 @@ use Rattle.graph_spec.specs.Shapes.{Shape, IsNode, shape_of}
 use Rattle.graph_spec.proofs.GraphLaws.{is_shape}
 use Rattle.bisim_spec.specs.Stability.{Stable, Minimal}
 use Rattle.bisim_spec.specs.Reach.{reach}
-use Rattle.bisim_spec.proofs.OneTarget.{same_test}
-use Rattle.bisim_spec.specs.Targets.{KeepsBlocks, target, IsOnlyTarget}
-use Rattle.bisim_spec.specs.Weights.{weight_at, weight, size_of}
+use Rattle.bisim_spec.proofs.ListedTargets.{same_test, some_target}
+use Rattle.bisim_spec.specs.Targets.{KeepsBlocks, target, AreTargets}
+use Rattle.bisim_spec.specs.Weights.{weight, size_of}
+use Rattle.bisim_spec.proofs.Bisimilar.{is_some_at}
 use Rattle.bisim_spec.proofs.Changed.{live_before}
 use Rattle.bisim_spec.proofs.Differs.{differs_after}
-use Rattle.bisim_spec.proofs.Outside.{SameOutside, outside_reach, none_outside}
-use Rattle.bisim_spec.proofs.Reached.{reach_start}
+use Rattle.bisim_spec.proofs.Outside.{SameOutside, IsOut, off_target, outside_reach, none_outside}
 use Rattle.bisim_spec.proofs.Together.{together_sym, together_some}
 use Rattle.one_spec.specs.Merges.{AreMergeCandidates}
-use Rattle.one_spec.specs.Named.{AreNamed}
+use Rattle.one_spec.specs.BlockLabels.{BlocksHaveLabels}
 use Rattle.one_spec.specs.SplitRoundSteps.{SameBut}
 use Rattle.one_spec.specs.Splits.{IsSplitInside}
 use Rattle.one_spec.specs.EdgeCounts.{AreEdgeCounts}
-use Rattle.one_spec.specs.Viewed.{IsDone}
+use Rattle.one_spec.specs.Viewed.{IsMergedToEnd}
 use Rattle.one_spec.proofs.SplitThenMerge.{viewed_supports}
-use Rattle.one_spec.proofs.LabelledBlocks.{labelled_named}
+use Rattle.one_spec.proofs.LabelledBlocks.{labelled_by_numbers}
 use Rattle.one_spec.proofs.MergedPairs.{merges_stable, merges_keep, outside_merges}
 use Rattle.one_spec.proofs.OneSteps.{reach_closed}
-use Rattle.one_spec.proofs.Sums.{sum_without}
 use Rattle.one_spec.proofs.MergeCandidates.{unmarked_candidates}
 use Rattle.one_update.specs.OneDrafts.{KeepsUnreached, reached, rounds_cost}
-use Rattle.one_update.proofs.PhaseLaws.{HasMerge, HasSplit, more_times, own_has, target_reached}
+use Rattle.one_update.proofs.PhaseLaws.{HasMerge, HasSplit, more_times, target_weight, targets_reached}
 
 -- what the split clause says of the nodes that are reached
-pub split_reached : (g : Graph) (c : Change) (t : ℕ) (p p2 : List (Option ℕ)) (made : List ℕ) → IsGraph (after c g) → IsOnlyTarget g c t → HasSplit g c t p p2 made
+pub split_reached : (g : Graph) (c : Change) (targets : List ℕ) (p p2 : List (Option ℕ)) (made : List ℕ) → IsGraph (after c g) → AreTargets g c targets → HasSplit g c targets p p2 made
     → IsSplitInside (shape_of (after c g)) (reached g c) p p2 [] made
-split_reached g c t p p2 made graph2 target_is split =
-    split.split (reached g c) (reach_closed (shape_of (after c g)) (target c g) (is_shape (after c g) graph2)) (target_reached g c t target_is)
+split_reached g c targets p p2 made graph2 are split =
+    split.split (reached g c) (reach_closed (shape_of (after c g)) (target c g) (is_shape (after c g) graph2)) (targets_reached g c targets are)
 
-off_target : (g : Graph) (c : Change) (n : ℕ) → reached g c n ≡ false → target c g n ≡ false
-off_target g c n h = false_from_ne_true (target c g n) (λ t. both_ways (reached g c n) h (reach_start (shape_of (after c g)) (target c g) n t))
-
--- nodes out of reach are together as in the base, whether or not they are said to be nodes of both graphs
-unreached_same : (g : Graph) (c : Change) (p p2 : List (Option ℕ)) → KeepsUnreached g c p p2 → Stable (shape_of (after c g)) p2
-    → SameOutside p p2 (λ n. IsFalse (reached g c n))
-unreached_same g c p p2 split stable = record {
-  into = λ x y ox oy t.
-      let nx = split.stable.partition.only x (together_some p x y t) in
-      let ny = split.stable.partition.only y (together_some p y x (together_sym p x y t)) in
-      (split.outside x y nx ny (later x ox nx) (later y oy ny) ox oy).1 t;
-  back = λ x y ox oy t.
-      let nx = stable.partition.only x (together_some p2 x y t) in
-      let ny = stable.partition.only y (together_some p2 y x (together_sym p2 x y t)) in
-      (split.outside x y (before x ox nx) (before y oy ny) nx ny ox oy).0 t;
+-- nodes out of reach are together as in the base
+unreached_same : (g : Graph) (c : Change) (p p2 : List (Option ℕ)) → KeepsUnreached g c p p2 → SameOutside p p2 (IsOut (shape_of (after c g)) (target c g))
+unreached_same g c p p2 split = record {
+  into = λ x y ox oy t. (split.outside x y (before x ox) (before y oy) ox.0 oy.0 ox.1 oy.1).1 t;
+  back = λ x y ox oy t. (split.outside x y (before x ox) (before y oy) ox.0 oy.0 ox.1 oy.1).0 t;
 }
   where
-    later : (n : ℕ) → reached g c n ≡ false → IsNode (shape_of g) n → IsNode (shape_of (after c g)) n
-    later n o h = sym (ap is_some ((differs_after c g).label n (off_target g c n o))) ∙ h
-
-    before : (n : ℕ) → reached g c n ≡ false → IsNode (shape_of (after c g)) n → IsNode (shape_of g) n
-    before n o h = live_before (target c g) (shape_of g) (shape_of (after c g)) (differs_after c g) n (off_target g c n o) h
+    before : (n : ℕ) → IsOut (shape_of (after c g)) (target c g) n → IsNode (shape_of g) n
+    before n o = live_before (target c g) (shape_of g) (shape_of (after c g)) (differs_after c g) n (off_target (shape_of (after c g)) (target c g) n o.1) o.0
 
 -- the blocks of these nodes are listed
 pub record HaveBlocks (nodes : List ℕ) (p : List (Option ℕ)) (blocks : List ℕ) : Type 0 where
@@ -78,12 +62,15 @@ reached_candidates g c p p2 nodes blocks graph2 split stable listed have = recor
   ];
 }
   where
+    out : (n b : ℕ) → not (reached g c n) ≡ true → at p2 n ≡ Some b → IsOut (shape_of (after c g)) (target c g) n
+    out n b m e = (stable.partition.only n (is_some_at (at p2 n) b e), not-true (reached g c n) m)
+
     unmarked : AreMergeCandidates (shape_of (after c g)) p2 (λ b. (n : ℕ) → at p2 n ≡ Some b → not (reached g c n) ≡ false)
     unmarked =
         unmarked_candidates (shape_of (after c g)) p2 (λ n. not (reached g c n)) (is_shape (after c g) graph2) stable.partition (λ x y a b mx my hx hy ne can.
-        none_outside (shape_of g) (shape_of (after c g)) (λ n. IsFalse (reached g c n)) p p2
-        (outside_reach (target c g) (shape_of g) (shape_of (after c g)) (is_shape (after c g) graph2) (differs_after c g)) (unreached_same g c p p2 split stable)
-        split.stable split.minimal x y a b (not-true (reached g c x) mx) (not-true (reached g c y) my) hx hy ne can)
+        none_outside (shape_of g) (shape_of (after c g)) (IsOut (shape_of (after c g)) (target c g)) p p2
+        (outside_reach (target c g) (shape_of g) (shape_of (after c g)) (is_shape (after c g) graph2) (differs_after c g)) (unreached_same g c p p2 split)
+        split.stable split.minimal x y a b (out x a mx hx) (out y b my hy) hx hy ne can)
 
     there : (b n : ℕ) → at p2 n ≡ Some b → not (reached g c n) ≡ false → IsTrue (has blocks b)
     there b n e h = elim (cases_Bool (reached g c n)) [
@@ -98,45 +85,42 @@ pub record IsMergedWhole (s : Shape) (inside : ℕ → Bool) (p p2 : List (Optio
   pub same : SameBut p p2 inside
 
 pub merged_whole : (g : Graph) (c : Change) (p p2 p3 : List (Option ℕ)) (labels : ℕ → Option ℕ) (support : ℕ → ℕ → ℕ) (nodes blocks : List ℕ) → IsGraph (after c g)
-    → KeepsUnreached g c p p2 → Stable (shape_of (after c g)) p2 → AreNamed p2 labels (label_number (after c g)) → AreEdgeCounts (after c g) p2 support
+    → KeepsUnreached g c p p2 → Stable (shape_of (after c g)) p2 → BlocksHaveLabels p2 labels (label_number (after c g)) → AreEdgeCounts (after c g) p2 support
     → Lists (reached g c) nodes → HaveBlocks nodes p2 blocks → HasMerge p2 p3 labels support blocks → IsMergedWhole (shape_of (after c g)) (reached g c) p2 p3
-merged_whole g c p p2 p3 labels support nodes blocks graph2 split stable named supports listed have merge =
+merged_whole g c p p2 p3 labels support nodes blocks graph2 split stable block_labels supports listed have merge =
     let s2 = shape_of (after c g) in
     let shape2 = is_shape (after c g) graph2 in
-    let viewed = viewed_supports (after c g) p2 labels support (λ x y. nat_lt 0 (support x y)) shape2 stable (labelled_named (after c g) p2 labels named) supports (λ x y. refl) in
-    let done : IsDone s2 p2 p3 = merge.merged s2 viewed (reached_candidates g c p p2 nodes blocks graph2 split stable listed have) in
-    let same = unreached_same g c p p2 split stable in
-    let after_merges = outside_merges (shape_of g) s2 (λ n. IsFalse (reached g c n)) p p2 p3 (outside_reach (target c g) (shape_of g) s2 shape2 (differs_after c g)) same split.stable
+    let viewed = viewed_supports (after c g) p2 labels support (λ x y. nat_lt 0 (support x y)) shape2 stable (labelled_by_numbers (after c g) p2 labels block_labels) supports (λ x y. refl) in
+    let done : IsMergedToEnd s2 p2 p3 = merge.merged s2 viewed (reached_candidates g c p p2 nodes blocks graph2 split stable listed have) in
+    let same = unreached_same g c p p2 split in
+    let after_merges = outside_merges (shape_of g) s2 (IsOut s2 (target c g)) p p2 p3 (outside_reach (target c g) (shape_of g) s2 shape2 (differs_after c g)) same split.stable
     split.minimal done.merges in
+    let stable3 = merges_stable s2 p2 p3 done.merges stable in
     record {
-      stable = merges_stable s2 p2 p3 done.merges stable;
+      stable = stable3;
       minimal = done.minimal;
       same = record {
         into = λ u v ou ov t. merges_keep s2 p2 p3 done.merges u v t;
-        back = λ u v ou ov t. same.into u v ou ov (after_merges.back u v ou ov t);
+        back = λ u v ou ov t.
+            let nu = stable3.partition.only u (together_some p3 u v t) in
+            let nv = stable3.partition.only v (together_some p3 v u (together_sym p3 u v t)) in
+            same.into u v (nu, ou) (nv, ov) (after_merges.back u v (nu, ou) (nv, ov) t);
       };
     }
 
--- the list of what the target reaches
-pub reached_listed : (g : Graph) (c : Change) (t : ℕ) (nodes : List ℕ) → IsOnlyTarget g c t → Lists (reach (shape_of (after c g)) (has (t ∷ []))) nodes → Lists (reached g c) nodes
-reached_listed g c t nodes target_is listed = subst (λ from. Lists (reach (shape_of (after c g)) from) nodes) (same_test g c t target_is) listed
-
--- the target's number was allocated
-pub one_allocated : (g : Graph) (c : Change) (t : ℕ) → IsOnlyTarget g c t → (n : ℕ) → IsTrue (has (t ∷ []) n) → n < (shape_of (after c g)).size
-one_allocated g c t target_is n h = elim (eqb_tells n t) [
-  | inl s ↦ (let e = s.1 in let below = target_is.allocated in omega (arith, e, below))
-  | inr k ↦ absurd (true≢false (sym h ∙ or-false (nat_eq n t) ∙ k.0))
-]
+-- the list of what the targets reach
+pub reached_listed : (g : Graph) (c : Change) (targets nodes : List ℕ) → AreTargets g c targets → Lists (reach (shape_of (after c g)) (has targets)) nodes → Lists (reached g c) nodes
+reached_listed g c targets nodes are listed = subst (λ from. Lists (reach (shape_of (after c g)) from) nodes) (same_test g c targets are) listed
 
 -- reading what is reached once costs no more than merges may
-pub search_light : (g : Graph) (c : Change) (t old new : ℕ) → IsOnlyTarget g c t
-    → new ≤ old + weight (shape_of (after c g)) (reach (shape_of (after c g)) (has (t ∷ []))) + 1 → new ≤ old + 3 * rounds_cost (shape_of (after c g)) (reached g c)
-search_light g c t old new target_is cost =
+pub search_light : (g : Graph) (c : Change) (targets : List ℕ) (old new : ℕ) → AreTargets g c targets
+    → new ≤ old + weight (shape_of (after c g)) (reach (shape_of (after c g)) (has targets)) + 1 → new ≤ old + 3 * rounds_cost (shape_of (after c g)) (reached g c)
+search_light g c targets old new are cost =
     let s = shape_of (after c g) in
     let set = reached g c in
-    let cost2 : new ≤ old + weight s set + 1 = subst (λ from. new ≤ old + weight s (reach s from) + 1) (same_test g c t target_is) cost in
-    let own = sum_without s.size set (weight_at s) t target_is.allocated (target_reached g c t target_is t (own_has t)) in
-    let some : weight_at s t ≤ weight s set = omega (arith, own) in
+    let cost2 : new ≤ old + weight s set + 1 = subst (λ from. new ≤ old + weight s (reach s from) + 1) (same_test g c targets are) cost in
+    let t = some_target c g in
+    let some = target_weight g c targets t.0 are (are.listed.members t.0 ∙ t.1) in
     let more = more_times (size_of s set) (weight s set) in
     omega (arith, some, more, cost2)
 

@@ -1,6 +1,6 @@
 -- What is drafted for a change of the graph of a 1-index (K. Yi, H. He, I. Stanoi and J. Yang, "Incremental Maintenance of XML
 -- Structural Indexes", SIGMOD 2004).
-use Rattle.std.specs.Prelude.{◌≡◌, ◌<◌, ◌≤◌, ◌^◌, ◌↔◌, ℕ, ◌+◌, ◌*◌, Bool, List, Option, [], ◌∷◌, length, Some, IsFalse, IsTrue}
+use Rattle.std.specs.Prelude.{◌≡◌, ◌<◌, ◌≤◌, ◌^◌, ◌↔◌, ℕ, ◌+◌, ◌*◌, Bool, List, Option, [], length, Some, IsFalse, IsTrue}
 use Rattle.std.specs.FinSet as set
 use Rattle.graph_spec.specs.Graphs.{Graph, IsGraph}
 use Rattle.graph_spec.specs.Changes.{Change, node, after}
@@ -20,23 +20,23 @@ use Rattle.graph_update.specs.PendingChanges.{Pending, graph_after}
 use Rattle.quotient.specs.Quotients.{Quotient, view_of}
 use Rattle.quotient_draft.specs.Drafts.{Drafted, shown_blocks, shown_labels, shown_support}
 use Rattle.quotient_draft.specs.Basis.{IsOver}
-use Rattle.one_spec.specs.Named.{AreNamed, AreNamedOff}
+use Rattle.one_spec.specs.BlockLabels.{BlocksHaveLabels, BlocksHaveLabelsBut}
 use Rattle.one_spec.specs.EdgeCounts.{AreEdgeCounts}
 
 -- The draft shows the graph after the change, with nodes in the blocks in which they were: a new node has some block.
--- The partition may be unstable at the target.
+-- The partition may be unstable at the targets.
 pub record ShowsChange (g : Graph) (c : Change) (q : Quotient) (d : Drafted) : Type 0 where
   pub over : IsOver q.blocks.block_of q.blocks.labels d
   pub partition : IsPartition (shape_of (after c g)) (shown_blocks q d)
   pub keeps : KeepsBlocks (shape_of g) (shape_of (after c g)) q.blocks.block_of (shown_blocks q d)
-  pub named : AreNamed (shown_blocks q d) (at (shown_labels q d)) (label_number (after c g))
+  pub block_labels : BlocksHaveLabels (shown_blocks q d) (at (shown_labels q d)) (label_number (after c g))
   pub supports : AreEdgeCounts (after c g) (shown_blocks q d) (shown_support q d)
 
 -- the draft shows the next partition, with the labels of members and the numbers of edges
 pub record IsDrafted (g : Graph) (c : Change) (q : Quotient) (d : Drafted) : Type 0 where
   pub over : IsOver q.blocks.block_of q.blocks.labels d
   pub step : OneStep g q.blocks.block_of c (after c g) (shown_blocks q d)
-  pub named : AreNamed (shown_blocks q d) (at (shown_labels q d)) (label_number (after c g))
+  pub block_labels : BlocksHaveLabels (shown_blocks q d) (at (shown_labels q d)) (label_number (after c g))
   pub supports : AreEdgeCounts (after c g) (shown_blocks q d) (shown_support q d)
 
 -- the nodes that the change reaches, in the graph that it leaves
@@ -77,8 +77,8 @@ pub record IsNodeChange (c : Change) : Type 0 where
 pub record KeepsUnreached (g : Graph) (c : Change) (block shown : List (Option ℕ)) : Type 0 where
   pub stable : Stable (shape_of g) block
   pub minimal : Minimal (shape_of g) block
-  pub outside : (u v : ℕ) → IsNode (shape_of g) u → IsNode (shape_of g) v → IsNode (shape_of (after c g)) u → IsNode (shape_of (after c g)) v → IsFalse (reached g c u)
-      → IsFalse (reached g c v) → Together shown u v ↔ Together block u v
+  pub outside : (u v : ℕ) → IsNode (shape_of g) u → IsNode (shape_of g) v → IsNode (shape_of (after c g)) u → IsNode (shape_of (after c g)) v
+      → IsFalse (reached g c u) → IsFalse (reached g c v) → Together shown u v ↔ Together block u v
 
 -- supports alone are drafted
 pub record AreSupportsAlone (d : Drafted) : Type 0 where
@@ -92,18 +92,18 @@ pub record ShowsStable (g : Graph) (q : Quotient) (d : Drafted) : Type 0 where
   -- exactly the nodes have a block; the members of a block have one label, and parents in the same blocks
   pub stable : Stable (shape_of g) (shown_blocks q d)
   -- each node's block has the label of the node
-  pub named : AreNamed (shown_blocks q d) (at (shown_labels q d)) (label_number g)
+  pub block_labels : BlocksHaveLabels (shown_blocks q d) (at (shown_labels q d)) (label_number g)
   -- the support of a pair of blocks is the number of edges from the first to the second
   pub supports : AreEdgeCounts g (shown_blocks q d) (shown_support q d)
 
--- The draft shows a partition of a graph that is stable except perhaps at one node, the target.
-pub record ShowsStableBut (g : Graph) (t : ℕ) (q : Quotient) (d : Drafted) : Type 0 where
+-- The draft shows a partition of a graph that is stable except perhaps at some nodes, the targets.
+pub record ShowsStableBut (g : Graph) (targets : List ℕ) (q : Quotient) (d : Drafted) : Type 0 where
   -- the draft was begun over this base
   pub over : IsOver q.blocks.block_of q.blocks.labels d
-  -- exactly the nodes have a block; the members of a block have one label, and parents in the same blocks, but for the target
-  pub stable : StableBut (shape_of g) (shown_blocks q d) (has (t ∷ []))
-  -- each node's block has the label of the node, but for the target
-  pub named : AreNamedOff (has (t ∷ [])) (shown_blocks q d) (at (shown_labels q d)) (label_number g)
+  -- exactly the nodes have a block; the members of a block have one label, and parents in the same blocks, but for the targets
+  pub stable : StableBut (shape_of g) (shown_blocks q d) (has targets)
+  -- each node's block has the label of the node, but for the targets
+  pub block_labels : BlocksHaveLabelsBut (has targets) (shown_blocks q d) (at (shown_labels q d)) (label_number g)
   -- the support of a pair of blocks is the number of edges from the first to the second
   pub supports : AreEdgeCounts g (shown_blocks q d) (shown_support q d)
 

@@ -39,7 +39,7 @@ fn add_node<L: Ledger>(
     ensures cost { steps.new ≤ steps.old + most_steps after.now.before after.now.change }
 {
     let n = draft_node(index.base, draft, after)?;
-    resettle(alloc, index, draft, after, n, steps)
+    resettle(alloc, index, draft, after, &[n], steps)
 }
 
 // A node goes.
@@ -59,7 +59,7 @@ fn drop_node<L: Ledger>(
     ensures cost { steps.new ≤ steps.old + most_steps after.now.before after.now.change }
 {
     draft_drop(index.base, draft, after, u)?;
-    resettle(alloc, index, draft, after, u, steps)
+    resettle(alloc, index, draft, after, &[u], steps)
 }
 
 // An edge comes.
@@ -83,7 +83,7 @@ fn add_edge<L: Ledger>(
     if draft_link(index.base, draft, after, u, v)? {
         return Ok(());
     }
-    resettle(alloc, index, draft, after, v, steps)
+    resettle(alloc, index, draft, after, &[v], steps)
 }
 
 // An edge goes.
@@ -106,7 +106,7 @@ fn drop_edge<L: Ledger>(
     if draft_unlink(index.base, draft, after, u, v, steps)? {
         return Ok(());
     }
-    resettle(alloc, index, draft, after, v, steps)
+    resettle(alloc, index, draft, after, &[v], steps)
 }
 
 // What the change makes.

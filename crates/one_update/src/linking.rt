@@ -1,11 +1,11 @@
 // Edges that come and go.
-ghost use Rattle.std.specs.Prelude.{◌≡◌, ◌+◌, ◌≤◌, ◌<◌, ◌^◌, ℕ, Some, IsSome, IsTrue, IsFalse, IfOk, OnOk, nat_lt};
+ghost use Rattle.std.specs.Prelude.{◌≡◌, ◌+◌, ◌≤◌, ◌<◌, ◌^◌, ◌∷◌, [], ℕ, Some, IsSome, IsTrue, IsFalse, IfOk, OnOk, nat_lt};
 ghost use Rattle.std.specs.List.{list_any};
 ghost use Rattle.graph_spec.specs.Graphs.{has_edge};
 ghost use Rattle.graph_spec.specs.Changes.{link, unlink};
 ghost use Rattle.graph_spec.specs.Members.{at, is_this};
 ghost use Rattle.graph_spec.specs.Shapes.{shape_of};
-ghost use Rattle.bisim_spec.specs.Targets.{HasOther, IsOnlyTarget};
+ghost use Rattle.bisim_spec.specs.Targets.{HasOther, AreTargets};
 ghost use Rattle.bisim_spec.specs.IndexGraphs.{support_at};
 ghost use Rattle.bisim_spec.specs.Weights.{parent_count};
 ghost use Rattle.graph_update.specs.PendingChanges.{graph_after};
@@ -40,7 +40,7 @@ pub(crate) fn draft_link(
     requires links { after.now.change ≡ link u v }
     ensures changed { OnOk result (ShowsChange after.now.before after.now.change base.now draft.new) }
     ensures alone { OnOk result (AreSupportsAlone draft.new) }
-    ensures target { IsOnlyTarget after.now.before after.now.change v }
+    ensures targets { AreTargets after.now.before after.now.change (v ∷ []) }
     ensures yes { IfOk result (λ s. IsTrue s → HasOther (shape_of (graph_after after.now)) base.now.blocks.block_of u v) }
     ensures no { IfOk result (λ s. IsFalse s → HasOther (shape_of (graph_after after.now)) base.now.blocks.block_of u v → ⊥) }
     ensures tells { OfBlocks base.now u v (λ a b. IfOk result (λ s. s ≡ nat_lt 0 (support_at base.now.supports a b))) }
@@ -106,7 +106,7 @@ pub(crate) fn draft_unlink<L: Ledger>(
     requires unlinks { after.now.change ≡ unlink u v }
     ensures changed { OnOk result (ShowsChange after.now.before after.now.change base.now draft.new) }
     ensures alone { OnOk result (AreSupportsAlone draft.new) }
-    ensures target { IsOnlyTarget after.now.before after.now.change v }
+    ensures targets { AreTargets after.now.before after.now.change (v ∷ []) }
     ensures yes { IfOk result (λ s. IsTrue s → HasOther (shape_of (graph_after after.now)) base.now.blocks.block_of u v) }
     ensures no { IfOk result (λ s. IsFalse s → HasOther (shape_of (graph_after after.now)) base.now.blocks.block_of u v → ⊥) }
     ensures cost { steps.new ≤ steps.old + parent_count (shape_of (graph_after after.now)) v + 2 }

@@ -1,7 +1,7 @@
 // Nodes that come and go.
-ghost use Rattle.std.specs.Prelude.{◌≡◌, ℕ, OnOk, IfOk};
+ghost use Rattle.std.specs.Prelude.{◌≡◌, ◌∷◌, [], ℕ, OnOk, IfOk};
 ghost use Rattle.graph_spec.specs.Changes.{drop};
-ghost use Rattle.bisim_spec.specs.Targets.{IsOnlyTarget};
+ghost use Rattle.bisim_spec.specs.Targets.{AreTargets};
 ghost use Rattle.quotient_draft.specs.Drafts.{no_changes};
 ghost use Rattle.one_update.specs.OneDrafts.{IsBefore, ShowsChange, IsNodeChange};
 
@@ -20,7 +20,7 @@ pub(crate) fn draft_node(
     requires empty { draft.old ≡ no_changes }
     requires node { IsNodeChange after.now.change }
     ensures changed { OnOk result (ShowsChange after.now.before after.now.change base.now draft.new) }
-    ensures target { IfOk result (λ n. IsOnlyTarget after.now.before after.now.change n) }
+    ensures targets { IfOk result (λ n. AreTargets after.now.before after.now.change (n ∷ [])) }
 {
     if base.blocks() >= 1 << 31 {
         return Err(Memory);
@@ -43,7 +43,7 @@ pub(crate) fn draft_drop(
     requires empty { draft.old ≡ no_changes }
     requires drops { after.now.change ≡ drop u }
     ensures changed { OnOk result (ShowsChange after.now.before after.now.change base.now draft.new) }
-    ensures target { IsOnlyTarget after.now.before after.now.change u }
+    ensures targets { AreTargets after.now.before after.now.change (u ∷ []) }
 {
     // Called for its contract: numbers are small.
     let _known = after.created();

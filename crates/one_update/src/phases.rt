@@ -1,15 +1,14 @@
 // The two phases of the upkeep, each by itself: blocks are split, and then merged.
-ghost use Rattle.std.specs.Prelude.{◌+◌, ◌*◌, ◌≤◌, OnOk};
+ghost use Rattle.std.specs.Prelude.{◌+◌, ◌*◌, ◌≤◌, ◌∷◌, [], OnOk};
 ghost use Rattle.graph_spec.specs.Shapes.{shape_of};
 ghost use Rattle.bisim_spec.specs.Stability.{Minimal};
-ghost use Rattle.bisim_spec.specs.Targets.{IsOnlyTarget};
+ghost use Rattle.bisim_spec.specs.Targets.{AreTargets};
 ghost use Rattle.one_spec.specs.SplitRoundSteps.{IsRefinement, SameBut};
 ghost use Rattle.graph_update.specs.PendingChanges.{graph_after};
 ghost use Rattle.quotient_draft.specs.Drafts.{shown_blocks};
-ghost use Rattle.quotient_draft.specs.Basis.{IsOver};
-ghost use Rattle.one_update.specs.OneDrafts.{rounds_cost, ShowsStable, ShowsStableBut, KeepsMinimal, ShowsUnreached, ListsBlocksOf, reached_after};
+ghost use Rattle.one_update.specs.OneDrafts.{rounds_cost, ShowsStable, ShowsStableBut, KeepsMinimal, ShowsUnreached, reached_after};
 
-use crate::resettling::add_block;
+use crate::resettling::add_blocks;
 use affected_nodes::reached_nodes;
 use graph_update::After;
 use one_merge::ParentlessBlocks;
@@ -37,8 +36,29 @@ pub fn split<L: Ledger>(
     target: NodeId,
     steps: &mut Steps<L>,
 ) -> Result<(), Memory>
-    requires target { IsOnlyTarget after.now.before after.now.change target }
-    requires shown { ShowsStableBut (graph_after after.now) target base.now draft.old }
+    requires targets { AreTargets after.now.before after.now.change (target ∷ []) }
+    requires shown { ShowsStableBut (graph_after after.now) (target ∷ []) base.now draft.old }
+    ensures shown { OnOk result (ShowsStable (graph_after after.now) base.now draft.new) }
+    ensures within { OnOk result (IsRefinement (shown_blocks base.now draft.old) (shown_blocks base.now draft.new)) }
+    ensures same { OnOk result (SameBut (shown_blocks base.now draft.old) (shown_blocks base.now draft.new) (reached_after after.now)) }
+    ensures split { OnOk result (KeepsMinimal after.now base.now draft.old → ShowsUnreached after.now base.now draft.new) }
+    ensures cost { steps.new ≤ steps.old + 4 * rounds_cost (shape_of (graph_after after.now)) (reached_after after.now) }
+{
+    split_targets(alloc, base, draft, after, &[target], steps)?;
+    Ok(())
+}
+
+// The same for a change with any number of targets.
+fn split_targets<L: Ledger>(
+    alloc: Global,
+    base: &Summary,
+    draft: &mut Draft,
+    after: &After<'_>,
+    targets: &[NodeId],
+    steps: &mut Steps<L>,
+) -> Result<(), Memory>
+    requires targets { AreTargets after.now.before after.now.change targets.now }
+    requires shown { ShowsStableBut (graph_after after.now) targets.now base.now draft.old }
     ensures shown { OnOk result (ShowsStable (graph_after after.now) base.now draft.new) }
     ensures within { OnOk result (IsRefinement (shown_blocks base.now draft.old) (shown_blocks base.now draft.new)) }
     ensures same { OnOk result (SameBut (shown_blocks base.now draft.old) (shown_blocks base.now draft.new) (reached_after after.now)) }
@@ -48,23 +68,7 @@ pub fn split<L: Ledger>(
     // Called for its contract: there is a graph, so that what is reached is closed under edges.
     let _known = after.created();
     let mut made = Vec::new(alloc);
-    one_split::split(alloc, base, draft, after, &[target], &mut made, steps)?;
-    Ok(())
-}
-
-// Adds the blocks of the nodes to a list of blocks.
-fn add_blocks(
-    base: &Summary,
-    draft: &Draft,
-    nodes: &[NodeId],
-    blocks: &mut Vec<u32>,
-) -> Result<(), Memory>
-    requires over { IsOver base.now.blocks.block_of base.now.blocks.labels draft.now }
-    ensures there { OnOk result (ListsBlocksOf nodes.now (shown_blocks base.now draft.now) blocks.new.items) }
-{
-    for i in 0..nodes.len() {
-        add_block(base, draft, nodes[i], blocks)?;
-    }
+    one_split::split(alloc, base, draft, after, targets, &mut made, steps)?;
     Ok(())
 }
 
@@ -87,7 +91,28 @@ pub fn merge<L: Ledger>(
     target: NodeId,
     steps: &mut Steps<L>,
 ) -> Result<(), Memory>
-    requires target { IsOnlyTarget after.now.before after.now.change target }
+    requires targets { AreTargets after.now.before after.now.change (target ∷ []) }
+    requires shown { ShowsStable (graph_after after.now) base.now draft.old }
+    requires split { ShowsUnreached after.now base.now draft.old }
+    ensures shown { OnOk result (ShowsStable (graph_after after.now) base.now draft.new) }
+    ensures minimal { OnOk result (Minimal (shape_of (graph_after after.now)) (shown_blocks base.now draft.new)) }
+    ensures same { OnOk result (SameBut (shown_blocks base.now draft.old) (shown_blocks base.now draft.new) (reached_after after.now)) }
+    ensures cost { steps.new ≤ steps.old + 3 * rounds_cost (shape_of (graph_after after.now)) (reached_after after.now) }
+{
+    merge_targets(alloc, base, draft, after, &[target], steps)?;
+    Ok(())
+}
+
+// The same for a change with any number of targets.
+fn merge_targets<L: Ledger>(
+    alloc: Global,
+    base: &Summary,
+    draft: &mut Draft,
+    after: &After<'_>,
+    targets: &[NodeId],
+    steps: &mut Steps<L>,
+) -> Result<(), Memory>
+    requires targets { AreTargets after.now.before after.now.change targets.now }
     requires shown { ShowsStable (graph_after after.now) base.now draft.old }
     requires split { ShowsUnreached after.now base.now draft.old }
     ensures shown { OnOk result (ShowsStable (graph_after after.now) base.now draft.new) }
@@ -98,7 +123,7 @@ pub fn merge<L: Ledger>(
     // Called for their contracts: there is a graph, and it has few edges.
     let _known = after.created();
     let _known = after.edge_count();
-    let nodes = reached_nodes(alloc, after, &[target], steps)?;
+    let nodes = reached_nodes(alloc, after, targets, steps)?;
     let mut blocks = Vec::new(alloc);
     add_blocks(base, draft, &nodes, &mut blocks)?;
     let parentless = ParentlessBlocks::of(alloc, base)?;

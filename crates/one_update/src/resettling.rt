@@ -1,13 +1,13 @@
-// From a partition that is unstable at one node to the next one.
+// From a partition that is unstable at the targets of a change to the next one.
 ghost use Rattle.std.specs.Prelude.{◌≡◌, ◌+◌, ◌*◌, ◌≤◌, ℕ, Some, IsTrue, OnOk};
 ghost use Rattle.graph_spec.specs.Members.{at, has};
 ghost use Rattle.graph_spec.specs.Shapes.{shape_of};
-ghost use Rattle.bisim_spec.specs.Targets.{KeepsParents, IsOnlyTarget};
+ghost use Rattle.bisim_spec.specs.Targets.{KeepsParents, AreTargets};
 ghost use Rattle.graph_update.specs.PendingChanges.{graph_after};
 ghost use Rattle.quotient_draft.specs.Drafts.{shown_blocks};
 ghost use Rattle.quotient_draft.specs.Basis.{IsOver};
 ghost use Rattle.one_merge.specs.ParentlessBlocks.{CoversBase};
-ghost use Rattle.one_update.specs.OneDrafts.{IsBefore, ShowsChange, IsDrafted, reached, rounds_cost};
+ghost use Rattle.one_update.specs.OneDrafts.{IsBefore, ShowsChange, IsDrafted, ListsBlocksOf, reached, rounds_cost};
 
 use crate::index_tables::IndexTables;
 use graph_update::After;
@@ -19,8 +19,8 @@ use quotient_draft::Draft;
 use std::alloc::Global;
 use std::sync::ledger::Ledger;
 
-/// Adds the block of a node to a list of blocks, where it has one.
-pub(crate) fn add_block(
+// Adds the block of a node to a list of blocks, where it has one.
+fn add_block(
     base: &Summary,
     draft: &Draft,
     n: NodeId,
@@ -36,20 +36,37 @@ pub(crate) fn add_block(
     Ok(())
 }
 
-/// Splits blocks until the partition is stable, from the target of the change on, and then merges blocks until no
+/// Adds the blocks of the nodes to a list of blocks.
+pub(crate) fn add_blocks(
+    base: &Summary,
+    draft: &Draft,
+    nodes: &[NodeId],
+    blocks: &mut Vec<u32>,
+) -> Result<(), Memory>
+    requires over { IsOver base.now.blocks.block_of base.now.blocks.labels draft.now }
+    ensures kept { OnOk result ((b : ℕ) → IsTrue (has blocks.old.items b) → IsTrue (has blocks.new.items b)) }
+    ensures there { OnOk result (ListsBlocksOf nodes.now (shown_blocks base.now draft.now) blocks.new.items) }
+{
+    for i in 0..nodes.len() {
+        add_block(base, draft, nodes[i], blocks)?;
+    }
+    Ok(())
+}
+
+/// Splits blocks until the partition is stable, from the targets of the change on, and then merges blocks until no
 /// two can be merged.
 pub(crate) fn resettle<L: Ledger>(
     alloc: Global,
     index: &IndexTables<'_>,
     draft: &mut Draft,
     after: &After<'_>,
-    target: NodeId,
+    targets: &[NodeId],
     steps: &mut Steps<L>,
 ) -> Result<(), Memory>
     requires before { IsBefore after.now index.now.base.now }
     requires covers { CoversBase index.now.base.now index.now.parentless.now }
     requires changed { ShowsChange after.now.before after.now.change index.now.base.now draft.old }
-    requires target { IsOnlyTarget after.now.before after.now.change target }
+    requires targets { AreTargets after.now.before after.now.change targets.now }
     requires moves { KeepsParents after.now.change (graph_after after.now) index.now.base.now.blocks.block_of → ⊥ }
     ensures drafted { OnOk result (IsDrafted after.now.before after.now.change index.now.base.now draft.new) }
     ensures cost { steps.new ≤ steps.old + 4 * rounds_cost (shape_of (graph_after after.now)) (reached after.now.before after.now.change) }
@@ -60,11 +77,11 @@ pub(crate) fn resettle<L: Ledger>(
         index.base,
         draft,
         after,
-        &[target],
+        targets,
         &mut blocks,
         steps,
     )?;
-    add_block(index.base, draft, target, &mut blocks)?;
+    add_blocks(index.base, draft, targets, &mut blocks)?;
     merge(alloc, index.base, draft, index.parentless, &blocks)?;
     Ok(())
 }

@@ -6,7 +6,7 @@ use Rattle.graph_update.specs.Verdicts.{change_of}
 use Rattle.graph_update.specs.PendingChanges.{Pending, graph_after}
 use Rattle.level_update.specs.FamilyDrafts.{most_steps}
 use Rattle.level_update.specs.Stages.{AreMoved}
-use Rattle.level_update.proofs.OnlyTargets.{have_moved}
+use Rattle.level_update.proofs.TargetLaws.{have_moved}
 use Rattle.level_update.proofs.MovedDrafts.{shown_fit, shows_family}
 use Rattle.level_update.proofs.drafting.draft_change.Goals as goal
 

@@ -1,6 +1,6 @@
 use Rattle.std.proofs.Common.{arith}
 use Rattle.level_update.specs.Stages.{IsLinked}
-use Rattle.level_update.proofs.OnlyTargets.{link_target}
+use Rattle.level_update.proofs.TargetLaws.{link_target}
 use Rattle.level_update.proofs.Below.{done_next, done_all}
 use Rattle.level_update.proofs.LinkedLevels.{support_few, link_moving}
 use Rattle.level_update.proofs.edges.draft_link.Goals as goal
@@ -15,11 +15,11 @@ link_level-requires-clause-few c =
     let count = c.k-i-end.ensures.count in
     support_few c.args.after.now c.args.family.now c.links.i c.requires.before (omega (arith, test, count))
 
-pub returns-in_err-link_level-clause-target : goal.returns-in_err-link_level-clause-target
-returns-in_err-link_level-clause-target c = link_target c.args.after.now c.args.family.now c.args.u c.args.v c.requires.before c.requires.links
+pub returns-in_err-link_level-clause-targets : goal.returns-in_err-link_level-clause-targets
+returns-in_err-link_level-clause-targets c = link_target c.args.after.now c.args.family.now c.args.u c.args.v c.requires.before c.requires.links
 
-pub returns-clause-target : goal.returns-clause-target
-returns-clause-target c = link_target c.args.after.now c.args.family.now c.args.u c.args.v c.requires.before c.requires.links
+pub returns-clause-targets : goal.returns-clause-targets
+returns-clause-targets c = link_target c.args.after.now c.args.family.now c.args.u c.args.v c.requires.before c.requires.links
 
 pub returns-clause-moving : goal.returns-clause-moving
 returns-clause-moving c =

@@ -1,6 +1,6 @@
 use Rattle.std.proofs.Common.{arith}
 use Rattle.level_update.specs.Stages.{IsUnlinked}
-use Rattle.level_update.proofs.OnlyTargets.{unlink_target}
+use Rattle.level_update.proofs.TargetLaws.{unlink_target}
 use Rattle.level_update.proofs.Below.{done_next, done_all}
 use Rattle.level_update.proofs.LinkedLevels.{support_some, unlink_moving}
 use Rattle.level_update.proofs.edges.draft_unlink.Goals as goal
@@ -15,11 +15,11 @@ unlink_level-requires-clause-some c =
     let count = c.k-i-end.ensures.count in
     support_some c.args.after.now c.args.family.now c.args.u c.args.v c.unlinks.i c.requires.before c.requires.unlinks (omega (arith, test, count))
 
-pub returns-in_err-unlink_level-clause-target : goal.returns-in_err-unlink_level-clause-target
-returns-in_err-unlink_level-clause-target c = unlink_target c.args.after.now c.args.family.now c.args.u c.args.v c.requires.before c.requires.unlinks
+pub returns-in_err-unlink_level-clause-targets : goal.returns-in_err-unlink_level-clause-targets
+returns-in_err-unlink_level-clause-targets c = unlink_target c.args.after.now c.args.family.now c.args.u c.args.v c.requires.before c.requires.unlinks
 
-pub returns-clause-target : goal.returns-clause-target
-returns-clause-target c = unlink_target c.args.after.now c.args.family.now c.args.u c.args.v c.requires.before c.requires.unlinks
+pub returns-clause-targets : goal.returns-clause-targets
+returns-clause-targets c = unlink_target c.args.after.now c.args.family.now c.args.u c.args.v c.requires.before c.requires.unlinks
 
 pub returns-clause-moving : goal.returns-clause-moving
 returns-clause-moving c =

@@ -1,4 +1,4 @@
-use Rattle.std.proofs.Common.{◌+◌, ◌≤◌, ◌∷◌, [], ℕ, Bool, sym, ◌∙◌, ap, subst, arith, length}
+use Rattle.std.proofs.Common.{◌+◌, ◌≤◌, ℕ, Bool, sym, ◌∙◌, ap, subst, arith, length}
 use Rattle.graph_spec.specs.Members.{has, Lists}
 use Rattle.graph_spec.specs.Shapes.{shape_of}
 use Rattle.graph_spec.proofs.GraphLaws.{is_shape}
@@ -13,14 +13,14 @@ use Rattle.level_update.proofs.moving.move_affected.Goals as goal
 pub loop-i-preserved : goal.loop-i-preserved
 loop-i-preserved g c =
     let graph = graph_after c.args.after.now in
-    let target : ℕ → Bool = has (c.args.target ∷ []) in
+    let target : ℕ → Bool = has c.args.targets.now in
     let i = c.loop-i.i in
     let below : c.loop-i.i + 1 ≤ c.k-k.result = omega arith in
     let inv = c.loop-i.invariant in
     let placed = c.in_ok-place_all.ensures.placed in
     let listed : Lists (within_distance (shape_of graph) target (c.loop-i.i + 1)) c.within-nodes.result.now =
     subst (Lists (within_distance (shape_of graph) target (c.loop-i.i + 1))) (sym c.within-nodes.ensures) (c.in_ok-found.ensures.within_distance.each (c.loop-i.i + 1) below) in
-    let most = level_most c.args.after.now c.args.target (c.loop-i.i + 1) c.k-k.result c.within-nodes.result.now (is_shape graph c.created-known.ensures.after) c.requires.allocated listed below in
+    let most = level_most c.args.after.now c.args.targets.now (c.loop-i.i + 1) c.k-k.result c.within-nodes.result.now (is_shape graph c.created-known.ensures.after) c.requires.allocated listed below in
     let so_far = inv.cost in
     let here = c.place_all.ensures.cost in
     record {
@@ -34,30 +34,30 @@ loop-i-preserved g c =
 pub returns-in_err-found-clause-cost : goal.returns-in_err-found-clause-cost
 returns-in_err-found-clause-cost g c = λ k e.
     let cost = c.affected_nodes.ensures.cost in
-    spent_most (shape_of (graph_after c.args.after.now)) c.args.target c.k-k.result 0 c.args.steps.now c.affected_nodes.new.steps c.requires.allocated (omega arith) c.affected_nodes.ensures.none
+    spent_most (shape_of (graph_after c.args.after.now)) c.args.targets.now c.k-k.result 0 c.args.steps.now c.affected_nodes.new.steps c.requires.some c.requires.allocated (omega arith) c.affected_nodes.ensures.none
     (omega (arith, cost)) (length c.args.family.now) k c.k-k.ensures.count e
 
 pub returns-in_err-place_all-clause-cost : goal.returns-in_err-place_all-clause-cost
 returns-in_err-place_all-clause-cost g c = λ k e.
     let graph = graph_after c.args.after.now in
-    let target : ℕ → Bool = has (c.args.target ∷ []) in
+    let target : ℕ → Bool = has c.args.targets.now in
     let below : c.loop-i.i + 1 ≤ c.k-k.result = omega arith in
     let listed : Lists (within_distance (shape_of graph) target (c.loop-i.i + 1)) c.within-nodes.result.now =
     subst (Lists (within_distance (shape_of graph) target (c.loop-i.i + 1))) (sym c.within-nodes.ensures) (c.in_ok-found.ensures.within_distance.each (c.loop-i.i + 1) below) in
-    let most = level_most c.args.after.now c.args.target (c.loop-i.i + 1) c.k-k.result c.within-nodes.result.now (is_shape graph c.created-known.ensures.after) c.requires.allocated listed below in
+    let most = level_most c.args.after.now c.args.targets.now (c.loop-i.i + 1) c.k-k.result c.within-nodes.result.now (is_shape graph c.created-known.ensures.after) c.requires.allocated listed below in
     let so_far = c.loop-i.invariant.cost in
     let here = c.place_all.ensures.cost in
-    spent_most (shape_of graph) c.args.target c.k-k.result (c.loop-i.i + 1) c.args.steps.now c.place_all.new.steps c.requires.allocated below (λ z. absurd (omega (arith, z, below)))
+    spent_most (shape_of graph) c.args.targets.now c.k-k.result (c.loop-i.i + 1) c.args.steps.now c.place_all.new.steps c.requires.some c.requires.allocated below (λ z. absurd (omega (arith, z, below)))
     (omega (arith, most, so_far, here)) (length c.args.family.now) k c.k-k.ensures.count e
 
 pub returns-clause-keyed : goal.returns-clause-keyed
 returns-clause-keyed g c =
     let end = c.loop-i-test.false in
     let count = c.k-k.ensures.count in
-    keyed_all (has (c.args.target ∷ [])) (graph_after c.args.after.now) c.args.family.now c.loop-i.draft c.loop-i.i c.loop-i.invariant.keyed (omega (arith, end, count))
+    keyed_all (has c.args.targets.now) (graph_after c.args.after.now) c.args.family.now c.loop-i.draft c.loop-i.i c.loop-i.invariant.keyed (omega (arith, end, count))
 
 pub returns-clause-cost : goal.returns-clause-cost
 returns-clause-cost g c = λ k e.
     let cost = c.loop-i.invariant.cost in
-    spent_most (shape_of (graph_after c.args.after.now)) c.args.target c.k-k.result c.loop-i.i c.args.steps.now c.loop-i.steps c.requires.allocated c.loop-i.auto.i-end c.loop-i.invariant.none cost
+    spent_most (shape_of (graph_after c.args.after.now)) c.args.targets.now c.k-k.result c.loop-i.i c.args.steps.now c.loop-i.steps c.requires.some c.requires.allocated c.loop-i.auto.i-end c.loop-i.invariant.none cost
     (length c.args.family.now) k c.k-k.ensures.count e

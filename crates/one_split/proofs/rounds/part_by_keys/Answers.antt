@@ -2,14 +2,14 @@ use Rattle.std.proofs.Common.{◌≡◌, ℕ, List, Option, length, arith, sym, 
 use Rattle.graph_spec.specs.Graphs.{has_edge}
 use Rattle.graph_spec.specs.Members.{at}
 use Rattle.graph_spec.specs.Shapes.{shape_of}
-use Rattle.one_spec.specs.Named.{AreNamed}
+use Rattle.one_spec.specs.BlockLabels.{BlocksHaveLabels}
 use Rattle.one_spec.specs.EdgeCounts.{AreEdgeCounts}
 use Rattle.graph_update.specs.PendingChanges.{graph_after}
 use Rattle.quotient_draft.specs.Drafts.{shown_blocks, shown_labels, with_added, shown_support}
 use Rattle.one_split.specs.Counted.{AreCounted}
 use Rattle.one_split.specs.NodeTargetBlocks.{HaveGone}
 use Rattle.one_split.proofs.RoundEnds.{set_distinct, next_set, more_or_none, owns, round_parts}
-use Rattle.one_split.proofs.Named.{named_step}
+use Rattle.one_split.proofs.BlockLabels.{block_labels_step}
 use Rattle.one_split.proofs.NextRound.{split_step}
 use Rattle.one_split.proofs.rounds.part_by_keys.Goals as goal
 use Rattle.bisim_spec.specs.Partitions.{IsPartition}
@@ -89,7 +89,7 @@ returns-clause-round g c = record {
       c.in_ok-target_blocks.ensures.from c.in_ok-target_blocks.ensures.made.once
       (λ k h. let o = owns p (has_edge (graph_after c.args.after.now)) keys nodes numbers numbered k h in (o.0, o.1));
   once = set_distinct c.in_ok-next.next.items c.sort_dedup.new.numbers.items (record { rising = c.sort_dedup.ensures.rising; same = c.sort_dedup.ensures.same });
-  named = λ names named.
+  block_labels = λ node_labels block_labels.
       let s = shape_of (graph_after c.args.after.now) in
       let nodes = c.args.nodes.now in
       let p = shown_blocks c.args.base.now c.args.draft.now in
@@ -98,9 +98,9 @@ returns-clause-round g c = record {
       let target_blocks = c.in_ok-target_blocks.target_blocks.items in
       let gone = subst (λ x. HaveGone x p2 nodes numbers target_blocks (length nodes)) c.in_ok-target_blocks.ensures.extends.stay c.in_ok-next.ensures.gone in
       let labels : shown_labels c.args.base.now c.move_nodes.new.draft ≡ shown_labels c.args.base.now c.find_target_blocks.new.draft = ap (with_added c.args.base.now.blocks.labels) c.in_ok-next.ensures.added in
-      subst (λ (ls : List (Option ℕ)). AreNamed p2 (at ls) names) (sym labels)
-      (named_step s p p2 c.number_nodes.new.keys nodes numbers target_blocks (at (shown_labels c.args.base.now c.args.draft.now)) (at (shown_labels c.args.base.now c.find_target_blocks.new.draft)) names
-      c.in_ok-numbers.ensures.count c.requires.once c.in_ok-numbers.ensures.numbered gone c.in_ok-target_blocks.ensures.labels c.in_ok-target_blocks.ensures.extends.kept named);
+      subst (λ (ls : List (Option ℕ)). BlocksHaveLabels p2 (at ls) node_labels) (sym labels)
+      (block_labels_step s p p2 c.number_nodes.new.keys nodes numbers target_blocks (at (shown_labels c.args.base.now c.args.draft.now)) (at (shown_labels c.args.base.now c.find_target_blocks.new.draft)) node_labels
+      c.in_ok-numbers.ensures.count c.requires.once c.in_ok-numbers.ensures.numbered gone c.in_ok-target_blocks.ensures.labels c.in_ok-target_blocks.ensures.extends.kept block_labels);
   blocks = search rules;
   supports = c.in_ok-next.ensures.supports;
   least = c.in_ok-target_blocks.ensures.from.least;

@@ -4,7 +4,7 @@ use Rattle.quotient_draft.specs.Drafts.{shown_blocks, shown_labels}
 use Rattle.one_split.specs.NodeTargetBlocks.{BeginsAt, StaysIf, GoesIf, AreGroupTargetBlocks, TargetBlocksExist, AreAdded, TargetBlocksHaveLabels}
 use Rattle.one_split.proofs.Chosen.{AreNoted}
 use Rattle.one_split.proofs.ChosenTargetBlocks.{IsChosen, choose_step, begins_long, begins_own}
-use Rattle.one_split.proofs.Named.{some_kept, labels_more}
+use Rattle.one_split.proofs.BlockLabels.{some_kept, labels_more}
 use Rattle.one_split.proofs.Present.{live_kept}
 use Rattle.one_split.proofs.target_blocks.find_target_blocks.Goals as goal
 

@@ -11,7 +11,7 @@ use Rattle.one_spec.proofs.Sums.{sum_next, sum_first}
 use Rattle.one_split.proofs.RoundEnds.{set_distinct}
 use Rattle.one_split.proofs.ListIndexes.{has_place}
 use Rattle.one_split.proofs.Total.{closed_all}
-use Rattle.one_split.proofs.Parted.{first_at, none_left, charged_more, parting_first, parting_done, named_done}
+use Rattle.one_split.proofs.Parted.{first_at, none_left, charged_more, parting_first, parting_done, block_labels_done}
 use Rattle.one_split.proofs.targets.part_all.Goals as goal
 
 pub loop-t-init : goal.loop-t-init
@@ -21,7 +21,7 @@ loop-t-init g c = record {
   parting = λ inside closed within.
       parting_first (shape_of (graph_after c.args.after.now)) inside (shown_blocks c.args.base.now c.args.draft.now) c.new-next.result.list.items c.args.made.now.items (λ n. has (drop 0 c.args.targets.now) n)
       c.new-next.ensures c.requires.split.none c.requires.split.stable;
-  named = c.requires.split.named;
+  block_labels = c.requires.split.block_labels;
   supports = c.requires.split.supports;
   made = blocks_none (at (shown_labels c.args.base.now c.args.draft.now)) c.args.made.now.items c.requires.split.none;
   charged = λ w few. omega arith;
@@ -62,7 +62,7 @@ loop-t-preserved g c =
       live = ok.live;
       parting = λ inside closed within.
           ok.parting inside (shown_blocks c.args.base.now c.args.draft.now) rest rest2 closed (within (slice_index targets i) there) first (inv.parting inside closed within);
-      named = ok.named rest rest2 first inv.named;
+      block_labels = ok.block_labels rest rest2 first inv.block_labels;
       supports = ok.supports;
       made = ok.made;
       charged = λ w few.
@@ -80,7 +80,7 @@ returns-clause-split g c = λ inside closed within.
 pub returns-clause-once : goal.returns-clause-once
 returns-clause-once g c = set_distinct c.loop-t.next.list.items c.sort_dedup.new.numbers.items (record { rising = c.sort_dedup.ensures.rising; same = c.sort_dedup.ensures.same })
 
-pub returns-clause-named : goal.returns-clause-named
-returns-clause-named g c =
-    named_done (shown_blocks c.args.base.now c.loop-t.draft) (at (shown_labels c.args.base.now c.loop-t.draft)) (label_number (graph_after c.args.after.now))
-    (λ n. has (drop c.loop-t.t-index c.args.targets.now) n) (none_left c.args.targets.now c.loop-t.t-index (omega arith)) c.loop-t.invariant.named
+pub returns-clause-block_labels : goal.returns-clause-block_labels
+returns-clause-block_labels g c =
+    block_labels_done (shown_blocks c.args.base.now c.loop-t.draft) (at (shown_labels c.args.base.now c.loop-t.draft)) (label_number (graph_after c.args.after.now))
+    (λ n. has (drop c.loop-t.t-index c.args.targets.now) n) (none_left c.args.targets.now c.loop-t.t-index (omega arith)) c.loop-t.invariant.block_labels

@@ -4,7 +4,7 @@ use Rattle.std.specs.List.{sum_by}
 use Rattle.graph_spec.specs.Members.{at, has}
 use Rattle.graph_spec.specs.Shapes.{shape_of}
 use Rattle.label_graph.specs.GraphViews.{label_number}
-use Rattle.one_spec.specs.Named.{AreNamedOff}
+use Rattle.one_spec.specs.BlockLabels.{BlocksHaveLabelsBut}
 use Rattle.one_spec.specs.Splits.{IsClosed}
 use Rattle.one_spec.specs.EdgeCounts.{AreEdgeCounts}
 use Rattle.graph_update.specs.PendingChanges.{graph_after}
@@ -21,7 +21,7 @@ invariant-loop-t g l = record {
   live : MembersHaveLabels (shown_blocks l.base l.draft) (at (shown_labels l.base l.draft));
   parting : (inside : ℕ → Bool) → IsClosed (shape_of (graph_after l.after)) inside → ((n : ℕ) → IsTrue (has l.targets n) → IsTrue (inside n))
       → IsSplitBut (shape_of (graph_after l.after)) inside (shown_blocks l.base l.initial.draft) (shown_blocks l.base l.draft) l.next.list.items (λ n. has (drop l.t-index l.targets) n) l.made.items;
-  named : AreNamedOff (λ n. has (drop l.t-index l.targets) n) (shown_blocks l.base l.draft) (at (shown_labels l.base l.draft)) (label_number (graph_after l.after));
+  block_labels : BlocksHaveLabelsBut (λ n. has (drop l.t-index l.targets) n) (shown_blocks l.base l.draft) (at (shown_labels l.base l.draft)) (label_number (graph_after l.after));
   supports : AreEdgeCounts (graph_after l.after) (shown_blocks l.base l.draft) (shown_support l.base l.draft);
   made : AreBlocks (at (shown_labels l.base l.draft)) l.made.items;
   charged : (w : ℕ) → ((n : ℕ) → IsTrue (has l.targets n) → move_cost l.after n ≤ w) → l.steps ≤ l.initial.steps + length l.made.items * w;

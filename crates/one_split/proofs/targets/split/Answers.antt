@@ -13,7 +13,7 @@ use Rattle.one_split.specs.SplitCosts.{round_cost}
 use Rattle.one_split.proofs.Bounds.{size_most}
 use Rattle.one_split.proofs.Total.{closed_all, made_few, most_done, cost_more, most_within, round_within, next_heavy, left_falls, few_nodes, not_done}
 use Rattle.one_split.proofs.Light.{targets_light, target_most, light_within, cost_charged}
-use Rattle.one_split.proofs.Present.{ArePresent, node_present, target_present, stable_present, named_present}
+use Rattle.one_split.proofs.Present.{ArePresent, node_present, target_present, stable_present, block_labels_present}
 use Rattle.one_split.proofs.targets.split.Goals as goal
 
 pub part_all-requires-clause-split : goal.part_all-requires-clause-split
@@ -21,7 +21,7 @@ part_all-requires-clause-split g c =
     let s = shape_of (graph_after c.args.after.now) in
     let p = shown_blocks c.args.base.now c.args.draft.now in
     let labels : ℕ → Option ℕ = at (shown_labels c.args.base.now c.args.draft.now) in
-    let names = label_number (graph_after c.args.after.now) in
+    let node_labels = label_number (graph_after c.args.after.now) in
     let targets = has c.args.targets.now in
     let nodes = c.deref.result.now in
     let present : ArePresent p targets (has nodes) = record { each = λ n. ap (λ xs. has xs n) c.deref.ensures.value ∙ c.in_ok-present.ensures.those n } in
@@ -29,7 +29,7 @@ part_all-requires-clause-split g c =
       over = c.requires.over;
       once = subst (IsDistinct nat_eq) (sym c.deref.ensures.value) c.in_ok-present.ensures.once;
       stable = stable_present s p targets (has nodes) present c.requires.stable;
-      named = named_present p labels names targets (has nodes) present c.requires.named;
+      block_labels = block_labels_present p labels node_labels targets (has nodes) present c.requires.block_labels;
       none = c.requires.none;
       supports = c.requires.supports;
     }
@@ -61,7 +61,7 @@ rounds-init g c =
       over = c.in_ok-next.ensures.over;
       split = λ inside closed within. c.in_ok-next.ensures.split inside closed (λ n h. within n (target_present p (has c.args.targets.now) (has nodes) n present h));
       once = c.in_ok-next.ensures.once;
-      named = c.in_ok-next.ensures.named;
+      block_labels = c.in_ok-next.ensures.block_labels;
       supports = c.in_ok-next.ensures.supports;
       made = c.in_ok-next.ensures.made;
       cost = λ inside closed within.
@@ -128,7 +128,7 @@ rounds-preserved g c =
       split = λ inside closed within.
           c.in_ok-next-2.ensures.round.split inside first closed (subst (λ xs. IsSplitInside s inside first p xs made) (sym next_is) (inv.split inside closed within));
       once = c.in_ok-next-2.ensures.round.once;
-      named = c.in_ok-next-2.ensures.round.named (label_number (graph_after c.args.after.now)) inv.named;
+      block_labels = c.in_ok-next-2.ensures.round.block_labels (label_number (graph_after c.args.after.now)) inv.block_labels;
       supports = c.in_ok-next-2.ensures.round.supports;
       made = c.in_ok-next-2.ensures.round.blocks;
       cost = λ inside closed within.

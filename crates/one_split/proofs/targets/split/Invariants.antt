@@ -5,7 +5,7 @@ use Rattle.graph_spec.specs.Members.{at, has}
 use Rattle.graph_spec.specs.Shapes.{shape_of}
 use Rattle.label_graph.specs.GraphViews.{label_number}
 use Rattle.bisim_spec.specs.Weights.{weight}
-use Rattle.one_spec.specs.Named.{AreNamed}
+use Rattle.one_spec.specs.BlockLabels.{BlocksHaveLabels}
 use Rattle.one_spec.specs.Splits.{IsClosed, IsSplitInside}
 use Rattle.one_spec.specs.EdgeCounts.{AreEdgeCounts}
 use Rattle.graph_update.specs.PendingChanges.{graph_after}
@@ -21,7 +21,7 @@ invariant-rounds g l = record {
   split : (inside : ℕ → Bool) → IsClosed (shape_of (graph_after l.after)) inside → ((n : ℕ) → IsTrue (has l.targets n) → IsTrue (inside n))
       → IsSplitInside (shape_of (graph_after l.after)) inside (shown_blocks l.base l.fn.draft) (shown_blocks l.base l.draft) l.next.items l.made.items;
   once : IsDistinct nat_eq l.next.items;
-  named : AreNamed (shown_blocks l.base l.draft) (at (shown_labels l.base l.draft)) (label_number (graph_after l.after));
+  block_labels : BlocksHaveLabels (shown_blocks l.base l.draft) (at (shown_labels l.base l.draft)) (label_number (graph_after l.after));
   supports : AreEdgeCounts (graph_after l.after) (shown_blocks l.base l.draft) (shown_support l.base l.draft);
   made : AreBlocks (at (shown_labels l.base l.draft)) l.made.items;
   cost : (inside : ℕ → Bool) → IsClosed (shape_of (graph_after l.after)) inside → ((n : ℕ) → IsTrue (has l.targets n) → IsTrue (inside n))

@@ -1,11 +1,12 @@
-use Rattle.std.proofs.Common.{arith}
+use Rattle.std.proofs.Common.{arith, ◌∷◌, []}
+use Rattle.one_spec.proofs.Sums.{first_has}
 use Rattle.one_update.proofs.PendingChanges.{unlink_still}
 use Rattle.one_update.proofs.PhaseLaws.{read_light}
 use Rattle.one_update.proofs.drafting.drop_edge.Goals as goal
 
 pub returns-in_err-draft_unlink-clause-cost : goal.returns-in_err-draft_unlink-clause-cost
 returns-in_err-draft_unlink-clause-cost g c =
-    let light = read_light c.args.after.now.before c.args.after.now.change c.args.v c.draft_unlink.ensures.target in
+    let light = read_light c.args.after.now.before c.args.after.now.change (c.args.v ∷ []) c.args.v c.draft_unlink.ensures.targets (first_has c.args.v []) in
     let cost = c.draft_unlink.ensures.cost in
     omega (arith, light, cost)
 
@@ -16,13 +17,13 @@ returns-then-branch-clause-drafted g c =
 
 pub returns-then-branch-clause-cost : goal.returns-then-branch-clause-cost
 returns-then-branch-clause-cost g c =
-    let light = read_light c.args.after.now.before c.args.after.now.change c.args.v c.draft_unlink.ensures.target in
+    let light = read_light c.args.after.now.before c.args.after.now.change (c.args.v ∷ []) c.args.v c.draft_unlink.ensures.targets (first_has c.args.v []) in
     let cost = c.draft_unlink.ensures.cost in
     omega (arith, light, cost)
 
 pub returns-clause-cost : goal.returns-clause-cost
 returns-clause-cost g c =
-    let light = read_light c.args.after.now.before c.args.after.now.change c.args.v c.draft_unlink.ensures.target in
+    let light = read_light c.args.after.now.before c.args.after.now.change (c.args.v ∷ []) c.args.v c.draft_unlink.ensures.targets (first_has c.args.v []) in
     let cost = c.draft_unlink.ensures.cost in
     let rest = c.resettle.ensures.cost in
     omega (arith, light, cost, rest)

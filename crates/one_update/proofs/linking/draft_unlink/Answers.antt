@@ -6,11 +6,11 @@ lower-requires-clause-some g c =
     unlink_counts c.args.after.now c.args.base.now c.args.draft.now c.args.u c.args.v c.own_block-a.result c.own_block-b.result c.requires.before c.requires.unlinks c.requires.empty
     (record { from = c.own_block-a.ensures.block; onto = c.own_block-b.ensures.block })
 
-pub returns-in_err-lower-clause-target : goal.returns-in_err-lower-clause-target
-returns-in_err-lower-clause-target g c = unlink_target c.args.after.now c.args.base.now c.args.u c.args.v c.requires.before c.requires.unlinks
+pub returns-in_err-lower-clause-targets : goal.returns-in_err-lower-clause-targets
+returns-in_err-lower-clause-targets g c = unlink_target c.args.after.now c.args.base.now c.args.u c.args.v c.requires.before c.requires.unlinks
 
-pub returns-clause-target : goal.returns-clause-target
-returns-clause-target g c = unlink_target c.args.after.now c.args.base.now c.args.u c.args.v c.requires.before c.requires.unlinks
+pub returns-clause-targets : goal.returns-clause-targets
+returns-clause-targets g c = unlink_target c.args.after.now c.args.base.now c.args.u c.args.v c.requires.before c.requires.unlinks
 
 pub returns-clause-changed : goal.returns-clause-changed
 returns-clause-changed g c =

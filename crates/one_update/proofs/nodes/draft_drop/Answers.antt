@@ -6,5 +6,5 @@ returns-clause-changed c =
     drop_changed c.args.after.now c.args.base.now c.args.draft.now c.put.new.self c.args.u c.requires.before c.requires.drops c.requires.empty c.in_ok-put.ensures.blocks
     c.put.ensures.added c.put.ensures.supports c.in_ok-put.ensures.over
 
-pub returns-clause-target : goal.returns-clause-target
-returns-clause-target c = drop_target c.args.after.now c.args.base.now c.args.u c.requires.before c.requires.drops
+pub returns-clause-targets : goal.returns-clause-targets
+returns-clause-targets c = drop_target c.args.after.now c.args.base.now c.args.u c.requires.before c.requires.drops

@@ -1,56 +1,56 @@
-use Rattle.std.proofs.Common.{◌∷◌, [], sym, subst}
+use Rattle.std.proofs.Common.{sym, subst}
 use Rattle.graph_spec.specs.Members.{at, has}
 use Rattle.label_graph.specs.GraphViews.{label_number}
 use Rattle.graph_update.specs.PendingChanges.{graph_after}
 use Rattle.quotient_draft.specs.Drafts.{shown_blocks, shown_labels, shown_support}
-use Rattle.one_update.proofs.PhaseLaws.{one_once, stable_there, named_off, few_after, has_graph, reach_cost, stepped, AreAdded}
+use Rattle.one_update.proofs.PhaseLaws.{stable_there, block_labels_but, few_after, has_graph, reach_cost, stepped, AreAdded}
 use Rattle.one_update.proofs.resettling.resettle.Goals as goal
 
 pub split-requires : goal.split-requires
 split-requires g c = record {
   over = c.requires.changed.over;
-  once = one_once c.args.target;
-  stable = stable_there c.args.after.now.before c.args.after.now.change c.args.target c.args.index.now.base.now c.args.draft.now c.requires.before.graph c.requires.before.graph_after
-      c.requires.before.fits c.requires.target c.requires.changed;
-  named = named_off (has (c.args.target ∷ [])) (shown_blocks c.args.index.now.base.now c.args.draft.now) (at (shown_labels c.args.index.now.base.now c.args.draft.now))
-      (label_number (graph_after c.args.after.now)) c.requires.changed.named;
+  once = c.requires.targets.listed.once;
+  stable = stable_there c.args.after.now.before c.args.after.now.change c.args.targets.now c.args.index.now.base.now c.args.draft.now c.requires.before.graph c.requires.before.graph_after
+      c.requires.before.fits c.requires.targets c.requires.changed;
+  block_labels = block_labels_but (has c.args.targets.now) (shown_blocks c.args.index.now.base.now c.args.draft.now) (at (shown_labels c.args.index.now.base.now c.args.draft.now))
+      (label_number (graph_after c.args.after.now)) c.requires.changed.block_labels;
   none = c.new-blocks.ensures.items;
   supports = c.requires.changed.supports;
 }
 
 pub returns-in_err-split-clause-cost : goal.returns-in_err-split-clause-cost
 returns-in_err-split-clause-cost g c =
-    reach_cost c.args.after.now.before c.args.after.now.change c.args.target c.args.steps.now c.split.new.steps c.requires.before.graph_after c.requires.target c.split.ensures.cost
+    reach_cost c.args.after.now.before c.args.after.now.change c.args.targets.now c.args.steps.now c.split.new.steps c.requires.before.graph_after c.requires.targets c.split.ensures.cost
 
-pub returns-in_err-add_block-clause-cost : goal.returns-in_err-add_block-clause-cost
-returns-in_err-add_block-clause-cost g c =
-    reach_cost c.args.after.now.before c.args.after.now.change c.args.target c.args.steps.now c.split.new.steps c.requires.before.graph_after c.requires.target c.split.ensures.cost
+pub returns-in_err-add_blocks-clause-cost : goal.returns-in_err-add_blocks-clause-cost
+returns-in_err-add_blocks-clause-cost g c =
+    reach_cost c.args.after.now.before c.args.after.now.change c.args.targets.now c.args.steps.now c.split.new.steps c.requires.before.graph_after c.requires.targets c.split.ensures.cost
 
 pub returns-in_err-merge-clause-cost : goal.returns-in_err-merge-clause-cost
 returns-in_err-merge-clause-cost g c =
-    reach_cost c.args.after.now.before c.args.after.now.change c.args.target c.args.steps.now c.split.new.steps c.requires.before.graph_after c.requires.target c.split.ensures.cost
+    reach_cost c.args.after.now.before c.args.after.now.change c.args.targets.now c.args.steps.now c.split.new.steps c.requires.before.graph_after c.requires.targets c.split.ensures.cost
 
 pub returns-clause-cost : goal.returns-clause-cost
 returns-clause-cost g c =
-    reach_cost c.args.after.now.before c.args.after.now.change c.args.target c.args.steps.now c.split.new.steps c.requires.before.graph_after c.requires.target c.split.ensures.cost
+    reach_cost c.args.after.now.before c.args.after.now.change c.args.targets.now c.args.steps.now c.split.new.steps c.requires.before.graph_after c.requires.targets c.split.ensures.cost
 
 pub merge-requires-clause-graph : goal.merge-requires-clause-graph
 merge-requires-clause-graph g c =
     has_graph (graph_after c.args.after.now) (shown_blocks c.args.index.now.base.now c.split.new.draft) (at (shown_labels c.args.index.now.base.now c.split.new.draft))
     (shown_support c.args.index.now.base.now c.split.new.draft) c.in_ok-split.ensures.supports (few_after c.args.after.now.change c.args.after.now.before c.requires.before.new c.requires.before.few)
-    c.in_ok-split.ensures.named
+    c.in_ok-split.ensures.block_labels
 
 pub returns-clause-drafted : goal.returns-clause-drafted
 returns-clause-drafted g c =
     let a = c.args.after.now in
     let q = c.args.index.now.base.now in
-    let added = subst (AreAdded c.args.target (shown_blocks q c.split.new.draft) c.split.new.made.items) (sym c.deref.ensures.value)
-    (record { made_there = c.in_ok-add_block.ensures.kept; target_there = c.in_ok-add_block.ensures.there }) in
+    let added = subst (AreAdded c.args.targets.now (shown_blocks q c.split.new.draft) c.split.new.made.items) (sym c.deref.ensures.value)
+    (record { made_there = c.in_ok-add_blocks.ensures.kept; targets_there = c.in_ok-add_blocks.ensures.there }) in
     record {
       over = c.in_ok-merge.ensures.over;
-      step = stepped a.before a.change c.args.target q c.args.draft.now c.split.new.draft (shown_blocks q c.merge.new.draft) c.split.new.made.items c.deref.result.now c.requires.before.graph
-          c.requires.before.graph_after c.requires.before.fits c.requires.target c.requires.changed (record { split = c.in_ok-split.ensures.split }) c.in_ok-split.ensures.named
+      step = stepped a.before a.change c.args.targets.now q c.args.draft.now c.split.new.draft (shown_blocks q c.merge.new.draft) c.split.new.made.items c.deref.result.now c.requires.before.graph
+          c.requires.before.graph_after c.requires.before.fits c.requires.targets c.requires.changed (record { split = c.in_ok-split.ensures.split }) c.in_ok-split.ensures.block_labels
           c.in_ok-split.ensures.supports added (record { merged = c.in_ok-merge.ensures.merged }) c.requires.moves;
-      named = c.in_ok-merge.ensures.named (label_number (graph_after a)) c.in_ok-split.ensures.named;
+      block_labels = c.in_ok-merge.ensures.block_labels (label_number (graph_after a)) c.in_ok-split.ensures.block_labels;
       supports = c.in_ok-merge.ensures.supports (graph_after a) c.in_ok-split.ensures.supports;
     }

@@ -4,12 +4,12 @@ use Rattle.graph_spec.specs.Members.{at}
 use Rattle.graph_spec.specs.Shapes.{Shape}
 
 -- each node has the label of its block
-pub record AreNamed (block : List (Option ℕ)) (labels names : ℕ → Option ℕ) : Type 0 where
-  pub is : (n b : ℕ) → at block n ≡ Some b → (d : ℕ) × (labels b ≡ Some d) × (names n ≡ Some d)
+pub record BlocksHaveLabels (block : List (Option ℕ)) (labels node_labels : ℕ → Option ℕ) : Type 0 where
+  pub is : (n b : ℕ) → at block n ≡ Some b → (d : ℕ) × (labels b ≡ Some d) × (node_labels n ≡ Some d)
 
 -- each node that doesn't pass has the label of its block
-pub record AreNamedOff (off : ℕ → Bool) (block : List (Option ℕ)) (labels names : ℕ → Option ℕ) : Type 0 where
-  pub is : (n b : ℕ) → IsFalse (off n) → at block n ≡ Some b → (d : ℕ) × (labels b ≡ Some d) × (names n ≡ Some d)
+pub record BlocksHaveLabelsBut (off : ℕ → Bool) (block : List (Option ℕ)) (labels node_labels : ℕ → Option ℕ) : Type 0 where
+  pub is : (n b : ℕ) → IsFalse (off n) → at block n ≡ Some b → (d : ℕ) × (labels b ≡ Some d) × (node_labels n ≡ Some d)
 
 -- labels of blocks are equal exactly where those of their members are
 pub record IsLabelled (s : Shape) (block : List (Option ℕ)) (labels : ℕ → Option ℕ) : Type 0 where

@@ -7,7 +7,7 @@ use Rattle.graph_spec.specs.Shapes.{Shape}
 use Rattle.bisim_spec.proofs.Bisimilar.{some_of, none_or_some, is_some_at}
 use Rattle.one_split.specs.Numbered.{HaveNumbers}
 use Rattle.one_split.specs.NodeTargetBlocks.{BeginsAt, target_block_at, HaveGone, TargetBlocksHaveLabels, LabelsStay}
-use Rattle.one_spec.specs.Named.{AreNamed}
+use Rattle.one_spec.specs.BlockLabels.{BlocksHaveLabels}
 use Rattle.one_split.proofs.ListIndexes.{place_in, place_found, has_place, place_is}
 use Rattle.one_split.proofs.Chosen.{target_block_cases, one_own}
 use Rattle.one_split.proofs.Groups.{group_of, target_block_of, target_block_looked, target_block_there, ends_at}
@@ -33,7 +33,7 @@ labels_more keys target_blocks o first labels labels2 own h before keep new ends
   ];
 }
 
-module _ (s : Shape) (p p2 : List (Option ℕ)) (keys : List (List ℕ)) (nodes numbers : List ℕ) (target_blocks : List (Option ℕ)) (labels labels2 names : ℕ → Option ℕ)
+module _ (s : Shape) (p p2 : List (Option ℕ)) (keys : List (List ℕ)) (nodes numbers : List ℕ) (target_blocks : List (Option ℕ)) (labels labels2 node_labels : ℕ → Option ℕ)
     (count : length numbers ≡ length nodes) (once : IsDistinct nat_eq nodes) (numbered : HaveNumbers p s.edge keys nodes numbers)
     (gone : HaveGone p p2 nodes numbers target_blocks (length nodes)) where
   -- a node that goes nowhere stays
@@ -46,11 +46,11 @@ module _ (s : Shape) (p p2 : List (Option ℕ)) (keys : List (List ℕ)) (nodes 
       cc)
 
   -- labels are right after the moves
-  pub named_step : TargetBlocksHaveLabels keys target_blocks labels labels2 → LabelsStay labels labels2 → AreNamed p labels names → AreNamed p2 labels2 names
-  named_step have keep named = record {
+  pub block_labels_step : TargetBlocksHaveLabels keys target_blocks labels labels2 → LabelsStay labels labels2 → BlocksHaveLabels p labels node_labels → BlocksHaveLabels p2 labels2 node_labels
+  block_labels_step have keep block_labels = record {
     is = λ n b e. elim (none_or_some (target_block_of nodes numbers target_blocks n)) [
       | inl none ↦ (
-          let d = named.is n b (sym (stays n none) ∙ e) in
+          let d = block_labels.is n b (sym (stays n none) ∙ e) in
           (d.0, keep.kept b d.0 d.1, d.2))
       | inr (c, goes) ↦ (
           let f = target_block_looked nodes numbers target_blocks n c goes in
@@ -58,7 +58,7 @@ module _ (s : Shape) (p p2 : List (Option ℕ)) (keys : List (List ℕ)) (nodes 
           let found : at p2 n ≡ Some c = ap (at p2) (sym r.1) ∙ gone.moved (place_in nodes n) c r.0 f.1 in
           let same : c ≡ b = cc in
           let own = ends_at s p keys nodes numbers count once numbered n f.0 in
-          let d = named.is n own.0 own.1 in
+          let d = block_labels.is n own.0 own.1 in
           (d.0, have.is (group_of nodes numbers n) own.0 b d.0 (f.1 ∙ ap (λ x. Some x) same) own.2 d.1, d.2))
     ];
   }
