@@ -5,7 +5,7 @@ ghost use Rattle.index_api.specs.declared.kinds.Via.TheVariants.{Data};
 ghost use Rattle.branch_query.specs.Queries.{query_of};
 ghost use Rattle.script_read.specs.Commands.{change as changing, extents as listing, sizes as measuring, forget as forgetting};
 ghost use Rattle.script_read.specs.ReadLines.{command_of};
-ghost use Rattle.pathindex_core.specs.Engines.{seen};
+ghost use Rattle.pathindex_core.specs.Engines.{by_meaning};
 ghost use Rattle.script_interpreter.specs.EngineStates.{state_of, IsOpen};
 ghost use Rattle.script_interpreter.specs.RunSteps.{query_command, Obeyed, LineComes};
 
@@ -37,8 +37,8 @@ fn change<B: PathIndex>(
     change: Change,
     output: &mut Output,
 ) -> Result<(), Memory>
-    requires ready { IsOpen (seen B.meaning engine.old) }
-    ensures ready { IsOpen (seen B.meaning engine.new) }
+    requires ready { IsOpen (by_meaning B.meaning engine.old) }
+    ensures ready { IsOpen (by_meaning B.meaning engine.new) }
     ensures ok { OnOk result (Obeyed (state_of B.meaning engine.old) (changing (change_of change)) output.old (state_of B.meaning engine.new) output.new) }
     ensures err { OnErr result (output.new ≡ output.old) }
 {
@@ -58,8 +58,8 @@ fn ask<B: PathIndex, L: Ledger>(
     output: &mut Output,
     steps: &mut Steps<L>,
 ) -> Result<(), Memory>
-    requires ready { IsOpen (seen B.meaning engine.old) }
-    ensures ready { IsOpen (seen B.meaning engine.new) }
+    requires ready { IsOpen (by_meaning B.meaning engine.old) }
+    ensures ready { IsOpen (by_meaning B.meaning engine.new) }
     ensures ok { OnOk result (Obeyed (state_of B.meaning engine.old) (query_command via (query_of query.now)) output.old
         (state_of B.meaning engine.new) output.new) }
     ensures err { OnErr result (output.new ≡ output.old) }
@@ -82,9 +82,9 @@ fn list_index<B: PathIndex, L: Ledger>(
     output: &mut Output,
     steps: &mut Steps<L>,
 ) -> Result<(), Memory>
-    requires ready { IsOpen (seen B.meaning engine.old) }
+    requires ready { IsOpen (by_meaning B.meaning engine.old) }
     requires index { via ≢ Data }
-    ensures ready { IsOpen (seen B.meaning engine.new) }
+    ensures ready { IsOpen (by_meaning B.meaning engine.new) }
     ensures ok { OnOk result (Obeyed (state_of B.meaning engine.old) (listing via) output.old (state_of B.meaning engine.new) output.new) }
     ensures err { OnErr result (output.new ≡ output.old) }
 {
@@ -103,8 +103,8 @@ fn list<B: PathIndex, L: Ledger>(
     output: &mut Output,
     steps: &mut Steps<L>,
 ) -> Result<(), Memory>
-    requires ready { IsOpen (seen B.meaning engine.old) }
-    ensures ready { IsOpen (seen B.meaning engine.new) }
+    requires ready { IsOpen (by_meaning B.meaning engine.old) }
+    ensures ready { IsOpen (by_meaning B.meaning engine.new) }
     ensures ok { OnOk result (Obeyed (state_of B.meaning engine.old) (listing via) output.old (state_of B.meaning engine.new) output.new) }
     ensures err { OnErr result (output.new ≡ output.old) }
 {
@@ -121,8 +121,8 @@ fn measure<B: PathIndex, L: Ledger>(
     output: &mut Output,
     steps: &mut Steps<L>,
 ) -> Result<(), Memory>
-    requires ready { IsOpen (seen B.meaning engine.old) }
-    ensures ready { IsOpen (seen B.meaning engine.new) }
+    requires ready { IsOpen (by_meaning B.meaning engine.old) }
+    ensures ready { IsOpen (by_meaning B.meaning engine.new) }
     ensures ok { OnOk result (Obeyed (state_of B.meaning engine.old) measuring output.old (state_of B.meaning engine.new) output.new) }
     ensures err { OnErr result (output.new ≡ output.old) }
 {
@@ -136,8 +136,8 @@ fn forget<B: PathIndex>(
     kind: Kind,
     output: &mut Output,
 ) -> Result<(), Memory>
-    requires ready { IsOpen (seen B.meaning engine.old) }
-    ensures ready { IsOpen (seen B.meaning engine.new) }
+    requires ready { IsOpen (by_meaning B.meaning engine.old) }
+    ensures ready { IsOpen (by_meaning B.meaning engine.new) }
     ensures ok { OnOk result (Obeyed (state_of B.meaning engine.old) (forgetting kind) output.old (state_of B.meaning engine.new) output.new) }
     ensures err { OnErr result (output.new ≡ output.old) }
 {
@@ -158,8 +158,8 @@ fn obey<B: PathIndex, L: Ledger>(
     requires name { blank.name ≡ L.name }
     requires parts { blank.parts ≡ L.parts }
     requires some { 0 < blank.parts }
-    requires ready { IsOpen (seen B.meaning engine.old) }
-    ensures ready { IsOpen (seen B.meaning engine.new) }
+    requires ready { IsOpen (by_meaning B.meaning engine.old) }
+    ensures ready { IsOpen (by_meaning B.meaning engine.new) }
     ensures ok { OnOk result (Obeyed (state_of B.meaning engine.old) (command_of command) output.old (state_of B.meaning engine.new) output.new) }
     ensures err { OnErr result (output.new ≡ output.old) }
 {
@@ -195,8 +195,8 @@ pub(crate) fn take<B: PathIndex>(
     line: &[u8],
     output: &mut Output,
 ) -> Result<Outcome, Memory>
-    requires ready { IsOpen (seen B.meaning engine.old) }
-    ensures ready { IsOpen (seen B.meaning engine.new) }
+    requires ready { IsOpen (by_meaning B.meaning engine.old) }
+    ensures ready { IsOpen (by_meaning B.meaning engine.new) }
     ensures ok { IfOk result (λ outcome. LineComes (state_of B.meaning engine.old) line.now output.old outcome
         (state_of B.meaning engine.new) output.new) }
     ensures err { OnErr result (output.new ≡ output.old) }

@@ -4,7 +4,7 @@ ghost use Rattle.std.specs.Io.KnownBytes.{Appends};
 ghost use Rattle.px_base.specs.Causes.{MayHaveRisen, HasCause};
 ghost use Rattle.px_base.specs.Files.{AppendsPrefix};
 ghost use Rattle.px_base.specs.ReaderStates.{stream};
-ghost use Rattle.pathindex_core.specs.Engines.{seen};
+ghost use Rattle.pathindex_core.specs.Engines.{by_meaning};
 ghost use Rattle.script_interpreter.specs.Rules.{rules_for};
 ghost use Rattle.script_interpreter.specs.RunSteps.{progress, Goes, OnTaken, CanRead, Writes};
 ghost use Rattle.script_interpreter.specs.Runs.{Progress, end_status};
@@ -94,8 +94,8 @@ fn next_line<B: PathIndex, H: Shelf>(
     output: &mut Output,
 ) -> Result<Next, Stop>
     requires can { CanRead reader.old (H.is_open shelf.old) }
-    requires ready { IsOpen (seen B.meaning engine.old) }
-    ensures ready { IsOpen (seen B.meaning engine.new) }
+    requires ready { IsOpen (by_meaning B.meaning engine.old) }
+    ensures ready { IsOpen (by_meaning B.meaning engine.new) }
     ensures goes { IfOk result (λ next. Goes (rules_for output.old.printing)
         (progress (state_of B.meaning engine.old) output.old.refused reader.old) (stream reader.old (H.left shelf.old)) output.old.text next
         (progress (state_of B.meaning engine.new) output.new.refused reader.new) (stream reader.new (H.left shelf.new)) output.new.text) }
@@ -176,10 +176,10 @@ pub fn run_lines<B: PathIndex, H: Shelf, K: Sink>(
     sink: &mut K,
 ) -> Result<Ending, Stop>
     requires file { IsTrue (H.is_open shelf.old) }
-    requires ready { IsOpen (seen B.meaning engine.old) }
-    ensures ready { IsOpen (seen B.meaning engine.new) }
+    requires ready { IsOpen (by_meaning B.meaning engine.old) }
+    ensures ready { IsOpen (by_meaning B.meaning engine.new) }
     ensures ran { IfOk result (λ ending. RanObservable (rules_for printing) (state_of B.meaning engine.old) (H.left shelf.old)
-        (K.written sink.old) (K.written sink.new) (status_at ending) (IsIn (seen B.meaning engine.new))) }
+        (K.written sink.old) (K.written sink.new) (status_at ending) (IsIn (by_meaning B.meaning engine.new))) }
     ensures part { OnErr result (PrefixObservable (rules_for printing) (state_of B.meaning engine.old) (H.left shelf.old)
         (K.written sink.old) (K.written sink.new)) }
     ensures files { H.files shelf.new ≡ H.files shelf.old }
