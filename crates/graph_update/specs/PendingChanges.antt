@@ -11,16 +11,16 @@ pub record Pending : Type 0 where
   pub change : Change
 
 -- a change is stored as its label, as its pair of nodes, or as its node
-abbrev Parts : Type 0
-Parts = List ℕ ⊎ ((ℕ × ℕ) ⊎ ((ℕ × ℕ) ⊎ ℕ))
+abbrev ChangeParts : Type 0
+ChangeParts = List ℕ ⊎ ((ℕ × ℕ) ⊎ ((ℕ × ℕ) ⊎ ℕ))
 
-abbrev change_parts : Change → Parts
+abbrev change_parts : Change → ChangeParts
 change_parts (node t) = inl t
 change_parts (link u v) = inr (inl (u, v))
 change_parts (unlink u v) = inr (inr (inl (u, v)))
 change_parts (drop u) = inr (inr (inr u))
 
-abbrev with_parts : Parts → Change
+abbrev with_parts : ChangeParts → Change
 with_parts (inl t) = node t
 with_parts (inr (inl e)) = link e.0 e.1
 with_parts (inr (inr (inl e))) = unlink e.0 e.1
@@ -34,8 +34,8 @@ whole_again (drop u) = refl
 
 abbrev pub change_code : Coded Change
 change_code =
-    code_by Parts (coded⊎ (coded_list coded_ℕ) (coded⊎ (coded× coded_ℕ coded_ℕ) (coded⊎ (coded× coded_ℕ coded_ℕ) coded_ℕ))) change_parts with_parts
-    whole_again
+    code_by ChangeParts (coded⊎ (coded_list coded_ℕ) (coded⊎ (coded× coded_ℕ coded_ℕ) (coded⊎ (coded× coded_ℕ coded_ℕ) coded_ℕ)))
+    change_parts with_parts whole_again
 
 abbrev pub pending_code : Coded Pending
 pending_code =

@@ -1,7 +1,7 @@
 // Whether a change is accepted.
-ghost use Rattle.std.specs.Prelude.{◌≡◌, ◌≢◌, ◌<◌, ◌||◌, ◌↔◌, Ok, Err, IsTrue, false, length, nat_lt};
-ghost use Rattle.graph_spec.specs.Graphs.{is_seen, has_edge};
-ghost use Rattle.graph_spec.specs.Changes.{node, link, unlink, drop, node_fits, is_used};
+ghost use Rattle.std.specs.Prelude.{◌≡◌, ◌≢◌, ◌<◌, ◌||◌, Ok, Err, length, nat_lt};
+ghost use Rattle.graph_spec.specs.Graphs.{is_seen};
+ghost use Rattle.graph_spec.specs.Changes.{node, link, unlink, drop, node_fits};
 ghost use Rattle.graph_update.specs.NewChanges.{IsNew, AreHighest};
 ghost use Rattle.graph_update.specs.Verdicts.{change_of, Judges};
 
@@ -26,9 +26,9 @@ pub fn judge(graph: &Graph, change: &Change, limits: &Limits) -> Result<Verdict,
 {
     match change {
         Change::Node(label) => judge_node(graph, label, limits),
-        Change::Link(from, to) => judge_link(graph, *from, *to, limits),
-        Change::Unlink(from, to) => judge_unlink(graph, *from, *to),
-        Change::Drop(node) => judge_drop(graph, *node),
+        Change::Link(from, to) => { judge_link::<Brand>(graph, *from, *to, limits, Blank::new(1)) }
+        Change::Unlink(from, to) => judge_unlink::<Brand>(graph, *from, *to, Blank::new(1)),
+        Change::Drop(node) => judge_drop::<Brand>(graph, *node, Blank::new(1)),
     }
 }
 
@@ -42,13 +42,23 @@ fn judge_node(graph: &Graph, label: &Text, limits: &Limits) -> Result<Verdict, R
     }
 }
 
-fn judge_link(graph: &Graph, from: NodeId, to: NodeId, limits: &Limits) -> Result<Verdict, Refusal>
+fn judge_link<L: Ledger>(
+    graph: &Graph,
+    from: NodeId,
+    to: NodeId,
+    limits: &Limits,
+    blank: Blank,
+) -> Result<Verdict, Refusal>
+    requires name { blank.name ≡ L.name }
+    requires parts { blank.parts ≡ L.parts }
+    requires some { 0 < blank.parts }
     ensures { Judges (link from to) graph.now.graph limits.now result }
 {
     if !graph.is_live(from) || !graph.is_live(to) {
         return Err(Refusal::NoNode);
     }
-    if has_edge(graph, from, to) {
+    let mut steps = Steps::<L>::new(blank);
+    if graph.has_edge(from, to, &mut steps) {
         return Ok(Verdict::Same);
     }
     if graph.edge_count() < limits.edges {
@@ -58,26 +68,39 @@ fn judge_link(graph: &Graph, from: NodeId, to: NodeId, limits: &Limits) -> Resul
     }
 }
 
-fn judge_unlink(graph: &Graph, from: NodeId, to: NodeId) -> Result<Verdict, Refusal>
+fn judge_unlink<L: Ledger>(
+    graph: &Graph,
+    from: NodeId,
+    to: NodeId,
+    blank: Blank,
+) -> Result<Verdict, Refusal>
+    requires name { blank.name ≡ L.name }
+    requires parts { blank.parts ≡ L.parts }
+    requires some { 0 < blank.parts }
     ensures { (limits : Limits) → Judges (unlink from to) graph.now.graph limits result }
 {
     if !graph.is_live(from) || !graph.is_live(to) {
         return Err(Refusal::NoNode);
     }
-    if has_edge(graph, from, to) {
+    let mut steps = Steps::<L>::new(blank);
+    if graph.has_edge(from, to, &mut steps) {
         Ok(Verdict::New)
     } else {
         Err(Refusal::NoEdge)
     }
 }
 
-fn judge_drop(graph: &Graph, node: NodeId) -> Result<Verdict, Refusal>
+fn judge_drop<L: Ledger>(graph: &Graph, node: NodeId, blank: Blank) -> Result<Verdict, Refusal>
+    requires name { blank.name ≡ L.name }
+    requires parts { blank.parts ≡ L.parts }
+    requires some { 0 < blank.parts }
     ensures { (limits : Limits) → Judges (drop node) graph.now.graph limits result }
 {
     if !graph.is_live(node) {
         return Err(Refusal::NoNode);
     }
-    if is_isolated(graph, node) {
+    let mut steps = Steps::<L>::new(blank);
+    if graph.is_isolated(node, &mut steps) {
         Ok(Verdict::New)
     } else {
         Err(Refusal::InUse)
@@ -104,38 +127,4 @@ fn node_fits(graph: &Graph, limits: &Limits, label: &Text) -> bool
     ensures { result ≡ node_fits graph.now.graph limits.now label.now }
 {
     graph.created() < limits.nodes && label_fits(graph.labels(), limits, label)
-}
-
-fn counted_edge<L: Ledger>(graph: &Graph, from: NodeId, to: NodeId, blank: Blank) -> bool
-    requires name { blank.name ≡ L.name }
-    requires parts { blank.parts ≡ L.parts }
-    requires some { 0 < blank.parts }
-    ensures { result ≡ has_edge graph.now.graph from to }
-{
-    let mut steps = Steps::<L>::new(blank);
-    graph.has_edge(from, to, &mut steps)
-}
-
-/// Whether the edge is present.
-fn has_edge(graph: &Graph, from: NodeId, to: NodeId) -> bool
-    ensures { result ≡ has_edge graph.now.graph from to }
-{
-    counted_edge::<Brand>(graph, from, to, Blank::new(1))
-}
-
-fn counted_isolation<L: Ledger>(graph: &Graph, node: NodeId, blank: Blank) -> bool
-    requires name { blank.name ≡ L.name }
-    requires parts { blank.parts ≡ L.parts }
-    requires some { 0 < blank.parts }
-    ensures { IsTrue result ↔ (is_used graph.now.graph node ≡ false) }
-{
-    let mut steps = Steps::<L>::new(blank);
-    graph.is_isolated(node, &mut steps)
-}
-
-/// Whether no edge begins or ends at the node.
-fn is_isolated(graph: &Graph, node: NodeId) -> bool
-    ensures { IsTrue result ↔ (is_used graph.now.graph node ≡ false) }
-{
-    counted_isolation::<Brand>(graph, node, Blank::new(1))
 }

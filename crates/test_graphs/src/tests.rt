@@ -173,15 +173,17 @@ fn removals(rt: HostRuntime) -> Result<(), Fail> {
     take_apart::<Brand>(&rt, rt.alloc(), Blank::new(1))
 }
 
-// Of two reservations the last one counts, and its label is no label before the node is added.
+// Of the reserved labels the first is taken, and is a label once its node is added. What is cleared isn't taken.
 #[test]
-fn last_room_counts(rt: HostRuntime) -> Result<(), Fail> {
+fn reserved_labels(rt: HostRuntime) -> Result<(), Fail> {
     let alloc = rt.alloc();
     let mut graph = Graph::new(alloc)?;
     let first = Text::from_bytes(alloc, b"first")?;
     let second = Text::from_bytes(alloc, b"second")?;
     graph.reserve_node(alloc, &first)?;
+    graph.clear_room();
     graph.reserve_node(alloc, &second)?;
+    graph.reserve_node(alloc, &first)?;
     assert!(rt; graph.labels().len() == 0 && graph.labels().find(&second).is_none());
     graph.add_node();
     assert!(rt; graph.labels().len() == 1 && graph.labels().find(&first).is_none());
