@@ -1,11 +1,9 @@
 -- A draft whose levels have moved shows a family, and fits the graph after the change once it is settled.
 use Rattle.std.proofs.Common.{◌≡◌, ℕ, zero, suc, ◌+◌, ◌<◌, List, [], ◌∷◌, length, Option, Some, None, IsSome, IsTrue, is_some, refl, sym, ◌∙◌, ap, subst, arith, true, false, Bool, cond, true≢false}
-use Rattle.std.specs.Prelude.{slice_get, option_and_then, position, bytes_eq}
 use Rattle.graph_spec.specs.Graphs.{Graph, IsGraph, label_of}
 use Rattle.graph_spec.specs.Shapes.{Shape, shape_of}
 use Rattle.graph_spec.specs.Members.{at}
 use Rattle.graph_spec.proofs.GraphLaws.{is_shape}
-use Rattle.label_graph.proofs.Positions.{text-at}
 use Rattle.bisim_spec.specs.Bisimilarity.{Bis}
 use Rattle.bisim_spec.specs.Partitions.{IsPartition, Agrees}
 use Rattle.bisim_spec.specs.Reach.{within_distance}

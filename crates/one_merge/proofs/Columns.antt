@@ -1,15 +1,11 @@
 -- Supports that are added to others, one block after another.
 use Rattle.std.proofs.Common.{◌≡◌, ◌≢◌, ℕ, ◌+◌, ◌<◌, ◌≤◌, ◌^◌, List, IsTrue, length, take, refl, sym, ◌∙◌, ap, arith, inl, inr, true, false, Bool, cond}
-use Rattle.std.specs.Prelude.{nat_eq, nat_lt, ◌||◌, ◌&&◌, get_or}
+use Rattle.std.specs.Prelude.{nat_eq, nat_lt, ◌||◌, get_or}
 use Rattle.std.proofs.lemmas.Bool.{cases_lt}
 use Rattle.std.proofs.lemmas.Bool.Decides.{eqb_tells, Decides-ltb, Decides-eqb}
 use Rattle.graph_spec.specs.Members.{has, Lists}
 use Rattle.graph_spec.proofs.MemberLaws.{has_more}
-use Rattle.bisim_spec.specs.declared.sides.Side.{Side}
-use Rattle.bisim_spec.specs.declared.sides.Side.TheVariants.{Parents, Children}
-use Rattle.bisim_spec.specs.SideEdges.{edge_with}
-use Rattle.quotient_draft.specs.Drafts.{SetsPair}
-use Rattle.one_merge.specs.Merged.{support_by, with_column, AddsSupports}
+use Rattle.one_merge.specs.Merged.{with_column}
 
 abbrev pub flipped : (ℕ → ℕ → ℕ) → ℕ → ℕ → ℕ
 flipped s x y = s y x

@@ -26,7 +26,7 @@ pub record AreGroupTargetBlocks (p : List (Option ℕ)) (counts : List (ℕ × �
       → target_block_at target_blocks k ≡ None → BeginsAt keys j own → BeginsAt keys k own → j ≡ k
   pub left : (k own b : ℕ) → target_block_at target_blocks k ≡ Some b → BeginsAt keys k own
       → (IsCountedWhole p counts own → ⊥)
-        ⊎ ((j : ℕ) × (j < length target_blocks) × (target_block_at target_blocks j ≡ None) × BeginsAt keys j own)
+      ⊎ ((j : ℕ) × (j < length target_blocks) × (target_block_at target_blocks j ≡ None) × BeginsAt keys j own)
   pub fresh : (k n b : ℕ) → target_block_at target_blocks k ≡ Some b → at p n ≡ Some b → ⊥
   pub tells : (j k b : ℕ) → target_block_at target_blocks j ≡ Some b → target_block_at target_blocks k ≡ Some b → j ≡ k
 

@@ -1,6 +1,6 @@
 -- What is drafted for a change of the graph of a 1-index (K. Yi, H. He, I. Stanoi and J. Yang, "Incremental Maintenance of XML
 -- Structural Indexes", SIGMOD 2004).
-use Rattle.std.specs.Prelude.{◌≡◌, ◌<◌, ◌≤◌, ◌^◌, ◌↔◌, ℕ, ◌+◌, ◌*◌, Bool, List, Option, [], length, Some, IsFalse, IsTrue}
+use Rattle.std.specs.Prelude.{◌≡◌, ◌<◌, ◌≤◌, ◌^◌, ◌↔◌, ℕ, ◌+◌, ◌*◌, Bool, List, Option, [], Some, IsFalse, IsTrue}
 use Rattle.std.specs.FinSet as set
 use Rattle.graph_spec.specs.Graphs.{Graph, IsGraph}
 use Rattle.graph_spec.specs.Changes.{Change, node, after}

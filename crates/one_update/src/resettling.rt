@@ -20,12 +20,7 @@ use std::alloc::Global;
 use std::sync::ledger::Ledger;
 
 // Adds the block of a node to a list of blocks, where it has one.
-fn add_block(
-    base: &Summary,
-    draft: &Draft,
-    n: NodeId,
-    blocks: &mut Vec<u32>,
-) -> Result<(), Memory>
+fn add_block(base: &Summary, draft: &Draft, n: NodeId, blocks: &mut Vec<u32>) -> Result<(), Memory>
     requires over { IsOver base.now.blocks.block_of base.now.blocks.labels draft.now }
     ensures kept { OnOk result ((b : ℕ) → IsTrue (has blocks.old.items b) → IsTrue (has blocks.new.items b)) }
     ensures there { OnOk result ((b : ℕ) → at (shown_blocks base.now draft.now) n ≡ Some b → IsTrue (has blocks.new.items b)) }
@@ -72,15 +67,7 @@ pub(crate) fn resettle<L: Ledger>(
     ensures cost { steps.new ≤ steps.old + 4 * rounds_cost (shape_of (graph_after after.now)) (reached after.now.before after.now.change) }
 {
     let mut blocks = Vec::new(alloc);
-    split(
-        alloc,
-        index.base,
-        draft,
-        after,
-        targets,
-        &mut blocks,
-        steps,
-    )?;
+    split(alloc, index.base, draft, after, targets, &mut blocks, steps)?;
     add_blocks(index.base, draft, targets, &mut blocks)?;
     merge(alloc, index.base, draft, index.parentless, &blocks)?;
     Ok(())
