@@ -28,7 +28,8 @@ IntoBy at size label_at edge last s c = (k : ℕ) × (x : ℕ) × Among last k x
 abbrev pub ForkedInto : (ℕ → Option State) → List Pair → ℕ → ℕ → Type 0
 ForkedInto at layer s c = (k : ℕ) × Among layer k c × ForkedTo at s k
 
--- Each layer has the pairs from which the end is reached by as many labels, and by no fewer; and the marked pairs are those of the layers.
+-- Each layer has the pairs from which the end is reached by as many labels, and by no fewer; and the marked pairs are
+-- those of the layers.
 pub record IsLayeredBy (at : ℕ → Option State) (size : ℕ) (label_at : ℕ → Option ℕ) (edge : ℕ → ℕ → Bool) (v : ℕ)
     (layers : List (List Pair)) (rows : List BitSet) : Type 0 where
   pub some : 0 < length layers

@@ -70,11 +70,11 @@ fn search<G: Digraph>(
     Ok(found)
 }
 
-/// The least walk that ends in the node and whose word matches, over any graph; None exactly where the node is no answer.
-/// `Memory` comes only where memory runs out, or the graph has 2^32 - 1 numbers. O(m (n + e)) for m tokens and the n nodes
-/// and e edges from which the end is reached by as many labels as the walk has, or fewer, O(m) for each node of the walk,
-/// and a look-up for each label of the expression. It takes a byte for each number of the graph in each state that is
-/// reached, and 8 bytes for each pair of a state and a node that is.
+/// The least walk that ends in the node and whose word matches, over any graph; None exactly where the node is no
+/// answer. `Memory` comes only where memory runs out, or the graph has 2^32 - 1 numbers. O(m (n + e)) for m tokens and
+/// the n nodes and e edges from which the end is reached by as many labels as the walk has, or fewer, O(m) for each
+/// node of the walk, and a look-up for each label of the expression. It takes a byte for each number of the graph in
+/// each state that is reached, and 8 bytes for each pair of a state and a node that is.
 pub fn find_in<G: Digraph>(
     alloc: Global,
     g: &G,
@@ -89,7 +89,7 @@ pub fn find_in<G: Digraph>(
     if g.size() == u32::MAX {
         return Err(Memory);
     }
-    // The labels are distinct, which this call says.
+    // Called for its contract: the labels are distinct.
     let _known = labels.len();
     let mut program = Program::new(alloc)?;
     let start = compile_expr(labels, &mut program, e.tree(), 0)?;
@@ -97,10 +97,10 @@ pub fn find_in<G: Digraph>(
     Ok(found)
 }
 
-/// The least walk that ends in the node and whose word matches: the shortest, and of several of that length the one with
-/// the least first node, then the least second one, and so on. It may have a node more than once. None comes exactly where
-/// the node is no answer. `Memory` comes only where memory runs out. Time and memory are those of `find_in`; it costs one
-/// view.
+/// The least walk that ends in the node and whose word matches: the shortest, and of several of that length the one
+/// with the least first node, then the least second one, and so on. It may have a node more than once. None comes
+/// exactly where the node is no answer. `Memory` comes only where memory runs out. Time and memory are those of
+/// `find_in`; it costs one view.
 pub fn find<L: Ledger>(
     alloc: Global,
     g: &Graph,

@@ -398,7 +398,8 @@ fn goes_on(layers: &[Layer], rows: &[Row], start: u32, size: u32) -> bool
     !layers[layers.len() - 1].pairs().is_empty()
 }
 
-/// The layers up to the first one that has the first state at the place before all nodes, or an empty one where there is none.
+/// The layers up to the first one that has the first state at the place before all nodes, or an empty one where there
+/// is none.
 pub(crate) fn layers_to<G: Digraph>(
     alloc: Global,
     g: &G,

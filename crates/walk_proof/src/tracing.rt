@@ -203,8 +203,8 @@ fn first_node<G: Digraph>(
     Ok(least_first(g, program, sources, layer, &set))
 }
 
-/// The least node that comes next to the place, and to whose pair in the layer one of the states leads. The marked pairs are those of the
-/// layer, as far as one of the states leads to them.
+/// The least node that comes next to the place, and to whose pair in the layer one of the states leads. The marked
+/// pairs are those of the layer, as far as one of the states leads to them.
 fn least_next<G: Digraph>(
     alloc: Global,
     g: &G,
