@@ -51,7 +51,7 @@ nothing_text : extents_text (shape_of_list [] []) (bis (shape_of_list [] []) 1) 
 unfolding digits
 nothing_text = refl
 
--- gone nodes are in no list, also where the relation has them
+-- gone nodes are in no list, also if the relation has them
 
 abbrev gone_labels : List (Option (List ℕ))
 gone_labels = None ∷ Some (codes "b") ∷ None ∷ Some (codes "b") ∷ []
@@ -92,7 +92,7 @@ people_head : head_line 7 7 ≡ codes "nodes 7 edges 7\n"
 unfolding digits
 people_head = refl
 
--- the second person's block begins with that person where levels tell it from the first
+-- the second person's block begins with that person if levels tell it from the first
 second_first : is_first people (bis people 1) 1 ≡ true
 second_first = refl
 

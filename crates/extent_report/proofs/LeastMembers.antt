@@ -21,7 +21,7 @@ use Rattle.graph_spec.proofs.MemberLaws.{has_push}
 use Rattle.extent_report.proofs.RisingLists.{texts_listed, flat_same, none_before}
 use Rattle.std.specs.List.{flat_map, list_any}
 
--- the first number of a list, where it is put behind others
+-- the first number of a list, if it is put behind others
 pub head_pushed : (members list now : List ℕ) (v d : ℕ) → 0 < length members → v ≡ get_or members 0 d → now ≡ list ++ v ∷ [] → (n : ℕ) → has now n ≡ (is_head members n || has list n)
 head_pushed [] list now v d l e is n = absurd (omega (arith, l))
 head_pushed (x ∷ xs) list now v d l e is n = ap (λ l. has l n) is ∙ has_push list v n ∙ ap (λ w. has list n || nat_eq n w) e ∙ swap (has list n) (nat_eq n x)
@@ -71,7 +71,7 @@ least_is p b members shown live rising same is n =
     ap (λ l. is_head l n) is ∙ head_least (is_member p b) members rising same n
     ∙ ap (λ t. t && (is_member p b n && not (any_below n (is_member p b)))) (sym live)
 
--- where one number alone may pass, it decides
+-- if one number alone may pass, it decides
 any_only : (xs : List ℕ) (c : ℕ) (f : ℕ → Bool) → ((b : ℕ) → b ≢ c → f b ≡ false) → list_any f xs ≡ (has xs c && f c)
 any_only [] c f h = refl
 any_only (x ∷ xs) c f h = elim (eqb_tells c x) [
@@ -99,7 +99,7 @@ and_same : (a b : Bool) → (a && (a && b)) ≡ (a && b)
 and_same true b = refl
 and_same false b = refl
 
--- a node are first its block exactly where it is the least member of some block
+-- a node are first its block exactly if it is the least member of some block
 pub first_member_some : (p : Partition) (live : List ℕ) (n : ℕ) → ((b : ℕ) → has live b ≡ is_some (at p.labels b)) → list_any (λ b. first_member_block p b n) live ≡ is_first_member p n
 first_member_some p live n all = by (at p.block_of n) refl
   where

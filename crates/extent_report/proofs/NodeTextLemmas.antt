@@ -1,7 +1,7 @@
 -- Rising numbers from some number on.
 use Rattle.std.proofs.Common.{◌≡◌, ℕ, zero, suc, ◌+◌, ◌<◌, ◌≤◌, true, false, List, [], ◌∷◌, ◌++◌, refl, sym, ap, ◌∙◌, arith, cond, None, Some, map, append-nil}
 use Rattle.std.specs.Prelude.{nat_le, slice_get}
-use Rattle.std.specs.List.{AllByRecursion, AllPairs, join_with_byte}
+use Rattle.std.specs.List.{AllByRecursion, AllPairs, flat_map, join_with_byte}
 use Rattle.std.specs.List.Sorted.{IsStrictlyIncreasing}
 use Rattle.std.proofs.lemmas.Bool.Decides.{nat_tests}
 use Rattle.std.proofs.lemmas.List.Elements.{recursion_from_All}
@@ -91,3 +91,11 @@ line_by_first members inc n e =
     let whole : members ≡ n ∷ b.0 = sym (from_zero members) ∙ b.1 in
     let rest : members_from members (n + 1) ≡ b.0 = next members (rises members (AllPairs-from_increasing members inc)) 0 n b.0 b.1 in
     ap nodes_line whole ∙ ap (λ t. t ++ 10 ∷ []) (adjacent n b.0) ∙ ap (λ r. (node_word n ++ others_text r) ++ 10 ∷ []) (sym rest)
+
+others_joined : (ns : List ℕ) → flat_map (λ n. 32 ∷ node_word n) ns ≡ others_text ns
+others_joined [] = refl
+others_joined (n ∷ ns) = ap (λ t. 32 ∷ (node_word n ++ t)) (others_joined ns)
+
+-- the line of nodes in any order
+pub line_in_order : (n : ℕ) (ns : List ℕ) → nodes_line (n ∷ ns) ≡ (node_word n ++ flat_map (λ m. 32 ∷ node_word m) ns) ++ 10 ∷ []
+line_in_order n ns = ap (λ t. t ++ 10 ∷ []) (adjacent n ns ∙ ap (λ t. node_word n ++ t) (sym (others_joined ns)))

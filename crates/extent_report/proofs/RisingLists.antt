@@ -50,7 +50,7 @@ not_head x xs k l off = elim (cases_Bool (has (x ∷ xs) k)) [
   | inr none ↦ none
 ]
 
--- what is written for the numbers from one on, where nothing is for those that aren't in the list
+-- what is written for the numbers from one on, if nothing is for those that aren't in the list
 texts_on : (f : ℕ → List ℕ) (n : ℕ) (xs : List ℕ) (from : ℕ) → IsStrictlySortedBy nat_cmp xs → from ≤ n → ((k : ℕ) → has xs k ≡ true → (from ≤ k) × (k < n))
     → ((k : ℕ) → from ≤ k → has xs k ≡ false → f k ≡ []) → texts_below n f ≡ texts_below from f ++ flat_map f xs
 unfolding IsStrictlySortedBy

@@ -1,4 +1,4 @@
--- The answer of a query, as it is printed. Each printed line ends with LF (10).
+-- The answer of a query, and a walk, as they are printed. Each printed line ends with LF (10).
 use Rattle.std.specs.Prelude.{ℕ, Bool, List, [], ◌∷◌, ◌++◌, length, codes, decimal, map, if◌then◌else◌}
 use Rattle.std.specs.List.{join_with_byte}
 use Rattle.graph_spec.specs.Words.{node_word}
@@ -11,7 +11,7 @@ how_text Data = []
 how_text (Exact n) = codes " candidates " ++ decimal n ++ codes " exact"
 how_text (Checked n) = codes " candidates " ++ decimal n ++ codes " checked"
 
--- the nodes, parted by one space; no line where there are none
+-- the nodes, parted by one space; no line if there are none
 abbrev pub nodes_line : List ℕ → List ℕ
 nodes_line [] = []
 nodes_line (n ∷ ns) = join_with_byte 32 (map node_word (n ∷ ns)) ++ 10 ∷ []
@@ -20,6 +20,10 @@ nodes_line (n ∷ ns) = join_with_byte 32 (map node_word (n ∷ ns)) ++ 10 ∷ [
 abbrev pub answer_line : How → ℕ → List ℕ
 answer_line how count = codes "answers " ++ decimal count ++ how_text how ++ 10 ∷ []
 
--- that line, and where it is asked for the answers behind it
+-- that line, and if it is asked for the answers behind it
 abbrev pub answer_text : How → Bool → List ℕ → List ℕ
 answer_text how with_nodes nodes = answer_line how (length nodes) ++ (if with_nodes then nodes_line nodes else [])
+
+-- how many nodes the walk has, and these in its order behind that line
+abbrev pub walk_text : List ℕ → List ℕ
+walk_text nodes = codes "walk " ++ decimal (length nodes) ++ 10 ∷ nodes_line nodes

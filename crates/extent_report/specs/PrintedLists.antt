@@ -25,7 +25,7 @@ pub record IsSizeLine (g : Graph) (kept : KeptIndexes) (via : Via) (line : List 
   pub shows : ShowsIndex g kept via test
   pub line_is : line ≡ size_line via (block_total (shape_of g) test) (adjacent_total (shape_of g) test)
 
--- what is listed of the size of an index: its line where it is kept, else nothing
+-- what is listed of the size of an index: its line if it is kept, else nothing
 abbrev pub ShowsSize : Graph → KeptIndexes → Via → List ℕ → Type 0
 ShowsSize g kept via text = IsSizeLine g kept via text ⊎ ((is_kept kept via ≡ false) × (text ≡ []))
 

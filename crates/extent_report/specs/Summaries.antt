@@ -27,7 +27,7 @@ LabelsHaveTexts texts p = (b l : ℕ) → at p.labels b ≡ Some l → l < lengt
 abbrev pub line_of : List (List ℕ) → Partition → ℕ → List ℕ
 line_of texts p n = block_line (shape_of_blocks texts p) (together p.block_of) n
 
--- the same, where the node is the first of its block
+-- the same, if the node is the first of its block
 abbrev pub line_at : List (List ℕ) → Partition → ℕ → List ℕ
 line_at texts p n = if is_first (shape_of_blocks texts p) (together p.block_of) n then line_of texts p n else []
 
@@ -36,7 +36,7 @@ pub record IsSummaryOf (g : Graph) (r : ℕ → ℕ → Bool) (q : Quotient) : T
   pub fits : ViewFits g (view_of q)
   pub agrees : Agrees (shape_of g) q.blocks.block_of (λ u v. IsTrue (r u v))
 
--- The text lists the blocks of the relation: whatever graph and relation the summary is of, where these are the texts
+-- The text lists the blocks of the relation: whatever graph and relation the summary is of, if these are the texts
 -- of its labels.
 abbrev pub ListsBlocks : List (List ℕ) → Quotient → List ℕ → Type 0
 ListsBlocks texts q text = (g : Graph) (r : ℕ → ℕ → Bool) → IsSummaryOf g r q → g.seen ≡ texts → text ≡ extents_text (shape_of g) r

@@ -54,7 +54,7 @@ fn push_others(out: &mut String, nodes: &Bits, first: NodeId) -> Result<(), Memo
     Ok(())
 }
 
-// Appends the line of the nodes, where there are any.
+// Appends the line of the nodes, if there are any.
 fn push_nodes(out: &mut String, nodes: &Bits) -> Result<(), Memory>
     ensures { OnOk result (string_bytes out.new ≡ string_bytes out.old ++ nodes_line nodes.now.members) }
 {
@@ -72,9 +72,9 @@ fn push_nodes(out: &mut String, nodes: &Bits) -> Result<(), Memory>
 }
 
 /// The answer of a query: `answers A` of the graph itself, and of an index `answers A candidates C exact` or `answers A
-/// candidates C checked`, with the numbers of answers and of candidates. Where `with_nodes` is true and there are
+/// candidates C checked`, with the numbers of answers and of candidates. If `with_nodes` is true and there are
 /// answers, a second line has the nodes, rising, as `n4 n9`. Each line ends with LF. O(s) for a set of numbers below s
-/// where nodes are written, else O(1). It takes the memory of the text.
+/// if nodes are written, else O(1). It takes the memory of the text.
 pub fn answer_text(alloc: Global, answer: &Answer, with_nodes: bool) -> Result<Text, Memory>
     ensures { IfOk result (λ t. t ≡ printed.answer_text answer.now.how with_nodes answer.now.nodes.members) }
 {

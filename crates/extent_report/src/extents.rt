@@ -51,7 +51,7 @@ fn push_block(
     Ok(())
 }
 
-// Appends the line of the node's block, where the node is its first.
+// Appends the line of the node's block, if the node is its first.
 fn push_led(out: &mut String, chains: &Chains<'_>, labels: &Labels, n: NodeId) -> Result<(), Memory>
     requires { LabelsHaveTexts labels.now.texts chains.now }
     ensures { OnOk result (string_bytes out.new ≡ string_bytes out.old ++ line_at labels.now.texts chains.now n) }
@@ -122,10 +122,10 @@ fn text_of(alloc: Global, summary: &Summary, labels: &Labels) -> Result<Text, Me
 /// members, with its label and its members, rising, as in `a n0 n2`. Each line ends with LF. A block
 /// without members has no line.
 ///
-/// O(m + s + t) for m members, block numbers below s and t bytes of text where at least half of the node numbers that
+/// O(m + s + t) for m members, block numbers below s and t bytes of text if at least half of the node numbers that
 /// were allocated are those of members, since there is no sort then; it takes 8 bytes for each of these node numbers
 /// and block numbers, plus the text. Else the members are sorted: O(b + m log m + t) for b blocks, however many blocks
-/// there once were; where each block has a member, as those of an index have, that is O(m log m + t). It takes 4 to 8
+/// there once were; if each block has a member, as those of an index have, that is O(m log m + t). It takes 4 to 8
 /// bytes for each block and for each member of the largest one, plus the text.
 pub fn extents_text(alloc: Global, summary: &Summary, labels: &Labels) -> Result<Text, Memory>
     requires labelled { LabelsHaveTexts labels.now.texts summary.now.blocks }

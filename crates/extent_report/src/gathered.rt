@@ -2,28 +2,17 @@
 ghost use Rattle.std.specs.Prelude.{◌≡◌, ◌++◌, ◌∷◌, ℕ, true, IfOk, OnOk, length, string_bytes};
 ghost use Rattle.std.specs.List.{flat_map};
 ghost use Rattle.graph_spec.specs.Members.{has};
-ghost use Rattle.graph_spec.specs.Words.{node_word};
 ghost use Rattle.bisim_spec.specs.Tests.{together};
 ghost use Rattle.extent_report.specs.ListedBlocks as printed;
 ghost use Rattle.extent_report.specs.Summaries.{shape_of_blocks, LabelsHaveTexts, line_at};
 ghost use Rattle.extent_report.specs.MemberChains.{is_first_member};
 
 use crate::is_first_member::{fill_members, first_members};
-use crate::output::{end_line, push_count, push_node};
+use crate::output::{end_line, push_count, push_nodes};
 use label_graph::{Digraph, Labels};
 use px_base::{Memory, NodeId, Text};
 use quotient::Summary;
 use std::alloc::Global;
-
-// Appends nodes.
-fn push_nodes(out: &mut String, nodes: &[NodeId]) -> Result<(), Memory>
-    ensures { OnOk result (string_bytes out.new ≡ string_bytes out.old ++ flat_map (λ n. 32 ∷ node_word n) nodes.now) }
-{
-    for n in nodes {
-        push_node(out, *n)?;
-    }
-    Ok(())
-}
 
 // Appends the line of the block of which the node is the least member. `members` is memory to be reused.
 fn push_block(

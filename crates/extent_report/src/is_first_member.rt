@@ -34,7 +34,7 @@ pub(crate) fn fill_members(list: &mut Vec<NodeId>, summary: &Summary, b: u32) ->
     Ok(())
 }
 
-// Puts the first of the members behind the others, where there is one.
+// Puts the first of the members behind the others, if there is one.
 fn push_head(list: &mut Vec<NodeId>, members: &[NodeId]) -> Result<(), Memory>
     ensures { OnOk result ((n : ℕ) → has list.new.items n ≡ (is_head members.now n || has list.old.items n)) }
 {
@@ -45,7 +45,7 @@ fn push_head(list: &mut Vec<NodeId>, members: &[NodeId]) -> Result<(), Memory>
     Ok(())
 }
 
-// Puts the least member of a block behind the others, where it has members. `members` is memory to be reused.
+// Puts the least member of a block behind the others, if it has members. `members` is memory to be reused.
 fn push_least(
     list: &mut Vec<NodeId>,
     members: &mut Vec<NodeId>,

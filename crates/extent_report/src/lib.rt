@@ -1,4 +1,4 @@
-//! What is printed of an index and of answers: the members of its blocks, its size, and the nodes that answer a query.
+//! What is printed of an index and of answers: the members of its blocks, its size, the nodes that answer a query, and a walk.
 #![tactic(auto)]
 
 mod answers;
@@ -8,7 +8,9 @@ mod gathered;
 mod is_first_member;
 mod output;
 mod sizes;
+mod walks;
 
 pub use answers::answer_text;
 pub use extents::extents_text;
 pub use sizes::{sizes_head, sizes_line};
+pub use walks::walk_text;

@@ -1,5 +1,6 @@
 // Pieces of what is printed.
 ghost use Rattle.std.specs.Prelude.{◌≡◌, ◌++◌, ◌∷◌, [], OnOk, codes, decimal, string_bytes};
+ghost use Rattle.std.specs.List.{flat_map};
 ghost use Rattle.graph_spec.specs.Words.{node_word};
 
 use itoa::Buffer;
@@ -22,6 +23,16 @@ pub(crate) fn push_node(out: &mut String, node: NodeId) -> Result<(), Memory>
     let mut buffer = Buffer::new();
     out.push_str(" n")?;
     out.push_str(buffer.format(node))?;
+    Ok(())
+}
+
+/// Appends nodes, each behind a space.
+pub(crate) fn push_nodes(out: &mut String, nodes: &[NodeId]) -> Result<(), Memory>
+    ensures { OnOk result (string_bytes out.new ≡ string_bytes out.old ++ flat_map (λ n. 32 ∷ node_word n) nodes.now) }
+{
+    for n in nodes {
+        push_node(out, *n)?;
+    }
     Ok(())
 }
 
