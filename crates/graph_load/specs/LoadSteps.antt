@@ -98,7 +98,8 @@ LoadsThen limits next r text (Err n) o = o ≡ limit n
 
 -- a line, of that number, is put behind those that wait where it spells a triple
 abbrev pub AddsLine : List ℕ → ℕ → List Waiting → List Waiting → Next → Type 0
-AddsLine text n old new Lines = (Empty text × (new ≡ old)) ⊎ ((t : Triple) × Spells text t × (new ≡ old ++ record { triple = hashed t; line = n } ∷ []))
+AddsLine text n old new Lines =
+    (Empty text × (new ≡ old)) ⊎ ((t : Triple) × Spells text t × (new ≡ old ++ record { triple = hashed t; line = n } ∷ []))
 AddsLine text n old new End = ⊥
 AddsLine text n old new (Syntax m) = (m ≡ n) × (new ≡ old) × (¬ Empty text) × ((t : Triple) → Spells text t → ⊥)
 AddsLine text n old new (Limit m) = ⊥
@@ -107,7 +108,8 @@ AddsLine text n old new (Limit m) = ⊥
 -- from those that waited before and the text that was left before.
 abbrev pub ReadsLines : ReaderState → List Waiting → Option (List ℕ) → Next → ReaderState → List Waiting → Option (List ℕ) → Type 0
 ReadsLines r waited before next q waits after =
-    (limits : Limits) (l : LoadState) (o : Outcome) → LoadsThen limits next q after (with_all limits waits l) o → LoadsThen limits Lines r before (with_all limits waited l) o
+    (limits : Limits) (l : LoadState) (o : Outcome)
+    → LoadsThen limits next q after (with_all limits waits l) o → LoadsThen limits Lines r before (with_all limits waited l) o
 
 -- more of the text is taken
 abbrev pub IsNearer : ReaderState → ReaderState → Type 0
@@ -129,7 +131,8 @@ pub record ReadsOn {S : Type 0} (left : S → Option (List ℕ)) (is_open : S �
 -- the triples that waited are loaded
 pub record AreLoaded (limits : Limits) (waited : List Waiting) (old new : Loader) : Type 0 where
   pub sound : IsSoundLoader new
-  pub does : (triples : List Triple) → Holds old triples → (more : List Triple) × Holds new more × (with_all limits waited (load_state old triples) ≡ Ok (load_state new more))
+  pub does : (triples : List Triple) → Holds old triples
+      → (more : List Triple) × Holds new more × (with_all limits waited (load_state old triples) ≡ Ok (load_state new more))
 
 -- a triple is refused, and the number of its line decides
 abbrev pub Stops : Limits → Waiting → Loader → Outcome → Type 0
@@ -137,4 +140,5 @@ Stops limits w r o = (o ≡ limit w.line) × IsUntaken limits (triple_of w.tripl
 
 -- one of the triples that waited is
 abbrev pub OneStops : Limits → List Waiting → Loader → Outcome → Type 0
-OneStops limits waited r o = (triples : List Triple) → Holds r triples → (n : ℕ) × (o ≡ limit n) × (with_all limits waited (load_state r triples) ≡ Err n)
+OneStops limits waited r o =
+    (triples : List Triple) → Holds r triples → (n : ℕ) × (o ≡ limit n) × (with_all limits waited (load_state r triples) ≡ Err n)

@@ -175,11 +175,11 @@ impl Loader {
     }
 
     fn child(&self, hint: Hint) -> Option<NodeId> {
-        some_child(&self.graph, self.terms.number(hint)?)
+        some_child::<Brand>(&self.graph, self.terms.number(hint)?, Blank::new(1))
     }
 
     fn parent(&self, hint: Hint) -> Option<NodeId> {
-        some_parent(&self.graph, self.terms.number(hint)?)
+        some_parent::<Brand>(&self.graph, self.terms.number(hint)?, Blank::new(1))
     }
 }
 
@@ -192,7 +192,7 @@ fn first_byte(term: &Term) -> Option<u8> {
     }
 }
 
-fn counted_child<L: Ledger>(graph: &Graph, n: NodeId, blank: Blank) -> Option<NodeId>
+fn some_child<L: Ledger>(graph: &Graph, n: NodeId, blank: Blank) -> Option<NodeId>
     requires name { blank.name ≡ L.name }
     requires parts { blank.parts ≡ L.parts }
     requires some { 0 < blank.parts }
@@ -201,19 +201,11 @@ fn counted_child<L: Ledger>(graph: &Graph, n: NodeId, blank: Blank) -> Option<No
     graph.any_child(n, &mut steps)
 }
 
-fn counted_parent<L: Ledger>(graph: &Graph, n: NodeId, blank: Blank) -> Option<NodeId>
+fn some_parent<L: Ledger>(graph: &Graph, n: NodeId, blank: Blank) -> Option<NodeId>
     requires name { blank.name ≡ L.name }
     requires parts { blank.parts ≡ L.parts }
     requires some { 0 < blank.parts }
 {
     let mut steps = Steps::<L>::new(blank);
     graph.any_parent(n, &mut steps)
-}
-
-fn some_child(graph: &Graph, n: NodeId) -> Option<NodeId> {
-    counted_child::<Brand>(graph, n, Blank::new(1))
-}
-
-fn some_parent(graph: &Graph, n: NodeId) -> Option<NodeId> {
-    counted_parent::<Brand>(graph, n, Blank::new(1))
 }
