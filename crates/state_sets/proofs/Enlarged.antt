@@ -1,12 +1,12 @@
 -- How lists of states grow, and when they are closed.
-use Rattle.std.proofs.Common.{◌≡◌, ℕ, ◌+◌, ◌<◌, ◌≤◌, ◌⊎◌, inl, inr, List, [], ◌∷◌, ◌++◌, length, take, get_or, refl, sym, ap, ◌∙◌, subst, arith, Option, IsTrue, append-nil, append_assoc}
-use Rattle.std.proofs.lemmas.Bool.{cases_lt, cases_eq}
+use Rattle.std.proofs.Common.{◌≡◌, ℕ, ◌+◌, ◌<◌, ◌≤◌, inl, inr, List, [], ◌∷◌, ◌++◌, length, take, get_or, refl, sym, ap, ◌∙◌, subst, arith, Option, IsTrue, append-nil, append_assoc}
+use Rattle.std.proofs.lemmas.Bool.{cases_eq}
 use Rattle.graph_spec.specs.Members.{has}
 use Rattle.path_automaton.specs.declared.state.State.{State}
 use Rattle.path_automaton.specs.NewMarks.{Enters}
 use Rattle.walk_spec.specs.Ways.{Takes}
 use Rattle.state_sets.specs.StateSets.{Enlarges, ForkedTo, here, onward, AreClosed, Behind}
-use Rattle.state_sets.proofs.Lists.{none_there, has_left, has_right, has_cases, has_one, one_has, has_at, place_of, get_prefix, take_cases, take_grows, take_last}
+use Rattle.state_sets.proofs.Lists.{none_there, has_left, has_cases, one_has, has_at, place_of, get_prefix, take_cases, take_grows, take_last}
 
 pub enlarges_none : (P : ℕ → Type 0) (xs : List ℕ) → Enlarges P xs xs
 enlarges_none P xs = record { front = ([], sym (append-nil xs)); fresh = λ s h. inl h }

@@ -1,10 +1,10 @@
 -- What a set of states says of the walks that are read.
-use Rattle.std.proofs.Common.{◌≡◌, ℕ, ◌<◌, ◌≤◌, ◌⊎◌, inl, inr, Bool, List, [], ◌∷◌, length, refl, sym, ap, ◌∙◌, subst, arith, Option, Some, None, IsTrue, drop}
+use Rattle.std.proofs.Common.{◌≡◌, ℕ, Bool, List, [], ◌∷◌, refl, sym, ◌∙◌, subst, Option, Some, None, IsTrue}
 use Rattle.graph_spec.specs.Members.{has}
 use Rattle.path_automaton.specs.declared.state.State.{State}
 use Rattle.path_automaton.specs.declared.state.State.TheVariants.{End, Stuck, Any, Label, Fork}
 use Rattle.path_automaton.specs.ProductSteps.{leads}
-use Rattle.path_automaton.specs.NewMarks.{Enters, IsPlace}
+use Rattle.path_automaton.specs.NewMarks.{Enters}
 use Rattle.walk_spec.specs.Ways.{Takes, Way, done, enter, take}
 use Rattle.state_sets.specs.StateSets.{ForkedTo, here, onward, AreClosed, Behind}
 

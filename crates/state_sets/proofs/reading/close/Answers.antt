@@ -1,10 +1,10 @@
-use Rattle.std.proofs.Common.{◌≡◌, ℕ, ◌<◌, ◌≤◌, length, get_or, sym, ap, ◌∙◌, subst, IsTrue, arith}
+use Rattle.std.proofs.Common.{◌≡◌, ℕ, ◌<◌, ◌≤◌, length, get_or, sym, ap, ◌∙◌, subst, IsTrue}
 use Rattle.graph_spec.specs.Members.{has}
 use Rattle.path_automaton.specs.Programs.{state_at}
 use Rattle.path_automaton.specs.NewMarks.{Enters}
-use Rattle.state_sets.specs.StateSets.{Enlarges, AreClosed}
+use Rattle.state_sets.specs.StateSets.{Enlarges}
 use Rattle.state_sets.proofs.Lists.{has_at}
-use Rattle.state_sets.proofs.Enlarged.{IsClosing, closing_next, closing_ends}
+use Rattle.state_sets.proofs.Enlarged.{closing_next, closing_ends}
 use Rattle.state_sets.proofs.reading.close.Goals as goal
 
 pub enter_fork-requires-clause-state : goal.enter_fork-requires-clause-state

@@ -1,4 +1,4 @@
-use Rattle.std.proofs.Common.{◌≡◌, ℕ, Some, IsTrue}
+use Rattle.std.proofs.Common.{Some, IsTrue}
 use Rattle.std.proofs.lemmas.Result.{on_ok_weaker}
 use Rattle.graph_spec.specs.Members.{has}
 use Rattle.path_automaton.specs.Programs.{state_at}

@@ -1,4 +1,4 @@
-use Rattle.std.proofs.Common.{◌≡◌, ℕ, ◌∙◌, Some, length, get_or, IsTrue}
+use Rattle.std.proofs.Common.{ℕ, ◌∙◌, Some, get_or}
 use Rattle.path_automaton.specs.Programs.{state_at}
 use Rattle.state_sets.proofs.Lists.{has_at}
 use Rattle.state_sets.proofs.Enlarged.{behind_next, behind_entered}

@@ -1,4 +1,4 @@
-use Rattle.std.proofs.Common.{◌≡◌, ℕ, Some, length, take, IsTrue}
+use Rattle.std.proofs.Common.{◌≡◌, ℕ, Some, length, IsTrue}
 use Rattle.graph_spec.specs.Members.{has}
 use Rattle.path_automaton.specs.Programs.{state_at}
 use Rattle.state_sets.specs.StateSets.{Enlarges}
