@@ -45,8 +45,7 @@ module _ (at : ℕ → Option State) (size : ℕ) (label_at : ℕ → Option ℕ
     step_on s c ms (enter s1 k c1 ms1 e w) h x nodes same = step_on k c1 ms1 w (closed s1 k h e) x nodes same
     step_on s c ms (take s1 k c1 y ms1 l t w) h x nodes same =
         let head : y ≡ x = cc in
-        let tail : ms1 ≡ nodes = cc in
-        (
+        let tail : ms1 ≡ nodes = cc in (
           k,
           subst (λ z. IsTrue (leads size label_at edge c1 z)) head l,
           (s1, h, subst (λ z. Takes label_at (at s1) z k) head t),

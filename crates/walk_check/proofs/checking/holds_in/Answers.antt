@@ -13,8 +13,7 @@ pub returns-then-not-is_node : goal.returns-then-not-is_node
 returns-then-not-is_node g c =
     let texts = c.args.labels.now.texts in
     let label_at = g.G.Digraph.label_at c.args.g.now in
-    let shape = shape_by texts (g.G.Digraph.span c.args.g.now) label_at (g.G.Digraph.edge c.args.g.now) in
-    (
+    let shape = shape_by texts (g.G.Digraph.span c.args.g.now) label_at (g.G.Digraph.edge c.args.g.now) in (
       λ e. absurd (true≢false (sym e)),
       λ s. absurd (true≢false (sym (end_node texts label_at shape c.args.e.now c.args.v c.args.walk.now refl s) ∙ sym c.is_node.ensures ∙ c.if-not-is_node.true)),
     )
@@ -34,8 +33,7 @@ returns g c =
     let stands = subst (λ e. Stands texts at e low start 0) c.tree.ensures c.in_ok-start.ensures.stands in
     let below = g.met.G.Digraph.below c.args.g.now c.args.v (sym c.is_node.ensures ∙ c.if-not-is_node.false) in
     let nodes = c.args.walk.now in
-    let both = c.in_ok-right.ensures in
-    (
+    let both = c.in_ok-right.ensures in (
       λ e. way_shows texts at size label_at edge c.args.v tabled c.args.e.now low start stands end nodes below (both.0 e),
       λ s. both.1 (shows_way texts at size label_at edge c.args.v tabled c.args.e.now low start stands end nodes s),
     )

@@ -29,8 +29,7 @@ returns-then-not-leads g c =
     let label_at = g.G.Digraph.label_at c.args.g.now in
     let edge = g.G.Digraph.edge c.args.g.now in
     let walk = c.args.walk.now in
-    let i = c.nodes.i in
-    (
+    let i = c.nodes.i in (
       λ e. absurd (true≢false (sym e)),
       λ w. absurd (reading_stops at size label_at edge c.args.v c.args.start walk c.nodes.states.1 c.nodes.place (get_or walk i 0) (drop i walk) (drop (i + 1) walk) c.nodes.invariant.reading
           (drop_more walk i 0 c.nodes-test.true) (λ h. true≢false (sym h ∙ sym c.leads.ensures.leads ∙ c.if-not-leads.true)) w),
@@ -64,13 +63,12 @@ returns-then-place-v g c =
     let walk = c.args.walk.now in
     let i = c.nodes.i in
     let past = drop_all i walk c.nodes-test.false in
-    let same = c.list-then-place-v.ensures.list in
-    (
+    let same = c.list-then-place-v.ensures.list in (
       λ e. let k = c.has_end.ensures.yes e in
-      reading_ended at size label_at edge c.args.v c.args.start walk c.nodes.states.1 c.nodes.place k.0 (drop i walk) c.nodes.invariant.reading past c.if-place-v.true
-      (subst (λ xs. IsTrue (has xs k.0)) same k.1) k.2,
+          reading_ended at size label_at edge c.args.v c.args.start walk c.nodes.states.1 c.nodes.place k.0 (drop i walk) c.nodes.invariant.reading past c.if-place-v.true
+          (subst (λ xs. IsTrue (has xs k.0)) same k.1) k.2,
       λ w. let k = reading_ends at size label_at edge c.args.v c.args.start walk c.nodes.states.1 c.nodes.place (drop i walk) c.nodes.invariant.reading past w in
-      c.has_end.ensures.none k.1 (subst (λ xs. IsTrue (has xs k.1)) (sym same) k.2) k.3,
+          c.has_end.ensures.none k.1 (subst (λ xs. IsTrue (has xs k.1)) (sym same) k.2) k.3,
     )
 
 pub returns-else-place-v : goal.returns-else-place-v
@@ -80,8 +78,7 @@ returns-else-place-v g c =
     let label_at = g.G.Digraph.label_at c.args.g.now in
     let edge = g.G.Digraph.edge c.args.g.now in
     let walk = c.args.walk.now in
-    let i = c.nodes.i in
-    (
+    let i = c.nodes.i in (
       λ e. absurd (c.if-place-v.false (eqb-true c.nodes.place c.args.v e)),
       λ w. absurd (c.if-place-v.false (reading_ends at size label_at edge c.args.v c.args.start walk c.nodes.states.1 c.nodes.place (drop i walk) c.nodes.invariant.reading (drop_all i walk c.nodes-test.false) w).0),
     )
