@@ -91,15 +91,15 @@ module _ (at : ℕ → Option State) where
 
   module _ (label_at : ℕ → Option ℕ) (from : List ℕ) (c : ℕ) where
     -- behind the label from the first i states
-    abbrev pub Behind_of : ℕ → ℕ → Type 0
-    Behind_of i k = Behind at label_at (take i from) c k
+    abbrev pub BehindFirst : ℕ → ℕ → Type 0
+    BehindFirst i k = Behind at label_at (take i from) c k
 
-    pub behind_next : (states states2 states3 : List ℕ) (i : ℕ) → i < length from → Enlarges (Behind_of i) states states2 → Enlarges (Takes label_at (at (get_or from i 0)) c) states2 states3
-        → Enlarges (Behind_of (i + 1)) states states3
+    pub behind_next : (states states2 states3 : List ℕ) (i : ℕ) → i < length from → Enlarges (BehindFirst i) states states2 → Enlarges (Takes label_at (at (get_or from i 0)) c) states2 states3
+        → Enlarges (BehindFirst (i + 1)) states states3
     behind_next states states2 states3 i within a b =
-        enlarges_then (Behind_of (i + 1)) states states2 states3
-        (enlarges_as (Behind_of i) (Behind_of (i + 1)) states states2 (λ k h. (h.0, more h.0 h.1, h.2)) a)
-        (enlarges_as (Takes label_at (at (get_or from i 0)) c) (Behind_of (i + 1)) states2 states3 (λ k h. (get_or from i 0, last, h)) b)
+        enlarges_then (BehindFirst (i + 1)) states states2 states3
+        (enlarges_as (BehindFirst i) (BehindFirst (i + 1)) states states2 (λ k h. (h.0, more h.0 h.1, h.2)) a)
+        (enlarges_as (Takes label_at (at (get_or from i 0)) c) (BehindFirst (i + 1)) states2 states3 (λ k h. (get_or from i 0, last, h)) b)
       where
         more : (s : ℕ) → IsTrue (has (take i from) s) → IsTrue (has (take (i + 1) from) s)
         more s h = take_grows from i s h
@@ -108,7 +108,7 @@ module _ (at : ℕ → Option State) where
         last = take_last from i within
 
     pub behind_entered : (states2 states3 : List ℕ) (i : ℕ) → i < length from → Enlarges (Takes label_at (at (get_or from i 0)) c) states2 states3
-        → ((k : ℕ) → Behind_of i k → IsTrue (has states2 k)) → ((k : ℕ) → Takes label_at (at (get_or from i 0)) c k → IsTrue (has states3 k)) → (k : ℕ) → Behind_of (i + 1) k → IsTrue (has states3 k)
+        → ((k : ℕ) → BehindFirst i k → IsTrue (has states2 k)) → ((k : ℕ) → Takes label_at (at (get_or from i 0)) c k → IsTrue (has states3 k)) → (k : ℕ) → BehindFirst (i + 1) k → IsTrue (has states3 k)
     behind_entered states2 states3 i within b old new k h = elim (take_cases from i within h.0 h.1) [
       | inl before ↦ stays (Takes label_at (at (get_or from i 0)) c) states2 states3 b k (old k (h.0, before, h.2))
       | inr same ↦ new k (subst (λ s. Takes label_at (at s) c k) same h.2)

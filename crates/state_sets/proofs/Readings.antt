@@ -86,7 +86,7 @@ module _ (at : ℕ → Option State) (size : ℕ) (label_at : ℕ → Option ℕ
         r.back f.1.0 f.1.1 (subst (λ x. Reads f.1.0 place x) (sym same) (take f.1.0 f.0 place node left2 led (takes_by label_at (at f.1.0) l node f.0 label f.1.2) b));
   }
 
-  -- where one isn't led on, the walk isn't read
+  -- if the next node doesn't come next to the place, the walk isn't read
   pub reading_stops : (start : ℕ) (walk states : List ℕ) (place node : ℕ) (left left2 : List ℕ) → IsReading start walk states place left → left ≡ node ∷ left2
       → (IsTrue (leads size label_at edge place node) → ⊥) → Reads start size walk → ⊥
   reading_stops start walk states place node left left2 r same led w =

@@ -11,7 +11,7 @@ labelled None w = None
 labelled (Some t) None = None
 labelled (Some t) (Some w) = Some (t ∷ w)
 
--- the labels of the nodes, and none where some number is no node
+-- the labels of the nodes, and none if some number is no node
 abbrev pub word_of : Shape → List ℕ → Option Word
 word_of s [] = Some []
 word_of s (u ∷ nodes) = labelled (s.label u) (word_of s nodes)

@@ -18,7 +18,7 @@ Takes label_at (Some (Label l k)) c next = (next ≡ k) × (label_at c ≡ Some 
 Takes label_at (Some (Fork a b)) c next = ⊥
 
 -- From the state at the place on the nodes are read, each of which comes next to the one before. Behind the last, which
--- is v, a word ends; where no node is left, the place itself is v.
+-- is v, a word ends; if no node is left, the place itself is v.
 pub data Way (at : ℕ → Option State) (size : ℕ) (label_at : ℕ → Option ℕ) (edge : ℕ → ℕ → Bool) (v : ℕ) : ℕ → ℕ → List ℕ → Type 0 where
   done : (s : ℕ) → at s ≡ Some End → Way at size label_at edge v s v []
   enter : (s k c : ℕ) (nodes : List ℕ) → Enters (at s) k → Way at size label_at edge v k c nodes → Way at size label_at edge v s c nodes

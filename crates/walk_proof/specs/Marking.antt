@@ -1,0 +1,45 @@
+-- Marked pairs of a state and a place, and lists of pairs.
+use Rattle.std.specs.Prelude.{ℕ, ◌≡◌, ◌<◌, ◌⊎◌, ◌++◌, ◌||◌, nat_eq, true, false, List, [], ◌∷◌, length, slice_index_or, IsTrue}
+use Rattle.graph_spec.specs.Members.{has}
+use Rattle.px_base.specs.BitSets.{BitSet}
+use Rattle.walk_proof.specs.declared.marks.Pair.{Pair}
+
+-- the marks of a state
+abbrev pub row : List BitSet → ℕ → BitSet
+row rows s = slice_index_or rows s (record { size = 0; members = [] })
+
+-- the state is marked at the place
+abbrev pub IsMarked : List BitSet → ℕ → ℕ → Type 0
+IsMarked rows s c = IsTrue (has (row rows s).members c)
+
+-- the state at the place is listed
+abbrev pub Among : List Pair → ℕ → ℕ → Type 0
+Among [] s c = ⊥
+Among (p ∷ ps) s c = ((p.state ≡ s) × (p.place ≡ c)) ⊎ Among ps s c
+
+-- there is a row of this width for each of so many states
+pub record HasRoom (states width : ℕ) (rows : List BitSet) : Type 0 where
+  pub count : length rows ≡ states
+  pub wide : (s : ℕ) → s < states → (row rows s).size ≡ width
+
+-- the place is marked in a row, and where it wasn't before, the pair is listed
+pub record NotesIn (state place : ℕ) (before after : BitSet) (layer layer2 : List Pair) : Type 0 where
+  pub members : (c : ℕ) → has after.members c ≡ (nat_eq c place || has before.members c)
+  pub listed : ((has before.members place ≡ true) × (layer2 ≡ layer))
+      ⊎ ((has before.members place ≡ false) × (layer2 ≡ layer ++ record { state = state; place = place } ∷ []))
+
+-- further pairs of the kind are marked, and those are listed behind the others
+pub record Notes (P : ℕ → ℕ → Type 0) (rows rows2 : List BitSet) (layer layer2 : List Pair) : Type 0 where
+  pub count : length rows2 ≡ length rows
+  pub sizes : (s : ℕ) → (row rows2 s).size ≡ (row rows s).size
+  pub front : (more : List Pair) × (layer2 ≡ layer ++ more)
+  pub grows : (s c : ℕ) → IsMarked rows s c → IsMarked rows2 s c
+  pub fresh : (s c : ℕ) → IsMarked rows2 s c → IsMarked rows s c ⊎ Among layer2 s c
+  pub source : (s c : ℕ) → Among layer2 s c → Among layer s c ⊎ (P s c × (IsMarked rows s c → ⊥) × IsMarked rows2 s c)
+
+-- the pairs of the kind aren't marked any more
+pub record IsCleared (P : ℕ → ℕ → Type 0) (rows rows2 : List BitSet) : Type 0 where
+  pub count : length rows2 ≡ length rows
+  pub sizes : (s : ℕ) → (row rows2 s).size ≡ (row rows s).size
+  pub kept : (s c : ℕ) → IsMarked rows s c → (P s c → ⊥) → IsMarked rows2 s c
+  pub source : (s c : ℕ) → IsMarked rows2 s c → IsMarked rows s c × (P s c → ⊥)
