@@ -6,7 +6,7 @@ ghost use Rattle.graph_spec.specs.ProgramLimits.{program_limits};
 ghost use Rattle.graph_spec.specs.Shapes.{shape_of};
 ghost use Rattle.graph_load.specs.Loads.{Loads, loaded};
 ghost use Rattle.branch_query.specs.Queries.{path, AreQueryAnswers};
-ghost use Rattle.pathindex_core.specs.Engines.{graph_in, IsSound, seen};
+ghost use Rattle.pathindex_core.specs.Engines.{graph_in, IsSound, by_meaning};
 ghost use Rattle.any_index.specs.AnyMeanings.{meaning_of};
 ghost use Rattle.example_library.specs.Questions.{AreAnswersOfTexts};
 
@@ -50,7 +50,7 @@ fn ask<L: Ledger>(
     blank: Blank,
 ) -> Option<Bits>
     requires open { IsSome engine.old.opened }
-    requires sound { IsSound (seen meaning_of engine.old) }
+    requires sound { IsSound (by_meaning meaning_of engine.old) }
     requires name { blank.name ≡ L.name }
     requires parts { blank.parts ≡ L.parts }
     requires some { 0 < blank.parts }

@@ -1,6 +1,6 @@
 -- What the steps of a load do, and what their answers say.
 use Rattle.std.specs.Prelude.{◌≡◌, ◌≢◌, ℕ, ◌<◌, ◌≤◌, ⊤, Bool, false, IsTrue, List, [], ◌∷◌, ◌++◌, ◌⊎◌, Option, None, Some, Result, Ok, Err, IfOk, IfErr, IsErrOf}
-use Rattle.px_base.specs.Causes.{Rose}
+use Rattle.px_base.specs.Causes.{MayHaveRisen}
 use Rattle.px_base.specs.declared.lines.TheConstants.{LINE_BYTES, GRAPH_BYTES}
 use Rattle.px_base.specs.Files.{File, content_of}
 use Rattle.px_base.specs.ReaderStates.{ReaderState, stream}
@@ -123,7 +123,7 @@ pub record ReadsOn {S : Type 0} (left : S → Option (List ℕ)) (is_open : S �
   pub none : IfErr result (TellsOutcome (λ _. ⊥))
   pub found : result ≢ Err error.Missing
   pub same : files new ≡ files old
-  pub fault : IsErrOf result error.Fault → Rose (faults old) (faults new)
+  pub fault : IsErrOf result error.Fault → MayHaveRisen (faults old) (faults new)
   pub no_fault : result ≢ Err error.Fault → faults new ≡ faults old
 
 -- the triples that waited are loaded

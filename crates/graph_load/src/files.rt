@@ -1,6 +1,6 @@
 // A graph file, in batches of triples.
 ghost use Rattle.std.specs.Prelude.{◌≡◌, ◌≢◌, ℕ, List, [], IfOk, OnOk, IfErr, IsErrOf, IsTrue, Err};
-ghost use Rattle.px_base.specs.Causes.{Rose};
+ghost use Rattle.px_base.specs.Causes.{MayHaveRisen};
 ghost use Rattle.label_graph.specs.ReservedGraphs.{none_reserved};
 ghost use Rattle.graph_load.specs.Loads.{Outcome, Loads, loaded, at_start};
 ghost use Rattle.graph_load.specs.Loaders.{Holds, IsSoundLoader};
@@ -63,7 +63,7 @@ fn load_batches<H: Shelf>(
     ensures refused { IfErr result (TellsOutcome (LoadsRest limits.now reader.old (H.left shelf.old) loader.old)) }
     ensures found { result ≢ Err LoadError.Missing }
     ensures files { H.files shelf.new ≡ H.files shelf.old }
-    ensures fault { IsErrOf result LoadError.Fault → Rose (H.faults shelf.old) (H.faults shelf.new) }
+    ensures fault { IsErrOf result LoadError.Fault → MayHaveRisen (H.faults shelf.old) (H.faults shelf.new) }
     ensures no_fault { result ≢ Err LoadError.Fault → H.faults shelf.new ≡ H.faults shelf.old }
 {
     'batches: loop {
@@ -92,7 +92,7 @@ fn load_lines<H: Shelf>(alloc: Global, limits: &Limits, shelf: &mut H) -> Result
     ensures refused { IfErr result (TellsOutcome (LoadsAhead limits.now (H.left shelf.old) at_start)) }
     ensures found { result ≢ Err LoadError.Missing }
     ensures files { H.files shelf.new ≡ H.files shelf.old }
-    ensures fault { IsErrOf result LoadError.Fault → Rose (H.faults shelf.old) (H.faults shelf.new) }
+    ensures fault { IsErrOf result LoadError.Fault → MayHaveRisen (H.faults shelf.old) (H.faults shelf.new) }
     ensures no_fault { result ≢ Err LoadError.Fault → H.faults shelf.new ≡ H.faults shelf.old }
 {
     let mut reader = LineReader::new(alloc, LINE_BYTES, GRAPH_BYTES)?;
@@ -139,7 +139,7 @@ pub fn load<H: Shelf>(
     ensures once { (text : List ℕ) (a b : Outcome) → Loads limits.now text a → Loads limits.now text b → a ≡ b }
     ensures missing { IsErrOf result LoadError.Missing → LacksFile (H.files shelf.old) name.now }
     ensures files { H.files shelf.new ≡ H.files shelf.old }
-    ensures fault { IsErrOf result LoadError.Fault → Rose (H.faults shelf.old) (H.faults shelf.new) }
+    ensures fault { IsErrOf result LoadError.Fault → MayHaveRisen (H.faults shelf.old) (H.faults shelf.new) }
     ensures no_fault { result ≢ Err LoadError.Fault → H.faults shelf.new ≡ H.faults shelf.old }
 {
     match shelf.open(name) {

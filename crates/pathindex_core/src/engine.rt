@@ -9,7 +9,7 @@ ghost use Rattle.index_api.specs.declared.kinds.Via.TheVariants.{Data as TheGrap
 ghost use Rattle.index_api.specs.Meanings.{IsBuilt};
 ghost use Rattle.index_api.specs.IndexKinds.{kinds_of, has_kind};
 ghost use Rattle.pathindex_core.specs.Calls.{IsMade, IsForgotten, KeepsAllButViews, IsListed, IsMeasured};
-ghost use Rattle.pathindex_core.specs.Engines.{graph_in, EachBecomes, IsSound, seen};
+ghost use Rattle.pathindex_core.specs.Engines.{graph_in, EachBecomes, IsSound, by_meaning};
 ghost use Rattle.pathindex_core.specs.Updates.{outcome_in};
 
 use crate::asking::ask;
@@ -34,7 +34,7 @@ use std::sync::ledger::{Blank, Ledger};
 /// through the engine.
 ///
 /// Clauses see the indexes themselves and what the engine is opened with (`EngineOf`); by what the indexes mean it is
-/// `seen B.meaning engine` (`EngineSeen`). What a call makes of it is a record in `specs/Calls.antt` or
+/// `by_meaning B.meaning engine` (`EngineSeen`). What a call makes of it is a record in `specs/Calls.antt` or
 /// `specs/QueryAnswers.antt`, and for `open` `IsBuilt` of `index_api`.
 ///
 /// An edge is added, and the 1-index is asked:
@@ -91,8 +91,8 @@ impl<B: PathIndex> Engine<B> {
     /// An engine with these boxes, no two of which are of one kind. It isn't open. O(1), no memory.
     pub fn new(boxes: Vec<B>) -> Self
         requires apart { AllPairs (λ a b. a.kind ≢ b.kind) (map B.meaning boxes.items) }
-        ensures seen { seen B.meaning result ≡ record { boxes = map B.meaning boxes.items; opened = None } }
-        ensures sound { IsSound (seen B.meaning result) }
+        ensures seen { by_meaning B.meaning result ≡ record { boxes = map B.meaning boxes.items; opened = None } }
+        ensures sound { IsSound (by_meaning B.meaning result) }
     {
         Engine { boxes, state: None }
     }
@@ -107,8 +107,8 @@ impl<B: PathIndex> Engine<B> {
     pub fn open(&mut self, graph: Graph, limits: Limits, k: u32) -> Result<(), Memory>
         requires closed { self.old.opened ≡ None }
         requires few { k ≤ 8 }
-        requires sound { IsSound (seen B.meaning self.old) }
-        ensures sound { IsSound (seen B.meaning self.new) }
+        requires sound { IsSound (by_meaning B.meaning self.old) }
+        ensures sound { IsSound (by_meaning B.meaning self.new) }
         ensures opened { OnOk result (self.new.opened ≡ Some (record { graph = graph.graph; limits = limits; k = k })) }
         ensures built { OnOk result (EachBecomes (λ a b. IsBuilt a b graph.graph k) (map B.meaning self.old.boxes) (map B.meaning self.new.boxes)) }
         ensures err { OnErr result (self.new.opened ≡ None) }
@@ -143,12 +143,12 @@ impl<B: PathIndex> Engine<B> {
     /// time and memory that takes.
     pub fn update(&mut self, alloc: Global, change: Change) -> Result<Applied, UpdateError>
         requires open { IsSome self.old.opened }
-        requires sound { IsSound (seen B.meaning self.old) }
-        ensures sound { IsSound (seen B.meaning self.new) }
+        requires sound { IsSound (by_meaning B.meaning self.old) }
+        ensures sound { IsSound (by_meaning B.meaning self.new) }
         ensures refused { (r : Refusal) → (result ≡ Err (UpdateError.Refused r)) ↔ (outcome_in (change_of change) self.old.opened ≡ Err r) }
-        ensures made { IfOk result (IsMade (change_of change) (seen B.meaning self.old) (seen B.meaning self.new)) }
+        ensures made { IfOk result (IsMade (change_of change) (by_meaning B.meaning self.old) (by_meaning B.meaning self.new)) }
         ensures same { is_same (change_of change) (graph_in self.old.opened) ≡ true → result ≡ Ok Applied.Done }
-        ensures err { OnErr result (seen B.meaning self.new ≡ seen B.meaning self.old) }
+        ensures err { OnErr result (by_meaning B.meaning self.new ≡ by_meaning B.meaning self.old) }
     {
         match &mut self.state {
             Some(open) => update(
@@ -165,9 +165,9 @@ impl<B: PathIndex> Engine<B> {
     /// Takes out the index of a kind and drops it; all else stays. `NoIndex` comes exactly where none of that kind is
     /// kept, and no other refusal. O(i) for i indexes, and what it takes to drop one; no memory.
     pub fn forget(&mut self, kind: Kind) -> Result<(), Refusal>
-        requires sound { IsSound (seen B.meaning self.old) }
-        ensures sound { IsSound (seen B.meaning self.new) }
-        ensures forgotten { IsForgotten kind (seen B.meaning self.old) (seen B.meaning self.new) }
+        requires sound { IsSound (by_meaning B.meaning self.old) }
+        ensures sound { IsSound (by_meaning B.meaning self.new) }
+        ensures forgotten { IsForgotten kind (by_meaning B.meaning self.old) (by_meaning B.meaning self.new) }
         ensures no_index { (result ≡ Err Refusal.NoIndex) ↔ (has_kind (kinds_of (map B.meaning self.old.boxes)) kind ≡ false) }
         ensures no_other { (r : Refusal) → result ≡ Err r → r ≡ Refusal.NoIndex }
     {
@@ -194,10 +194,10 @@ impl<B: PathIndex> Engine<B> {
         steps: &mut Steps<L>,
     ) -> Result<Answer, AskError>
         requires open { IsSome self.old.opened }
-        requires sound { IsSound (seen B.meaning self.old) }
-        ensures sound { IsSound (seen B.meaning self.new) }
-        ensures asked { KeepsAllButViews (seen B.meaning self.old) (seen B.meaning self.new) }
-        ensures queried { IsQueried (seen B.meaning self.old) (seen B.meaning self.new) via (query_of query.now) result steps.old steps.new }
+        requires sound { IsSound (by_meaning B.meaning self.old) }
+        ensures sound { IsSound (by_meaning B.meaning self.new) }
+        ensures asked { KeepsAllButViews (by_meaning B.meaning self.old) (by_meaning B.meaning self.new) }
+        ensures queried { IsQueried (by_meaning B.meaning self.old) (by_meaning B.meaning self.new) via (query_of query.now) result steps.old steps.new }
     {
         match &self.state {
             Some(open) => ask(alloc, &mut self.boxes, open, via, query, steps),
@@ -219,10 +219,10 @@ impl<B: PathIndex> Engine<B> {
         steps: &mut Steps<L>,
     ) -> Result<Answer, AskError>
         requires open { IsSome self.old.opened }
-        requires sound { IsSound (seen B.meaning self.old) }
-        ensures sound { IsSound (seen B.meaning self.new) }
-        ensures asked { KeepsAllButViews (seen B.meaning self.old) (seen B.meaning self.new) }
-        ensures queried { IsQueried (seen B.meaning self.old) (seen B.meaning self.new) via (path expr.now) result steps.old steps.new }
+        requires sound { IsSound (by_meaning B.meaning self.old) }
+        ensures sound { IsSound (by_meaning B.meaning self.new) }
+        ensures asked { KeepsAllButViews (by_meaning B.meaning self.old) (by_meaning B.meaning self.new) }
+        ensures queried { IsQueried (by_meaning B.meaning self.old) (by_meaning B.meaning self.new) via (path expr.now) result steps.old steps.new }
     {
         self.ask(alloc, via, &Query::Path(expr), steps)
     }
@@ -240,10 +240,10 @@ impl<B: PathIndex> Engine<B> {
         steps: &mut Steps<L>,
     ) -> Result<Answer, AskError>
         requires open { IsSome self.old.opened }
-        requires sound { IsSound (seen B.meaning self.old) }
-        ensures sound { IsSound (seen B.meaning self.new) }
-        ensures asked { KeepsAllButViews (seen B.meaning self.old) (seen B.meaning self.new) }
-        ensures queried { IsQueried (seen B.meaning self.old) (seen B.meaning self.new) via (branch query.now) result steps.old steps.new }
+        requires sound { IsSound (by_meaning B.meaning self.old) }
+        ensures sound { IsSound (by_meaning B.meaning self.new) }
+        ensures asked { KeepsAllButViews (by_meaning B.meaning self.old) (by_meaning B.meaning self.new) }
+        ensures queried { IsQueried (by_meaning B.meaning self.old) (by_meaning B.meaning self.new) via (branch query.now) result steps.old steps.new }
     {
         self.ask(alloc, via, &Query::Branch(query), steps)
     }
@@ -263,11 +263,11 @@ impl<B: PathIndex> Engine<B> {
         steps: &mut Steps<L>,
     ) -> Result<Text, AskError>
         requires open { IsSome self.old.opened }
-        requires sound { IsSound (seen B.meaning self.old) }
+        requires sound { IsSound (by_meaning B.meaning self.old) }
         requires index { via ≢ TheGraph }
-        ensures sound { IsSound (seen B.meaning self.new) }
-        ensures asked { KeepsAllButViews (seen B.meaning self.old) (seen B.meaning self.new) }
-        ensures listed { IsListed (seen B.meaning self.old) (seen B.meaning self.new) via result steps.old steps.new }
+        ensures sound { IsSound (by_meaning B.meaning self.new) }
+        ensures asked { KeepsAllButViews (by_meaning B.meaning self.old) (by_meaning B.meaning self.new) }
+        ensures listed { IsListed (by_meaning B.meaning self.old) (by_meaning B.meaning self.new) via result steps.old steps.new }
     {
         match &self.state {
             Some(open) => list(alloc, &mut self.boxes, open, via, steps),
@@ -281,10 +281,10 @@ impl<B: PathIndex> Engine<B> {
     /// computed. O(k) for levels up to k where nothing is computed; it takes the memory of the text.
     pub fn sizes<L: Ledger>(&mut self, alloc: Global, steps: &mut Steps<L>) -> Result<Text, Memory>
         requires open { IsSome self.old.opened }
-        requires sound { IsSound (seen B.meaning self.old) }
-        ensures sound { IsSound (seen B.meaning self.new) }
-        ensures asked { KeepsAllButViews (seen B.meaning self.old) (seen B.meaning self.new) }
-        ensures measured { IsMeasured (seen B.meaning self.old) (seen B.meaning self.new) result steps.old steps.new }
+        requires sound { IsSound (by_meaning B.meaning self.old) }
+        ensures sound { IsSound (by_meaning B.meaning self.new) }
+        ensures asked { KeepsAllButViews (by_meaning B.meaning self.old) (by_meaning B.meaning self.new) }
+        ensures measured { IsMeasured (by_meaning B.meaning self.old) (by_meaning B.meaning self.new) result steps.old steps.new }
     {
         match &self.state {
             Some(open) => measure(alloc, &mut self.boxes, open, steps),

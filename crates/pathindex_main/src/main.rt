@@ -3,7 +3,7 @@
 
 ghost use Rattle.std.specs.Prelude.{◌≡◌, [], ◌∷◌, None};
 ghost use Rattle.index_api.specs.IndexKinds.{kinds_of};
-ghost use Rattle.pathindex_core.specs.Engines.{IsSound, seen};
+ghost use Rattle.pathindex_core.specs.Engines.{IsSound, by_meaning};
 
 use ak_maintain::AkIndex;
 use fb_index::FbIndex;
@@ -38,9 +38,9 @@ fn run_over<B: PathIndex>(
     words: &[String],
     engine: &mut Engine<B>,
 ) -> u8
-    requires kinds { kinds_of (seen B.meaning engine.old).boxes ≡ Kind.A ∷ Kind.One ∷ Kind.Fb ∷ [] }
+    requires kinds { kinds_of (by_meaning B.meaning engine.old).boxes ≡ Kind.A ∷ Kind.One ∷ Kind.Fb ∷ [] }
     requires closed { engine.old.opened ≡ None }
-    requires sound { IsSound (seen B.meaning engine.old) }
+    requires sound { IsSound (by_meaning B.meaning engine.old) }
 {
     let mut shelf = HostShelf::new(rt);
     let mut sink = HostSink::new(rt);

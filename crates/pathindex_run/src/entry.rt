@@ -5,7 +5,7 @@ ghost use Rattle.command_line.specs.FormValues.{settings_value};
 ghost use Rattle.command_line.specs.Words.{form_of};
 ghost use Rattle.bisim_spec.specs.declared.kind.Kind.{Kind};
 ghost use Rattle.index_api.specs.IndexKinds.{kinds_of};
-ghost use Rattle.pathindex_core.specs.Engines.{IsSound, seen};
+ghost use Rattle.pathindex_core.specs.Engines.{IsSound, by_meaning};
 ghost use Rattle.script_interpreter.specs.EngineStates.{state_of, IsOpen, IsIn};
 ghost use Rattle.script_interpreter.specs.States.{BeginsRun, left_out};
 ghost use Rattle.pathindex_run.specs.Headline.{RunsForm, HasStatus, Completes, NamesScript, NoFault, kinds_for};
@@ -58,10 +58,10 @@ pub fn run<B: PathIndex, H: Shelf, K: Sink>(
     sink: &mut K,
 ) -> u8
     requires closed { engine.old.opened ≡ None }
-    requires sound { IsSound (seen B.meaning engine.old) }
-    ensures sound { IsSound (seen B.meaning engine.new) }
+    requires sound { IsSound (by_meaning B.meaning engine.old) }
+    ensures sound { IsSound (by_meaning B.meaning engine.new) }
     ensures does { RunsForm (form_of (map string_bytes words.now)) (kinds_of (map B.meaning engine.old.boxes)) (H.files shelf.old) (K.written sink.old)
-        (K.written sink.new) result (IsIn (seen B.meaning engine.new)) }
+        (K.written sink.new) result (IsIn (by_meaning B.meaning engine.new)) }
     ensures status { HasStatus (form_of (map string_bytes words.now)) (H.files shelf.old) (H.faults shelf.old) (H.faults shelf.new)
         (K.faults sink.old) (K.faults sink.new) result }
     ensures complete { Completes (form_of (map string_bytes words.now)) (H.files shelf.old) (H.faults shelf.old) (H.faults shelf.new)
@@ -84,10 +84,10 @@ fn run_words<B: PathIndex, H: Shelf, K: Sink>(
     sink: &mut K,
 ) -> Status
     requires closed { engine.old.opened ≡ None }
-    requires sound { IsSound (seen B.meaning engine.old) }
-    ensures sound { IsSound (seen B.meaning engine.new) }
+    requires sound { IsSound (by_meaning B.meaning engine.old) }
+    ensures sound { IsSound (by_meaning B.meaning engine.new) }
     ensures does { RunsForm (form_of (map string_bytes words.now)) (kinds_of (map B.meaning engine.old.boxes)) (H.files shelf.old) (K.written sink.old)
-        (K.written sink.new) (code_of result) (IsIn (seen B.meaning engine.new)) }
+        (K.written sink.new) (code_of result) (IsIn (by_meaning B.meaning engine.new)) }
     ensures status { HasStatus (form_of (map string_bytes words.now)) (H.files shelf.old) (H.faults shelf.old) (H.faults shelf.new)
         (K.faults sink.old) (K.faults sink.new) (code_of result) }
     ensures complete { Completes (form_of (map string_bytes words.now)) (H.files shelf.old) (H.faults shelf.old) (H.faults shelf.new)
@@ -114,11 +114,11 @@ fn run_settings<B: PathIndex, H: Shelf, K: Sink>(
     sink: &mut K,
 ) -> Status
     requires closed { engine.old.opened ≡ None }
-    requires sound { IsSound (seen B.meaning engine.old) }
+    requires sound { IsSound (by_meaning B.meaning engine.old) }
     requires level { settings.now.k ≤ 8 }
-    ensures sound { IsSound (seen B.meaning engine.new) }
+    ensures sound { IsSound (by_meaning B.meaning engine.new) }
     ensures does { RunsForm (runs (settings_value settings.now)) (kinds_of (map B.meaning engine.old.boxes)) (H.files shelf.old) (K.written sink.old)
-        (K.written sink.new) (code_of result) (IsIn (seen B.meaning engine.new)) }
+        (K.written sink.new) (code_of result) (IsIn (by_meaning B.meaning engine.new)) }
     ensures status { HasStatus (runs (settings_value settings.now)) (H.files shelf.old) (H.faults shelf.old) (H.faults shelf.new) (K.faults sink.old)
         (K.faults sink.new) (code_of result) }
     ensures complete { Completes (runs (settings_value settings.now)) (H.files shelf.old) (H.faults shelf.old) (H.faults shelf.new)
@@ -145,11 +145,11 @@ fn run_loaded<B: PathIndex, H: Shelf, K: Sink>(
 ) -> Status
     requires named { option_map (λ t. t.now) settings.now.graph ≡ Some name.now }
     requires closed { engine.old.opened ≡ None }
-    requires sound { IsSound (seen B.meaning engine.old) }
+    requires sound { IsSound (by_meaning B.meaning engine.old) }
     requires level { settings.now.k ≤ 8 }
-    ensures sound { IsSound (seen B.meaning engine.new) }
+    ensures sound { IsSound (by_meaning B.meaning engine.new) }
     ensures does { RunsForm (runs (settings_value settings.now)) (kinds_of (map B.meaning engine.old.boxes)) (H.files shelf.old) (K.written sink.old)
-        (K.written sink.new) (code_of result) (IsIn (seen B.meaning engine.new)) }
+        (K.written sink.new) (code_of result) (IsIn (by_meaning B.meaning engine.new)) }
     ensures status { HasStatus (runs (settings_value settings.now)) (H.files shelf.old) (H.faults shelf.old) (H.faults shelf.new) (K.faults sink.old)
         (K.faults sink.new) (code_of result) }
     ensures complete { Completes (runs (settings_value settings.now)) (H.files shelf.old) (H.faults shelf.old) (H.faults shelf.new)
@@ -169,9 +169,9 @@ fn run_loaded<B: PathIndex, H: Shelf, K: Sink>(
 /// Drops the index of that kind if it is left out.
 fn leave_out<B: PathIndex>(engine: &mut Engine<B>, kind: Kind, is_left_out: bool)
     requires closed { engine.old.opened ≡ None }
-    requires sound { IsSound (seen B.meaning engine.old) }
+    requires sound { IsSound (by_meaning B.meaning engine.old) }
     ensures closed { engine.new.opened ≡ None }
-    ensures sound { IsSound (seen B.meaning engine.new) }
+    ensures sound { IsSound (by_meaning B.meaning engine.new) }
     ensures kinds { kinds_of (map B.meaning engine.new.boxes) ≡ left_out is_left_out kind (kinds_of (map B.meaning engine.old.boxes)) }
 {
     if is_left_out {
@@ -190,11 +190,11 @@ fn run_script<B: PathIndex, H: Shelf, K: Sink>(
 ) -> Status
     requires begins { BeginsObservable (settings_value settings.now).graph (H.files shelf.old) graph.graph }
     requires closed { engine.old.opened ≡ None }
-    requires sound { IsSound (seen B.meaning engine.old) }
+    requires sound { IsSound (by_meaning B.meaning engine.old) }
     requires level { settings.now.k ≤ 8 }
-    ensures sound { IsSound (seen B.meaning engine.new) }
+    ensures sound { IsSound (by_meaning B.meaning engine.new) }
     ensures does { RunsForm (runs (settings_value settings.now)) (kinds_of (map B.meaning engine.old.boxes)) (H.files shelf.old) (K.written sink.old)
-        (K.written sink.new) (code_of result) (IsIn (seen B.meaning engine.new)) }
+        (K.written sink.new) (code_of result) (IsIn (by_meaning B.meaning engine.new)) }
     ensures status { HasStatus (runs (settings_value settings.now)) (H.files shelf.old) (H.faults shelf.old) (H.faults shelf.new) (K.faults sink.old)
         (K.faults sink.new) (code_of result) }
     ensures complete { Completes (runs (settings_value settings.now)) (H.files shelf.old) (H.faults shelf.old) (H.faults shelf.new)
@@ -218,12 +218,12 @@ fn run_open<B: PathIndex, H: Shelf, K: Sink>(
     sink: &mut K,
 ) -> Status
     requires begins { BeginsObservable (settings_value settings.now).graph (H.files shelf.old) (state_of B.meaning engine.old).graph }
-    requires ready { IsOpen (seen B.meaning engine.old) }
-    ensures sound { IsSound (seen B.meaning engine.new) }
+    requires ready { IsOpen (by_meaning B.meaning engine.old) }
+    ensures sound { IsSound (by_meaning B.meaning engine.new) }
     ensures does { (kinds : List Kind) → BeginsRun (state_of B.meaning engine.old).graph (kinds_for (settings_value settings.now) kinds)
         settings.now.k (state_of B.meaning engine.old)
         → RunsForm (runs (settings_value settings.now)) kinds (H.files shelf.old) (K.written sink.old) (K.written sink.new) (code_of result)
-        (IsIn (seen B.meaning engine.new)) }
+        (IsIn (by_meaning B.meaning engine.new)) }
     ensures status { HasStatus (runs (settings_value settings.now)) (H.files shelf.old) (H.faults shelf.old) (H.faults shelf.new) (K.faults sink.old)
         (K.faults sink.new) (code_of result) }
     ensures complete { Completes (runs (settings_value settings.now)) (H.files shelf.old) (H.faults shelf.old) (H.faults shelf.new)

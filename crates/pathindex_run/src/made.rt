@@ -5,7 +5,7 @@ ghost use Rattle.graph_load.specs.Loads.{Loads, loaded};
 ghost use Rattle.graph_load.specs.LoadSteps.{TellsOutcome};
 ghost use Rattle.workload.specs.MadeTexts.{made_graph_text};
 ghost use Rattle.index_api.specs.IndexKinds.{kinds_of};
-ghost use Rattle.pathindex_core.specs.Engines.{IsSound, seen};
+ghost use Rattle.pathindex_core.specs.Engines.{IsSound, by_meaning};
 ghost use Rattle.script_interpreter.specs.declared.printing.Printing.TheVariants.{Brief};
 ghost use Rattle.script_interpreter.specs.EngineStates.{state_of, IsOpen, IsIn};
 ghost use Rattle.script_interpreter.specs.Rules.{rules_for};
@@ -63,10 +63,10 @@ pub(crate) fn run_made<B: PathIndex, K: Sink>(
     sink: &mut K,
 ) -> Status
     requires closed { engine.old.opened ≡ None }
-    requires sound { IsSound (seen B.meaning engine.old) }
-    ensures sound { IsSound (seen B.meaning engine.new) }
+    requires sound { IsSound (by_meaning B.meaning engine.old) }
+    ensures sound { IsSound (by_meaning B.meaning engine.new) }
     ensures does { RunsLoaded (made_task seed (kinds_of (map B.meaning engine.old.boxes))) (Some (made_graph_text seed)) (K.written sink.old)
-        (K.written sink.new) (code_of result) (IsIn (seen B.meaning engine.new)) }
+        (K.written sink.new) (code_of result) (IsIn (by_meaning B.meaning engine.new)) }
     ensures status { HasSinkStatus (K.faults sink.old) (K.faults sink.new) (code_of result) }
 {
     match load_made(alloc, seed) {
@@ -88,10 +88,10 @@ fn run_script<B: PathIndex, K: Sink>(
     sink: &mut K,
 ) -> Status
     requires closed { engine.old.opened ≡ None }
-    requires sound { IsSound (seen B.meaning engine.old) }
-    ensures sound { IsSound (seen B.meaning engine.new) }
+    requires sound { IsSound (by_meaning B.meaning engine.old) }
+    ensures sound { IsSound (by_meaning B.meaning engine.new) }
     ensures does { RunsFrom (made_task seed (kinds_of (map B.meaning engine.old.boxes))) graph.graph (K.written sink.old) (K.written sink.new) (code_of result)
-        (IsIn (seen B.meaning engine.new)) }
+        (IsIn (by_meaning B.meaning engine.new)) }
     ensures status { HasSinkStatus (K.faults sink.old) (K.faults sink.new) (code_of result) }
 {
     match made_script(alloc, seed, graph.created()) {
@@ -109,10 +109,10 @@ fn run_text<B: PathIndex, K: Sink>(
     sink: &mut K,
 ) -> Status
     requires closed { engine.old.opened ≡ None }
-    requires sound { IsSound (seen B.meaning engine.old) }
-    ensures sound { IsSound (seen B.meaning engine.new) }
+    requires sound { IsSound (by_meaning B.meaning engine.old) }
+    ensures sound { IsSound (by_meaning B.meaning engine.new) }
     ensures does { RunsFrom (text_task script.now (kinds_of (map B.meaning engine.old.boxes))) graph.graph (K.written sink.old) (K.written sink.new)
-        (code_of result) (IsIn (seen B.meaning engine.new)) }
+        (code_of result) (IsIn (by_meaning B.meaning engine.new)) }
     ensures status { HasSinkStatus (K.faults sink.old) (K.faults sink.new) (code_of result) }
 {
     match engine.open(graph, Limits::program(), 2) {
@@ -128,10 +128,10 @@ fn run_open<B: PathIndex, K: Sink>(
     engine: &mut Engine<B>,
     sink: &mut K,
 ) -> Status
-    requires ready { IsOpen (seen B.meaning engine.old) }
-    ensures sound { IsSound (seen B.meaning engine.new) }
+    requires ready { IsOpen (by_meaning B.meaning engine.old) }
+    ensures sound { IsSound (by_meaning B.meaning engine.new) }
     ensures does { RunsScript (rules_for Brief) (state_of B.meaning engine.old) (Some script.now) (K.written sink.old) (K.written sink.new) (code_of result)
-        (IsIn (seen B.meaning engine.new)) }
+        (IsIn (by_meaning B.meaning engine.new)) }
     ensures status { HasSinkStatus (K.faults sink.old) (K.faults sink.new) (code_of result) }
 {
     let mut shelf = TextShelf::new(script);

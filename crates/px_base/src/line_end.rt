@@ -1,7 +1,7 @@
 // What ends a line.
 ghost use Rattle.std.specs.Prelude.{◌≡◌, ◌≢◌, ◌<◌, [], length, slice_get, IfOk, OnOk, IsErrOf, IsTrue, Some, Ok, Err};
 ghost use Rattle.std.specs.Io.KnownBytes.{prepend_known};
-ghost use Rattle.px_base.specs.Causes.{Rose};
+ghost use Rattle.px_base.specs.Causes.{MayHaveRisen};
 ghost use Rattle.px_base.specs.LineEnds.{end_bytes, has_end, IsAtStop, TakesEnd, EndPasses};
 
 use crate::window::Window;
@@ -49,7 +49,7 @@ fn take_return<H: Shelf>(
     ensures unread { IsTrue (has_end window.old) → shelf.new ≡ shelf.old }
     ensures files { H.files shelf.new ≡ H.files shelf.old }
     ensures open { OnOk result (IsTrue (H.is_open shelf.new)) }
-    ensures fault { IsErrOf result LineFault.Fault → Rose (H.faults shelf.old) (H.faults shelf.new) }
+    ensures fault { IsErrOf result LineFault.Fault → MayHaveRisen (H.faults shelf.old) (H.faults shelf.new) }
     ensures no_fault { result ≢ Err LineFault.Fault → H.faults shelf.new ≡ H.faults shelf.old }
 {
     window.skip(1);
@@ -79,7 +79,7 @@ pub(crate) fn take_end<H: Shelf>(
     ensures unread { IsTrue (has_end window.old) → shelf.new ≡ shelf.old }
     ensures files { H.files shelf.new ≡ H.files shelf.old }
     ensures open { OnOk result (IsTrue (H.is_open shelf.new)) }
-    ensures fault { IsErrOf result LineFault.Fault → Rose (H.faults shelf.old) (H.faults shelf.new) }
+    ensures fault { IsErrOf result LineFault.Fault → MayHaveRisen (H.faults shelf.old) (H.faults shelf.new) }
     ensures no_fault { result ≢ Err LineFault.Fault → H.faults shelf.new ≡ H.faults shelf.old }
 {
     let Some(byte) = window.first() else {

@@ -1,7 +1,7 @@
 // The lines of a file.
 ghost use Rattle.std.specs.Prelude.{◌≡◌, ◌≢◌, ◌+◌, ◌^◌, ◌≤◌, length, IfOk, OnOk, IsErrOf, IsTrue, Err, is_err, false};
 ghost use Rattle.std.specs.Io.KnownBytes.{prepend_known};
-ghost use Rattle.px_base.specs.Causes.{Rose};
+ghost use Rattle.px_base.specs.Causes.{MayHaveRisen};
 ghost use Rattle.px_base.specs.declared.lines.LineFault.TheVariants.{Fault, Memory as NoMemory};
 ghost use Rattle.px_base.specs.LineEnds.{has_end, IsAtStop};
 ghost use Rattle.px_base.specs.GatheredLines.{TakesPart, Overfills, GathersAhead, IsTooLong, TakesWhole, IsLong};
@@ -86,7 +86,7 @@ fn gather<H: Shelf>(
     ensures ahead { OnOk result (IsTrue (has_end window.old) → IsTrue (has_end window.new)) }
     ensures files { H.files shelf.new ≡ H.files shelf.old }
     ensures open { OnOk result (IsTrue (H.is_open shelf.new)) }
-    ensures fault { IsErrOf result LineFault.Fault → Rose (H.faults shelf.old) (H.faults shelf.new) }
+    ensures fault { IsErrOf result LineFault.Fault → MayHaveRisen (H.faults shelf.old) (H.faults shelf.new) }
     ensures no_fault { result ≢ Err LineFault.Fault → H.faults shelf.new ≡ H.faults shelf.old }
 {
     loop {
@@ -116,7 +116,7 @@ fn take_line<H: Shelf>(
     ensures unread { IsTrue (has_end window.old) → shelf.new ≡ shelf.old }
     ensures files { H.files shelf.new ≡ H.files shelf.old }
     ensures open { OnOk result (IsTrue (H.is_open shelf.new)) }
-    ensures fault { IsErrOf result LineFault.Fault → Rose (H.faults shelf.old) (H.faults shelf.new) }
+    ensures fault { IsErrOf result LineFault.Fault → MayHaveRisen (H.faults shelf.old) (H.faults shelf.new) }
     ensures no_fault { result ≢ Err LineFault.Fault → H.faults shelf.new ≡ H.faults shelf.old }
 {
     line.clear();
@@ -226,7 +226,7 @@ impl LineReader {
         ensures unread { IsTrue (has_end self.old.ahead) → shelf.new ≡ shelf.old }
         ensures files { H.files shelf.new ≡ H.files shelf.old }
         ensures open { OnOk result (IsTrue (H.is_open shelf.new)) }
-        ensures fault { IsErrOf result LineFault.Fault → Rose (H.faults shelf.old) (H.faults shelf.new) }
+        ensures fault { IsErrOf result LineFault.Fault → MayHaveRisen (H.faults shelf.old) (H.faults shelf.new) }
         ensures no_fault { result ≢ Err LineFault.Fault → H.faults shelf.new ≡ H.faults shelf.old }
     {
         let left = self.text_limit - self.taken;

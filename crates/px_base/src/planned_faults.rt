@@ -1,7 +1,7 @@
 // Calls that fail because they were told to.
 ghost use Rattle.std.specs.Prelude.{◌≡◌, is_err, if◌then◌else◌};
 ghost use Rattle.graph_spec.specs.Members.{has};
-ghost use Rattle.px_base.specs.Causes.{HasCause, Rose, one_more};
+ghost use Rattle.px_base.specs.Causes.{HasCause, MayHaveRisen, one_more};
 
 use crate::Failed;
 
@@ -37,7 +37,7 @@ impl PlannedFaults {
         ensures numbers { self.new.numbers.items ≡ self.old.numbers.items }
         ensures calls { self.new.calls ≡ self.old.calls }
         ensures counted { self.new.faults ≡ one_more self.old.faults }
-        ensures rose { Rose self.old.faults self.new.faults }
+        ensures rose { MayHaveRisen self.old.faults self.new.faults }
     {
         self.faults = self.faults.saturating_add(1);
         Failed

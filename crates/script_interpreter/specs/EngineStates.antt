@@ -2,7 +2,7 @@
 use Rattle.std.specs.Prelude.{◌≡◌, Some, IsSome}
 use Rattle.graph_spec.specs.ProgramLimits.{program_limits}
 use Rattle.index_api.specs.Meanings.{Meaning}
-use Rattle.pathindex_core.specs.Engines.{Opened, EngineOf, EngineSeen, IsSound, seen, graph_in, kept_in}
+use Rattle.pathindex_core.specs.Engines.{Opened, EngineOf, EngineSeen, IsSound, by_meaning, graph_in, kept_in}
 use Rattle.script_interpreter.specs.States.{State}
 
 -- the graph and the indexes of the engine
@@ -11,7 +11,7 @@ state_in e = record { graph = graph_in e.opened; kept = kept_in e }
 
 -- the same of an engine, by what its indexes mean
 abbrev pub state_of : {B : Type 0} → (B → Meaning) → EngineOf B → State
-state_of meaning e = state_in (seen meaning e)
+state_of meaning e = state_in (by_meaning meaning e)
 
 -- the engine is open with the limits of the program, and its indexes fit its graph
 pub record IsOpen (e : EngineSeen) : Type 0 where

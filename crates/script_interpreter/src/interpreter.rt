@@ -8,7 +8,7 @@ ghost use Rattle.branch_query.specs.Queries.{query_of};
 ghost use Rattle.script_read.specs.Commands.{change as changing, why as asking_why, check as checking};
 ghost use Rattle.script_read.specs.Commands.{extents as listing, sizes as measuring, forget as forgetting};
 ghost use Rattle.script_read.specs.ReadLines.{command_of};
-ghost use Rattle.pathindex_core.specs.Engines.{seen};
+ghost use Rattle.pathindex_core.specs.Engines.{by_meaning};
 ghost use Rattle.script_interpreter.specs.EngineStates.{state_of, IsOpen};
 ghost use Rattle.script_interpreter.specs.States.{State};
 ghost use Rattle.script_interpreter.specs.Walks.{ShowsLast};
@@ -46,8 +46,8 @@ fn change<B: PathIndex>(
     change: Change,
     output: &mut Output,
 ) -> Result<(), Memory>
-    requires ready { IsOpen (seen B.meaning engine.old) }
-    ensures ready { IsOpen (seen B.meaning engine.new) }
+    requires ready { IsOpen (by_meaning B.meaning engine.old) }
+    ensures ready { IsOpen (by_meaning B.meaning engine.new) }
     ensures ok { OnOk result (Obeyed (state_of B.meaning engine.old) (changing (change_of change)) output.old (state_of B.meaning engine.new) output.new) }
     ensures err { OnErr result (output.new ≡ output.old) }
 {
@@ -67,8 +67,8 @@ fn ask<B: PathIndex, L: Ledger>(
     output: &mut Output,
     steps: &mut Steps<L>,
 ) -> Result<(), Memory>
-    requires ready { IsOpen (seen B.meaning engine.old) }
-    ensures ready { IsOpen (seen B.meaning engine.new) }
+    requires ready { IsOpen (by_meaning B.meaning engine.old) }
+    ensures ready { IsOpen (by_meaning B.meaning engine.new) }
     ensures ok { OnOk result (Obeyed (state_of B.meaning engine.old) (query_command via (query_of query.now)) output.old
         (state_of B.meaning engine.new) output.new) }
     ensures err { OnErr result (output.new ≡ output.old) }
@@ -115,7 +115,7 @@ fn explain<B: PathIndex, L: Ledger>(
     output: &mut Output,
     steps: &mut Steps<L>,
 ) -> Result<(), Memory>
-    requires ready { IsOpen (seen B.meaning engine.now) }
+    requires ready { IsOpen (by_meaning B.meaning engine.now) }
     ensures ok { OnOk result (Obeyed (state_of B.meaning engine.now) (asking_why node expr.now) output.old (state_of B.meaning engine.now) output.new) }
     ensures err { OnErr result (output.new ≡ output.old) }
 {
@@ -149,7 +149,7 @@ fn check<B: PathIndex>(
     expr: &PathExpr,
     output: &mut Output,
 ) -> Result<(), Memory>
-    requires ready { IsOpen (seen B.meaning engine.now) }
+    requires ready { IsOpen (by_meaning B.meaning engine.now) }
     ensures ok { OnOk result (Obeyed (state_of B.meaning engine.now) (checking walk.now expr.now) output.old (state_of B.meaning engine.now) output.new) }
     ensures err { OnErr result (output.new ≡ output.old) }
 {
@@ -169,9 +169,9 @@ fn list_index<B: PathIndex, L: Ledger>(
     output: &mut Output,
     steps: &mut Steps<L>,
 ) -> Result<(), Memory>
-    requires ready { IsOpen (seen B.meaning engine.old) }
+    requires ready { IsOpen (by_meaning B.meaning engine.old) }
     requires index { via ≢ Data }
-    ensures ready { IsOpen (seen B.meaning engine.new) }
+    ensures ready { IsOpen (by_meaning B.meaning engine.new) }
     ensures ok { OnOk result (Obeyed (state_of B.meaning engine.old) (listing via) output.old (state_of B.meaning engine.new) output.new) }
     ensures err { OnErr result (output.new ≡ output.old) }
 {
@@ -190,8 +190,8 @@ fn list<B: PathIndex, L: Ledger>(
     output: &mut Output,
     steps: &mut Steps<L>,
 ) -> Result<(), Memory>
-    requires ready { IsOpen (seen B.meaning engine.old) }
-    ensures ready { IsOpen (seen B.meaning engine.new) }
+    requires ready { IsOpen (by_meaning B.meaning engine.old) }
+    ensures ready { IsOpen (by_meaning B.meaning engine.new) }
     ensures ok { OnOk result (Obeyed (state_of B.meaning engine.old) (listing via) output.old (state_of B.meaning engine.new) output.new) }
     ensures err { OnErr result (output.new ≡ output.old) }
 {
@@ -208,8 +208,8 @@ fn measure<B: PathIndex, L: Ledger>(
     output: &mut Output,
     steps: &mut Steps<L>,
 ) -> Result<(), Memory>
-    requires ready { IsOpen (seen B.meaning engine.old) }
-    ensures ready { IsOpen (seen B.meaning engine.new) }
+    requires ready { IsOpen (by_meaning B.meaning engine.old) }
+    ensures ready { IsOpen (by_meaning B.meaning engine.new) }
     ensures ok { OnOk result (Obeyed (state_of B.meaning engine.old) measuring output.old (state_of B.meaning engine.new) output.new) }
     ensures err { OnErr result (output.new ≡ output.old) }
 {
@@ -223,8 +223,8 @@ fn forget<B: PathIndex>(
     kind: Kind,
     output: &mut Output,
 ) -> Result<(), Memory>
-    requires ready { IsOpen (seen B.meaning engine.old) }
-    ensures ready { IsOpen (seen B.meaning engine.new) }
+    requires ready { IsOpen (by_meaning B.meaning engine.old) }
+    ensures ready { IsOpen (by_meaning B.meaning engine.new) }
     ensures ok { OnOk result (Obeyed (state_of B.meaning engine.old) (forgetting kind) output.old (state_of B.meaning engine.new) output.new) }
     ensures err { OnErr result (output.new ≡ output.old) }
 {
@@ -245,8 +245,8 @@ fn obey<B: PathIndex, L: Ledger>(
     requires name { blank.name ≡ L.name }
     requires parts { blank.parts ≡ L.parts }
     requires some { 0 < blank.parts }
-    requires ready { IsOpen (seen B.meaning engine.old) }
-    ensures ready { IsOpen (seen B.meaning engine.new) }
+    requires ready { IsOpen (by_meaning B.meaning engine.old) }
+    ensures ready { IsOpen (by_meaning B.meaning engine.new) }
     ensures ok { OnOk result (Obeyed (state_of B.meaning engine.old) (command_of command) output.old (state_of B.meaning engine.new) output.new) }
     ensures err { OnErr result (output.new ≡ output.old) }
 {
@@ -284,8 +284,8 @@ pub(crate) fn take<B: PathIndex>(
     line: &[u8],
     output: &mut Output,
 ) -> Result<Outcome, Memory>
-    requires ready { IsOpen (seen B.meaning engine.old) }
-    ensures ready { IsOpen (seen B.meaning engine.new) }
+    requires ready { IsOpen (by_meaning B.meaning engine.old) }
+    ensures ready { IsOpen (by_meaning B.meaning engine.new) }
     ensures ok { IfOk result (λ outcome. LineComes (state_of B.meaning engine.old) line.now output.old outcome
         (state_of B.meaning engine.new) output.new) }
     ensures err { OnErr result (output.new ≡ output.old) }

@@ -1,10 +1,10 @@
 // The run of a script, line by line.
 ghost use Rattle.std.specs.Prelude.{◌≡◌, ◌≢◌, ◌<◌, ◌≤◌, IfOk, OnOk, OnErr, IsErrOf, IsTrue, Err, false};
 ghost use Rattle.std.specs.Io.KnownBytes.{Appends};
-ghost use Rattle.px_base.specs.Causes.{Rose, HasCause};
+ghost use Rattle.px_base.specs.Causes.{MayHaveRisen, HasCause};
 ghost use Rattle.px_base.specs.Files.{AppendsPrefix};
 ghost use Rattle.px_base.specs.ReaderStates.{stream};
-ghost use Rattle.pathindex_core.specs.Engines.{seen};
+ghost use Rattle.pathindex_core.specs.Engines.{by_meaning};
 ghost use Rattle.script_interpreter.specs.Rules.{rules_for};
 ghost use Rattle.script_interpreter.specs.RunSteps.{progress, Goes, OnTaken, CanRead, Writes};
 ghost use Rattle.script_interpreter.specs.Runs.{Progress, end_status};
@@ -94,8 +94,8 @@ fn next_line<B: PathIndex, H: Shelf>(
     output: &mut Output,
 ) -> Result<Next, Stop>
     requires can { CanRead reader.old (H.is_open shelf.old) }
-    requires ready { IsOpen (seen B.meaning engine.old) }
-    ensures ready { IsOpen (seen B.meaning engine.new) }
+    requires ready { IsOpen (by_meaning B.meaning engine.old) }
+    ensures ready { IsOpen (by_meaning B.meaning engine.new) }
     ensures goes { IfOk result (λ next. Goes (rules_for output.old.printing)
         (progress (state_of B.meaning engine.old) output.old.refused reader.old) (stream reader.old (H.left shelf.old)) output.old.text next
         (progress (state_of B.meaning engine.new) output.new.refused reader.new) (stream reader.new (H.left shelf.new)) output.new.text) }
@@ -104,7 +104,7 @@ fn next_line<B: PathIndex, H: Shelf>(
     ensures nearer { IfOk result (λ next. OnTaken next ((reader.old.taken < reader.new.taken) × (reader.new.taken ≤ SCRIPT_BYTES))) }
     ensures gathered { OnErr result (output.new ≡ output.old) }
     ensures files { H.files shelf.new ≡ H.files shelf.old }
-    ensures fault { IsErrOf result Stop.Shelf → Rose (H.faults shelf.old) (H.faults shelf.new) }
+    ensures fault { IsErrOf result Stop.Shelf → MayHaveRisen (H.faults shelf.old) (H.faults shelf.new) }
     ensures no_fault { result ≢ Err Stop.Shelf → H.faults shelf.new ≡ H.faults shelf.old }
     ensures no_sink { result ≢ Err Stop.Sink }
 {
@@ -144,7 +144,7 @@ fn finish<K: Sink>(ending: Ending, output: &mut Output, sink: &mut K) -> Result<
     ensures ending { IfOk result (λ e. e ≡ ending) }
     ensures all { OnOk result (Appends (K.written sink.old) (K.written sink.new) output.old.text) }
     ensures part { OnErr result (AppendsPrefix (K.written sink.old) (K.written sink.new) output.old.text) }
-    ensures sink { IsErrOf result Stop.Sink → Rose (K.faults sink.old) (K.faults sink.new) }
+    ensures sink { IsErrOf result Stop.Sink → MayHaveRisen (K.faults sink.old) (K.faults sink.new) }
     ensures no_sink { result ≢ Err Stop.Sink → K.faults sink.new ≡ K.faults sink.old }
     ensures no_shelf { result ≢ Err Stop.Shelf }
 {
@@ -176,16 +176,16 @@ pub fn run_lines<B: PathIndex, H: Shelf, K: Sink>(
     sink: &mut K,
 ) -> Result<Ending, Stop>
     requires file { IsTrue (H.is_open shelf.old) }
-    requires ready { IsOpen (seen B.meaning engine.old) }
-    ensures ready { IsOpen (seen B.meaning engine.new) }
+    requires ready { IsOpen (by_meaning B.meaning engine.old) }
+    ensures ready { IsOpen (by_meaning B.meaning engine.new) }
     ensures ran { IfOk result (λ ending. RanObservable (rules_for printing) (state_of B.meaning engine.old) (H.left shelf.old)
-        (K.written sink.old) (K.written sink.new) (status_at ending) (IsIn (seen B.meaning engine.new))) }
+        (K.written sink.old) (K.written sink.new) (status_at ending) (IsIn (by_meaning B.meaning engine.new))) }
     ensures part { OnErr result (PrefixObservable (rules_for printing) (state_of B.meaning engine.old) (H.left shelf.old)
         (K.written sink.old) (K.written sink.new)) }
     ensures files { H.files shelf.new ≡ H.files shelf.old }
-    ensures shelf_fault { IsErrOf result Stop.Shelf → Rose (H.faults shelf.old) (H.faults shelf.new) }
+    ensures shelf_fault { IsErrOf result Stop.Shelf → MayHaveRisen (H.faults shelf.old) (H.faults shelf.new) }
     ensures no_shelf_fault { result ≢ Err Stop.Shelf → H.faults shelf.new ≡ H.faults shelf.old }
-    ensures sink_fault { IsErrOf result Stop.Sink → Rose (K.faults sink.old) (K.faults sink.new) }
+    ensures sink_fault { IsErrOf result Stop.Sink → MayHaveRisen (K.faults sink.old) (K.faults sink.new) }
     ensures no_sink_fault { result ≢ Err Stop.Sink → K.faults sink.new ≡ K.faults sink.old }
 {
     let mut reader = LineReader::new(alloc, LINE_BYTES, SCRIPT_BYTES)?;

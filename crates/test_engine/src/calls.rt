@@ -1,7 +1,7 @@
 // Calls of an engine, and what they answer.
 ghost use Rattle.std.specs.Prelude.{◌≡◌, ◌≢◌, ◌<◌, true, None, IsSome};
 ghost use Rattle.index_api.specs.declared.kinds.Via.TheVariants.{Data};
-ghost use Rattle.pathindex_core.specs.Engines.{IsSound, seen};
+ghost use Rattle.pathindex_core.specs.Engines.{IsSound, by_meaning};
 
 use graph_update::{Applied, Change};
 use index_api::{PathIndex, Via};
@@ -28,9 +28,9 @@ pub(crate) fn opens<B: PathIndex>(
     limits: Limits,
 ) -> bool
     requires closed { engine.old.opened ≡ None }
-    requires sound { IsSound (seen B.meaning engine.old) }
+    requires sound { IsSound (by_meaning B.meaning engine.old) }
     ensures open { result ≡ true → IsSome engine.new.opened }
-    ensures sound { IsSound (seen B.meaning engine.new) }
+    ensures sound { IsSound (by_meaning B.meaning engine.new) }
 {
     match graph {
         Some(graph) => engine.open(graph, limits, 1).is_ok(),
@@ -44,9 +44,9 @@ pub(crate) fn node<B: PathIndex>(
     alloc: Global,
 ) -> Option<Result<Applied, UpdateError>>
     requires open { IsSome engine.old.opened }
-    requires sound { IsSound (seen B.meaning engine.old) }
+    requires sound { IsSound (by_meaning B.meaning engine.old) }
     ensures open { IsSome engine.new.opened }
-    ensures sound { IsSound (seen B.meaning engine.new) }
+    ensures sound { IsSound (by_meaning B.meaning engine.new) }
 {
     let label = Text::from_bytes(alloc, b"a").ok()?;
     Some(engine.update(alloc, Change::Node(label)))
@@ -55,9 +55,9 @@ pub(crate) fn node<B: PathIndex>(
 /// Whether one more node is added with that number.
 pub(crate) fn adds_node<B: PathIndex>(engine: &mut Engine<B>, alloc: Global, number: u32) -> bool
     requires open { IsSome engine.old.opened }
-    requires sound { IsSound (seen B.meaning engine.old) }
+    requires sound { IsSound (by_meaning B.meaning engine.old) }
     ensures open { IsSome engine.new.opened }
-    ensures sound { IsSound (seen B.meaning engine.new) }
+    ensures sound { IsSound (by_meaning B.meaning engine.new) }
 {
     node(engine, alloc) == Some(Ok(Applied::Added(number)))
 }
@@ -69,9 +69,9 @@ pub(crate) fn fails_to_add<B: PathIndex>(
     error: UpdateError,
 ) -> bool
     requires open { IsSome engine.old.opened }
-    requires sound { IsSound (seen B.meaning engine.old) }
+    requires sound { IsSound (by_meaning B.meaning engine.old) }
     ensures open { IsSome engine.new.opened }
-    ensures sound { IsSound (seen B.meaning engine.new) }
+    ensures sound { IsSound (by_meaning B.meaning engine.new) }
 {
     node(engine, alloc) == Some(Err(error))
 }
@@ -85,12 +85,12 @@ fn listed<B: PathIndex, L: Ledger>(
 ) -> Result<Text, AskError>
     requires index { via ≢ Data }
     requires open { IsSome engine.old.opened }
-    requires sound { IsSound (seen B.meaning engine.old) }
+    requires sound { IsSound (by_meaning B.meaning engine.old) }
     requires name { blank.name ≡ L.name }
     requires parts { blank.parts ≡ L.parts }
     requires some { 0 < blank.parts }
     ensures open { IsSome engine.new.opened }
-    ensures sound { IsSound (seen B.meaning engine.new) }
+    ensures sound { IsSound (by_meaning B.meaning engine.new) }
 {
     let mut steps = Steps::<L>::new(blank);
     engine.extents(alloc, via, &mut steps)
@@ -105,9 +105,9 @@ pub(crate) fn lists<B: PathIndex>(
 ) -> bool
     requires index { via ≢ Data }
     requires open { IsSome engine.old.opened }
-    requires sound { IsSound (seen B.meaning engine.old) }
+    requires sound { IsSound (by_meaning B.meaning engine.old) }
     ensures open { IsSome engine.new.opened }
-    ensures sound { IsSound (seen B.meaning engine.new) }
+    ensures sound { IsSound (by_meaning B.meaning engine.new) }
 {
     match listed::<B, Brand>(engine, alloc, via, Blank::new(1)) {
         Ok(text) => list == Some(text.as_str()),

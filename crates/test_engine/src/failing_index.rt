@@ -1,7 +1,7 @@
 // An engine of three boxes, the last of which finds no memory once it is built.
 ghost use Rattle.std.specs.Prelude.{◌≡◌, [], ◌∷◌, Some, None, if◌then◌else◌};
 ghost use Rattle.bisim_spec.specs.declared.kind.Kind.TheVariants.{Fb};
-ghost use Rattle.pathindex_core.specs.Engines.{IsSound, seen};
+ghost use Rattle.pathindex_core.specs.Engines.{IsSound, by_meaning};
 
 use ak_maintain::AkIndex;
 use graph_update::Change;
@@ -60,7 +60,7 @@ pub(crate) trait BoxesTask: Drop {
     /// Does it, and says whether all was as it should be. The engine isn't open yet.
     fn carry_out(self, alloc: Global, engine: &mut Engine) -> bool
         requires closed { engine.old.opened ≡ None }
-        requires sound { IsSound (seen meaning engine.old) };
+        requires sound { IsSound (by_meaning meaning engine.old) };
 }
 
 /// Has the task done with an engine that keeps the A(k)-indexes, the 1-index, and an index that never finds memory.

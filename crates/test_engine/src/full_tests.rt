@@ -1,6 +1,6 @@
 // One query, through each index and the graph itself.
 ghost use Rattle.std.specs.Prelude.{◌≡◌, ◌<◌, None, IsSome};
-ghost use Rattle.pathindex_core.specs.Engines.{IsSound, seen};
+ghost use Rattle.pathindex_core.specs.Engines.{IsSound, by_meaning};
 
 use crate::calls::opens;
 use any_index::full_engine;
@@ -19,9 +19,9 @@ use std::test::Fail;
 /// Makes a change.
 pub(crate) fn makes<B: PathIndex>(engine: &mut Engine<B>, alloc: Global, change: Change) -> bool
     requires open { IsSome engine.old.opened }
-    requires sound { IsSound (seen B.meaning engine.old) }
+    requires sound { IsSound (by_meaning B.meaning engine.old) }
     ensures open { IsSome engine.new.opened }
-    ensures sound { IsSound (seen B.meaning engine.new) }
+    ensures sound { IsSound (by_meaning B.meaning engine.new) }
 {
     engine.update(alloc, change).is_ok()
 }
@@ -29,9 +29,9 @@ pub(crate) fn makes<B: PathIndex>(engine: &mut Engine<B>, alloc: Global, change:
 /// Adds a node with this label.
 fn adds<B: PathIndex>(engine: &mut Engine<B>, alloc: Global, label: &str) -> bool
     requires open { IsSome engine.old.opened }
-    requires sound { IsSound (seen B.meaning engine.old) }
+    requires sound { IsSound (by_meaning B.meaning engine.old) }
     ensures open { IsSome engine.new.opened }
-    ensures sound { IsSound (seen B.meaning engine.new) }
+    ensures sound { IsSound (by_meaning B.meaning engine.new) }
 {
     match Text::from_bytes(alloc, label.as_bytes()) {
         Ok(label) => makes(engine, alloc, Change::Node(label)),
@@ -47,9 +47,9 @@ pub(crate) fn adds_both<B: PathIndex>(
     second: &str,
 ) -> bool
     requires open { IsSome engine.old.opened }
-    requires sound { IsSound (seen B.meaning engine.old) }
+    requires sound { IsSound (by_meaning B.meaning engine.old) }
     ensures open { IsSome engine.new.opened }
-    ensures sound { IsSound (seen B.meaning engine.new) }
+    ensures sound { IsSound (by_meaning B.meaning engine.new) }
 {
     adds(engine, alloc, first) && adds(engine, alloc, second)
 }
@@ -57,9 +57,9 @@ pub(crate) fn adds_both<B: PathIndex>(
 /// Links the first node to the second and the third, and the second to the fourth.
 fn links<B: PathIndex>(engine: &mut Engine<B>, alloc: Global) -> bool
     requires open { IsSome engine.old.opened }
-    requires sound { IsSound (seen B.meaning engine.old) }
+    requires sound { IsSound (by_meaning B.meaning engine.old) }
     ensures open { IsSome engine.new.opened }
-    ensures sound { IsSound (seen B.meaning engine.new) }
+    ensures sound { IsSound (by_meaning B.meaning engine.new) }
 {
     makes(engine, alloc, Change::Link(0, 1))
         && makes(engine, alloc, Change::Link(0, 2))
@@ -69,9 +69,9 @@ fn links<B: PathIndex>(engine: &mut Engine<B>, alloc: Global) -> bool
 /// Adds an `a` with two children `b`, the first of which has a child `c`.
 fn grows<B: PathIndex>(engine: &mut Engine<B>, alloc: Global) -> bool
     requires open { IsSome engine.old.opened }
-    requires sound { IsSound (seen B.meaning engine.old) }
+    requires sound { IsSound (by_meaning B.meaning engine.old) }
     ensures open { IsSome engine.new.opened }
-    ensures sound { IsSound (seen B.meaning engine.new) }
+    ensures sound { IsSound (by_meaning B.meaning engine.new) }
 {
     adds_both(engine, alloc, "a", "b") && adds_both(engine, alloc, "b", "c") && links(engine, alloc)
 }
@@ -96,12 +96,12 @@ fn path_counted<B: PathIndex, L: Ledger>(
     blank: Blank,
 ) -> Result<Answer, AskError>
     requires open { IsSome engine.old.opened }
-    requires sound { IsSound (seen B.meaning engine.old) }
+    requires sound { IsSound (by_meaning B.meaning engine.old) }
     requires name { blank.name ≡ L.name }
     requires parts { blank.parts ≡ L.parts }
     requires some { 0 < blank.parts }
     ensures open { IsSome engine.new.opened }
-    ensures sound { IsSound (seen B.meaning engine.new) }
+    ensures sound { IsSound (by_meaning B.meaning engine.new) }
 {
     let mut steps = Steps::<L>::new(blank);
     engine.path(alloc, via, expr, &mut steps)
@@ -116,9 +116,9 @@ pub(crate) fn path_gives<B: PathIndex>(
     nodes: &[NodeId],
 ) -> bool
     requires open { IsSome engine.old.opened }
-    requires sound { IsSound (seen B.meaning engine.old) }
+    requires sound { IsSound (by_meaning B.meaning engine.old) }
     ensures open { IsSome engine.new.opened }
-    ensures sound { IsSound (seen B.meaning engine.new) }
+    ensures sound { IsSound (by_meaning B.meaning engine.new) }
 {
     let answer = path_counted::<B, Brand>(engine, alloc, via, expr, Blank::new(1));
     are(&answer, nodes)
@@ -133,12 +133,12 @@ fn branch_counted<B: PathIndex, L: Ledger>(
     blank: Blank,
 ) -> Result<Answer, AskError>
     requires open { IsSome engine.old.opened }
-    requires sound { IsSound (seen B.meaning engine.old) }
+    requires sound { IsSound (by_meaning B.meaning engine.old) }
     requires name { blank.name ≡ L.name }
     requires parts { blank.parts ≡ L.parts }
     requires some { 0 < blank.parts }
     ensures open { IsSome engine.new.opened }
-    ensures sound { IsSound (seen B.meaning engine.new) }
+    ensures sound { IsSound (by_meaning B.meaning engine.new) }
 {
     let mut steps = Steps::<L>::new(blank);
     engine.branch(alloc, via, query, &mut steps)
@@ -153,9 +153,9 @@ fn branch_gives<B: PathIndex>(
     nodes: &[NodeId],
 ) -> bool
     requires open { IsSome engine.old.opened }
-    requires sound { IsSound (seen B.meaning engine.old) }
+    requires sound { IsSound (by_meaning B.meaning engine.old) }
     ensures open { IsSome engine.new.opened }
-    ensures sound { IsSound (seen B.meaning engine.new) }
+    ensures sound { IsSound (by_meaning B.meaning engine.new) }
 {
     let answer = branch_counted::<B, Brand>(engine, alloc, via, query, Blank::new(1));
     are(&answer, nodes)
@@ -169,9 +169,9 @@ fn path_gives_by_levels<B: PathIndex>(
     nodes: &[NodeId],
 ) -> bool
     requires open { IsSome engine.old.opened }
-    requires sound { IsSound (seen B.meaning engine.old) }
+    requires sound { IsSound (by_meaning B.meaning engine.old) }
     ensures open { IsSome engine.new.opened }
-    ensures sound { IsSound (seen B.meaning engine.new) }
+    ensures sound { IsSound (by_meaning B.meaning engine.new) }
 {
     path_gives(engine, alloc, Via::A(0), expr, nodes)
         && path_gives(engine, alloc, Via::A(1), expr, nodes)
@@ -185,9 +185,9 @@ fn path_gives_else<B: PathIndex>(
     nodes: &[NodeId],
 ) -> bool
     requires open { IsSome engine.old.opened }
-    requires sound { IsSound (seen B.meaning engine.old) }
+    requires sound { IsSound (by_meaning B.meaning engine.old) }
     ensures open { IsSome engine.new.opened }
-    ensures sound { IsSound (seen B.meaning engine.new) }
+    ensures sound { IsSound (by_meaning B.meaning engine.new) }
 {
     path_gives(engine, alloc, Via::Data, expr, nodes)
         && path_gives(engine, alloc, Via::One, expr, nodes)
@@ -202,9 +202,9 @@ fn path_gives_always<B: PathIndex>(
     nodes: &[NodeId],
 ) -> bool
     requires open { IsSome engine.old.opened }
-    requires sound { IsSound (seen B.meaning engine.old) }
+    requires sound { IsSound (by_meaning B.meaning engine.old) }
     ensures open { IsSome engine.new.opened }
-    ensures sound { IsSound (seen B.meaning engine.new) }
+    ensures sound { IsSound (by_meaning B.meaning engine.new) }
 {
     path_gives_by_levels(engine, alloc, expr, nodes) && path_gives_else(engine, alloc, expr, nodes)
 }
@@ -217,9 +217,9 @@ fn path_text_gives<B: PathIndex>(
     nodes: &[NodeId],
 ) -> bool
     requires open { IsSome engine.old.opened }
-    requires sound { IsSound (seen B.meaning engine.old) }
+    requires sound { IsSound (by_meaning B.meaning engine.old) }
     ensures open { IsSome engine.new.opened }
-    ensures sound { IsSound (seen B.meaning engine.new) }
+    ensures sound { IsSound (by_meaning B.meaning engine.new) }
 {
     match PathExpr::parse(alloc, text.as_bytes(), &Limits::program()) {
         Ok(expr) => path_gives_always(engine, alloc, &expr, nodes),
@@ -235,9 +235,9 @@ fn branch_gives_by_levels<B: PathIndex>(
     nodes: &[NodeId],
 ) -> bool
     requires open { IsSome engine.old.opened }
-    requires sound { IsSound (seen B.meaning engine.old) }
+    requires sound { IsSound (by_meaning B.meaning engine.old) }
     ensures open { IsSome engine.new.opened }
-    ensures sound { IsSound (seen B.meaning engine.new) }
+    ensures sound { IsSound (by_meaning B.meaning engine.new) }
 {
     branch_gives(engine, alloc, Via::A(0), query, nodes)
         && branch_gives(engine, alloc, Via::A(1), query, nodes)
@@ -251,9 +251,9 @@ fn branch_gives_else<B: PathIndex>(
     nodes: &[NodeId],
 ) -> bool
     requires open { IsSome engine.old.opened }
-    requires sound { IsSound (seen B.meaning engine.old) }
+    requires sound { IsSound (by_meaning B.meaning engine.old) }
     ensures open { IsSome engine.new.opened }
-    ensures sound { IsSound (seen B.meaning engine.new) }
+    ensures sound { IsSound (by_meaning B.meaning engine.new) }
 {
     branch_gives(engine, alloc, Via::Data, query, nodes)
         && branch_gives(engine, alloc, Via::One, query, nodes)
@@ -268,9 +268,9 @@ fn branch_gives_always<B: PathIndex>(
     nodes: &[NodeId],
 ) -> bool
     requires open { IsSome engine.old.opened }
-    requires sound { IsSound (seen B.meaning engine.old) }
+    requires sound { IsSound (by_meaning B.meaning engine.old) }
     ensures open { IsSome engine.new.opened }
-    ensures sound { IsSound (seen B.meaning engine.new) }
+    ensures sound { IsSound (by_meaning B.meaning engine.new) }
 {
     branch_gives_by_levels(engine, alloc, query, nodes)
         && branch_gives_else(engine, alloc, query, nodes)
@@ -284,9 +284,9 @@ fn branch_text_gives<B: PathIndex>(
     nodes: &[NodeId],
 ) -> bool
     requires open { IsSome engine.old.opened }
-    requires sound { IsSound (seen B.meaning engine.old) }
+    requires sound { IsSound (by_meaning B.meaning engine.old) }
     ensures open { IsSome engine.new.opened }
-    ensures sound { IsSound (seen B.meaning engine.new) }
+    ensures sound { IsSound (by_meaning B.meaning engine.new) }
 {
     match Branch::parse(alloc, text.as_bytes(), &Limits::program()) {
         Ok(query) => branch_gives_always(engine, alloc, &query, nodes),
@@ -297,9 +297,9 @@ fn branch_text_gives<B: PathIndex>(
 /// Whether a few paths have their answers over the small graph.
 fn paths_give<B: PathIndex>(engine: &mut Engine<B>, alloc: Global) -> bool
     requires open { IsSome engine.old.opened }
-    requires sound { IsSound (seen B.meaning engine.old) }
+    requires sound { IsSound (by_meaning B.meaning engine.old) }
     ensures open { IsSome engine.new.opened }
-    ensures sound { IsSound (seen B.meaning engine.new) }
+    ensures sound { IsSound (by_meaning B.meaning engine.new) }
 {
     path_text_gives(engine, alloc, "a/b", &[1, 2])
         && path_text_gives(engine, alloc, "a/b/c", &[3])
@@ -309,9 +309,9 @@ fn paths_give<B: PathIndex>(engine: &mut Engine<B>, alloc: Global) -> bool
 /// Whether a few branching queries do.
 fn branches_give<B: PathIndex>(engine: &mut Engine<B>, alloc: Global) -> bool
     requires open { IsSome engine.old.opened }
-    requires sound { IsSound (seen B.meaning engine.old) }
+    requires sound { IsSound (by_meaning B.meaning engine.old) }
     ensures open { IsSome engine.new.opened }
-    ensures sound { IsSound (seen B.meaning engine.new) }
+    ensures sound { IsSound (by_meaning B.meaning engine.new) }
 {
     branch_text_gives(engine, alloc, "b[not(/c)]", &[2])
         && branch_text_gives(engine, alloc, "b\\a[/b/c]", &[0])
@@ -320,7 +320,7 @@ fn branches_give<B: PathIndex>(engine: &mut Engine<B>, alloc: Global) -> bool
 /// Whether each of a few queries has its answers over the small graph, however it is asked.
 fn queries_give<B: PathIndex>(engine: &mut Engine<B>, alloc: Global) -> bool
     requires closed { engine.old.opened ≡ None }
-    requires sound { IsSound (seen B.meaning engine.old) }
+    requires sound { IsSound (by_meaning B.meaning engine.old) }
 {
     opens(engine, Graph::new(alloc).ok(), Limits::program())
         && grows(engine, alloc)

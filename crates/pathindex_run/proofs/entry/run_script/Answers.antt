@@ -1,7 +1,7 @@
 use Rattle.std.proofs.Common.{◌∙◌, inr, refl, sym, ap, subst}
 use Rattle.bisim_spec.specs.declared.kind.Kind.TheVariants.{Fb}
 use Rattle.command_line.specs.FormValues.{settings_value}
-use Rattle.pathindex_core.specs.Engines.{graph_in, seen}
+use Rattle.pathindex_core.specs.Engines.{graph_in, by_meaning}
 use Rattle.script_interpreter.specs.States.{left_out}
 use Rattle.pathindex_run.specs.ObservableFiles.{BeginsObservable}
 use Rattle.pathindex_run.proofs.RunLemmas.{stopped}
@@ -17,7 +17,7 @@ run_open-requires-clause-ready g c = record { sound = c.open.ensures.sound; open
 
 pub returns-in-Ok-clause-does : goal.returns-in-Ok-clause-does
 returns-in-Ok-clause-does g c =
-    c.run_open.ensures.does _ (opened_for (settings_value c.args.settings.now) _ (seen g.B.PathIndex.meaning c.leave_out-2.new.engine) _ _ c.in-Ok.ensures.opened c.in-Ok.ensures.built c.open.ensures.kinds c.open.ensures.sound
+    c.run_open.ensures.does _ (opened_for (settings_value c.args.settings.now) _ (by_meaning g.B.PathIndex.meaning c.leave_out-2.new.engine) _ _ c.in-Ok.ensures.opened c.in-Ok.ensures.built c.open.ensures.kinds c.open.ensures.sound
     (c.leave_out-2.ensures.kinds ∙ ap (left_out c.args.settings.now.without_fb Fb) c.leave_out.ensures.kinds))
 
 pub returns-in-Err-clause-does : goal.returns-in-Err-clause-does

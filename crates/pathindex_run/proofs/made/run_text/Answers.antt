@@ -1,6 +1,6 @@
 use Rattle.std.proofs.Common.{inl, inr, refl}
 use Rattle.std.proofs.KnownBytes.{Keeps-refl}
-use Rattle.pathindex_core.specs.Engines.{seen}
+use Rattle.pathindex_core.specs.Engines.{by_meaning}
 use Rattle.pathindex_run.proofs.MadeLemmas.{opened_with}
 use Rattle.pathindex_run.proofs.made.run_text.Goals as goal
 
@@ -8,7 +8,7 @@ pub run_open-requires : goal.run_open-requires
 run_open-requires g c = record { ready = record { sound = c.open.ensures.sound; opened = _; opened_is = c.in-Ok.ensures.opened; limits_are = c.program.ensures } }
 
 pub returns-in-Ok-clause-does : goal.returns-in-Ok-clause-does
-returns-in-Ok-clause-does g c = inl (_, opened_with (seen g.B.PathIndex.meaning c.args.engine.now) _ _ c.in-Ok.ensures.opened c.in-Ok.ensures.built c.open.ensures.kinds c.open.ensures.sound, c.run_open.ensures.does)
+returns-in-Ok-clause-does g c = inl (_, opened_with (by_meaning g.B.PathIndex.meaning c.args.engine.now) _ _ c.in-Ok.ensures.opened c.in-Ok.ensures.built c.open.ensures.kinds c.open.ensures.sound, c.run_open.ensures.does)
 
 pub returns-in-Err-clause-does : goal.returns-in-Err-clause-does
 returns-in-Err-clause-does g c = inr (Keeps-refl (g.K.Sink.written c.args.sink.now), inr refl)

@@ -1,7 +1,7 @@
 use Rattle.std.proofs.Common.{◌≡◌, ◌∙◌, ap, sym, rules}
 use Rattle.std.specs.Prelude.{is_some}
 use Rattle.std.proofs.lemmas.Result.{err_from_is_err_and}
-use Rattle.pathindex_core.specs.Engines.{seen}
+use Rattle.pathindex_core.specs.Engines.{by_meaning}
 use Rattle.script_interpreter.specs.declared.script.Ending.TheVariants.{Bad}
 use Rattle.script_interpreter.specs.Endings.{status_at}
 use Rattle.script_interpreter.specs.EngineStates.{state_in}
@@ -14,11 +14,11 @@ use Rattle.script_interpreter.proofs.script.run_lines.Goals as goal
 pub returns-in_err-reader-clause-part : goal.returns-in_err-reader-clause-part
 returns-in_err-reader-clause-part g c =
     let p = err_from_is_err_and c.from_residual.result c.from_residual.ensures.1 in
-    rw p.1 (prefix-part _ _ (reached-start (rules_for c.args.printing) (state_in (seen g.B.PathIndex.meaning c.args.engine.now)) (g.H.Shelf.left c.args.shelf.now) (g.K.Sink.written c.args.sink.now)) _ (nothing_written _ _))
+    rw p.1 (prefix-part _ _ (reached-start (rules_for c.args.printing) (state_in (by_meaning g.B.PathIndex.meaning c.args.engine.now)) (g.H.Shelf.left c.args.shelf.now) (g.K.Sink.written c.args.sink.now)) _ (nothing_written _ _))
 
 pub lines-init : goal.lines-init
 lines-init g c = record {
-  reached = rw (c.in_ok-reader.ensures, c.new-output.ensures) (reached-start (rules_for c.args.printing) (state_in (seen g.B.PathIndex.meaning c.args.engine.now)) (g.H.Shelf.left c.args.shelf.now) (g.K.Sink.written c.args.sink.now));
+  reached = rw (c.in_ok-reader.ensures, c.new-output.ensures) (reached-start (rules_for c.args.printing) (state_in (by_meaning g.B.PathIndex.meaning c.args.engine.now)) (g.H.Shelf.left c.args.shelf.now) (g.K.Sink.written c.args.sink.now));
   printing = ap (λ o. o.printing) c.new-output.ensures;
   ready = c.requires.ready;
   can = rw c.in_ok-reader.ensures (search rules);
@@ -62,8 +62,8 @@ returns-in-Ok-AtBad-clause-part g c =
 pub returns-in-Ok-AtEnd-clause-ran : goal.returns-in-Ok-AtEnd-clause-ran
 returns-in-Ok-AtEnd-clause-ran g c =
     let goes = rw (c.in-Ok-AtEnd.field-0-is, c.in_ok-flush_if_due.ensures.kept) at c.in-Ok-AtEnd.ensures.goes in
-    let p = progress (state_in (seen g.B.PathIndex.meaning c.lines.engine)) c.lines.output.refused c.lines.reader in
-    let q = progress (state_in (seen g.B.PathIndex.meaning c.next_line.new.engine)) c.next_line.new.output.refused c.next_line.new.reader in
+    let p = progress (state_in (by_meaning g.B.PathIndex.meaning c.lines.engine)) c.lines.output.refused c.lines.reader in
+    let q = progress (state_in (by_meaning g.B.PathIndex.meaning c.next_line.new.engine)) c.next_line.new.output.refused c.next_line.new.reader in
     let e : status_at c.ending_of.result ≡ end_status p = c.ending_of.ensures q (sym c.is_refused.ensures) ∙ goes.2 in
     ok_fact c.finish-in-Ok-AtEnd.result c.ending_of.result _ _ c.finish-in-Ok-AtEnd.ensures.ending c.finish-in-Ok-AtEnd.ensures.all
     (λ w. rw e (ran-over _ _ (reached-written c.lines.invariant.reached _ _ c.in_ok-flush_if_due.ensures.written) goes.0 _ _ goes.3 w _ (record { is_open = ap is_some c.next_line.ensures.ready.opened_is; state = goes.1 })))

@@ -1,7 +1,7 @@
 use Rattle.std.proofs.Common.{◌≡◌, ◌-◌, ◌≤◌}
 use Rattle.px_base.specs.declared.lines.TheConstants.{SCRIPT_BYTES}
 use Rattle.px_base.specs.ReaderStates.{stream}
-use Rattle.pathindex_core.specs.Engines.{seen}
+use Rattle.pathindex_core.specs.Engines.{by_meaning}
 use Rattle.script_interpreter.specs.EngineStates.{IsOpen, state_in}
 use Rattle.script_interpreter.specs.Rules.{rules_for}
 use Rattle.script_interpreter.specs.RunSteps.{progress, CanRead}
@@ -10,10 +10,10 @@ use Rattle.script_interpreter.proofs.script.run_lines.Given as goal
 
 abbrev pub invariant-lines : goal.invariant-lines
 invariant-lines g l = record {
-  reached : Reached (rules_for l.fn.printing) (state_in (seen g.B.PathIndex.meaning l.fn.engine)) (g.H.Shelf.left l.fn.shelf) (stream l.reader (g.H.Shelf.left l.shelf)) (g.K.Sink.written l.fn.sink) (g.K.Sink.written l.sink) l.output.text
-      (progress (state_in (seen g.B.PathIndex.meaning l.engine)) l.output.refused l.reader);
+  reached : Reached (rules_for l.fn.printing) (state_in (by_meaning g.B.PathIndex.meaning l.fn.engine)) (g.H.Shelf.left l.fn.shelf) (stream l.reader (g.H.Shelf.left l.shelf)) (g.K.Sink.written l.fn.sink) (g.K.Sink.written l.sink) l.output.text
+      (progress (state_in (by_meaning g.B.PathIndex.meaning l.engine)) l.output.refused l.reader);
   printing : l.output.printing ≡ l.fn.printing;
-  ready : IsOpen (seen g.B.PathIndex.meaning l.engine);
+  ready : IsOpen (by_meaning g.B.PathIndex.meaning l.engine);
   can : CanRead l.reader (g.H.Shelf.is_open l.shelf);
   taken : l.reader.taken ≤ SCRIPT_BYTES;
   files : g.H.Shelf.files l.shelf ≡ g.H.Shelf.files l.fn.shelf;

@@ -1,14 +1,14 @@
 use Rattle.std.proofs.Common.{sym, subst}
-use Rattle.pathindex_core.specs.Engines.{IsSound, seen}
+use Rattle.pathindex_core.specs.Engines.{IsSound, by_meaning}
 use Rattle.pathindex_core.proofs.Asked.{sound_asked, asked}
 use Rattle.pathindex_core.proofs.engine.Engine.ask.Goals as goal
 
 pub returns-clause-sound : goal.returns-clause-sound
 returns-clause-sound g c =
-    let sound = subst (λ v. IsSound (seen g.B.PathIndex.meaning v)) (sym c.self.view_is) c.requires.sound in
+    let sound = subst (λ v. IsSound (by_meaning g.B.PathIndex.meaning v)) (sym c.self.view_is) c.requires.sound in
     sound_asked c.self.inside.state c.in-Some.open _ _ c.in-Some.is sound c.ask.ensures.keeps c.ask.ensures.kept
 
 pub returns-clause-asked : goal.returns-clause-asked
 returns-clause-asked g c =
-    let sound = subst (λ v. IsSound (seen g.B.PathIndex.meaning v)) (sym c.self.view_is) c.requires.sound in
+    let sound = subst (λ v. IsSound (by_meaning g.B.PathIndex.meaning v)) (sym c.self.view_is) c.requires.sound in
     rw (← c.self.view_is) (asked c.self.inside.state c.in-Some.open _ _ c.in-Some.is sound c.ask.ensures.keeps)

@@ -1,6 +1,6 @@
 use Rattle.std.proofs.Common.{map, sym, subst}
 use Rattle.graph_update.specs.Verdicts.{change_of}
-use Rattle.pathindex_core.specs.Engines.{Opened, IsSound, engine_seen, seen}
+use Rattle.pathindex_core.specs.Engines.{Opened, IsSound, engine_seen, by_meaning}
 use Rattle.pathindex_core.proofs.Sound.{sound_updated, kinds_updated, made}
 use Rattle.pathindex_core.proofs.engine.Engine.update.Goals as goal
 
@@ -8,7 +8,7 @@ pub returns-clause-sound : goal.returns-clause-sound
 returns-clause-sound g c =
     let o = c.in-Some.open in
     sound_updated c.update.result (record { graph = o.graph.graph; limits = o.limits; k = o.k }) _ _ _ c.update.ensures.ready c.update.ensures.err_graph c.update.ensures.err_boxes
-    (subst (λ st. IsSound (engine_seen (map g.B.PathIndex.meaning c.self.inside.boxes.items) st)) c.in-Some.is (subst (λ v. IsSound (seen g.B.PathIndex.meaning v)) (sym c.self.view_is) c.requires.sound))
+    (subst (λ st. IsSound (engine_seen (map g.B.PathIndex.meaning c.self.inside.boxes.items) st)) c.in-Some.is (subst (λ v. IsSound (by_meaning g.B.PathIndex.meaning v)) (sym c.self.view_is) c.requires.sound))
 
 pub returns-clause-refused : goal.returns-clause-refused
 returns-clause-refused g c = rw (← c.self.view_is, c.in-Some.is) c.update.ensures.refused
