@@ -5,11 +5,13 @@ Each run makes a small random script of changes, queries, lists and sizes. With 
 after each, from the first node on, the 1-index and the A(k)-indexes up to A(3) at least are listed; in some of these runs, and in
 no others, a node gains many neighbours one by one, and loses them. At the end it is printed how many changes there were. What the
 program writes must be what the definitions below give, which work on pairs of nodes and know neither splitting
-of blocks nor automata nor sets that spread along an axis. Where walks come back to their beginning several partitions of the
+of blocks nor automata nor sets that spread along an axis. The least walk of an answer is the first that matches of all that
+end there. Where walks come back to their beginning several partitions of the
 1-index are lawful, so of that which the program lists the demands are tested: it is stable, no two blocks can be merged, and
 since it was last listed nodes that no change reaches are together as before. The first script whose output is wrong is printed
 with it, and the exit status is 1.
 """
+import functools
 import random
 import subprocess
 import sys
@@ -24,6 +26,7 @@ SPOKES = 20, 40
 # the bounds of k, in runs of changes and in the others
 CHANGES_K = 3, 5
 QUERIES_K = 0, 4
+WALK = 6  # up to so many nodes all walks that end in a node are tried, from the least on
 RUNS = 300
 
 
@@ -201,6 +204,51 @@ def meaning(graph, edges, e):
     return joined(edges, joined(edges, of(e[1]), between), of(e[2]))
 
 
+@functools.cache
+def matches(e, word):
+    """Whether the list of labels is a word of the expression."""
+    if e[0] == "label":
+        return word == (e[1],)
+    if e[0] == "any":
+        return len(word) == 1
+    if e[0] == "opt":
+        return not word or matches(e[1], word)
+    if e[0] == "or":
+        return matches(e[1], word) or matches(e[2], word)
+    places = range(len(word) + 1)
+    if e[0] == "star":
+        return not word or any(matches(e[1], word[:i]) and matches(e, word[i:]) for i in places[1:])
+    if e[0] == "plus":
+        return any(matches(e[1], word[:i]) and matches(("star", e[1]), word[i:]) for i in places)
+    return any(
+        matches(e[1], word[:i]) and matches(e[2], word[j:])
+        for i in places for j in places if (i == j if e[0] == "child" else i <= j)
+    )
+
+
+def is_shown(graph, e, nodes):
+    """Whether the nodes are a walk of the graph whose word matches."""
+    are_linked = all(map(graph.is_live, nodes)) and all(edge in graph.edges for edge in zip(nodes, nodes[1:]))
+    return are_linked and matches(e, tuple(graph.labels[n] for n in nodes))
+
+
+def walks_to(graph, node, count):
+    """The walks of so many nodes that end in this one, rising."""
+    walks = [(node,)]
+    for _ in range(count - 1):
+        walks = [(p,) + walk for walk in walks for p in graph.parents(walk[0])]
+    return sorted(walks)
+
+
+def least_walk(graph, e, node):
+    """The least walk that ends in the node and whose word matches, if there is one of up to WALK nodes."""
+    for count in range(1, WALK + 1):
+        for walk in walks_to(graph, node, count):
+            if is_shown(graph, e, walk):
+                return walk
+    return None
+
+
 def answers(graph, edges, e):
     return sorted({v for _, v in meaning(graph, edges, e)[1]})
 
@@ -373,6 +421,16 @@ def writes(*wanted):
     return test
 
 
+def shows_long(graph, e, node):
+    """The test that a walk of more than WALK nodes is written which ends in the node and matches."""
+    def test(output):
+        head, nodes = output.next().split(), [int(word[1:]) for word in output.next().split()]
+        if head != ["walk", str(len(nodes))] or len(nodes) <= WALK:
+            return f"wanted a walk of more than {WALK} nodes, written {head} and {nodes}"
+        return None if nodes[-1] == node and is_shown(graph, e, nodes) else f"{nodes} shows nothing"
+    return test
+
+
 def lists(graph, blocks):
     lines = [" ".join([graph.labels[b[0]]] + [f"n{n}" for n in b]) for b in blocks]
     return writes(f"blocks {len(blocks)}", *lines)
@@ -419,6 +477,8 @@ class Run:
         self.moves = Moves()
         self.has_hub = changes_alone and self.pick.randrange(HUB_RUNS) == 0
         self.changes = 0
+        # the walks that are tried, and those of more than one node
+        self.walks = [0, 0]
         # those after which the 1-index is listed, on acyclic graphs and on others
         self.ones = [0, 0]
         self.script = []
@@ -429,7 +489,7 @@ class Run:
             self.hub()
             return
         changes = [self.node, self.link, self.link, self.link, self.unlink, self.unlink, self.drop]
-        asks = [self.path, self.path, self.branch, self.branch, self.extents, self.sizes]
+        asks = [self.path, self.path, self.why, self.why, self.branch, self.branch, self.extents, self.sizes]
         for _ in range(LINES):
             if changes_alone and self.may_have_rings and not has_ring(self.graph):
                 self.close_ring()
@@ -570,6 +630,32 @@ class Run:
             written = [f"answers {len(found)} candidates {len(candidates)} checked"] + nodes
         self.say(f"path {word} {spelled(e)}", writes(*written))
 
+    def why(self):
+        e = expression(self.pick, 3)
+        found = answers(self.graph, self.graph.edges, e)
+        node = self.pick.choice(found) if found and self.pick.randrange(4) else self.any_node()
+        line = f"why n{node} {spelled(e)}"
+        if not self.graph.is_live(node):
+            self.say(line, writes("refused no-node"))
+        elif node not in found:
+            self.say(line, writes("none"))
+        else:
+            self.show(line, e, node, least_walk(self.graph, e, node))
+
+    def show(self, line, e, node, walk):
+        """An answer's walk, and the checks of it and of another with one node changed."""
+        if walk is None:
+            self.say(line, shows_long(self.graph.copy(), e, node))
+            return
+        self.walks[0] += 1
+        self.walks[1] += len(walk) > 1
+        self.say(line, writes(f"walk {len(walk)}", " ".join(f"n{n}" for n in walk)))
+        changed = list(walk)
+        changed[self.pick.randrange(len(walk))] = self.any_node()
+        for nodes in walk, changed:
+            names = ",".join(f"n{n}" for n in nodes)
+            self.say(f"check {names} {spelled(e)}", writes("yes" if is_shown(self.graph, e, nodes) else "no"))
+
     def branch(self):
         query = branching_query(self.pick, 2)
         text = spelled_chain([("", query[0])] + query[1])
@@ -634,7 +720,7 @@ def main():
     if not 2 <= len(sys.argv) <= 4 or sys.argv[3:] not in ([], ["changes"]):
         sys.exit(__doc__)
     runs = int(sys.argv[2]) if len(sys.argv) > 2 else RUNS
-    changes, of_hubs, ones = 0, 0, [0, 0]
+    changes, of_hubs, ones, walks = 0, 0, [0, 0], [0, 0]
     for seed in range(runs):
         run = Run(seed, len(sys.argv) == 4)
         with tempfile.NamedTemporaryFile("w", suffix=".script") as script:
@@ -648,7 +734,8 @@ def main():
         changes += run.changes
         of_hubs += run.changes if run.has_hub else 0
         ones = [one + more for one, more in zip(ones, run.ones)]
-    print(f"ok: {runs:,} runs, {changes:,} changes, {of_hubs:,} of them in runs with a hub")
+        walks = [one + more for one, more in zip(walks, run.walks)]
+    print(f"ok: {runs:,} runs, {changes:,} changes, {of_hubs:,} of them in runs with a hub; {walks[0]:,} least walks, {walks[1]:,} of more than one node")
     if len(sys.argv) == 4:
         print(f"the 1-index was listed after {sum(ones):,} of them, {ones[0]:,} on acyclic graphs and {ones[1]:,} on graphs with cycles")
 

@@ -1,4 +1,4 @@
--- With which graph a run begins and which script it runs, where the shelf is observable.
+-- With which graph a run begins and which script it runs, if the shelf is observable.
 use Rattle.std.specs.Prelude.{ℕ, ⊤, List, Option, None, Some}
 use Rattle.px_base.specs.Files.{File, content_of}
 use Rattle.graph_spec.specs.Graphs.{Graph}

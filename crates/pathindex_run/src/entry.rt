@@ -8,7 +8,7 @@ ghost use Rattle.index_api.specs.IndexKinds.{kinds_of};
 ghost use Rattle.pathindex_core.specs.Engines.{IsSound, by_meaning};
 ghost use Rattle.script_interpreter.specs.EngineStates.{state_of, IsOpen, IsIn};
 ghost use Rattle.script_interpreter.specs.States.{BeginsRun, left_out};
-ghost use Rattle.pathindex_run.specs.Headline.{Meets, HasStatus, Completes, NamesScript, NoFault, kinds_for};
+ghost use Rattle.pathindex_run.specs.Headline.{RunsForm, HasStatus, Completes, NamesScript, NoFault, kinds_for};
 ghost use Rattle.pathindex_run.specs.StatusCodes.{code_of};
 ghost use Rattle.pathindex_run.specs.ObservableFiles.{BeginsObservable};
 
@@ -27,7 +27,7 @@ use std::alloc::Global;
 /// Carries out what the words ask for, and answers the exit status. The words are those after the
 /// program's name: `SCRIPT [--graph FILE] [--k N] [--without-one] [--without-fb]`, or `--make SEED`.
 ///
-/// The graph file, where one is named, is loaded first; it is RDF 1.1 N-Triples. The engine drops the indexes that a
+/// The graph file, if one is named, is loaded first; it is RDF 1.1 N-Triples. The engine drops the indexes that a
 /// flag leaves out, and builds the others. Then the script's lines are read from the shelf, and what they print is
 /// written to the sink.
 ///
@@ -37,7 +37,7 @@ use std::alloc::Global;
 ///
 /// | Status | When |
 /// |---|---|
-/// | 0, 1 | the script was read to its end; 1 where a line printed `refused` |
+/// | 0, 1 | the script was read to its end; 1 if a line printed `refused` |
 /// | 2 | the words are malformed, and the usage line is written |
 /// | 3 | a line of the graph file is refused, and `graph` with its number and the reason is written |
 /// | 4 | a line is no command or passes a limit, and `bad` with its number is written |
@@ -60,7 +60,7 @@ pub fn run<B: PathIndex, H: Shelf, K: Sink>(
     requires closed { engine.old.opened ≡ None }
     requires sound { IsSound (by_meaning B.meaning engine.old) }
     ensures sound { IsSound (by_meaning B.meaning engine.new) }
-    ensures meets { Meets (form_of (map string_bytes words.now)) (kinds_of (map B.meaning engine.old.boxes)) (H.files shelf.old) (K.written sink.old)
+    ensures does { RunsForm (form_of (map string_bytes words.now)) (kinds_of (map B.meaning engine.old.boxes)) (H.files shelf.old) (K.written sink.old)
         (K.written sink.new) result (IsIn (by_meaning B.meaning engine.new)) }
     ensures status { HasStatus (form_of (map string_bytes words.now)) (H.files shelf.old) (H.faults shelf.old) (H.faults shelf.new)
         (K.faults sink.old) (K.faults sink.new) result }
@@ -86,7 +86,7 @@ fn run_words<B: PathIndex, H: Shelf, K: Sink>(
     requires closed { engine.old.opened ≡ None }
     requires sound { IsSound (by_meaning B.meaning engine.old) }
     ensures sound { IsSound (by_meaning B.meaning engine.new) }
-    ensures meets { Meets (form_of (map string_bytes words.now)) (kinds_of (map B.meaning engine.old.boxes)) (H.files shelf.old) (K.written sink.old)
+    ensures does { RunsForm (form_of (map string_bytes words.now)) (kinds_of (map B.meaning engine.old.boxes)) (H.files shelf.old) (K.written sink.old)
         (K.written sink.new) (code_of result) (IsIn (by_meaning B.meaning engine.new)) }
     ensures status { HasStatus (form_of (map string_bytes words.now)) (H.files shelf.old) (H.faults shelf.old) (H.faults shelf.new)
         (K.faults sink.old) (K.faults sink.new) (code_of result) }
@@ -117,7 +117,7 @@ fn run_settings<B: PathIndex, H: Shelf, K: Sink>(
     requires sound { IsSound (by_meaning B.meaning engine.old) }
     requires level { settings.now.k ≤ 8 }
     ensures sound { IsSound (by_meaning B.meaning engine.new) }
-    ensures meets { Meets (runs (settings_value settings.now)) (kinds_of (map B.meaning engine.old.boxes)) (H.files shelf.old) (K.written sink.old)
+    ensures does { RunsForm (runs (settings_value settings.now)) (kinds_of (map B.meaning engine.old.boxes)) (H.files shelf.old) (K.written sink.old)
         (K.written sink.new) (code_of result) (IsIn (by_meaning B.meaning engine.new)) }
     ensures status { HasStatus (runs (settings_value settings.now)) (H.files shelf.old) (H.faults shelf.old) (H.faults shelf.new) (K.faults sink.old)
         (K.faults sink.new) (code_of result) }
@@ -148,7 +148,7 @@ fn run_loaded<B: PathIndex, H: Shelf, K: Sink>(
     requires sound { IsSound (by_meaning B.meaning engine.old) }
     requires level { settings.now.k ≤ 8 }
     ensures sound { IsSound (by_meaning B.meaning engine.new) }
-    ensures meets { Meets (runs (settings_value settings.now)) (kinds_of (map B.meaning engine.old.boxes)) (H.files shelf.old) (K.written sink.old)
+    ensures does { RunsForm (runs (settings_value settings.now)) (kinds_of (map B.meaning engine.old.boxes)) (H.files shelf.old) (K.written sink.old)
         (K.written sink.new) (code_of result) (IsIn (by_meaning B.meaning engine.new)) }
     ensures status { HasStatus (runs (settings_value settings.now)) (H.files shelf.old) (H.faults shelf.old) (H.faults shelf.new) (K.faults sink.old)
         (K.faults sink.new) (code_of result) }
@@ -166,7 +166,7 @@ fn run_loaded<B: PathIndex, H: Shelf, K: Sink>(
     }
 }
 
-/// Drops the index of that kind where it is left out.
+/// Drops the index of that kind if it is left out.
 fn leave_out<B: PathIndex>(engine: &mut Engine<B>, kind: Kind, is_left_out: bool)
     requires closed { engine.old.opened ≡ None }
     requires sound { IsSound (by_meaning B.meaning engine.old) }
@@ -193,7 +193,7 @@ fn run_script<B: PathIndex, H: Shelf, K: Sink>(
     requires sound { IsSound (by_meaning B.meaning engine.old) }
     requires level { settings.now.k ≤ 8 }
     ensures sound { IsSound (by_meaning B.meaning engine.new) }
-    ensures meets { Meets (runs (settings_value settings.now)) (kinds_of (map B.meaning engine.old.boxes)) (H.files shelf.old) (K.written sink.old)
+    ensures does { RunsForm (runs (settings_value settings.now)) (kinds_of (map B.meaning engine.old.boxes)) (H.files shelf.old) (K.written sink.old)
         (K.written sink.new) (code_of result) (IsIn (by_meaning B.meaning engine.new)) }
     ensures status { HasStatus (runs (settings_value settings.now)) (H.files shelf.old) (H.faults shelf.old) (H.faults shelf.new) (K.faults sink.old)
         (K.faults sink.new) (code_of result) }
@@ -220,9 +220,9 @@ fn run_open<B: PathIndex, H: Shelf, K: Sink>(
     requires begins { BeginsObservable (settings_value settings.now).graph (H.files shelf.old) (state_of B.meaning engine.old).graph }
     requires ready { IsOpen (by_meaning B.meaning engine.old) }
     ensures sound { IsSound (by_meaning B.meaning engine.new) }
-    ensures meets { (kinds : List Kind) → BeginsRun (state_of B.meaning engine.old).graph (kinds_for (settings_value settings.now) kinds)
+    ensures does { (kinds : List Kind) → BeginsRun (state_of B.meaning engine.old).graph (kinds_for (settings_value settings.now) kinds)
         settings.now.k (state_of B.meaning engine.old)
-        → Meets (runs (settings_value settings.now)) kinds (H.files shelf.old) (K.written sink.old) (K.written sink.new) (code_of result)
+        → RunsForm (runs (settings_value settings.now)) kinds (H.files shelf.old) (K.written sink.old) (K.written sink.new) (code_of result)
         (IsIn (by_meaning B.meaning engine.new)) }
     ensures status { HasStatus (runs (settings_value settings.now)) (H.files shelf.old) (H.faults shelf.old) (H.faults shelf.new) (K.faults sink.old)
         (K.faults sink.new) (code_of result) }

@@ -65,7 +65,7 @@ pub(crate) fn run_made<B: PathIndex, K: Sink>(
     requires closed { engine.old.opened ≡ None }
     requires sound { IsSound (by_meaning B.meaning engine.old) }
     ensures sound { IsSound (by_meaning B.meaning engine.new) }
-    ensures meets { RunsLoaded (made_task seed (kinds_of (map B.meaning engine.old.boxes))) (Some (made_graph_text seed)) (K.written sink.old)
+    ensures does { RunsLoaded (made_task seed (kinds_of (map B.meaning engine.old.boxes))) (Some (made_graph_text seed)) (K.written sink.old)
         (K.written sink.new) (code_of result) (IsIn (by_meaning B.meaning engine.new)) }
     ensures status { HasSinkStatus (K.faults sink.old) (K.faults sink.new) (code_of result) }
 {
@@ -90,7 +90,7 @@ fn run_script<B: PathIndex, K: Sink>(
     requires closed { engine.old.opened ≡ None }
     requires sound { IsSound (by_meaning B.meaning engine.old) }
     ensures sound { IsSound (by_meaning B.meaning engine.new) }
-    ensures runs { RunsFrom (made_task seed (kinds_of (map B.meaning engine.old.boxes))) graph.graph (K.written sink.old) (K.written sink.new) (code_of result)
+    ensures does { RunsFrom (made_task seed (kinds_of (map B.meaning engine.old.boxes))) graph.graph (K.written sink.old) (K.written sink.new) (code_of result)
         (IsIn (by_meaning B.meaning engine.new)) }
     ensures status { HasSinkStatus (K.faults sink.old) (K.faults sink.new) (code_of result) }
 {
@@ -111,7 +111,7 @@ fn run_text<B: PathIndex, K: Sink>(
     requires closed { engine.old.opened ≡ None }
     requires sound { IsSound (by_meaning B.meaning engine.old) }
     ensures sound { IsSound (by_meaning B.meaning engine.new) }
-    ensures runs { RunsFrom (text_task script.now (kinds_of (map B.meaning engine.old.boxes))) graph.graph (K.written sink.old) (K.written sink.new)
+    ensures does { RunsFrom (text_task script.now (kinds_of (map B.meaning engine.old.boxes))) graph.graph (K.written sink.old) (K.written sink.new)
         (code_of result) (IsIn (by_meaning B.meaning engine.new)) }
     ensures status { HasSinkStatus (K.faults sink.old) (K.faults sink.new) (code_of result) }
 {
@@ -130,7 +130,7 @@ fn run_open<B: PathIndex, K: Sink>(
 ) -> Status
     requires ready { IsOpen (by_meaning B.meaning engine.old) }
     ensures sound { IsSound (by_meaning B.meaning engine.new) }
-    ensures runs { RunsScript (rules_for Brief) (state_of B.meaning engine.old) (Some script.now) (K.written sink.old) (K.written sink.new) (code_of result)
+    ensures does { RunsScript (rules_for Brief) (state_of B.meaning engine.old) (Some script.now) (K.written sink.old) (K.written sink.new) (code_of result)
         (IsIn (by_meaning B.meaning engine.new)) }
     ensures status { HasSinkStatus (K.faults sink.old) (K.faults sink.new) (code_of result) }
 {

@@ -54,7 +54,7 @@ found R k same (a ∷ xs) (b ∷ bs) h =
       | false ↦ λ e. subst (λ t. Both R (index_of xs k) (cond t (Some b) (index_of bs k))) (sym e) (found R k same xs bs h.1)
     ] (ap (is_kind k) (same a b h.0))
 
--- what is found is of that kind, and P holds of it where it holds of each
+-- what is found is of that kind, and P holds of it if it holds of each
 found_all : (P : Meaning → Type 0) (k : Kind) (boxes : List Meaning) → All P boxes → (m : Meaning) → index_of boxes k ≡ Some m → P m × (is_kind k m.kind ≡ true)
 found_all P k [] all m e = absurd (cc)
 found_all P k (a ∷ xs) all m e =
@@ -198,7 +198,7 @@ kinds_without k (m ∷ ms) =
       | false ↦ ap (λ ks. m.kind ∷ ks) (kinds_without k ms)
     ]
 
--- the boxes without those of a kind, where it is left out
+-- the boxes without those of a kind, if it is left out
 pub left_out_kinds : (b : Bool) (k : Kind) (olds news : List Meaning) → b ≡ true → news ≡ filter (λ m. not (is_kind k m.kind)) olds → kinds_of news ≡ left_out b k (kinds_of olds)
 left_out_kinds false k olds news e f = absurd (true≢false (sym e))
 left_out_kinds true k olds news e f = ap kinds_of f ∙ kinds_without k olds

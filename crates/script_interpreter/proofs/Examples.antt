@@ -11,7 +11,7 @@ use Rattle.graph_spec.specs.Changes.{Change, node, link, unlink, drop as drop_no
 use Rattle.graph_spec.specs.Words.{node_word}
 use Rattle.path_query.specs.Labels.{IsPlainLabel, SpellsLabel}
 use Rattle.script_interpreter.specs.LineTexts.{reply, bad_line}
-use Rattle.script_read.specs.Commands.{Command, change, path, branch, extents, sizes, forget, IsSpelled, Asks, NoCommand}
+use Rattle.script_read.specs.Commands.{Command, change, path, branch, why, check, extents, sizes, forget, IsSpelled, Asks, by_path, by_branch, by_why, by_check, NoCommand}
 use Rattle.script_read.specs.FirstWords.{first_word}
 use Rattle.script_interpreter.specs.declared.printing.Printing.TheVariants.{Whole, Brief}
 use Rattle.script_interpreter.specs.Rules.{rules_for}
@@ -24,7 +24,7 @@ use Rattle.script_interpreter.specs.Indexes.{ShowsAnswers, answered, ShowsExtent
 use Rattle.branch_query.specs.Queries.{Query}
 use Rattle.pathindex_core.specs.QueryAnswers.{IsAnswered}
 use Rattle.index_api.specs.declared.answers.How.TheVariants as how
-use Rattle.script_interpreter.specs.Runs.{Progress, start, TakesLine, TakesLines, IsRun, PrintsPrefix, IsChanged, Obeys, command, changes, forgets, lacks}
+use Rattle.script_interpreter.specs.Runs.{Progress, start, RunsLine, RunsLines, IsRun, PrintsPrefix, IsChanged, Obeys, command, changes, forgets, lacks}
 
 plain_a : IsPlainLabel (codes "a")
 plain_a = (refl, (λ e. omega (arith, ap (λ l. slice_index l 1) e)), (λ e. omega (arith, ap (λ l. slice_index l 0) e)), (λ e. omega (arith, ap (λ l. slice_index l 0) e)))
@@ -32,9 +32,13 @@ plain_a = (refl, (λ e. omega (arith, ap (λ l. slice_index l 1) e)), (λ e. ome
 pub label_a : SpellsLabel (codes "a") (codes "a")
 label_a = inl (plain_a, refl)
 
--- a line that asks begins with the first byte of `path` (112) or of `branch` (98)
-pub asks_with : (line : List ℕ) → Asks line → (slice_index (first_word line) 0 ≢ 112) → (slice_index (first_word line) 0 ≢ 98) → ⊥
-asks_with line a p b = elim a.1 [ inl x ↦ p (ap (λ l. slice_index l 0) x.0) | inr x ↦ b (ap (λ l. slice_index l 0) x.0) ]
+-- a line that asks begins with the first byte of `path` (112), `branch` (98), `why` (119) or `check` (99)
+pub asks_with : (line : List ℕ) → Asks line → (slice_index (first_word line) 0 ≢ 112) → (slice_index (first_word line) 0 ≢ 98) → (slice_index (first_word line) 0 ≢ 119)
+    → (slice_index (first_word line) 0 ≢ 99) → ⊥
+asks_with line (by_path via x) p b w c = p (ap (λ l. slice_index l 0) x.0)
+asks_with line (by_branch via x) p b w c = b (ap (λ l. slice_index l 0) x.0)
+asks_with line (by_why v x) p b w c = w (ap (λ l. slice_index l 0) x.0)
+asks_with line (by_check nodes x) p b w c = c (ap (λ l. slice_index l 0) x.0)
 
 -- a state in which the A(k)-family is kept, and no other index
 abbrev pub family_of : Graph → ℕ → State
@@ -43,7 +47,7 @@ family_of g k = record { graph = g; kept = record { kinds = kind.A ∷ []; k = k
 abbrev pub first_state : State
 first_state = family_of empty_graph 2
 
--- a run may begin there, where that index is handed in, and not where another is
+-- a run may begin there, if that index is handed in, and not if another is
 begins_there : BeginsRun empty_graph (kind.A ∷ []) 2 first_state
 begins_there = record { graph = refl; kinds = refl; level = refl; one = λ h. absurd (true≢false (sym h)); none = λ _. refl }
 
@@ -73,12 +77,12 @@ one_more = record { graph = refl; kinds = refl; level = refl; same = λ e. absur
 kept_on : (c : Change) (g : Graph) → IsChanged first_state c g (record { graph = g; kept = record { kinds = []; k = 2; one = [] } }) → ⊥
 kept_on c g h = (let same = h.kinds in cc)
 
-takes_one : TakesLine (rules_for Whole) (start first_state) (record { text = codes "node a"; end = 10 ∷ [] }) (codes "added " ++ node_word 0 ++ 10 ∷ []) after_one
+takes_one : RunsLine (rules_for Whole) (start first_state) (record { text = codes "node a"; end = 10 ∷ [] }) (codes "added " ++ node_word 0 ++ 10 ∷ []) after_one
 unfolding after_one
 takes_one = record {
   within = (lit≤ tt, lit≤ tt);
   refuses = false;
-  does = command (change (node (codes "a"))) (codes "a", refl, label_a) (λ o. asks_with (codes "node a") o.0 (λ e. omega (arith, e)) (λ e. omega (arith, e))) _ _ _ (changes (node (codes "a")) _ one_more);
+  does = command (change (node (codes "a"))) (codes "a", refl, label_a) (λ o. asks_with (codes "node a") o.0 (λ e. omega (arith, e)) (λ e. omega (arith, e)) (λ e. omega (arith, e)) (λ e. omega (arith, e))) _ _ _ (changes (node (codes "a")) _ one_more);
   refused = refl;
   lines = refl;
   bytes = refl;
@@ -99,6 +103,8 @@ no_label = (λ q. omega (arith, q), other)
     other (change (drop_node u)) h = omega (arith, ap length h.0)
     other (path via e) h = omega (arith, ap (λ l. slice_index l 0) h.0.0)
     other (branch via q) h = omega (arith, ap (λ l. slice_index l 0) h.0.0)
+    other (why v e) h = omega (arith, ap (λ l. slice_index l 0) h.0.0)
+    other (check nodes e) h = omega (arith, ap (λ l. slice_index l 0) h.0.0)
     other (extents via) h = omega (arith, ap length h.0)
     other sizes h = omega (arith, ap (λ ws. slice_index (first ws) 0) h)
     other (forget kind) h = omega (arith, ap length h)
@@ -113,7 +119,7 @@ run_bad = record {
   ending = bad_line 2;
   script_is = refl;
   takes = (codes "added " ++ node_word 0 ++ 10 ∷ [], [], after_one, takes_one, (refl, refl), sym (append-nil _));
-  ends = (λ _. (no_label, λ o. asks_with (codes "node") o.0 (λ e. omega (arith, e)) (λ e. omega (arith, e))), refl, refl);
+  ends = (λ _. (no_label, λ o. asks_with (codes "node") o.0 (λ e. omega (arith, e)) (λ e. omega (arith, e)) (λ e. omega (arith, e)) (λ e. omega (arith, e))), refl, refl);
   output_is = refl;
 }
 
@@ -141,7 +147,7 @@ ran_one = record {
 last_of_empty : (old new : Option (List ℕ)) (status : ℕ) (Last : State → Type 0) → RanObservable (rules_for Whole) first_state (Some []) old new status Last → Last first_state
 last_of_empty old new status Last r = subst (λ p. Last p.state) (only r.is_run.before r.is_run.left r.is_run.printed r.last r.is_run.script_is r.is_run.takes) r.ends_in
   where
-    only : (before left : List Line) (printed : List ℕ) (last : Progress) → [] ≡ before ++ left → TakesLines (rules_for Whole) (start first_state) before printed last → last ≡ start first_state
+    only : (before left : List Line) (printed : List ℕ) (last : Progress) → [] ≡ before ++ left → RunsLines (rules_for Whole) (start first_state) before printed last → last ≡ start first_state
     only [] left printed last e t = t.1
     only (l ∷ ls) left printed last e t = cc
 

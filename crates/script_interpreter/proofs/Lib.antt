@@ -1,5 +1,6 @@
 pub mod EngineLemmas
 pub mod EngineCalls
+pub mod WalkCalls
 pub mod TakenLemmas
 pub mod PrefixLemmas
 pub mod ReachedLemmas

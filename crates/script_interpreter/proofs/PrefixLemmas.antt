@@ -2,7 +2,7 @@
 use Rattle.std.proofs.Common.{◌≡◌, ℕ, List, [], ◌∷◌, ◌++◌, refl, sym, ap, ◌∙◌, append_assoc, append-nil, subst, ◌⊎◌, inl, inr}
 use Rattle.script_interpreter.specs.Rules.{Rules}
 use Rattle.graph_spec.specs.Lines.{Line}
-use Rattle.script_interpreter.specs.Runs.{Progress, TakesLine, TakesLines, PrintsPrefix, RunsPrefix}
+use Rattle.script_interpreter.specs.Runs.{Progress, RunsLine, RunsLines, PrintsPrefix, RunsPrefix}
 
 -- of two ways to part a text, the one is a prefix of the other
 prefixes : (a b c d : List ℕ) → a ++ b ≡ c ++ d → ((m : List ℕ) × (a ≡ c ++ m)) ⊎ ((m : List ℕ) × (c ≡ a ++ m) × (b ≡ m ++ d))
@@ -18,7 +18,7 @@ prefixes (x ∷ a) b (y ∷ c) d e =
 
 -- the lines begin with one that is taken
 prefix_on : {rules : Rules} (p : Progress) (l : Line) (text : List ℕ) (mid : Progress) (ls : List Line) (output : List ℕ)
-    → TakesLine rules p l text mid → RunsPrefix rules mid ls output → RunsPrefix rules p (l ∷ ls) (text ++ output)
+    → RunsLine rules p l text mid → RunsPrefix rules mid ls output → RunsPrefix rules p (l ∷ ls) (text ++ output)
 prefix_on p l text mid ls output t r = record {
   before = l ∷ r.before;
   left = r.left;
@@ -32,7 +32,7 @@ prefix_on p l text mid ls output t r = record {
 }
 
 -- some lines are taken, and `more` is what may come next: each prefix of the whole is a prefix of a run
-pub prefix_of : {rules : Rules} (p : Progress) (lines : List Line) (printed : List ℕ) (q : Progress) → TakesLines rules p lines printed q
+pub prefix_of : {rules : Rules} (p : Progress) (lines : List Line) (printed : List ℕ) (q : Progress) → RunsLines rules p lines printed q
     → (left : List Line) (more : List ℕ) → ((f r : List ℕ) → more ≡ f ++ r → PrintsPrefix rules q left f)
     → (prefix rest : List ℕ) → printed ++ more ≡ prefix ++ rest → RunsPrefix rules p (lines ++ left) prefix
 prefix_of {rules} p [] printed q t left more next prefix rest e = record {
@@ -56,7 +56,7 @@ prefix_of {rules} p (l ∷ ls) printed q t left more next prefix rest e =
         last = p;
         lines_are = refl;
         takes = (refl, refl);
-        next = inr (m.0, inl (t.2, subst (λ x. TakesLine rules p l x t.2) m.1 t.3));
+        next = inr (m.0, inl (t.2, subst (λ x. RunsLine rules p l x t.2) m.1 t.3));
         output_is = refl;
       }
       | inr m ↦ subst (RunsPrefix rules p (l ∷ (ls ++ left))) (sym m.1)
@@ -64,7 +64,7 @@ prefix_of {rules} p (l ∷ ls) printed q t left more next prefix rest e =
     ]
 
 -- nothing more comes
-pub prefix_of_taken : {rules : Rules} (p : Progress) (lines : List Line) (printed : List ℕ) (q : Progress) → TakesLines rules p lines printed q
+pub prefix_of_taken : {rules : Rules} (p : Progress) (lines : List Line) (printed : List ℕ) (q : Progress) → RunsLines rules p lines printed q
     → (left : List Line) (prefix rest : List ℕ) → printed ≡ prefix ++ rest → RunsPrefix rules p (lines ++ left) prefix
 prefix_of_taken {rules} p lines printed q t left prefix rest e =
     prefix_of p lines printed q t left [] (λ f r n. subst (PrintsPrefix rules q left) (nil_prefix f r n) (inl refl)) prefix rest (append-nil printed ∙ e)

@@ -9,12 +9,12 @@ use Rattle.px_base.specs.Files.{AppendsPrefix}
 use Rattle.px_base.specs.ReaderStates.{IsFirst, IsOver}
 use Rattle.script_interpreter.specs.LineTexts.{bad_line}
 use Rattle.script_interpreter.specs.States.{State}
-use Rattle.script_interpreter.specs.Runs.{Progress, TakesLine, TakesLines, start, end_text, end_status, RunsPrefix}
+use Rattle.script_interpreter.specs.Runs.{Progress, RunsLine, RunsLines, start, end_text, end_status, RunsPrefix}
 use Rattle.script_interpreter.specs.Observable.{RanObservable, PrefixObservable}
 use Rattle.script_interpreter.specs.RunSteps.{FirstIsBad, Writes}
 use Rattle.script_interpreter.proofs.PrefixLemmas.{prefix_of, prefix_of_taken}
 
--- the lines of the one text are these lines and then those of the other, where the texts are observable
+-- the lines of the one text are these lines and then those of the other, if the texts are observable
 abbrev pub Precede : List Line → Option (List ℕ) → Option (List ℕ) → Type 0
 Precede lines None after = Unit {0}
 Precede lines (Some text) None = ⊥
@@ -25,15 +25,15 @@ pub record Reached (rules : Rules) (first : State) (before after old new : Optio
   pub lines : List Line
   pub printed : List ℕ
   pub prefix : List ℕ
-  pub takes : TakesLines rules (start first) lines printed p
+  pub takes : RunsLines rules (start first) lines printed p
   pub observable : Precede lines before after
   pub written : Appends old new prefix
   pub printed_is : printed ≡ prefix ++ gathered
 
 takes_push : {rules : Rules} (p : Progress) (lines : List Line) (printed : List ℕ) (q : Progress) (l : Line) (text : List ℕ) (r : Progress)
-    → TakesLines rules p lines printed q → TakesLine rules q l text r → TakesLines rules p (lines ++ l ∷ []) (printed ++ text) r
+    → RunsLines rules p lines printed q → RunsLine rules q l text r → RunsLines rules p (lines ++ l ∷ []) (printed ++ text) r
 takes_push {rules} p [] printed q l text r h k =
-    (text, [], r, subst (λ x. TakesLine rules x l text r) h.1 k, (refl, refl), ap (λ x. x ++ text) h.0 ∙ sym (append-nil text))
+    (text, [], r, subst (λ x. RunsLine rules x l text r) h.1 k, (refl, refl), ap (λ x. x ++ text) h.0 ∙ sym (append-nil text))
 takes_push {rules} p (m ∷ ms) printed q l text r h k =
     (h.0, h.1 ++ text, h.2, h.3, takes_push h.2 ms h.1 q l text r h.4 k, ap (λ x. x ++ text) h.5 ∙ append_assoc h.0 h.1 text)
 
@@ -59,7 +59,7 @@ reached-start rules first before old = record {
 }
 
 pub reached-more : {rules : Rules} {first : State} {a b old new : Option (List ℕ)} {out : List ℕ} {p : Progress} → Reached rules first a b old new out p
-    → (l : Line) (text : List ℕ) (q : Progress) (c : Option (List ℕ)) (gathered : List ℕ) → IsFirst l b c → TakesLine rules p l text q → gathered ≡ out ++ text
+    → (l : Line) (text : List ℕ) (q : Progress) (c : Option (List ℕ)) (gathered : List ℕ) → IsFirst l b c → RunsLine rules p l text q → gathered ≡ out ++ text
     → Reached rules first a c old new gathered q
 reached-more {first = first} {a = a} {b = b} {out = out} {p = p} r l text q c gathered is_first takes e = record {
   lines = r.lines ++ l ∷ [];
@@ -158,7 +158,7 @@ prefix-part {rules} {first} (Some x) (Some y) {old = old} {new = new} {p = p} r 
       (r.printed_is ∙ ap (λ g. r.prefix ++ g) w.gathered_is ∙ sym (append_assoc r.prefix w.prefix w.rest))),
 )
 
--- the same, where the line that is bad was gathered too
+-- the same, if the line that is bad was gathered too
 pub prefix-bad : {rules : Rules} {first : State} (a b : Option (List ℕ)) {old new : Option (List ℕ)} {out : List ℕ} {p : Progress} → Reached rules first a b old new out p
     → FirstIsBad rules p b → (newer : Option (List ℕ)) (gathered : List ℕ) → gathered ≡ out ++ bad_line (p.lines + 1) → PartWritten new newer gathered → PrefixObservable rules first a old newer
 prefix-bad None b r bad newer gathered e w = tt
@@ -173,7 +173,7 @@ prefix-bad {rules} {first} (Some x) (Some y) {old = old} {new = new} {out = out}
       ∙ sym (append_assoc r.prefix w.prefix w.rest))),
 )
 
--- the same, where what the end prints was gathered too
+-- the same, if what the end prints was gathered too
 pub prefix-over : {rules : Rules} {first : State} (a b : Option (List ℕ)) {old new : Option (List ℕ)} {out : List ℕ} {p : Progress} → Reached rules first a b old new out p
     → IsOver b → (newer : Option (List ℕ)) (gathered : List ℕ) → gathered ≡ out ++ end_text p → PartWritten new newer gathered → PrefixObservable rules first a old newer
 prefix-over None b r over newer gathered e w = tt

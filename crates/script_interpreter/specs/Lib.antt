@@ -4,6 +4,7 @@ pub mod Outputs
 pub mod States
 pub mod EngineStates
 pub mod Indexes
+pub mod Walks
 pub mod Runs
 pub mod RunSteps
 pub mod Endings

@@ -29,3 +29,13 @@ reply printing c g (Err r) = refused_line r
 
 abbrev pub bad_line : ℕ → List ℕ
 bad_line n = codes "bad " ++ decimal n ++ 10 ∷ []
+
+-- that a node answers nothing, and whether nodes show why one answers
+abbrev pub none_line : List ℕ
+none_line = codes "none" ++ 10 ∷ []
+
+abbrev pub yes_line : List ℕ
+yes_line = codes "yes" ++ 10 ∷ []
+
+abbrev pub no_line : List ℕ
+no_line = codes "no" ++ 10 ∷ []

@@ -1,4 +1,4 @@
--- Runs of a script, where the shelf is observable, behind what was written, where the sink is observable.
+-- Runs of a script, if the shelf is observable, behind what was written, if the sink is observable.
 use Rattle.std.specs.Prelude.{ℕ, List, ⊤, Option, None, Some}
 use Rattle.std.specs.Io.KnownBytes.{Appends}
 use Rattle.script_interpreter.specs.Rules.{Rules}
@@ -13,7 +13,7 @@ pub record WritesRun (rules : Rules) (first : State) (script : List ℕ) (old ne
   pub is_run : IsRun rules first script output status last
   pub ends_in : Last last.state
 
--- a run of the script was written, where the script is observable
+-- a run of the script was written, if the script is observable
 abbrev pub RanObservable : Rules → State → Option (List ℕ) → Option (List ℕ) → Option (List ℕ) → ℕ → (State → Type 0) → Type 0
 RanObservable rules first None old new status Last = ⊤
 RanObservable rules first (Some script) old new status Last = WritesRun rules first script old new status Last

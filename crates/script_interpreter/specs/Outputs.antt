@@ -9,6 +9,6 @@ pub record Gathered : Type 0 where
   -- whether some line printed `refused`
   pub refused : Bool
 
--- the same after a line that printed this, and told whether it is a refusal
+-- the same after a line that printed this, which is a refusal or not
 abbrev pub with_printed : Gathered → List ℕ → Bool → Gathered
 with_printed g printed refuses = record g { text = g.text ++ printed; refused = refuses || g.refused }

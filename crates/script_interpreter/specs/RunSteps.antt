@@ -17,7 +17,7 @@ use Rattle.script_interpreter.specs.declared.interpreter.Outcome.TheVariants.{Do
 use Rattle.script_interpreter.specs.declared.script.Next.{Next}
 use Rattle.script_interpreter.specs.declared.script.Next.TheVariants.{Taken, AtBad, AtEnd}
 use Rattle.script_interpreter.specs.States.{State}
-use Rattle.script_interpreter.specs.Runs.{Progress, Obeys, Does, TakesLine, IsBad, end_text, end_status}
+use Rattle.script_interpreter.specs.Runs.{Progress, Obeys, Does, RunsLine, IsBad, end_text, end_status}
 
 -- the new text begins with the old one
 pub record Extends (old new : List ℕ) : Type 0 where
@@ -63,11 +63,11 @@ abbrev pub FirstIsBad : Rules → Progress → Option (List ℕ) → Type 0
 FirstIsBad rules p None = ⊤
 FirstIsBad rules p (Some text) = (l : Line) × (ls : List Line) × (cut text ≡ l ∷ ls) × IsBad rules p l
 
--- The run takes a line and gathers what it prints, or it ends: at a bad line, or at the end of the script. Where it
+-- The run takes a line and gathers what it prints, or it ends: at a bad line, or at the end of the script. If it
 -- ends its state is as it was.
 abbrev pub Goes : Rules → Progress → Option (List ℕ) → List ℕ → Next → Progress → Option (List ℕ) → List ℕ → Type 0
 Goes rules p before out Taken q after gathered = (l : Line) × (printed : List ℕ)
-    × IsFirst l before after × TakesLine rules p l printed q × (gathered ≡ out ++ printed)
+    × IsFirst l before after × RunsLine rules p l printed q × (gathered ≡ out ++ printed)
 Goes rules p before out AtBad q after gathered = FirstIsBad rules p before × (q.state ≡ p.state) × (gathered ≡ out ++ bad_line (p.lines + 1))
 Goes rules p before out AtEnd q after gathered = IsOver before × (q.state ≡ p.state) × (end_status q ≡ end_status p) × (gathered ≡ out ++ end_text p)
 

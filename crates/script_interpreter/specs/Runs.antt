@@ -18,10 +18,11 @@ use Rattle.branch_query.specs.Queries as query
 use Rattle.script_interpreter.specs.LineTexts.{reply, refused_line, ok_line, bad_line}
 use Rattle.script_interpreter.specs.States.{State, keeps, forgotten}
 use Rattle.script_interpreter.specs.Indexes.{ShowsAnswers, ShowsExtents, ShowsSizes}
-use Rattle.script_read.specs.Commands.{Command, change, path, branch, extents, sizes, forget, IsQuiet, IsSpelled, PassesLimit, SpellsNothing}
+use Rattle.script_interpreter.specs.Walks.{ShowsWhy, ShowsCheck}
+use Rattle.script_read.specs.Commands.{Command, change, path, branch, why, check, extents, sizes, forget, IsQuiet, IsSpelled, PassesLimit, SpellsNothing}
 
 -- An accepted change leads from the state s to t, whose graph is h. The same indexes are kept. A change that alters
--- nothing leaves the whole state. Each other one moves the blocks of the 1-index, where it is kept, by one step.
+-- nothing leaves the whole state. Each other one moves the blocks of the 1-index, if it is kept, by one step.
 pub record IsChanged (s : State) (c : Change) (h : Graph) (t : State) : Type 0 where
   pub graph : t.graph ≡ h
   pub kinds : t.kept.kinds ≡ s.kept.kinds
@@ -35,18 +36,20 @@ abbrev pub Becomes : State → Change → Result Graph Refusal → State → Typ
 Becomes s c (Ok h) t = IsChanged s c h t
 Becomes s c (Err r) t = t ≡ s
 
--- A command in a state may print this, tell whether it printed a refusal, and lead to that state.
+-- A command in a state may print this, which is a refusal or not, and lead to that state.
 pub data Obeys (rules : Rules) (s : State) : Command → List ℕ → Bool → State → Type 0 where
   changes : (c : Change) (t : State) → Becomes s c (apply c s.graph rules.limits) t
       → Obeys rules s (change c) (reply rules.printing c s.graph (apply c s.graph rules.limits)) (is_err (apply c s.graph rules.limits)) t
   asks_path : (via : Via) (e : Expr) (text : List ℕ) (refuses : Bool) → ShowsAnswers rules.printing s (query.path e) via text refuses → Obeys rules s (path via e) text refuses s
   asks_branch : (via : Via) (q : Branch) (text : List ℕ) (refuses : Bool) → ShowsAnswers rules.printing s (query.branch q) via text refuses → Obeys rules s (branch via q) text refuses s
+  explains : (v : ℕ) (e : Expr) (text : List ℕ) (refuses : Bool) → ShowsWhy s v e text refuses → Obeys rules s (why v e) text refuses s
+  checks : (nodes : List ℕ) (e : Expr) (text : List ℕ) → ShowsCheck s nodes e text → Obeys rules s (check nodes e) text false s
   lists : (via : Via) (text : List ℕ) (refuses : Bool) → ShowsExtents s via text refuses → Obeys rules s (extents via) text refuses s
   measures : (text : List ℕ) → ShowsSizes s text → Obeys rules s sizes text false s
   forgets : (kind : Kind) → keeps s kind ≡ true → Obeys rules s (forget kind) (if_whole rules.printing ok_line) false (forgotten kind s)
   lacks : (kind : Kind) → keeps s kind ≡ false → Obeys rules s (forget kind) (refused_line NoIndex) true s
 
--- A line in a state may do so too. A query whose expression passes a limit is refused, whatever else it is.
+-- A line in a state may do so too. One that asks with an expression that passes a limit is refused, whatever else it is.
 pub data Does (rules : Rules) (s : State) (line : List ℕ) : List ℕ → Bool → State → Type 0 where
   nothing : IsQuiet line → Does rules s line [] false s
   over : PassesLimit rules.limits line → Does rules s line (refused_line Limit) true s
@@ -74,7 +77,7 @@ abbrev pub IsWithinScript : Progress → Line → Type 0
 IsWithinScript p l = (length l.text ≤ LINE_BYTES) × (bytes_with p l ≤ SCRIPT_BYTES)
 
 -- From here the line may print this and lead there.
-pub record TakesLine (rules : Rules) (p : Progress) (l : Line) (printed : List ℕ) (q : Progress) : Type 0 where
+pub record RunsLine (rules : Rules) (p : Progress) (l : Line) (printed : List ℕ) (q : Progress) : Type 0 where
   pub within : IsWithinScript p l
   pub refuses : Bool
   pub does : Does rules p.state l.text printed refuses q.state
@@ -87,10 +90,10 @@ abbrev pub IsBad : Rules → Progress → Line → Type 0
 IsBad rules p l = IsWithinScript p l → SpellsNothing rules.limits l.text
 
 -- so may these lines, one after another
-abbrev pub TakesLines : Rules → Progress → List Line → List ℕ → Progress → Type 0
-TakesLines rules p [] printed q = (printed ≡ []) × (q ≡ p)
-TakesLines rules p (l ∷ ls) printed q = (text : List ℕ) × (rest : List ℕ) × (mid : Progress)
-    × TakesLine rules p l text mid × TakesLines rules mid ls rest q × (printed ≡ text ++ rest)
+abbrev pub RunsLines : Rules → Progress → List Line → List ℕ → Progress → Type 0
+RunsLines rules p [] printed q = (printed ≡ []) × (q ≡ p)
+RunsLines rules p (l ∷ ls) printed q = (text : List ℕ) × (rest : List ℕ) × (mid : Progress)
+    × RunsLine rules p l text mid × RunsLines rules mid ls rest q × (printed ≡ text ++ rest)
 
 -- what the end of the script prints: nothing
 abbrev pub end_text : Progress → List ℕ
@@ -101,9 +104,9 @@ abbrev pub end_status : Progress → ℕ
 end_status p = if p.refused then 1 else 0
 
 -- The run ends here, and that prints this and gives the status: at the end of the script, or at a bad line.
-abbrev pub Ends : Rules → Progress → List Line → List ℕ → ℕ → Type 0
-Ends rules p [] printed status = (printed ≡ end_text p) × (status ≡ end_status p)
-Ends rules p (l ∷ ls) printed status = IsBad rules p l × (printed ≡ bad_line (p.lines + 1)) × (status ≡ 4)
+abbrev pub EndsRun : Rules → Progress → List Line → List ℕ → ℕ → Type 0
+EndsRun rules p [] printed status = (printed ≡ end_text p) × (status ≡ end_status p)
+EndsRun rules p (l ∷ ls) printed status = IsBad rules p l × (printed ≡ bad_line (p.lines + 1)) × (status ≡ 4)
 
 -- From the first state the script is run to its end or to a bad line.
 pub record IsRun (rules : Rules) (first : State) (script output : List ℕ) (status : ℕ) (last : Progress) : Type 0 where
@@ -113,18 +116,18 @@ pub record IsRun (rules : Rules) (first : State) (script output : List ℕ) (sta
   pub printed : List ℕ
   pub ending : List ℕ
   pub script_is : cut script ≡ before ++ left
-  pub takes : TakesLines rules (start first) before printed last
-  pub ends : Ends rules last left ending status
+  pub takes : RunsLines rules (start first) before printed last
+  pub ends : EndsRun rules last left ending status
   pub output_is : output ≡ printed ++ ending
 
 -- the next line is taken, and prints this
-abbrev pub TakesNext : Rules → Progress → List Line → List ℕ → Type 0
-TakesNext rules p [] text = ⊥
-TakesNext rules p (l ∷ ls) text = (q : Progress) × TakesLine rules p l text q
+abbrev pub RunsNext : Rules → Progress → List Line → List ℕ → Type 0
+RunsNext rules p [] text = ⊥
+RunsNext rules p (l ∷ ls) text = (q : Progress) × RunsLine rules p l text q
 
 -- what comes next prints this: a line that is taken, or the end of the run
 abbrev pub PrintsNext : Rules → Progress → List Line → List ℕ → Type 0
-PrintsNext rules p left text = TakesNext rules p left text ⊎ ((status : ℕ) × Ends rules p left text status)
+PrintsNext rules p left text = RunsNext rules p left text ⊎ ((status : ℕ) × EndsRun rules p left text status)
 
 -- nothing, or a prefix of what comes next prints
 abbrev pub PrintsPrefix : Rules → Progress → List Line → List ℕ → Type 0
@@ -138,7 +141,7 @@ pub record RunsPrefix (rules : Rules) (p : Progress) (lines : List Line) (output
   pub prefix : List ℕ
   pub last : Progress
   pub lines_are : lines ≡ before ++ left
-  pub takes : TakesLines rules p before printed last
+  pub takes : RunsLines rules p before printed last
   pub next : PrintsPrefix rules last left prefix
   pub output_is : output ≡ printed ++ prefix
 

@@ -20,7 +20,7 @@ abbrev pub keeps : State → Kind → Bool
 keeps s kind = has_kind s.kept.kinds kind
 
 -- A state with which a run begins: this graph, and indexes of these kinds with levels up to k. The blocks of the
--- 1-index, where it is kept, are full bisimilarity.
+-- 1-index, if it is kept, are full bisimilarity.
 pub record BeginsRun (g : Graph) (given : List Kind) (k : ℕ) (s : State) : Type 0 where
   pub graph : s.graph ≡ g
   pub kinds : s.kept.kinds ≡ given
@@ -32,7 +32,7 @@ pub record BeginsRun (g : Graph) (given : List Kind) (k : ℕ) (s : State) : Typ
 abbrev pub without : Kind → List Kind → List Kind
 without kind kinds = filter (λ other. not (is_kind kind other)) kinds
 
--- the kinds without that one, where it is left out
+-- the kinds without that one, if it is left out
 abbrev pub left_out : Bool → Kind → List Kind → List Kind
 left_out false kind kinds = kinds
 left_out true kind kinds = without kind kinds

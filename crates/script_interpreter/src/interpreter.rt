@@ -1,25 +1,34 @@
 // Carrying out the lines of a script.
-ghost use Rattle.std.specs.Prelude.{◌≡◌, ◌≢◌, ◌<◌, IfOk, OnOk, OnErr};
+ghost use Rattle.std.specs.Prelude.{◌≡◌, ◌≢◌, ◌<◌, ◌↔◌, IfOk, OnOk, OnErr, IsTrue};
+ghost use Rattle.graph_spec.specs.Graphs.{is_live};
+ghost use Rattle.graph_spec.specs.Shapes.{shape_of};
 ghost use Rattle.graph_update.specs.Verdicts.{change_of};
 ghost use Rattle.index_api.specs.declared.kinds.Via.TheVariants.{Data};
 ghost use Rattle.branch_query.specs.Queries.{query_of};
-ghost use Rattle.script_read.specs.Commands.{change as changing, extents as listing, sizes as measuring, forget as forgetting};
+ghost use Rattle.script_read.specs.Commands.{change as changing, why as asking_why, check as checking};
+ghost use Rattle.script_read.specs.Commands.{extents as listing, sizes as measuring, forget as forgetting};
 ghost use Rattle.script_read.specs.ReadLines.{command_of};
 ghost use Rattle.pathindex_core.specs.Engines.{by_meaning};
 ghost use Rattle.script_interpreter.specs.EngineStates.{state_of, IsOpen};
+ghost use Rattle.script_interpreter.specs.States.{State};
+ghost use Rattle.script_interpreter.specs.Walks.{ShowsLast};
 ghost use Rattle.script_interpreter.specs.RunSteps.{query_command, Obeyed, LineComes};
 
 use crate::output::Output;
 use branch_query::Query;
-use extent_report::answer_text;
+use extent_report::{answer_text, walk_text};
 use graph_update::Change;
 use index_api::{Kind, PathIndex, Via};
+use label_graph::Graph;
+use path_query::PathExpr;
 use pathindex_core::{AskError, Engine, UpdateError};
-use px_base::{Limits, Memory, Refusal, Steps};
+use px_base::{Limits, Memory, NodeId, Refusal, Steps};
 use script_read::{Command, ScriptError, read};
 use std::alloc::Global;
 use std::marker::Brand;
 use std::sync::ledger::{Blank, Ledger};
+use walk_check::holds;
+use walk_proof::{Walk, find};
 
 /// What a line came to.
 #[derive(Clone, Copy)]
@@ -30,7 +39,7 @@ pub(crate) enum Outcome {
     Bad,
 }
 
-/// Makes a change where it is accepted, and gathers what that prints.
+/// Makes a change if it is accepted, and gathers what that prints.
 fn change<B: PathIndex>(
     alloc: Global,
     engine: &mut Engine<B>,
@@ -71,6 +80,84 @@ fn ask<B: PathIndex, L: Ledger>(
         }
         Err(AskError::NoIndex) => output.refuse(Refusal::NoIndex),
         Err(AskError::Memory) => Err(Memory),
+    }
+}
+
+/// Gathers the least walk that shows why a live node answers, or that none does.
+fn show_walk<L: Ledger>(
+    alloc: Global,
+    graph: &Graph,
+    node: NodeId,
+    expr: &PathExpr,
+    output: &mut Output,
+    steps: &mut Steps<L>,
+) -> Result<(), Memory>
+    requires live { IsTrue (is_live graph.now.graph node) }
+    ensures ok { OnOk result ((s : State) → s.graph ≡ graph.now.graph → Obeyed s (asking_why node expr.now) output.old s output.new) }
+    ensures err { OnErr result (output.new ≡ output.old) }
+{
+    match find(alloc, graph, expr, node, steps) {
+        Ok(Some(walk)) => {
+            let text = walk_text(alloc, walk.nodes())?;
+            output.push(text.as_bytes())
+        }
+        Ok(None) => output.push_word("none"),
+        Err(_) => Err(Memory),
+    }
+}
+
+/// Gathers why a node answers. A node that isn't live is refused.
+fn explain<B: PathIndex, L: Ledger>(
+    alloc: Global,
+    engine: &Engine<B>,
+    node: NodeId,
+    expr: &PathExpr,
+    output: &mut Output,
+    steps: &mut Steps<L>,
+) -> Result<(), Memory>
+    requires ready { IsOpen (by_meaning B.meaning engine.now) }
+    ensures ok { OnOk result (Obeyed (state_of B.meaning engine.now) (asking_why node expr.now) output.old (state_of B.meaning engine.now) output.new) }
+    ensures err { OnErr result (output.new ≡ output.old) }
+{
+    let graph = engine.graph();
+    if graph.is_live(node) {
+        show_walk(alloc, graph, node, expr, output, steps)
+    } else {
+        output.refuse(Refusal::NoNode)
+    }
+}
+
+/// Whether the nodes show why the last of them answers.
+fn shows_last(alloc: Global, graph: &Graph, walk: &Walk, expr: &PathExpr) -> Result<bool, Memory>
+    ensures { IfOk result (λ b. IsTrue b ↔ ShowsLast (shape_of graph.now.graph) expr.now walk.now) }
+{
+    let nodes = walk.nodes();
+    match nodes.last() {
+        Some(last) => {
+            let right = holds(alloc, graph, expr, *last, nodes)?;
+            Ok(right)
+        }
+        None => Ok(false),
+    }
+}
+
+/// Gathers whether the nodes show why the last of them answers.
+fn check<B: PathIndex>(
+    alloc: Global,
+    engine: &Engine<B>,
+    walk: &Walk,
+    expr: &PathExpr,
+    output: &mut Output,
+) -> Result<(), Memory>
+    requires ready { IsOpen (by_meaning B.meaning engine.now) }
+    ensures ok { OnOk result (Obeyed (state_of B.meaning engine.now) (checking walk.now expr.now) output.old (state_of B.meaning engine.now) output.new) }
+    ensures err { OnErr result (output.new ≡ output.old) }
+{
+    let right = shows_last(alloc, engine.graph(), walk, expr)?;
+    if right {
+        output.push_word("yes")
+    } else {
+        output.push_word("no")
     }
 }
 
@@ -182,6 +269,8 @@ fn obey<B: PathIndex, L: Ledger>(
                 &mut steps,
             )
         }
+        Command::Why(node, expr) => explain(alloc, engine, node, &expr, output, &mut steps),
+        Command::Check(walk, expr) => check(alloc, engine, &walk, &expr, output),
         Command::Extents(via) => list(alloc, engine, via, output, &mut steps),
         Command::Sizes => measure(alloc, engine, output, &mut steps),
         Command::Forget(kind) => forget(engine, kind, output),

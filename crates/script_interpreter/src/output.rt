@@ -15,7 +15,7 @@ use px_base::{Failed, Memory, Refusal, Sink, put_all};
 use std::alloc::Global;
 use std::marker::Model;
 
-/// What was printed and isn't written yet, and whether some line of the run printed a refusal. Where memory runs out,
+/// What was printed and isn't written yet, and whether some line of the run printed a refusal. If memory runs out,
 /// nothing is gathered.
 #[derive(Drop)]
 pub(crate) struct Output {
@@ -74,7 +74,7 @@ impl Output {
         Ok(())
     }
 
-    /// Gathers what an accepted change did, where that is printed.
+    /// Gathers what an accepted change did, if that is printed.
     pub(crate) fn push_applied(&mut self, applied: Applied) -> Result<(), Memory>
         ensures ok { OnOk result (self.new ≡ with_printed self.old (if_whole self.old.printing (applied_line applied)) false) }
         ensures err { OnErr result (self.new ≡ self.old) }
@@ -82,12 +82,20 @@ impl Output {
         push_applied(&mut self.bytes, applied, self.printing)
     }
 
-    /// Gathers that a command was carried out, where that is printed.
+    /// Gathers that a command was carried out, if that is printed.
     pub(crate) fn push_ok(&mut self) -> Result<(), Memory>
         ensures ok { OnOk result (self.new ≡ with_printed self.old (if_whole self.old.printing ok_line) false) }
         ensures err { OnErr result (self.new ≡ self.old) }
     {
         push_applied(&mut self.bytes, Applied::Done, self.printing)
+    }
+
+    /// Gathers a line of one word.
+    pub(crate) fn push_word(&mut self, word: &str) -> Result<(), Memory>
+        ensures ok { OnOk result (self.new ≡ with_printed self.old (word.now ++ 10 ∷ []) false) }
+        ensures err { OnErr result (self.new ≡ self.old) }
+    {
+        push_line(&mut self.bytes, word.as_bytes(), b"")
     }
 
     /// Gathers that the line of that number is bad.
@@ -143,7 +151,7 @@ fn push_change(out: &mut Vec<u8>, applied: Applied) -> Result<(), Memory>
     }
 }
 
-/// Appends the two texts and LF, or nothing where memory runs out.
+/// Appends the two texts and LF, or nothing if memory runs out.
 fn push_line(out: &mut Vec<u8>, head: &[u8], tail: &[u8]) -> Result<(), Memory>
     ensures ok { OnOk result (out.new.items ≡ out.old.items ++ (head.now ++ tail.now ++ 10 ∷ [])) }
     ensures err { OnErr result (out.new.items ≡ out.old.items) }
@@ -158,7 +166,7 @@ fn push_line(out: &mut Vec<u8>, head: &[u8], tail: &[u8]) -> Result<(), Memory>
     }
 }
 
-/// Appends the two texts and LF, or a prefix of that where memory runs out.
+/// Appends the two texts and LF, or a prefix of that if memory runs out.
 fn push_parts(out: &mut Vec<u8>, head: &[u8], tail: &[u8]) -> Result<(), Memory>
     ensures ok { OnOk result (out.new.items ≡ out.old.items ++ (head.now ++ tail.now ++ 10 ∷ [])) }
     ensures err { OnErr result (Extends out.old.items out.new.items) }
@@ -169,7 +177,7 @@ fn push_parts(out: &mut Vec<u8>, head: &[u8], tail: &[u8]) -> Result<(), Memory>
     Ok(())
 }
 
-/// Appends the text, the number and LF, or nothing where memory runs out.
+/// Appends the text, the number and LF, or nothing if memory runs out.
 fn push_number(out: &mut Vec<u8>, head: &[u8], number: u32) -> Result<(), Memory>
     ensures ok { OnOk result (out.new.items ≡ out.old.items ++ (head.now ++ decimal number ++ 10 ∷ [])) }
     ensures err { OnErr result (out.new.items ≡ out.old.items) }

@@ -121,7 +121,7 @@ fn next_line<B: PathIndex, H: Shelf>(
     }
 }
 
-/// Writes what is gathered where there is much of it, and before the next line is read of the shelf, so that a
+/// Writes what is gathered if there is much of it, and before the next line is read of the shelf, so that a
 /// failing read loses no line that was taken.
 fn flush_if_due<K: Sink>(
     reader: &LineReader,

@@ -1,6 +1,7 @@
--- A line spells at most one command, and none where it is quiet.
-use Rattle.std.proofs.Common.{◌≡◌, ℕ, ◌<◌, ◌^◌, List, [], ◌∷◌, refl, sym, ap, ◌∙◌, subst, arith}
+-- A line spells at most one command, and none if it is quiet.
+use Rattle.std.proofs.Common.{◌≡◌, ◌≢◌, ℕ, ◌<◌, ◌^◌, List, [], ◌∷◌, refl, sym, ap, ◌∙◌, subst, arith, map, ◌⊎◌, inl, inr}
 use Rattle.std.specs.Prelude.{codes, slice_index}
+use Rattle.std.specs.List.{AllByRecursion}
 use Rattle.std.proofs.lemmas.Fmt.{decimal_injective}
 use Rattle.graph_spec.specs.Changes.{node, link, unlink, drop}
 use Rattle.path_query.specs.Labels.{SpellsLabel}
@@ -10,11 +11,11 @@ use Rattle.bisim_spec.specs.declared.kind.Kind.TheVariants as kind
 use Rattle.index_api.specs.declared.kinds.Via.{Via}
 use Rattle.index_api.specs.declared.kinds.Via.TheVariants.{Data, A, One, Fb}
 use Rattle.index_api.specs.Spelling.{via_word, kind_word}
-use Rattle.script_read.specs.FirstWords.{first_word, expression_text}
-use Rattle.script_read.specs.Commands.{Command, change, path, branch, extents, sizes, forget, IsIndex, IsVia, IsQuiet, IsSpelled, SpellsPair, AsksWith, Asks, NoCommand, SpellsOnce, LabelsOnce, PathsOnce, BranchesOnce}
-use Rattle.script_read.specs.ScannedLines.{SaysNode, SaysQuery, IsWhole}
+use Rattle.script_read.specs.FirstWords.{first_word, behind_word, expression_text}
+use Rattle.script_read.specs.Commands.{Command, change, path, branch, why, check, extents, sizes, forget, IsIndex, IsVia, IsQuiet, IsSpelled, SpellsPair, SpellsNodes, AsksWith, Asks, NoCommand, SpellsOnce, LabelsOnce, PathsOnce, BranchesOnce}
+use Rattle.script_read.specs.ScannedLines.{SaysNode, SaysQuery, SaysWhy, SaysCheck, IsWhole}
 use Rattle.script_read.proofs.WordLemmas.{head_word, is_split}
-use Rattle.script_read.proofs.CommandLemmas.{second_same, no_query, OpensWhole, no_part, apart, begins, silent}
+use Rattle.script_read.proofs.CommandLemmas.{second_same, no_query, OpensWhole, no_part, apart, begins, opens_node, silent}
 
 node_number : (m n : ℕ) → m < 2 ^ 32 → n < 2 ^ 32 → node_word m ≡ node_word n → m ≡ n
 node_number m n a b e = decimal_injective m n (omega arith) (omega arith) cc
@@ -59,10 +60,27 @@ kind_one kind.One kind.One e = refl
 kind_one kind.Fb kind.Fb e = refl
 kind_one v w e = absurd (let first = ap (λ l. slice_index l 0) e in omega (arith, first))
 
--- the word behind `node`, where there is one, spells at most one label, and the expression of a query at most one tree
+-- a word spells at most one list of nodes
+one_list : (xs ys : List ℕ) → AllByRecursion (λ n. n < 2 ^ 32) xs → AllByRecursion (λ n. n < 2 ^ 32) ys → map node_word xs ≡ map node_word ys → xs ≡ ys
+one_list [] [] a b e = refl
+one_list [] (y ∷ ys) a b e = cc
+one_list (x ∷ xs) [] a b e = cc
+one_list (x ∷ xs) (y ∷ ys) a b e =
+    let word : node_word x ≡ node_word y = cc in
+    let words : map node_word xs ≡ map node_word ys = cc in
+    ap (λ n. n ∷ xs) (node_number x y a.0 b.0 word) ∙ ap (λ ns. y ∷ ns) (one_list xs ys a.1 b.1 words)
+
+nodes_once : (word xs ys : List ℕ) → SpellsNodes word xs → SpellsNodes word ys → xs ≡ ys
+nodes_once word xs ys h k = one_list xs ys h.1 k.1 (sym h.0 ∙ k.0)
+
+-- the first byte of `path`, `why` or `check`, which a path expression follows
+abbrev OpensPath : ℕ → Type 0
+OpensPath b = (b ≡ 112) ⊎ ((b ≡ 119) ⊎ (b ≡ 99))
+
+-- the word behind `node`, if there is one, spells at most one label, and the expression at most one tree
 record PartsOnce (line : List ℕ) : Type 0 where
   label : (word : List ℕ) → SaysNode line word → LabelsOnce word
-  expression : first_word line ≡ codes "path" → PathsOnce (expression_text line)
+  expression : OpensPath (slice_index (first_word line) 0) → PathsOnce (expression_text line)
   query : first_word line ≡ codes "branch" → BranchesOnce (expression_text line)
 
 command_one : (line : List ℕ) → PartsOnce line → (c d : Command) → IsSpelled line c → IsSpelled line d → c ≡ d
@@ -73,29 +91,43 @@ command_one line o (change (link u v)) (change (link x y)) h k = pair_one line _
 command_one line o (change (unlink u v)) (change (unlink x y)) h k = pair_one line _ u v x y (λ a b. change (unlink a b)) h k
 command_one line o (change (drop u)) (change (drop x)) h k = ap (λ n. change (drop n)) (node_number u x h.1 k.1 (ap second (sym h.0 ∙ k.0)))
 command_one line o (path v e) (path w f) h k =
-    ap (λ v. path v e) (one_way line _ v w h.0 k.0) ∙ ap (path w) (o.expression h.0.0 e f h.1 k.1)
+    ap (λ v. path v e) (one_way line _ v w h.0 k.0) ∙ ap (path w) (o.expression (inl (ap (λ l. slice_index l 0) h.0.0)) e f h.1 k.1)
 command_one line o (branch v e) (branch w f) h k =
     ap (λ v. branch v e) (one_way line _ v w h.0 k.0) ∙ ap (branch w) (o.query h.0.0 e f h.1 k.1)
+command_one line o (why v e) (why w f) h k =
+    ap (λ n. why n e) (node_number v w h.0.2 k.0.2 (sym h.0.1 ∙ k.0.1)) ∙ ap (why w) (o.expression (inr (inl (ap (λ l. slice_index l 0) h.0.0))) e f h.1 k.1)
+command_one line o (check xs e) (check ys f) h k =
+    ap (λ n. check n e) (nodes_once (first_word (behind_word line)) xs ys h.0.1 k.0.1) ∙ ap (check ys) (o.expression (inr (inr (ap (λ l. slice_index l 0) h.0.0))) e f h.1 k.1)
 command_one line o (extents v) (extents w) h k = ap extents (via_one v w (index_via v h.1) (index_via w k.1) (second_same (sym h.0 ∙ k.0)))
 command_one line o sizes sizes h k = refl
 command_one line o (forget v) (forget w) h k = ap forget (kind_one v w (second_same (sym h ∙ k)))
 command_one line o (change c) (path v e) h k = absurd (apart (first_word line) _ _ (begins line (change c) h) (begins line (path v e) k) (no_query c).no_path)
 command_one line o (change c) (branch v e) h k = absurd (apart (first_word line) _ _ (begins line (change c) h) (begins line (branch v e) k) (no_query c).no_branch)
+command_one line o (change c) (why v e) h k = absurd (apart (first_word line) _ _ (begins line (change c) h) (begins line (why v e) k) (no_query c).no_why)
+command_one line o (change c) (check v e) h k = absurd (apart (first_word line) _ _ (begins line (change c) h) (begins line (check v e) k) (no_query c).no_check)
 command_one line o (change c) (extents v) h k = absurd (apart (first_word line) _ _ (begins line (change c) h) (begins line (extents v) k) (no_query c).no_extents)
 command_one line o (change c) sizes h k = absurd (apart (first_word line) _ _ (begins line (change c) h) (begins line sizes k) (no_query c).no_sizes)
 command_one line o (change c) (forget v) h k = absurd (apart (first_word line) _ _ (begins line (change c) h) (begins line (forget v) k) (no_query c).no_forget)
 command_one line o (path v e) (change c) h k = absurd (apart (first_word line) _ _ (begins line (change c) k) (begins line (path v e) h) (no_query c).no_path)
 command_one line o (branch v e) (change c) h k = absurd (apart (first_word line) _ _ (begins line (change c) k) (begins line (branch v e) h) (no_query c).no_branch)
+command_one line o (why v e) (change c) h k = absurd (apart (first_word line) _ _ (begins line (change c) k) (begins line (why v e) h) (no_query c).no_why)
+command_one line o (check v e) (change c) h k = absurd (apart (first_word line) _ _ (begins line (change c) k) (begins line (check v e) h) (no_query c).no_check)
 command_one line o (extents v) (change c) h k = absurd (apart (first_word line) _ _ (begins line (change c) k) (begins line (extents v) h) (no_query c).no_extents)
 command_one line o sizes (change c) h k = absurd (apart (first_word line) _ _ (begins line (change c) k) (begins line sizes h) (no_query c).no_sizes)
 command_one line o (forget v) (change c) h k = absurd (apart (first_word line) _ _ (begins line (change c) k) (begins line (forget v) h) (no_query c).no_forget)
 command_one line o c d h k = absurd (apart (first_word line) _ _ (begins line c h) (begins line d k) (λ e. omega (arith, e)))
 
--- the parts of a line that begins with neither `node` nor `path` nor `branch`
+-- no path expression follows another first word
+no_expression : (line word : List ℕ) → first_word line ≡ word → (slice_index word 0 ≢ 112) → (slice_index word 0 ≢ 119) → (slice_index word 0 ≢ 99) → OpensPath (slice_index (first_word line) 0) → ⊥
+no_expression line word e p w c (inl f) = p (ap (λ l. slice_index l 0) (sym e) ∙ f)
+no_expression line word e p w c (inr (inl f)) = w (ap (λ l. slice_index l 0) (sym e) ∙ f)
+no_expression line word e p w c (inr (inr f)) = c (ap (λ l. slice_index l 0) (sym e) ∙ f)
+
+-- the parts of a line that begins with none of `node`, `path`, `branch`, `why` and `check`
 no_parts : (line word : List ℕ) → first_word line ≡ word → OpensWhole (slice_index word 0) → PartsOnce line
 no_parts line word e o = record {
   label = λ w s. absurd (o.no_node (ap (λ l. slice_index l 0) (sym e ∙ (head_word line _ _ _ _ (is_split line) s).0)));
-  expression = λ f. absurd (o.no_path (ap (λ l. slice_index l 0) (sym e ∙ f)));
+  expression = λ f. absurd (no_expression line word e o.no_path o.no_why o.no_check f);
   query = λ f. absurd (o.no_branch (ap (λ l. slice_index l 0) (sym e ∙ f)));
 }
 
@@ -109,25 +141,35 @@ bad_once line n c d h k = absurd (n.0.1 c h)
 pub node_once : (line word : List ℕ) → SaysNode line word → LabelsOnce word → SpellsOnce line
 node_once line word s once = command_one line (record {
   label = λ w t. subst LabelsOnce (second_same (sym s ∙ t)) once;
-  expression = λ f. absurd (apart (first_word line) _ _ (head_word line _ _ _ _ (is_split line) s).0 f (λ e. omega (arith, e)));
-  query = λ f. absurd (apart (first_word line) _ _ (head_word line _ _ _ _ (is_split line) s).0 f (λ e. omega (arith, e)));
+  expression = λ f. absurd (no_expression line _ (opens_node line word s) (λ e. omega (arith, e)) (λ e. omega (arith, e)) (λ e. omega (arith, e)) f);
+  query = λ f. absurd (apart (first_word line) _ _ (opens_node line word s) f (λ e. omega (arith, e)));
+})
+
+-- the line begins with this word, which a path expression follows
+expression_once : (line word text : List ℕ) → first_word line ≡ word → (slice_index word 0 ≢ 110) → (slice_index word 0 ≢ 98) → text ≡ expression_text line → PathsOnce text → SpellsOnce line
+expression_once line word text e n b s once = command_one line (record {
+  label = λ w t. absurd (apart (first_word line) _ _ e (opens_node line w t) n);
+  expression = λ f. subst PathsOnce s once;
+  query = λ f. absurd (apart (first_word line) _ _ e f b);
 })
 
 pub path_once : (line : List ℕ) (via : Via) (text : List ℕ) → SaysQuery (codes "path") line via text → PathsOnce text → SpellsOnce line
-path_once line via text s once = command_one line (record {
-  label = λ w t. absurd (apart (first_word line) _ _ (head_word line _ _ _ _ (is_split line) t).0 s.0.0 (λ e. omega (arith, e)));
-  expression = λ f. subst PathsOnce s.1 once;
-  query = λ f. absurd (apart (first_word line) _ _ s.0.0 f (λ e. omega (arith, e)));
-})
+path_once line via text s once = expression_once line _ text s.0.0 (λ e. omega (arith, e)) (λ e. omega (arith, e)) s.1 once
+
+pub why_once : (line : List ℕ) (v : ℕ) (text : List ℕ) → SaysWhy line v text → PathsOnce text → SpellsOnce line
+why_once line v text s once = expression_once line _ text s.0.0 (λ e. omega (arith, e)) (λ e. omega (arith, e)) s.1 once
+
+pub check_once : (line word text : List ℕ) → SaysCheck line word text → PathsOnce text → SpellsOnce line
+check_once line word text s once = expression_once line _ text s.0 (λ e. omega (arith, e)) (λ e. omega (arith, e)) s.2 once
 
 pub branch_once : (line : List ℕ) (via : Via) (text : List ℕ) → SaysQuery (codes "branch") line via text → BranchesOnce text → SpellsOnce line
 branch_once line via text s once = command_one line (record {
-  label = λ w t. absurd (apart (first_word line) _ _ (head_word line _ _ _ _ (is_split line) t).0 s.0.0 (λ e. omega (arith, e)));
-  expression = λ f. absurd (apart (first_word line) _ _ s.0.0 f (λ e. omega (arith, e)));
+  label = λ w t. absurd (apart (first_word line) _ _ (opens_node line w t) s.0.0 (λ e. omega (arith, e)));
+  expression = λ f. absurd (no_expression line _ s.0.0 (λ e. omega (arith, e)) (λ e. omega (arith, e)) (λ e. omega (arith, e)) f);
   query = λ f. subst BranchesOnce s.1 once;
 })
 
 pub whole_once : (line : List ℕ) (c : Command) → IsSpelled line c → IsWhole c → SpellsOnce line
 whole_once line c h w = command_one line (no_parts line _ (begins line c h) (no_part c w))
 
-pub ruleset reading_laws = (silent, quiet_once, bad_once, node_once, path_once, branch_once, whole_once)
+pub ruleset reading_laws = (silent, quiet_once, bad_once, node_once, path_once, branch_once, why_once, check_once, whole_once)

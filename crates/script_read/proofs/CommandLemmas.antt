@@ -1,5 +1,5 @@
 -- From the first word of a line to what the line says.
-use Rattle.std.proofs.Common.{◌≡◌, ◌≢◌, ℕ, ◌<◌, ◌^◌, List, [], ◌∷◌, refl, sym, ap, ◌∙◌, subst, arith, Err, IsTrue, inl, inr}
+use Rattle.std.proofs.Common.{◌≡◌, ◌≢◌, ℕ, ◌<◌, ◌^◌, List, [], ◌∷◌, refl, sym, ap, ◌∙◌, subst, arith, Err, IsTrue}
 use Rattle.std.specs.Prelude.{codes, slice_index, ◌↔◌}
 use Rattle.graph_spec.specs.Words.{words}
 use Rattle.graph_spec.specs.Changes.{Change, node, link, unlink, drop}
@@ -12,13 +12,13 @@ use Rattle.path_query.specs.Labels.{SpellsLabel}
 use Rattle.path_query.specs.Parsed.{Spells, is_past}
 use Rattle.branch_spec.specs.Trees.{Branch}
 use Rattle.branch_text.specs.Parsed.{Spells as SpellsQuery}
-use Rattle.script_read.specs.ScannedLines.{SaysNode, SaysQuery, IsWhole, OpensOther}
+use Rattle.script_read.specs.ScannedLines.{SaysNode, SaysQuery, SaysWhy, SaysCheck, IsWhole, OpensReport}
 use Rattle.script_read.specs.ReadLines.{ReadsCommand}
 use Rattle.script_read.specs.declared.commands.ScriptError.{ScriptError}
 use Rattle.script_read.specs.declared.commands.ScriptError.TheVariants.{Bad, Limit, Memory}
 use Rattle.graph_spec.specs.Words.{node_word}
-use Rattle.script_read.specs.Commands.{Command, change, path, branch, extents, sizes, forget, IsIndex, IsVia, SaysNothing, IsQuiet, AsksWith, Asks, SpellsPath, SpellsBranch, PassesLimit, IsSpelled, NoCommand}
-use Rattle.script_read.specs.FirstWords.{IsSplit, OpensNothing, first_word, behind_word}
+use Rattle.script_read.specs.Commands.{Command, change, path, branch, why, check, extents, sizes, forget, IsIndex, IsVia, SaysNothing, IsQuiet, AsksWith, Asks, by_path, by_branch, by_why, by_check, SpellsNodes, SpellsPath, SpellsBranch, SpellsWhy, SpellsCheck, PassesLimit, IsSpelled, NoCommand}
+use Rattle.script_read.specs.FirstWords.{IsSplit, OpensNothing, first_word, behind_word, expression_text}
 use Rattle.script_read.proofs.WordLemmas.{head_word, is_split, words-cons}
 
 pub opens_quiet : (line word rest : List ℕ) → IsSplit line word rest → OpensNothing word → SaysNothing (words line)
@@ -40,6 +40,8 @@ keyword (change (unlink u v)) = codes "unlink"
 keyword (change (drop u)) = codes "drop"
 keyword (path via e) = codes "path"
 keyword (branch via q) = codes "branch"
+keyword (why v e) = codes "why"
+keyword (check nodes e) = codes "check"
 keyword (extents via) = codes "extents"
 keyword sizes = codes "sizes"
 keyword (forget kind) = codes "forget"
@@ -48,32 +50,38 @@ keyword (forget kind) = codes "forget"
 pub second_same : {a b v w : List ℕ} → a ∷ v ∷ [] ≡ b ∷ w ∷ [] → v ≡ w
 second_same e = cc
 
--- a first byte that isn't that of `path`, `branch`, `extents`, `sizes` or `forget`
+-- a first byte that isn't that of `path`, `branch`, `why`, `check`, `extents`, `sizes` or `forget`
 pub record OpensChange (b : ℕ) : Type 0 where
   pub no_path : b ≢ 112
   pub no_branch : b ≢ 98
+  pub no_why : b ≢ 119
+  pub no_check : b ≢ 99
   pub no_extents : b ≢ 101
   pub no_sizes : b ≢ 115
   pub no_forget : b ≢ 102
 
 -- no change is a query
 pub no_query : (c : Change) → OpensChange (slice_index (keyword (change c)) 0)
-no_query (node t) = record { no_path = λ e. omega (arith, e); no_branch = λ e. omega (arith, e); no_extents = λ e. omega (arith, e); no_sizes = λ e. omega (arith, e); no_forget = λ e. omega (arith, e) }
-no_query (link u v) = record { no_path = λ e. omega (arith, e); no_branch = λ e. omega (arith, e); no_extents = λ e. omega (arith, e); no_sizes = λ e. omega (arith, e); no_forget = λ e. omega (arith, e) }
-no_query (unlink u v) = record { no_path = λ e. omega (arith, e); no_branch = λ e. omega (arith, e); no_extents = λ e. omega (arith, e); no_sizes = λ e. omega (arith, e); no_forget = λ e. omega (arith, e) }
-no_query (drop u) = record { no_path = λ e. omega (arith, e); no_branch = λ e. omega (arith, e); no_extents = λ e. omega (arith, e); no_sizes = λ e. omega (arith, e); no_forget = λ e. omega (arith, e) }
+no_query (node t) = record { no_path = λ e. omega (arith, e); no_branch = λ e. omega (arith, e); no_why = λ e. omega (arith, e); no_check = λ e. omega (arith, e); no_extents = λ e. omega (arith, e); no_sizes = λ e. omega (arith, e); no_forget = λ e. omega (arith, e) }
+no_query (link u v) = record { no_path = λ e. omega (arith, e); no_branch = λ e. omega (arith, e); no_why = λ e. omega (arith, e); no_check = λ e. omega (arith, e); no_extents = λ e. omega (arith, e); no_sizes = λ e. omega (arith, e); no_forget = λ e. omega (arith, e) }
+no_query (unlink u v) = record { no_path = λ e. omega (arith, e); no_branch = λ e. omega (arith, e); no_why = λ e. omega (arith, e); no_check = λ e. omega (arith, e); no_extents = λ e. omega (arith, e); no_sizes = λ e. omega (arith, e); no_forget = λ e. omega (arith, e) }
+no_query (drop u) = record { no_path = λ e. omega (arith, e); no_branch = λ e. omega (arith, e); no_why = λ e. omega (arith, e); no_check = λ e. omega (arith, e); no_extents = λ e. omega (arith, e); no_sizes = λ e. omega (arith, e); no_forget = λ e. omega (arith, e) }
 
--- a first byte that isn't that of `node`, `path` or `branch`
+-- a first byte that isn't that of `node`, `path`, `branch`, `why` or `check`
 pub record OpensWhole (b : ℕ) : Type 0 where
   pub no_node : b ≢ 110
   pub no_path : b ≢ 112
   pub no_branch : b ≢ 98
+  pub no_why : b ≢ 119
+  pub no_check : b ≢ 99
 
 pub no_part : (c : Command) → IsWhole c → OpensWhole (slice_index (keyword c) 0)
 no_part (change (node t)) w = absurd w
 no_part (path via e) w = absurd w
 no_part (branch via q) w = absurd w
-no_part c w = record { no_node = λ e. omega (arith, e); no_path = λ e. omega (arith, e); no_branch = λ e. omega (arith, e) }
+no_part (why v e) w = absurd w
+no_part (check nodes e) w = absurd w
+no_part c w = record { no_node = λ e. omega (arith, e); no_path = λ e. omega (arith, e); no_branch = λ e. omega (arith, e); no_why = λ e. omega (arith, e); no_check = λ e. omega (arith, e) }
 
 -- two words that differ in the first byte
 pub apart : (word a b : List ℕ) → word ≡ a → word ≡ b → (slice_index a 0 ≢ slice_index b 0) → ⊥
@@ -86,16 +94,18 @@ begins line (change (unlink u v)) h = (head_word line _ _ _ _ (is_split line) h.
 begins line (change (drop u)) h = (head_word line _ _ _ _ (is_split line) h.0).0
 begins line (path via e) h = h.0.0
 begins line (branch via q) h = h.0.0
+begins line (why v e) h = h.0.0
+begins line (check nodes e) h = h.0.0
 begins line (extents via) h = (head_word line _ _ _ _ (is_split line) h.0).0
 begins line sizes h = (head_word line _ _ _ _ (is_split line) h).0
 begins line (forget kind) h = (head_word line _ _ _ _ (is_split line) h).0
 
--- a line that asks begins with `path` or with `branch`
-pub asks_otherwise : (line k : List ℕ) → first_word line ≡ k → (slice_index k 0 ≢ 112) → (slice_index k 0 ≢ 98) → ¬ Asks line
-asks_otherwise line k e p b a = elim a.1 [
-  | inl x ↦ apart (first_word line) k _ e x.0 p
-  | inr x ↦ apart (first_word line) k _ e x.0 b
-]
+-- a line that asks begins with `path`, `branch`, `why` or `check`
+pub asks_otherwise : (line k : List ℕ) → first_word line ≡ k → (slice_index k 0 ≢ 112) → (slice_index k 0 ≢ 98) → (slice_index k 0 ≢ 119) → (slice_index k 0 ≢ 99) → ¬ Asks line
+asks_otherwise line k e p b w c (by_path via x) = apart (first_word line) k _ e x.0 p
+asks_otherwise line k e p b w c (by_branch via x) = apart (first_word line) k _ e x.0 b
+asks_otherwise line k e p b w c (by_why v x) = apart (first_word line) k _ e x.0 w
+asks_otherwise line k e p b w c (by_check nodes x) = apart (first_word line) k _ e x.0 c
 
 -- what follows the first word
 behind : (line w : List ℕ) (ws : List (List ℕ)) → words line ≡ w ∷ ws → words (behind_word line) ≡ ws
@@ -118,35 +128,35 @@ module _ (line word rest : List ℕ) (loud : ¬ OpensNothing word) (is_first : w
   clash : (k : List ℕ) → word ≡ k → (c : Command) → IsSpelled line c → (slice_index k 0 ≢ slice_index (keyword c) 0) → ⊥
   clash k e c h d = apart word k (keyword c) e (starts c h) d
 
-  no_asks : (k : List ℕ) → word ≡ k → (slice_index k 0 ≢ 112) → (slice_index k 0 ≢ 98) → ¬ Asks line
-  no_asks k e p b = asks_otherwise line k (sym is_first ∙ e) p b
+  no_asks : (k : List ℕ) → word ≡ k → (slice_index k 0 ≢ 112) → (slice_index k 0 ≢ 98) → (slice_index k 0 ≢ 119) → (slice_index k 0 ≢ 99) → ¬ Asks line
+  no_asks k e p b w c = asks_otherwise line k (sym is_first ∙ e) p b w c
 
   follows : (w : List ℕ) (ws : List (List ℕ)) → words line ≡ w ∷ ws → words rest ≡ ws
   follows w ws e = ap words is_rest ∙ behind line w ws e
 
   pub none_node : word ≡ codes "node" → ((w : List ℕ) → words rest ≢ w ∷ []) → NoCommand line × (¬ Asks line)
-  none_node e absent = ((not_quiet, other), no_asks _ e (λ d. omega (arith, d)) (λ d. omega (arith, d)))
+  none_node e absent = ((not_quiet, other), no_asks _ e (λ d. omega (arith, d)) (λ d. omega (arith, d)) (λ d. omega (arith, d)) (λ d. omega (arith, d)))
     where
       other : (c : Command) → IsSpelled line c → ⊥
       other (change (node t)) h = absent h.0 (follows _ _ h.1)
       other c h = clash _ e c h (λ d. omega (arith, d))
 
   pub none_link : word ≡ codes "link" → ((u v : ℕ) → u < 2 ^ 32 → v < 2 ^ 32 → words rest ≢ node_word u ∷ node_word v ∷ []) → NoCommand line × (¬ Asks line)
-  none_link e absent = ((not_quiet, other), no_asks _ e (λ d. omega (arith, d)) (λ d. omega (arith, d)))
+  none_link e absent = ((not_quiet, other), no_asks _ e (λ d. omega (arith, d)) (λ d. omega (arith, d)) (λ d. omega (arith, d)) (λ d. omega (arith, d)))
     where
       other : (c : Command) → IsSpelled line c → ⊥
       other (change (link u v)) h = absent u v h.1 h.2 (follows _ _ h.0)
       other c h = clash _ e c h (λ d. omega (arith, d))
 
   pub none_unlink : word ≡ codes "unlink" → ((u v : ℕ) → u < 2 ^ 32 → v < 2 ^ 32 → words rest ≢ node_word u ∷ node_word v ∷ []) → NoCommand line × (¬ Asks line)
-  none_unlink e absent = ((not_quiet, other), no_asks _ e (λ d. omega (arith, d)) (λ d. omega (arith, d)))
+  none_unlink e absent = ((not_quiet, other), no_asks _ e (λ d. omega (arith, d)) (λ d. omega (arith, d)) (λ d. omega (arith, d)) (λ d. omega (arith, d)))
     where
       other : (c : Command) → IsSpelled line c → ⊥
       other (change (unlink u v)) h = absent u v h.1 h.2 (follows _ _ h.0)
       other c h = clash _ e c h (λ d. omega (arith, d))
 
   pub none_drop : word ≡ codes "drop" → ((u : ℕ) → u < 2 ^ 32 → words rest ≢ node_word u ∷ []) → NoCommand line × (¬ Asks line)
-  none_drop e absent = ((not_quiet, other), no_asks _ e (λ d. omega (arith, d)) (λ d. omega (arith, d)))
+  none_drop e absent = ((not_quiet, other), no_asks _ e (λ d. omega (arith, d)) (λ d. omega (arith, d)) (λ d. omega (arith, d)) (λ d. omega (arith, d)))
     where
       other : (c : Command) → IsSpelled line c → ⊥
       other (change (drop u)) h = absent u h.1 (follows _ _ h.0)
@@ -168,33 +178,74 @@ module _ (line word rest : List ℕ) (loud : ¬ OpensNothing word) (is_first : w
       other (change d) h = clash _ e (change d) h (λ z. (no_query d).no_branch (sym z))
       other c h = clash _ e c h (λ d. omega (arith, d))
 
+  pub none_why : word ≡ codes "why" → ((v : ℕ) (x : Expr) → SpellsWhy line v x → ⊥) → NoCommand line
+  none_why e absent = (not_quiet, other)
+    where
+      other : (c : Command) → IsSpelled line c → ⊥
+      other (why v x) h = absent v x h
+      other (change d) h = clash _ e (change d) h (λ z. (no_query d).no_why (sym z))
+      other c h = clash _ e c h (λ d. omega (arith, d))
+
+  pub none_check : word ≡ codes "check" → ((nodes : List ℕ) (x : Expr) → SpellsCheck line nodes x → ⊥) → NoCommand line
+  none_check e absent = (not_quiet, other)
+    where
+      other : (c : Command) → IsSpelled line c → ⊥
+      other (check nodes x) h = absent nodes x h
+      other (change d) h = clash _ e (change d) h (λ z. (no_query d).no_check (sym z))
+      other c h = clash _ e c h (λ d. omega (arith, d))
+
   -- what follows `path`, or `branch`, names nothing through which a query is asked
   pub no_path : word ≡ codes "path" → ((via : Via) → IsVia via → first_word rest ≢ via_word via) → NoCommand line × (¬ Asks line)
-  no_path e absent = (
-    none_path e (λ v x h. unnamed v h.0),
-    λ a. elim a.1 [
-      | inl x ↦ unnamed a.0 x
-      | inr x ↦ apart word _ _ e (is_first ∙ x.0) (λ d. omega (arith, d))
-    ],
-  )
+  no_path e absent = (none_path e (λ v x h. unnamed v h.0), asks)
     where
       unnamed : (v : Via) → AsksWith (codes "path") line v → ⊥
       unnamed v x = absent v x.2 (ap first_word is_rest ∙ x.1)
 
+      asks : ¬ Asks line
+      asks (by_path via x) = unnamed via x
+      asks (by_branch via x) = apart word _ _ e (is_first ∙ x.0) (λ d. omega (arith, d))
+      asks (by_why v x) = apart word _ _ e (is_first ∙ x.0) (λ d. omega (arith, d))
+      asks (by_check nodes x) = apart word _ _ e (is_first ∙ x.0) (λ d. omega (arith, d))
+
   pub no_branch : word ≡ codes "branch" → ((via : Via) → IsVia via → first_word rest ≢ via_word via) → NoCommand line × (¬ Asks line)
-  no_branch e absent = (
-    none_branch e (λ v x h. unnamed v h.0),
-    λ a. elim a.1 [
-      | inl x ↦ apart word _ _ e (is_first ∙ x.0) (λ d. omega (arith, d))
-      | inr x ↦ unnamed a.0 x
-    ],
-  )
+  no_branch e absent = (none_branch e (λ v x h. unnamed v h.0), asks)
     where
       unnamed : (v : Via) → AsksWith (codes "branch") line v → ⊥
       unnamed v x = absent v x.2 (ap first_word is_rest ∙ x.1)
 
+      asks : ¬ Asks line
+      asks (by_branch via x) = unnamed via x
+      asks (by_path via x) = apart word _ _ e (is_first ∙ x.0) (λ d. omega (arith, d))
+      asks (by_why v x) = apart word _ _ e (is_first ∙ x.0) (λ d. omega (arith, d))
+      asks (by_check nodes x) = apart word _ _ e (is_first ∙ x.0) (λ d. omega (arith, d))
+
+  -- what follows `why` is no node, or what follows `check` are no nodes
+  pub no_why : word ≡ codes "why" → ((v : ℕ) → v < 2 ^ 32 → first_word rest ≢ node_word v) → NoCommand line × (¬ Asks line)
+  no_why e absent = (none_why e (λ v x h. unnamed v h.0.1 h.0.2), asks)
+    where
+      unnamed : (v : ℕ) → first_word (behind_word line) ≡ node_word v → v < 2 ^ 32 → ⊥
+      unnamed v x l = absent v l (ap first_word is_rest ∙ x)
+
+      asks : ¬ Asks line
+      asks (by_why v x) = unnamed v x.1 x.2
+      asks (by_path via x) = apart word _ _ e (is_first ∙ x.0) (λ d. omega (arith, d))
+      asks (by_branch via x) = apart word _ _ e (is_first ∙ x.0) (λ d. omega (arith, d))
+      asks (by_check nodes x) = apart word _ _ e (is_first ∙ x.0) (λ d. omega (arith, d))
+
+  pub no_check : word ≡ codes "check" → ((nodes : List ℕ) → SpellsNodes (first_word rest) nodes → ⊥) → NoCommand line × (¬ Asks line)
+  no_check e absent = (none_check e (λ nodes x h. unnamed nodes h.0.1), asks)
+    where
+      unnamed : (nodes : List ℕ) → SpellsNodes (first_word (behind_word line)) nodes → ⊥
+      unnamed nodes x = absent nodes (subst (λ r. SpellsNodes (first_word r) nodes) (sym is_rest) x)
+
+      asks : ¬ Asks line
+      asks (by_check nodes x) = unnamed nodes x.1
+      asks (by_path via x) = apart word _ _ e (is_first ∙ x.0) (λ d. omega (arith, d))
+      asks (by_branch via x) = apart word _ _ e (is_first ∙ x.0) (λ d. omega (arith, d))
+      asks (by_why v x) = apart word _ _ e (is_first ∙ x.0) (λ d. omega (arith, d))
+
   pub none_extents : word ≡ codes "extents" → ((via : Via) → IsIndex via → words rest ≢ via_word via ∷ []) → NoCommand line × (¬ Asks line)
-  none_extents e absent = ((not_quiet, other), no_asks _ e (λ d. omega (arith, d)) (λ d. omega (arith, d)))
+  none_extents e absent = ((not_quiet, other), no_asks _ e (λ d. omega (arith, d)) (λ d. omega (arith, d)) (λ d. omega (arith, d)) (λ d. omega (arith, d)))
     where
       other : (c : Command) → IsSpelled line c → ⊥
       other (extents via) h = absent via h.1 (follows _ _ h.0)
@@ -202,7 +253,7 @@ module _ (line word rest : List ℕ) (loud : ¬ OpensNothing word) (is_first : w
       other c h = clash _ e c h (λ d. omega (arith, d))
 
   pub none_sizes : word ≡ codes "sizes" → words rest ≢ [] → NoCommand line × (¬ Asks line)
-  none_sizes e absent = ((not_quiet, other), no_asks _ e (λ d. omega (arith, d)) (λ d. omega (arith, d)))
+  none_sizes e absent = ((not_quiet, other), no_asks _ e (λ d. omega (arith, d)) (λ d. omega (arith, d)) (λ d. omega (arith, d)) (λ d. omega (arith, d)))
     where
       other : (c : Command) → IsSpelled line c → ⊥
       other sizes h = absent (follows _ _ h)
@@ -210,27 +261,34 @@ module _ (line word rest : List ℕ) (loud : ¬ OpensNothing word) (is_first : w
       other c h = clash _ e c h (λ d. omega (arith, d))
 
   pub none_forget : word ≡ codes "forget" → ((kind : Kind) → words rest ≢ kind_word kind ∷ []) → NoCommand line × (¬ Asks line)
-  none_forget e absent = ((not_quiet, other), no_asks _ e (λ d. omega (arith, d)) (λ d. omega (arith, d)))
+  none_forget e absent = ((not_quiet, other), no_asks _ e (λ d. omega (arith, d)) (λ d. omega (arith, d)) (λ d. omega (arith, d)) (λ d. omega (arith, d)))
     where
       other : (c : Command) → IsSpelled line c → ⊥
       other (forget kind) h = absent kind (follows _ _ h)
       other (change d) h = clash _ e (change d) h (λ z. (no_query d).no_forget (sym z))
       other c h = clash _ e c h (λ d. omega (arith, d))
 
-  pub none_other : OpensOther word → word ≢ codes "path" → word ≢ codes "branch" → word ≢ codes "extents" → word ≢ codes "sizes" → word ≢ codes "forget"
-      → NoCommand line × (¬ Asks line)
-  none_other o p b x z f = ((not_quiet, other), λ a. elim a.1 [ inl s ↦ p (is_first ∙ s.0) | inr s ↦ b (is_first ∙ s.0) ])
+  pub none_other : OpensReport word → word ≢ codes "extents" → word ≢ codes "sizes" → word ≢ codes "forget" → NoCommand line × (¬ Asks line)
+  none_other o x z f = ((not_quiet, other), asks)
     where
       other : (c : Command) → IsSpelled line c → ⊥
-      other (change (node t)) h = o.no_node (starts (change (node t)) h)
-      other (change (link u v)) h = o.no_link (starts (change (link u v)) h)
-      other (change (unlink u v)) h = o.no_unlink (starts (change (unlink u v)) h)
-      other (change (drop u)) h = o.no_drop (starts (change (drop u)) h)
-      other (path via e) h = p (starts (path via e) h)
-      other (branch via q) h = b (starts (branch via q) h)
+      other (change (node t)) h = o.other.no_node (starts (change (node t)) h)
+      other (change (link u v)) h = o.other.no_link (starts (change (link u v)) h)
+      other (change (unlink u v)) h = o.other.no_unlink (starts (change (unlink u v)) h)
+      other (change (drop u)) h = o.other.no_drop (starts (change (drop u)) h)
+      other (path via e) h = o.no_path (starts (path via e) h)
+      other (branch via q) h = o.no_branch (starts (branch via q) h)
+      other (why v e) h = o.no_why (starts (why v e) h)
+      other (check nodes e) h = o.no_check (starts (check nodes e) h)
       other (extents via) h = x (starts (extents via) h)
       other sizes h = z (starts sizes h)
       other (forget kind) h = f (starts (forget kind) h)
+
+      asks : ¬ Asks line
+      asks (by_path via a) = o.no_path (is_first ∙ a.0)
+      asks (by_branch via a) = o.no_branch (is_first ∙ a.0)
+      asks (by_why v a) = o.no_why (is_first ∙ a.0)
+      asks (by_check nodes a) = o.no_check (is_first ∙ a.0)
 
 -- a line that says nothing is no command
 pub silent : (line : List ℕ) → IsQuiet line → (c : Command) → IsSpelled line c → ⊥
@@ -243,23 +301,25 @@ silent line q c h = loud c (subst OpensNothing (begins line c h) (quiet_opens li
     loud (change (drop u)) o = omega (arith, o)
     loud (path via e) o = omega (arith, o)
     loud (branch via q) o = omega (arith, o)
+    loud (why v e) o = omega (arith, o)
+    loud (check nodes e) o = omega (arith, o)
     loud (extents via) o = omega (arith, o)
     loud sizes o = omega (arith, o)
     loud (forget kind) o = omega (arith, o)
 
--- a line that asks nothing passes no limit on queries
+-- a line that asks nothing passes no limit on expressions
 pub asks_nothing : (limits : Limits) (line : List ℕ) → ¬ Asks line → ¬ PassesLimit limits line
 asks_nothing limits line absent h = absent h.0
 
 -- a command without an expression asks nothing
 pub free : (limits : Limits) (line : List ℕ) (c : Command) → IsSpelled line c → IsWhole c → ¬ PassesLimit limits line
-free limits line c h w k = (let other = no_part c w in asks_otherwise line _ (begins line c h) other.no_path other.no_branch k.0)
+free limits line c h w k = (let other = no_part c w in asks_otherwise line _ (begins line c h) other.no_path other.no_branch other.no_why other.no_check k.0)
 
-opens_node : (line word : List ℕ) → SaysNode line word → first_word line ≡ codes "node"
+pub opens_node : (line word : List ℕ) → SaysNode line word → first_word line ≡ codes "node"
 opens_node line word s = (head_word line _ _ _ _ (is_split line) s).0
 
 pub node_free : (limits : Limits) (line word : List ℕ) → SaysNode line word → ¬ PassesLimit limits line
-node_free limits line word s k = asks_otherwise line _ (opens_node line word s) (λ d. omega (arith, d)) (λ d. omega (arith, d)) k.0
+node_free limits line word s k = asks_otherwise line _ (opens_node line word s) (λ d. omega (arith, d)) (λ d. omega (arith, d)) (λ d. omega (arith, d)) (λ d. omega (arith, d)) k.0
 
 -- the word behind `node` spells no label
 pub node_bad : (line word : List ℕ) → SaysNode line word → ((t : List ℕ) → SpellsLabel word t → ⊥) → NoCommand line
@@ -283,28 +343,60 @@ branch_bad line via text s absent =
     none_branch line (first_word line) (behind_word line) (λ o. (let n : OpensNothing (codes "branch") = subst OpensNothing s.0.0 o in omega (arith, n))) refl refl s.0.0
     (λ v x h. absent x (subst (λ t. SpellsQuery t x) (sym s.1) h.1))
 
--- what is read where the word behind `node` gave this error
+pub why_bad : (line : List ℕ) (v : ℕ) (text : List ℕ) → SaysWhy line v text → ((e : Expr) → Spells text e → ⊥) → NoCommand line
+why_bad line v text s absent =
+    none_why line (first_word line) (behind_word line) (λ o. (let n : OpensNothing (codes "why") = subst OpensNothing s.0.0 o in omega (arith, n))) refl refl s.0.0
+    (λ u x h. absent x (subst (λ t. Spells t x) (sym s.1) h.1))
+
+pub check_bad : (line word text : List ℕ) → SaysCheck line word text → ((e : Expr) → Spells text e → ⊥) → NoCommand line
+check_bad line word text s absent =
+    none_check line (first_word line) (behind_word line) (λ o. (let n : OpensNothing (codes "check") = subst OpensNothing s.0 o in omega (arith, n))) refl refl s.0
+    (λ u x h. absent x (subst (λ t. Spells t x) (sym s.2) h.1))
+
+-- the word behind `check` spells no nodes
+pub nodes_bad : (line word text : List ℕ) → SaysCheck line word text → ((nodes : List ℕ) → SpellsNodes word nodes → ⊥) → NoCommand line × (¬ Asks line)
+nodes_bad line word text s absent =
+    no_check line (first_word line) (behind_word line) (λ o. (let n : OpensNothing (codes "check") = subst OpensNothing s.0 o in omega (arith, n))) refl refl s.0
+    (λ nodes h. absent nodes (subst (λ w. SpellsNodes w nodes) (sym s.1) h))
+
+-- what is read if the word behind `node` gave this error
 pub failed_node : (limits : Limits) (line word : List ℕ) (e : ScriptError) → SaysNode line word → (e ≢ Limit) → (e ≡ Bad → (t : List ℕ) → SpellsLabel word t → ⊥)
     → ReadsCommand limits line (Err e)
 failed_node limits line word Bad s n f = (node_bad line word s (f refl), node_free limits line word s)
 failed_node limits line word Limit s n f = absurd (n refl)
 failed_node limits line word Memory s n f = tt
 
--- the expression of a query is what its text is
-pub within_is : (limits : Limits) (line word : List ℕ) (via : Via) (text : List ℕ) → SaysQuery word line via text → (IsTrue (is_past limits text) → ⊥) → ¬ PassesLimit limits line
-within_is limits line word via text s within k = within (subst (λ t. IsTrue (is_past limits t)) (sym s.1) k.1)
+-- and if that behind `check` did
+pub failed_nodes : (limits : Limits) (line word text : List ℕ) (e : ScriptError) → SaysCheck line word text → (e ≢ Limit)
+    → (e ≡ Bad → (nodes : List ℕ) → SpellsNodes word nodes → ⊥) → ReadsCommand limits line (Err e)
+failed_nodes limits line word text Bad s n f = (let none = nodes_bad line word text s (f refl) in (none.0, asks_nothing limits line none.1))
+failed_nodes limits line word text Limit s n f = absurd (n refl)
+failed_nodes limits line word text Memory s n f = tt
 
--- what is read where the text of a path expression gave this error
+-- the expression of the line is what its text is
+pub text_within : (limits : Limits) (line text : List ℕ) → text ≡ expression_text line → (IsTrue (is_past limits text) → ⊥) → ¬ PassesLimit limits line
+text_within limits line text s within k = within (subst (λ t. IsTrue (is_past limits t)) (sym s) k.1)
+
+-- what is read if the text of a line that asks gave this error
+failed_text : (limits : Limits) (line text : List ℕ) (e : ScriptError) → Asks line → text ≡ expression_text line → (e ≡ Limit ↔ IsTrue (is_past limits text))
+    → (e ≡ Bad → NoCommand line) → ReadsCommand limits line (Err e)
+failed_text limits line text Bad a s l f = (f refl, text_within limits line text s (λ p. (let b : ◌≡◌ {A = ScriptError} Bad Limit = l.1 p in cc)))
+failed_text limits line text Limit a s l f = (a, subst (λ t. IsTrue (is_past limits t)) s (l.0 refl))
+failed_text limits line text Memory a s l f = tt
+
 pub failed_path : (limits : Limits) (line : List ℕ) (via : Via) (text : List ℕ) (e : ScriptError) → SaysQuery (codes "path") line via text → (e ≡ Limit ↔ IsTrue (is_past limits text))
     → (e ≡ Bad → (x : Expr) → Spells text x → ⊥) → ReadsCommand limits line (Err e)
-failed_path limits line via text Bad s l f = (path_bad line via text s (f refl), within_is limits line _ via text s (λ p. (let b : ◌≡◌ {A = ScriptError} Bad Limit = l.1 p in cc)))
-failed_path limits line via text Limit s l f = ((via, inl s.0), subst (λ t. IsTrue (is_past limits t)) s.1 (l.0 refl))
-failed_path limits line via text Memory s l f = tt
+failed_path limits line via text e s l f = failed_text limits line text e (by_path via s.0) s.1 l (λ i. path_bad line via text s (f i))
 
--- and where that of a branching query did
 pub failed_branch : (limits : Limits) (line : List ℕ) (via : Via) (text : List ℕ) (e : ScriptError) → SaysQuery (codes "branch") line via text
     → (e ≡ Limit ↔ IsTrue (is_past limits text)) → (e ≡ Bad → (q : Branch) → SpellsQuery text q → ⊥) → ReadsCommand limits line (Err e)
-failed_branch limits line via text Bad s l f =
-    (branch_bad line via text s (f refl), within_is limits line _ via text s (λ p. (let b : ◌≡◌ {A = ScriptError} Bad Limit = l.1 p in cc)))
-failed_branch limits line via text Limit s l f = ((via, inr s.0), subst (λ t. IsTrue (is_past limits t)) s.1 (l.0 refl))
-failed_branch limits line via text Memory s l f = tt
+failed_branch limits line via text e s l f = failed_text limits line text e (by_branch via s.0) s.1 l (λ i. branch_bad line via text s (f i))
+
+pub failed_why : (limits : Limits) (line : List ℕ) (v : ℕ) (text : List ℕ) (e : ScriptError) → SaysWhy line v text → (e ≡ Limit ↔ IsTrue (is_past limits text))
+    → (e ≡ Bad → (x : Expr) → Spells text x → ⊥) → ReadsCommand limits line (Err e)
+failed_why limits line v text e s l f = failed_text limits line text e (by_why v s.0) s.1 l (λ i. why_bad line v text s (f i))
+
+pub failed_check : (limits : Limits) (line word text nodes : List ℕ) (e : ScriptError) → SaysCheck line word text → SpellsNodes word nodes → (e ≡ Limit ↔ IsTrue (is_past limits text))
+    → (e ≡ Bad → (x : Expr) → Spells text x → ⊥) → ReadsCommand limits line (Err e)
+failed_check limits line word text nodes e s n l f =
+    failed_text limits line text e (by_check nodes (s.0, subst (λ w. SpellsNodes w nodes) s.1 n)) s.2 l (λ i. check_bad line word text s (f i))

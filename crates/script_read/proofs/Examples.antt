@@ -12,7 +12,7 @@ use Rattle.bisim_spec.specs.declared.kind.Kind.{Kind}
 use Rattle.bisim_spec.specs.declared.kind.Kind.TheVariants as kind
 use Rattle.index_api.specs.declared.kinds.Via.{Via}
 use Rattle.index_api.specs.declared.kinds.Via.TheVariants.{Data, A, One, Fb}
-use Rattle.script_read.specs.Commands.{Command, change, path, branch, extents, sizes, forget, IsQuiet, IsSpelled, NoCommand}
+use Rattle.script_read.specs.Commands.{Command, change, path, branch, why, check, extents, sizes, forget, IsQuiet, IsSpelled, SpellsNodes, NoCommand}
 use Rattle.script_read.specs.FirstWords.{expression_text}
 
 -- blanks may stand at both ends and between the words
@@ -121,6 +121,35 @@ up_spelled = (
 no_branch_of_path : (via : Via) (q : tree.Branch) → ¬ IsSpelled (codes "path data a") (branch via q)
 no_branch_of_path via q h = omega (arith, ap (λ l. slice_index l 0) h.0.0)
 
+-- a node, and then a path expression
+why_spelled : IsSpelled (codes "why  n7 a ") (why 7 (only (last (once (label (codes "a"))))))
+why_spelled = ((refl, ap (λ d. 110 ∷ d) (sym (decimal_digit 7 (lit< tt))), lit< tt), ([], codes "a", [], refl, inl (plain_a, refl), tt, refl, refl))
+
+no_why_of_nodes : (v : ℕ) (e : Expr) → ¬ IsSpelled (codes "why a a") (why v e)
+no_why_of_nodes v e h = omega (arith, ap (λ l. slice_index l 0) h.0.1)
+
+-- nodes with a comma between each two, and no blank
+check_spelled : IsSpelled (codes "check n1,n2 a") (check (1 ∷ 2 ∷ []) (only (last (once (label (codes "a"))))))
+check_spelled = (
+  (
+    refl,
+    (
+      ap (λ d. (110 ∷ d) ∷ codes "n2" ∷ []) (sym (decimal_digit 1 (lit< tt))) ∙ ap (λ d. node_word 1 ∷ (110 ∷ d) ∷ []) (sym (decimal_digit 2 (lit< tt))),
+      (lit< tt, (lit< tt, tt)),
+    ),
+  ),
+  ([], codes "a", [], refl, inl (plain_a, refl), tt, refl, refl),
+)
+
+no_gap : (nodes : List ℕ) → ¬ SpellsNodes (codes "n1,,n2") nodes
+no_gap [] h = (let n = ap length h.0 in omega (arith, n))
+no_gap (x ∷ []) h = (let n = ap length h.0 in omega (arith, n))
+no_gap (x ∷ y ∷ ns) h = (let n = ap (λ ws. length (second ws)) h.0 in omega (arith, n))
+
+no_nodes : (nodes : List ℕ) → ¬ SpellsNodes [] nodes
+no_nodes [] h = (let n = ap length h.0 in omega (arith, n))
+no_nodes (x ∷ ns) h = (let n = ap (λ ws. length (first ws)) h.0 in omega (arith, n))
+
 -- a kind of indexes is named without a level, and the graph itself is no kind
 forget_spelled : IsSpelled (codes "forget a") (forget kind.A)
 forget_spelled = refl
@@ -185,6 +214,8 @@ bad_label = (λ q. omega (arith, q), other)
     other (change (drop_node u)) h = omega (arith, ap (λ ws. slice_index (first ws) 0) h.0)
     other (path via e) h = omega (arith, ap (λ l. slice_index l 0) h.0.0)
     other (branch via q) h = omega (arith, ap (λ l. slice_index l 0) h.0.0)
+    other (why v e) h = omega (arith, ap (λ l. slice_index l 0) h.0.0)
+    other (check nodes e) h = omega (arith, ap (λ l. slice_index l 0) h.0.0)
     other (extents via) h = omega (arith, ap (λ ws. slice_index (first ws) 0) h.0)
     other sizes h = omega (arith, ap length h)
     other (forget kind) h = omega (arith, ap (λ ws. slice_index (first ws) 0) h)

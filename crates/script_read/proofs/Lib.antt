@@ -1,4 +1,5 @@
 pub mod WordLemmas
+pub mod NodeLists
 pub mod CommandLemmas
 pub mod CommandLaws
 pub mod Examples

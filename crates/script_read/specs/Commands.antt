@@ -1,5 +1,6 @@
 -- What a line of a script spells.
-use Rattle.std.specs.Prelude.{ℕ, ◌≡◌, ◌<◌, ◌^◌, ◌⊎◌, List, [], ◌∷◌, codes, IsTrue}
+use Rattle.std.specs.Prelude.{ℕ, ◌≡◌, ◌<◌, ◌^◌, ◌⊎◌, ◌==◌, List, [], ◌∷◌, map, codes, IsTrue}
+use Rattle.std.specs.List.{slice_split, AllByRecursion}
 use Rattle.graph_spec.specs.declared.limits.Limits.{Limits}
 use Rattle.graph_spec.specs.Words.{words, node_word}
 use Rattle.graph_spec.specs.Changes.{Change, node, link, unlink, drop}
@@ -21,6 +22,10 @@ pub data Command : Type 0 where
   path : Via → Expr → Command
   -- the answers of a branching query, asked through this
   branch : Via → Branch → Command
+  -- why this node answers a path expression
+  why : ℕ → Expr → Command
+  -- whether these nodes show why the last of them answers it
+  check : List ℕ → Expr → Command
   -- the blocks of this index, each with its nodes
   extents : Via → Command
   -- how many nodes and edges the graph and each index have
@@ -72,6 +77,22 @@ AsksPath line via = AsksWith (codes "path") line via
 abbrev pub AsksBranch : List ℕ → Via → Type 0
 AsksBranch line via = AsksWith (codes "branch") line via
 
+-- the first words are `why` and a node
+abbrev pub AsksWhy : List ℕ → ℕ → Type 0
+AsksWhy line v = (first_word line ≡ codes "why") × (first_word (behind_word line) ≡ node_word v) × (v < 2 ^ 32)
+
+-- the parts of the word between its commas (44); one if it has none
+abbrev pub parts : List ℕ → List (List ℕ)
+parts word = slice_split (λ b. b == 44) word
+
+-- the parts of the word are these nodes, one or more
+abbrev pub SpellsNodes : List ℕ → List ℕ → Type 0
+SpellsNodes word nodes = (parts word ≡ map node_word nodes) × AllByRecursion (λ n. n < 2 ^ 32) nodes
+
+-- the first words are `check` and nodes
+abbrev pub AsksCheck : List ℕ → List ℕ → Type 0
+AsksCheck line nodes = (first_word line ≡ codes "check") × SpellsNodes (first_word (behind_word line)) nodes
+
 -- the same, and what follows them, without the blanks at both ends, spells the expression
 abbrev pub SpellsPath : List ℕ → Via → Expr → Type 0
 SpellsPath line via e = AsksPath line via × Spells (expression_text line) e
@@ -79,9 +100,18 @@ SpellsPath line via e = AsksPath line via × Spells (expression_text line) e
 abbrev pub SpellsBranch : List ℕ → Via → Branch → Type 0
 SpellsBranch line via q = AsksBranch line via × SpellsQuery (expression_text line) q
 
--- the line asks with an expression of one of the two languages, through the graph or some index
-abbrev pub Asks : List ℕ → Type 0
-Asks line = (via : Via) × (AsksPath line via ⊎ AsksBranch line via)
+abbrev pub SpellsWhy : List ℕ → ℕ → Expr → Type 0
+SpellsWhy line v e = AsksWhy line v × Spells (expression_text line) e
+
+abbrev pub SpellsCheck : List ℕ → List ℕ → Expr → Type 0
+SpellsCheck line nodes e = AsksCheck line nodes × Spells (expression_text line) e
+
+-- the line asks with an expression: for answers, through the graph or some index, or about why a node is one
+pub data Asks (line : List ℕ) : Type 0 where
+  by_path : (via : Via) → AsksPath line via → Asks line
+  by_branch : (via : Via) → AsksBranch line via → Asks line
+  by_why : (v : ℕ) → AsksWhy line v → Asks line
+  by_check : (nodes : List ℕ) → AsksCheck line nodes → Asks line
 
 -- the same, and the text of the expression has more bytes than it may, or nests deeper
 abbrev pub PassesLimit : Limits → List ℕ → Type 0
@@ -98,6 +128,8 @@ abbrev pub IsSpelled : List ℕ → Command → Type 0
 IsSpelled line (change c) = SpellsChange line c
 IsSpelled line (path via e) = SpellsPath line via e
 IsSpelled line (branch via q) = SpellsBranch line via q
+IsSpelled line (why v e) = SpellsWhy line v e
+IsSpelled line (check nodes e) = SpellsCheck line nodes e
 IsSpelled line (extents via) = SpellsExtents line via
 IsSpelled line sizes = words line ≡ codes "sizes" ∷ []
 IsSpelled line (forget kind) = SpellsForget line kind
@@ -106,11 +138,11 @@ IsSpelled line (forget kind) = SpellsForget line kind
 abbrev pub NoCommand : List ℕ → Type 0
 NoCommand line = (¬ IsQuiet line) × ((c : Command) → IsSpelled line c → ⊥)
 
--- nor is it a query whose expression passes a limit
+-- nor does it ask with an expression that passes a limit
 abbrev pub SpellsNothing : Limits → List ℕ → Type 0
 SpellsNothing limits line = NoCommand line × (¬ PassesLimit limits line)
 
--- the line is quiet, or a command, or a query whose expression passes a limit
+-- the line is quiet, or a command, or asks with an expression that passes a limit
 abbrev pub SpellsSomething : Limits → List ℕ → Type 0
 SpellsSomething limits line = IsQuiet line ⊎ (((c : Command) × IsSpelled line c) ⊎ PassesLimit limits line)
 

@@ -15,7 +15,7 @@ before_blanks text = take (length text - suffix_len is_blank text) text
 abbrev pub without_blanks : List ℕ → List ℕ
 without_blanks text = before_blanks (after_blanks text)
 
--- the bytes up to the next blank; none where there is no word
+-- the bytes up to the next blank; none if there is no word
 abbrev pub first_word : List ℕ → List ℕ
 first_word line = take (position_or_len is_blank (after_blanks line)) (after_blanks line)
 
@@ -26,7 +26,7 @@ behind_word line = drop (position_or_len is_blank (after_blanks line)) (after_bl
 abbrev pub expression_text : List ℕ → List ℕ
 expression_text line = without_blanks (behind_word (behind_word line))
 
--- the first word of the line, empty where there is none, and what follows it
+-- the first word of the line, empty if there is none, and what follows it
 pub record IsSplit (line word rest : List ℕ) : Type 0 where
   pub none : word ≡ [] → words line ≡ []
   pub some : word ≢ [] → words line ≡ word ∷ words rest

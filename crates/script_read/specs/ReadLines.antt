@@ -2,9 +2,9 @@
 use Rattle.std.specs.Prelude.{ℕ, ⊤, List, Option, None, Some, Result, Ok, Err}
 use Rattle.graph_spec.specs.declared.limits.Limits.{Limits}
 use Rattle.graph_spec.specs.Changes.{node, link, unlink, drop}
-use Rattle.script_read.specs.Commands.{Command, change, path, branch, extents, sizes, forget, IsQuiet, IsSpelled, PassesLimit, SpellsNothing}
+use Rattle.script_read.specs.Commands.{Command, change, path, branch, why, check, extents, sizes, forget, IsQuiet, IsSpelled, PassesLimit, SpellsNothing}
 use Rattle.script_read.specs.declared.commands.Command.{Command as Asked}
-use Rattle.script_read.specs.declared.commands.Command.TheVariants.{Node, Link, Unlink, Drop, Path, Branch, Extents, Sizes, Forget}
+use Rattle.script_read.specs.declared.commands.Command.TheVariants.{Node, Link, Unlink, Drop, Path, Branch, Why, Check, Extents, Sizes, Forget}
 use Rattle.script_read.specs.declared.commands.ScriptError.{ScriptError}
 use Rattle.script_read.specs.declared.commands.ScriptError.TheVariants.{Bad, Limit, Memory}
 
@@ -16,11 +16,13 @@ command_of (Unlink u v) = change (unlink u v)
 command_of (Drop u) = change (drop u)
 command_of (Path via e) = path via e
 command_of (Branch via q) = branch via q
+command_of (Why v e) = why v e
+command_of (Check nodes e) = check nodes e
 command_of (Extents via) = extents via
 command_of Sizes = sizes
 command_of (Forget kind) = forget kind
 
--- The line is quiet; it spells this command, and passes no limit on queries; it passes one; or it spells nothing. Where memory
+-- The line is quiet; it spells this command, and passes no limit on expressions; it passes one; or it spells nothing. If memory
 -- runs out nothing is said.
 abbrev pub ReadsCommand : Limits → List ℕ → Result (Option Asked) ScriptError → Type 0
 ReadsCommand limits line (Ok None) = IsQuiet line

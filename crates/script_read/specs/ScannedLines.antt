@@ -3,11 +3,11 @@ use Rattle.std.specs.Prelude.{ℕ, ◌≡◌, ◌≢◌, List, [], ◌∷◌, co
 use Rattle.graph_spec.specs.Words.{words}
 use Rattle.graph_spec.specs.Changes.{node}
 use Rattle.index_api.specs.declared.kinds.Via.{Via}
-use Rattle.script_read.specs.Commands.{Command, change, path, branch, AsksWith, Asks, IsQuiet, IsSpelled, NoCommand}
-use Rattle.script_read.specs.FirstWords.{expression_text, OpensNothing}
+use Rattle.script_read.specs.Commands.{Command, change, path, branch, why, check, AsksWith, AsksWhy, Asks, IsQuiet, IsSpelled, NoCommand}
+use Rattle.script_read.specs.FirstWords.{first_word, behind_word, expression_text, OpensNothing}
 use Rattle.script_read.specs.ReadLines.{command_of}
 use Rattle.script_read.specs.declared.scan.ScannedLine.{ScannedLine}
-use Rattle.script_read.specs.declared.scan.ScannedLine.TheVariants.{Quiet, Node, Path, Branch, Whole, Bad}
+use Rattle.script_read.specs.declared.scan.ScannedLine.TheVariants.{Quiet, Node, Path, Branch, Why, Check, Whole, Bad}
 
 -- the line adds a node with the label that this word spells
 abbrev pub SaysNode : List ℕ → List ℕ → Type 0
@@ -17,11 +17,21 @@ SaysNode line word = words line ≡ codes "node" ∷ word ∷ []
 abbrev pub SaysQuery : List ℕ → List ℕ → Via → List ℕ → Type 0
 SaysQuery word line via text = AsksWith word line via × (text ≡ expression_text line)
 
+-- the line asks why this node answers what this text spells
+abbrev pub SaysWhy : List ℕ → ℕ → List ℕ → Type 0
+SaysWhy line v text = AsksWhy line v × (text ≡ expression_text line)
+
+-- the line asks about the nodes that this word spells, and about what this text spells
+abbrev pub SaysCheck : List ℕ → List ℕ → List ℕ → Type 0
+SaysCheck line word text = (first_word line ≡ codes "check") × (word ≡ first_word (behind_word line)) × (text ≡ expression_text line)
+
 -- the command has neither a label nor an expression
 abbrev pub IsWhole : Command → Type 0
 IsWhole (change (node t)) = ⊥
 IsWhole (path via e) = ⊥
 IsWhole (branch via q) = ⊥
+IsWhole (why v e) = ⊥
+IsWhole (check nodes e) = ⊥
 IsWhole c = Unit {0}
 
 -- a first word, but of no change
@@ -32,11 +42,21 @@ pub record OpensOther (word : List ℕ) : Type 0 where
   pub no_unlink : word ≢ codes "unlink"
   pub no_drop : word ≢ codes "drop"
 
+-- nor is it the first word of a line that asks with an expression
+pub record OpensReport (word : List ℕ) : Type 0 where
+  pub other : OpensOther word
+  pub no_path : word ≢ codes "path"
+  pub no_branch : word ≢ codes "branch"
+  pub no_why : word ≢ codes "why"
+  pub no_check : word ≢ codes "check"
+
 -- the line says this
 abbrev pub IsScanned : List ℕ → ScannedLine → Type 0
 IsScanned line Quiet = IsQuiet line
 IsScanned line (Node word) = SaysNode line word.now
 IsScanned line (Path via text) = SaysQuery (codes "path") line via text.now
 IsScanned line (Branch via text) = SaysQuery (codes "branch") line via text.now
+IsScanned line (Why v text) = SaysWhy line v text.now
+IsScanned line (Check word text) = SaysCheck line word.now text.now
 IsScanned line (Whole c) = IsSpelled line (command_of c) × IsWhole (command_of c)
 IsScanned line Bad = NoCommand line × (¬ Asks line)

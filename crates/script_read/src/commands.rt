@@ -5,9 +5,10 @@ ghost use Rattle.path_query.specs.Labels.{SpellsLabel};
 ghost use Rattle.path_query.specs.Parsed.{Spells, is_past};
 ghost use Rattle.branch_spec.specs.Trees.{Branch as Query};
 ghost use Rattle.branch_text.specs.Parsed.{Spells as SpellsQuery};
-ghost use Rattle.script_read.specs.Commands.{Command as Spelled, IsQuiet, IsSpelled, LabelsOnce, PathsOnce, BranchesOnce, SpellsOnce};
+ghost use Rattle.script_read.specs.Commands.{Command as Spelled, IsQuiet, IsSpelled, SpellsNodes, LabelsOnce, PathsOnce, BranchesOnce, SpellsOnce};
 ghost use Rattle.script_read.specs.ReadLines.{ReadsCommand};
 
+use crate::nodes::node_list;
 use crate::scan::{ScannedLine, scan};
 use branch_text::Branch;
 use index_api::{Kind, Via};
@@ -15,6 +16,7 @@ use path_query::{ExprError, PathExpr, read_label};
 use px_base::{Limits, NodeId, Text};
 use std::alloc::Global;
 use thiserror::Error;
+use walk_proof::Walk;
 
 /// A command of a script.
 ///
@@ -38,6 +40,10 @@ pub enum Command {
     Path(Via, PathExpr),
     /// `branch VIA EXPR`: the answers of the branching query, asked through the graph itself or an index.
     Branch(Via, Branch),
+    /// `why NODE EXPR`: the least walk that ends in the node and that the expression matches.
+    Why(NodeId, PathExpr),
+    /// `check NODES EXPR`: whether the nodes, one or more, are a walk that the expression matches.
+    Check(Walk, PathExpr),
     /// `extents INDEX`: the blocks of this index, which isn't the graph itself, each with its nodes.
     Extents(Via),
     /// `sizes`: how many nodes and edges the graph and each index have.
@@ -104,10 +110,26 @@ fn parse_branch(alloc: Global, text: &[u8], limits: &Limits) -> Result<Branch, S
     }
 }
 
+/// The nodes that the word spells.
+fn parse_nodes(alloc: Global, word: &[u8]) -> Result<Walk, ScriptError>
+    ensures ok { IfOk result (SpellsNodes word.now) }
+    ensures bad { IsErrOf result ScriptError.Bad → (nodes : List ℕ) → SpellsNodes word.now nodes → ⊥ }
+    ensures no_limit { result ≢ Err ScriptError.Limit }
+{
+    match node_list(alloc, word) {
+        Ok(Some(nodes)) => match Walk::of(alloc, &nodes) {
+            Ok(walk) => Ok(walk),
+            Err(_) => Err(ScriptError::Memory),
+        },
+        Ok(None) => Err(ScriptError::Bad),
+        Err(_) => Err(ScriptError::Memory),
+    }
+}
+
 /// The command that the line spells, which is one; None exactly for a blank or comment line. `Limit` comes exactly
-/// where the line asks with an expression that passes a limit, whether or not that is in the language; else `Bad`
-/// exactly where the line is neither a command nor blank nor a comment. `Memory` comes where memory runs out. The line
-/// is without its end. O(m) for m bytes of the line; it takes O(m) memory at most.
+/// if the line asks with an expression that passes a limit, whether or not that is in the language, behind a lawful
+/// VIA, NODE or NODES; else `Bad` exactly if the line is neither a command nor blank nor a comment. `Memory` comes if
+/// memory runs out. The line is without its end. O(m) for m bytes of the line; it takes O(m) memory at most.
 #[tactic(auto, using(crate::proofs::CommandLaws::reading_laws))]
 pub fn read(alloc: Global, line: &[u8], limits: &Limits) -> Result<Option<Command>, ScriptError>
     ensures reads { ReadsCommand limits.now line.now result }
@@ -123,6 +145,16 @@ pub fn read(alloc: Global, line: &[u8], limits: &Limits) -> Result<Option<Comman
         ))),
         ScannedLine::Branch(via, text) => {
             Ok(Some(Command::Branch(via, parse_branch(alloc, text, limits)?)))
+        }
+        ScannedLine::Why(node, text) => {
+            Ok(Some(Command::Why(node, parse_path(alloc, text, limits)?)))
+        }
+        ScannedLine::Check(word, text) => {
+            let parsed = parse_path(alloc, text, limits);
+            // A fault of the nodes comes before one of the expression.
+            let walk = parse_nodes(alloc, word)?;
+            let expr = parsed?;
+            Ok(Some(Command::Check(walk, expr)))
         }
         ScannedLine::Whole(command) => Ok(Some(command)),
         ScannedLine::Bad => Err(ScriptError::Bad),

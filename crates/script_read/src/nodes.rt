@@ -1,10 +1,14 @@
 // Nodes, as lines name them.
-ghost use Rattle.std.specs.Prelude.{◌≡◌, ◌≢◌, ◌<◌, ◌^◌, ◌↔◌, ℕ, IsTrue, IfSome, IfNone, Some, [], ◌∷◌, decimal};
+ghost use Rattle.std.specs.Prelude.{◌≡◌, ◌≢◌, ◌<◌, ◌^◌, ◌↔◌, ◌==◌, ℕ, List, IsTrue, Some, [], ◌∷◌, length, decimal};
+ghost use Rattle.std.specs.Prelude.{IfSome, IfNone, IfOk, MatchOption};
+ghost use Rattle.std.specs.List.{position};
 ghost use Rattle.graph_spec.specs.Words.{words, node_word};
+ghost use Rattle.script_read.specs.Commands.{parts, SpellsNodes};
 
 use crate::words::{is_over, split_word};
 use itoa::Buffer;
-use px_base::NodeId;
+use px_base::{Memory, NodeId};
+use std::alloc::Global;
 
 /// The number that the digits spell, leading zeros and a sign allowed.
 fn lenient_number(digits: &[u8]) -> Option<u32>
@@ -38,7 +42,7 @@ pub(crate) fn printed_number(digits: &[u8]) -> Option<u32>
 }
 
 /// The number of a node that is written as `n7` is.
-fn node_number(word: &[u8]) -> Option<NodeId>
+pub(crate) fn node_number(word: &[u8]) -> Option<NodeId>
     ensures found { IfSome result (λ n. word.now ≡ node_word n) }
     ensures absent { IfNone result ((n : ℕ) → n < 2 ^ 32 → word.now ≢ node_word n) }
 {
@@ -71,5 +75,46 @@ pub(crate) fn two_nodes(rest: &[u8]) -> Option<(NodeId, NodeId)>
         Some((from, to))
     } else {
         None
+    }
+}
+
+/// Where the first comma stands.
+fn comma_place(text: &[u8]) -> Option<usize>
+    ensures place { result ≡ position (λ b. b == 44) text.now }
+    ensures within { IfSome result (λ n. n < length text.now) }
+{
+    text.iter().position(|b| *b == b',')
+}
+
+/// The text up to the first comma, and what follows that, if there is one.
+fn first_part(text: &[u8]) -> (&[u8], Option<&[u8]>)
+    ensures parts { MatchOption result.1 (parts text.now ≡ result.0.now ∷ []) (λ rest. parts text.now ≡ result.0.now ∷ parts rest.now) }
+    ensures shorter { IfSome result.1 (λ rest. length rest.now < length text.now) }
+{
+    match comma_place(text) {
+        Some(place) => {
+            let (part, rest) = text.split_at(place);
+            (part, Some(&rest[1..]))
+        }
+        None => (text, None),
+    }
+}
+
+/// The nodes that the word spells, with a comma between each two; None exactly if it spells none.
+pub(crate) fn node_list(alloc: Global, word: &[u8]) -> Result<Option<Vec<NodeId>>, Memory>
+    ensures { IfOk result (λ o. MatchOption o ((nodes : List ℕ) → SpellsNodes word.now nodes → ⊥) (λ v. SpellsNodes word.now v.items)) }
+{
+    let mut nodes = Vec::new(alloc);
+    let mut text = word;
+    'parts: loop {
+        let (part, rest) = first_part(text);
+        match node_number(part) {
+            Some(node) => nodes.push(node)?,
+            None => return Ok(None),
+        }
+        match rest {
+            Some(rest) => text = rest,
+            None => return Ok(Some(nodes)),
+        }
     }
 }

@@ -1,17 +1,18 @@
 // What a line of a script says.
-ghost use Rattle.std.specs.Prelude.{◌≡◌, ◌≢◌, ◌↔◌, List, ℕ, IsTrue, IfSome, IfNone, [], ◌∷◌};
-ghost use Rattle.graph_spec.specs.Words.{words};
+ghost use Rattle.std.specs.Prelude.{◌≡◌, ◌≢◌, ◌↔◌, ◌<◌, ◌^◌, List, ℕ, IsTrue, IfSome, IfNone};
+ghost use Rattle.graph_spec.specs.Words.{node_word};
 ghost use Rattle.index_api.specs.declared.kinds.Via.{Via as AnyVia};
 ghost use Rattle.index_api.specs.Spelling.{via_word};
 ghost use Rattle.script_read.specs.Commands.{IsVia};
 ghost use Rattle.script_read.specs.FirstWords.{first_word, behind_word, without_blanks, OpensNothing};
-ghost use Rattle.script_read.specs.ScannedLines.{OpensOther, IsScanned};
+ghost use Rattle.script_read.specs.ScannedLines.{OpensOther, OpensReport, IsScanned};
 
 use crate::commands::Command;
 use crate::indexes::{one_index, one_kind, via_of};
-use crate::nodes::{one_node, two_nodes};
+use crate::nodes::{node_number, one_node, two_nodes};
 use crate::words::{is_over, is_word, one_word, split_word, trim_blanks};
 use index_api::Via;
+use px_base::NodeId;
 
 /// What a line says, before its label or expression is read. Such a text is borrowed from the line.
 #[derive(Drop)]
@@ -23,6 +24,10 @@ pub(crate) enum ScannedLine<'a> {
     Path(Via, &'a [u8]),
     /// The same of a branching query.
     Branch(Via, &'a [u8]),
+    /// The node that may answer a path expression, and its text.
+    Why(NodeId, &'a [u8]),
+    /// The word of the nodes that may show why a node answers a path expression, and its text.
+    Check(&'a [u8], &'a [u8]),
     /// A command with neither label nor expression.
     Whole(Command),
     Bad,
@@ -48,22 +53,35 @@ fn opens_nothing(word: &[u8]) -> bool
     matches!(word, [] | [b'#', ..])
 }
 
-/// What a line with these parts says, which is no change.
-fn scan_query<'a>(word: &'a [u8], rest: &'a [u8]) -> ScannedLine<'a>
-    requires { OpensOther word.now }
+/// A node, and the text of an expression without the blanks at both ends.
+fn why_parts(rest: &[u8]) -> Option<(NodeId, &[u8])>
+    ensures node { IfSome result (λ p. first_word rest.now ≡ node_word p.0) }
+    ensures number { IfSome result (λ p. p.0 < 2 ^ 32) }
+    ensures text { IfSome result (λ p. p.1.now ≡ without_blanks (behind_word rest.now)) }
+    ensures absent { IfNone result ((v : ℕ) → v < 2 ^ 32 → first_word rest.now ≢ node_word v) }
+{
+    let (word, text) = split_word(rest);
+    match node_number(word) {
+        Some(node) => Some((node, trim_blanks(text))),
+        None => None,
+    }
+}
+
+/// A word of nodes, and the text of an expression without the blanks at both ends.
+fn check_parts(rest: &[u8]) -> (&[u8], &[u8])
+    ensures word { result.0.now ≡ first_word rest.now }
+    ensures text { result.1.now ≡ without_blanks (behind_word rest.now) }
+{
+    let (word, text) = split_word(rest);
+    (word, trim_blanks(text))
+}
+
+/// What a line with these parts says, which is no change and asks with no expression.
+fn scan_report<'a>(word: &'a [u8], rest: &'a [u8]) -> ScannedLine<'a>
+    requires { OpensReport word.now }
     ensures { (line : List ℕ) → word.now ≡ first_word line → rest.now ≡ behind_word line → IsScanned line result }
 {
-    if is_word(word, "path") {
-        match query_parts(rest) {
-            Some((via, text)) => ScannedLine::Path(via, text),
-            None => ScannedLine::Bad,
-        }
-    } else if is_word(word, "branch") {
-        match query_parts(rest) {
-            Some((via, text)) => ScannedLine::Branch(via, text),
-            None => ScannedLine::Bad,
-        }
-    } else if is_word(word, "extents") {
+    if is_word(word, "extents") {
         match one_index(rest) {
             Some(via) => ScannedLine::Whole(Command::Extents(via)),
             None => ScannedLine::Bad,
@@ -81,6 +99,34 @@ fn scan_query<'a>(word: &'a [u8], rest: &'a [u8]) -> ScannedLine<'a>
         }
     } else {
         ScannedLine::Bad
+    }
+}
+
+/// What a line with these parts says, which is no change.
+fn scan_query<'a>(word: &'a [u8], rest: &'a [u8]) -> ScannedLine<'a>
+    requires { OpensOther word.now }
+    ensures { (line : List ℕ) → word.now ≡ first_word line → rest.now ≡ behind_word line → IsScanned line result }
+{
+    if is_word(word, "path") {
+        match query_parts(rest) {
+            Some((via, text)) => ScannedLine::Path(via, text),
+            None => ScannedLine::Bad,
+        }
+    } else if is_word(word, "branch") {
+        match query_parts(rest) {
+            Some((via, text)) => ScannedLine::Branch(via, text),
+            None => ScannedLine::Bad,
+        }
+    } else if is_word(word, "why") {
+        match why_parts(rest) {
+            Some((node, text)) => ScannedLine::Why(node, text),
+            None => ScannedLine::Bad,
+        }
+    } else if is_word(word, "check") {
+        let (nodes, text) = check_parts(rest);
+        ScannedLine::Check(nodes, text)
+    } else {
+        scan_report(word, rest)
     }
 }
 

@@ -14,6 +14,8 @@ enum Short {
     Drop(u32),
     Path(Via),
     Branch(Via),
+    Why(u32),
+    Check(u32, u32),
     Extents(Via),
     Sizes,
     Forget(Kind),
@@ -31,6 +33,11 @@ fn shorten(read: Result<Option<Command>, ScriptError>) -> Short {
         Ok(Some(Command::Drop(node))) => Short::Drop(node),
         Ok(Some(Command::Path(via, _))) => Short::Path(via),
         Ok(Some(Command::Branch(via, _))) => Short::Branch(via),
+        Ok(Some(Command::Why(node, _))) => Short::Why(node),
+        Ok(Some(Command::Check(walk, _))) => match walk.nodes() {
+            [first, .., last] => Short::Check(*first, *last),
+            _ => Short::Memory,
+        },
         Ok(Some(Command::Extents(via))) => Short::Extents(via),
         Ok(Some(Command::Sizes)) => Short::Sizes,
         Ok(Some(Command::Forget(kind))) => Short::Forget(kind),
@@ -42,7 +49,7 @@ fn shorten(read: Result<Option<Command>, ScriptError>) -> Short {
 
 #[test]
 fn lines_are_commands(rt: HostRuntime) -> Result<(), Fail> {
-    let rows: [(&[u8], Short); 21] = [
+    let rows: [(&[u8], Short); 24] = [
         (b"", Short::Quiet),
         (b" \t# node a", Short::Quiet),
         (b" node\ta ", Short::Node),
@@ -60,6 +67,9 @@ fn lines_are_commands(rt: HostRuntime) -> Result<(), Fail> {
             Short::Branch(Via::Fb),
         ),
         (b"branch a1 a[not(/b)]", Short::Branch(Via::A(1))),
+        (b"why n0 a//b", Short::Why(0)),
+        (b" why\tn4294967295 _* ", Short::Why(4294967295)),
+        (b"check n0,n12,n4294967295  a / _", Short::Check(0, 4294967295)),
         (b"extents one", Short::Extents(Via::One)),
         (b" extents\tfb ", Short::Extents(Via::Fb)),
         (b"extents a0", Short::Extents(Via::A(0))),
@@ -77,7 +87,7 @@ fn lines_are_commands(rt: HostRuntime) -> Result<(), Fail> {
 
 #[test]
 fn near_misses_are_bad(rt: HostRuntime) -> Result<(), Fail> {
-    let lines: [&[u8]; 30] = [
+    let lines: [&[u8]; 38] = [
         b"node",
         b"node and",
         b"node a b",
@@ -99,6 +109,14 @@ fn near_misses_are_bad(rt: HostRuntime) -> Result<(), Fail> {
         b"branch two a",
         b"branch fb",
         b"Node a",
+        b"why n0",
+        b"why n0,n1 a",
+        b"why n4294967296 a",
+        b"check a n0",
+        b"check n0,,n1 a",
+        b"check n0,n01 a",
+        b"check n0, n1 a",
+        b"check n0,n1 a[/b]",
         b"extents",
         b"extents data",
         b"extents a01",
@@ -135,7 +153,7 @@ fn limits_come_before_the_language(rt: HostRuntime) -> Result<(), Fail> {
         expr_bytes: 5,
         expr_depth: 1,
     };
-    let rows: [(&[u8], Short); 11] = [
+    let rows: [(&[u8], Short); 16] = [
         (b" path data  a//bc \t", Short::Path(Via::Data)),
         (b"path data a//bcd", Short::Limit),
         (b"path data a b c d", Short::Limit),
@@ -146,6 +164,11 @@ fn limits_come_before_the_language(rt: HostRuntime) -> Result<(), Fail> {
         (b"branch fb  a[/b] ", Short::Branch(Via::Fb)),
         (b"branch fb a[/bc]", Short::Limit),
         (b"branch a3 [(", Short::Limit),
+        (b"why n3 a//bcd", Short::Limit),
+        (b"why n03 a//bcd", Short::Bad),
+        (b"check n3,n4 ((a", Short::Limit),
+        (b"check n3,n04 ((a", Short::Bad),
+        (b"check n3,n4 a b c", Short::Bad),
         (b"node abcdefgh", Short::Node),
     ];
     for (line, short) in rows {

@@ -5,7 +5,7 @@ ghost use Rattle.script_read.specs.FirstWords.{first_word, behind_word, without_
 
 use path_query::{skip_blanks, trim_end_blanks};
 
-/// The first word of the line, which is empty where there is none, and what follows it.
+/// The first word of the line, which is empty if there is none, and what follows it.
 pub(crate) fn split_word(line: &[u8]) -> (&[u8], &[u8])
     ensures word { result.0.now ≡ first_word line.now }
     ensures rest { result.1.now ≡ behind_word line.now }

@@ -124,6 +124,16 @@ const SCRIPTS: &[(&str, &str, u8)] = &[
         "added n0\nadded n1\nadded n2\nok\nok\nanswers 1\nn2\nanswers 1\nn2\nanswers 2\nn0 n1\n",
         0,
     ),
+    (
+        "node a\nnode b\nnode c\nlink n0 n1\nlink n1 n2\nwhy n2 a//c\nwhy n2 c|a/b/c\nwhy n0 b\nwhy n7 a\n",
+        "added n0\nadded n1\nadded n2\nok\nok\nwalk 3\nn0 n1 n2\nwalk 1\nn2\nnone\nrefused no-node\n",
+        1,
+    ),
+    (
+        "node a\nnode a\nnode b\nlink n1 n2\nlink n0 n2\nwhy n2 a/b\ncheck n1,n2 a/b\ncheck n2,n1 b/a\ncheck n2 a*\n",
+        "added n0\nadded n1\nadded n2\nok\nok\nwalk 2\nn0 n2\nyes\nno\nno\n",
+        0,
+    ),
     ("node b\npath data a*\n", "added n0\nanswers 0\n", 0),
     (
         "path data ((((((((((((((((((((((((((((((((((((((((((((((((((((((((((((((((a))))))))))))))))))))))))))))))))))))))))))))))))))))))))))))))))\n",

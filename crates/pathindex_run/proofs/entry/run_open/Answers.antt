@@ -9,8 +9,8 @@ use Rattle.pathindex_run.proofs.RunLemmas.{observable_ran, observable_part, scri
 use Rattle.pathindex_run.proofs.CompleteLemmas.{script_completes}
 use Rattle.pathindex_run.proofs.entry.run_open.Goals as goal
 
-pub returns-in-Ok-clause-meets : goal.returns-in-Ok-clause-meets
-returns-in-Ok-clause-meets g c kinds first =
+pub returns-in-Ok-clause-does : goal.returns-in-Ok-clause-does
+returns-in-Ok-clause-does g c kinds first =
     let found = rw c.in-Ok-true.field-0-test at c.in-Ok-true.ensures.found in
     rw c.status_of.ensures (script_meets (settings_value c.args.settings.now) kinds (g.H.Shelf.files c.args.shelf.now) (state_in (by_meaning g.B.PathIndex.meaning c.args.engine.now)) _ _ _ _ c.requires.begins first
     (observable_ran (state_in (by_meaning g.B.PathIndex.meaning c.args.engine.now)) c.args.settings.now.script.now (g.H.Shelf.files c.args.shelf.now) (g.H.Shelf.left c.open.new.self) _ _ c.in-Ok.ending _ found c.in-Ok.ensures.ran))
@@ -23,20 +23,20 @@ returns-in-Ok-clause-complete g c =
     script_completes (settings_value c.args.settings.now) files (state_in (by_meaning g.B.PathIndex.meaning c.args.engine.now)) (g.K.Sink.written c.args.sink.now) (g.K.Sink.written c.run_lines.new.sink) _ _ _ _ (code_of c.status_of.result) (IsIn (by_meaning g.B.PathIndex.meaning c.run_lines.new.engine))
     (rw c.status_of.ensures (observable_ran (state_in (by_meaning g.B.PathIndex.meaning c.args.engine.now)) c.args.settings.now.script.now files (g.H.Shelf.left c.open.new.self) _ _ c.in-Ok.ending _ found c.in-Ok.ensures.ran)) status
 
-pub returns-in-Err-Shelf-clause-meets : goal.returns-in-Err-Shelf-clause-meets
-returns-in-Err-Shelf-clause-meets g c kinds first =
+pub returns-in-Err-Shelf-clause-does : goal.returns-in-Err-Shelf-clause-does
+returns-in-Err-Shelf-clause-does g c kinds first =
     let found = rw c.in-Ok-true.field-0-test at c.in-Ok-true.ensures.found in
     script_meets (settings_value c.args.settings.now) kinds (g.H.Shelf.files c.args.shelf.now) (state_in (by_meaning g.B.PathIndex.meaning c.args.engine.now)) _ _ 5 _ c.requires.begins first
     (observable_part (state_in (by_meaning g.B.PathIndex.meaning c.args.engine.now)) c.args.settings.now.script.now (g.H.Shelf.files c.args.shelf.now) (g.H.Shelf.left c.open.new.self) _ _ 5 _ found (omega arith) c.in-Err-Shelf.ensures.part)
 
-pub returns-in-Err-Sink-clause-meets : goal.returns-in-Err-Sink-clause-meets
-returns-in-Err-Sink-clause-meets g c kinds first =
+pub returns-in-Err-Sink-clause-does : goal.returns-in-Err-Sink-clause-does
+returns-in-Err-Sink-clause-does g c kinds first =
     let found = rw c.in-Ok-true.field-0-test at c.in-Ok-true.ensures.found in
     script_meets (settings_value c.args.settings.now) kinds (g.H.Shelf.files c.args.shelf.now) (state_in (by_meaning g.B.PathIndex.meaning c.args.engine.now)) _ _ 6 _ c.requires.begins first
     (observable_part (state_in (by_meaning g.B.PathIndex.meaning c.args.engine.now)) c.args.settings.now.script.now (g.H.Shelf.files c.args.shelf.now) (g.H.Shelf.left c.open.new.self) _ _ 6 _ found (omega arith) c.in-Err-Sink.ensures.part)
 
-pub returns-in-Err-Memory-clause-meets : goal.returns-in-Err-Memory-clause-meets
-returns-in-Err-Memory-clause-meets g c kinds first =
+pub returns-in-Err-Memory-clause-does : goal.returns-in-Err-Memory-clause-does
+returns-in-Err-Memory-clause-does g c kinds first =
     let found = rw c.in-Ok-true.field-0-test at c.in-Ok-true.ensures.found in
     script_meets (settings_value c.args.settings.now) kinds (g.H.Shelf.files c.args.shelf.now) (state_in (by_meaning g.B.PathIndex.meaning c.args.engine.now)) _ _ 7 _ c.requires.begins first
     (observable_part (state_in (by_meaning g.B.PathIndex.meaning c.args.engine.now)) c.args.settings.now.script.now (g.H.Shelf.files c.args.shelf.now) (g.H.Shelf.left c.open.new.self) _ _ 7 _ found (omega arith) c.in-Err-Memory.ensures.part)

@@ -15,10 +15,10 @@ run_open-requires-clause-begins g c =
 pub run_open-requires-clause-ready : goal.run_open-requires-clause-ready
 run_open-requires-clause-ready g c = record { sound = c.open.ensures.sound; opened = _; opened_is = c.in-Ok.ensures.opened; limits_are = c.program.ensures }
 
-pub returns-in-Ok-clause-meets : goal.returns-in-Ok-clause-meets
-returns-in-Ok-clause-meets g c =
-    c.run_open.ensures.meets _ (opened_for (settings_value c.args.settings.now) _ (by_meaning g.B.PathIndex.meaning c.leave_out-2.new.engine) _ _ c.in-Ok.ensures.opened c.in-Ok.ensures.built c.open.ensures.kinds c.open.ensures.sound
+pub returns-in-Ok-clause-does : goal.returns-in-Ok-clause-does
+returns-in-Ok-clause-does g c =
+    c.run_open.ensures.does _ (opened_for (settings_value c.args.settings.now) _ (by_meaning g.B.PathIndex.meaning c.leave_out-2.new.engine) _ _ c.in-Ok.ensures.opened c.in-Ok.ensures.built c.open.ensures.kinds c.open.ensures.sound
     (c.leave_out-2.ensures.kinds ∙ ap (left_out c.args.settings.now.without_fb Fb) c.leave_out.ensures.kinds))
 
-pub returns-in-Err-clause-meets : goal.returns-in-Err-clause-meets
-returns-in-Err-clause-meets g c = stopped (settings_value c.args.settings.now) _ (g.H.Shelf.files c.args.shelf.now) (g.K.Sink.written c.args.sink.now) 7 _ (inr refl)
+pub returns-in-Err-clause-does : goal.returns-in-Err-clause-does
+returns-in-Err-clause-does g c = stopped (settings_value c.args.settings.now) _ (g.H.Shelf.files c.args.shelf.now) (g.K.Sink.written c.args.sink.now) 7 _ (inr refl)

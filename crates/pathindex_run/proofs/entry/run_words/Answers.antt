@@ -5,13 +5,13 @@ use Rattle.pathindex_run.proofs.CompleteLemmas.{made_status, made_completes}
 use Rattle.pathindex_run.proofs.MadeProper.{made_ends}
 use Rattle.pathindex_run.proofs.entry.run_words.Goals as goal
 
-pub returns-in-Err-clause-meets : goal.returns-in-Err-clause-meets
-returns-in-Err-clause-meets g c = unread (form_of (map string_bytes c.args.words.now)) _ (g.H.Shelf.files c.args.shelf.now) (g.K.Sink.written c.args.sink.now) _
+pub returns-in-Err-clause-does : goal.returns-in-Err-clause-does
+returns-in-Err-clause-does g c = unread (form_of (map string_bytes c.args.words.now)) _ (g.H.Shelf.files c.args.shelf.now) (g.K.Sink.written c.args.sink.now) _
 
-pub returns-in-Ok-Make-clause-meets : goal.returns-in-Ok-Make-clause-meets
-returns-in-Ok-Make-clause-meets g c =
+pub returns-in-Ok-Make-clause-does : goal.returns-in-Ok-Make-clause-does
+returns-in-Ok-Make-clause-does g c =
     let e = rw c.in-Ok-Make.field-0-is at c.in-Ok-Make.ensures.exact in
-    rw (← e) c.run_made.ensures.meets
+    rw (← e) c.run_made.ensures.does
 
 pub returns-in-Ok-Make-clause-status : goal.returns-in-Ok-Make-clause-status
 returns-in-Ok-Make-clause-status g c =
@@ -21,7 +21,7 @@ returns-in-Ok-Make-clause-status g c =
 pub returns-in-Ok-Make-clause-complete : goal.returns-in-Ok-Make-clause-complete
 returns-in-Ok-Make-clause-complete g c =
     let e = rw c.in-Ok-Make.field-0-is at c.in-Ok-Make.ensures.exact in
-    rw (← e) (made_completes c.in-Ok-Make.seed _ (g.H.Shelf.files c.args.shelf.now) _ _ _ _ _ _ _ c.run_made.ensures.meets c.run_made.ensures.status)
+    rw (← e) (made_completes c.in-Ok-Make.seed _ (g.H.Shelf.files c.args.shelf.now) _ _ _ _ _ _ _ c.run_made.ensures.does c.run_made.ensures.status)
 
 pub returns-in-Ok-Make-clause-made : goal.returns-in-Ok-Make-clause-made
-returns-in-Ok-Make-clause-made g c = λ seed e f. made_ends c.in-Ok-Make.seed _ _ _ _ _ _ _ c.run_made.ensures.meets c.run_made.ensures.status f
+returns-in-Ok-Make-clause-made g c = λ seed e f. made_ends c.in-Ok-Make.seed _ _ _ _ _ _ _ c.run_made.ensures.does c.run_made.ensures.status f

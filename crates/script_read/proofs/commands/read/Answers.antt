@@ -2,8 +2,8 @@ use Rattle.std.proofs.Common.{◌≡◌, ap, sym, ◌∙◌, Err}
 use Rattle.std.proofs.lemmas.Result.{err_from_is_err_and}
 use Rattle.script_read.specs.ReadLines.{command_of}
 use Rattle.script_read.specs.declared.commands.ScriptError.TheVariants.{Limit}
-use Rattle.script_read.proofs.CommandLemmas.{failed_node, failed_path, failed_branch, node_free, free}
-use Rattle.script_read.proofs.CommandLaws.{path_once, branch_once, whole_once}
+use Rattle.script_read.proofs.CommandLemmas.{failed_node, failed_nodes, failed_path, failed_branch, failed_why, failed_check, node_free, free}
+use Rattle.script_read.proofs.CommandLaws.{path_once, branch_once, why_once, check_once, whole_once}
 use Rattle.script_read.proofs.commands.read.Goals as goal
 
 pub returns-in_err-parse_label-in-Node-clause-reads : goal.returns-in_err-parse_label-in-Node-clause-reads
@@ -49,3 +49,38 @@ returns-in_err-parse_branch-in-Branch-clause-once c = branch_once c.args.line.no
 
 pub returns-in_ok-parse_branch-in-Branch-clause-once : goal.returns-in_ok-parse_branch-in-Branch-clause-once
 returns-in_ok-parse_branch-in-Branch-clause-once c = branch_once c.args.line.now c.in-Branch.via c.in-Branch.text.now c.in-Branch.ensures c.in_ok-parse_branch-in-Branch.ensures.once
+
+pub returns-in_err-parse_path-in-Why-clause-reads : goal.returns-in_err-parse_path-in-Why-clause-reads
+returns-in_err-parse_path-in-Why-clause-reads c =
+    let p = err_from_is_err_and c.from_residual-in_err-parse_path-in-Why.result c.from_residual-in_err-parse_path-in-Why.ensures.1 in
+    let l = c.in_err-parse_path-in-Why.ensures.limit in
+    rw p.1 (failed_why c.args.limits.now c.args.line.now c.in-Why.node c.in-Why.text.now p.0 c.in-Why.ensures ((λ i. l.0 (ap Err (sym p.2 ∙ i))), λ i. (let same : Err c.in_err-parse_path-in-Why.field-0.0 ≡ Err Limit = l.1 i in cc))
+    (λ i. c.in_err-parse_path-in-Why.ensures.bad (ap Err (sym p.2 ∙ i))))
+
+pub returns-in_err-parse_path-in-Why-clause-once : goal.returns-in_err-parse_path-in-Why-clause-once
+returns-in_err-parse_path-in-Why-clause-once c = why_once c.args.line.now c.in-Why.node c.in-Why.text.now c.in-Why.ensures c.in_err-parse_path-in-Why.ensures.once
+
+pub returns-in_ok-parse_path-in-Why-clause-once : goal.returns-in_ok-parse_path-in-Why-clause-once
+returns-in_ok-parse_path-in-Why-clause-once c = why_once c.args.line.now c.in-Why.node c.in-Why.text.now c.in-Why.ensures c.in_ok-parse_path-in-Why.ensures.once
+
+pub returns-in_err-walk-in-Check-clause-reads : goal.returns-in_err-walk-in-Check-clause-reads
+returns-in_err-walk-in-Check-clause-reads c =
+    let p = err_from_is_err_and c.from_residual-in_err-walk-in-Check.result c.from_residual-in_err-walk-in-Check.ensures.1 in
+    rw p.1 (failed_nodes c.args.limits.now c.args.line.now c.in-Check.word.now c.in-Check.text.now p.0 c.in-Check.ensures
+    (λ i. c.in_err-walk-in-Check.ensures.no_limit (ap Err (sym p.2 ∙ i))) (λ i. c.in_err-walk-in-Check.ensures.bad (ap Err (sym p.2 ∙ i))))
+
+pub returns-in_err-walk-in-Check-clause-once : goal.returns-in_err-walk-in-Check-clause-once
+returns-in_err-walk-in-Check-clause-once c = check_once c.args.line.now c.in-Check.word.now c.in-Check.text.now c.in-Check.ensures c.parse_path-parsed.ensures.once
+
+pub returns-in_err-expr-in-Check-clause-reads : goal.returns-in_err-expr-in-Check-clause-reads
+returns-in_err-expr-in-Check-clause-reads c =
+    let p = err_from_is_err_and c.from_residual-in_err-expr-in-Check.result c.from_residual-in_err-expr-in-Check.ensures.1 in
+    let l = c.in_err-expr-in-Check.ensures.limit in
+    rw p.1 (failed_check c.args.limits.now c.args.line.now c.in-Check.word.now c.in-Check.text.now _ p.0 c.in-Check.ensures c.in_ok-walk-in-Check.ensures.ok ((λ i. l.0 (ap Err (sym p.2 ∙ i))), λ i. (let same : Err c.in_err-expr-in-Check.field-0.0 ≡ Err Limit = l.1 i in cc))
+    (λ i. c.in_err-expr-in-Check.ensures.bad (ap Err (sym p.2 ∙ i))))
+
+pub returns-in_err-expr-in-Check-clause-once : goal.returns-in_err-expr-in-Check-clause-once
+returns-in_err-expr-in-Check-clause-once c = check_once c.args.line.now c.in-Check.word.now c.in-Check.text.now c.in-Check.ensures c.parse_path-parsed.ensures.once
+
+pub returns-in_ok-expr-in-Check-clause-once : goal.returns-in_ok-expr-in-Check-clause-once
+returns-in_ok-expr-in-Check-clause-once c = check_once c.args.line.now c.in-Check.word.now c.in-Check.text.now c.in-Check.ensures c.parse_path-parsed.ensures.once
