@@ -69,7 +69,10 @@ fn lines_are_commands(rt: HostRuntime) -> Result<(), Fail> {
         (b"branch a1 a[not(/b)]", Short::Branch(Via::A(1))),
         (b"why n0 a//b", Short::Why(0)),
         (b" why\tn4294967295 _* ", Short::Why(4294967295)),
-        (b"check n0,n12,n4294967295  a / _", Short::Check(0, 4294967295)),
+        (
+            b"check n0,n12,n4294967295  a / _",
+            Short::Check(0, 4294967295),
+        ),
         (b"extents one", Short::Extents(Via::One)),
         (b" extents\tfb ", Short::Extents(Via::Fb)),
         (b"extents a0", Short::Extents(Via::A(0))),
