@@ -5,3 +5,4 @@ pub mod TakenLemmas
 pub mod PrefixLemmas
 pub mod ReachedLemmas
 pub mod Examples
+pub mod BadLines

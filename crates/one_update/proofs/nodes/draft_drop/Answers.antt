@@ -8,3 +8,6 @@ returns-clause-changed c =
 
 pub returns-clause-targets : goal.returns-clause-targets
 returns-clause-targets c = drop_target c.args.after.now c.args.base.now c.args.u c.requires.before c.requires.drops
+
+pub returns-in_err-put-clause-targets : goal.returns-in_err-put-clause-targets
+returns-in_err-put-clause-targets c = drop_target c.args.after.now c.args.base.now c.args.u c.requires.before c.requires.drops
