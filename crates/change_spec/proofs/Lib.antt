@@ -1,0 +1,14 @@
+pub mod StepGraphs
+pub mod StepDiffers
+pub mod MoreTargets
+pub mod SingleSteps
+pub mod Fronts
+pub mod KeptEdges
+pub mod StepPlaces
+pub mod NamedNodes
+pub mod LostEdges
+pub mod ShownNeighbours
+pub mod RoundBounds
+pub mod ShownCounts
+pub mod Accepted
+pub mod Examples

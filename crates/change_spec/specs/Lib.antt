@@ -1,0 +1,11 @@
+pub mod Steps
+pub mod Codes
+pub mod Named
+pub mod Altered
+pub mod Costs
+pub mod NextOne
+pub mod Places
+pub mod Lost
+pub mod Shown
+pub mod Bounds
+pub mod Counts
