@@ -1,0 +1,8 @@
+//! What a change makes of a graph in the end: the nodes and edges that come and go, and the nodes at which it alters the
+//! graph; with laws of partitions and supports that follow it. Nothing stands on it yet.
+#![tactic(auto)]
+
+mod effects;
+mod one_change;
+
+pub use effects::Effects;
