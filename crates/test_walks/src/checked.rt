@@ -1,5 +1,5 @@
 // Lists of nodes that show why a node answers, and lists that don't.
-ghost use Rattle.std.specs.Prelude.{◌<◌};
+ghost use Rattle.std.specs.Prelude.{◌≡◌, ◌<◌};
 
 use crate::nested::nested;
 use graph_spec::Limits;
