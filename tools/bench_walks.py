@@ -17,8 +17,8 @@ MAKE = ROOT / "tools" / "make_triples.py"
 KINDS = "dag", "cyclic"
 TRIPLES = 200_000
 EXPRESSIONS = "<http://e/p0>/iri/<http://e/p1>", "<http://e/p0>//literal"
-TURNS = 5
-ASKED = 20  # so many queries, and so many answers that are asked about, spread over all
+TURNS = 3
+ASKED = 100  # so many queries, and so many answers that are asked about, spread over all
 LINE_BYTES = 1_048_576  # the limit on a line of a script
 FLAGS = ["--k", "0", "--without-one", "--without-fb"]
 

@@ -651,7 +651,9 @@ class Run:
         self.walks[1] += len(walk) > 1
         self.say(line, writes(f"walk {len(walk)}", " ".join(f"n{n}" for n in walk)))
         changed = list(walk)
-        changed[self.pick.randrange(len(walk))] = self.any_node()
+        place = self.pick.randrange(len(walk))
+        while changed[place] == walk[place]:
+            changed[place] = self.any_node()
         for nodes in walk, changed:
             names = ",".join(f"n{n}" for n in nodes)
             self.say(f"check {names} {spelled(e)}", writes("yes" if is_shown(self.graph, e, nodes) else "no"))
