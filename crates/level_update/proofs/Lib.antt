@@ -10,4 +10,6 @@ pub mod AddedNodeLevels
 pub mod LoneBlocks
 pub mod GoneLevels
 pub mod Below
+pub mod EffectLevels
 pub mod TargetLaws
+pub mod JoinedNodes

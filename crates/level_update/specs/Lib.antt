@@ -3,3 +3,4 @@ pub mod Placed
 pub mod LevelCosts
 pub mod FamilyDrafts
 pub mod Stages
+pub mod LevelEffects

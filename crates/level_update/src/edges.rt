@@ -15,8 +15,8 @@ use ak_family::{AkDraft, AkFamily};
 use graph_update::After;
 use px_base::{Memory, NodeId};
 
-// The block that a node has at a level.
-fn own_block(family: &AkFamily, draft: &AkDraft, i: u32, n: NodeId) -> u32
+/// The block that a node has at a level.
+pub(crate) fn own_block(family: &AkFamily, draft: &AkDraft, i: u32, n: NodeId) -> u32
     requires over { AreOver family.now draft.now }
     requires level { i < length family.now }
     requires some { IsSome (at (blocks_shown family.now draft.now i) n) }

@@ -2,9 +2,13 @@
 #![tactic(auto)]
 
 mod buffers;
+mod counting;
 mod drafting;
 mod edges;
+mod effects;
+mod joining;
 mod keys;
+mod leaving;
 mod level;
 mod moving;
 mod nodes;

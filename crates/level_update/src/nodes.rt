@@ -13,8 +13,8 @@ use ak_family::{AkDraft, AkFamily};
 use graph_update::After;
 use px_base::{Memory, NodeId};
 
-// The block of a level that has the number alone as its key. It is a further one where no block has the key.
-fn lone_block(
+/// The block of a level that has the number alone as its key. It is a further one where no block has the key.
+pub(crate) fn lone_block(
     family: &AkFamily,
     draft: &mut AkDraft,
     i: u32,

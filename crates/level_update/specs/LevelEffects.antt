@@ -1,0 +1,100 @@
+-- What is drafted at a level of a family for the effects of a change, whatever its steps.
+use Rattle.std.specs.Prelude.{⊤, ◌≡◌, ℕ, zero, suc, ◌<◌, ◌≤◌, ◌^◌, Bool, List, [], ◌∷◌, length, Option, Some, None, IsFalse}
+use Rattle.std.specs.FinSet as set
+use Rattle.graph_spec.specs.Graphs.{Graph, IsGraph}
+use Rattle.graph_spec.specs.Shapes.{IsNode, shape_of}
+use Rattle.graph_spec.specs.Members.{at}
+use Rattle.one_spec.specs.EdgeCounts.{AreEdgeCounts}
+use Rattle.graph_effects.specs.EffectBlocks.{HaveNodesMoved}
+use Rattle.quotient.specs.QuotientNeighbours.{RaisesPair, LowersPair}
+use Rattle.quotient_draft.specs.Drafts.{PutsNode}
+use Rattle.keyed_quotient.specs.KeyedQuotients.{KeyedQuotient, key_at}
+use Rattle.keyed_quotient.specs.Changes.{KeyedChanges}
+use Rattle.level_spec.specs.Keyed.{KeysStay, AreLabelled, IsLevelOf, LabelsGoUp}
+use Rattle.ak_family.specs.Families.{level_at, blocks_at, IsKeyedFamily}
+use Rattle.ak_family.specs.LevelDrafts.{blocks_shown, labels_shown, support_shown, key_shown, AreOver, AreSameBut, KeepsAllButSupports, ShowsBlock}
+use Rattle.level_update.specs.Placed.{LabelsKept}
+use Rattle.level_update.specs.FamilyDrafts.{FamilyFits}
+
+-- the family is that of the first graph, which has few numbers, and the second has few edges
+pub record AreLevelsBefore (g g2 : Graph) (f : List KeyedQuotient) : Type 0 where
+  pub fits : FamilyFits g f
+  pub family : IsKeyedFamily f
+  pub some : 0 < length f
+  pub graph : IsGraph g
+  pub graph_after : IsGraph g2
+  pub few : set.len g2.edges ≤ 2 ^ 30
+  pub small : length g.allocated ≤ 2 ^ 30
+
+-- The key of a block begins as it must: at the lowest level it is the label, and above it begins with a block one level
+-- below that has the same label.
+abbrev pub KeysBegin : List KeyedQuotient → List KeyedChanges → ℕ → Type 0
+KeysBegin f d zero = AreLabelled (labels_shown f d 0) (key_shown f d 0)
+KeysBegin f d (suc i) = LabelsGoUp (labels_shown f d i) (labels_shown f d (suc i)) (key_shown f d (suc i))
+
+-- A level on the way to the graph g2: some nodes have come and gone, and supports count the edges of the graph h. Blocks of
+-- the base keep their labels and keys, and all keys begin as they must.
+pub record IsLevelOnWay (g2 h : Graph) (came gone : List ℕ) (f : List KeyedQuotient) (d : List KeyedChanges) (i : ℕ) : Type 0 where
+  pub over : AreOver f d
+  pub begin : KeysBegin f d i
+  pub stay : KeysStay (key_at (level_at f i).keys) (key_shown f d i)
+  pub labels : LabelsKept (level_at f i).quotient.blocks.labels (labels_shown f d i)
+  pub nodes : HaveNodesMoved g2 (blocks_at f i) (blocks_shown f d i) (at (labels_shown f d i)) came gone
+  pub supports : AreEdgeCounts h (blocks_shown f d i) (support_shown f d i)
+
+-- The level shows the graph g2, with nodes that are no targets in the blocks in which they were.
+pub record IsLevelDrafted (target : ℕ → Bool) (g2 : Graph) (f : List KeyedQuotient) (d : List KeyedChanges) (i : ℕ) : Type 0 where
+  pub level : IsLevelOf g2 (blocks_shown f d i) (labels_shown f d i) (support_shown f d i)
+  pub begin : KeysBegin f d i
+  pub stay : KeysStay (key_at (level_at f i).keys) (key_shown f d i)
+  pub labels : LabelsKept (level_at f i).quotient.blocks.labels (labels_shown f d i)
+  pub far : (n : ℕ) → IsNode (shape_of g2) n → IsFalse (target n) → at (blocks_shown f d i) n ≡ at (blocks_at f i) n
+
+-- the level below, where there is one, is drafted
+abbrev pub IsDraftedBelow : (ℕ → Bool) → Graph → List KeyedQuotient → List KeyedChanges → ℕ → Type 0
+IsDraftedBelow target g2 f d zero = ⊤
+IsDraftedBelow target g2 f d (suc i) = IsLevelDrafted target g2 f d i
+
+-- each level is drafted
+pub record AreLevelsDrafted (target : ℕ → Bool) (g2 : Graph) (f : List KeyedQuotient) (d : List KeyedChanges) : Type 0 where
+  pub over : AreOver f d
+  pub each : (i : ℕ) → i < length f → IsLevelDrafted target g2 f d i
+
+-- the node has come into a block of the level with this label, whose key is this number alone
+pub record IsNodeJoined (f : List KeyedQuotient) (i n label number : ℕ) (d d2 : List KeyedChanges) : Type 0 where
+  pub block : ℕ
+  pub blocks : PutsNode n (Some block) (blocks_shown f d i) (blocks_shown f d2 i)
+  pub has_block : ShowsBlock f i d d2 label (number ∷ []) block
+  pub label_is : at (labels_shown f d2 i) block ≡ Some label
+  pub supports : (x y : ℕ) → support_shown f d2 i x y ≡ support_shown f d i x y
+  pub over : AreOver f d2
+
+-- the node has no block at the level, and nothing else has changed
+pub record IsNodeLeft (f : List KeyedQuotient) (i n : ℕ) (d d2 : List KeyedChanges) : Type 0 where
+  pub blocks : PutsNode n None (blocks_shown f d i) (blocks_shown f d2 i)
+  pub labels : labels_shown f d2 i ≡ labels_shown f d i
+  pub keys : (b : ℕ) → key_shown f d2 i b ≡ key_shown f d i b
+  pub supports : (x y : ℕ) → support_shown f d2 i x y ≡ support_shown f d i x y
+  pub over : AreOver f d2
+
+-- at the level one edge fewer leads from the block of u to that of v, and nothing else has changed
+pub record IsEdgeLowered (f : List KeyedQuotient) (i u v : ℕ) (d d2 : List KeyedChanges) : Type 0 where
+  pub first : ℕ
+  pub second : ℕ
+  pub from : at (blocks_shown f d i) u ≡ Some first
+  pub onto : at (blocks_shown f d i) v ≡ Some second
+  pub lowered : LowersPair first second (support_shown f d i) (support_shown f d2 i)
+  pub kept : KeepsAllButSupports f i d d2
+
+-- at the level one edge more leads from the block of u to that of v, and nothing else has changed
+pub record IsEdgeRaised (f : List KeyedQuotient) (i u v : ℕ) (d d2 : List KeyedChanges) : Type 0 where
+  pub first : ℕ
+  pub second : ℕ
+  pub from : at (blocks_shown f d i) u ≡ Some first
+  pub onto : at (blocks_shown f d i) v ≡ Some second
+  pub raised : RaisesPair first second (support_shown f d i) (support_shown f d2 i)
+  pub kept : KeepsAllButSupports f i d d2
+
+-- where both nodes have blocks at the level, that of u has support to that of v
+abbrev pub HaveSupport : List KeyedQuotient → List KeyedChanges → ℕ → ℕ → ℕ → Type 0
+HaveSupport f d i u v = (x y : ℕ) → at (blocks_shown f d i) u ≡ Some x → at (blocks_shown f d i) v ≡ Some y → 0 < support_shown f d i x y

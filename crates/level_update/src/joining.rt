@@ -1,0 +1,76 @@
+// Nodes that come, at a level.
+ghost use Rattle.std.specs.Prelude.{◌≡◌, ◌<◌, ◌∷◌, [], ◌^◌, ℕ, IsSome, Some, OnOk, length};
+ghost use Rattle.graph_spec.specs.Members.{has};
+ghost use Rattle.graph_update.specs.PendingChanges.{graph_after};
+ghost use Rattle.graph_effects.specs.Effects.{AreEffects};
+ghost use Rattle.ak_family.specs.LevelDrafts.{labels_shown, key_shown, AreOver, AreSameBut};
+ghost use Rattle.level_update.specs.Stages.{KeyHasLabel, own_number};
+ghost use Rattle.level_update.specs.LevelEffects.{AreLevelsBefore, IsDraftedBelow, IsLevelOnWay, IsNodeJoined};
+
+use crate::nodes::lone_block;
+use ak_family::{AkDraft, AkFamily};
+use graph_effects::Effects;
+use graph_update::After;
+use px_base::{Memory, NodeId};
+
+// The number with which the key of a node begins at a level: its label at the lowest one, and above it its block one level below.
+fn first_number(family: &AkFamily, draft: &AkDraft, i: u32, n: NodeId, label: u32) -> u32
+    requires over { AreOver family.now draft.now }
+    requires level { i < length family.now }
+    requires some { IsSome (own_number family.now draft.now label n i) }
+    ensures { own_number family.now draft.now label n i ≡ Some result }
+{
+    if i == 0 {
+        return label;
+    }
+    family.shown(draft, i - 1, n).unwrap()
+}
+
+// A node comes into the block of a level whose key is the number alone.
+fn join_node(
+    family: &AkFamily,
+    draft: &mut AkDraft,
+    i: u32,
+    n: NodeId,
+    label: u32,
+    number: u32,
+) -> Result<(), Memory>
+    requires over { AreOver family.now draft.old }
+    requires level { i < length family.now }
+    requires small { n < 2 ^ 31 }
+    requires labelled { KeyHasLabel (key_shown family.now draft.old i) (labels_shown family.now draft.old i) (number ∷ []) label }
+    ensures joined { OnOk result (IsNodeJoined family.now i n label number draft.old draft.new) }
+    ensures others { AreSameBut i draft.old draft.new }
+{
+    let b = lone_block(family, draft, i, label, number)?;
+    family.put(draft, i, n, Some(b))?;
+    Ok(())
+}
+
+/// Puts the nodes that come into blocks of a level, each into that whose key is its label, or its block one level below, alone.
+/// None of the edges so far is at such a node, so supports stay.
+pub(crate) fn join_nodes(
+    family: &AkFamily,
+    draft: &mut AkDraft,
+    i: u32,
+    after: &After<'_>,
+    effects: &Effects,
+) -> Result<(), Memory>
+    requires before { AreLevelsBefore after.now.before (graph_after after.now) family.now }
+    requires effects { AreEffects after.now.before (graph_after after.now) effects.now }
+    requires below { IsDraftedBelow (has effects.now.targets) (graph_after after.now) family.now draft.old i }
+    requires level { i < length family.now }
+    requires start { IsLevelOnWay (graph_after after.now) after.now.before [] [] family.now draft.old i }
+    ensures joined { OnOk result (IsLevelOnWay (graph_after after.now) after.now.before effects.now.came [] family.now draft.new i) }
+    ensures others { AreSameBut i draft.old draft.new }
+{
+    // Called for its contract: numbers are small.
+    let _known = after.created();
+    let came = effects.came();
+    'joins: for n in came {
+        let label = after.label(*n);
+        let number = first_number(family, draft, i, *n, label);
+        join_node(family, draft, i, *n, label, number)?;
+    }
+    Ok(())
+}
