@@ -1,6 +1,5 @@
 //! Definitions of changes that are lists of steps, with laws: what a list leaves, at which nodes it alters a graph, what it
-//! costs, how the partition of the 1-index moves with it, and which neighbours a node will have. No code, and nothing
-//! stands on it yet.
+//! costs, how the partition of the 1-index moves with it, and which neighbours a node will have. No code.
 //!
 //! Laws in `proofs/`:
 //! - `StepGraphs`, `StepPlaces`, `Accepted`: accepted steps leave a graph; what they name is there; numbers that are gone

@@ -1,5 +1,5 @@
 //! What a change makes of a graph in the end: the nodes and edges that come and go, and the nodes at which it alters the
-//! graph; with laws of partitions and supports that follow it. Nothing stands on it yet.
+//! graph; with laws of partitions and supports that follow it.
 #![tactic(auto)]
 
 mod effects;

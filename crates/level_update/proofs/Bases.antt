@@ -23,7 +23,7 @@ pub next_is : (i : ℕ) → i + 1 ≡ suc i
 next_is i = omega arith
 
 -- a text has one number
-pub number_of : (g : Graph) (n l : ℕ) (t : List ℕ) → IsGraph g → slice_get g.seen l ≡ Some t → label_of g n ≡ Some t → label_number g n ≡ Some l
+number_of : (g : Graph) (n l : ℕ) (t : List ℕ) → IsGraph g → slice_get g.seen l ≡ Some t → label_of g n ≡ Some t → label_number g n ≡ Some l
 number_of g n l t graph seen label = ap (option_and_then (λ s. position (bytes_eq s) g.seen)) label ∙ position-at g.seen l t graph.distinct seen
 
 -- each level is one of the graph, and each node is in the block of its key

@@ -1,5 +1,5 @@
 -- A level on the way to the graph that a change leaves.
-use Rattle.std.proofs.Common.{◌≡◌, ◌≢◌, ℕ, zero, suc, ◌+◌, ◌<◌, ◌≤◌, ◌^◌, List, [], ◌∷◌, ◌++◌, length, Option, Some, None, IsSome, IsTrue, is_some, refl, sym, ◌∙◌, ap, subst, arith, inl, inr, true, false, Bool, cond, take, get_or, true≢false}
+use Rattle.std.proofs.Common.{◌≡◌, ℕ, zero, suc, ◌+◌, ◌<◌, ◌≤◌, ◌^◌, List, [], ◌∷◌, ◌++◌, length, Option, Some, None, IsSome, IsTrue, is_some, refl, sym, ◌∙◌, ap, subst, arith, inl, inr, true, false, Bool, cond, take, get_or, true≢false}
 use Rattle.std.specs.Prelude.{nat_eq, ◌&&◌, ◌||◌, ◌⊎◌}
 use Rattle.std.specs.FinSet as set
 use Rattle.std.proofs.lemmas.Bool.{false_from_ne_true, both_ways, cases_Bool, cases_lt}
@@ -12,23 +12,22 @@ use Rattle.graph_spec.proofs.GraphLaws.{is_shape}
 use Rattle.bisim_spec.specs.Reach.{within_distance}
 use Rattle.bisim_spec.proofs.Reached.{within_more}
 use Rattle.level_update.specs.MovedLevels.{HasMovedAffected}
-use Rattle.std.proofs.Math.Bool.{or-true}
+use Rattle.std.proofs.Math.Bool.{or-true, or-false}
 use Rattle.label_graph.specs.GraphViews.{label_number}
 use Rattle.bisim_spec.proofs.Bisimilar.{some_of}
 use Rattle.bisim_spec.specs.IndexGraphs.{support_at}
 use Rattle.one_spec.specs.EdgeCounts.{AreEdgeCounts}
 use Rattle.graph_effects.specs.Effects.{EffectLists, AreEffects, same_pair, has_pair, without_edges, with_edges}
 use Rattle.graph_effects.specs.EffectBlocks.{HaveNodesMoved}
-use Rattle.graph_effects.proofs.EdgeLists.{pair_at, pair_there, AreIn, counts_lowered, counts_raised, lowered_some, counts_agree, counts_few, edge_there}
-use Rattle.graph_effects.proofs.EffectLaws.{came_parts, gone_parts, live_was, lost_edges, added_absent, left_in_both, edges_after, counts_after, moved_none, moved_came, moved_gone, moved_labels, moved_partition, moved_named, moved_far}
+use Rattle.graph_effects.proofs.EdgeLists.{pair_at, pair_there, counts_lowered, counts_raised, lowered_some, counts_agree, counts_few, edge_there}
+use Rattle.graph_effects.proofs.EffectLaws.{came_parts, gone_parts, live_was, lost_edges, added_absent, left_in_both, counts_after, moved_none, moved_came, moved_gone, moved_labels, moved_partition, moved_named, has_last, live_stayed}
 use Rattle.keyed_quotient.specs.KeyedQuotients.{KeyedQuotient, key_at}
 use Rattle.keyed_quotient.specs.Changes.{KeyedChanges, no_keyed_changes, blocks_as_shown, labels_as_shown, support_as_shown, shown_key}
 use Rattle.level_spec.specs.Keyed.{KeysStay, AreLabelled, IsLevelOf, LabelsGoUp, first_number}
 use Rattle.ak_family.specs.Families.{level_at, blocks_at}
-use Rattle.ak_family.specs.LevelDrafts.{changes_at, blocks_shown, labels_shown, support_shown, key_shown, AreOver, AreSameBut, KeepsAllButSupports, KeepsLabelsAndKeys, HasBlock}
+use Rattle.ak_family.specs.LevelDrafts.{changes_at, blocks_shown, labels_shown, support_shown, key_shown, AreOver, AreSameBut, KeepsAllButSupports, KeepsLabelsAndKeys}
 use Rattle.level_update.specs.Placed.{LabelsKept}
-use Rattle.level_update.specs.Stages.{KeyHasLabel, own_number}
-use Rattle.level_update.specs.LevelEffects.{KeysBegin, IsLevelOnWay, IsLevelDrafted, IsDraftedBelow, AreLevelsDrafted, IsNodeJoined, IsNodeLeft, IsEdgeLowered, IsEdgeRaised}
+use Rattle.level_update.specs.LevelEffects.{KeyHasLabel, own_number, HasOwnKey, KeysBegin, IsLevelOnWay, IsLevelDrafted, IsDraftedBelow, AreLevelsDrafted, IsNodeJoined, IsNodeLeft, IsEdgeLowered, IsEdgeRaised}
 use Rattle.level_update.proofs.Bases.{next_is, AreBases}
 use Rattle.level_update.proofs.Unchanged.{none_blocks, none_labels, none_support, none_key}
 
@@ -48,28 +47,42 @@ begin_kept f d d2 (suc i) k w = record {
       );
 }
 
+-- a node whose block and its key have stayed
+own_stays : (f : List KeyedQuotient) (d d2 : List KeyedChanges) (i n : ℕ) → AreSameBut i d d2 → at (blocks_shown f d2 i) n ≡ at (blocks_shown f d i) n
+    → ((b : ℕ) (numbers : List ℕ) → key_shown f d i b ≡ Some numbers → key_shown f d2 i b ≡ Some numbers) → HasOwnKey f d i n → HasOwnKey f d2 i n
+own_stays f d d2 zero n others same keys w = tt
+own_stays f d d2 (suc i) n others same keys w = (
+  w.0,
+  w.1,
+  ap (λ (c : KeyedChanges). at (blocks_as_shown (level_at f i) c) n) (others i (λ e. absurd (omega (arith, e)))) ∙ w.2,
+  same ∙ w.3,
+  keys w.1 (w.0 ∷ []) w.4,
+)
+
 -- labels and keys have stayed
-way_kept : (g2 h h2 : Graph) (came gone came2 gone2 : List ℕ) (f : List KeyedQuotient) (d d2 : List KeyedChanges) (i : ℕ) → IsLevelOnWay g2 h came gone f d i → KeepsLabelsAndKeys f i d d2
-    → AreOver f d2 → HaveNodesMoved g2 (blocks_at f i) (blocks_shown f d2 i) (at (labels_shown f d i)) came2 gone2
-    → AreEdgeCounts h2 (blocks_shown f d2 i) (support_shown f d2 i) → IsLevelOnWay g2 h2 came2 gone2 f d2 i
-way_kept g2 h h2 came gone came2 gone2 f d d2 i w k over nodes supports = record {
+way_kept : (g2 h h2 : Graph) (came gone gone2 : List ℕ) (f : List KeyedQuotient) (d d2 : List KeyedChanges) (i : ℕ) → IsLevelOnWay g2 h came gone f d i → KeepsLabelsAndKeys f i d d2
+    → AreOver f d2 → HaveNodesMoved g2 (blocks_at f i) (blocks_shown f d2 i) (at (labels_shown f d i)) came gone2
+    → ((n : ℕ) → IsTrue (has came n) → at (blocks_shown f d2 i) n ≡ at (blocks_shown f d i) n) → AreEdgeCounts h2 (blocks_shown f d2 i) (support_shown f d2 i)
+    → IsLevelOnWay g2 h2 came gone2 f d2 i
+way_kept g2 h h2 came gone gone2 f d d2 i w k over nodes same supports = record {
   over = over;
   begin = begin_kept f d d2 i k w.begin;
   stay = record { kept = λ b numbers e. k.keys b ∙ w.stay.kept b numbers e };
   labels = record { kept = λ b l e. ap (λ (ls : List (Option ℕ)). at ls b) k.labels ∙ w.labels.kept b l e };
-  nodes = moved_labels g2 (blocks_at f i) (blocks_shown f d2 i) (blocks_shown f d2 i) (at (labels_shown f d i)) (at (labels_shown f d2 i)) came2 gone2 nodes (λ m. refl)
+  nodes = moved_labels g2 (blocks_at f i) (blocks_shown f d2 i) (blocks_shown f d2 i) (at (labels_shown f d i)) (at (labels_shown f d2 i)) came gone2 nodes (λ m. refl)
       (λ c. ap (λ (ls : List (Option ℕ)). at ls c) k.labels);
+  own = λ n h. own_stays f d d2 i n k.others (same n h) (λ b numbers e. k.keys b ∙ e) (w.own n h);
   supports = supports;
 }
 
 -- ---- the start
 
-begin_first : (g g2 : Graph) (target : ℕ → Bool) (f : List KeyedQuotient) (d : List KeyedChanges) (i : ℕ) → AreBases g f → i < length f → changes_at d i ≡ no_keyed_changes
-    → IsDraftedBelow target g2 f d i → KeysBegin f d i
-begin_first g g2 target f d zero base h none below = record {
+begin_first : (g g2 : Graph) (came : List ℕ) (f : List KeyedQuotient) (d : List KeyedChanges) (i : ℕ) → AreBases g f → i < length f → changes_at d i ≡ no_keyed_changes
+    → IsDraftedBelow came g2 f d i → KeysBegin f d i
+begin_first g g2 came f d zero base h none below = record {
   is = λ b l e. none_key (level_at f 0) (changes_at d 0) none b ∙ base.lowest.is b l (sym (ap (λ (ls : List (Option ℕ)). at ls b) (none_labels (level_at f 0) (changes_at d 0) none)) ∙ e);
 }
-begin_first g g2 target f d (suc i) base h none below =
+begin_first g g2 came f d (suc i) base h none below =
     let up = subst (λ j. LabelsGoUp (level_at f i).quotient.blocks.labels (level_at f j).quotient.blocks.labels (key_at (level_at f j).keys)) (next_is i) (base.up i (omega (arith, h))) in
     let q = level_at f (suc i) in
     record {
@@ -78,18 +91,19 @@ begin_first g g2 target f d (suc i) base h none below =
           (r.0, below.labels.kept number r.0 r.1, ap (λ (ls : List (Option ℕ)). at ls b) (none_labels q (changes_at d (suc i)) none) ∙ r.2);
     }
 
-pub way_start : (g g2 : Graph) (target : ℕ → Bool) (f : List KeyedQuotient) (d : List KeyedChanges) (i : ℕ) → AreBases g f → i < length f → AreOver f d
-    → changes_at d i ≡ no_keyed_changes → IsDraftedBelow target g2 f d i → IsLevelOnWay g2 g [] [] f d i
-way_start g g2 target f d i base h over none below =
+pub way_start : (g g2 : Graph) (came : List ℕ) (f : List KeyedQuotient) (d : List KeyedChanges) (i : ℕ) → AreBases g f → i < length f → AreOver f d
+    → changes_at d i ≡ no_keyed_changes → IsDraftedBelow came g2 f d i → IsLevelOnWay g2 g [] [] f d i
+way_start g g2 came f d i base h over none below =
     let q = level_at f i in
     let c = changes_at d i in
     let there : (n : ℕ) → at (blocks_shown f d i) n ≡ at (blocks_at f i) n = λ n. ap (λ (p : List (Option ℕ)). at p n) (none_blocks q c none) in
     record {
       over = over;
-      begin = begin_first g g2 target f d i base h none below;
+      begin = begin_first g g2 came f d i base h none below;
       stay = record { kept = λ b numbers e. none_key q c none b ∙ e };
       labels = record { kept = λ b l e. ap (λ (ls : List (Option ℕ)). at ls b) (none_labels q c none) ∙ e };
       nodes = moved_none g2 (blocks_at f i) (blocks_shown f d i) (at (labels_shown f d i)) there;
+      own = λ n h. absurd (true≢false (sym h));
       supports = counts_agree g (blocks_at f i) (blocks_shown f d i) (support_at q.quotient.supports) (support_shown f d i) (base.levels i h).supports (λ u v on. (there u, there v))
           (none_support q c none);
     }
@@ -97,31 +111,31 @@ way_start g g2 target f d i base h over none below =
 -- ---- nodes that come
 
 -- the node's block below, with which the key begins, has the label of the node
-below_label : (g2 : Graph) (target : ℕ → Bool) (f : List KeyedQuotient) (d : List KeyedChanges) (i n label number : ℕ) → IsLevelDrafted target g2 f d i → label_number g2 n ≡ Some label
+below_label : (g2 : Graph) (came : List ℕ) (f : List KeyedQuotient) (d : List KeyedChanges) (i n label number : ℕ) → IsLevelDrafted came g2 f d i → label_number g2 n ≡ Some label
     → at (blocks_shown f d i) n ≡ Some number → at (labels_shown f d i) number ≡ Some label
-below_label g2 target f d i n label number below is own =
+below_label g2 came f d i n label number below is own =
     let r = below.level.block_labels.is n number own in
     r.1 ∙ sym r.2 ∙ is
 
-pub own_some : (g2 : Graph) (target : ℕ → Bool) (f : List KeyedQuotient) (d : List KeyedChanges) (i n label : ℕ) → IsDraftedBelow target g2 f d i → IsTrue (is_live g2 n)
+pub own_some : (g2 : Graph) (came : List ℕ) (f : List KeyedQuotient) (d : List KeyedChanges) (i n label : ℕ) → IsDraftedBelow came g2 f d i → IsTrue (is_live g2 n)
     → IsSome (own_number f d label n i)
-own_some g2 target f d zero n label below live = refl
-own_some g2 target f d (suc i) n label below live = below.level.partition.live n live
+own_some g2 came f d zero n label below live = refl
+own_some g2 came f d (suc i) n label below live = below.level.partition.live n live
 
 -- a block whose key is the number alone has the label
-pub own_labelled : (g2 : Graph) (target : ℕ → Bool) (f : List KeyedQuotient) (d : List KeyedChanges) (i n label number : ℕ) → IsDraftedBelow target g2 f d i → AreOver f d → i < length f
+pub own_labelled : (g2 : Graph) (came : List ℕ) (f : List KeyedQuotient) (d : List KeyedChanges) (i n label number : ℕ) → IsDraftedBelow came g2 f d i → AreOver f d → i < length f
     → KeysBegin f d i → label_number g2 n ≡ Some label → own_number f d label n i ≡ Some number → KeyHasLabel (key_shown f d i) (labels_shown f d i) (number ∷ []) label
-own_labelled g2 target f d zero n label number below over h begin is own b e =
+own_labelled g2 came f d zero n label number below over h begin is own b e =
     let l = some_of (at (labels_shown f d 0) b) (sym ((over.each 0 h).keyed.exactly b) ∙ ap is_some e) in
     let same : Some number ≡ Some l.0 = ap first_number (sym e ∙ begin.is b l.0 l.1) in
     l.1 ∙ sym same ∙ sym own
-own_labelled g2 target f d (suc i) n label number below over h begin is own b e =
+own_labelled g2 came f d (suc i) n label number below over h begin is own b e =
     let r = begin.is b number (ap first_number e) in
-    r.2 ∙ sym r.1 ∙ below_label g2 target f d i n label number below is own
+    r.2 ∙ sym r.1 ∙ below_label g2 came f d i n label number below is own
 
-begin_joined : (g2 : Graph) (target : ℕ → Bool) (f : List KeyedQuotient) (d d2 : List KeyedChanges) (i n label number : ℕ) → IsDraftedBelow target g2 f d i → AreSameBut i d d2
+begin_joined : (g2 : Graph) (came : List ℕ) (f : List KeyedQuotient) (d d2 : List KeyedChanges) (i n label number : ℕ) → IsDraftedBelow came g2 f d i → AreSameBut i d d2
     → label_number g2 n ≡ Some label → own_number f d label n i ≡ Some number → IsNodeJoined f i n label number d d2 → KeysBegin f d i → KeysBegin f d2 i
-begin_joined g2 target f d d2 zero n label number below others is own j begin = record {
+begin_joined g2 came f d d2 zero n label number below others is own j begin = record {
   is = λ b l e. elim (eqb_tells b j.block) [
     | inl s ↦ (
         let same : label ≡ l = same_some label l (sym j.label_is ∙ ap (at (labels_shown f d2 0)) (sym s.1) ∙ e) in
@@ -130,11 +144,11 @@ begin_joined g2 target f d d2 zero n label number below others is own j begin = 
     | inr o ↦ j.has_block.other_keys b o.1 ∙ begin.is b l (sym (j.has_block.other_labels b o.1) ∙ e)
   ];
 }
-begin_joined g2 target f d d2 (suc i) n label number below others is own j begin = record {
+begin_joined g2 came f d d2 (suc i) n label number below others is own j begin = record {
   is = λ b first_is first. elim (eqb_tells b j.block) [
     | inl s ↦ (
         let one : number ≡ first_is = same_some number first_is (sym (ap first_number (ap (key_shown f d2 (suc i)) s.1 ∙ j.has_block.key_is)) ∙ first) in
-        (label, still first_is ∙ ap (at (labels_shown f d i)) (sym one) ∙ below_label g2 target f d i n label number below is own, ap (at (labels_shown f d2 (suc i))) s.1 ∙ j.label_is))
+        (label, still first_is ∙ ap (at (labels_shown f d i)) (sym one) ∙ below_label g2 came f d i n label number below is own, ap (at (labels_shown f d2 (suc i))) s.1 ∙ j.label_is))
     | inr o ↦ (
         let r = begin.is b first_is (sym (ap first_number (j.has_block.other_keys b o.1)) ∙ first) in
         (r.0, still first_is ∙ r.1, j.has_block.labels_stay b r.0 r.2))
@@ -154,16 +168,33 @@ off_edges g n u v graph dead on = (
 put_off : (n : ℕ) (o : Option ℕ) (block block2 : List (Option ℕ)) → ((m : ℕ) → at block2 m ≡ cond (nat_eq m n) o (at block m)) → (m : ℕ) → nat_eq m n ≡ false → at block2 m ≡ at block m
 put_off n o block block2 put m h = put m ∙ ap (λ t. cond t o (at block m)) h
 
-pub way_joined : (g g2 : Graph) (target : ℕ → Bool) (came : List ℕ) (f : List KeyedQuotient) (d d2 : List KeyedChanges) (i n label number : ℕ) → IsGraph g → is_live g n ≡ false
-    → IsDraftedBelow target g2 f d i → IsLevelOnWay g2 g came [] f d i → AreSameBut i d d2 → label_number g2 n ≡ Some label → own_number f d label n i ≡ Some number
+-- the node that has come is in the block of its own number
+own_joined : (f : List KeyedQuotient) (d d2 : List KeyedChanges) (i n label number : ℕ) → AreSameBut i d d2 → own_number f d label n i ≡ Some number → IsNodeJoined f i n label number d d2
+    → HasOwnKey f d2 i n
+own_joined f d d2 zero n label number others own j = tt
+own_joined f d d2 (suc i) n label number others own j = (
+  number,
+  j.block,
+  ap (λ (c : KeyedChanges). at (blocks_as_shown (level_at f i) c) n) (others i (λ e. absurd (omega (arith, e)))) ∙ own,
+  j.blocks n ∙ ap (λ t. cond t (Some j.block) (at (blocks_shown f d (suc i)) n)) ((Decides-eqb n n).1 refl),
+  j.has_block.key_is,
+)
+
+pub way_joined : (g g2 : Graph) (all came : List ℕ) (f : List KeyedQuotient) (d d2 : List KeyedChanges) (i n label number : ℕ) → IsGraph g → is_live g n ≡ false
+    → IsDraftedBelow all g2 f d i → IsLevelOnWay g2 g came [] f d i → AreSameBut i d d2 → label_number g2 n ≡ Some label → own_number f d label n i ≡ Some number
     → IsNodeJoined f i n label number d d2 → IsLevelOnWay g2 g (came ++ n ∷ []) [] f d2 i
-way_joined g g2 target came f d d2 i n label number graph dead below w others is own j = record {
+way_joined g g2 all came f d d2 i n label number graph dead below w others is own j = record {
   over = j.over;
-  begin = begin_joined g2 target f d d2 i n label number below others is own j w.begin;
+  begin = begin_joined g2 all f d d2 i n label number below others is own j w.begin;
   stay = record { kept = λ b numbers e. j.has_block.keys_stay.kept b numbers (w.stay.kept b numbers e) };
   labels = record { kept = λ b l e. j.has_block.labels_stay b l (w.labels.kept b l e) };
   nodes = moved_came g2 (blocks_at f i) (blocks_shown f d i) (blocks_shown f d2 i) (at (labels_shown f d i)) (at (labels_shown f d2 i)) came n j.block label w.nodes j.blocks j.has_block.labels_stay
       j.label_is is;
+  own = λ m h. elim (eqb_tells m n) [
+    | inl s ↦ subst (HasOwnKey f d2 i) (sym s.1) (own_joined f d d2 i n label number others own j)
+    | inr o ↦ own_stays f d d2 i m others (put_off n (Some j.block) (blocks_shown f d i) (blocks_shown f d2 i) j.blocks m o.0) j.has_block.keys_stay.kept
+        (w.own m (sym (or-false (has came m)) ∙ sym (ap (λ b. has came m || b) o.0) ∙ sym (has_last came n m) ∙ h))
+  ];
   supports = counts_agree g (blocks_shown f d i) (blocks_shown f d2 i) (support_shown f d i) (support_shown f d2 i) w.supports (λ u v on.
       let off = off_edges g n u v graph dead on in
       (put_off n (Some j.block) (blocks_shown f d i) (blocks_shown f d2 i) j.blocks u off.0, put_off n (Some j.block) (blocks_shown f d i) (blocks_shown f d2 i) j.blocks v off.1)) j.supports;
@@ -185,8 +216,9 @@ pub way_left : (g g2 : Graph) (e : EffectLists) (gone : List ℕ) (f : List Keye
     → IsLevelOnWay g2 (without_edges g e.lost) e.came (gone ++ n ∷ []) f d2 i
 way_left g g2 e gone f d d2 i n w graph on way others l =
     let parts = gone_parts g g2 e n w on in
-    way_kept g2 (without_edges g e.lost) (without_edges g e.lost) e.came gone e.came (gone ++ n ∷ []) f d d2 i way (record { labels = l.labels; keys = l.keys; others = others }) l.over
+    way_kept g2 (without_edges g e.lost) (without_edges g e.lost) e.came gone (gone ++ n ∷ []) f d d2 i way (record { labels = l.labels; keys = l.keys; others = others }) l.over
     (moved_gone g2 (blocks_at f i) (blocks_shown f d i) (blocks_shown f d2 i) (at (labels_shown f d i)) e.came gone n way.nodes l.blocks (live_was g g2 e n w parts.0))
+    (λ m h. put_off n None (blocks_shown f d i) (blocks_shown f d2 i) l.blocks m (false_from_ne_true (nat_eq m n) (λ s. true≢false (sym h ∙ ap (has e.came) ((Decides-eqb m n).0 s) ∙ live_was g g2 e n w parts.0))))
     (counts_agree (without_edges g e.lost) (blocks_shown f d i) (blocks_shown f d2 i) (support_shown f d i) (support_shown f d2 i) way.supports (λ u v there.
     let off = off_left g g2 e n u v w graph parts.1 there in
     (put_off n None (blocks_shown f d i) (blocks_shown f d2 i) l.blocks u off.0, put_off n None (blocks_shown f d i) (blocks_shown f d2 i) l.blocks v off.1)) l.supports)
@@ -199,9 +231,9 @@ kept_keys f d d2 i k = record { labels = k.labels; keys = k.keys; others = k.oth
 way_counted : (g2 h h2 : Graph) (came gone : List ℕ) (f : List KeyedQuotient) (d d2 : List KeyedChanges) (i : ℕ) → IsLevelOnWay g2 h came gone f d i → KeepsAllButSupports f i d d2
     → AreEdgeCounts h2 (blocks_shown f d i) (support_shown f d2 i) → IsLevelOnWay g2 h2 came gone f d2 i
 way_counted g2 h h2 came gone f d d2 i w k counts =
-    way_kept g2 h h2 came gone came gone f d d2 i w (kept_keys f d d2 i k) k.over
+    way_kept g2 h h2 came gone gone f d d2 i w (kept_keys f d d2 i k) k.over
     (moved_labels g2 (blocks_at f i) (blocks_shown f d i) (blocks_shown f d2 i) (at (labels_shown f d i)) (at (labels_shown f d i)) came gone w.nodes (λ m. ap (λ (p : List (Option ℕ)). at p m) k.blocks)
-    (λ c. refl))
+    (λ c. refl)) (λ n h. ap (λ (p : List (Option ℕ)). at p n) k.blocks)
     (subst (λ (p : List (Option ℕ)). AreEdgeCounts h2 p (support_shown f d2 i)) (sym k.blocks) counts)
 
 pub way_lowered : (g g2 : Graph) (e : EffectLists) (f : List KeyedQuotient) (d d2 : List KeyedChanges) (i j : ℕ) → AreEffects g g2 e → j < length e.lost
@@ -296,7 +328,7 @@ added_few g g2 e f d i j w few way x y =
 
 -- a level on which all effects are drafted
 pub way_done : (g g2 : Graph) (e : EffectLists) (f : List KeyedQuotient) (d : List KeyedChanges) (i : ℕ) → AreEffects g g2 e → IsGraph g2 → AreBases g f → i < length f
-    → IsLevelOnWay g2 (with_edges (without_edges g e.lost) e.added) e.came e.gone f d i → IsLevelDrafted (has e.targets) g2 f d i
+    → IsLevelOnWay g2 (with_edges (without_edges g e.lost) e.added) e.came e.gone f d i → IsLevelDrafted e.came g2 f d i
 way_done g g2 e f d i w graph base h way =
     let b = base.levels i h in
     record {
@@ -308,7 +340,8 @@ way_done g g2 e f d i w graph base h way =
       begin = way.begin;
       stay = way.stay;
       labels = way.labels;
-      far = λ n live off. moved_far g g2 e (blocks_at f i) (blocks_shown f d i) (at (labels_shown f d i)) n w way.nodes live off;
+      own = way.own;
+      far = λ n live off. way.nodes.others n off (live_stayed g g2 e n w live);
     }
 
 -- ---- level by level
@@ -320,10 +353,20 @@ begin_same f d d2 i (suc j) others h w =
     subst (λ (c : KeyedChanges). LabelsGoUp (labels_as_shown (level_at f j) c) (labels_shown f d2 (suc j)) (key_shown f d2 (suc j))) (sym (others j (λ e. absurd (omega (arith, h, e)))))
     (subst (λ (c : KeyedChanges). LabelsGoUp (labels_shown f d j) (labels_as_shown (level_at f (suc j)) c) (shown_key (level_at f (suc j)) c)) (sym (others (suc j) (λ e. absurd (omega (arith, h, e))))) w)
 
+own_same : (f : List KeyedQuotient) (d d2 : List KeyedChanges) (i j n : ℕ) → AreSameBut i d d2 → j < i → HasOwnKey f d j n → HasOwnKey f d2 j n
+own_same f d d2 i zero n others h w = tt
+own_same f d d2 i (suc j) n others h w = (
+  w.0,
+  w.1,
+  ap (λ (c : KeyedChanges). at (blocks_as_shown (level_at f j) c) n) (others j (λ e. absurd (omega (arith, h, e)))) ∙ w.2,
+  ap (λ (c : KeyedChanges). at (blocks_as_shown (level_at f (suc j)) c) n) (others (suc j) (λ e. absurd (omega (arith, h, e)))) ∙ w.3,
+  ap (λ (c : KeyedChanges). shown_key (level_at f (suc j)) c w.1) (others (suc j) (λ e. absurd (omega (arith, h, e)))) ∙ w.4,
+)
+
 -- a lower level isn't touched
-drafted_same : (target : ℕ → Bool) (g2 : Graph) (f : List KeyedQuotient) (d d2 : List KeyedChanges) (i j : ℕ) → AreSameBut i d d2 → j < i → IsLevelDrafted target g2 f d j
-    → IsLevelDrafted target g2 f d2 j
-drafted_same target g2 f d d2 i j others h w =
+drafted_same : (came : List ℕ) (g2 : Graph) (f : List KeyedQuotient) (d d2 : List KeyedChanges) (i j : ℕ) → AreSameBut i d d2 → j < i → IsLevelDrafted came g2 f d j
+    → IsLevelDrafted came g2 f d2 j
+drafted_same came g2 f d d2 i j others h w =
     let same = sym (others j (λ e. absurd (omega (arith, h, e)))) in
     let q = level_at f j in
     record {
@@ -331,37 +374,38 @@ drafted_same target g2 f d d2 i j others h w =
       begin = begin_same f d d2 i j others h w.begin;
       stay = subst (λ (c : KeyedChanges). KeysStay (key_at q.keys) (shown_key q c)) same w.stay;
       labels = subst (λ (c : KeyedChanges). LabelsKept q.quotient.blocks.labels (labels_as_shown q c)) same w.labels;
+      own = λ n on. own_same f d d2 i j n others h (w.own n on);
       far = λ n live off. ap (λ (c : KeyedChanges). at (blocks_as_shown q c) n) (sym same) ∙ w.far n live off;
     }
 
 -- the levels below i are drafted, and nothing is drafted at the others
-pub record AreDraftedTo (target : ℕ → Bool) (g2 : Graph) (f : List KeyedQuotient) (d : List KeyedChanges) (i : ℕ) : Type 0 where
+pub record AreDraftedTo (came : List ℕ) (g2 : Graph) (f : List KeyedQuotient) (d : List KeyedChanges) (i : ℕ) : Type 0 where
   pub over : AreOver f d
-  pub done : (j : ℕ) → j < i → IsLevelDrafted target g2 f d j
+  pub done : (j : ℕ) → j < i → IsLevelDrafted came g2 f d j
   pub rest : (j : ℕ) → i ≤ j → changes_at d j ≡ no_keyed_changes
 
-pub below_drafted : (target : ℕ → Bool) (g2 : Graph) (f : List KeyedQuotient) (d : List KeyedChanges) (i : ℕ) → AreDraftedTo target g2 f d i → IsDraftedBelow target g2 f d i
-below_drafted target g2 f d zero w = tt
-below_drafted target g2 f d (suc i) w = w.done i (omega arith)
+pub below_drafted : (came : List ℕ) (g2 : Graph) (f : List KeyedQuotient) (d : List KeyedChanges) (i : ℕ) → AreDraftedTo came g2 f d i → IsDraftedBelow came g2 f d i
+below_drafted came g2 f d zero w = tt
+below_drafted came g2 f d (suc i) w = w.done i (omega arith)
 
-pub drafted_next : (target : ℕ → Bool) (g2 : Graph) (f : List KeyedQuotient) (d d2 : List KeyedChanges) (i : ℕ) → AreDraftedTo target g2 f d i → AreSameBut i d d2 → AreOver f d2
-    → IsLevelDrafted target g2 f d2 i → AreDraftedTo target g2 f d2 (i + 1)
-drafted_next target g2 f d d2 i w others over one = record {
+pub drafted_next : (came : List ℕ) (g2 : Graph) (f : List KeyedQuotient) (d d2 : List KeyedChanges) (i : ℕ) → AreDraftedTo came g2 f d i → AreSameBut i d d2 → AreOver f d2
+    → IsLevelDrafted came g2 f d2 i → AreDraftedTo came g2 f d2 (i + 1)
+drafted_next came g2 f d d2 i w others over one = record {
   over = over;
   done = λ j h. elim (cases_lt j i) [
-    | inl below ↦ drafted_same target g2 f d d2 i j others below (w.done j below)
-    | inr past ↦ (let e : i ≡ j = omega (arith, h, past) in subst (IsLevelDrafted target g2 f d2) e one)
+    | inl below ↦ drafted_same came g2 f d d2 i j others below (w.done j below)
+    | inr past ↦ (let e : i ≡ j = omega (arith, h, past) in subst (IsLevelDrafted came g2 f d2) e one)
   ];
   rest = λ j h. others j (λ e. absurd (omega (arith, h, e))) ∙ w.rest j (omega (arith, h));
 }
 
-pub drafted_all : (target : ℕ → Bool) (g2 : Graph) (f : List KeyedQuotient) (d : List KeyedChanges) (i : ℕ) → AreDraftedTo target g2 f d i → length f ≤ i → AreLevelsDrafted target g2 f d
-drafted_all target g2 f d i w all = record { over = w.over; each = λ j h. w.done j (omega (arith, h, all)) }
+pub drafted_all : (came : List ℕ) (g2 : Graph) (f : List KeyedQuotient) (d : List KeyedChanges) (i : ℕ) → AreDraftedTo came g2 f d i → length f ≤ i → AreLevelsDrafted came g2 f d
+drafted_all came g2 f d i w all = record { over = w.over; each = λ j h. w.done j (omega (arith, h, all)) }
 
 -- the level below isn't touched
-pub below_same : (target : ℕ → Bool) (g2 : Graph) (f : List KeyedQuotient) (d d2 : List KeyedChanges) (i : ℕ) → AreSameBut i d d2 → IsDraftedBelow target g2 f d i → IsDraftedBelow target g2 f d2 i
-below_same target g2 f d d2 zero others w = tt
-below_same target g2 f d d2 (suc i) others w = drafted_same target g2 f d d2 (suc i) i others (omega arith) w
+pub below_same : (came : List ℕ) (g2 : Graph) (f : List KeyedQuotient) (d d2 : List KeyedChanges) (i : ℕ) → AreSameBut i d d2 → IsDraftedBelow came g2 f d i → IsDraftedBelow came g2 f d2 i
+below_same came g2 f d d2 zero others w = tt
+below_same came g2 f d d2 (suc i) others w = drafted_same came g2 f d d2 (suc i) i others (omega arith) w
 
 pub same_next : (i : ℕ) (d d1 d2 : List KeyedChanges) → AreSameBut i d d1 → AreSameBut i d1 d2 → AreSameBut i d d2
 same_next i d d1 d2 p q = λ j ne. q j ne ∙ p j ne
@@ -405,14 +449,15 @@ pair_is es fs i other same h = ap (λ (xs : List (ℕ × ℕ)). get_or xs i othe
 -- ---- all levels
 
 -- Once the effects are drafted at each level, the affected nodes can move.
-pub levels_moving : (target : ℕ → Bool) (g2 : Graph) (f : List KeyedQuotient) (d : List KeyedChanges) → 0 < length f → AreLevelsDrafted target g2 f d → HasMovedAffected target g2 f d
-levels_moving target g2 f d some w = record {
+pub levels_moving : (came : List ℕ) (target : ℕ → Bool) (g2 : Graph) (f : List KeyedQuotient) (d : List KeyedChanges) → ((n : ℕ) → IsTrue (has came n) → target n ≡ true) → 0 < length f
+    → AreLevelsDrafted came g2 f d → HasMovedAffected target g2 f d
+levels_moving came target g2 f d targets some w = record {
   over = w.over;
   levels = λ i h. (w.each i h).level;
   lowest = (w.each 0 some).begin;
-  up = λ i h. subst (λ j. LabelsGoUp (labels_shown f d i) (labels_shown f d j) (key_shown f d j)) (sym (next_is i)) (subst (IsLevelDrafted target g2 f d) (next_is i) (w.each (i + 1) h)).begin;
+  up = λ i h. subst (λ j. LabelsGoUp (labels_shown f d i) (labels_shown f d j) (key_shown f d j)) (sym (next_is i)) (subst (IsLevelDrafted came g2 f d) (next_is i) (w.each (i + 1) h)).begin;
   stay = λ i h. (w.each i h).stay;
   far = λ i h. record {
-    same = λ n live off. (w.each i h).far n live (false_from_ne_true (target n) (λ t. both_ways (within_distance (shape_of g2) target i n) off (within_more (shape_of g2) target 0 i n (omega arith) t)));
+    same = λ n live off. (w.each i h).far n live (false_from_ne_true (has came n) (λ t. both_ways (within_distance (shape_of g2) target i n) off (within_more (shape_of g2) target 0 i n (omega arith) (targets n t))));
   };
 }

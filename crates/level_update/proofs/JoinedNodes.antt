@@ -1,5 +1,5 @@
 -- A node that comes into a block which was found or made for it.
-use Rattle.std.proofs.Common.{◌≡◌, ◌⊎◌, ℕ, List, [], ◌∷◌, Option, Some, is_some, inl, inr, ap, ◌∙◌, subst}
+use Rattle.std.proofs.Common.{◌≡◌, ℕ, List, [], ◌∷◌, Option, Some, is_some, inl, inr, ap, ◌∙◌, subst}
 use Rattle.graph_spec.specs.Members.{at}
 use Rattle.quotient_draft.specs.Drafts.{PutsNode}
 use Rattle.keyed_quotient.specs.KeyedQuotients.{KeyedQuotient}

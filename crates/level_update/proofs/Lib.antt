@@ -5,11 +5,7 @@ pub mod PlacingCosts
 pub mod Bases
 pub mod MovedDrafts
 pub mod Unchanged
-pub mod LinkedLevels
-pub mod AddedNodeLevels
 pub mod LoneBlocks
-pub mod GoneLevels
-pub mod Below
 pub mod EffectLevels
-pub mod TargetLaws
+pub mod EffectTargets
 pub mod JoinedNodes

@@ -1,9 +1,11 @@
 -- A draft whose levels have moved shows a family, and fits the graph after the change once it is settled.
 use Rattle.std.proofs.Common.{◌≡◌, ℕ, zero, suc, ◌+◌, ◌<◌, List, [], ◌∷◌, length, Option, Some, None, IsSome, IsTrue, is_some, refl, sym, ◌∙◌, ap, subst, arith, true, false, Bool, cond, true≢false}
+use Rattle.std.specs.Prelude.{slice_get, option_and_then, position, bytes_eq}
 use Rattle.graph_spec.specs.Graphs.{Graph, IsGraph, label_of}
 use Rattle.graph_spec.specs.Shapes.{Shape, shape_of}
 use Rattle.graph_spec.specs.Members.{at}
 use Rattle.graph_spec.proofs.GraphLaws.{is_shape}
+use Rattle.label_graph.proofs.Positions.{text-at}
 use Rattle.bisim_spec.specs.Bisimilarity.{Bis}
 use Rattle.bisim_spec.specs.Partitions.{IsPartition, Agrees}
 use Rattle.bisim_spec.specs.Reach.{within_distance}
@@ -22,7 +24,6 @@ use Rattle.ak_family.specs.LevelDrafts.{changes_at, blocks_shown, labels_shown, 
 use Rattle.level_update.specs.MovedLevels.{HasMovedAffected, AreKeyedAffected}
 use Rattle.level_update.specs.FamilyDrafts.{ShownFit}
 use Rattle.level_update.proofs.Bases.{next_is, AreBases}
-use Rattle.level_update.proofs.AddedNodeLevels.{text_of}
 
 -- What is known once all affected nodes have moved.
 pub record HaveMoved (target : ℕ → Bool) (g g2 : Graph) (f : List KeyedQuotient) (d : List KeyedChanges) : Type 0 where
@@ -38,7 +39,7 @@ apart_at : (target : ℕ → Bool) (g g2 : Graph) (f : List KeyedQuotient) (d : 
 apart_at target g g2 f d w i h = record { apart = (w.moving.over.each i h).keyed.apart }
 
 -- above the lowest level each node is in the block of its key
-keyed_at : (target : ℕ → Bool) (g g2 : Graph) (f : List KeyedQuotient) (d : List KeyedChanges) → HaveMoved target g g2 f d → (i n : ℕ) → i + 1 < length f
+pub keyed_at : (target : ℕ → Bool) (g g2 : Graph) (f : List KeyedQuotient) (d : List KeyedChanges) → HaveMoved target g g2 f d → (i n : ℕ) → i + 1 < length f
     → IsKeyed (shape_of g2) (blocks_shown f d i) (blocks_shown f d (i + 1)) (key_shown f d (i + 1)) n
 keyed_at target g g2 f d w i n h =
     keyed_after target (shape_of g) (shape_of g2) (blocks_at f i) (blocks_shown f d i) (blocks_at f (i + 1)) (blocks_shown f d (i + 1)) (key_at (level_at f (i + 1)).keys)
@@ -60,6 +61,12 @@ agrees_at target g g2 f d w (suc i) h =
     (w.moving.levels (i + 1) up).partition (apart_at target g g2 f d w (i + 1) up) (λ n. keyed_at target g g2 f d w i n up))
 
 -- ---- once it is settled
+
+-- the text of a label that has a number
+text_of : (o : Option (List ℕ)) (seen : List (List ℕ)) (d : ℕ) → option_and_then (λ t. position (bytes_eq t) seen) o ≡ Some d
+    → (t : List ℕ) × (slice_get seen d ≡ Some t) × (o ≡ Some t)
+text_of None seen d h = absurd (cc)
+text_of (Some t) seen d h = (t, text-at t seen d h, refl)
 
 abbrev none_label : Option ℕ
 none_label = None

@@ -1,10 +1,12 @@
 -- What is drafted at a level of a family for the effects of a change, whatever its steps.
-use Rattle.std.specs.Prelude.{⊤, ◌≡◌, ℕ, zero, suc, ◌<◌, ◌≤◌, ◌^◌, Bool, List, [], ◌∷◌, length, Option, Some, None, IsFalse}
+use Rattle.std.specs.Prelude.{⊤, ◌≡◌, ℕ, zero, suc, ◌<◌, ◌≤◌, ◌^◌, ◌&&◌, ◌||◌, nat_eq, Bool, List, [], ◌∷◌, length, Option, Some, None, IsTrue, IsFalse}
 use Rattle.std.specs.FinSet as set
 use Rattle.graph_spec.specs.Graphs.{Graph, IsGraph}
 use Rattle.graph_spec.specs.Shapes.{IsNode, shape_of}
-use Rattle.graph_spec.specs.Members.{at}
+use Rattle.graph_spec.specs.Members.{at, has}
 use Rattle.one_spec.specs.EdgeCounts.{AreEdgeCounts}
+use Rattle.graph_update.specs.PendingChanges.{Pending, graph_after}
+use Rattle.graph_effects.specs.Effects.{EffectLists, without_edges, with_edges}
 use Rattle.graph_effects.specs.EffectBlocks.{HaveNodesMoved}
 use Rattle.quotient.specs.QuotientNeighbours.{RaisesPair, LowersPair}
 use Rattle.quotient_draft.specs.Drafts.{PutsNode}
@@ -12,9 +14,18 @@ use Rattle.keyed_quotient.specs.KeyedQuotients.{KeyedQuotient, key_at}
 use Rattle.keyed_quotient.specs.Changes.{KeyedChanges}
 use Rattle.level_spec.specs.Keyed.{KeysStay, AreLabelled, IsLevelOf, LabelsGoUp}
 use Rattle.ak_family.specs.Families.{level_at, blocks_at, IsKeyedFamily}
-use Rattle.ak_family.specs.LevelDrafts.{blocks_shown, labels_shown, support_shown, key_shown, AreOver, AreSameBut, KeepsAllButSupports, ShowsBlock}
+use Rattle.ak_family.specs.LevelDrafts.{blocks_shown, labels_shown, support_shown, key_shown, AreOver, KeepsAllButSupports, ShowsBlock}
 use Rattle.level_update.specs.Placed.{LabelsKept}
 use Rattle.level_update.specs.FamilyDrafts.{FamilyFits}
+
+-- a block that has this key has this label
+abbrev pub KeyHasLabel : (ℕ → Option (List ℕ)) → List (Option ℕ) → List ℕ → ℕ → Type 0
+KeyHasLabel keys labels key label = (b : ℕ) → keys b ≡ Some key → at labels b ≡ Some label
+
+-- the number with which the key of a node begins: its label at the lowest level, and above it its block one level below
+abbrev pub own_number : List KeyedQuotient → List KeyedChanges → ℕ → ℕ → ℕ → Option ℕ
+own_number f d label n zero = Some label
+own_number f d label n (suc i) = at (blocks_shown f d i) n
 
 -- the family is that of the first graph, which has few numbers, and the second has few edges
 pub record AreLevelsBefore (g g2 : Graph) (f : List KeyedQuotient) : Type 0 where
@@ -32,33 +43,58 @@ abbrev pub KeysBegin : List KeyedQuotient → List KeyedChanges → ℕ → Type
 KeysBegin f d zero = AreLabelled (labels_shown f d 0) (key_shown f d 0)
 KeysBegin f d (suc i) = LabelsGoUp (labels_shown f d i) (labels_shown f d (suc i)) (key_shown f d (suc i))
 
+-- Above the lowest level the node is in a block whose key is its block one level below alone.
+abbrev pub HasOwnKey : List KeyedQuotient → List KeyedChanges → ℕ → ℕ → Type 0
+HasOwnKey f d zero n = ⊤
+HasOwnKey f d (suc i) n =
+    (number : ℕ) × (b : ℕ) × (at (blocks_shown f d i) n ≡ Some number) × (at (blocks_shown f d (suc i)) n ≡ Some b) × (key_shown f d (suc i) b ≡ Some (number ∷ []))
+
 -- A level on the way to the graph g2: some nodes have come and gone, and supports count the edges of the graph h. Blocks of
--- the base keep their labels and keys, and all keys begin as they must.
+-- the base keep their labels and keys, all keys begin as they must, and nodes that have come are in the blocks of their own
+-- numbers.
 pub record IsLevelOnWay (g2 h : Graph) (came gone : List ℕ) (f : List KeyedQuotient) (d : List KeyedChanges) (i : ℕ) : Type 0 where
   pub over : AreOver f d
   pub begin : KeysBegin f d i
   pub stay : KeysStay (key_at (level_at f i).keys) (key_shown f d i)
   pub labels : LabelsKept (level_at f i).quotient.blocks.labels (labels_shown f d i)
   pub nodes : HaveNodesMoved g2 (blocks_at f i) (blocks_shown f d i) (at (labels_shown f d i)) came gone
+  pub own : (n : ℕ) → IsTrue (has came n) → HasOwnKey f d i n
   pub supports : AreEdgeCounts h (blocks_shown f d i) (support_shown f d i)
 
--- The level shows the graph g2, with nodes that are no targets in the blocks in which they were.
-pub record IsLevelDrafted (target : ℕ → Bool) (g2 : Graph) (f : List KeyedQuotient) (d : List KeyedChanges) (i : ℕ) : Type 0 where
+-- The level shows the graph g2, with nodes that have come in the blocks of their own numbers, and all others in the blocks in
+-- which they were.
+pub record IsLevelDrafted (came : List ℕ) (g2 : Graph) (f : List KeyedQuotient) (d : List KeyedChanges) (i : ℕ) : Type 0 where
   pub level : IsLevelOf g2 (blocks_shown f d i) (labels_shown f d i) (support_shown f d i)
   pub begin : KeysBegin f d i
   pub stay : KeysStay (key_at (level_at f i).keys) (key_shown f d i)
   pub labels : LabelsKept (level_at f i).quotient.blocks.labels (labels_shown f d i)
-  pub far : (n : ℕ) → IsNode (shape_of g2) n → IsFalse (target n) → at (blocks_shown f d i) n ≡ at (blocks_at f i) n
+  pub own : (n : ℕ) → IsTrue (has came n) → HasOwnKey f d i n
+  pub far : (n : ℕ) → IsNode (shape_of g2) n → IsFalse (has came n) → at (blocks_shown f d i) n ≡ at (blocks_at f i) n
 
 -- the level below, where there is one, is drafted
-abbrev pub IsDraftedBelow : (ℕ → Bool) → Graph → List KeyedQuotient → List KeyedChanges → ℕ → Type 0
-IsDraftedBelow target g2 f d zero = ⊤
-IsDraftedBelow target g2 f d (suc i) = IsLevelDrafted target g2 f d i
+abbrev pub IsDraftedBelow : List ℕ → Graph → List KeyedQuotient → List KeyedChanges → ℕ → Type 0
+IsDraftedBelow came g2 f d zero = ⊤
+IsDraftedBelow came g2 f d (suc i) = IsLevelDrafted came g2 f d i
 
 -- each level is drafted
-pub record AreLevelsDrafted (target : ℕ → Bool) (g2 : Graph) (f : List KeyedQuotient) (d : List KeyedChanges) : Type 0 where
+pub record AreLevelsDrafted (came : List ℕ) (g2 : Graph) (f : List KeyedQuotient) (d : List KeyedChanges) : Type 0 where
   pub over : AreOver f d
-  pub each : (i : ℕ) → i < length f → IsLevelDrafted target g2 f d i
+  pub each : (i : ℕ) → i < length f → IsLevelDrafted came g2 f d i
+
+-- On the way, once the edges that go have been taken out of the supports; once the nodes that go have no blocks; and once the
+-- edges that come have been added to the supports.
+abbrev pub HasEdgesLowered : Pending → EffectLists → List KeyedQuotient → List KeyedChanges → ℕ → Type 0
+HasEdgesLowered a e f d i = IsLevelOnWay (graph_after a) (without_edges a.before e.lost) e.came [] f d i
+
+abbrev pub HasNodesLeft : Pending → EffectLists → List KeyedQuotient → List KeyedChanges → ℕ → Type 0
+HasNodesLeft a e f d i = IsLevelOnWay (graph_after a) (without_edges a.before e.lost) e.came e.gone f d i
+
+abbrev pub HasEdgesRaised : Pending → EffectLists → List KeyedQuotient → List KeyedChanges → ℕ → Type 0
+HasEdgesRaised a e f d i = IsLevelOnWay (graph_after a) (with_edges (without_edges a.before e.lost) e.added) e.came e.gone f d i
+
+-- Whether nodes keep the keys with which the effects are drafted: no edge comes or goes, or the graph is altered at none of its nodes.
+abbrev pub keeps_keys : EffectLists → Bool
+keeps_keys e = nat_eq (length e.targets) 0 || (nat_eq (length e.lost) 0 && nat_eq (length e.added) 0)
 
 -- the node has come into a block of the level with this label, whose key is this number alone
 pub record IsNodeJoined (f : List KeyedQuotient) (i n label number : ℕ) (d d2 : List KeyedChanges) : Type 0 where

@@ -2,5 +2,4 @@ pub mod MovedLevels
 pub mod Placed
 pub mod LevelCosts
 pub mod FamilyDrafts
-pub mod Stages
 pub mod LevelEffects

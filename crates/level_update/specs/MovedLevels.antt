@@ -24,3 +24,8 @@ pub record HasMovedAffected (target : ℕ → Bool) (g : Graph) (f : List KeyedQ
 pub record AreKeyedAffected (target : ℕ → Bool) (g : Graph) (f : List KeyedQuotient) (d : List KeyedChanges) : Type 0 where
   pub each : (i n : ℕ) → i + 1 < length f → IsTrue (within_distance (shape_of g) target (i + 1) n)
       → IsKeyed (shape_of g) (blocks_shown f d i) (blocks_shown f d (i + 1)) (key_shown f d (i + 1)) n
+
+-- each level shows the graph, and the affected nodes are in the blocks of their keys
+pub record AreMoved (target : ℕ → Bool) (g : Graph) (f : List KeyedQuotient) (d : List KeyedChanges) : Type 0 where
+  pub moving : HasMovedAffected target g f d
+  pub keyed : AreKeyedAffected target g f d

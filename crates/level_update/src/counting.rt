@@ -1,16 +1,26 @@
 // Edges that come and go, at a level.
-ghost use Rattle.std.specs.Prelude.{◌≡◌, ◌<◌, ◌^◌, [], ℕ, IsSome, OnOk, length};
+ghost use Rattle.std.specs.Prelude.{◌≡◌, ◌<◌, ◌^◌, [], ℕ, IsSome, Some, OnOk, length};
 ghost use Rattle.graph_spec.specs.Members.{at};
 ghost use Rattle.graph_update.specs.PendingChanges.{graph_after};
-ghost use Rattle.graph_effects.specs.Effects.{AreEffects, without_edges, with_edges};
-ghost use Rattle.ak_family.specs.LevelDrafts.{blocks_shown, support_shown, AreOver, AreSameBut};
-ghost use Rattle.level_update.specs.LevelEffects.{AreLevelsBefore, IsLevelOnWay, IsEdgeLowered, IsEdgeRaised, HaveSupport};
+ghost use Rattle.graph_effects.specs.Effects.{AreEffects};
+ghost use Rattle.ak_family.specs.LevelDrafts.{blocks_shown, labels_shown, support_shown, AreOver, AreSameBut};
+ghost use Rattle.level_update.specs.LevelEffects.{AreLevelsBefore, IsLevelOnWay, IsEdgeLowered, IsEdgeRaised, HaveSupport, HasEdgesLowered, HasNodesLeft, HasEdgesRaised};
 
-use crate::edges::own_block;
 use ak_family::{AkDraft, AkFamily};
 use graph_effects::Effects;
 use graph_update::After;
 use px_base::{Memory, NodeId};
+
+// The block that a node has at a level.
+fn own_block(family: &AkFamily, draft: &AkDraft, i: u32, n: NodeId) -> u32
+    requires over { AreOver family.now draft.now }
+    requires level { i < length family.now }
+    requires some { IsSome (at (blocks_shown family.now draft.now i) n) }
+    ensures block { at (blocks_shown family.now draft.now i) n ≡ Some result }
+    ensures live { IsSome (at (labels_shown family.now draft.now i) result) }
+{
+    family.shown(draft, i, n).unwrap()
+}
 
 // An edge goes, at a level.
 fn lower_edge(
@@ -68,7 +78,7 @@ pub(crate) fn lower_edges(
     requires effects { AreEffects after.now.before (graph_after after.now) effects.now }
     requires level { i < length family.now }
     requires start { IsLevelOnWay (graph_after after.now) after.now.before effects.now.came [] family.now draft.old i }
-    ensures lowered { OnOk result (IsLevelOnWay (graph_after after.now) (without_edges after.now.before effects.now.lost) effects.now.came [] family.now draft.new i) }
+    ensures lowered { OnOk result (HasEdgesLowered after.now effects.now family.now draft.new i) }
     ensures others { AreSameBut i draft.old draft.new }
 {
     let lost = effects.lost();
@@ -89,8 +99,8 @@ pub(crate) fn raise_edges(
     requires before { AreLevelsBefore after.now.before (graph_after after.now) family.now }
     requires effects { AreEffects after.now.before (graph_after after.now) effects.now }
     requires level { i < length family.now }
-    requires start { IsLevelOnWay (graph_after after.now) (without_edges after.now.before effects.now.lost) effects.now.came effects.now.gone family.now draft.old i }
-    ensures raised { OnOk result (IsLevelOnWay (graph_after after.now) (with_edges (without_edges after.now.before effects.now.lost) effects.now.added) effects.now.came effects.now.gone family.now draft.new i) }
+    requires start { HasNodesLeft after.now effects.now family.now draft.old i }
+    ensures raised { OnOk result (HasEdgesRaised after.now effects.now family.now draft.new i) }
     ensures others { AreSameBut i draft.old draft.new }
 {
     let added = effects.added();

@@ -1,19 +1,24 @@
-// What the effects of a change make of each level, before nodes move.
-ghost use Rattle.std.specs.Prelude.{◌≡◌, ◌<◌, [], ℕ, OnOk, length};
+// What the effects of a change make of each level.
+ghost use Rattle.std.specs.Prelude.{◌≡◌, ◌+◌, ◌<◌, ◌≤◌, [], ℕ, OnOk, length};
 ghost use Rattle.graph_spec.specs.Members.{has};
 ghost use Rattle.graph_update.specs.PendingChanges.{graph_after};
 ghost use Rattle.graph_effects.specs.Effects.{AreEffects};
 ghost use Rattle.keyed_quotient.specs.Changes.{no_keyed_changes};
 ghost use Rattle.ak_family.specs.LevelDrafts.{changes_at, AreOver, AreSameBut, AreEmpty};
-ghost use Rattle.level_update.specs.LevelEffects.{AreLevelsBefore, IsDraftedBelow, IsLevelDrafted, AreLevelsDrafted};
+ghost use Rattle.level_update.specs.LevelCosts.{most_move_steps};
+ghost use Rattle.level_update.specs.MovedLevels.{AreMoved};
+ghost use Rattle.level_update.specs.LevelEffects.{AreLevelsBefore, IsDraftedBelow, IsLevelDrafted, AreLevelsDrafted, keeps_keys};
 
 use crate::counting::{lower_edges, raise_edges};
 use crate::joining::join_nodes;
 use crate::leaving::leave_nodes;
+use crate::moving::move_affected;
 use ak_family::{AkDraft, AkFamily};
 use graph_effects::Effects;
 use graph_update::After;
-use px_base::Memory;
+use px_base::{Memory, Steps};
+use std::alloc::Global;
+use std::sync::ledger::Ledger;
 
 // Drafts the effects at a level, over which nothing is drafted yet: edges lead between blocks as nodes stand in them.
 fn draft_level(
@@ -27,9 +32,9 @@ fn draft_level(
     requires effects { AreEffects after.now.before (graph_after after.now) effects.now }
     requires over { AreOver family.now draft.old }
     requires level { i < length family.now }
-    requires below { IsDraftedBelow (has effects.now.targets) (graph_after after.now) family.now draft.old i }
+    requires below { IsDraftedBelow effects.now.came (graph_after after.now) family.now draft.old i }
     requires none { changes_at draft.old i ≡ no_keyed_changes }
-    ensures drafted { OnOk result (IsLevelDrafted (has effects.now.targets) (graph_after after.now) family.now draft.new i) }
+    ensures drafted { OnOk result (IsLevelDrafted effects.now.came (graph_after after.now) family.now draft.new i) }
     ensures over { OnOk result (AreOver family.now draft.new) }
     ensures others { AreSameBut i draft.old draft.new }
 {
@@ -40,9 +45,10 @@ fn draft_level(
     Ok(())
 }
 
-/// Drafts the effects of a change at each level. Each level then shows the graph after the change, with nodes in the blocks in
-/// which they were, and those that come in the blocks of their own numbers alone. It reads no neighbours, so it takes no step.
-pub(crate) fn draft_levels(
+// Drafts the effects of a change at each level. Each level then shows the graph after the change, with nodes in the
+// blocks in which they were, and those that come in the blocks of their own numbers alone. It reads no neighbours, so it
+// takes no step.
+fn draft_levels(
     family: &AkFamily,
     draft: &mut AkDraft,
     after: &After<'_>,
@@ -52,10 +58,43 @@ pub(crate) fn draft_levels(
     requires effects { AreEffects after.now.before (graph_after after.now) effects.now }
     requires over { AreOver family.now draft.old }
     requires empty { AreEmpty draft.old }
-    ensures drafted { OnOk result (AreLevelsDrafted (has effects.now.targets) (graph_after after.now) family.now draft.new) }
+    ensures drafted { OnOk result (AreLevelsDrafted effects.now.came (graph_after after.now) family.now draft.new) }
 {
     'levels: for i in 0..family.k() + 1 {
         draft_level(family, draft, i, after, effects)?;
     }
+    Ok(())
+}
+
+// Whether nodes keep the keys with which the effects are drafted.
+fn keeps_keys(effects: &Effects) -> bool
+    ensures { result ≡ keeps_keys effects.now }
+{
+    effects.targets().is_empty() || (effects.lost().is_empty() && effects.added().is_empty())
+}
+
+/// Drafts what a change with these effects makes of a family: the effects at each level, and then the moves of the nodes
+/// that they affect. It takes steps for the moves alone, as `move_affected`. Where no edge comes or goes no node moves:
+/// one that comes is in the block of its own number alone.
+pub(crate) fn draft_effects<L: Ledger>(
+    alloc: Global,
+    family: &AkFamily,
+    draft: &mut AkDraft,
+    after: &After<'_>,
+    effects: &Effects,
+    steps: &mut Steps<L>,
+) -> Result<(), Memory>
+    requires before { AreLevelsBefore after.now.before (graph_after after.now) family.now }
+    requires effects { AreEffects after.now.before (graph_after after.now) effects.now }
+    requires over { AreOver family.now draft.old }
+    requires empty { AreEmpty draft.old }
+    ensures moved { OnOk result (AreMoved (has effects.now.targets) (graph_after after.now) family.now draft.new) }
+    ensures cost { (k : ℕ) → length family.now ≡ k + 1 → steps.new ≤ steps.old + most_move_steps (graph_after after.now) (has effects.now.targets) k }
+{
+    draft_levels(family, draft, after, effects)?;
+    if keeps_keys(effects) {
+        return Ok(());
+    }
+    move_affected(alloc, family, draft, after, effects.targets(), steps)?;
     Ok(())
 }

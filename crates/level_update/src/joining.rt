@@ -1,19 +1,18 @@
 // Nodes that come, at a level.
-ghost use Rattle.std.specs.Prelude.{◌≡◌, ◌<◌, ◌∷◌, [], ◌^◌, ℕ, IsSome, Some, OnOk, length};
-ghost use Rattle.graph_spec.specs.Members.{has};
+ghost use Rattle.std.specs.Prelude.{◌≡◌, ◌<◌, ◌∷◌, [], ◌^◌, ℕ, IsSome, Some, OnOk, IfOk, length};
+ghost use Rattle.graph_spec.specs.Members.{at, has};
 ghost use Rattle.graph_update.specs.PendingChanges.{graph_after};
 ghost use Rattle.graph_effects.specs.Effects.{AreEffects};
-ghost use Rattle.ak_family.specs.LevelDrafts.{labels_shown, key_shown, AreOver, AreSameBut};
-ghost use Rattle.level_update.specs.Stages.{KeyHasLabel, own_number};
-ghost use Rattle.level_update.specs.LevelEffects.{AreLevelsBefore, IsDraftedBelow, IsLevelOnWay, IsNodeJoined};
+ghost use Rattle.ak_family.specs.LevelDrafts.{blocks_shown, labels_shown, support_shown, key_shown, AreOver, AreSameBut, ShowsBlock};
+ghost use Rattle.level_update.specs.LevelEffects.{KeyHasLabel, own_number, AreLevelsBefore, IsDraftedBelow, IsLevelOnWay, IsNodeJoined};
 
-use crate::nodes::lone_block;
 use ak_family::{AkDraft, AkFamily};
 use graph_effects::Effects;
 use graph_update::After;
 use px_base::{Memory, NodeId};
 
-// The number with which the key of a node begins at a level: its label at the lowest one, and above it its block one level below.
+// The number with which the key of a node begins at a level: its label at the lowest one, and above it its block one
+// level below.
 fn first_number(family: &AkFamily, draft: &AkDraft, i: u32, n: NodeId, label: u32) -> u32
     requires over { AreOver family.now draft.now }
     requires level { i < length family.now }
@@ -24,6 +23,29 @@ fn first_number(family: &AkFamily, draft: &AkDraft, i: u32, n: NodeId, label: u3
         return label;
     }
     family.shown(draft, i - 1, n).unwrap()
+}
+
+// The block of a level that has the number alone as its key. It is a further one where no block has the key.
+fn lone_block(
+    family: &AkFamily,
+    draft: &mut AkDraft,
+    i: u32,
+    label: u32,
+    number: u32,
+) -> Result<u32, Memory>
+    requires over { AreOver family.now draft.old }
+    requires level { i < length family.now }
+    requires labelled { KeyHasLabel (key_shown family.now draft.old i) (labels_shown family.now draft.old i) (number ∷ []) label }
+    ensures block { IfOk result (λ b. ShowsBlock family.now i draft.old draft.new label (number ∷ []) b) }
+    ensures label { IfOk result (λ b. at (labels_shown family.now draft.new i) b ≡ Some label) }
+    ensures blocks { blocks_shown family.now draft.new i ≡ blocks_shown family.now draft.old i }
+    ensures supports { (x y : ℕ) → support_shown family.now draft.new i x y ≡ support_shown family.now draft.old i x y }
+    ensures others { AreSameBut i draft.old draft.new }
+    ensures over { AreOver family.now draft.new }
+{
+    let key = [number];
+    let b = family.keyed_block(draft, i, label, &key)?;
+    Ok(b)
 }
 
 // A node comes into the block of a level whose key is the number alone.
@@ -47,8 +69,8 @@ fn join_node(
     Ok(())
 }
 
-/// Puts the nodes that come into blocks of a level, each into that whose key is its label, or its block one level below, alone.
-/// None of the edges so far is at such a node, so supports stay.
+/// Puts the nodes that come into blocks of a level, each into that whose key is its label, or its block one level below,
+/// alone. None of the edges so far is at such a node, so supports stay.
 pub(crate) fn join_nodes(
     family: &AkFamily,
     draft: &mut AkDraft,
@@ -58,7 +80,7 @@ pub(crate) fn join_nodes(
 ) -> Result<(), Memory>
     requires before { AreLevelsBefore after.now.before (graph_after after.now) family.now }
     requires effects { AreEffects after.now.before (graph_after after.now) effects.now }
-    requires below { IsDraftedBelow (has effects.now.targets) (graph_after after.now) family.now draft.old i }
+    requires below { IsDraftedBelow effects.now.came (graph_after after.now) family.now draft.old i }
     requires level { i < length family.now }
     requires start { IsLevelOnWay (graph_after after.now) after.now.before [] [] family.now draft.old i }
     ensures joined { OnOk result (IsLevelOnWay (graph_after after.now) after.now.before effects.now.came [] family.now draft.new i) }

@@ -1,9 +1,9 @@
 // Nodes that go, at a level.
-ghost use Rattle.std.specs.Prelude.{◌≡◌, ◌<◌, ◌^◌, [], ℕ, OnOk, length};
+ghost use Rattle.std.specs.Prelude.{◌≡◌, ◌<◌, ◌^◌, OnOk, length};
 ghost use Rattle.graph_update.specs.PendingChanges.{graph_after};
-ghost use Rattle.graph_effects.specs.Effects.{AreEffects, without_edges};
+ghost use Rattle.graph_effects.specs.Effects.{AreEffects};
 ghost use Rattle.ak_family.specs.LevelDrafts.{AreOver, AreSameBut};
-ghost use Rattle.level_update.specs.LevelEffects.{AreLevelsBefore, IsLevelOnWay, IsNodeLeft};
+ghost use Rattle.level_update.specs.LevelEffects.{AreLevelsBefore, IsNodeLeft, HasEdgesLowered, HasNodesLeft};
 
 use ak_family::{AkDraft, AkFamily};
 use graph_effects::Effects;
@@ -33,8 +33,8 @@ pub(crate) fn leave_nodes(
     requires before { AreLevelsBefore after.now.before (graph_after after.now) family.now }
     requires effects { AreEffects after.now.before (graph_after after.now) effects.now }
     requires level { i < length family.now }
-    requires start { IsLevelOnWay (graph_after after.now) (without_edges after.now.before effects.now.lost) effects.now.came [] family.now draft.old i }
-    ensures left { OnOk result (IsLevelOnWay (graph_after after.now) (without_edges after.now.before effects.now.lost) effects.now.came effects.now.gone family.now draft.new i) }
+    requires start { HasEdgesLowered after.now effects.now family.now draft.old i }
+    ensures left { OnOk result (HasNodesLeft after.now effects.now family.now draft.new i) }
     ensures others { AreSameBut i draft.old draft.new }
 {
     // Called for its contract: numbers are small.

@@ -4,14 +4,12 @@
 mod buffers;
 mod counting;
 mod drafting;
-mod edges;
 mod effects;
 mod joining;
 mod keys;
 mod leaving;
 mod level;
 mod moving;
-mod nodes;
 mod placing;
 
 pub use drafting::draft_change;

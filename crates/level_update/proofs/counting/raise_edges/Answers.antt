@@ -1,4 +1,4 @@
-use Rattle.std.proofs.Common.{◌≡◌, ℕ, ◌<◌, [], List, IsSome, length, take, sym, subst}
+use Rattle.std.proofs.Common.{ℕ, ◌<◌, List, IsSome, length, sym, subst}
 use Rattle.graph_spec.specs.Members.{at}
 use Rattle.graph_update.specs.PendingChanges.{graph_after}
 use Rattle.ak_family.specs.LevelDrafts.{blocks_shown}
