@@ -15,7 +15,7 @@ pub record AreTexted (g : Graph) (block : List (Option ℕ)) (labels : ℕ → O
   pub is : (n b : ℕ) → at block n ≡ Some b → (l : ℕ) × (t : List ℕ) × (labels b ≡ Some l) × (slice_get g.seen l ≡ Some t) × (label_of g n ≡ Some t)
 
 -- a text has one number
-pub number_from : (g : Graph) (n l : ℕ) (t : List ℕ) → IsGraph g → slice_get g.seen l ≡ Some t → label_of g n ≡ Some t → label_number g n ≡ Some l
+number_from : (g : Graph) (n l : ℕ) (t : List ℕ) → IsGraph g → slice_get g.seen l ≡ Some t → label_of g n ≡ Some t → label_number g n ≡ Some l
 number_from g n l t graph seen label = ap (option_and_then (λ s. position (bytes_eq s) g.seen)) label ∙ position-at g.seen l t graph.distinct seen
 
 pub block_labels_texts : (g : Graph) (block : List (Option ℕ)) (labels : ℕ → Option ℕ) → IsGraph g → AreTexted g block labels → BlocksHaveLabels block labels (label_number g)

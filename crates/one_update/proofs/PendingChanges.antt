@@ -1,89 +1,29 @@
--- Each kind of change, as it is pending over a quotient.
-use Rattle.std.proofs.Common.{◌≡◌, ℕ, zero, suc, ◌+◌, ◌-◌, ◌<◌, ◌≤◌, ◌^◌, List, [], ◌∷◌, ◌++◌, length, Option, Some, None, IsTrue, IsFalse, refl, sym, ◌∙◌, ap, subst, arith, inl, inr, true, false, Bool, cond, nat_lt, length-append, true≢false}
+-- Edges that come and go, as they are pending over a quotient.
+use Rattle.std.proofs.Common.{◌≡◌, ℕ, zero, suc, ◌+◌, ◌<◌, ◌≤◌, ◌^◌, List, [], ◌∷◌, length, Option, Some, IsTrue, IsFalse, refl, sym, ◌∙◌, ap, subst, arith, inl, inr, true, false, Bool, cond, nat_lt, true≢false}
 use Rattle.std.specs.Prelude.{nat_eq, ◌&&◌}
 use Rattle.std.specs.List.{list_any}
 use Rattle.std.proofs.lemmas.Bool.{or_cases, or_left, or_right, or_parts, both_ways}
 use Rattle.std.proofs.lemmas.Bool.Decides.{Decides-ltb, Decides-eqb, eqb_tells}
-use Rattle.std.proofs.lemmas.List.{length-set}
-use Rattle.graph_spec.specs.Graphs.{Graph, IsGraph, has_edge}
-use Rattle.graph_spec.specs.Changes.{Change, node, link, unlink, drop, after, with_node}
+use Rattle.graph_spec.specs.Graphs.{Graph, IsGraph, is_live, has_edge}
+use Rattle.graph_spec.specs.Changes.{Change, node, link, unlink, drop, after}
 use Rattle.graph_spec.specs.Members.{Lists, has, at, is_this}
 use Rattle.graph_spec.specs.Shapes.{shape_of}
 use Rattle.graph_spec.proofs.GraphLaws.{is_shape}
-use Rattle.label_graph.specs.GraphViews.{label_number}
-use Rattle.block_partition.specs.LabelledPartitions.{put, IsLeastFree}
 use Rattle.bisim_spec.specs.Targets.{HasOther, AreTargets, target}
 use Rattle.bisim_spec.specs.IndexGraphs.{support_at}
 use Rattle.bisim_spec.specs.Weights.{parent_count}
-use Rattle.bisim_spec.proofs.ListedTargets.{one_target}
+use Rattle.bisim_spec.proofs.ListedTargets.{one_target, only_one}
 use Rattle.bisim_spec.proofs.Moves.{between_most, block_get, block_from}
 use Rattle.bisim_spec.proofs.Together.{together_at, together_sym}
 use Rattle.graph_update.specs.NewChanges.{IsNew}
 use Rattle.graph_update.specs.PendingChanges.{Pending, graph_after, lost_edge, lost_onto}
 use Rattle.quotient.specs.Quotients.{Quotient}
 use Rattle.quotient.specs.QuotientNeighbours.{one_if}
-use Rattle.quotient_draft.specs.Drafts.{Drafted, no_changes, shown_blocks, shown_labels, shown_support, with_moves}
+use Rattle.quotient_draft.specs.Drafts.{Drafted, no_changes, shown_support}
 use Rattle.quotient_draft.specs.Basis.{IsOver}
 use Rattle.one_spec.proofs.Sums.{few_lists}
-use Rattle.one_update.specs.OneDrafts.{IsBefore, ShowsChange, IsDrafted, IsNodeChange, AreSupportsAlone}
-use Rattle.one_update.proofs.NodeChanges.{changed_node, changed_drop}
+use Rattle.one_update.specs.OneDrafts.{IsBefore, AreLiveTargets, ShowsChange, IsDrafted, AreSupportsAlone}
 use Rattle.one_update.proofs.EdgeChanges.{AreAt, changed_link, changed_unlink, other_linked, none_linked, other_unlinked, unlink_some, still_link, still_unlink}
-
--- ---- nodes
-
--- the number before the count is that of the node that comes
-pub node_count : (a : Pending) (n : ℕ) → IsNodeChange a.change → n ≡ length (graph_after a).allocated → n - 1 + 1 ≡ length (graph_after a).allocated
-node_count a n kind count =
-    let t = kind.label in
-    let size : length (with_node a.before t).allocated ≡ length a.before.allocated + 1 = length-append a.before.allocated (Some t ∷ []) in
-    let allocated : length (after a.change a.before).allocated ≡ length (with_node a.before t).allocated = ap (λ c. length (after c a.before).allocated) kind.is in
-    omega (arith, count, size, allocated)
-
-pub node_target : (a : Pending) (n : ℕ) → IsNodeChange a.change → n + 1 ≡ length (graph_after a).allocated → AreTargets a.before a.change (n ∷ [])
-node_target a n kind count =
-    let t = kind.label in
-    let size : length (with_node a.before t).allocated ≡ length a.before.allocated + 1 = length-append a.before.allocated (Some t ∷ []) in
-    let allocated : length (after a.change a.before).allocated ≡ length (with_node a.before t).allocated = ap (λ c. length (after c a.before).allocated) kind.is in
-    let same : n ≡ length a.before.allocated = omega (arith, count, size, allocated) in
-    one_target a.before a.change n (λ m. ap (nat_eq m) same ∙ ap (λ (c : Change). target c a.before m) (sym kind.is)) (omega (arith, count))
-
-pub node_changed : (a : Pending) (q : Quotient) (d0 d1 d : Drafted) (n b l : ℕ) → IsBefore a q → IsNodeChange a.change → d0 ≡ no_changes → n + 1 ≡ length (graph_after a).allocated
-    → label_number (graph_after a) n ≡ Some l → IsLeastFree (shown_labels q d0) b → d1 ≡ record d0 { added = d0.added ++ (b, l) ∷ [] }
-    → shown_labels q d1 ≡ put (shown_labels q d0) b l → ((m : ℕ) → at (shown_blocks q d) m ≡ cond (nat_eq m n) (Some b) (at (shown_blocks q d1) m))
-    → d.added ≡ d1.added → d.supports ≡ d1.supports → IsOver q.blocks.block_of q.blocks.labels d → ShowsChange a.before a.change q d
-node_changed a q d0 d1 d n b l before kind empty count number least made labels moved added supports over =
-    let g = a.before in
-    let t = kind.label in
-    let moves : d1.moves ≡ [] = ap (λ (e : Drafted). e.moves) made ∙ ap (λ (e : Drafted). e.moves) empty in
-    let none : d1.supports ≡ [] = ap (λ (e : Drafted). e.supports) made ∙ ap (λ (e : Drafted). e.supports) empty in
-    let size : length (with_node g t).allocated ≡ length g.allocated + 1 = length-append g.allocated (Some t ∷ []) in
-    let allocated : length (after a.change g).allocated ≡ length (with_node g t).allocated = ap (λ c. length (after c g).allocated) kind.is in
-    subst (λ c. ShowsChange g c q d) (sym kind.is)
-    (changed_node g t q d n b l before.graph (subst (λ c. IsGraph (after c g)) kind.is before.graph_after) before.fits over (omega (arith, count, size, allocated))
-    (subst (λ c. label_number (after c g) n ≡ Some l) kind.is number)
-    (record { at_each = λ m. moved m ∙ ap (λ ms. cond (nat_eq m n) (Some b) (at (with_moves q.blocks.block_of ms) m)) moves })
-    (ap (λ (e : Drafted). at (shown_labels q e) b) (sym empty) ∙ least.free)
-    (ap (λ es. shown_labels q (record no_changes { added = es })) added ∙ labels ∙ ap (λ (e : Drafted). put (shown_labels q e) b l) empty) (supports ∙ none))
-
-drop_live : (a : Pending) (q : Quotient) (u : ℕ) → IsBefore a q → a.change ≡ drop u → IsNew (drop u) a.before
-drop_live a q u before is = subst (λ c. IsNew c a.before) is before.new
-
-pub drop_small : (a : Pending) (q : Quotient) (u : ℕ) → IsBefore a q → a.change ≡ drop u → u < length a.before.allocated
-drop_small a q u before is = (is_shape a.before before.graph).below u (drop_live a q u before is).live
-
-pub drop_target : (a : Pending) (q : Quotient) (u : ℕ) → IsBefore a q → a.change ≡ drop u → AreTargets a.before a.change (u ∷ [])
-drop_target a q u before is =
-    one_target a.before a.change u (λ n. ap (λ (c : Change). target c a.before n) (sym is)) (subst (λ c. u < length (after c a.before).allocated) (sym is)
-    (let small = drop_small a q u before is in let same = length-set a.before.allocated u None in omega (arith, small, same)))
-
-pub drop_changed : (a : Pending) (q : Quotient) (d0 d : Drafted) (u : ℕ) → IsBefore a q → a.change ≡ drop u → d0 ≡ no_changes
-    → ((m : ℕ) → at (shown_blocks q d) m ≡ cond (nat_eq m u) None (at (shown_blocks q d0) m)) → d.added ≡ d0.added → d.supports ≡ d0.supports
-    → IsOver q.blocks.block_of q.blocks.labels d → ShowsChange a.before a.change q d
-drop_changed a q d0 d u before is empty moved added supports over =
-    subst (λ c. ShowsChange a.before c q d) (sym is)
-    (changed_drop a.before u q d before.graph (drop_live a q u before is).unused before.fits over
-    (record { at_each = λ m. moved m ∙ ap (λ (e : Drafted). cond (nat_eq m u) None (at (shown_blocks q e) m)) empty }) (added ∙ ap (λ (e : Drafted). e.added) empty)
-    (supports ∙ ap (λ (e : Drafted). e.supports) empty) (subst (λ c. IsGraph (after c a.before)) is before.graph_after))
 
 -- ---- edges
 
@@ -102,6 +42,25 @@ pub unlink_target : (a : Pending) (q : Quotient) (u v : ℕ) → IsBefore a q �
 unlink_target a q u v before is =
     one_target a.before a.change v (λ n. ap (λ (c : Change). target c a.before n) (sym is)) (subst (λ c. v < length (after c a.before).allocated) (sym is)
     ((is_shape a.before before.graph).below v (new_unlink a q u v before is).onto))
+
+and_own : (a b : Bool) → (b ≡ true → a ≡ true) → b ≡ (a && b)
+and_own true b h = refl
+and_own false true h = absurd (true≢false (sym (h refl)))
+and_own false false h = refl
+
+-- the end of an edge is a node after
+live_target : (a : Pending) (v : ℕ) → AreTargets a.before a.change (v ∷ []) → IsTrue (is_live (graph_after a) v) → AreLiveTargets a.before a.change (v ∷ [])
+live_target a v are live = record {
+  once = are.listed.once;
+  members = λ n. are.listed.members n ∙ and_own (is_live (graph_after a) n) (target a.change a.before n) (λ on.
+      subst (λ m. is_live (graph_after a) m ≡ true) (sym (only_one v n (are.listed.members n ∙ on))) live);
+}
+
+pub link_live : (a : Pending) (q : Quotient) (u v : ℕ) → IsBefore a q → a.change ≡ link u v → AreLiveTargets a.before a.change (v ∷ [])
+link_live a q u v before is = live_target a v (link_target a q u v before is) (subst (λ c. IsTrue (is_live (after c a.before) v)) (sym is) (new_link a q u v before is).onto)
+
+pub unlink_live : (a : Pending) (q : Quotient) (u v : ℕ) → IsBefore a q → a.change ≡ unlink u v → AreLiveTargets a.before a.change (v ∷ [])
+unlink_live a q u v before is = live_target a v (unlink_target a q u v before is) (subst (λ c. IsTrue (is_live (after c a.before) v)) (sym is) (new_unlink a q u v before is).onto)
 
 pub alone_from : (d0 d : Drafted) → d0 ≡ no_changes → d.added ≡ d0.added → d.moves ≡ d0.moves → AreSupportsAlone d
 alone_from d0 d empty added moves = record { moves = moves ∙ ap (λ (e : Drafted). e.moves) empty; added = added ∙ ap (λ (e : Drafted). e.added) empty }

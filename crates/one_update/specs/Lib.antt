@@ -1,1 +1,2 @@
 pub mod OneDrafts
+pub mod EffectDrafts

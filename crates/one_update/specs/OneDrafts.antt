@@ -1,11 +1,11 @@
 -- What is drafted for a change of the graph of a 1-index (K. Yi, H. He, I. Stanoi and J. Yang, "Incremental Maintenance of XML
 -- Structural Indexes", SIGMOD 2004).
-use Rattle.std.specs.Prelude.{◌≡◌, ◌<◌, ◌≤◌, ◌^◌, ◌↔◌, ℕ, ◌+◌, ◌*◌, Bool, List, Option, [], Some, IsFalse, IsTrue}
+use Rattle.std.specs.Prelude.{◌≡◌, ◌<◌, ◌≤◌, ◌^◌, ◌↔◌, ℕ, ◌+◌, ◌*◌, ◌&&◌, Bool, List, length, Option, [], Some, IsFalse, IsTrue}
 use Rattle.std.specs.FinSet as set
-use Rattle.graph_spec.specs.Graphs.{Graph, IsGraph}
-use Rattle.graph_spec.specs.Changes.{Change, node, after}
+use Rattle.graph_spec.specs.Graphs.{Graph, IsGraph, is_live}
+use Rattle.graph_spec.specs.Changes.{Change, after}
 use Rattle.graph_spec.specs.Shapes.{Shape, IsNode, shape_of}
-use Rattle.graph_spec.specs.Members.{at, has}
+use Rattle.graph_spec.specs.Members.{at, has, Lists}
 use Rattle.label_graph.specs.GraphViews.{label_number}
 use Rattle.bisim_spec.specs.Partitions.{IsPartition, Together}
 use Rattle.bisim_spec.specs.Stability.{Stable, StableBut, Minimal}
@@ -39,6 +39,10 @@ pub record IsDrafted (g : Graph) (c : Change) (q : Quotient) (d : Drafted) : Typ
   pub block_labels : BlocksHaveLabels (shown_blocks q d) (at (shown_labels q d)) (label_number (after c g))
   pub supports : AreEdgeCounts (after c g) (shown_blocks q d) (shown_support q d)
 
+-- the list has just the targets of the change that are nodes of the graph after it, each once
+abbrev pub AreLiveTargets : Graph → Change → List ℕ → Type 0
+AreLiveTargets g c targets = Lists (λ n. is_live (after c g) n && target c g n) targets
+
 -- the nodes that the change reaches, in the graph that it leaves
 abbrev pub reached : Graph → Change → ℕ → Bool
 reached g c = reach (shape_of (after c g)) (target c g)
@@ -66,11 +70,7 @@ pub record IsBefore (a : Pending) (q : Quotient) : Type 0 where
   pub graph : IsGraph a.before
   pub graph_after : IsGraph (after a.change a.before)
   pub few : set.len a.before.edges ≤ 2 ^ 30
-
--- a node comes
-pub record IsNodeChange (c : Change) : Type 0 where
-  pub label : List ℕ
-  pub is : c ≡ node label
+  pub small : length a.before.allocated ≤ 2 ^ 30
 
 -- The base was stable, and no two of its blocks could be merged; nodes of both graphs that the change doesn't reach are
 -- shown together exactly as in it. Nothing is said of the nodes that it reaches.

@@ -1,19 +1,24 @@
 // What a change makes of a 1-index.
-ghost use Rattle.std.specs.Prelude.{◌≡◌, ◌+◌, ◌≤◌, ℕ, false, OnOk, IfOk, Some, IsTrue};
-ghost use Rattle.graph_spec.specs.Graphs.{Graph};
-ghost use Rattle.graph_spec.specs.Changes.{after, link, unlink, drop};
+ghost use Rattle.std.specs.Prelude.{◌≡◌, ◌+◌, ◌≤◌, ◌&&◌, ℕ, false, OnOk};
+ghost use Rattle.graph_spec.specs.Graphs.{is_live};
+ghost use Rattle.graph_spec.specs.Changes.{after, link, unlink};
+ghost use Rattle.graph_spec.specs.Members.{has};
 ghost use Rattle.bisim_spec.specs.Fits.{FitsOne};
+ghost use Rattle.bisim_spec.specs.Targets.{target, KeepsParents};
 ghost use Rattle.graph_update.specs.NewChanges.{IsNew};
+ghost use Rattle.graph_update.specs.PendingChanges.{graph_after};
 ghost use Rattle.graph_update.specs.Verdicts.{change_of};
+ghost use Rattle.graph_effects.specs.Effects.{AreEffects};
 ghost use Rattle.quotient.specs.Quotients.{view_of};
 ghost use Rattle.quotient_draft.specs.Drafts.{no_changes, has_member, settled_view, shown_blocks, shown_support};
 ghost use Rattle.one_merge.specs.ParentlessBlocks.{CoversBase};
-ghost use Rattle.one_update.specs.OneDrafts.{IsBefore, IsDrafted, IsNodeChange, IsSupported, most_steps};
+ghost use Rattle.one_update.specs.OneDrafts.{IsBefore, IsDrafted, IsSupported, most_steps};
 
+use crate::effects::draft_effects;
 use crate::index_tables::IndexTables;
 use crate::linking::{draft_link, draft_unlink};
-use crate::nodes::{draft_drop, draft_node};
-use crate::resettling::resettle;
+use crate::resettling::{each_once, resettle};
+use graph_effects::Effects;
 use graph_update::{After, Change};
 use label_graph::Graph;
 use one_merge::ParentlessBlocks;
@@ -23,43 +28,50 @@ use quotient_draft::Draft;
 use std::alloc::Global;
 use std::sync::ledger::Ledger;
 
-// A node comes.
-fn add_node<L: Ledger>(
+// Drafts the effects of a change, and settles the index again.
+fn draft_settled<L: Ledger>(
     alloc: Global,
     index: &IndexTables<'_>,
     draft: &mut Draft,
     after: &After<'_>,
+    effects: &Effects,
     steps: &mut Steps<L>,
 ) -> Result<(), Memory>
     requires before { IsBefore after.now index.now.base.now }
     requires covers { CoversBase index.now.base.now index.now.parentless.now }
     requires empty { draft.old ≡ no_changes }
-    requires node { IsNodeChange after.now.change }
+    requires effects { AreEffects after.now.before (graph_after after.now) effects.now }
+    requires targets { (n : ℕ) → has effects.now.targets n ≡ (is_live (graph_after after.now) n && target after.now.change after.now.before n) }
+    requires moves { KeepsParents after.now.change (graph_after after.now) index.now.base.now.blocks.block_of → ⊥ }
     ensures drafted { OnOk result (IsDrafted after.now.before after.now.change index.now.base.now draft.new) }
     ensures cost { steps.new ≤ steps.old + most_steps after.now.before after.now.change }
 {
-    let n = draft_node(index.base, draft, after)?;
-    resettle(alloc, index, draft, after, &[n], steps)
+    draft_effects(index.base, draft, after, effects)?;
+    let targets = each_once(alloc, effects.targets())?;
+    resettle(alloc, index, draft, after, &targets, steps)?;
+    Ok(())
 }
 
-// A node goes.
-fn drop_node<L: Ledger>(
+// A node comes or goes.
+fn change_node<L: Ledger>(
     alloc: Global,
     index: &IndexTables<'_>,
     draft: &mut Draft,
     after: &After<'_>,
-    u: NodeId,
+    change: &Change,
     steps: &mut Steps<L>,
 ) -> Result<(), Memory>
     requires before { IsBefore after.now index.now.base.now }
     requires covers { CoversBase index.now.base.now index.now.parentless.now }
     requires empty { draft.old ≡ no_changes }
-    requires drops { after.now.change ≡ drop u }
+    requires same { after.now.change ≡ change_of change.now }
+    requires moves { KeepsParents after.now.change (graph_after after.now) index.now.base.now.blocks.block_of → ⊥ }
     ensures drafted { OnOk result (IsDrafted after.now.before after.now.change index.now.base.now draft.new) }
     ensures cost { steps.new ≤ steps.old + most_steps after.now.before after.now.change }
 {
-    draft_drop(index.base, draft, after, u)?;
-    resettle(alloc, index, draft, after, &[u], steps)
+    let effects = Effects::of(alloc, change, after)?;
+    draft_settled(alloc, index, draft, after, &effects, steps)?;
+    Ok(())
 }
 
 // An edge comes.
@@ -127,10 +139,10 @@ fn draft_pending<L: Ledger>(
     ensures free { (u v : ℕ) → change_of change.now ≡ link u v → IsSupported (view_of index.now.base.now) u v → steps.new ≡ steps.old }
 {
     match change {
-        Change::Node(_) => add_node(alloc, index, draft, after, steps),
+        Change::Node(_) => change_node(alloc, index, draft, after, change, steps),
         Change::Link(u, v) => add_edge(alloc, index, draft, after, *u, *v, steps),
         Change::Unlink(u, v) => drop_edge(alloc, index, draft, after, *u, *v, steps),
-        Change::Drop(u) => drop_node(alloc, index, draft, after, *u, steps),
+        Change::Drop(_) => change_node(alloc, index, draft, after, change, steps),
     }
 }
 
@@ -165,7 +177,8 @@ pub fn draft_change<L: Ledger>(
     ensures cost { steps.new ≤ steps.old + most_steps graph.now.graph (change_of change.now) }
     ensures free { (u v : ℕ) → change_of change.now ≡ link u v → IsSupported (view_of base.now) u v → steps.new ≡ steps.old }
 {
-    // Called for its contract: edges are few.
+    // Called for their contracts: nodes and edges are few.
+    let _known = graph.created();
     let _known = graph.edge_count();
     let after = After::new(graph, change);
     let index = IndexTables { base, parentless };

@@ -5,10 +5,13 @@
 //! two blocks can be. Both keep labels and supports right, and keep nodes outside the change's reach together or apart.
 #![tactic(auto)]
 
+mod counting;
 mod drafting;
+mod effects;
 mod index_tables;
+mod joining;
+mod leaving;
 mod linking;
-mod nodes;
 mod phases;
 mod resettling;
 #[cfg(test)]

@@ -1,16 +1,18 @@
 // From a partition that is unstable at the targets of a change to the next one.
-ghost use Rattle.std.specs.Prelude.{◌≡◌, ◌+◌, ◌*◌, ◌≤◌, ℕ, Some, IsTrue, OnOk};
+ghost use Rattle.std.specs.Prelude.{◌≡◌, ◌+◌, ◌*◌, ◌≤◌, ℕ, Some, IsTrue, OnOk, IfOk, nat_eq};
+ghost use Rattle.std.specs.List.{IsDistinct};
 ghost use Rattle.graph_spec.specs.Members.{at, has};
 ghost use Rattle.graph_spec.specs.Shapes.{shape_of};
-ghost use Rattle.bisim_spec.specs.Targets.{KeepsParents, AreTargets};
+ghost use Rattle.bisim_spec.specs.Targets.{KeepsParents};
 ghost use Rattle.graph_update.specs.PendingChanges.{graph_after};
 ghost use Rattle.quotient_draft.specs.Drafts.{shown_blocks};
 ghost use Rattle.quotient_draft.specs.Basis.{IsOver};
 ghost use Rattle.one_merge.specs.ParentlessBlocks.{CoversBase};
-ghost use Rattle.one_update.specs.OneDrafts.{IsBefore, ShowsChange, IsDrafted, ListsBlocksOf, reached, rounds_cost};
+ghost use Rattle.one_update.specs.OneDrafts.{IsBefore, AreLiveTargets, ShowsChange, IsDrafted, ListsBlocksOf, reached, rounds_cost};
 
 use crate::index_tables::IndexTables;
 use graph_update::After;
+use key_table::sort_dedup;
 use one_merge::merge;
 use one_split::split;
 use px_base::{Memory, NodeId, Steps};
@@ -48,6 +50,17 @@ pub(crate) fn add_blocks(
     Ok(())
 }
 
+/// The nodes, each once.
+pub(crate) fn each_once(alloc: Global, nodes: &[NodeId]) -> Result<Vec<NodeId>, Memory>
+    ensures once { IfOk result (λ list. IsDistinct nat_eq list.items) }
+    ensures same { IfOk result (λ list. (n : ℕ) → has list.items n ≡ has nodes.now n) }
+{
+    let mut list = Vec::new(alloc);
+    list.extend_from_slice(nodes)?;
+    sort_dedup(&mut list);
+    Ok(list)
+}
+
 /// Splits blocks until the partition is stable, from the targets of the change on, and then merges blocks until no
 /// two can be merged.
 pub(crate) fn resettle<L: Ledger>(
@@ -61,7 +74,7 @@ pub(crate) fn resettle<L: Ledger>(
     requires before { IsBefore after.now index.now.base.now }
     requires covers { CoversBase index.now.base.now index.now.parentless.now }
     requires changed { ShowsChange after.now.before after.now.change index.now.base.now draft.old }
-    requires targets { AreTargets after.now.before after.now.change targets.now }
+    requires targets { AreLiveTargets after.now.before after.now.change targets.now }
     requires moves { KeepsParents after.now.change (graph_after after.now) index.now.base.now.blocks.block_of → ⊥ }
     ensures drafted { OnOk result (IsDrafted after.now.before after.now.change index.now.base.now draft.new) }
     ensures cost { steps.new ≤ steps.old + 4 * rounds_cost (shape_of (graph_after after.now)) (reached after.now.before after.now.change) }

@@ -124,7 +124,8 @@ fn is_parting<L: Ledger>(
     requires new { IsNew (change_of change.now) graph.now.graph }
     requires links { change_of change.now ≡ link 6 3 }
 {
-    // Called for its contract: edges are few.
+    // Called for their contracts: nodes and edges are few.
+    let _known = graph.created();
     let _known = graph.edge_count();
     let after = After::new(graph, change);
     let mut draft = Draft::new(alloc)?;

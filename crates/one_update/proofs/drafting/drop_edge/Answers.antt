@@ -1,6 +1,6 @@
 use Rattle.std.proofs.Common.{arith, ◌∷◌, []}
 use Rattle.one_spec.proofs.Sums.{first_has}
-use Rattle.one_update.proofs.PendingChanges.{unlink_still}
+use Rattle.one_update.proofs.PendingChanges.{unlink_live, unlink_still}
 use Rattle.one_update.proofs.PhaseLaws.{read_light}
 use Rattle.one_update.proofs.drafting.drop_edge.Goals as goal
 
@@ -27,3 +27,6 @@ returns-clause-cost g c =
     let cost = c.draft_unlink.ensures.cost in
     let rest = c.resettle.ensures.cost in
     omega (arith, light, cost, rest)
+
+pub resettle-requires-clause-targets : goal.resettle-requires-clause-targets
+resettle-requires-clause-targets g c = unlink_live c.args.after.now c.args.index.now.base.now c.args.u c.args.v c.requires.before c.requires.unlinks

@@ -4,7 +4,7 @@ use Rattle.graph_spec.specs.Shapes.{shape_of}
 use Rattle.graph_update.specs.PendingChanges.{graph_after}
 use Rattle.quotient_draft.specs.Drafts.{shown_blocks}
 use Rattle.one_spec.proofs.SplitRounds.{stable_at_end}
-use Rattle.one_update.proofs.PhaseLaws.{reach_cost}
+use Rattle.one_update.proofs.PhaseLaws.{all_among, reach_cost}
 use Rattle.one_update.proofs.Unreached.{split_reached, split_of}
 use Rattle.one_update.proofs.phases.split_targets.Goals as goal
 
@@ -20,11 +20,13 @@ split-requires g c = record {
 
 pub returns-in_err-split-clause-cost : goal.returns-in_err-split-clause-cost
 returns-in_err-split-clause-cost g c =
-    reach_cost c.args.after.now.before c.args.after.now.change c.args.targets.now c.args.steps.now c.split.new.steps c.created-known.ensures.after c.requires.targets c.split.ensures.cost
+    reach_cost c.args.after.now.before c.args.after.now.change c.args.targets.now c.args.steps.now c.split.new.steps c.created-known.ensures.after
+    (all_among c.args.after.now.before c.args.after.now.change c.args.targets.now c.requires.targets) c.split.ensures.cost
 
 pub returns-clause-cost : goal.returns-clause-cost
 returns-clause-cost g c =
-    reach_cost c.args.after.now.before c.args.after.now.change c.args.targets.now c.args.steps.now c.split.new.steps c.created-known.ensures.after c.requires.targets c.split.ensures.cost
+    reach_cost c.args.after.now.before c.args.after.now.change c.args.targets.now c.args.steps.now c.split.new.steps c.created-known.ensures.after
+    (all_among c.args.after.now.before c.args.after.now.change c.args.targets.now c.requires.targets) c.split.ensures.cost
 
 pub returns-clause-shown : goal.returns-clause-shown
 returns-clause-shown g c = record {

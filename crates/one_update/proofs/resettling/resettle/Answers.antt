@@ -3,13 +3,13 @@ use Rattle.graph_spec.specs.Members.{at, has}
 use Rattle.label_graph.specs.GraphViews.{label_number}
 use Rattle.graph_update.specs.PendingChanges.{graph_after}
 use Rattle.quotient_draft.specs.Drafts.{shown_blocks, shown_labels, shown_support}
-use Rattle.one_update.proofs.PhaseLaws.{stable_there, block_labels_but, few_after, has_graph, reach_cost, stepped, AreAdded}
+use Rattle.one_update.proofs.PhaseLaws.{stable_there, block_labels_but, few_after, has_graph, live_among, reach_cost, stepped, AreAdded}
 use Rattle.one_update.proofs.resettling.resettle.Goals as goal
 
 pub split-requires : goal.split-requires
 split-requires g c = record {
   over = c.requires.changed.over;
-  once = c.requires.targets.listed.once;
+  once = c.requires.targets.once;
   stable = stable_there c.args.after.now.before c.args.after.now.change c.args.targets.now c.args.index.now.base.now c.args.draft.now c.requires.before.graph c.requires.before.graph_after
       c.requires.before.fits c.requires.targets c.requires.changed;
   block_labels = block_labels_but (has c.args.targets.now) (shown_blocks c.args.index.now.base.now c.args.draft.now) (at (shown_labels c.args.index.now.base.now c.args.draft.now))
@@ -20,19 +20,23 @@ split-requires g c = record {
 
 pub returns-in_err-split-clause-cost : goal.returns-in_err-split-clause-cost
 returns-in_err-split-clause-cost g c =
-    reach_cost c.args.after.now.before c.args.after.now.change c.args.targets.now c.args.steps.now c.split.new.steps c.requires.before.graph_after c.requires.targets c.split.ensures.cost
+    reach_cost c.args.after.now.before c.args.after.now.change c.args.targets.now c.args.steps.now c.split.new.steps c.requires.before.graph_after
+    (live_among c.args.after.now.before c.args.after.now.change c.args.targets.now c.requires.targets) c.split.ensures.cost
 
 pub returns-in_err-add_blocks-clause-cost : goal.returns-in_err-add_blocks-clause-cost
 returns-in_err-add_blocks-clause-cost g c =
-    reach_cost c.args.after.now.before c.args.after.now.change c.args.targets.now c.args.steps.now c.split.new.steps c.requires.before.graph_after c.requires.targets c.split.ensures.cost
+    reach_cost c.args.after.now.before c.args.after.now.change c.args.targets.now c.args.steps.now c.split.new.steps c.requires.before.graph_after
+    (live_among c.args.after.now.before c.args.after.now.change c.args.targets.now c.requires.targets) c.split.ensures.cost
 
 pub returns-in_err-merge-clause-cost : goal.returns-in_err-merge-clause-cost
 returns-in_err-merge-clause-cost g c =
-    reach_cost c.args.after.now.before c.args.after.now.change c.args.targets.now c.args.steps.now c.split.new.steps c.requires.before.graph_after c.requires.targets c.split.ensures.cost
+    reach_cost c.args.after.now.before c.args.after.now.change c.args.targets.now c.args.steps.now c.split.new.steps c.requires.before.graph_after
+    (live_among c.args.after.now.before c.args.after.now.change c.args.targets.now c.requires.targets) c.split.ensures.cost
 
 pub returns-clause-cost : goal.returns-clause-cost
 returns-clause-cost g c =
-    reach_cost c.args.after.now.before c.args.after.now.change c.args.targets.now c.args.steps.now c.split.new.steps c.requires.before.graph_after c.requires.targets c.split.ensures.cost
+    reach_cost c.args.after.now.before c.args.after.now.change c.args.targets.now c.args.steps.now c.split.new.steps c.requires.before.graph_after
+    (live_among c.args.after.now.before c.args.after.now.change c.args.targets.now c.requires.targets) c.split.ensures.cost
 
 pub merge-requires-clause-graph : goal.merge-requires-clause-graph
 merge-requires-clause-graph g c =
