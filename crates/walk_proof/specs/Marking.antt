@@ -8,6 +8,11 @@ use Rattle.walk_proof.specs.declared.marks.Pair.{Pair}
 abbrev pub row : List BitSet → ℕ → BitSet
 row rows s = slice_index_or rows s (record { size = 0; members = [] })
 
+-- what a row keeps: all marks are in the table, or all are listed
+pub record AreMarks (width : ℕ) (many : BitSet) (few : List ℕ) : Type 0 where
+  pub kept : ((many.size ≡ width) × (few ≡ [])) ⊎ ((many.size ≡ 0) × (many.members ≡ []))
+  pub below : (m : ℕ) → IsTrue (has few m) → m < width
+
 -- the state is marked at the place
 abbrev pub IsMarked : List BitSet → ℕ → ℕ → Type 0
 IsMarked rows s c = IsTrue (has (row rows s).members c)

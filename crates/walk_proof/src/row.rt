@@ -1,42 +1,36 @@
 // Marks of places.
-ghost use Rattle.std.specs.Prelude.{◌≡◌, ◌<◌, ◌⊎◌, ◌&&◌, ◌||◌, ℕ, [], not, nat_eq, IfOk, OnOk, OnErr};
+ghost use Rattle.std.specs.Prelude.{◌≡◌, ◌<◌, ◌&&◌, ◌||◌, ℕ, [], not, nat_eq, IsTrue, IfOk, OnOk};
 ghost use Rattle.graph_spec.specs.Members.{has};
 
+use indexmap::IndexSet;
 use px_base::{Bits, Memory};
 use std::alloc::Global;
 use std::marker::Model;
 
-/// A mark for each place below a width. It takes no memory before a place is marked, and then a byte for each place.
+/// While fewer places are marked than one in so many, they are listed.
+const LISTED_SHARE: usize = 32;
+
+/// A mark for each place below a width. Few marks are listed, and many have a byte for each place, so that the memory is
+/// that of the marks, and not of the width.
 #[derive(Drop)]
 pub(crate) struct Row {
-    marked: Bits,
+    few: IndexSet<u32>,
+    // Nothing, while they are listed.
+    many: Bits,
     width: u32,
 }
 
 /// The width, and the places that are marked.
 impl Model for Row {
-    ghost use Rattle.std.specs.Prelude.{◌≡◌, ◌⊎◌, []};
+    ghost use Rattle.std.specs.Prelude.{◌++◌};
     ghost use Rattle.px_base.specs.BitSets.{BitSet};
+    ghost use Rattle.walk_proof.specs.Marking.{AreMarks};
 
     ghost Value = { BitSet };
 
-    ghost view = { λ r. record { size = r.width; members = r.marked.members } };
+    ghost view = { λ r. record { size = r.width; members = r.many.members ++ r.few.keys } };
 
-    ghost invariant = { λ r. (r.marked.size ≡ r.width) ⊎ ((r.marked.size ≡ 0) × (r.marked.members ≡ [])) };
-}
-
-/// Makes the marks of a row, where there are none.
-fn make_marks(alloc: Global, marked: &mut Bits, width: u32) -> Result<(), Memory>
-    requires wide { 0 < width }
-    requires ready { (marked.old.size ≡ width) ⊎ ((marked.old.size ≡ 0) × (marked.old.members ≡ [])) }
-    ensures ready { OnOk result (marked.new.size ≡ width) }
-    ensures same { marked.new.members ≡ marked.old.members }
-    ensures err { OnErr result (marked.new ≡ marked.old) }
-{
-    if marked.size() == 0 {
-        *marked = Bits::new(alloc, width)?;
-    }
-    Ok(())
+    ghost invariant = { λ r. AreMarks r.width r.many r.few.keys };
 }
 
 impl Row {
@@ -44,15 +38,19 @@ impl Row {
     pub(crate) fn new(alloc: Global, width: u32) -> Result<Row, Memory>
         ensures { IfOk result (λ r. r ≡ record { size = width; members = [] }) }
     {
-        let marked = Bits::new(alloc, 0)?;
-        Ok(Row { marked, width })
+        let many = Bits::new(alloc, 0)?;
+        Ok(Row {
+            few: IndexSet::new(alloc),
+            many,
+            width,
+        })
     }
 
     /// Whether the place is marked; false from the width on.
     pub(crate) fn contains(&self, place: u32) -> bool
         ensures { result ≡ has self.now.members place }
     {
-        self.marked.contains(place)
+        self.many.contains(place) || self.few.contains(&place)
     }
 
     /// Marks the place, and says whether it wasn't marked before.
@@ -62,9 +60,13 @@ impl Row {
         ensures new { IfOk result (λ new. new ≡ not (has self.old.members place)) }
         ensures members { OnOk result ((m : ℕ) → has self.new.members m ≡ (nat_eq m place || has self.old.members m)) }
     {
-        make_marks(alloc, &mut self.marked, self.width)?;
-        let new = !self.marked.contains(place);
-        self.marked.insert(place);
+        let new = !self.contains(place);
+        self.make_room(alloc)?;
+        if self.many.size() > 0 {
+            self.many.insert(place);
+        } else {
+            self.few.insert(place)?;
+        }
         Ok(new)
     }
 
@@ -73,17 +75,34 @@ impl Row {
         ensures size { self.new.size ≡ self.old.size }
         ensures members { (m : ℕ) → has self.new.members m ≡ (not (nat_eq m place) && has self.old.members m) }
     {
-        take_away(&mut self.marked, place);
+        if place < self.many.size() {
+            self.many.remove(place);
+        } else {
+            self.few.swap_remove(&place);
+        }
+    }
+
+    /// Goes over to a byte for each place, where there are many marks.
+    fn make_room(&mut self, alloc: Global) -> Result<(), Memory>
+        ensures size { self.new.size ≡ self.old.size }
+        ensures members { (m : ℕ) → has self.new.members m ≡ has self.old.members m }
+    {
+        if self.few.len() > self.width as usize / LISTED_SHARE {
+            self.many = spread(alloc, self.few.as_slice(), self.width)?;
+            self.few.clear();
+        }
+        Ok(())
     }
 }
 
-/// Makes the number no member, if it is one.
-fn take_away(marked: &mut Bits, place: u32)
-    ensures size { marked.new.size ≡ marked.old.size }
-    ensures empty { marked.old.members ≡ [] → marked.new.members ≡ [] }
-    ensures members { (m : ℕ) → has marked.new.members m ≡ (not (nat_eq m place) && has marked.old.members m) }
+/// A byte for each place, in which these are marked.
+fn spread(alloc: Global, places: &[u32], width: u32) -> Result<Bits, Memory>
+    requires { (m : ℕ) → IsTrue (has places.now m) → m < width }
+    ensures { IfOk result (λ b. (b.size ≡ width) × ((m : ℕ) → has b.members m ≡ has places.now m)) }
 {
-    if place < marked.size() {
-        marked.remove(place);
+    let mut marks = Bits::new(alloc, width)?;
+    for i in 0..places.len() {
+        marks.insert(places[i]);
     }
+    Ok(marks)
 }
