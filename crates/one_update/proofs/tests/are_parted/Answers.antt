@@ -3,6 +3,7 @@ use Rattle.std.proofs.Common.{[], ◌∷◌}
 use Rattle.label_graph.specs.GraphViews.{label_number}
 use Rattle.graph_update.specs.PendingChanges.{graph_after}
 use Rattle.quotient_draft.specs.Drafts.{shown_blocks, shown_labels}
+use Rattle.one_update.proofs.PendingChanges.{link_live}
 use Rattle.one_update.proofs.PhaseLaws.{block_labels_but, stable_there}
 use Rattle.one_update.proofs.tests.are_parted.Goals as goal
 
@@ -13,7 +14,7 @@ split-requires-clause-shown g c =
       over = changed.over;
       stable =
           stable_there c.args.after.now.before c.args.after.now.change (c.args.edge.1 ∷ []) c.args.base.now c.draft_link.new.draft c.requires.before.graph c.requires.before.graph_after
-          c.requires.before.fits c.draft_link.ensures.targets changed;
+          c.requires.before.fits (link_live c.args.after.now c.args.base.now c.args.edge.0 c.args.edge.1 c.requires.before c.requires.links) changed;
       block_labels =
           block_labels_but (has (c.args.edge.1 ∷ [])) (shown_blocks c.args.base.now c.draft_link.new.draft) (at (shown_labels c.args.base.now c.draft_link.new.draft))
           (label_number (graph_after c.args.after.now)) changed.block_labels;

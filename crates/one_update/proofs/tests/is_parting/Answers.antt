@@ -1,4 +1,4 @@
-use Rattle.std.proofs.Common.{ℕ, ◌≤◌, ◌^◌, ◌∙◌, ap, sym, subst}
+use Rattle.std.proofs.Common.{ℕ, ◌≤◌, ◌^◌, length, ◌∙◌, ap, sym, subst}
 use Rattle.std.specs.FinSet as set
 use Rattle.bisim_spec.specs.Fits.{FitsOne}
 use Rattle.quotient.specs.Quotients.{view_of}
@@ -14,6 +14,9 @@ are_parted-requires-clause-before g c = record {
   few =
       subst (λ (a : Pending). set.len a.before.edges ≤ 2 ^ 30) (sym c.new-after.ensures.pending)
       (subst (λ (n : ℕ). n ≤ 2 ^ 30) c.edge_count-known.ensures.count c.edge_count-known.ensures.few);
+  small =
+      subst (λ (a : Pending). length a.before.allocated ≤ 2 ^ 30) (sym c.new-after.ensures.pending)
+      (subst (λ (n : ℕ). n ≤ 2 ^ 30) c.created-known.ensures.count c.created-known.ensures.few);
 }
 
 pub are_parted-requires-clause-links : goal.are_parted-requires-clause-links
