@@ -1,4 +1,5 @@
--- A round over nodes that are live after a change reads no more than three times their cost.
+-- What is read at nodes that are live after a change: a search that reads their children no more than their cost, and a round
+-- over them no more than three times that.
 use Rattle.std.proofs.Common.{◌≡◌, ℕ, zero, suc, ◌+◌, ◌-◌, ◌*◌, ◌<◌, ◌≤◌, Bool, true, false, cond, List, [], ◌∷◌, length, IsTrue, refl, sym, ap, ◌∙◌, subst, arith, inl, inr, true≢false, is_some}
 use Rattle.std.specs.Prelude.{◌&&◌, not, if◌then◌else◌}
 use Rattle.std.proofs.lemmas.Bool.{cases_Bool, cases_lt}
@@ -63,6 +64,25 @@ no_cond false x h = refl
 three_sums : (n : ℕ) (f g h k : ℕ → ℕ) → ((i : ℕ) → f i ≤ 3 * g i + 2 * h i + k i) → sum_below n f ≤ 3 * sum_below n g + 2 * sum_below n h + sum_below n k
 three_sums zero f g h k e = omega arith
 three_sums (suc n) f g h k e = (let a = e n in let r = three_sums n f g h k e in omega (arith, a, r))
+
+-- the sum of two
+two_sums : (n : ℕ) (f g h : ℕ → ℕ) → ((i : ℕ) → f i ≤ g i + h i) → sum_below n f ≤ sum_below n g + sum_below n h
+two_sums zero f g h e = omega arith
+two_sums (suc n) f g h e = (let a = e n in let r = two_sums n f g h e in omega (arith, a, r))
+
+pub search_most : (c : List Step) (g : Graph) (inside : ℕ → Bool) → IsGraph g → CanMakeAll c g → ((n : ℕ) → inside n ≡ true → is_live (after c g) n ≡ true)
+    → sum_below (length (after c g).allocated) (λ n. cond (inside n) (children_cost g (after c g) n) 0) ≤ cost c g inside
+search_most c g inside graph can live =
+    let g2 = after c g in
+    let size = length g2.allocated in
+    let from : ℕ → ℕ = λ n. cond (is_live g2 n) (lost_from g g2 n) 0 in
+    let parts = two_sums size (λ n. cond (inside n) (children_cost g g2 n) 0) (λ n. if inside n then weight_at (shape_of g2) n else 0) from (λ n. elim (cases_Bool (inside n)) [
+      | inr off ↦ rw off (omega arith)
+      | inl on ↦ (let l = live n on in rw (on, l) (omega arith))
+    ]) in
+    let b = sum_wider (length g.allocated) size from (given_all c g) (λ i past. no_cond (is_live g2 i) (lost_from g g2 i) (lost_none_from g g2 i graph past)) in
+    let y = lost_from_few c g graph can in
+    omega (arith, parts, b, y)
 
 pub round_most : (c : List Step) (g : Graph) (inside : ℕ → Bool) → IsGraph g → CanMakeAll c g → ((n : ℕ) → inside n ≡ true → is_live (after c g) n ≡ true)
     → sum_below (length (after c g).allocated) (λ n. cond (inside n) (round_cost g (after c g) n) 0) ≤ 3 * cost c g inside

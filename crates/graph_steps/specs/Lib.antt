@@ -1,0 +1,5 @@
+pub mod StepLists
+pub mod NewChanges
+pub mod Counted
+pub mod Degrees
+pub mod Verdicts

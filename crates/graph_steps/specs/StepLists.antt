@@ -1,0 +1,26 @@
+-- The steps that the code's values stand for.
+use Rattle.std.specs.Prelude.{◌≡◌, ◌<◌, ℕ, Bool, true, List, map, length}
+use Rattle.graph_spec.specs.Graphs.{Graph, is_live}
+use Rattle.graph_spec.specs.Members.{has}
+use Rattle.change_spec.specs.Named.{is_named}
+use Rattle.change_spec.specs.Steps.{Step, node, link, unlink, drop, made}
+use Rattle.change_spec.specs.Places.{CanMake}
+use Rattle.graph_steps.specs.declared.changes.Step.{Step as Asked}
+use Rattle.graph_steps.specs.declared.changes.Step.TheVariants.{Node, Link, Unlink, Drop}
+
+abbrev pub step_of : Asked → Step
+step_of (Node t) = node t
+step_of (Link u v) = link u v
+step_of (Unlink u v) = unlink u v
+step_of (Drop u) = drop u
+
+abbrev pub steps_of : List Asked → List Step
+steps_of ss = map step_of ss
+
+-- what a change of several steps keeps: the nodes that its steps name are among these
+abbrev pub AreNamed : List Step → List ℕ → Type 0
+AreNamed c nodes = 1 < length c → (n : ℕ) → is_named c n ≡ true → has nodes n ≡ true
+
+-- whether the number n is live once a step is made, where it was live or wasn't, and the next number was this
+abbrev pub LivesAfter : Step → Bool → ℕ → ℕ → Bool → Type 0
+LivesAfter s live next n live2 = (h : Graph) → live ≡ is_live h n → next ≡ length h.allocated → CanMake s h → live2 ≡ is_live (made s h) n

@@ -1,0 +1,146 @@
+// Verdicts of lists of steps.
+use super::*;
+use crate::fronts::edge_before;
+use label_graph::Graph;
+use px_base::{Limits, NodeId, Refusal, Text};
+use std::alloc::Global;
+use std::process::Abort;
+use std::test::Fail;
+
+const FEW: Limits = Limits {
+    nodes: 6,
+    edges: 3,
+    labels: 2,
+    expr_bytes: 1,
+    expr_depth: 1,
+};
+
+// A step of a row; a label is a byte.
+#[derive(Clone, Copy, Debug)]
+enum Plain {
+    Node(u8),
+    Link(NodeId, NodeId),
+    Unlink(NodeId, NodeId),
+    Drop(NodeId),
+}
+
+use Plain::{Drop as Gone, Link, Node, Unlink};
+
+type Outcome = Result<Verdict, Refusal>;
+
+const ROWS: &[(&[Plain], Outcome)] = &[
+    // nothing, and nothing new
+    (&[], Ok(Verdict::Same)),
+    (&[Link(0, 1)], Ok(Verdict::Same)),
+    (&[Link(0, 1), Link(0, 2)], Ok(Verdict::Same)),
+    (&[Link(0, 1), Link(0, 9)], Err(Refusal::NoNode)),
+    // three edges, and no fourth; once one is taken away there is room
+    (&[Link(1, 2)], Ok(Verdict::New)),
+    (&[Link(1, 2), Link(2, 1)], Err(Refusal::Limit)),
+    (&[Link(1, 2), Unlink(0, 1), Link(2, 1)], Ok(Verdict::New)),
+    (&[Link(0, 1), Link(1, 2), Link(2, 9)], Err(Refusal::NoNode)),
+    // a node goes, and takes its edges along
+    (
+        &[Link(1, 2), Gone(0), Link(2, 1), Link(1, 1)],
+        Ok(Verdict::New),
+    ),
+    (
+        &[Link(1, 2), Gone(0), Link(2, 1), Link(1, 1), Link(2, 2)],
+        Err(Refusal::Limit),
+    ),
+    (&[Gone(1), Gone(0), Link(2, 2)], Ok(Verdict::New)),
+    (&[Gone(0), Gone(0)], Err(Refusal::NoNode)),
+    (&[Gone(0), Link(0, 1)], Err(Refusal::NoNode)),
+    (&[Gone(0), Unlink(1, 2)], Err(Refusal::NoEdge)),
+    // numbers that the steps allocate: three more
+    (
+        &[Node(b'b'), Link(3, 3), Gone(3), Link(1, 2)],
+        Ok(Verdict::New),
+    ),
+    (&[Link(3, 3), Node(b'b')], Err(Refusal::NoNode)),
+    (&[Node(b'b'), Gone(3), Link(3, 3)], Err(Refusal::NoNode)),
+    (&[Node(b'a'), Node(b'a'), Node(b'a')], Ok(Verdict::New)),
+    (
+        &[Node(b'a'), Node(b'a'), Node(b'a'), Node(b'a')],
+        Err(Refusal::Limit),
+    ),
+    // one label more, which may come twice, and no other
+    (&[Node(b'b'), Node(b'b'), Node(b'a')], Ok(Verdict::New)),
+    (&[Node(b'b'), Node(b'c')], Err(Refusal::Limit)),
+];
+
+fn step_of(alloc: Global, plain: Plain) -> Result<Step, Fail> {
+    match plain {
+        Node(byte) => Ok(Step::Node(Text::from_bytes(alloc, &[byte])?)),
+        Link(u, v) => Ok(Step::Link(u, v)),
+        Unlink(u, v) => Ok(Step::Unlink(u, v)),
+        Gone(u) => Ok(Step::Drop(u)),
+    }
+}
+
+fn change_of(alloc: Global, plains: &[Plain]) -> Result<Change, Fail> {
+    let mut change = Change::new(alloc)?;
+    for plain in plains {
+        change.push(step_of(alloc, *plain)?)?;
+    }
+    Ok(change)
+}
+
+const MOST: u32 = 1 << 30;
+
+fn put_node(graph: &mut Graph, alloc: Global) -> Result<(), Fail> {
+    if graph.created() >= MOST {
+        return Err("there are too many nodes".into());
+    }
+    graph.reserve_node(alloc, &Text::from_bytes(alloc, b"a")?)?;
+    graph.add_node();
+    Ok(())
+}
+
+fn put_edge(graph: &mut Graph, u: NodeId, v: NodeId) -> Result<(), Fail> {
+    if !graph.is_live(u) || !graph.is_live(v) {
+        return Err("an edge ends at no node".into());
+    }
+    if graph.edge_count() >= MOST || edge_before(graph, u, v) {
+        return Err("no edge can be added".into());
+    }
+    graph.reserve_edge(u, v)?;
+    graph.add_edge(u, v);
+    Ok(())
+}
+
+// Three nodes with the label a, and edges from the first to the other two.
+fn fork(alloc: Global) -> Result<Graph, Fail> {
+    let mut graph = Graph::new(alloc)?;
+    for _ in 0..3 {
+        put_node(&mut graph, alloc)?;
+    }
+    put_edge(&mut graph, 0, 1)?;
+    put_edge(&mut graph, 0, 2)?;
+    Ok(graph)
+}
+
+fn check_rows(rt: &impl Abort, alloc: Global, graph: &Graph) -> Result<(), Fail> {
+    for (plains, outcome) in ROWS {
+        let change = change_of(alloc, plains)?;
+        assert!(rt; judge(graph, &change, &FEW) == *outcome, "{plains:?}");
+    }
+    Ok(())
+}
+
+#[test]
+fn changes_are_judged(rt: HostRuntime) -> Result<(), Fail> {
+    let graph = fork(rt.alloc())?;
+    check_rows(&rt, rt.alloc(), &graph)
+}
+
+// Changes of one step and of two, and the nodes that they may name.
+#[test]
+fn steps_and_names(rt: HostRuntime) -> Result<(), Fail> {
+    let mut change = Change::one(rt.alloc(), Step::Drop(2))?;
+    assert!(rt; change.steps().len() == 1 && change.may_name(2));
+    change.push(Step::Link(0, 1))?;
+    assert!(rt; change.steps().len() == 2 && change.may_name(2) && change.may_name(0));
+    assert!(rt; !change.may_name(3) && is_dropped(change.steps(), 2));
+    Ok(())
+}
