@@ -1,5 +1,5 @@
 -- Which states and places a list of pairs has.
-use Rattle.std.proofs.Common.{◌≡◌, ℕ, ◌<◌, ◌⊎◌, inl, inr, Bool, List, length, refl, sym, ap, ◌∙◌, subst, arith, cond, Option, Some, None, IsTrue}
+use Rattle.std.proofs.Common.{◌≡◌, ℕ, ◌<◌, inl, inr, Bool, List, length, refl, ap, ◌∙◌, arith, cond, Option, Some, None, IsTrue}
 use Rattle.std.specs.Prelude.{slice_get, is_some, IsSome}
 use Rattle.std.proofs.lemmas.Bool.{ne_eqb}
 use Rattle.path_automaton.specs.ProductSteps.{leads}
@@ -9,7 +9,7 @@ use Rattle.path_automaton.specs.declared.state.State.{State}
 use Rattle.path_automaton.specs.NewMarks.{Enters}
 use Rattle.state_sets.specs.StateSets.{ForkedTo, here, onward}
 use Rattle.walk_proof.specs.declared.marks.Pair.{Pair}
-use Rattle.walk_proof.specs.Marking.{Among, Notes}
+use Rattle.walk_proof.specs.Marking.{Notes}
 use Rattle.walk_proof.specs.Sources.{Leads}
 use Rattle.walk_proof.specs.Layering.{ForkedInto, AreInside}
 

@@ -1,5 +1,5 @@
 -- The least number of a kind, where one number more may be of it.
-use Rattle.std.proofs.Common.{◌≡◌, refl, ℕ, zero, suc, ◌<◌, ◌≤◌, ◌⊎◌, inl, inr, List, [], ◌∷◌, length, take, sym, ap, subst, arith, Option, Some, None, IfSome}
+use Rattle.std.proofs.Common.{◌≡◌, refl, ℕ, zero, suc, ◌≤◌, ◌⊎◌, inl, inr, List, [], ◌∷◌, length, take, sym, ap, subst, arith, Option, Some, None, IfSome}
 use Rattle.walk_proof.specs.Layering.{IsLeastOf}
 
 module _ (P Q : ℕ → Type 0) (on : (c : ℕ) → P c → Q c) where

@@ -1,5 +1,5 @@
 -- One step of each loop that marks.
-use Rattle.std.proofs.Common.{◌≡◌, ℕ, ◌+◌, ◌<◌, ◌≤◌, ◌⊎◌, inl, inr, Bool, List, [], ◌∷◌, ◌++◌, length, take, get_or, refl, sym, ap, ◌∙◌, subst, arith, Option, Some, None, IsTrue}
+use Rattle.std.proofs.Common.{◌≡◌, ℕ, ◌+◌, ◌<◌, ◌≤◌, inl, inr, Bool, List, [], ◌∷◌, ◌++◌, length, take, get_or, sym, ap, ◌∙◌, subst, arith, Option, Some, None, IsTrue}
 use Rattle.graph_spec.specs.Members.{has}
 use Rattle.px_base.specs.BitSets.{BitSet}
 use Rattle.path_automaton.specs.declared.state.State.{State}
@@ -14,7 +14,7 @@ use Rattle.walk_proof.specs.Marking.{IsMarked, Among, Notes}
 use Rattle.walk_proof.specs.Sources.{Leads, AreSources}
 use Rattle.walk_proof.specs.Layering.{IntoBy, ForkedInto, ReadsOneBy, ReadsFromBy, EntersOne, EntersFrom}
 use Rattle.walk_proof.proofs.MarkLaws.{notes_as, notes_then}
-use Rattle.walk_proof.proofs.PairLists.{no_pair, among_at, among_take_cases, take_front, get_prefix, take_all}
+use Rattle.walk_proof.proofs.PairLists.{no_pair, among_at, among_take_cases, take_front, get_prefix}
 
 pub enters_leads : (o : Option State) (k : ℕ) → Enters o k → Leads o k
 enters_leads None k h = h

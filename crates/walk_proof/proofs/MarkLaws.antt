@@ -1,7 +1,7 @@
 -- How pairs are marked and listed.
-use Rattle.std.proofs.Common.{◌≡◌, ℕ, zero, suc, ◌+◌, ◌<◌, ◌≤◌, ◌⊎◌, inl, inr, Bool, true, false, List, [], ◌∷◌, ◌++◌, length, set, length-set, get_or, get_or-set_same, get_or-set_other, refl, sym, ap, ◌∙◌, subst, arith, IsTrue, append-nil, append_assoc, true≢false, eqb}
+use Rattle.std.proofs.Common.{◌≡◌, ℕ, zero, suc, ◌+◌, ◌<◌, ◌⊎◌, inl, inr, Bool, true, false, List, [], ◌∷◌, ◌++◌, length, set, length-set, get_or-set_same, get_or-set_other, refl, sym, ap, ◌∙◌, subst, arith, IsTrue, append-nil, append_assoc, true≢false, eqb}
 use Rattle.std.proofs.lemmas.Bool.{cases_eq, or_cases, or_left, or_right, eqb-true, eq-eqb, and_parts, and_from}
-use Rattle.std.specs.Prelude.{◌||◌, ◌&&◌, nat_eq, not}
+use Rattle.std.specs.Prelude.{◌&&◌, nat_eq, not}
 use Rattle.graph_spec.specs.Members.{has}
 use Rattle.px_base.specs.BitSets.{BitSet}
 use Rattle.walk_proof.specs.declared.marks.Pair.{Pair}
@@ -190,3 +190,22 @@ cleared_then P Q R rows rows2 rows3 cases left right a b = record {
       let y = a.source s c x.0 in
       (y.0, λ r. elim (cases s c r) [ inl p ↦ y.1 p | inr q ↦ x.1 q ]);
 }
+
+-- a row is put behind others
+pub pushed_count : (rows : List BitSet) (r : BitSet) → length (rows ++ r ∷ []) ≡ length rows + 1
+pushed_count [] r = refl
+pushed_count (x ∷ xs) r = (let e = pushed_count xs r in omega (arith, e))
+
+-- a row of the width is put behind others of it
+pub pushed_wide : (rows : List BitSet) (r : BitSet) (w : ℕ) → ((s : ℕ) → s < length rows → (row rows s).size ≡ w) → r.size ≡ w → (s : ℕ) → s < length rows + 1 → (row (rows ++ r ∷ []) s).size ≡ w
+pushed_wide [] r w wide e zero l = e
+pushed_wide [] r w wide e (suc s) l = absurd (omega (arith, l))
+pushed_wide (x ∷ xs) r w wide e zero l = wide zero (omega (arith, l))
+pushed_wide (x ∷ xs) r w wide e (suc s) l = pushed_wide xs r w (λ k h. wide (suc k) (omega (arith, h))) e s (omega (arith, l))
+
+-- a row without marks is put behind others
+pub pushed_unmarked : (rows : List BitSet) (r : BitSet) → ((s c : ℕ) → IsMarked rows s c → ⊥) → r.members ≡ [] → (s c : ℕ) → IsMarked (rows ++ r ∷ []) s c → ⊥
+pushed_unmarked [] r none e zero c m = absurd (true≢false (sym (subst (λ xs. IsTrue (has xs c)) e m)))
+pushed_unmarked [] r none e (suc s) c m = absurd (true≢false (sym m))
+pushed_unmarked (x ∷ xs) r none e zero c m = none zero c m
+pushed_unmarked (x ∷ xs) r none e (suc s) c m = pushed_unmarked xs r (λ k d h. none (suc k) d h) e s c m

@@ -1,8 +1,7 @@
 -- Pairs in lists, and one more of them.
-use Rattle.std.proofs.Common.{◌≡◌, ℕ, zero, suc, ◌+◌, ◌<◌, ◌≤◌, ◌⊎◌, inl, inr, List, [], ◌∷◌, ◌++◌, length, take, get_or, refl, sym, ap, ◌∙◌, subst, arith, IsTrue}
+use Rattle.std.proofs.Common.{◌≡◌, ℕ, zero, suc, ◌+◌, ◌<◌, ◌≤◌, ◌⊎◌, inl, inr, List, [], ◌∷◌, ◌++◌, length, take, get_or, refl, sym, ap, ◌∙◌, subst, arith}
 use Rattle.walk_proof.specs.declared.marks.Pair.{Pair}
 use Rattle.walk_proof.specs.Marking.{Among}
-use Rattle.walk_proof.proofs.MarkLaws.{among_more}
 
 abbrev pub no_pair : Pair
 no_pair = record { state = 0; place = 0 }

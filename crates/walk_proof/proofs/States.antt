@@ -1,5 +1,5 @@
 -- States that lead on are there, and so are places.
-use Rattle.std.proofs.Common.{◌≡◌, ℕ, ◌⊎◌, inl, inr, Bool, refl, sym, ap, ◌∙◌, cond, Option, Some, None, IsTrue}
+use Rattle.std.proofs.Common.{◌≡◌, ℕ, inl, inr, Bool, refl, sym, ap, ◌∙◌, cond, Option, Some, None, IsTrue}
 use Rattle.std.specs.Prelude.{is_some, IsSome}
 use Rattle.std.proofs.lemmas.Bool.{ne_eqb, cases_eq}
 use Rattle.path_automaton.specs.declared.state.State.{State}

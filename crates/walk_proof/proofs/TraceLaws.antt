@@ -1,5 +1,5 @@
 -- How the least walk is traced along layers.
-use Rattle.std.proofs.Common.{◌≡◌, ℕ, zero, suc, ◌+◌, ◌<◌, ◌≤◌, ◌⊎◌, inl, inr, Bool, List, [], ◌∷◌, ◌++◌, length, refl, sym, ap, ◌∙◌, subst, arith, Option, Some, None, IsTrue, append-nil, append_assoc}
+use Rattle.std.proofs.Common.{◌≡◌, ℕ, ◌+◌, ◌<◌, ◌≤◌, ◌⊎◌, inl, inr, Bool, List, [], ◌∷◌, ◌++◌, length, refl, sym, ap, ◌∙◌, subst, arith, Option, Some, IsTrue, append-nil, append_assoc}
 use Rattle.std.specs.Prelude.{◌↔◌}
 use Rattle.std.proofs.lemmas.Bool.{cases_eq}
 use Rattle.std.proofs.lemmas.List.{length-append, length_push}
@@ -8,7 +8,7 @@ use Rattle.px_base.specs.BitSets.{BitSet}
 use Rattle.path_automaton.specs.declared.state.State.{State}
 use Rattle.path_automaton.specs.ProductSteps.{leads}
 use Rattle.path_automaton.specs.NewMarks.{Enters}
-use Rattle.walk_spec.specs.Shown.{IsLess, Before}
+use Rattle.walk_spec.specs.Shown.{IsLess}
 use Rattle.walk_spec.specs.Ways.{Takes, Way, done, enter, take}
 use Rattle.state_sets.specs.StateSets.{AreClosed, Behind}
 use Rattle.walk_proof.specs.declared.marks.Pair.{Pair}

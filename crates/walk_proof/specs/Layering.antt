@@ -1,5 +1,5 @@
 -- Layers of pairs of a state and a place, by how many labels are read from there to the end.
-use Rattle.std.specs.Prelude.{ℕ, ◌≡◌, ◌<◌, ◌≤◌, ◌+◌, ◌⊎◌, Bool, List, [], ◌∷◌, length, slice_index_or, Option, None, Some, ◌↔◌, IsTrue, IsSome, MatchOption}
+use Rattle.std.specs.Prelude.{ℕ, ◌≡◌, ◌<◌, ◌≤◌, ◌+◌, ◌⊎◌, Bool, List, [], length, slice_index_or, Option, None, Some, ◌↔◌, IsTrue, IsSome, MatchOption}
 use Rattle.graph_spec.specs.Members.{has}
 use Rattle.graph_spec.specs.Shapes.{Shape}
 use Rattle.px_base.specs.BitSets.{BitSet}

@@ -1,5 +1,5 @@
 -- For each state those that lead to it.
-use Rattle.std.specs.Prelude.{ℕ, ◌≡◌, ◌⊎◌, ◌<◌, List, [], length, slice_index_or, Option, None, Some, IsTrue}
+use Rattle.std.specs.Prelude.{ℕ, ◌≡◌, ◌⊎◌, List, [], slice_index_or, Option, None, Some, IsTrue}
 use Rattle.graph_spec.specs.Members.{has}
 use Rattle.path_automaton.specs.declared.state.State.{State}
 use Rattle.path_automaton.specs.declared.state.State.TheVariants.{End, Stuck, Any, Label, Fork}

@@ -1,4 +1,4 @@
-use Rattle.std.proofs.Common.{◌≡◌, IsTrue, length, sym, subst}
+use Rattle.std.proofs.Common.{length, sym, subst}
 use Rattle.std.specs.Prelude.{IsSome}
 use Rattle.graph_spec.specs.Shapes.{shape_by}
 use Rattle.label_graph.specs.GraphViews.{label_number, is_linked}

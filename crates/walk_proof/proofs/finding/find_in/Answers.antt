@@ -1,4 +1,4 @@
-use Rattle.std.proofs.Common.{◌≡◌, ℕ, length, sym, ap, ◌∙◌, subst, refl}
+use Rattle.std.proofs.Common.{◌≡◌, ℕ, length, ap, subst}
 use Rattle.std.specs.Prelude.{slice_get, Some}
 use Rattle.path_automaton.specs.declared.state.State.TheVariants.{End}
 use Rattle.path_expr.specs.ExprAutomata.{Stands}

@@ -1,10 +1,8 @@
-use Rattle.std.proofs.Common.{◌≡◌, ◌<◌, ◌≤◌, refl, ℕ, [], Some, get_or, take, length, sym, ap, ◌∙◌, subst, IsTrue}
+use Rattle.std.proofs.Common.{◌<◌, ◌≤◌, refl, ℕ, [], get_or, length, sym, ap, ◌∙◌, subst, IsTrue}
 use Rattle.std.specs.Prelude.{slice_get}
 use Rattle.std.proofs.lemmas.List.{get_or_read}
-use Rattle.std.proofs.lemmas.Option.{slice_get_within}
 use Rattle.graph_spec.specs.Members.{has}
-use Rattle.path_automaton.specs.NewMarks.{Enters}
-use Rattle.walk_proof.specs.Marking.{IsMarked, Among}
+use Rattle.walk_proof.specs.Marking.{Among}
 use Rattle.walk_proof.proofs.PairLists.{no_pair, among_at, take_all}
 use Rattle.walk_proof.proofs.LoopLaws.{close_next, close_closed}
 use Rattle.walk_proof.proofs.Inside.{stay_inside, leads_within}

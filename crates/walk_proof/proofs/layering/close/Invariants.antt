@@ -1,4 +1,4 @@
-use Rattle.std.proofs.Common.{◌≡◌, ◌-◌, ◌^◌, ℕ, length, take}
+use Rattle.std.proofs.Common.{◌-◌, ◌^◌, ℕ, take}
 use Rattle.std.specs.Prelude.{slice_get}
 use Rattle.path_automaton.specs.NewMarks.{Enters}
 use Rattle.walk_proof.specs.Marking.{IsMarked, Among, Notes}

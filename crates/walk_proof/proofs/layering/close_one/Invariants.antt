@@ -1,4 +1,4 @@
-use Rattle.std.proofs.Common.{◌≡◌, ℕ, take, IsTrue}
+use Rattle.std.proofs.Common.{ℕ, take, IsTrue}
 use Rattle.std.specs.Prelude.{slice_get}
 use Rattle.graph_spec.specs.Members.{has}
 use Rattle.path_automaton.specs.NewMarks.{Enters}

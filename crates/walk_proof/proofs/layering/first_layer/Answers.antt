@@ -1,4 +1,4 @@
-use Rattle.std.proofs.Common.{◌≡◌, ◌<◌, ℕ, inr, [], ◌∷◌, Some, sym, ap, ◌∙◌, subst, List}
+use Rattle.std.proofs.Common.{◌≡◌, ℕ, inr, Some, sym, ap, subst}
 use Rattle.std.specs.Prelude.{slice_get, is_some}
 use Rattle.path_automaton.specs.declared.state.State.TheVariants.{End}
 use Rattle.walk_proof.specs.Marking.{IsMarked, Notes}

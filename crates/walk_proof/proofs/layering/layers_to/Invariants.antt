@@ -1,4 +1,4 @@
-use Rattle.std.proofs.Common.{◌≡◌, ◌+◌, ◌-◌, ◌^◌, length}
+use Rattle.std.proofs.Common.{◌+◌, ◌-◌, ◌^◌, length}
 use Rattle.std.specs.Prelude.{slice_get}
 use Rattle.walk_proof.specs.Marking.{HasRoom}
 use Rattle.walk_proof.specs.Layering.{IsLayeredBy, IsFirst}

@@ -1,5 +1,4 @@
-use Rattle.std.proofs.Common.{◌≡◌, ◌<◌, ◌+◌, ◌∙◌, ℕ, inl, inr, get_or, take, sym, subst, arith, IsTrue}
-use Rattle.graph_spec.specs.Members.{has}
+use Rattle.std.proofs.Common.{◌≡◌, ◌∙◌, ℕ, inl, inr, get_or, sym, subst, arith, IsTrue}
 use Rattle.path_automaton.specs.ProductSteps.{leads}
 use Rattle.state_sets.proofs.Lists.{has_at, take_cases}
 use Rattle.walk_proof.specs.Marking.{IsMarked}

@@ -1,7 +1,7 @@
-use Rattle.std.proofs.Common.{◌≡◌, ◌+◌, ℕ, ◌⊎◌, take, IsTrue}
+use Rattle.std.proofs.Common.{◌≡◌, ℕ, ◌⊎◌, take, IsTrue}
 use Rattle.graph_spec.specs.Members.{has}
 use Rattle.path_automaton.specs.ProductSteps.{leads}
-use Rattle.walk_proof.specs.Marking.{row, IsMarked, Notes}
+use Rattle.walk_proof.specs.Marking.{IsMarked, Notes}
 use Rattle.walk_proof.proofs.layering.note_led.Given as goal
 
 abbrev pub invariant-loop-i : goal.invariant-loop-i

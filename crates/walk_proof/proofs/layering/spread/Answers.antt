@@ -1,4 +1,4 @@
-use Rattle.std.proofs.Common.{◌≡◌, ◌<◌, ℕ, [], get_or, length, refl, sym, ◌∙◌, subst, IsTrue}
+use Rattle.std.proofs.Common.{◌<◌, ℕ, [], get_or, refl, sym, ◌∙◌, subst, IsTrue}
 use Rattle.std.specs.Prelude.{slice_get}
 use Rattle.std.proofs.lemmas.List.{get_or_read}
 use Rattle.graph_spec.specs.Members.{has}

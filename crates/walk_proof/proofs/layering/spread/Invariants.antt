@@ -1,4 +1,4 @@
-use Rattle.std.proofs.Common.{◌≡◌, ◌+◌, ℕ, length, take, IsTrue}
+use Rattle.std.proofs.Common.{ℕ, take}
 use Rattle.std.specs.Prelude.{slice_get}
 use Rattle.walk_proof.specs.Marking.{IsMarked, Notes}
 use Rattle.walk_proof.specs.Layering.{IntoBy}

@@ -1,7 +1,6 @@
-use Rattle.std.proofs.Common.{◌≡◌, ◌<◌, ℕ, get_or, length, sym, ap, ◌∙◌, subst}
+use Rattle.std.proofs.Common.{ℕ, get_or}
 use Rattle.std.specs.Prelude.{slice_get}
 use Rattle.state_sets.proofs.Lists.{has_at}
-use Rattle.walk_proof.specs.Layering.{ReadsFromBy}
 use Rattle.walk_proof.proofs.MarkLaws.{room_on}
 use Rattle.walk_proof.proofs.LoopLaws.{read_source_next, read_source_marked}
 use Rattle.walk_proof.proofs.layering.spread_one.Goals as goal

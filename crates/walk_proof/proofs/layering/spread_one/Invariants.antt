@@ -1,6 +1,6 @@
-use Rattle.std.proofs.Common.{◌≡◌, ◌+◌, ℕ, length, take, IsTrue}
+use Rattle.std.proofs.Common.{ℕ, take}
 use Rattle.std.specs.Prelude.{slice_get}
-use Rattle.walk_proof.specs.Marking.{IsMarked, HasRoom, Notes}
+use Rattle.walk_proof.specs.Marking.{IsMarked, Notes}
 use Rattle.walk_proof.specs.Layering.{ReadsFromBy}
 use Rattle.walk_proof.proofs.layering.spread_one.Given as goal
 

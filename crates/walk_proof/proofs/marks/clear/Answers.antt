@@ -1,5 +1,5 @@
-use Rattle.std.proofs.Common.{◌≡◌, ℕ, ◌+◌, ◌<◌, ◌⊎◌, inl, inr, get_or, take, sym, ap, ◌∙◌, subst, refl}
-use Rattle.walk_proof.specs.Marking.{row, Among, IsCleared}
+use Rattle.std.proofs.Common.{◌≡◌, ◌+◌, ◌<◌, get_or, take, sym, subst, refl}
+use Rattle.walk_proof.specs.Marking.{Among}
 use Rattle.walk_proof.proofs.MarkLaws.{cleared_then}
 use Rattle.walk_proof.proofs.PairLists.{no_pair, among_at, among_take_cases, take_grows, take_last}
 use Rattle.walk_proof.proofs.marks.clear.Goals as goal

@@ -1,4 +1,4 @@
-use Rattle.std.proofs.Common.{◌≡◌, ◌+◌, ◌∙◌, ℕ, Some, inl, inr, get_or, take, sym, subst, true≢false, IsTrue}
+use Rattle.std.proofs.Common.{◌+◌, ◌∙◌, ℕ, inl, inr, get_or, take, sym, subst, true≢false, IsTrue}
 use Rattle.std.specs.Prelude.{slice_get}
 use Rattle.graph_spec.specs.Members.{has}
 use Rattle.state_sets.proofs.Lists.{take_cases, take_grows, take_last}

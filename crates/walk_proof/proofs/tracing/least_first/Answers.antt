@@ -1,4 +1,4 @@
-use Rattle.std.proofs.Common.{◌≡◌, ◌+◌, ◌∙◌, ℕ, Some, List, inl, inr, get_or, take, refl, sym, subst, true≢false}
+use Rattle.std.proofs.Common.{◌+◌, ◌∙◌, ℕ, List, inl, inr, get_or, take, refl, sym, subst, true≢false}
 use Rattle.std.specs.Prelude.{slice_get, IsSome}
 use Rattle.state_sets.specs.StateSets.{Behind}
 use Rattle.walk_proof.specs.declared.marks.Pair.{Pair}

@@ -2,7 +2,6 @@ use Rattle.std.proofs.Common.{◌≡◌, ◌<◌, ◌+◌, ℕ, length, IsTrue}
 use Rattle.std.specs.Prelude.{slice_get}
 use Rattle.graph_spec.specs.Members.{has}
 use Rattle.path_automaton.specs.NewMarks.{IsPlace}
-use Rattle.walk_proof.specs.Marking.{HasRoom}
 use Rattle.walk_proof.proofs.TraceLaws.{AreBelow, IsTracing}
 use Rattle.walk_proof.proofs.tracing.trace_on.Given as goal
 
