@@ -1,11 +1,11 @@
 #!/usr/bin/env python3
 """Compares the program with slow, plain definitions: check_by_definition.py PROGRAM [RUNS [changes]].
 
-Each run makes a small random script of changes, queries, lists and sizes. With the word changes it is of changes alone, and
-after each, from the first node on, the 1-index and the A(k)-indexes up to A(3) at least are listed; in some of these runs, and in
-no others, a node gains many neighbours one by one, and loses them. At the end it is printed how many changes there were. What the
-program writes must be what the definitions below give, which work on pairs of nodes and know neither splitting
-of blocks nor automata nor sets that spread along an axis. The least walk of an answer is the first that matches of all that
+Each run makes a small random script of changes, groups of changes, queries, lists and sizes. With the word changes it is of
+changes alone, and after each, from the first node on, the 1-index and the A(k)-indexes up to A(3) at least are listed; in some of
+these runs, and in no others, a node gains many neighbours one by one, and loses them one by one or at once. At the end it is printed
+how many changes there were. What the program writes must be what the definitions below give, which work on pairs of nodes and know
+neither splitting of blocks nor automata nor sets that spread along an axis. The least walk of an answer is the first that matches of all that
 end there. Where walks come back to their beginning several partitions of the
 1-index are lawful, so of that which the program lists the demands are tested: it is stable, no two blocks can be merged, and
 since it was last listed nodes that no change reaches are together as before. The first script whose output is wrong is printed
@@ -21,6 +21,7 @@ LABELS = "abc"
 NODES = 7
 LINKS = 9
 LINES = 60
+GROUP = 8  # the most steps of a group
 HUB_RUNS = 4  # of so many runs of changes one has a hub
 SPOKES = 20, 40
 # the bounds of k, in runs of changes and in the others
@@ -122,9 +123,46 @@ def fault_of_one(graph, blocks):
     return None
 
 
-def reached(graph, node):
-    """The nodes to which a walk leads from this one, itself among them."""
-    found, waiting = {node}, [node]
+# Steps of a change: ("node", label), ("link", u, v), ("unlink", u, v), ("drop", u).
+
+def refusal(graph, step):
+    """The word with which a step is refused, None where it is accepted."""
+    if step[0] == "node":
+        return None
+    if not all(map(graph.is_live, step[1:])):
+        return "no-node"
+    return "no-edge" if step[0] == "unlink" and step[1:] not in graph.edges else None
+
+
+def is_idle(graph, step):
+    return step[0] == "link" and step[1:] in graph.edges
+
+
+def make(graph, step):
+    """Makes an accepted step, and gives the nodes at which it alters the graph."""
+    if step[0] == "node":
+        graph.labels.append(step[1])
+        return {len(graph.labels) - 1}
+    if step[0] == "drop":
+        children = set(graph.children(step[1]))
+        graph.labels[step[1]] = None
+        graph.edges = {edge for edge in graph.edges if step[1] not in edge}
+        return children
+    altered = set() if is_idle(graph, step) else {step[2]}
+    if step[0] == "link":
+        graph.edges.add(step[1:])
+    else:
+        graph.edges.remove(step[1:])
+    return altered
+
+
+def spelled_step_of_change(step):
+    return " ".join([step[0]] + [part if isinstance(part, str) else f"n{part}" for part in step[1:]])
+
+
+def reached(graph, nodes):
+    """The nodes to which a walk leads from one of these, they among them."""
+    found, waiting = set(nodes), list(nodes)
     while waiting:
         for child in graph.children(waiting.pop()):
             if child not in found:
@@ -134,14 +172,14 @@ def reached(graph, node):
 
 
 class Moves:
-    """The changes since the 1-index was last listed: the nodes that they reach, and the edge of each that adds or takes one."""
+    """The changes since the 1-index was last listed: the nodes that they reach, and the edge of each that only adds or takes one."""
 
     def __init__(self):
         self.reached = set()
         self.edges = []
 
-    def add(self, graph, target, edge=None):
-        self.reached |= reached(graph, target)
+    def add(self, graph, targets, edge=None):
+        self.reached |= reached(graph, targets)
         self.edges.append(edge)
 
     def fault(self, graph, before, blocks):
@@ -488,7 +526,7 @@ class Run:
         if self.has_hub:
             self.hub()
             return
-        changes = [self.node, self.link, self.link, self.link, self.unlink, self.unlink, self.drop]
+        changes = [self.node, self.link, self.link, self.link, self.unlink, self.unlink, self.drop, self.group, self.group]
         asks = [self.path, self.path, self.why, self.why, self.branch, self.branch, self.extents, self.sizes]
         for _ in range(LINES):
             if changes_alone and self.may_have_rings and not has_ring(self.graph):
@@ -503,21 +541,49 @@ class Run:
         self.script.append(line)
         self.tests += tests
 
-    def any_node(self):
-        return self.pick.randrange(len(self.graph.labels) + 1)
+    def any_node(self, graph=None):
+        return self.pick.randrange(len((graph or self.graph).labels) + 1)
 
-    def moved(self, target, edge=None):
+    def change(self, *steps, is_group=False):
+        """A change of these steps, which may be refused or change nothing; in a run of changes the lists follow it."""
+        graph, altered, is_new, refused = self.graph.copy(), set(), False, None
+        for step in steps:
+            refused = refused or refusal(graph, step)
+            if not refused:
+                is_new = is_new or not is_idle(graph, step)
+                altered |= make(graph, step)
+        added = range(len(self.graph.labels), len(graph.labels))
+        if is_new and not refused:
+            self.graph = graph
+            self.moved({n for n in altered if graph.is_live(n)}, steps[0][1:] if len(steps) == 1 and len(steps[0]) == 3 else None)
+        reply = [f"refused {refused}"] if refused else [f"added n{n}" for n in added]
+        lines = [spelled_step_of_change(step) for step in steps]
+        if is_group:
+            self.script += ["begin"] + lines
+            self.say("end", writes(*reply if refused else reply + ["ok"]))
+        else:
+            self.say(lines[0], writes(*reply or ["ok"]))
+        if self.changes_alone:
+            self.list_all()
+
+    def moved(self, targets, edge):
         """Notes a change that the graph has undergone."""
         self.changes += 1
         if self.changes_alone and "one" in self.kept:
             self.ones[has_ring(self.graph)] += 1
-        self.moves.add(self.graph, target, edge)
+        self.moves.add(self.graph, targets, edge)
 
-    def say_change(self, line, reply):
-        """A line that asks for a change, which may be refused or change nothing, and in a run of changes the lists behind it."""
-        self.say(line, writes(reply))
-        if self.changes_alone:
-            self.list_all()
+    def group(self):
+        """Several steps, or none, of which most can be made where they stand."""
+        graph, steps = self.graph.copy(), []
+        for _ in range(self.pick.randrange(GROUP + 1)):
+            step = self.pick.choice([self.a_node, self.a_link, self.a_link, self.a_link, self.an_unlink, self.an_unlink, self.a_drop])(graph)
+            if not refusal(graph, step):
+                make(graph, step)
+            elif self.pick.randrange(LINES):
+                continue
+            steps.append(step)
+        self.change(*steps, is_group=True)
 
     def list_one(self):
         """The test of a list of the 1-index at this place."""
@@ -530,64 +596,48 @@ class Run:
         for i in range(self.k + 1):
             self.say(f"extents a{i}", lists(self.graph.copy(), classes(self.graph, level(self.graph, i))))
 
-    def node(self):
-        self.add(self.pick.choice(LABELS))
+    def a_node(self, graph):
+        return "node", self.pick.choice(LABELS)
 
-    def add(self, label):
-        self.graph.labels.append(label)
-        self.moved(len(self.graph.labels) - 1)
-        self.say_change(f"node {label}", f"added n{len(self.graph.labels) - 1}")
-        return len(self.graph.labels) - 1
-
-    def link(self):
-        edge = self.any_node(), self.any_node()
+    def a_link(self, graph):
+        edge = self.any_node(graph), self.any_node(graph)
         if not self.may_have_rings:
             edge = min(edge), max(edge[1], min(edge) + 1)
-        self.link_edge(edge)
+        return "link", *edge
 
-    def link_edge(self, edge):
-        are_live = all(map(self.graph.is_live, edge))
-        if are_live and edge not in self.graph.edges:
-            self.graph.edges.add(edge)
-            self.moved(edge[1], edge)
-        self.say_change("link n%d n%d" % edge, "ok" if are_live else "refused no-node")
+    def an_unlink(self, graph):
+        return "unlink", *self.pick.choice(sorted(graph.edges) + [(self.any_node(graph), self.any_node(graph))])
+
+    def a_drop(self, graph):
+        return "drop", self.any_node(graph)
+
+    def node(self):
+        self.change(self.a_node(self.graph))
+
+    def link(self):
+        self.change(self.a_link(self.graph))
+
+    def unlink(self):
+        self.change(self.an_unlink(self.graph))
+
+    def drop(self):
+        self.change(self.a_drop(self.graph))
+
+    def add(self, label):
+        self.change(("node", label))
+        return len(self.graph.labels) - 1
 
     def close_ring(self):
         """Leads back along an edge, where there is one."""
         for u, v in self.pick.sample(sorted(self.graph.edges), min(1, len(self.graph.edges))):
-            self.link_edge((v, u))
-
-    def unlink(self):
-        self.unlink_edge(self.pick.choice(sorted(self.graph.edges) + [(self.any_node(), self.any_node())]))
-
-    def unlink_edge(self, edge):
-        if not all(map(self.graph.is_live, edge)):
-            reply = "refused no-node"
-        else:
-            reply = "ok" if edge in self.graph.edges else "refused no-edge"
-        if edge in self.graph.edges:
-            self.graph.edges.remove(edge)
-            self.moved(edge[1], edge)
-        self.say_change("unlink n%d n%d" % edge, reply)
-
-    def drop(self):
-        node = self.any_node()
-        if not self.graph.is_live(node):
-            reply = "refused no-node"
-        elif any(node in edge for edge in self.graph.edges):
-            reply = "refused in-use"
-        else:
-            reply = "ok"
-            self.graph.labels[node] = None
-            self.moved(node)
-        self.say_change(f"drop n{node}", reply)
+            self.change(("link", v, u))
 
     def spokes(self):
         """Further nodes, of which about half have a label of their own."""
         return [self.add(self.pick.choice(LABELS) if self.pick.randrange(2) else f"s{i}") for i in range(self.pick.randint(*SPOKES) // 2)]
 
     def hub(self):
-        """A node gains many parents and children one by one, changes some of them, and loses all in another order."""
+        """A node gains many parents and children one by one, changes some of them, and loses all in another order or at once."""
         front, hub, back = self.spokes(), self.add(self.pick.choice(LABELS)), self.spokes()
         edges = [(n, hub) for n in front] + [(hub, n) for n in back]
         if self.may_have_rings:
@@ -595,15 +645,14 @@ class Run:
         self.turn(self.pick.sample(edges, len(edges)))
         self.turn(self.pick.choices(edges, k=len(edges) // 2))
         left = [edge for edge in edges if edge in self.graph.edges]
-        self.turn(self.pick.sample(left, len(left)))
+        left = self.pick.sample(left, len(left))
+        ends = [lambda: self.turn(left), lambda: self.change(*[("unlink", *edge) for edge in left], is_group=True), lambda: self.change(("drop", hub))]
+        self.pick.choice(ends)()
 
     def turn(self, edges):
         """Adds each edge, or takes it where it is there."""
         for edge in edges:
-            if edge in self.graph.edges:
-                self.unlink_edge(edge)
-            else:
-                self.link_edge(edge)
+            self.change(("unlink" if edge in self.graph.edges else "link", *edge))
 
     def index(self):
         """The word of an index, and its level where it is an A(k)-index; the index may not be kept."""

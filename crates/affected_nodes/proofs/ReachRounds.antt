@@ -1,19 +1,19 @@
 -- The search for all that is reached, one round after the other.
-use Rattle.std.proofs.Common.{◌≡◌, ℕ, zero, suc, ◌+◌, ◌<◌, ◌≤◌, List, [], length, sym, ◌∙◌, subst, arith, inl, inr, true, Bool, append-nil, take}
+use Rattle.std.proofs.Common.{◌≡◌, ℕ, zero, suc, ◌<◌, ◌≤◌, List, [], length, sym, ◌∙◌, subst, arith, inl, inr, true, Bool, append-nil, take}
 use Rattle.std.specs.Prelude.{nat_eq, slice_index}
 use Rattle.std.specs.List.{IsDistinct, sum_by}
 use Rattle.std.proofs.lemmas.List.Sums.{sum_by-take-le}
 use Rattle.graph_spec.specs.Members.{has, Lists}
 use Rattle.graph_spec.specs.Shapes.{Shape, IsShape, shape_of}
 use Rattle.bisim_spec.specs.Reach.{within_distance, reach}
-use Rattle.bisim_spec.specs.Weights.{weight}
 use Rattle.bisim_spec.proofs.BelowLaws.{count_few}
 use Rattle.bisim_spec.proofs.Reached.{within_cases, reach_start, reach_step}
+use Rattle.change_spec.specs.Costs.{cost}
 use Rattle.graph_update.specs.PendingChanges.{Pending, graph_after}
 use Rattle.one_spec.proofs.Sums.{few_listed}
 use Rattle.affected_nodes.specs.ReadCosts.{children_cost}
 use Rattle.affected_nodes.specs.AffectedSearches.{IsSpread}
-use Rattle.affected_nodes.proofs.SearchCosts.{within_below, read_most}
+use Rattle.affected_nodes.proofs.SearchCosts.{within_below, StartsAt, read_most}
 use Rattle.std.specs.Cmp.{both_ways}
 use Rattle.affected_nodes.proofs.MetChildren.{has_prefix, has_place, place_in, spread_on, spread_longer}
 
@@ -77,18 +77,14 @@ reaching_few s from place met once shape allocated p =
     omega (arith, few, most)
 
 -- the children of all that was met
-pub reaching_most : (a : Pending) (from : ℕ → Bool) (place : ℕ) (met : List ℕ) → IsDistinct nat_eq met → IsShape (shape_of (graph_after a))
-    → ((t : ℕ) → from t ≡ true → t < (shape_of (graph_after a)).size) → IsReaching (shape_of (graph_after a)) from place met
-    → sum_by (children_cost a) met ≤ weight (shape_of (graph_after a)) (reach (shape_of (graph_after a)) from) + 1
-reaching_most a from place met once shape allocated p =
-    let s = shape_of (graph_after a) in
-    read_most a (reach s from) met once (λ n h. (met_below s from place met shape allocated p n h, p.only n h))
+pub reaching_most : (a : Pending) (from : ℕ → Bool) (place : ℕ) (met : List ℕ) → IsDistinct nat_eq met → StartsAt a from → IsReaching (shape_of (graph_after a)) from place met
+    → sum_by (children_cost a) met ≤ cost a.change a.before (reach (shape_of (graph_after a)) from)
+reaching_most a from place met once w p = read_most a from (shape_of (graph_after a)).size met w once p.only
 
 -- and of the first of it
-pub reaching_part : (a : Pending) (from : ℕ → Bool) (place : ℕ) (met : List ℕ) → IsDistinct nat_eq met → IsShape (shape_of (graph_after a))
-    → ((t : ℕ) → from t ≡ true → t < (shape_of (graph_after a)).size) → IsReaching (shape_of (graph_after a)) from place met
-    → sum_by (children_cost a) (take place met) ≤ weight (shape_of (graph_after a)) (reach (shape_of (graph_after a)) from) + 1
-reaching_part a from place met once shape allocated p =
-    let all = reaching_most a from place met once shape allocated p in
+pub reaching_part : (a : Pending) (from : ℕ → Bool) (place : ℕ) (met : List ℕ) → IsDistinct nat_eq met → StartsAt a from → IsReaching (shape_of (graph_after a)) from place met
+    → sum_by (children_cost a) (take place met) ≤ cost a.change a.before (reach (shape_of (graph_after a)) from)
+reaching_part a from place met once w p =
+    let all = reaching_most a from place met once w p in
     let part = sum_by-take-le (children_cost a) met place in
     omega (arith, all, part)

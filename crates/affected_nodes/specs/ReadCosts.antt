@@ -1,9 +1,8 @@
 -- What it costs to read the children of a node in the graph after a change.
-use Rattle.std.specs.Prelude.{ℕ, ◌+◌}
-use Rattle.graph_spec.specs.Shapes.{shape_of}
-use Rattle.bisim_spec.specs.Weights.{child_count}
-use Rattle.graph_update.specs.PendingChanges.{Pending, graph_after, lost_edge, lost_from}
+use Rattle.std.specs.Prelude.{ℕ}
+use Rattle.change_spec.specs.Bounds as bound
+use Rattle.graph_update.specs.PendingChanges.{Pending, graph_after}
 
--- a step, one for each child, and one for a child to which the change takes the edge away
+-- a step, one for each child, and one for each child to which the change takes the edge away
 abbrev pub children_cost : Pending → ℕ → ℕ
-children_cost a n = 1 + child_count (shape_of (graph_after a)) n + lost_from (lost_edge a.change) n
+children_cost a n = bound.children_cost a.before (graph_after a) n

@@ -1,9 +1,10 @@
 // The search.
 ghost use Rattle.std.specs.Prelude.{◌≡◌, ◌+◌, ◌<◌, ◌≤◌, ℕ, IfOk, IsTrue, length};
+ghost use Rattle.graph_spec.specs.Graphs.{is_live};
 ghost use Rattle.graph_spec.specs.Members.{has};
 ghost use Rattle.graph_spec.specs.Shapes.{shape_of};
 ghost use Rattle.bisim_spec.specs.Reach.{within_distance};
-ghost use Rattle.bisim_spec.specs.Weights.{weight};
+ghost use Rattle.change_spec.specs.Costs.{cost};
 ghost use Rattle.graph_update.specs.PendingChanges.{graph_after};
 ghost use Rattle.affected_nodes.specs.AffectedSearches.{AreWithinDistance, within};
 
@@ -52,9 +53,9 @@ impl AffectedNodes {
 }
 
 /// Searches the graph after a change for the nodes to which at most `k` edges lead from its targets. The children of
-/// each of them that is nearer than `k` are read once. It takes at most `w + 1` steps, where `w` is one for each node
-/// that is found, one for each of its parents and one for each of its children, and no step where `k` is 0. Expected
-/// O(t + w + k) for t targets; it takes the memory of the nodes that are found, whatever the size of the graph.
+/// each of them that is nearer than `k` are read once. It takes at most as many steps as the change costs there, as
+/// `reached_nodes`, and no step where `k` is 0. Expected O(t + w + k) for t targets and this cost w; it takes the memory
+/// of the nodes that are found, whatever the size of the graph.
 pub fn affected_nodes<L: Ledger>(
     alloc: Global,
     after: &After<'_>,
@@ -62,11 +63,11 @@ pub fn affected_nodes<L: Ledger>(
     k: u32,
     steps: &mut Steps<L>,
 ) -> Result<AffectedNodes, Memory>
-    requires allocated { (t : ℕ) → IsTrue (has targets.now t) → t < length (graph_after after.now).allocated }
+    requires live { (t : ℕ) → IsTrue (has targets.now t) → IsTrue (is_live (graph_after after.now) t) }
     ensures within_distance { IfOk result (AreWithinDistance (shape_of (graph_after after.now)) (has targets.now) k) }
     ensures none { k ≡ 0 → steps.new ≡ steps.old }
     ensures cost { steps.new ≤ steps.old
-        + weight (shape_of (graph_after after.now)) (within_distance (shape_of (graph_after after.now)) (has targets.now) k) + 1 }
+        + cost after.now.change after.now.before (within_distance (shape_of (graph_after after.now)) (has targets.now) k) }
 {
     // Called for its contract: there is a graph, so that what is affected is among its nodes.
     let _known = after.created();

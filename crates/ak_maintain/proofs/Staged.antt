@@ -1,7 +1,7 @@
 -- What is staged, and what is in force once it is committed.
 use Rattle.std.proofs.Common.{◌≡◌, ℕ, ◌+◌, ◌<◌, List, Option, Some, None, IsSome, length, option_map, refl, sym, ◌∙◌, ap, subst, arith, true≢false}
 use Rattle.graph_spec.specs.Graphs.{Graph}
-use Rattle.graph_spec.specs.Changes.{Change, after}
+use Rattle.change_spec.specs.Steps.{Step, after}
 use Rattle.bisim_spec.specs.declared.kind.Kind.TheVariants.{A}
 use Rattle.bisim_spec.specs.IndexGraphs.{View}
 use Rattle.keyed_quotient.specs.KeyedQuotients.{KeyedQuotient}
@@ -33,7 +33,7 @@ pub kept_total : (k : KeptFamily) (n : ℕ) → length (views_of k.base) ≡ n �
 kept_total k n count = sym (view_total k.base) ∙ count
 
 -- a draft is staged over a family that is the same but for reserved capacity
-pub prepared : (k : KeptFamily) (base : List KeyedQuotient) (d : List KeyedChanges) (g : Graph) (c : Change) → IsReady (meaning_of (Some k)) g → AreSeenAs k.base base
+pub prepared : (k : KeptFamily) (base : List KeyedQuotient) (d : List KeyedChanges) (g : Graph) (c : List Step) → IsReady (meaning_of (Some k)) g → AreSeenAs k.base base
     → ShownFit (after c g) base d → IsPrepared (meaning_of (Some k)) (meaning_of (Some (record { base = base; staged = Some d }))) c g
 prepared k base d g c ready same fits =
     let some = (ready_kept k g ready).some in

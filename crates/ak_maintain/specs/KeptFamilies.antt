@@ -2,7 +2,7 @@
 use Rattle.std.specs.Prelude.{◌≡◌, ◌+◌, ◌≤◌, ℕ, List, [], ◌∷◌, Option, Some, None, map, option_map, length, refl}
 use Rattle.std.specs.Coded.{Coded, code_by, coded×, coded_list, coded_option}
 use Rattle.graph_spec.specs.Graphs.{Graph}
-use Rattle.graph_spec.specs.Changes.{Change}
+use Rattle.change_spec.specs.Steps.{Step}
 use Rattle.bisim_spec.specs.declared.kind.Kind.TheVariants.{A}
 use Rattle.bisim_spec.specs.IndexGraphs.{View}
 use Rattle.quotient.specs.Quotients.{view_of}
@@ -62,5 +62,5 @@ abbrev pub meaning_of : Option KeptFamily → Meaning
 meaning_of kept = record { kind = A; views = kept_views kept; staged = staged_views kept }
 
 -- how many steps a change may take over views of the levels up to k
-abbrev pub TakesFewSteps : List (Option View) → Change → Graph → ℕ → ℕ → Type 0
+abbrev pub TakesFewSteps : List (Option View) → List Step → Graph → ℕ → ℕ → Type 0
 TakesFewSteps views c g steps steps2 = (k : ℕ) → length views ≡ k + 1 → steps2 ≤ steps + most_steps g c k

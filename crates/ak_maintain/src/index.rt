@@ -6,10 +6,11 @@ use kept_index::KeptIndex;
 /// affected nodes move to the blocks of their keys. How much of the graph is read depends on what is within reach of the
 /// change, and not on the size of the graph.
 ///
-/// `prepare_counted` counts at most `8 * k * w` steps, where levels up to `k` are kept, and `w` is one for each node
-/// within `k` edges of the change's target in the graph after it, one for each of its parents and one for each of its
-/// children. Expected O((k + 1) (1 + w log w)), where no table moves and no keys are dropped, as `AkFamily::reserve`
-/// says; it takes the memory of the affected nodes, of what is drafted, and of the capacity for it.
+/// `prepare_counted` counts at most `8 * (k + 1) * w` steps, where levels up to `k` are kept, and `w` is one for each step
+/// of the change, and one for each node within `k` edges of the change's targets in the graph after it and for each of its
+/// parents and children; for a node that goes it is that in the graph before. Expected O((k + 1) (1 + w log w)), where no
+/// table moves and no keys are dropped, as `AkFamily::reserve` says; it takes the memory of the affected nodes, of what is
+/// drafted, and of the capacity for it.
 ///
 /// An index of its own, without an engine:
 ///

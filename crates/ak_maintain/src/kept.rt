@@ -1,8 +1,7 @@
 // The family in force, with what a change to come will make of it.
 ghost use Rattle.std.specs.Prelude.{◌≡◌, ◌+◌, ◌≤◌, ℕ, IfOk, length};
-ghost use Rattle.graph_spec.specs.Changes.{after};
-ghost use Rattle.graph_update.specs.NewChanges.{IsNew};
-ghost use Rattle.graph_update.specs.Verdicts.{change_of};
+ghost use Rattle.change_spec.specs.Steps.{after};
+ghost use Rattle.graph_steps.specs.NewChanges.{IsNew};
 ghost use Rattle.ak_family.specs.LevelDrafts.{AreSeenAs, ShowsFamily};
 ghost use Rattle.level_update.specs.FamilyDrafts.{FamilyFits, ShownFit, most_steps};
 ghost use Rattle.ak_maintain.specs.KeptFamilies.{CanSettle};
@@ -57,10 +56,10 @@ fn drafted<L: Ledger>(
     steps: &mut Steps<L>,
 ) -> Result<AkDraft, Memory>
     requires fits { FamilyFits graph.now.graph family.now }
-    requires new { IsNew (change_of change.now) graph.now.graph }
+    requires new { IsNew change.now graph.now.graph }
     ensures shows { IfOk result (ShowsFamily family.now) }
-    ensures fits { IfOk result (ShownFit (after (change_of change.now) graph.now.graph) family.now) }
-    ensures cost { (k : ℕ) → length family.now ≡ k + 1 → steps.new ≤ steps.old + most_steps graph.now.graph (change_of change.now) k }
+    ensures fits { IfOk result (ShownFit (after change.now graph.now.graph) family.now) }
+    ensures cost { (k : ℕ) → length family.now ≡ k + 1 → steps.new ≤ steps.old + most_steps graph.now.graph change.now k }
 {
     let mut draft = AkDraft::new(alloc, family.k())?;
     draft_change(alloc, family, &mut draft, graph, change, steps)?;
@@ -76,11 +75,11 @@ fn drafted_with_reserved<L: Ledger>(
     steps: &mut Steps<L>,
 ) -> Result<AkDraft, Memory>
     requires fits { FamilyFits graph.now.graph family.old }
-    requires new { IsNew (change_of change.now) graph.now.graph }
+    requires new { IsNew change.now graph.now.graph }
     ensures same { AreSeenAs family.old family.new }
     ensures ready { IfOk result (CanSettle family.new) }
-    ensures fits { IfOk result (ShownFit (after (change_of change.now) graph.now.graph) family.new) }
-    ensures cost { (k : ℕ) → length family.old ≡ k + 1 → steps.new ≤ steps.old + most_steps graph.now.graph (change_of change.now) k }
+    ensures fits { IfOk result (ShownFit (after change.now graph.now.graph) family.new) }
+    ensures cost { (k : ℕ) → length family.old ≡ k + 1 → steps.new ≤ steps.old + most_steps graph.now.graph change.now k }
 {
     let draft = drafted(alloc, family, graph, change, steps)?;
     family.reserve(&draft)?;

@@ -1,11 +1,10 @@
 // The levels of two chains, of which one gets a further parent.
 ghost use Rattle.std.specs.Prelude.{◌≡◌, ◌<◌, IfOk, OnOk};
-ghost use Rattle.graph_update.specs.Verdicts.{change_of};
 ghost use Rattle.index_api.specs.Meanings.{IsReady, IsPrepared};
 ghost use Rattle.ak_maintain.specs.KeptFamilies.{meaning_of};
 
 use super::*;
-use graph_update::{Change, Verdict, judge};
+use graph_update::{Change, Step, Verdict, judge};
 use index_api::PathIndex;
 use label_graph::Graph;
 use px_base::{Limits, NodeId, Steps};
@@ -108,7 +107,7 @@ fn prepare<L: Ledger>(
     requires parts { blank.parts ≡ L.parts }
     requires some { 0 < blank.parts }
     requires ready { IsReady (meaning_of index.old.kept) graph.now.graph }
-    ensures { OnOk result (IsPrepared (meaning_of index.old.kept) (meaning_of index.new.kept) (change_of change.now) graph.now.graph) }
+    ensures { OnOk result (IsPrepared (meaning_of index.old.kept) (meaning_of index.new.kept) change.now graph.now.graph) }
 {
     let Ok(Verdict::New) = judge(graph, change, &Limits::program()) else {
         return Err("not new".into());
@@ -143,10 +142,15 @@ fn prepare_and_commit(
     Ok(())
 }
 
-fn check_kept(rt: &impl Abort, index: &mut AkIndex, graph: &Graph) -> Result<(), Fail>
+fn check_kept(
+    rt: &impl Abort,
+    alloc: Global,
+    index: &mut AkIndex,
+    graph: &Graph,
+) -> Result<(), Fail>
     requires ready { IsReady (meaning_of index.old.kept) graph.now.graph }
 {
-    let change = Change::Link(6, 3);
+    let change = Change::one(alloc, Step::Link(6, 3))?;
     prepare_in_vain(index, graph, &change)?;
     check_before(rt, index);
     prepare_and_commit(rt, index, graph, &change)?;
@@ -156,7 +160,7 @@ fn check_kept(rt: &impl Abort, index: &mut AkIndex, graph: &Graph) -> Result<(),
 
 fn check_index(rt: &impl Abort, alloc: Global, graph: &Graph) -> Result<(), Fail> {
     let mut index = built::<Brand>(alloc, graph, Blank::new(1))?;
-    check_kept(rt, &mut index, graph)
+    check_kept(rt, alloc, &mut index, graph)
 }
 
 // Two chains and an x, with these further edges.

@@ -6,7 +6,7 @@ use Rattle.std.specs.Result.{result_ok}
 use Rattle.graph_spec.specs.declared.refusal.Refusal.{Refusal}
 use Rattle.graph_spec.specs.declared.limits.Limits.{Limits}
 use Rattle.graph_spec.specs.Graphs.{Graph}
-use Rattle.graph_spec.specs.Changes.{Change, apply}
+use Rattle.change_spec.specs.Steps.{Step, apply}
 use Rattle.px_base.specs.Files.{File, content_of}
 use Rattle.px_base.specs.InMemory.{file_of}
 use Rattle.graph_load.specs.Loads.{Outcome, Loads}
@@ -52,7 +52,7 @@ accepted (Ok h) g f = refl
 accepted (Err r) g f = absurd (f r refl)
 
 -- an engine that is open with a graph has the graph after a change that isn't refused
-pub after_change : (c : Change) (o : Opened) (before after : Option Opened) → before ≡ Some o → after ≡ opened_after c before
+pub after_change : (c : List Step) (o : Opened) (before after : Option Opened) → before ≡ Some o → after ≡ opened_after c before
     → ((r : Refusal) → outcome_in c before ≡ Err r → ⊥) → apply c o.graph o.limits ≡ Ok (graph_in after)
 after_change c o before after b a f =
     accepted (apply c o.graph o.limits) o.graph (λ r e. f r (ap (outcome_in c) b ∙ e)) ∙ ap (λ x. Ok (graph_in x)) (sym (a ∙ ap (opened_after c) b))

@@ -1,8 +1,8 @@
 -- What the program asks, from the text of the triples to the nodes.
-use Rattle.std.specs.Prelude.{ℕ, ◌≡◌, List, Ok}
+use Rattle.std.specs.Prelude.{ℕ, ◌≡◌, List, [], ◌∷◌, Ok}
 use Rattle.graph_spec.specs.ProgramLimits.{program_limits}
 use Rattle.graph_spec.specs.Graphs.{Graph}
-use Rattle.graph_spec.specs.Changes.{apply, link}
+use Rattle.change_spec.specs.Steps.{apply, link}
 use Rattle.graph_spec.specs.Shapes.{shape_of}
 use Rattle.graph_load.specs.Loads as outcome
 use Rattle.path_spec.specs.Trees.{Expr}
@@ -16,7 +16,7 @@ pub record AreAnswersOfTexts (triples path nodes : List ℕ) : Type 0 where
   pub loads : outcome.Loads program_limits triples (outcome.loaded graph)
   -- that graph with the edge
   pub linked : Graph
-  pub links : apply (link 3 0) graph program_limits ≡ Ok linked
+  pub links : apply (link 3 0 ∷ []) graph program_limits ≡ Ok linked
   -- what the path spells
   pub expr : Expr
   pub spells : Spells path expr

@@ -12,7 +12,7 @@ ghost use Rattle.example_library.specs.Questions.{AreAnswersOfTexts};
 
 use any_index::{AnyIndex, full_engine};
 use graph_load::load;
-use graph_update::Change;
+use graph_update::{Change, Step};
 use index_api::Via;
 use label_graph::Graph;
 use path_query::PathExpr;
@@ -70,7 +70,8 @@ fn link_and_ask(alloc: Global, triples: &str, path: &str) -> Option<Bits>
     let expr = PathExpr::parse(alloc, path.as_bytes(), &Limits::program()).ok()?;
     let mut engine = full_engine(alloc).ok()?;
     engine.open(graph, Limits::program(), 2).ok()?;
-    engine.update(alloc, Change::Link(3, 0)).ok()?;
+    let change = Change::one(alloc, Step::Link(3, 0)).ok()?;
+    engine.update(alloc, change).ok()?;
     ask::<Brand>(alloc, &mut engine, &expr, Blank::new(1))
 }
 

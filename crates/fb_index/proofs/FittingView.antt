@@ -1,8 +1,8 @@
 -- The view of the forward and backward index as one that fits.
-use Rattle.std.proofs.Common.{◌≡◌, ℕ, zero, suc, ◌<◌, Bool, true, false, [], ◌∷◌, Option, Some, None, IsSome, arith, refl, sym, ap, subst, true≢false}
+use Rattle.std.proofs.Common.{◌≡◌, ℕ, zero, suc, ◌<◌, Bool, true, false, List, [], ◌∷◌, Option, Some, None, IsSome, arith, refl, sym, ap, subst, true≢false}
 use Rattle.std.specs.Prelude.{is_none, is_some}
 use Rattle.graph_spec.specs.Graphs.{Graph}
-use Rattle.graph_spec.specs.Changes.{Change, after}
+use Rattle.change_spec.specs.Steps.{Step, after}
 use Rattle.bisim_spec.specs.declared.kind.Kind.TheVariants.{Fb}
 use Rattle.bisim_spec.specs.IndexGraphs.{View}
 use Rattle.bisim_spec.specs.Fits.{Fits, FitsAt, FitsFb, view_at}
@@ -26,7 +26,7 @@ computed g summary q staged e n fits = record {
 }
 
 -- a view that isn't computed is prepared
-pub prepared : (summary : Option Quotient) (staged : Bool) (c : Change) (g : Graph) → IsPrepared (meaning_of summary staged) (meaning_of summary true) c g
+pub prepared : (summary : Option Quotient) (staged : Bool) (c : List Step) (g : Graph) → IsPrepared (meaning_of summary staged) (meaning_of summary true) c g
 prepared summary staged c g = record {
   kind = refl;
   views = refl;

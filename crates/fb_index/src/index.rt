@@ -1,7 +1,6 @@
 // The index.
 ghost use Rattle.std.specs.Prelude.{◌≡◌, ◌≤◌, IfOk, OnOk, OnErr, IsSome, None, Ok, true, false};
-ghost use Rattle.graph_update.specs.NewChanges.{IsNew};
-ghost use Rattle.graph_update.specs.Verdicts.{change_of};
+ghost use Rattle.graph_steps.specs.NewChanges.{IsNew};
 ghost use Rattle.index_api.specs.Meanings.{IsReady, IsBuilt, IsPrepared};
 ghost use Rattle.fb_index.specs.FbMeanings.{fb_meaning, meaning_of};
 
@@ -81,8 +80,8 @@ impl PathIndex for FbIndex {
     // A view is staged that isn't computed. It takes no memory.
     fn prepare(&mut self, _graph: &Graph, _change: &Change) -> Result<(), Memory>
         requires ready { IsReady (fb_meaning self.old) _graph.now.graph }
-        requires new { IsNew (change_of _change.now) _graph.now.graph }
-        ensures staged { OnOk result (IsPrepared (fb_meaning self.old) (fb_meaning self.new) (change_of _change.now) _graph.now.graph) }
+        requires new { IsNew _change.now _graph.now.graph }
+        ensures staged { OnOk result (IsPrepared (fb_meaning self.old) (fb_meaning self.new) _change.now _graph.now.graph) }
         ensures err { OnErr result (fb_meaning self.new ≡ fb_meaning self.old) }
         ensures bare { (self.new.is_staged ≡ true) × (self.new.summary ≡ self.old.summary) }
         ensures fine { result ≡ Ok tt }

@@ -1,3 +1,6 @@
 pub mod EdgeLists
 pub mod EffectLaws
-pub mod OneStep
+pub mod GoneNodes
+pub mod NamedPairs
+pub mod GoneEdges
+pub mod StepEffects

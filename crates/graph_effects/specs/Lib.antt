@@ -1,3 +1,3 @@
 pub mod Effects
 pub mod EffectBlocks
-pub mod OneChange
+pub mod StepEffects

@@ -2,7 +2,9 @@
 //! graph; with laws of partitions and supports that follow it.
 #![tactic(auto)]
 
+mod edges;
 mod effects;
-mod one_change;
+mod nodes;
+mod stepping;
 
 pub use effects::Effects;

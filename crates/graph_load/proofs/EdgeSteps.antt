@@ -2,7 +2,7 @@
 use Rattle.std.proofs.Common.{◌≡◌, ℕ, List, ◌++◌, Some, ap, ◌∙◌, append_assoc}
 use Rattle.std.specs.Prelude.{unwrap_or}
 use Rattle.graph_spec.specs.declared.limits.Limits.{Limits}
-use Rattle.graph_spec.specs.Changes.{link}
+use Rattle.change_spec.specs.Steps.{link}
 use Rattle.triples_read.specs.declared.term.Term.{Term}
 use Rattle.triples_read.specs.declared.term.Triple.{Triple}
 use Rattle.graph_load.specs.declared.loader.Loader.{Loader}

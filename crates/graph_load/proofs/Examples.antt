@@ -10,6 +10,7 @@ use Rattle.graph_spec.specs.declared.refusal.Refusal.TheVariants.{Limit}
 use Rattle.graph_spec.specs.ProgramLimits.{program_limits}
 use Rattle.graph_spec.specs.Graphs.{Graph, edge_cmp, has_edge}
 use Rattle.graph_spec.specs.Changes.{with_edge, edge_fits}
+use Rattle.change_spec.specs.Steps.{and_then}
 use Rattle.graph_spec.proofs.EdgeOrder.{edge_cmp_total}
 use Rattle.triples_read.specs.Lines.{xsd_string}
 use Rattle.triples_read.specs.declared.term.Term.{Term}
@@ -56,12 +57,16 @@ second_fits =
     (set.len-insert edge_cmp_total set.empty (0, 1) ∙ ap (λ x. cond x (set.len nodes.edges) (set.len nodes.edges + 1)) (set.contains-empty edge_cmp (0, 1)) ∙ ap (λ n. n + 1) (set.len-empty edge_cmp))
     ∙ or-true (has_edge (with_edge nodes 0 1) 1 2)
 
+-- what a change of one step comes to
+abbrev alone : Result Graph Refusal → Result Graph Refusal
+alone r = and_then r (λ h. Ok h)
+
 -- one triple gives three nodes and two edges
 loads_one : with_triple program_limits one nothing_loaded ≡ Ok after_one
 unfolding encode
 loads_one =
-    ap (λ x. then_do (then_do (with_graph (with_triples nodes []) (if x then Ok (with_edge nodes 0 1) else Err Limit)) (onto_term program_limits 1 b)) last) first_fits
-    ∙ ap (λ x. then_do (with_graph (with_triples (with_edge nodes 0 1) []) (if x then Ok (with_edge (with_edge nodes 0 1) 1 2) else Err Limit)) last) second_fits
+    ap (λ x. then_do (then_do (with_graph (with_triples nodes []) (alone (if x then Ok (with_edge nodes 0 1) else Err Limit))) (onto_term program_limits 1 b)) last) first_fits
+    ∙ ap (λ x. then_do (with_graph (with_triples (with_edge nodes 0 1) []) (alone (if x then Ok (with_edge (with_edge nodes 0 1) 1 2) else Err Limit))) last) second_fits
 
 -- the same triple again adds nothing
 loads_again : with_triple program_limits one after_one ≡ Ok after_one

@@ -8,8 +8,7 @@ use Rattle.std.proofs.lemmas.Bool.Decides.{nat_tests}
 use Rattle.std.proofs.lemmas.List.{map-append}
 use Rattle.std.proofs.lemmas.List.Quantifiers.{position-Some}
 use Rattle.std.proofs.lemmas.Option.{unwrap_or-slice_get}
-use Rattle.graph_update.specs.declared.changes.Change.{Change}
-use Rattle.graph_update.specs.declared.changes.Change.TheVariants.{Node}
+use Rattle.change_spec.specs.Steps.{Step, node}
 use Rattle.term_table.proofs.Positions.{position-cons}
 use Rattle.graph_load.specs.TripleGraphs.{predicate_label}
 use Rattle.graph_load.specs.TableIndexes.{stands, AddLabels, predicate_at, with_predicate}
@@ -124,7 +123,7 @@ stands_same same is (z ∷ zs) x y (suc k) h = ap (λ b. not (same x z) && b) (s
 pub inserted_key : {K : Type 0} (eq : K → K → Bool) (ks : List K) (k : K) → list_any (eq k) ks ≡ false → insert_key eq ks k ≡ ks ++ k ∷ []
 inserted_key eq ks k h = ap (λ b. if b then ks else ks ++ k ∷ []) h
 
-pub added_labels : (es : List (List ℕ × Change)) (iri : List ℕ) (c : Change) → AddLabels es → c ≡ Node (predicate_label iri) → AddLabels (es ++ (iri, c) ∷ [])
+pub added_labels : (es : List (List ℕ × List Step)) (iri : List ℕ) (c : List Step) → AddLabels es → c ≡ node (predicate_label iri) ∷ [] → AddLabels (es ++ (iri, c) ∷ [])
 added_labels [] iri c h e = (e, tt)
 added_labels (x ∷ xs) iri c h e = (h.0, added_labels xs iri c h.1 e)
 

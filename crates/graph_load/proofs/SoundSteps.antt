@@ -5,7 +5,7 @@ use Rattle.std.specs.List.{list_any, AllByRecursion}
 use Rattle.std.specs.Map.{keys_of}
 use Rattle.std.proofs.lemmas.List.{length-map, length_push}
 use Rattle.graph_spec.specs.declared.limits.Limits.{Limits}
-use Rattle.graph_spec.specs.Changes.{node, link, apply}
+use Rattle.change_spec.specs.Steps.{node, link, apply}
 use Rattle.label_graph.specs.ReservedGraphs.{ReservedGraph, none_reserved}
 use Rattle.triples_read.specs.declared.term.Term.{Term}
 use Rattle.graph_load.specs.declared.known.Key.{Key}
@@ -30,7 +30,7 @@ more_within m n p q mp nq (k ∷ ks) h = (
 
 -- a term becomes a node
 pub term_steps : (limits : Limits) (x : Term) (old : Loader) (h : ReservedGraph) (n : ℕ) (terms : List (Term × ℕ)) → IsSoundLoader old → number_of old.terms x ≡ None
-    → apply (node (term_label x)) old.graph.graph limits ≡ Ok h.graph → h.reserved ≡ none_reserved → n ≡ length old.graph.graph.allocated → terms ≡ old.terms ++ (x, n) ∷ []
+    → apply (node (term_label x) ∷ []) old.graph.graph limits ≡ Ok h.graph → h.reserved ≡ none_reserved → n ≡ length old.graph.graph.allocated → terms ≡ old.terms ++ (x, n) ∷ []
     → LoaderStep (need limits x) old (record old { graph = h; terms = terms })
 term_steps limits x old h n terms sound none made reserved number added =
     let exact : terms ≡ old.terms ++ (x, length old.graph.graph.allocated) ∷ [] = added ∙ ap (λ m. old.terms ++ (x, m) ∷ []) number in
@@ -69,7 +69,7 @@ interned false xs x = let longer = length_push xs x in record { begins = (x ∷ 
 
 -- the node of a triple is added
 pub node_steps : (limits : Limits) (iri : List ℕ) (old : Loader) (h : ReservedGraph) (predicates : List (List ℕ)) → IsSoundLoader old
-    → apply (node (predicate_label iri)) old.graph.graph limits ≡ Ok h.graph → h.reserved ≡ none_reserved → predicates ≡ with_predicate old.predicates iri
+    → apply (node (predicate_label iri) ∷ []) old.graph.graph limits ≡ Ok h.graph → h.reserved ≡ none_reserved → predicates ≡ with_predicate old.predicates iri
     → LoaderStep (changed limits (node (predicate_label iri))) old (record old { graph = h; predicates = predicates })
 node_steps limits iri old h predicates sound made reserved added =
     let is : Interned old.predicates predicates = subst (Interned old.predicates) (sym added) (interned (list_any (bytes_eq iri) old.predicates) old.predicates iri) in
@@ -90,7 +90,7 @@ node_steps limits iri old h predicates sound made reserved added =
     }
 
 -- an edge is added
-pub link_steps : (limits : Limits) (u v : ℕ) (old : Loader) (h : ReservedGraph) → IsSoundLoader old → apply (link u v) old.graph.graph limits ≡ Ok h.graph → h.reserved ≡ none_reserved
+pub link_steps : (limits : Limits) (u v : ℕ) (old : Loader) (h : ReservedGraph) → IsSoundLoader old → apply (link u v ∷ []) old.graph.graph limits ≡ Ok h.graph → h.reserved ≡ none_reserved
     → LoaderStep (changed limits (link u v)) old (record old { graph = h })
 link_steps limits u v old h sound made reserved =
     let same = link_made u v old.graph.graph limits h.graph made in

@@ -2,8 +2,7 @@
 use Rattle.std.specs.Prelude.{◌≡◌, ℕ, zero, suc, Bool, false, not, ◌&&◌, List, [], ◌∷◌, ◌++◌, slice_get, unwrap_or, bytes_eq, nat_eq, if◌then◌else◌}
 use Rattle.std.specs.List.{list_any, AllByRecursion}
 use Rattle.std.specs.Map.{keys_of}
-use Rattle.graph_update.specs.declared.changes.Change.{Change}
-use Rattle.graph_update.specs.declared.changes.Change.TheVariants.{Node}
+use Rattle.change_spec.specs.Steps.{Step, node}
 use Rattle.triples_read.specs.declared.term.Term.{Term}
 use Rattle.triples_read.specs.declared.term.Triple.{Triple}
 use Rattle.graph_load.specs.declared.known.Key.{Key}
@@ -18,8 +17,8 @@ abbrev pub with_predicate : List (List ℕ) → List ℕ → List (List ℕ)
 with_predicate predicates iri = if list_any (bytes_eq iri) predicates then predicates else predicates ++ iri ∷ []
 
 -- beside each predicate stands the change that adds the node of a triple with it
-abbrev pub AddLabels : List (List ℕ × Change) → Type 0
-AddLabels entries = AllByRecursion (λ e. e.1 ≡ Node (predicate_label e.0)) entries
+abbrev pub AddLabels : List (List ℕ × List Step) → Type 0
+AddLabels entries = AllByRecursion (λ e. e.1 ≡ node (predicate_label e.0) ∷ []) entries
 
 abbrev pub same_key : Key → Key → Bool
 same_key k l = nat_eq k.subject l.subject && (nat_eq k.predicate l.predicate && nat_eq k.object l.object)

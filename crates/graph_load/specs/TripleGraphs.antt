@@ -6,7 +6,7 @@ use Rattle.std.specs.List.{list_any}
 use Rattle.graph_spec.specs.declared.limits.Limits.{Limits}
 use Rattle.graph_spec.specs.declared.refusal.Refusal.{Refusal}
 use Rattle.graph_spec.specs.Graphs.{Graph, empty_graph}
-use Rattle.graph_spec.specs.Changes.{Change, node, link, apply}
+use Rattle.change_spec.specs.Steps.{Step, node, link, apply}
 use Rattle.term_table.specs.Terms.{same_term, number_of}
 use Rattle.triples_read.specs.declared.term.Term.{Term}
 use Rattle.triples_read.specs.declared.term.Term.TheVariants.{Iri, Blank, Literal}
@@ -49,8 +49,9 @@ abbrev pub with_graph : LoadState → Result Graph Refusal → Result LoadState 
 with_graph l (Ok g) = Ok (record l { graph = g })
 with_graph l (Err r) = Err r
 
-abbrev pub changed : Limits → Change → LoadState → Result LoadState Refusal
-changed limits c l = with_graph l (apply c l.graph limits)
+-- the graph after a change of that one step
+abbrev pub changed : Limits → Step → LoadState → Result LoadState Refusal
+changed limits s l = with_graph l (apply (s ∷ []) l.graph limits)
 
 -- the term gets the next number
 abbrev pub numbered : Term → ℕ → LoadState → LoadState

@@ -1,8 +1,7 @@
 // Nodes and edges are added within the limits.
 ghost use Rattle.std.specs.Prelude.{◌≡◌, ◌<◌, ◌^◌, ℕ, length, IfOk, OnOk, IsErrOf, Ok};
-ghost use Rattle.graph_spec.specs.Changes.{apply};
+ghost use Rattle.change_spec.specs.Steps.{apply};
 ghost use Rattle.label_graph.specs.ReservedGraphs.{none_reserved};
-ghost use Rattle.graph_update.specs.Verdicts.{change_of};
 ghost use Rattle.graph_load.specs.Refused.{IsRefused};
 ghost use Rattle.graph_load.specs.declared.limited_changes.Stop.TheVariants.{Memory as NoMemory};
 
@@ -36,9 +35,9 @@ pub(crate) fn make(
     limits: &Limits,
 ) -> Result<(), Stop>
     requires reserved { graph.old.reserved ≡ none_reserved }
-    ensures made { OnOk result (apply (change_of change.now) graph.old.graph limits.now ≡ Ok graph.new.graph) }
+    ensures made { OnOk result (apply change.now graph.old.graph limits.now ≡ Ok graph.new.graph) }
     ensures reserved { OnOk result (graph.new.reserved ≡ none_reserved) }
-    ensures limit { IsErrOf result Stop.Limit → IsRefused (apply (change_of change.now) graph.old.graph limits.now) }
+    ensures limit { IsErrOf result Stop.Limit → IsRefused (apply change.now graph.old.graph limits.now) }
 {
     match judge(graph, change, limits) {
         Ok(Verdict::New) => {
@@ -59,10 +58,10 @@ pub(crate) fn add_node(
     limits: &Limits,
 ) -> Result<NodeId, Stop>
     requires reserved { graph.old.reserved ≡ none_reserved }
-    ensures made { OnOk result (apply (change_of node.now) graph.old.graph limits.now ≡ Ok graph.new.graph) }
+    ensures made { OnOk result (apply node.now graph.old.graph limits.now ≡ Ok graph.new.graph) }
     ensures reserved { OnOk result (graph.new.reserved ≡ none_reserved) }
     ensures number { IfOk result (λ n. n ≡ length graph.old.graph.allocated) }
-    ensures limit { IsErrOf result Stop.Limit → IsRefused (apply (change_of node.now) graph.old.graph limits.now) }
+    ensures limit { IsErrOf result Stop.Limit → IsRefused (apply node.now graph.old.graph limits.now) }
 {
     let number = graph.created();
     make(alloc, graph, node, limits)?;

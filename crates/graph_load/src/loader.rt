@@ -1,6 +1,6 @@
 // What a load has taken.
 ghost use Rattle.std.specs.Prelude.{◌≡◌, ℕ, List, [], length, position, bytes_eq, Some, None, Ok, OnOk, IfOk, IfSome, IsErrOf, false};
-ghost use Rattle.graph_spec.specs.Changes.{node, link};
+ghost use Rattle.change_spec.specs.Steps.{node, link};
 ghost use Rattle.graph_load.specs.TripleGraphs.{need, changed, linked, with_triple, nothing_loaded, predicate_label};
 ghost use Rattle.term_table.specs.Terms.{number_of, place_in};
 ghost use Rattle.term_table.specs.FoundTerms.{IsFound, IsFoundAs};
@@ -16,7 +16,7 @@ use crate::limited_changes::{Stop, add_node, make};
 use crate::loader::ahead::Hints;
 use crate::predicates::Predicates;
 use crate::term_changes::TermChanges;
-use graph_update::Change;
+use graph_update::{Change, Step};
 use label_graph::Graph;
 use px_base::{Limits, Memory, NodeId, Text};
 use std::alloc::Global;
@@ -185,7 +185,8 @@ impl Loader {
         ensures terms { OnOk result (self.new.terms ≡ self.old.terms) }
         ensures limit { IsErrOf result Stop.Limit → IsStopped (changed limits.now (link from to)) self.old }
     {
-        make(alloc, &mut self.graph, &Change::Link(from, to), limits)
+        let change = Change::one(alloc, Step::Link(from, to))?;
+        make(alloc, &mut self.graph, &change, limits)
     }
 
     // Makes a node of the object of a triple, and adds the edges from its subject to its own node and on to

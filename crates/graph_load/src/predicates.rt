@@ -1,10 +1,11 @@
 // The predicates of the triples that are loaded.
 ghost use Rattle.std.specs.Prelude.{◌≡◌, ◌<◌, ◌^◌, ◌++◌, ◌∷◌, [], length, position, bytes_eq, Some, None, OnOk, IfOk, IfSome, false, true};
 ghost use Rattle.std.specs.List.{list_any};
+ghost use Rattle.change_spec.specs.Steps.{node};
 ghost use Rattle.graph_load.specs.TripleGraphs.{predicate_label};
 ghost use Rattle.graph_load.specs.TableIndexes.{predicate_at, with_predicate};
 
-use graph_update::Change;
+use graph_update::{Change, Step};
 use indexmap::IndexMap;
 use px_base::{Memory, Text};
 use std::alloc::Global;
@@ -32,10 +33,10 @@ impl Model for Predicates {
 
 // The change that adds the node of a triple with the predicate.
 fn node_by(alloc: Global, predicate: &Text) -> Result<Change, Memory>
-    ensures { IfOk result (λ c. c ≡ Change.Node (predicate_label predicate.now)) }
+    ensures { IfOk result (λ c. c ≡ node (predicate_label predicate.now) ∷ []) }
 {
     let term = Term::Iri(predicate.copy(alloc)?);
-    Ok(Change::Node(write_term(alloc, &term)?))
+    Change::one(alloc, Step::Node(write_term(alloc, &term)?))
 }
 
 impl Predicates {
@@ -88,7 +89,7 @@ impl Predicates {
     /// The change that adds the node of a triple with the predicate at that place.
     pub(crate) fn node(&self, place: u32) -> &Change
         requires { place < length self.now }
-        ensures { result.now ≡ Change.Node (predicate_label (predicate_at self.now place)) }
+        ensures { result.now ≡ node (predicate_label (predicate_at self.now place)) ∷ [] }
     {
         let Some((_, node)) = self.table.get_index(place as usize) else {
             unreachable!()

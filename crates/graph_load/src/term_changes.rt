@@ -1,8 +1,9 @@
 // The labels of terms.
-ghost use Rattle.std.specs.Prelude.{◌≡◌, IfOk, codes};
+ghost use Rattle.std.specs.Prelude.{◌≡◌, ◌∷◌, [], IfOk, codes};
+ghost use Rattle.change_spec.specs.Steps.{node};
 ghost use Rattle.graph_load.specs.TripleGraphs.{term_label};
 
-use graph_update::Change;
+use graph_update::{Change, Step};
 use px_base::{Memory, Text};
 use std::alloc::Global;
 use std::marker::Model;
@@ -28,9 +29,12 @@ impl Model for TermChanges {
 }
 
 fn labelled(alloc: Global, label: &str) -> Result<Change, Memory>
-    ensures { IfOk result (λ c. c ≡ Change.Node label.now) }
+    ensures { IfOk result (λ c. c ≡ node label.now ∷ []) }
 {
-    Ok(Change::Node(Text::from_string(String::from_str(alloc, label)?)))
+    Change::one(
+        alloc,
+        Step::Node(Text::from_string(String::from_str(alloc, label)?)),
+    )
 }
 
 impl TermChanges {
@@ -45,7 +49,7 @@ impl TermChanges {
 
     /// The change that adds the node of the term.
     pub(crate) fn node(&self, term: &Term) -> &Change
-        ensures { result.now ≡ Change.Node (term_label term.now) }
+        ensures { result.now ≡ node (term_label term.now) ∷ [] }
     {
         match term {
             Term::Iri(_) => &self.iri,

@@ -1,7 +1,7 @@
-pub mod Links
-pub mod Verdicts
-pub mod NeighbourLists
-pub mod ChangedEdges
-pub mod ChangedLabels
-pub mod ChangedGraphs
-pub mod EdgeCounts
+pub mod LabelLaws
+pub mod Mapped
+pub mod PendingLaws
+pub mod ShownLaws
+mod StagedSteps
+mod DroppedEdges
+mod PlannedSteps

@@ -1,4 +1,3 @@
-pub mod NewChanges
-pub mod Verdicts
-pub mod StagedChanges
+pub mod ShownNeighbours
 pub mod PendingChanges
+pub mod StagedChanges

@@ -1,63 +1,57 @@
 -- A graph, and a change that is to be made in it.
-use Rattle.std.specs.Prelude.{ℕ, ◌≡◌, ◌⊎◌, nat_eq, if◌then◌else◌, List, Option, Some, None, refl}
-use Rattle.std.specs.Coded.{Coded, code_by, coded×, coded⊎, coded_ℕ, coded_list}
-use Rattle.std.proofs.Common.{inl, inr}
-use Rattle.graph_spec.specs.Graphs.{Graph, graph_code}
-use Rattle.graph_spec.specs.Changes.{Change, node, link, unlink, drop, after}
+use Rattle.std.specs.Prelude.{◌≡◌, ℕ, zero, suc, ◌<◌, ◌≤◌, ◌^◌, ◌&&◌, not, nat_lt, Bool, false, List, [], ◌∷◌, length, Option, Some, None, refl}
+use Rattle.std.specs.Coded.{Coded, code_by, coded×}
+use Rattle.bisim_spec.specs.declared.sides.Side.{Side}
+use Rattle.bisim_spec.specs.declared.sides.Side.TheVariants.{Parents, Children}
+use Rattle.graph_spec.specs.Graphs.{Graph, IsGraph, graph_code}
+use Rattle.change_spec.specs.Steps.{Step, node, link, unlink, drop, relabel, after}
+use Rattle.change_spec.specs.Codes.{steps_code}
+use Rattle.change_spec.specs.Named.{is_dropped}
+use Rattle.change_spec.specs.Lost.{lost_onto, lost_from}
+use Rattle.graph_steps.specs.NewChanges.{IsNew}
 
 pub record Pending : Type 0 where
   -- the graph as it is
   pub before : Graph
-  pub change : Change
-
--- a change is stored as its label, as its pair of nodes, or as its node
-abbrev ChangeParts : Type 0
-ChangeParts = List ℕ ⊎ ((ℕ × ℕ) ⊎ ((ℕ × ℕ) ⊎ ℕ))
-
-abbrev change_parts : Change → ChangeParts
-change_parts (node t) = inl t
-change_parts (link u v) = inr (inl (u, v))
-change_parts (unlink u v) = inr (inr (inl (u, v)))
-change_parts (drop u) = inr (inr (inr u))
-
-abbrev with_parts : ChangeParts → Change
-with_parts (inl t) = node t
-with_parts (inr (inl e)) = link e.0 e.1
-with_parts (inr (inr (inl e))) = unlink e.0 e.1
-with_parts (inr (inr (inr u))) = drop u
-
-pub whole_again : (c : Change) → with_parts (change_parts c) ≡ c
-whole_again (node t) = refl
-whole_again (link u v) = refl
-whole_again (unlink u v) = refl
-whole_again (drop u) = refl
-
-abbrev pub change_code : Coded Change
-change_code =
-    code_by ChangeParts (coded⊎ (coded_list coded_ℕ) (coded⊎ (coded× coded_ℕ coded_ℕ) (coded⊎ (coded× coded_ℕ coded_ℕ) coded_ℕ)))
-    change_parts with_parts whole_again
+  pub change : List Step
 
 abbrev pub pending_code : Coded Pending
 pending_code =
-    code_by (Graph × Change) (coded× graph_code change_code) (λ p. (p.before, p.change)) (λ p. record { before = p.0; change = p.1 }) (λ _. refl)
+    code_by (Graph × List Step) (coded× graph_code steps_code) (λ p. (p.before, p.change)) (λ p. record { before = p.0; change = p.1 }) (λ _. refl)
 
 -- the graph as the change will leave it
 abbrev pub graph_after : Pending → Graph
 graph_after p = after p.change p.before
 
--- the edge that the change takes away
-abbrev pub lost_edge : Change → Option (ℕ × ℕ)
-lost_edge (node t) = None
-lost_edge (link u v) = None
-lost_edge (unlink u v) = Some (u, v)
-lost_edge (drop u) = None
+-- how many edges that join the node to neighbours on this side are taken away
+abbrev pub lost_at : Side → Pending → ℕ → ℕ
+lost_at Parents p n = lost_onto p.before (graph_after p) n
+lost_at Children p n = lost_from p.before (graph_after p) n
 
--- how many edges from the node are taken away
-abbrev pub lost_from : Option (ℕ × ℕ) → ℕ → ℕ
-lost_from None n = 0
-lost_from (Some e) n = if nat_eq n e.0 then 1 else 0
+-- the number is allocated by steps that lead from one graph to the other
+abbrev pub is_added : Graph → Graph → ℕ → Bool
+is_added g g2 n = not (nat_lt n (length g.allocated)) && nat_lt n (length g2.allocated)
 
--- how many edges to the node are taken away
-abbrev pub lost_onto : Option (ℕ × ℕ) → ℕ → ℕ
-lost_onto None n = 0
-lost_onto (Some e) n = if nat_eq n e.1 then 1 else 0
+-- the label of the step that adds a node behind so many others
+abbrev pub nth_label : List Step → ℕ → Option (List ℕ)
+nth_label [] k = None
+nth_label (node t ∷ ss) zero = Some t
+nth_label (node t ∷ ss) (suc k) = nth_label ss k
+nth_label (link u v ∷ ss) k = nth_label ss k
+nth_label (unlink u v ∷ ss) k = nth_label ss k
+nth_label (drop u ∷ ss) k = nth_label ss k
+nth_label (relabel u t ∷ ss) k = nth_label ss k
+
+-- the step adds no node, or another stands in front
+abbrev pub IsBehind : Step → ℕ → Type 0
+IsBehind s k = (t : List ℕ) → s ≡ node t → 0 < k
+
+-- What a pending change keeps: it is new to the graph, these are the texts of the graph's labels, the graph is sound, so many numbers will be
+-- allocated, and where no step may drop a node none does.
+pub record IsPending (c : List Step) (g : Graph) (texts : List (List ℕ)) (created : ℕ) (drops : Bool) : Type 0 where
+  pub new : IsNew c g
+  pub seen : texts ≡ g.seen
+  pub sound : IsGraph g
+  pub created_is : created ≡ length (after c g).allocated
+  pub few : created ≤ 2 ^ 30
+  pub stays : drops ≡ false → (n : ℕ) → is_dropped c n ≡ false

@@ -1,35 +1,90 @@
 -- A change that is staged, and what it does once it is made.
-use Rattle.std.specs.Prelude.{◌≡◌, length}
-use Rattle.graph_spec.specs.Graphs.{Graph}
-use Rattle.graph_spec.specs.Changes.{Change, node, link, unlink, drop}
-use Rattle.label_graph.specs.ReservedGraphs.{ReservedGraph, Reservation, none_reserved, label_reserved, pair_reserved}
-use Rattle.graph_update.specs.declared.changes.Applied.{Applied}
-use Rattle.graph_update.specs.declared.changes.Applied.TheVariants.{Added, Done}
+use Rattle.std.specs.Prelude.{◌≡◌, ℕ, ◌-◌, ◌<◌, ◌^◌, true, false, ⊤, List, [], ◌∷◌, length, map, if◌then◌else◌, IsTrue, Option, Some, None}
+use Rattle.std.specs.FinSet as set
+use Rattle.graph_spec.specs.Graphs.{Graph, is_live, has_edge}
+use Rattle.graph_spec.specs.Changes.{with_edge, without_edge}
+use Rattle.change_spec.specs.Steps.{Step, node, link, unlink, drop, relabel, made, is_idle, after, without_node}
+use Rattle.label_graph.specs.ReservedGraphs.{ReservedGraph, AddsReserved, without_reserved_pair, has_pair}
+use Rattle.graph_update.specs.declared.staging.Applied.{Applied}
 use Rattle.graph_update.specs.declared.staging.Plan.{Plan}
 use Rattle.graph_update.specs.declared.staging.Plan.TheVariants.{Node, Link, Unlink, Drop}
 
--- how a staged change is made; a new node's label is the one that the graph has reserved
-abbrev pub plan_of : Change → Plan
-plan_of (node t) = Node
-plan_of (link u v) = Link u v
-plan_of (unlink u v) = Unlink u v
-plan_of (drop u) = Drop u
+-- the steps that aren't idle at their place
+abbrev pub effective : List Step → Graph → List Step
+effective [] g = []
+effective (s ∷ ss) g = if is_idle s g then effective ss (made s g) else s ∷ effective ss (made s g)
 
--- what is reserved is what the change needs, and no more; to take something away needs nothing
-abbrev pub IsReservedFor : Change → Reservation → Type 0
-IsReservedFor (node t) reserved = reserved ≡ label_reserved t
-IsReservedFor (link u v) reserved = reserved ≡ pair_reserved u v
-IsReservedFor (unlink u v) reserved = reserved ≡ none_reserved
-IsReservedFor (drop u) reserved = reserved ≡ none_reserved
+-- the labels and the edges that steps need, in their order
+abbrev pub needed_labels : List Step → List (List ℕ)
+needed_labels [] = []
+needed_labels (node t ∷ ss) = t ∷ needed_labels ss
+needed_labels (link u v ∷ ss) = needed_labels ss
+needed_labels (unlink u v ∷ ss) = needed_labels ss
+needed_labels (drop u ∷ ss) = needed_labels ss
+needed_labels (relabel u t ∷ ss) = needed_labels ss
+
+abbrev pub needed_pairs : List Step → List (ℕ × ℕ)
+needed_pairs [] = []
+needed_pairs (node t ∷ ss) = needed_pairs ss
+needed_pairs (link u v ∷ ss) = (u, v) ∷ needed_pairs ss
+needed_pairs (unlink u v ∷ ss) = needed_pairs ss
+needed_pairs (drop u ∷ ss) = needed_pairs ss
+needed_pairs (relabel u t ∷ ss) = needed_pairs ss
+
+-- How a step is planned; a new node's label is the next one that the graph has reserved. There is no plan to give a node another label.
+abbrev pub plan_of : Step → Option Plan
+plan_of (node t) = Some Node
+plan_of (link u v) = Some (Link u v)
+plan_of (unlink u v) = Some (Unlink u v)
+plan_of (drop u) = Some (Drop u)
+plan_of (relabel u t) = None
 
 -- the change is staged in the graph
-pub record IsStaged (c : Change) (held : ReservedGraph) (plan : Plan) : Type 0 where
-  pub plan_is : plan ≡ plan_of c
-  pub reserved : IsReservedFor c held.reserved
+pub record IsStaged (c : List Step) (held : ReservedGraph) (plans : List Plan) : Type 0 where
+  pub plans_are : map Some plans ≡ map plan_of (effective c held.graph)
+  pub labels : held.reserved.labels ≡ needed_labels (effective c held.graph)
+  pub pairs : held.reserved.pairs ≡ needed_pairs (effective c held.graph)
 
--- a new node has the next number
-abbrev pub applied_of : Change → Graph → Applied
-applied_of (node t) g = Added (length g.allocated)
-applied_of (link u v) g = Done
-applied_of (unlink u v) g = Done
-applied_of (drop u) g = Done
+-- the step can be made within some limits, and isn't idle
+abbrev pub HasEffect : Step → Graph → Type 0
+HasEffect (node t) g = length g.allocated < 2 ^ 30
+HasEffect (link u v) g = IsTrue (is_live g u) × IsTrue (is_live g v) × (has_edge g u v ≡ false) × (set.len g.edges < 2 ^ 30)
+HasEffect (unlink u v) g = has_edge g u v ≡ true
+HasEffect (drop u) g = IsTrue (is_live g u)
+HasEffect (relabel u t) g = IsTrue (is_live g u)
+
+-- so for each of the steps, at its place
+abbrev pub HaveEffect : List Step → Graph → Type 0
+HaveEffect [] g = ⊤
+HaveEffect (s ∷ ss) g = HasEffect s g × HaveEffect ss (made s g)
+
+-- these are the plans of the steps, what they need is reserved, and no more, and none of them is idle
+pub record ArePlanned (steps : List Step) (held : ReservedGraph) (plans : List Plan) : Type 0 where
+  pub plans_are : map Some plans ≡ map plan_of steps
+  pub labels : held.reserved.labels ≡ needed_labels steps
+  pub pairs : held.reserved.pairs ≡ needed_pairs steps
+  pub effect : HaveEffect steps held.graph
+
+-- what is planned can be made with what is reserved
+abbrev pub CanBeMade : Plan → ReservedGraph → Type 0
+CanBeMade Node held = (0 < length held.reserved.labels) × (length held.graph.allocated < 2 ^ 30)
+CanBeMade (Link u v) held = IsTrue (has_pair held.reserved.pairs u v) × HasEffect (link u v) held.graph
+CanBeMade (Unlink u v) held = has_edge held.graph u v ≡ true
+CanBeMade (Drop u) held = IsTrue (is_live held.graph u)
+
+-- what is made of it
+abbrev pub IsMadeBy : Plan → ReservedGraph → ReservedGraph → Type 0
+IsMadeBy Node old new = AddsReserved old new
+IsMadeBy (Link u v) old new = new ≡ record { graph = with_edge old.graph u v; reserved = without_reserved_pair old.reserved u v }
+IsMadeBy (Unlink u v) old new = new ≡ record { graph = without_edge old.graph u v; reserved = old.reserved }
+IsMadeBy (Drop u) old new = new ≡ record { graph = without_node old.graph u; reserved = old.reserved }
+
+-- edges at the node are gone, and all else is as it was
+pub record LosesEdgesAt (u : ℕ) (old new : ReservedGraph) : Type 0 where
+  pub rest : without_node new.graph u ≡ without_node old.graph u
+  pub live : is_live new.graph u ≡ is_live old.graph u
+  pub reserved : new.reserved ≡ old.reserved
+
+-- the numbers that it allocates
+abbrev pub applied_of : List Step → Graph → Applied
+applied_of c g = record { first = length g.allocated; added = length (after c g).allocated - length g.allocated }

@@ -1,15 +1,13 @@
-//! Changes of a graph: whether one is accepted, what it leaves, and how it is made in two steps, of
-//! which the second can't fail.
+//! A graph as a change will leave it, and how the change is made in two calls, of which the second can't fail.
 #![tactic(auto)]
 
-mod changes;
-mod judging;
 mod neighbours;
 mod pending;
 mod staging;
+#[cfg(test)]
+mod tests;
 
-pub use changes::{Applied, Change, Verdict};
-pub use judging::judge;
+pub use graph_steps::{Change, Step, Verdict, judge};
 pub use neighbours::Neighbours;
 pub use pending::After;
-pub use staging::{Staged, commit, stage};
+pub use staging::{Applied, Staged, commit, stage};

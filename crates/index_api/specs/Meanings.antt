@@ -2,7 +2,6 @@
 -- index leaves of that.
 use Rattle.std.specs.Prelude.{⊤, ℕ, ◌≡◌, ◌<◌, List, [], length, Option, Some, None, IsSome}
 use Rattle.graph_spec.specs.Graphs.{Graph}
-use Rattle.graph_spec.specs.Changes.{Change, after}
 use Rattle.graph_spec.specs.Shapes.{shape_of}
 use Rattle.bisim_spec.specs.declared.kind.Kind.{Kind}
 use Rattle.bisim_spec.specs.declared.kind.Kind.TheVariants.{A, One, Fb}
@@ -10,7 +9,8 @@ use Rattle.bisim_spec.specs.Bisimilarity.{Bisim}
 use Rattle.bisim_spec.specs.Partitions.{Agrees}
 use Rattle.bisim_spec.specs.IndexGraphs.{View}
 use Rattle.bisim_spec.specs.Fits.{Fits, view_at, view_count}
-use Rattle.bisim_spec.specs.OneStep.{OneStep}
+use Rattle.change_spec.specs.Steps.{Step, after}
+use Rattle.change_spec.specs.NextOne.{OneStep}
 
 pub record Meaning : Type 0 where
   pub kind : Kind
@@ -49,19 +49,19 @@ pub record IsBuilt (old new : Meaning) (g : Graph) (k : ℕ) : Type 0 where
 
 -- How a change leads from one view to the next. The partition of the 1-index moves by one step. The others are determined
 -- by the graph after the change alone.
-abbrev pub IsViewStep : Kind → Graph → Option View → Change → Option View → Type 0
+abbrev pub IsViewStep : Kind → Graph → Option View → List Step → Option View → Type 0
 IsViewStep A g o c next = ⊤
 IsViewStep One g o c next = OneStep g (blocks_in o) c (after c g) (blocks_in next)
 IsViewStep Fb g o c next = ⊤
 
 -- these views are what a change makes of an index
-pub record AreNext (old : Meaning) (c : Change) (g : Graph) (views : List (Option View)) : Type 0 where
+pub record AreNext (old : Meaning) (c : List Step) (g : Graph) (views : List (Option View)) : Type 0 where
   pub count : length views ≡ length old.views
   pub fits : Fits old.kind views (after c g)
   pub step : IsViewStep old.kind g (view_at old.views 0) c (view_at views 0)
 
 -- the change of the graph is prepared, and nothing else has happened
-pub record IsPrepared (old new : Meaning) (c : Change) (g : Graph) : Type 0 where
+pub record IsPrepared (old new : Meaning) (c : List Step) (g : Graph) : Type 0 where
   pub kind : new.kind ≡ old.kind
   pub views : new.views ≡ old.views
   pub next : List (Option View)

@@ -1,8 +1,6 @@
 // The interface of an index that is kept while its graph changes.
 ghost use Rattle.std.specs.Prelude.{◌≡◌, ◌≤◌, List, OnOk, OnErr, IsSome, option_map};
-ghost use Rattle.graph_spec.specs.Changes.{after};
-ghost use Rattle.graph_update.specs.NewChanges.{IsNew};
-ghost use Rattle.graph_update.specs.Verdicts.{change_of};
+ghost use Rattle.graph_steps.specs.NewChanges.{IsNew};
 ghost use Rattle.quotient.specs.Quotients.{view_of};
 ghost use Rattle.bisim_spec.specs.Fits.{view_at};
 ghost use Rattle.index_api.specs.Meanings.{Meaning, IsReady, IsBuilt, IsPrepared, IsCommitted, IsRefreshed, unstaged};
@@ -43,8 +41,8 @@ pub trait PathIndex: Drop {
     /// change affects: `AkIndex` and `OneKept` say theirs, and `FbIndex` takes O(1), no memory.
     fn prepare(&mut self, graph: &Graph, change: &Change) -> Result<(), Memory>
         requires ready { IsReady (meaning self.old) graph.now.graph }
-        requires new { IsNew (change_of change.now) graph.now.graph }
-        ensures staged { OnOk result (IsPrepared (meaning self.old) (meaning self.new) (change_of change.now) graph.now.graph) }
+        requires new { IsNew change.now graph.now.graph }
+        ensures staged { OnOk result (IsPrepared (meaning self.old) (meaning self.new) change.now graph.now.graph) }
         ensures err { OnErr result (meaning self.new ≡ meaning self.old) };
 
     /// Puts what is staged in force. Expected O(d) for d drafted entries and numbers in their keys, and for `FbIndex`

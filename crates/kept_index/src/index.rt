@@ -1,7 +1,6 @@
 // The index.
 ghost use Rattle.std.specs.Prelude.{◌≡◌, ◌<◌, IfOk, OnOk, OnErr, None};
-ghost use Rattle.graph_update.specs.NewChanges.{IsNew};
-ghost use Rattle.graph_update.specs.Verdicts.{change_of};
+ghost use Rattle.graph_steps.specs.NewChanges.{IsNew};
 ghost use Rattle.index_api.specs.Meanings.{IsReady, IsPrepared};
 
 use crate::views::KeptViews;
@@ -48,11 +47,11 @@ impl<K: KeptViews> KeptIndex<K> {
         steps: &mut Steps<L>,
     ) -> Result<(), Memory>
         requires ready { IsReady (K.meaning_of self.old.kept) graph.now.graph }
-        requires new { IsNew (change_of change.now) graph.now.graph }
-        ensures staged { OnOk result (IsPrepared (K.meaning_of self.old.kept) (K.meaning_of self.new.kept) (change_of change.now) graph.now.graph) }
+        requires new { IsNew change.now graph.now.graph }
+        ensures staged { OnOk result (IsPrepared (K.meaning_of self.old.kept) (K.meaning_of self.new.kept) change.now graph.now.graph) }
         ensures err { OnErr result (K.meaning_of self.new.kept ≡ K.meaning_of self.old.kept) }
-        ensures cost { K.IsWithinCost (K.meaning_of self.old.kept).views (change_of change.now) graph.now.graph steps.old steps.new }
-        ensures free { K.IsFree (change_of change.now) (K.meaning_of self.old.kept).views steps.old steps.new }
+        ensures cost { K.IsWithinCost (K.meaning_of self.old.kept).views change.now graph.now.graph steps.old steps.new }
+        ensures free { K.IsFree change.now (K.meaning_of self.old.kept).views steps.old steps.new }
     {
         let alloc = self.alloc;
         match &mut self.kept {
@@ -73,8 +72,8 @@ fn prepare_uncounted<K: KeptViews, L: Ledger>(
     requires parts { blank.parts ≡ L.parts }
     requires some { 0 < blank.parts }
     requires ready { IsReady (K.meaning_of index.old.kept) graph.now.graph }
-    requires new { IsNew (change_of change.now) graph.now.graph }
-    ensures staged { OnOk result (IsPrepared (K.meaning_of index.old.kept) (K.meaning_of index.new.kept) (change_of change.now) graph.now.graph) }
+    requires new { IsNew change.now graph.now.graph }
+    ensures staged { OnOk result (IsPrepared (K.meaning_of index.old.kept) (K.meaning_of index.new.kept) change.now graph.now.graph) }
     ensures err { OnErr result (K.meaning_of index.new.kept ≡ K.meaning_of index.old.kept) }
 {
     let mut steps = Steps::<L>::new(blank);

@@ -1,12 +1,11 @@
 // The interface of what is kept.
 ghost use Rattle.std.specs.Prelude.{◌≡◌, ◌≤◌, ℕ, List, [], Option, Some, None, OnOk, OnErr, IfOk, IsSome, false, option_map};
-ghost use Rattle.graph_spec.specs.Changes as changes;
 ghost use Rattle.graph_spec.specs.Graphs as graphs;
 ghost use Rattle.bisim_spec.specs.declared.kind.Kind.TheVariants.{Fb};
 ghost use Rattle.bisim_spec.specs.IndexGraphs.{View};
 ghost use Rattle.bisim_spec.specs.Fits.{view_at};
-ghost use Rattle.graph_update.specs.NewChanges.{IsNew};
-ghost use Rattle.graph_update.specs.Verdicts.{change_of};
+ghost use Rattle.change_spec.specs.Steps.{Step};
+ghost use Rattle.graph_steps.specs.NewChanges.{IsNew};
 ghost use Rattle.quotient.specs.Quotients.{view_of};
 ghost use Rattle.index_api.specs.Meanings.{Meaning, IsReady, IsBuilt, IsPrepared, IsCommitted, unstaged};
 ghost use Rattle.index_api.specs.IndexKinds.{is_kind};
@@ -26,10 +25,10 @@ pub trait KeptViews: Drop {
     ghost meaning_of: { Option Self → Meaning };
 
     /// Over these views of the graph, staging the change may take as many steps as lie between these two counts.
-    ghost IsWithinCost: { List (Option View) → changes.Change → graphs.Graph → ℕ → ℕ → Type 0 };
+    ghost IsWithinCost: { List (Option View) → List Step → graphs.Graph → ℕ → ℕ → Type 0 };
 
     /// The two counts are the same, if staging the change over these views reads nothing of the graph.
-    ghost IsFree: { changes.Change → List (Option View) → ℕ → ℕ → Type 0 };
+    ghost IsFree: { List Step → List (Option View) → ℕ → ℕ → Type 0 };
 
     /// The kind of the index. O(1), no memory.
     fn kind() -> Kind
@@ -49,11 +48,11 @@ pub trait KeptViews: Drop {
         steps: &mut Steps<L>,
     ) -> Result<(), Memory>
         requires ready { IsReady (meaning_of (Some self.old)) graph.now.graph }
-        requires new { IsNew (change_of change.now) graph.now.graph }
-        ensures staged { OnOk result (IsPrepared (meaning_of (Some self.old)) (meaning_of (Some self.new)) (change_of change.now) graph.now.graph) }
+        requires new { IsNew change.now graph.now.graph }
+        ensures staged { OnOk result (IsPrepared (meaning_of (Some self.old)) (meaning_of (Some self.new)) change.now graph.now.graph) }
         ensures err { OnErr result (meaning_of (Some self.new) ≡ meaning_of (Some self.old)) }
-        ensures cost { IsWithinCost (meaning_of (Some self.old)).views (change_of change.now) graph.now.graph steps.old steps.new }
-        ensures free { IsFree (change_of change.now) (meaning_of (Some self.old)).views steps.old steps.new };
+        ensures cost { IsWithinCost (meaning_of (Some self.old)).views change.now graph.now.graph steps.old steps.new }
+        ensures free { IsFree change.now (meaning_of (Some self.old)).views steps.old steps.new };
 
     /// Puts in force what is staged. It takes no memory.
     fn commit(&mut self, alloc: Global)

@@ -1,9 +1,9 @@
 -- The nodes that are affected by the effects of a change.
 use Rattle.std.proofs.Common.{◌≡◌, ◌⊎◌, ℕ, zero, suc, ◌+◌, ◌*◌, ◌<◌, ◌≤◌, ◌^◌, List, [], ◌∷◌, length, Some, IsTrue, refl, sym, ◌∙◌, ap, subst, arith, true, false, true≢false, inl, inr, Bool}
 use Rattle.std.specs.FinSet as set
-use Rattle.std.specs.Prelude.{nat_eq, ◌&&◌, ◌||◌, not}
+use Rattle.std.specs.Prelude.{nat_eq, ◌&&◌, not}
 use Rattle.std.proofs.lemmas.Bool.{or_cases, and_parts}
-use Rattle.std.proofs.lemmas.Bool.Decides.{eqb_tells, Decides-eqb}
+use Rattle.std.proofs.lemmas.Bool.Decides.{Decides-eqb}
 use Rattle.std.proofs.Math.Nat.{mul-le-mul_left}
 use Rattle.graph_spec.specs.Graphs.{Graph, IsGraph, is_live, has_edge}
 use Rattle.graph_spec.specs.Members.{has}
@@ -11,18 +11,20 @@ use Rattle.graph_spec.specs.Shapes.{Shape, shape_of}
 use Rattle.graph_spec.proofs.GraphLaws.{is_shape}
 use Rattle.bisim_spec.specs.Reach.{within_distance}
 use Rattle.bisim_spec.proofs.Reached.{within_cases}
-use Rattle.bisim_spec.specs.Targets.{target}
+use Rattle.bisim_spec.specs.Weights.{weight}
+use Rattle.change_spec.specs.Altered.{targets}
+use Rattle.change_spec.specs.Costs.{is_gone}
 use Rattle.change_spec.proofs.MoreTargets.{near_wider}
+use Rattle.level_spec.proofs.AffectedWeights.{weight_within}
 use Rattle.graph_update.specs.PendingChanges.{Pending, graph_after}
 use Rattle.graph_effects.specs.Effects.{EffectLists, AreEffects, has_pair}
 use Rattle.graph_effects.proofs.EffectLaws.{came_parts, effects_differ}
 use Rattle.keyed_quotient.specs.KeyedQuotients.{KeyedQuotient}
 use Rattle.keyed_quotient.specs.Changes.{KeyedChanges}
 use Rattle.level_spec.specs.Keyed.{IsKeyed}
-use Rattle.level_spec.proofs.AffectedWeights.{weight_within}
 use Rattle.ak_family.specs.Families.{IsKeyedFamily}
 use Rattle.ak_family.specs.LevelDrafts.{blocks_shown, key_shown}
-use Rattle.level_update.specs.LevelCosts.{most_move_steps}
+use Rattle.level_update.specs.LevelCosts.{near_cost, most_move_steps}
 use Rattle.level_update.specs.FamilyDrafts.{FamilyFits, most_steps}
 use Rattle.level_update.specs.MovedLevels.{AreMoved}
 use Rattle.level_update.specs.LevelEffects.{AreLevelsBefore, AreLevelsDrafted, HasOwnKey, keeps_keys}
@@ -120,16 +122,6 @@ still_cases e h = elim (or_cases (nat_eq (length e.targets) 0) (nat_eq (length e
   | inr still ↦ (let both = and_parts (nat_eq (length e.lost) 0) (nat_eq (length e.added) 0) still in inr (none_of e.lost both.0, none_of e.added both.1))
 ]
 
-pub some_targets : (e : EffectLists) → keeps_keys e ≡ false → 0 < length e.targets
-some_targets e h = elim (eqb_tells (length e.targets) 0) [
-  | inl s ↦ absurd (true≢false (sym (ap (λ b. b || (nat_eq (length e.lost) 0 && nat_eq (length e.added) 0)) s.0) ∙ h))
-  | inr o ↦ (let apart = o.1 in omega (arith, apart))
-]
-
--- targets are numbers of the graph
-pub targets_below : (g g2 : Graph) (e : EffectLists) → AreEffects g g2 e → IsGraph g2 → (t : ℕ) → IsTrue (has e.targets t) → t < length g2.allocated
-targets_below g g2 e w graph t h = (is_shape g2 graph).below t (w.nodes t h)
-
 -- from no nodes no edges lead anywhere
 none_near : (s : Shape) (targets : List ℕ) (j n : ℕ) → targets ≡ [] → within_distance s (has targets) j n ≡ true → ⊥
 none_near s targets zero n none h = true≢false (sym h ∙ ap (λ (ts : List ℕ). has ts n) none)
@@ -174,18 +166,25 @@ effects_moved g g2 e f d w before moved = record {
   some = before.some;
 }
 
--- fewer targets take no more steps
-fewer_steps : (g2 : Graph) (from from2 : ℕ → Bool) → IsGraph g2 → ((n : ℕ) → from n ≡ true → from2 n ≡ true) → (k : ℕ) → most_move_steps g2 from k ≤ most_move_steps g2 from2 k
-fewer_steps g2 from from2 graph more k =
-    mul-le-mul_left (8 * k) (weight_within (shape_of g2) (within_distance (shape_of g2) from k) (within_distance (shape_of g2) from2 k) (λ n h.
-    near_wider (shape_of g2) (is_shape g2 graph) from from2 more k n h))
+-- The effects, at no more than twice the cost, and four times what a part of it costs at each level, are no more than eight times
+-- the cost at each level.
+total_steps : (k part all effects old found new : ℕ) → part ≤ all → effects ≤ 2 * all → found ≤ old + effects → new ≤ found + 4 * (k + 1) * part → new ≤ old + 8 * (k + 1) * all
+total_steps k part all effects old found new less few start spent = (let more = mul-le-mul_left (4 * (k + 1)) less in omega (arith, few, start, spent, more))
 
--- what is spent is within the bound of the change
-pub change_steps : (a b : Pending) (targets : List ℕ) (k old new : ℕ) → a ≡ b → IsGraph (graph_after a)
-    → ((n : ℕ) → has targets n ≡ (is_live (graph_after a) n && target a.change a.before n)) → new ≤ old + most_move_steps (graph_after a) (has targets) k
+-- What is spent is within the bound of the change: first to find its effects, and then to move what some of its targets affect.
+pub change_steps : (a b : Pending) (listed : List ℕ) (k old found new : ℕ) → a ≡ b → IsGraph (graph_after a) → ((n : ℕ) → has listed n ≡ true → targets a.change a.before n ≡ true)
+    → found ≤ old + length a.change + 2 * weight (shape_of a.before) (is_gone a.before (graph_after a)) → new ≤ found + most_move_steps a (has listed) k
     → new ≤ old + most_steps b.before b.change k
-change_steps a b targets k old new same graph are spent =
-    let most = fewer_steps (graph_after a) (has targets) (target a.change a.before) graph (λ n h.
-    (and_parts (is_live (graph_after a) n) (target a.change a.before n) (sym (are n) ∙ h)).1) k
+change_steps a b listed k old found new same graph among start spent =
+    let s = shape_of (graph_after a) in
+    let wider = weight_within s (within_distance s (has listed) k) (within_distance s (targets a.change a.before) k)
+    (near_wider s (is_shape (graph_after a) graph) (has listed) (targets a.change a.before) among k)
     in
-    subst (λ (p : Pending). new ≤ old + most_steps p.before p.change k) same (omega (arith, spent, most))
+    subst (λ (p : Pending). new ≤ old + most_steps p.before p.change k) same
+    (total_steps k (near_cost a (has listed) k) (near_cost a (targets a.change a.before) k) (length a.change + 2 * weight (shape_of a.before) (is_gone a.before (graph_after a)))
+    old found new (omega (arith, wider)) (omega arith) (omega (arith, start)) spent)
+
+-- where the effects aren't found
+pub change_start : (a b : Pending) (k old found : ℕ) → a ≡ b → IsGraph (graph_after a)
+    → found ≤ old + length a.change + 2 * weight (shape_of a.before) (is_gone a.before (graph_after a)) → found ≤ old + most_steps b.before b.change k
+change_start a b k old found same graph start = change_steps a b [] k old found found same graph (λ n h. absurd (true≢false (sym h))) start (omega arith)

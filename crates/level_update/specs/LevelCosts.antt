@@ -1,17 +1,20 @@
 -- What it costs to place nodes.
 use Rattle.std.specs.Prelude.{ℕ, ◌+◌, ◌*◌, Bool}
-use Rattle.graph_spec.specs.Graphs.{Graph}
 use Rattle.graph_spec.specs.Shapes.{shape_of}
 use Rattle.bisim_spec.specs.Reach.{within_distance}
-use Rattle.bisim_spec.specs.Weights.{weight}
-use Rattle.graph_update.specs.PendingChanges.{Pending}
-use Rattle.quotient_moves.specs.NeighbourCosts.{parents_cost, children_cost}
+use Rattle.change_spec.specs.Bounds.{round_cost}
+use Rattle.change_spec.specs.Costs.{cost}
+use Rattle.graph_update.specs.PendingChanges.{Pending, graph_after}
 
 -- its parents are read for its key and again for its move, and its children once
 abbrev pub place_cost : Pending → ℕ → ℕ
-place_cost a n = 2 * parents_cost a n + children_cost a n
+place_cost a n = round_cost a.before (graph_after a) n
 
--- The most steps that the affected nodes take at all levels up to k: 8 at each level for each of those within k edges,
--- for each of their parents and for each of their children.
-abbrev pub most_move_steps : Graph → (ℕ → Bool) → ℕ → ℕ
-most_move_steps g target k = 8 * k * weight (shape_of g) (within_distance (shape_of g) target k)
+-- what the change costs at the nodes within so many edges of targets
+abbrev pub near_cost : Pending → (ℕ → Bool) → ℕ → ℕ
+near_cost a target k = cost a.change a.before (within_distance (shape_of (graph_after a)) target k)
+
+-- The most steps that the affected nodes take at all levels up to k: 4 times the cost of the change at those within k edges, at
+-- each level.
+abbrev pub most_move_steps : Pending → (ℕ → Bool) → ℕ → ℕ
+most_move_steps a target k = 4 * (k + 1) * near_cost a target k

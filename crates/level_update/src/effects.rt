@@ -89,7 +89,7 @@ pub(crate) fn draft_effects<L: Ledger>(
     requires over { AreOver family.now draft.old }
     requires empty { AreEmpty draft.old }
     ensures moved { OnOk result (AreMoved (has effects.now.targets) (graph_after after.now) family.now draft.new) }
-    ensures cost { (k : ℕ) → length family.now ≡ k + 1 → steps.new ≤ steps.old + most_move_steps (graph_after after.now) (has effects.now.targets) k }
+    ensures cost { (k : ℕ) → length family.now ≡ k + 1 → steps.new ≤ steps.old + most_move_steps after.now (has effects.now.targets) k }
 {
     draft_levels(family, draft, after, effects)?;
     if keeps_keys(effects) {

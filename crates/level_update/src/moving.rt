@@ -1,5 +1,6 @@
 // Moving the affected nodes, level by level.
-ghost use Rattle.std.specs.Prelude.{◌≡◌, ◌+◌, ◌<◌, ◌≤◌, ℕ, IsTrue, OnOk, length};
+ghost use Rattle.std.specs.Prelude.{◌≡◌, ◌+◌, ◌≤◌, ℕ, IsTrue, OnOk, length};
+ghost use Rattle.graph_spec.specs.Graphs.{is_live};
 ghost use Rattle.graph_spec.specs.Members.{has};
 ghost use Rattle.graph_update.specs.PendingChanges.{graph_after};
 ghost use Rattle.ak_family.specs.LevelDrafts.{blocks_shown};
@@ -15,15 +16,13 @@ use px_base::{Memory, NodeId, Steps};
 use std::alloc::Global;
 use std::sync::ledger::Ledger;
 
-/// Moves the nodes to which few edges lead from the targets of a change, of which there is one at least, level by level
-/// from level 1 on: at level `i` those within `i` edges of a target, each to the block of its key there, which is a
-/// further block where no block has the key.
-/// The edges of the change are drafted at each level already, and level 0 is done.
+/// Moves the nodes to which few edges lead from the targets of a change, level by level from level 1 on: at level `i`
+/// those within `i` edges of a target, each to the block of its key there, which is a further block where no block has
+/// the key. The edges of the change are drafted at each level already, and level 0 is done.
 ///
-/// It takes at most `8 * k * w` steps, where `k` is the highest level, and `w` is one for each node within `k` edges of
-/// a target, one for each of its parents and one for each of its children. Expected O(k (1 + w log w)), since the
-/// parents' blocks in a key are sorted; it takes the memory of the affected nodes and of what is drafted. After
-/// `Memory` the draft must be dropped.
+/// It takes at most `4 * (k + 1) * w` steps, where `k` is the highest level, and `w` is what the change costs at the nodes
+/// within `k` edges of a target. Expected O(k (1 + w log w)), since the parents' blocks in a key are sorted; it takes the
+/// memory of the affected nodes and of what is drafted. After `Memory` the draft must be dropped.
 pub(crate) fn move_affected<L: Ledger>(
     alloc: Global,
     family: &AkFamily,
@@ -32,13 +31,12 @@ pub(crate) fn move_affected<L: Ledger>(
     targets: &[NodeId],
     steps: &mut Steps<L>,
 ) -> Result<(), Memory>
-    requires some { 0 < length targets.now }
-    requires allocated { (t : ℕ) → IsTrue (has targets.now t) → t < length (graph_after after.now).allocated }
+    requires live { (t : ℕ) → IsTrue (has targets.now t) → IsTrue (is_live (graph_after after.now) t) }
     requires moving { HasMovedAffected (has targets.now) (graph_after after.now) family.now draft.old }
     ensures moving { OnOk result (HasMovedAffected (has targets.now) (graph_after after.now) family.now draft.new) }
     ensures keyed { OnOk result (AreKeyedAffected (has targets.now) (graph_after after.now) family.now draft.new) }
     ensures lowest { OnOk result (blocks_shown family.now draft.new 0 ≡ blocks_shown family.now draft.old 0) }
-    ensures cost { (k : ℕ) → length family.now ≡ k + 1 → steps.new ≤ steps.old + most_move_steps (graph_after after.now) (has targets.now) k }
+    ensures cost { (k : ℕ) → length family.now ≡ k + 1 → steps.new ≤ steps.old + most_move_steps after.now (has targets.now) k }
 {
     // Called for its contract: there is a graph, so what is affected is among its nodes.
     let _known = after.created();

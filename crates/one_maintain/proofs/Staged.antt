@@ -1,7 +1,7 @@
 -- What is staged, and what is in force once it is committed.
 use Rattle.std.proofs.Common.{◌≡◌, ℕ, zero, suc, ◌+◌, cond, List, [], ◌∷◌, Option, Some, None, IsSome, refl, sym, ◌∙◌, ap, subst, arith, true, false, Bool, true≢false}
 use Rattle.graph_spec.specs.Graphs.{Graph}
-use Rattle.graph_spec.specs.Changes.{Change, after}
+use Rattle.change_spec.specs.Steps.{Step, after}
 use Rattle.std.specs.Prelude.{unwrap_or}
 use Rattle.graph_spec.specs.Members.{at}
 use Rattle.graph_spec.specs.Shapes.{shape_of}
@@ -10,7 +10,7 @@ use Rattle.bisim_spec.specs.IndexGraphs.{View, support_at}
 use Rattle.bisim_spec.specs.Fits.{FitsOne, view_at}
 use Rattle.bisim_spec.specs.Bisimilarity.{Bisim}
 use Rattle.bisim_spec.specs.Partitions.{Agrees}
-use Rattle.bisim_spec.specs.OneStep.{OneStep}
+use Rattle.change_spec.specs.NextOne.{OneStep}
 use Rattle.quotient.specs.Quotients.{Quotient, view_of}
 use Rattle.quotient_draft.specs.Drafts.{Drafted, no_changes, has_member, shown_labels, shown_blocks, shown_support, settled_view, inhabited_from, with_moves, with_added, with_supports}
 use Rattle.quotient_draft.specs.Basis.{IsOver}
@@ -73,7 +73,7 @@ pub some_staged : (q : Quotient) (d : Drafted) (t : Bool) → IsSome (staged_vie
 some_staged q d true h = refl
 some_staged q d false h = absurd (true≢false (sym h))
 
-pub prepared : (k k2 : KeptQuotient) (g : Graph) (c : Change) → view_of k2.base ≡ view_of k.base → k2.staged ≡ true
+pub prepared : (k k2 : KeptQuotient) (g : Graph) (c : List Step) → view_of k2.base ≡ view_of k.base → k2.staged ≡ true
     → OneStep g k.base.blocks.block_of c (after c g) (settled_view k2.base k2.draft).block_of → FitsOne (after c g) (settled_view k2.base k2.draft)
     → IsPrepared (meaning_of (Some k)) (meaning_of (Some k2)) c g
 prepared k k2 g c same staged step fits = record {

@@ -3,10 +3,10 @@ use Rattle.std.specs.Prelude.{◌≡◌, ◌+◌, ◌≤◌, ℕ, Bool, true, fa
 use Rattle.std.specs.Coded.{Coded, code_by, coded×, coded_bool}
 use Rattle.graph_spec.specs.Members.{at}
 use Rattle.graph_spec.specs.Graphs.{Graph}
-use Rattle.graph_spec.specs.Changes.{Change, after, link}
+use Rattle.change_spec.specs.Steps.{Step, after, link}
 use Rattle.bisim_spec.specs.declared.kind.Kind.TheVariants.{One}
 use Rattle.bisim_spec.specs.IndexGraphs.{View}
-use Rattle.bisim_spec.specs.OneStep.{OneStep}
+use Rattle.change_spec.specs.NextOne.{OneStep}
 use Rattle.bisim_spec.specs.Fits.{view_at}
 use Rattle.quotient.specs.Quotients.{Quotient, quotient_code, view_of}
 use Rattle.quotient_draft.specs.Drafts.{Drafted, drafted_code, no_changes, has_member, shown_blocks, shown_support, settled_view}
@@ -66,13 +66,13 @@ pub record IsSoundKept (base : Quotient) (draft : Drafted) (staged : Bool) (note
   pub shown : CoversShown base draft noted
 
 -- the upkeep of a 1-index leads from the partition of the base to that of the view
-abbrev pub MovesByOneStep : Graph → Change → Quotient → View → Type 0
+abbrev pub MovesByOneStep : Graph → List Step → Quotient → View → Type 0
 MovesByOneStep g c base v = OneStep g base.blocks.block_of c (after c g) v.block_of
 
 -- how many steps a change may take
-abbrev pub TakesFewSteps : List (Option View) → Change → Graph → ℕ → ℕ → Type 0
+abbrev pub TakesFewSteps : List (Option View) → List Step → Graph → ℕ → ℕ → Type 0
 TakesFewSteps views c g steps steps2 = steps2 ≤ steps + most_steps g c
 
 -- where the change is a link between nodes whose blocks have support already, no step is taken
-abbrev pub IsFreeLink : Change → List (Option View) → ℕ → ℕ → Type 0
-IsFreeLink c views steps steps2 = (u v : ℕ) (w : View) → c ≡ link u v → view_at views 0 ≡ Some w → IsSupported w u v → steps2 ≡ steps
+abbrev pub IsFreeLink : List Step → List (Option View) → ℕ → ℕ → Type 0
+IsFreeLink c views steps steps2 = (u v : ℕ) (w : View) → c ≡ link u v ∷ [] → view_at views 0 ≡ Some w → IsSupported w u v → steps2 ≡ steps

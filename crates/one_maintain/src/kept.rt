@@ -1,9 +1,8 @@
 // The quotient in force, with what a change to come will make of it.
-ghost use Rattle.std.specs.Prelude.{◌≡◌, ◌+◌, ◌≤◌, ℕ, false, IfOk, OnOk};
-ghost use Rattle.graph_spec.specs.Changes.{after, link};
+ghost use Rattle.std.specs.Prelude.{◌≡◌, ◌+◌, ◌≤◌, ◌∷◌, [], ℕ, false, IfOk, OnOk};
+ghost use Rattle.change_spec.specs.Steps.{after, link};
 ghost use Rattle.bisim_spec.specs.Fits.{FitsOne};
-ghost use Rattle.graph_update.specs.NewChanges.{IsNew};
-ghost use Rattle.graph_update.specs.Verdicts.{change_of};
+ghost use Rattle.graph_steps.specs.NewChanges.{IsNew};
 ghost use Rattle.quotient.specs.Quotients.{view_of};
 ghost use Rattle.quotient_draft.specs.Drafts.{no_changes, settled_view};
 ghost use Rattle.one_merge.specs.ParentlessBlocks.{CoversBase, CoversShown};
@@ -69,17 +68,17 @@ fn fill<L: Ledger>(
     steps: &mut Steps<L>,
 ) -> Result<(), Memory>
     requires fits { FitsOne graph.now.graph (view_of base.old) }
-    requires new { IsNew (change_of change.now) graph.now.graph }
+    requires new { IsNew change.now graph.now.graph }
     requires empty { draft.old ≡ no_changes }
     requires covers { CoversBase base.old parentless.old }
     ensures same { view_of base.new ≡ view_of base.old }
     ensures covers { CoversBase base.new parentless.new }
     ensures shown { OnOk result (CoversShown base.new draft.new parentless.new) }
     ensures ready { OnOk result (CanSettle base.new draft.new) }
-    ensures step { OnOk result (MovesByOneStep graph.now.graph (change_of change.now) base.old (settled_view base.new draft.new)) }
-    ensures fits { OnOk result (FitsOne (after (change_of change.now) graph.now.graph) (settled_view base.new draft.new)) }
-    ensures cost { steps.new ≤ steps.old + most_steps graph.now.graph (change_of change.now) }
-    ensures free { (u v : ℕ) → change_of change.now ≡ link u v → IsSupported (view_of base.old) u v → steps.new ≡ steps.old }
+    ensures step { OnOk result (MovesByOneStep graph.now.graph change.now base.old (settled_view base.new draft.new)) }
+    ensures fits { OnOk result (FitsOne (after change.now graph.now.graph) (settled_view base.new draft.new)) }
+    ensures cost { steps.new ≤ steps.old + most_steps graph.now.graph change.now }
+    ensures free { (u v : ℕ) → change.now ≡ link u v ∷ [] → IsSupported (view_of base.old) u v → steps.new ≡ steps.old }
 {
     draft_change(alloc, base, draft, parentless, graph, change, steps)?;
     parentless.note_touched(alloc, base, draft)?;

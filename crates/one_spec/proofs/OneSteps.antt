@@ -1,9 +1,8 @@
 -- A change, then a split, then merges: how the partition of the 1-index moves.
-use Rattle.std.proofs.Common.{◌≡◌, ℕ, ◌⊎◌, List, [], Option, Some, None, IsTrue, refl, sym, ◌∙◌, ap, inl, inr, true, false, Bool}
+use Rattle.std.proofs.Common.{◌≡◌, ℕ, ◌⊎◌, List, [], Option, Some, None, IsTrue, IsFalse, refl, sym, ◌∙◌, ap, inl, inr, true, false, Bool}
 use Rattle.std.specs.Prelude.{◌&&◌, not}
-use Rattle.std.proofs.lemmas.Bool.{cases_Bool, and_parts, and_from, both_ways, not-true, not_from_false}
+use Rattle.std.proofs.lemmas.Bool.{cases_Bool, and_parts, and_from, both_ways, not-true, not_from_false, false_from_ne_true}
 use Rattle.graph_spec.specs.Graphs.{Graph}
-use Rattle.graph_spec.specs.Changes.{Change, after}
 use Rattle.graph_spec.specs.Members.{has, at}
 use Rattle.graph_spec.specs.Shapes.{Shape, IsNode, IsShape, shape_of}
 use Rattle.bisim_spec.specs.Partitions.{IsPartition}
@@ -14,19 +13,26 @@ use Rattle.bisim_spec.proofs.Ranks.{acyclic_full}
 use Rattle.bisim_spec.proofs.Reached.{reach_step}
 use Rattle.bisim_spec.proofs.Together.{together_sym, together_some}
 use Rattle.bisim_spec.proofs.Outside.{DiffersAt, SameOutside, IsOut, off_target, outside_reach}
-use Rattle.bisim_spec.specs.Targets.{KeepsBlocks, KeepsParents, target}
+use Rattle.bisim_spec.specs.Targets.{KeepsBlocks}
 use Rattle.one_spec.specs.Merges.{Merges, AreMergeCandidates}
-use Rattle.bisim_spec.specs.OneStep.{OneStep}
 use Rattle.bisim_spec.proofs.Changed.{live_before}
 use Rattle.one_spec.proofs.MergedPairs.{merges_stable, outside_merges}
 use Rattle.one_spec.proofs.SplitRounds.{stable_at_end}
 use Rattle.one_spec.proofs.MergeCandidates.{unmarked_candidates}
 use Rattle.one_spec.proofs.Unmoved.{IsFiner, IsUnmoved, none_unmoved}
 use Rattle.one_spec.specs.Splits.{IsClosed, IsSplitInside}
+use Rattle.change_spec.specs.Steps.{Step, after}
+use Rattle.change_spec.specs.Altered.{targets}
+use Rattle.change_spec.specs.NextOne.{KeepsParents, OneStep}
+use Rattle.change_spec.proofs.MoreTargets.{reach_wider}
 
 -- what is reached is closed under children
 pub reach_closed : (s : Shape) (from : ℕ → Bool) → IsShape s → IsClosed s (reach s from)
 reach_closed s from shape = record { children = λ p n h e. reach_step s shape from p n h e }
+
+-- what more nodes don't reach, fewer don't
+pub out_of_fewer : (s : Shape) (from from2 : ℕ → Bool) (n : ℕ) → IsShape s → ((m : ℕ) → from m ≡ true → from2 m ≡ true) → IsFalse (reach s from2 n) → IsFalse (reach s from n)
+out_of_fewer s from from2 n shape more off = false_from_ne_true (reach s from n) (λ h. both_ways (reach s from2 n) off (reach_wider s shape from from2 more n h))
 
 -- A partition before a change, the same for the nodes that there are after it, and that once it is split.
 pub record Stages (from : ℕ → Bool) (s s2 : Shape) (p p1 p2 : List (Option ℕ)) (made : List ℕ) : Type 0 where
@@ -116,19 +122,26 @@ split_candidates from s s2 p p1 p2 made g = record {
       ]
     ]
 
--- The next partition, after a change that gives its target a parent block or takes one.
-pub one_step_from : (c : Change) (g : Graph) (p p1 p2 p3 : List (Option ℕ)) (made : List ℕ) → Stages (target c g) (shape_of g) (shape_of (after c g)) p p1 p2 made
+-- The next partition, after a change of which it isn't known that it keeps the parent blocks of its target. The stages may be those
+-- from fewer nodes than the targets, where the graphs differ at these alone.
+pub one_step_from : (c : List Step) (g : Graph) (from : ℕ → Bool) (p p1 p2 p3 : List (Option ℕ)) (made : List ℕ) → ((n : ℕ) → from n ≡ true → targets c g n ≡ true)
+    → Stages from (shape_of g) (shape_of (after c g)) p p1 p2 made
     → Merges (shape_of (after c g)) p2 p3 → Minimal (shape_of (after c g)) p3 → (KeepsParents c (after c g) p → ⊥) → OneStep g p c (after c g) p3
-one_step_from c g p p1 p2 p3 made stages merges min changes =
+one_step_from c g from p p1 p2 p3 made few stages merges min changes =
     let s = shape_of g in
     let s2 = shape_of (after c g) in
-    let from = target c g in
     let stable = merges_stable s2 p2 p3 merges (split_stable from s s2 p p1 p2 made stages) in
     let outside = outside_merges s s2 (IsOut s2 from) p p2 p3 (outside_reach from s s2 stages.shape2 stages.differs)
     (split_outside from s s2 p p1 p2 made stages) stages.stable stages.minimal merges in
     record {
       made = refl;
       index = record { stable = stable; minimal = min; whole = λ acyclic. acyclic_full s2 p3 stages.shape2 acyclic stable min };
-      outside = λ u v nu nv mu mv ou ov. (outside.back u v (mu, ou) (mv, ov), outside.into u v (mu, ou) (mv, ov));
+      outside = λ u v nu nv mu mv ou ov. (
+          let a = out u ou in
+          let b = out v ov in
+          (outside.back u v (mu, a) (mv, b), outside.into u v (mu, a) (mv, b)));
       still = λ keeps. absurd (changes keeps);
     }
+  where
+    out : (n : ℕ) → IsFalse (reach (shape_of (after c g)) (targets c g) n) → IsFalse (reach (shape_of (after c g)) from n)
+    out n off = out_of_fewer (shape_of (after c g)) from (targets c g) n stages.shape2 few off

@@ -1,16 +1,16 @@
 -- What `split` ensures is what `merge` asks, and both give the next partition.
-use Rattle.std.proofs.Common.{◌≡◌, ℕ, ◌⊎◌, ◌<◌, List, Option, Some, IsTrue, sym, ◌∙◌, arith, inl, inr, Bool, nat_lt}
+use Rattle.std.proofs.Common.{◌≡◌, ℕ, ◌⊎◌, ◌<◌, List, Option, Some, IsTrue, sym, ◌∙◌, arith, inl, inr, true, Bool, nat_lt}
 use Rattle.std.proofs.lemmas.Bool.Decides.{Decides-ltb}
 use Rattle.graph_spec.specs.Graphs.{Graph}
-use Rattle.graph_spec.specs.Changes.{Change, after}
 use Rattle.graph_spec.specs.Members.{has, at}
 use Rattle.graph_spec.specs.Shapes.{Shape, IsShape, shape_of}
 use Rattle.bisim_spec.specs.Stability.{Stable}
 use Rattle.bisim_spec.specs.Supports.{edges_between}
 use Rattle.bisim_spec.proofs.EdgeSupports.{support_adjacent, adjacent_support}
-use Rattle.bisim_spec.specs.Targets.{KeepsParents, target}
+use Rattle.change_spec.specs.Steps.{Step, after}
+use Rattle.change_spec.specs.Altered.{targets}
+use Rattle.change_spec.specs.NextOne.{KeepsParents, OneStep}
 use Rattle.one_spec.specs.Merges.{AreMergeCandidates}
-use Rattle.bisim_spec.specs.OneStep.{OneStep}
 use Rattle.one_spec.specs.EdgeCounts.{AreEdgeCounts}
 use Rattle.one_spec.specs.BlockLabels.{IsLabelled}
 use Rattle.one_spec.proofs.OneSteps.{Stages, split_stable, split_candidates, one_step_from}
@@ -48,14 +48,15 @@ first_candidates from s s2 p p1 p2 made merge_candidates stages are = record {
     one b h = elim h [ inl there ↦ are.made_there b there | inr (t, on, e) ↦ are.targets_there t b on e ]
 
 -- With the stages of a change and a split, and what merging makes of them: the next partition.
-pub one_step_done : (c : Change) (g : Graph) (p p1 p2 p3 : List (Option ℕ)) (made merge_candidates : List ℕ) (labels : ℕ → Option ℕ) (support : ℕ → ℕ → ℕ) (adjacent : ℕ → ℕ → Bool)
-    → Stages (target c g) (shape_of g) (shape_of (after c g)) p p1 p2 made → IsLabelled (shape_of (after c g)) p2 labels → AreEdgeCounts (after c g) p2 support
-    → ((x y : ℕ) → adjacent x y ≡ nat_lt 0 (support x y)) → AreFirstCandidates (target c g) p2 made merge_candidates
+pub one_step_done : (c : List Step) (g : Graph) (from : ℕ → Bool) (p p1 p2 p3 : List (Option ℕ)) (made merge_candidates : List ℕ) (labels : ℕ → Option ℕ) (support : ℕ → ℕ → ℕ) (adjacent : ℕ → ℕ → Bool)
+    → ((n : ℕ) → from n ≡ true → targets c g n ≡ true)
+    → Stages from (shape_of g) (shape_of (after c g)) p p1 p2 made → IsLabelled (shape_of (after c g)) p2 labels → AreEdgeCounts (after c g) p2 support
+    → ((x y : ℕ) → adjacent x y ≡ nat_lt 0 (support x y)) → AreFirstCandidates from p2 made merge_candidates
     → ((s : Shape) → IsViewed s p2 labels adjacent → AreMergeCandidates s p2 (λ b. IsTrue (has merge_candidates b)) → IsMergedToEnd s p2 p3)
     → (KeepsParents c (after c g) p → ⊥) → OneStep g p c (after c g) p3
-one_step_done c g p p1 p2 p3 made merge_candidates labels support adjacent stages labelled supports is are merge changes =
+one_step_done c g from p p1 p2 p3 made merge_candidates labels support adjacent few stages labelled supports is are merge changes =
     let s = shape_of g in
     let s2 = shape_of (after c g) in
-    let viewed = viewed_supports (after c g) p2 labels support adjacent stages.shape2 (split_stable (target c g) s s2 p p1 p2 made stages) labelled supports is in
-    let done = merge s2 viewed (first_candidates (target c g) s s2 p p1 p2 made merge_candidates stages are) in
-    one_step_from c g p p1 p2 p3 made stages done.merges done.minimal changes
+    let viewed = viewed_supports (after c g) p2 labels support adjacent stages.shape2 (split_stable from s s2 p p1 p2 made stages) labelled supports is in
+    let done = merge s2 viewed (first_candidates from s s2 p p1 p2 made merge_candidates stages are) in
+    one_step_from c g from p p1 p2 p3 made few stages done.merges done.minimal changes

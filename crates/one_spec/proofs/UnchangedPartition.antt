@@ -7,7 +7,7 @@ use Rattle.std.proofs.lemmas.Bool.Decides.{eqb_tells}
 use Rattle.std.proofs.Math.Bool.{and-false}
 use Rattle.graph_spec.specs.Members.{at}
 use Rattle.graph_spec.specs.Graphs.{Graph, has_edge}
-use Rattle.graph_spec.specs.Changes.{Change, after, with_edge, without_edge}
+use Rattle.graph_spec.specs.Changes.{with_edge, without_edge}
 use Rattle.graph_spec.specs.Shapes.{IsShape, shape_of}
 use Rattle.graph_spec.proofs.EdgeOrder.{edge_cmp_total, eq_pair}
 use Rattle.bisim_spec.specs.Stability.{Stable, Minimal}
@@ -16,7 +16,8 @@ use Rattle.bisim_spec.proofs.Ranks.{acyclic_full}
 use Rattle.bisim_spec.proofs.Stable.{stable_parents}
 use Rattle.bisim_spec.proofs.Together.{together_at}
 use Rattle.bisim_spec.specs.Targets.{HasOther}
-use Rattle.bisim_spec.specs.OneStep.{OneStep}
+use Rattle.change_spec.specs.Steps.{Step, after}
+use Rattle.change_spec.specs.NextOne.{OneStep}
 use Rattle.one_spec.proofs.UnchangedTarget.{HasTwin, stable_twin, minimal_twin}
 
 edge_with : (g : Graph) (u v a b : ℕ) → has_edge (with_edge g u v) a b ≡ ((nat_eq a u && nat_eq b v) || has_edge g a b)
@@ -61,7 +62,7 @@ twin_unlink g u v p o =
     }
 
 -- the partition itself is the next one
-pub one_step_still : (g : Graph) (p : List (Option ℕ)) (c : Change) (u v w : ℕ) → IsShape (shape_of g) → IsShape (shape_of (after c g))
+pub one_step_still : (g : Graph) (p : List (Option ℕ)) (c : List Step) (u v w : ℕ) → IsShape (shape_of g) → IsShape (shape_of (after c g))
     → HasTwin (shape_of g) (shape_of (after c g)) p u v w → Stable (shape_of g) p → Minimal (shape_of g) p → OneStep g p c (after c g) p
 one_step_still g p c u v w shape shape2 twin st min =
     let s2 = shape_of (after c g) in

@@ -1,47 +1,78 @@
 -- What the rounds cost in all.
-use Rattle.std.proofs.Common.{◌≡◌, ℕ, zero, suc, ◌+◌, ◌*◌, ◌<◌, ◌≤◌, List, Option, Some, None, arith, inl, inr, true, Bool, cond}
-use Rattle.std.specs.Prelude.{nat_eq}
+use Rattle.std.proofs.Common.{◌≡◌, ℕ, ◌*◌, ◌≤◌, List, arith, inl, inr, true, Bool}
+use Rattle.std.specs.Prelude.{nat_eq, ◌&&◌}
 use Rattle.std.specs.List.{sum_by, IsDistinct}
-use Rattle.std.proofs.lemmas.Bool.{cases_Bool}
+use Rattle.std.proofs.lemmas.Bool.{cases_Bool, and_parts, and_from}
+use Rattle.graph_spec.specs.Graphs.{IsGraph, is_live}
 use Rattle.graph_spec.specs.Members.{has}
-use Rattle.graph_spec.specs.Shapes.{Shape, shape_of}
-use Rattle.bisim_spec.specs.Below.{count_below}
-use Rattle.graph_update.specs.PendingChanges.{Pending, graph_after, lost_edge, lost_from, lost_onto}
-use Rattle.bisim_spec.specs.Below.{sum_below}
-use Rattle.bisim_spec.specs.Weights.{weight_at, weight, size_of}
-use Rattle.one_spec.proofs.Sums.{where_in, sum_listed, once_most, zeros, sum_three}
-use Rattle.one_split.specs.SplitCosts.{round_cost}
+use Rattle.graph_spec.specs.Shapes.{IsNode, shape_of}
+use Rattle.graph_spec.proofs.GraphLaws.{is_shape}
+use Rattle.bisim_spec.specs.Weights.{weight_at, weight}
+use Rattle.change_spec.specs.Places.{CanMakeAll}
+use Rattle.change_spec.specs.Costs.{cost}
+use Rattle.change_spec.proofs.Accepted.{applied_can, accepted_all}
+use Rattle.change_spec.proofs.RoundBounds as bounds
+use Rattle.graph_steps.specs.NewChanges.{IsNew}
+use Rattle.graph_update.specs.PendingChanges.{Pending, graph_after}
+use Rattle.one_spec.proofs.Sums.{where_in, sum_listed, sum_most}
+use Rattle.one_split.specs.SplitCosts.{move_cost, round_cost}
 
-pub lost_onto_most : (n : ℕ) (lost : Option (ℕ × ℕ)) → sum_below n (lost_onto lost) ≤ 1
-lost_onto_most n None = (let z = zeros n in omega (arith, z))
-lost_onto_most n (Some e) = once_most n e.1
+-- the graph after is that of a change that can be made
+pub record IsSound (a : Pending) : Type 0 where
+  pub graph : IsGraph a.before
+  pub graph_after : IsGraph (graph_after a)
+  pub can : CanMakeAll a.change a.before
 
-pub lost_from_most : (n : ℕ) (lost : Option (ℕ × ℕ)) → sum_below n (lost_from lost) ≤ 1
-lost_from_most n None = (let z = zeros n in omega (arith, z))
-lost_from_most n (Some e) = once_most n e.0
+pub sound_of : (a : Pending) → IsNew a.change a.before → IsGraph a.before → IsGraph (graph_after a) → IsSound a
+sound_of a new graph graph2 = record {
+  graph = graph;
+  graph_after = graph2;
+  can = applied_can a.change a.before (graph_after a) new.limits (accepted_all a.change a.before (graph_after a) new.limits new.accepted).1;
+}
 
--- a round over distinct nodes inside
-pub round_most : (a : Pending) (inside : ℕ → Bool) (nodes : List ℕ) → IsDistinct nat_eq nodes
-    → ((n : ℕ) → has nodes n ≡ true → (n < (shape_of (graph_after a)).size) × (inside n ≡ true))
-    → sum_by (round_cost a) nodes ≤ 3 * weight (shape_of (graph_after a)) inside + 3
-round_most a inside nodes once within =
+-- the nodes of a set
+abbrev live_in : Pending → (ℕ → Bool) → ℕ → Bool
+live_in a inside n = inside n && is_live (graph_after a) n
+
+-- the nodes of a set weigh no more than the set
+live_less : (a : Pending) (inside : ℕ → Bool) → cost a.change a.before (live_in a inside) ≤ cost a.change a.before inside
+live_less a inside =
     let s = shape_of (graph_after a) in
-    let listed = sum_listed s.size inside (round_cost a) nodes once within in
-    let parts = sum_three s.size (where_in inside (round_cost a)) (where_in inside (weight_at s)) (lost_onto (lost_edge a.change)) (lost_from (lost_edge a.change)) (λ k. elim (cases_Bool (inside k)) [
-      | inl on ↦ rw on (omega arith)
+    let less : weight s (live_in a inside) ≤ weight s inside =
+    sum_most s.size (where_in (live_in a inside) (weight_at s)) (where_in inside (weight_at s)) (λ k l. elim (cases_Bool (live_in a inside k)) [
+      | inl on ↦ (let e = (and_parts (inside k) (is_live (graph_after a) k) on).0 in rw (on, e) (omega arith))
       | inr off ↦ rw off (omega arith)
     ]) in
-    let onto = lost_onto_most s.size (lost_edge a.change) in
-    let from = lost_from_most s.size (lost_edge a.change) in
-    omega (arith, listed, parts, onto, from)
+    omega (arith, less)
 
--- there are no more nodes than they weigh
-pub size_most : (s : Shape) (inside : ℕ → Bool) → size_of s inside ≤ weight s inside
-size_most s inside = by s.size
-  where
-    by : (n : ℕ) → count_below n inside ≤ sum_below n (λ k. cond (inside k) (weight_at s k) 0)
-    by zero = omega arith
-    by (suc n) = elim (cases_Bool (inside n)) [
-      | inl on ↦ (let r = by n in rw on (omega (arith, r)))
-      | inr off ↦ (let r = by n in rw off (omega (arith, r)))
-    ]
+-- distinct nodes inside
+pub record AreNodesIn (a : Pending) (inside : ℕ → Bool) (nodes : List ℕ) : Type 0 where
+  pub once : IsDistinct nat_eq nodes
+  pub live : (n : ℕ) → has nodes n ≡ true → IsNode (shape_of (graph_after a)) n
+  pub within : (n : ℕ) → has nodes n ≡ true → inside n ≡ true
+
+-- where nothing costs more than a round at the same node
+costs_most : (a : Pending) (inside : ℕ → Bool) (f : ℕ → ℕ) (nodes : List ℕ) → IsSound a → AreNodesIn a inside nodes → ((n : ℕ) → f n ≤ round_cost a n)
+    → sum_by f nodes ≤ 3 * cost a.change a.before inside
+costs_most a inside f nodes sound are light =
+    let g2 = graph_after a in
+    let s = shape_of g2 in
+    let set = live_in a inside in
+    let listed = sum_listed s.size set f nodes are.once (λ n h.
+    let node = are.live n h in
+    ((is_shape g2 sound.graph_after).below n node, and_from (inside n) (is_live g2 n) (are.within n h) node)) in
+    let most = sum_most s.size (where_in set f) (where_in set (round_cost a)) (λ k l. elim (cases_Bool (set k)) [
+      | inl on ↦ (let e = light k in rw on e)
+      | inr off ↦ rw off (omega arith)
+    ]) in
+    let round = bounds.round_most a.change a.before set sound.graph sound.can (λ n h. (and_parts (inside n) (is_live g2 n) h).1) in
+    let less = live_less a inside in
+    omega (arith, listed, most, round, less)
+
+-- a round over distinct nodes inside
+pub round_most : (a : Pending) (inside : ℕ → Bool) (nodes : List ℕ) → IsSound a → AreNodesIn a inside nodes → sum_by (round_cost a) nodes ≤ 3 * cost a.change a.before inside
+round_most a inside nodes sound are = costs_most a inside (round_cost a) nodes sound are (λ n. omega arith)
+
+-- moving distinct nodes inside
+pub moves_most : (a : Pending) (inside : ℕ → Bool) (nodes : List ℕ) → IsSound a → AreNodesIn a inside nodes → sum_by (move_cost a) nodes ≤ 3 * cost a.change a.before inside
+moves_most a inside nodes sound are = costs_most a inside (move_cost a) nodes sound are (λ n. omega arith)

@@ -6,7 +6,7 @@ use Rattle.std.proofs.lemmas.Bool.{or_cases, or_left, or_right, false_from_ne_tr
 use Rattle.std.proofs.lemmas.Bool.Decides.{Decides-eqb}
 use Rattle.std.proofs.lemmas.List.{length-append}
 use Rattle.graph_spec.specs.Members.{has}
-use Rattle.graph_update.proofs.NeighbourLists.{and_one}
+use Rattle.one_split.proofs.OneMore.{and_one}
 use Rattle.one_split.specs.NodeTargetBlocks.{BeginsAt, target_block_at, AreGroupTargetBlocks, StaysIf, GoesIf, TargetBlocksExist, AreBlocks, AreAdded}
 use Rattle.graph_spec.proofs.MemberLaws.{has_push}
 use Rattle.one_split.proofs.Chosen.{AreNoted, target_block_cases, target_block_last, target_block_stays, going_none, going_stays, going_goes, noted_stays, noted_goes}

@@ -15,3 +15,4 @@ pub mod Light
 pub mod Wholes
 pub mod Present
 pub mod SharedBlockLaws
+pub mod OneMore

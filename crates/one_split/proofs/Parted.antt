@@ -16,7 +16,7 @@ use Rattle.bisim_spec.proofs.Together.{together_sym}
 use Rattle.one_spec.specs.SplitRoundSteps.{MayStayTogether}
 use Rattle.one_spec.proofs.SplitRounds.{same_but_moved, same_but_on, within_on}
 use Rattle.one_spec.proofs.Sums.{first_has, rest_apart}
-use Rattle.graph_update.proofs.NeighbourLists.{and_one}
+use Rattle.one_split.proofs.OneMore.{and_one}
 use Rattle.one_spec.specs.BlockLabels.{BlocksHaveLabels, BlocksHaveLabelsBut}
 use Rattle.one_split.specs.NodeTargetBlocks.{LabelsStay, AreBlocks}
 use Rattle.one_split.proofs.BlockLabels.{some_kept}

@@ -12,11 +12,11 @@ move_cost a n = parents_cost a n + children_cost a n
 abbrev pub round_cost : Pending → ℕ → ℕ
 round_cost a n = 2 * parents_cost a n + children_cost a n
 
--- What the rounds have cost, where the nodes inside weigh w: at most so much for each block that was made; once nothing is
--- left to be examined, for one more, and then there is an edge inside.
+-- What the rounds have cost, where the change costs w at the nodes inside: at most so much for each block that was made; once
+-- nothing is left to be examined, for one more.
 pub data HasCost (w made spent : ℕ) (next : List ℕ) : Type 0 where
-  going : spent ≤ made * (3 * w + 3) → HasCost w made spent next
-  ended : next ≡ [] → 3 ≤ w → spent ≤ (made + 1) * (3 * w + 3) → HasCost w made spent next
+  going : spent ≤ made * (3 * w) → HasCost w made spent next
+  ended : next ≡ [] → spent ≤ (made + 1) * (3 * w) → HasCost w made spent next
 
 -- a block was made, or none was made and no step was taken
 abbrev pub IsCharged : List ℕ → List ℕ → ℕ → ℕ → Type 0

@@ -6,11 +6,12 @@ use Rattle.graph_spec.specs.Shapes.{Shape, IsNode, IsParent, shape_of}
 use Rattle.label_graph.specs.GraphViews.{label_number}
 use Rattle.bisim_spec.specs.Partitions.{Together}
 use Rattle.bisim_spec.specs.Stability.{StableBut}
-use Rattle.bisim_spec.specs.Weights.{size_of, weight}
+use Rattle.bisim_spec.specs.Weights.{size_of}
 use Rattle.one_spec.specs.BlockLabels.{BlocksHaveLabelsBut}
 use Rattle.one_spec.specs.SplitRoundSteps.{IsRefinement, SameBut}
 use Rattle.one_spec.specs.EdgeCounts.{AreEdgeCounts}
 use Rattle.one_spec.specs.Splits.{IsClosed, IsSplitInside}
+use Rattle.change_spec.specs.Costs.{cost}
 use Rattle.graph_update.specs.PendingChanges.{Pending, graph_after}
 use Rattle.quotient.specs.Quotients.{Quotient}
 use Rattle.quotient_draft.specs.Basis.{IsOver}
@@ -79,8 +80,8 @@ SplitsInside a targets base d d2 next made =
     → IsSplitInside (shape_of (graph_after a)) inside (shown_blocks base d) (shown_blocks base d2) next made
 
 -- whatever set is closed under children and has the targets: the steps are at most four times its numbers and one,
--- times what there is to read at them
+-- times what the change costs at them
 abbrev pub CostsInside : Pending → List ℕ → ℕ → ℕ → Type 0
 CostsInside a targets steps steps2 =
     (inside : ℕ → Bool) → IsClosed (shape_of (graph_after a)) inside → ((n : ℕ) → IsTrue (has targets n) → IsTrue (inside n))
-    → steps2 ≤ steps + 4 * ((size_of (shape_of (graph_after a)) inside + 1) * weight (shape_of (graph_after a)) inside)
+    → steps2 ≤ steps + 4 * ((size_of (shape_of (graph_after a)) inside + 1) * cost a.change a.before inside)

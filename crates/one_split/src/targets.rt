@@ -136,8 +136,9 @@ fn part_all<L: Ledger>(
 /// are made are put into `made`, which is empty before. Whatever set is closed under children and holds the targets,
 /// only its nodes are read and moved.
 ///
-/// It takes at most `4 * ((r + 1) * w)` steps, where the set has `r` nodes and weighs `w`: one for each of them, one
-/// for each parent and one for each child. After `Memory`, which also comes past 2^31 blocks, the draft must be
+/// It takes at most `4 * ((r + 1) * w)` steps, where the set has `r` nodes, and `w` is what the change costs at it: one for
+/// each of them, for each parent and for each child, one for each step of the change, and one for each node that goes, for
+/// each of its parents and for each of its children. After `Memory`, which also comes past 2^31 blocks, the draft must be
 /// cleared before it is used again.
 ///
 /// Expected O((r + 1) w log w) at most; it takes O(w) memory, by which the draft grows.

@@ -1,10 +1,11 @@
 -- An edge that comes, and an edge that goes, in a draft: supports, and where the partition stays.
-use Rattle.std.proofs.Common.{◌≡◌, ◌≢◌, ℕ, ◌+◌, ◌<◌, List, Option, Some, IsTrue, refl, sym, ◌∙◌, ap, subst, arith, inl, inr, true, false, cond, true≢false}
+use Rattle.std.proofs.Common.{◌≡◌, ◌≢◌, ℕ, ◌+◌, ◌<◌, List, [], ◌∷◌, Option, Some, IsTrue, refl, sym, ◌∙◌, ap, subst, arith, inl, inr, true, false, cond, true≢false}
 use Rattle.std.specs.Prelude.{nat_eq, ◌&&◌, ◌||◌, not}
 use Rattle.std.specs.FinSet as set
 use Rattle.std.proofs.lemmas.Bool.Decides.{eqb_tells}
 use Rattle.graph_spec.specs.Graphs.{Graph, IsGraph, has_edge}
-use Rattle.graph_spec.specs.Changes.{link, unlink, with_edge, without_edge}
+use Rattle.graph_spec.specs.Changes.{with_edge, without_edge}
+use Rattle.change_spec.specs.Steps.{link, unlink}
 use Rattle.graph_spec.specs.Members.{at, is_this}
 use Rattle.graph_spec.specs.Shapes.{shape_of}
 use Rattle.graph_spec.proofs.GraphLaws.{is_shape, edge_with, edge_without}
@@ -12,7 +13,7 @@ use Rattle.label_graph.specs.GraphViews.{label_number}
 use Rattle.bisim_spec.specs.Partitions.{IsPartition}
 use Rattle.bisim_spec.specs.Supports.{edges_between}
 use Rattle.bisim_spec.specs.Targets.{HasOther}
-use Rattle.bisim_spec.specs.OneStep.{OneStep}
+use Rattle.change_spec.specs.NextOne.{OneStep}
 use Rattle.bisim_spec.specs.IndexGraphs.{support_at}
 use Rattle.bisim_spec.specs.Fits.{FitsOne}
 use Rattle.bisim_spec.proofs.Moves.{between_linked, between_unlinked}
@@ -84,7 +85,7 @@ at_same : (q : Quotient) (d : Drafted) → AreSupportsAlone d → (n : ℕ) → 
 at_same q d alone n = ap (λ (p : List (Option ℕ)). at p n) (blocks_same q d alone)
 
 pub changed_link : (g : Graph) (u v a b : ℕ) (q : Quotient) (d : Drafted) → IsGraph g → has_edge g u v ≡ false → FitsOne g (view_of q) → IsOver q.blocks.block_of q.blocks.labels d
-    → AreSupportsAlone d → AreAt q.blocks.block_of u v a b → IsRaised q d a b → ShowsChange g (link u v) q d
+    → AreSupportsAlone d → AreAt q.blocks.block_of u v a b → IsRaised q d a b → ShowsChange g (link u v ∷ []) q d
 changed_link g u v a b q d graph absent fits over alone ends r =
     let partition = partition_same g q d fits alone in
     let block_labels = block_labels_same g q d graph fits alone in
@@ -97,7 +98,7 @@ changed_link g u v a b q d graph absent fits over alone ends r =
     }
 
 pub changed_unlink : (g : Graph) (u v a b : ℕ) (q : Quotient) (d : Drafted) → IsGraph g → has_edge g u v ≡ true → FitsOne g (view_of q) → IsOver q.blocks.block_of q.blocks.labels d
-    → AreSupportsAlone d → AreAt q.blocks.block_of u v a b → IsLowered q d a b → ShowsChange g (unlink u v) q d
+    → AreSupportsAlone d → AreAt q.blocks.block_of u v a b → IsLowered q d a b → ShowsChange g (unlink u v ∷ []) q d
 changed_unlink g u v a b q d graph present fits over alone ends r =
     let partition = partition_same g q d fits alone in
     let block_labels = block_labels_same g q d graph fits alone in
@@ -119,22 +120,22 @@ other_linked g u v a b q absent fits ends some =
     supported_other g u v a b q.blocks.block_of fits.index.stable absent ends.from ends.onto (support_adjacent g q.blocks.block_of a b (omega (arith, some, base)))
 
 pub still_link : (g : Graph) (u v : ℕ) (q : Quotient) (d : Drafted) → IsGraph g → IsGraph (with_edge g u v) → FitsOne g (view_of q) → AreSupportsAlone d
-    → HasOther (shape_of (with_edge g u v)) q.blocks.block_of u v → ShowsChange g (link u v) q d → IsDrafted g (link u v) q d
+    → HasOther (shape_of (with_edge g u v)) q.blocks.block_of u v → ShowsChange g (link u v ∷ []) q d → IsDrafted g (link u v ∷ []) q d
 still_link g u v q d graph graph2 fits alone other changed = record {
   over = changed.over;
-  step = subst (OneStep g q.blocks.block_of (link u v) (with_edge g u v)) (sym (blocks_same q d alone))
-      (one_step_still g q.blocks.block_of (link u v) u v other.parent (is_shape g graph) (is_shape (with_edge g u v) graph2) (twin_link g u v q.blocks.block_of other)
+  step = subst (OneStep g q.blocks.block_of (link u v ∷ []) (with_edge g u v)) (sym (blocks_same q d alone))
+      (one_step_still g q.blocks.block_of (link u v ∷ []) u v other.parent (is_shape g graph) (is_shape (with_edge g u v) graph2) (twin_link g u v q.blocks.block_of other)
       fits.index.stable fits.index.minimal);
   block_labels = changed.block_labels;
   supports = changed.supports;
 }
 
 pub still_unlink : (g : Graph) (u v : ℕ) (q : Quotient) (d : Drafted) → IsGraph g → IsGraph (without_edge g u v) → FitsOne g (view_of q) → AreSupportsAlone d
-    → HasOther (shape_of (without_edge g u v)) q.blocks.block_of u v → ShowsChange g (unlink u v) q d → IsDrafted g (unlink u v) q d
+    → HasOther (shape_of (without_edge g u v)) q.blocks.block_of u v → ShowsChange g (unlink u v ∷ []) q d → IsDrafted g (unlink u v ∷ []) q d
 still_unlink g u v q d graph graph2 fits alone other changed = record {
   over = changed.over;
-  step = subst (OneStep g q.blocks.block_of (unlink u v) (without_edge g u v)) (sym (blocks_same q d alone))
-      (one_step_still g q.blocks.block_of (unlink u v) u v other.parent (is_shape g graph) (is_shape (without_edge g u v) graph2) (twin_unlink g u v q.blocks.block_of other)
+  step = subst (OneStep g q.blocks.block_of (unlink u v ∷ []) (without_edge g u v)) (sym (blocks_same q d alone))
+      (one_step_still g q.blocks.block_of (unlink u v ∷ []) u v other.parent (is_shape g graph) (is_shape (without_edge g u v) graph2) (twin_unlink g u v q.blocks.block_of other)
       fits.index.stable fits.index.minimal);
   block_labels = changed.block_labels;
   supports = changed.supports;

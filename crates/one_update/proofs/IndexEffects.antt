@@ -5,7 +5,7 @@ use Rattle.std.specs.FinSet as set
 use Rattle.std.proofs.lemmas.Bool.{false_from_ne_true}
 use Rattle.std.proofs.lemmas.Bool.Decides.{eqb_tells, Decides-eqb}
 use Rattle.graph_spec.specs.Graphs.{Graph, IsGraph, is_live, has_edge}
-use Rattle.graph_spec.specs.Changes.{Change, after}
+use Rattle.change_spec.specs.Steps.{Step, after}
 use Rattle.graph_spec.specs.Members.{at, has}
 use Rattle.graph_spec.specs.Shapes.{shape_of}
 use Rattle.label_graph.specs.GraphViews.{label_number}
@@ -172,7 +172,7 @@ index_few g g2 e q d j w few way x y =
     counts_few (with_edges (without_edges g e.lost) (take j e.added)) g2 (shown_blocks q d) (shown_support q d) x y way.supports (λ u v h. within_after g g2 e j u v w h) few
 
 -- All effects are drafted: the draft shows the graph after the change, with nodes in the blocks in which they were.
-pub index_done : (g : Graph) (c : Change) (e : EffectLists) (q : Quotient) (d : Drafted) → AreEffects g (after c g) e → IsGraph (after c g) → IsIndexBase g q
+pub index_done : (g : Graph) (c : List Step) (e : EffectLists) (q : Quotient) (d : Drafted) → AreEffects g (after c g) e → IsGraph (after c g) → IsIndexBase g q
     → IsIndexOnWay (after c g) (with_edges (without_edges g e.lost) e.added) e.came e.gone q d → ShowsChange g c q d
 index_done g c e q d w graph base way = record {
   over = way.over;

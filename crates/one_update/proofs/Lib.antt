@@ -6,3 +6,4 @@ pub mod PendingChanges
 pub mod Unreached
 pub mod ListedEffects
 pub mod IndexEffects
+pub mod SingleSteps

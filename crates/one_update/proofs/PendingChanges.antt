@@ -1,66 +1,114 @@
 -- Edges that come and go, as they are pending over a quotient.
-use Rattle.std.proofs.Common.{◌≡◌, ℕ, zero, suc, ◌+◌, ◌<◌, ◌≤◌, ◌^◌, List, [], ◌∷◌, length, Option, Some, IsTrue, IsFalse, refl, sym, ◌∙◌, ap, subst, arith, inl, inr, true, false, Bool, cond, nat_lt, true≢false}
-use Rattle.std.specs.Prelude.{nat_eq, ◌&&◌}
+use Rattle.std.proofs.Common.{◌≡◌, ℕ, zero, suc, ◌+◌, ◌<◌, ◌≤◌, ◌^◌, List, [], ◌∷◌, length, Option, Some, IsTrue, IsFalse, refl, sym, ◌∙◌, ap, subst, arith, inl, inr, true, false, Bool, nat_lt, true≢false}
+use Rattle.std.specs.Prelude.{nat_eq, ◌&&◌, ◌||◌, not}
 use Rattle.std.specs.List.{list_any}
+use Rattle.std.proofs.Math.Bool.{and-false}
 use Rattle.std.proofs.lemmas.Bool.{or_cases, or_left, or_right, or_parts, both_ways}
 use Rattle.std.proofs.lemmas.Bool.Decides.{Decides-ltb, Decides-eqb, eqb_tells}
 use Rattle.graph_spec.specs.Graphs.{Graph, IsGraph, is_live, has_edge}
-use Rattle.graph_spec.specs.Changes.{Change, node, link, unlink, drop, after}
+use Rattle.graph_spec.specs.Changes.{with_edge, without_edge}
 use Rattle.graph_spec.specs.Members.{Lists, has, at, is_this}
 use Rattle.graph_spec.specs.Shapes.{shape_of}
 use Rattle.graph_spec.proofs.GraphLaws.{is_shape}
-use Rattle.bisim_spec.specs.Targets.{HasOther, AreTargets, target}
+use Rattle.bisim_spec.specs.Targets.{HasOther}
 use Rattle.bisim_spec.specs.IndexGraphs.{support_at}
 use Rattle.bisim_spec.specs.Weights.{parent_count}
-use Rattle.bisim_spec.proofs.ListedTargets.{one_target, only_one}
+use Rattle.bisim_spec.proofs.ListedTargets.{one_once}
+use Rattle.change_spec.specs.Steps.{Step, link, unlink, after}
+use Rattle.change_spec.specs.Places.{CanMakeAll}
+use Rattle.change_spec.specs.Lost.{lost_onto}
+use Rattle.change_spec.specs.NextOne.{KeepsParents}
+use Rattle.change_spec.proofs.Accepted.{applied_can, accepted_all}
 use Rattle.bisim_spec.proofs.Moves.{between_most, block_get, block_from}
 use Rattle.bisim_spec.proofs.Together.{together_at, together_sym}
-use Rattle.graph_update.specs.NewChanges.{IsNew}
-use Rattle.graph_update.specs.PendingChanges.{Pending, graph_after, lost_edge, lost_onto}
+use Rattle.graph_steps.specs.NewChanges.{IsNew}
+use Rattle.graph_update.specs.PendingChanges.{Pending, graph_after}
 use Rattle.quotient.specs.Quotients.{Quotient}
 use Rattle.quotient.specs.QuotientNeighbours.{one_if}
 use Rattle.quotient_draft.specs.Drafts.{Drafted, no_changes, shown_support}
 use Rattle.quotient_draft.specs.Basis.{IsOver}
-use Rattle.one_spec.proofs.Sums.{few_lists}
-use Rattle.one_update.specs.OneDrafts.{IsBefore, AreLiveTargets, ShowsChange, IsDrafted, AreSupportsAlone}
+use Rattle.one_spec.proofs.Sums.{few_lists, first_has}
+use Rattle.one_update.specs.OneDrafts.{IsBefore, AreFoundTargets, AreTargets, ShowsChange, IsDrafted, AreSupportsAlone, rounds_cost}
+use Rattle.one_update.proofs.PhaseLaws.{all_found, read_light}
 use Rattle.one_update.proofs.EdgeChanges.{AreAt, changed_link, changed_unlink, other_linked, none_linked, other_unlinked, unlink_some, still_link, still_unlink}
 
 -- ---- edges
 
-new_link : (a : Pending) (q : Quotient) (u v : ℕ) → IsBefore a q → a.change ≡ link u v → IsNew (link u v) a.before
-new_link a q u v before is = subst (λ c. IsNew c a.before) is before.new
+-- what is known of an edge that comes
+pub record IsLinked (g : Graph) (u v : ℕ) : Type 0 where
+  pub absent : has_edge g u v ≡ false
+  pub from : IsTrue (is_live g u)
+  pub onto : IsTrue (is_live g v)
 
-new_unlink : (a : Pending) (q : Quotient) (u v : ℕ) → IsBefore a q → a.change ≡ unlink u v → IsNew (unlink u v) a.before
-new_unlink a q u v before is = subst (λ c. IsNew c a.before) is before.new
+-- and of one that goes
+pub record IsUnlinked (g : Graph) (u v : ℕ) : Type 0 where
+  pub present : has_edge g u v ≡ true
+  pub from : IsTrue (is_live g u)
+  pub onto : IsTrue (is_live g v)
 
-pub link_target : (a : Pending) (q : Quotient) (u v : ℕ) → IsBefore a q → a.change ≡ link u v → AreTargets a.before a.change (v ∷ [])
-link_target a q u v before is =
-    one_target a.before a.change v (λ n. ap (λ (c : Change). target c a.before n) (sym is)) (subst (λ c. v < length (after c a.before).allocated) (sym is)
-    ((is_shape a.before before.graph).below v (new_link a q u v before is).onto))
+can_make : (c : List Step) (g : Graph) → IsNew c g → CanMakeAll c g
+can_make c g new = applied_can c g (after c g) new.limits (accepted_all c g (after c g) new.limits new.accepted).1
 
-pub unlink_target : (a : Pending) (q : Quotient) (u v : ℕ) → IsBefore a q → a.change ≡ unlink u v → AreTargets a.before a.change (v ∷ [])
-unlink_target a q u v before is =
-    one_target a.before a.change v (λ n. ap (λ (c : Change). target c a.before n) (sym is)) (subst (λ c. v < length (after c a.before).allocated) (sym is)
-    ((is_shape a.before before.graph).below v (new_unlink a q u v before is).onto))
+new_link : (a : Pending) (q : Quotient) (u v : ℕ) → IsBefore a q → a.change ≡ link u v ∷ [] → IsLinked a.before u v
+new_link a q u v before is =
+    let new : IsNew (link u v ∷ []) a.before = subst (λ c. IsNew c a.before) is before.new in
+    let can = (can_make (link u v ∷ []) a.before new).0 in
+    record { absent = absent (has_edge a.before u v) new.new; from = can.0; onto = can.1 }
+  where
+    absent : (b : Bool) → (not b || false) ≡ true → b ≡ false
+    absent true h = sym h
+    absent false h = refl
 
-and_own : (a b : Bool) → (b ≡ true → a ≡ true) → b ≡ (a && b)
-and_own true b h = refl
-and_own false true h = absurd (true≢false (sym (h refl)))
-and_own false false h = refl
+new_unlink : (a : Pending) (q : Quotient) (u v : ℕ) → IsBefore a q → a.change ≡ unlink u v ∷ [] → IsUnlinked a.before u v
+new_unlink a q u v before is =
+    let new : IsNew (unlink u v ∷ []) a.before = subst (λ c. IsNew c a.before) is before.new in
+    let can = (can_make (unlink u v ∷ []) a.before new).0 in
+    record { present = can.2; from = can.0; onto = can.1 }
 
--- the end of an edge is a node after
-live_target : (a : Pending) (v : ℕ) → AreTargets a.before a.change (v ∷ []) → IsTrue (is_live (graph_after a) v) → AreLiveTargets a.before a.change (v ∷ [])
-live_target a v are live = record {
-  once = are.listed.once;
-  members = λ n. are.listed.members n ∙ and_own (is_live (graph_after a) n) (target a.change a.before n) (λ on.
-      subst (λ m. is_live (graph_after a) m ≡ true) (sym (only_one v n (are.listed.members n ∙ on))) live);
-}
+-- the end of an edge is the one target
+one_listed : (v : ℕ) (alive : ℕ → Bool) (b : Bool) → b ≡ true → alive v ≡ true → (n : ℕ) → (nat_eq n v || false) ≡ (alive n && ((nat_eq n v && b) || false))
+one_listed v alive b on live n = elim (eqb_tells n v) [
+  | inl s ↦ (let here : alive n ≡ true = ap alive s.1 ∙ live in rw (s.0, on, here) refl)
+  | inr d ↦ rw d.0 (sym (and-false (alive n)))
+]
 
-pub link_live : (a : Pending) (q : Quotient) (u v : ℕ) → IsBefore a q → a.change ≡ link u v → AreLiveTargets a.before a.change (v ∷ [])
-link_live a q u v before is = live_target a v (link_target a q u v before is) (subst (λ c. IsTrue (is_live (after c a.before) v)) (sym is) (new_link a q u v before is).onto)
+pub link_targets : (a : Pending) (q : Quotient) (u v : ℕ) → IsBefore a q → a.change ≡ link u v ∷ [] → AreTargets a.before a.change (v ∷ [])
+link_targets a q u v before is =
+    let k = new_link a q u v before is in
+    subst (λ c. AreTargets a.before c (v ∷ [])) (sym is) (record {
+      once = one_once v;
+      members = one_listed v (is_live (with_edge a.before u v)) (not (has_edge a.before u v)) (ap not k.absent) k.onto;
+    })
 
-pub unlink_live : (a : Pending) (q : Quotient) (u v : ℕ) → IsBefore a q → a.change ≡ unlink u v → AreLiveTargets a.before a.change (v ∷ [])
-unlink_live a q u v before is = live_target a v (unlink_target a q u v before is) (subst (λ c. IsTrue (is_live (after c a.before) v)) (sym is) (new_unlink a q u v before is).onto)
+and_true : (b : Bool) → (b && true) ≡ b
+and_true true = refl
+and_true false = refl
+
+pub unlink_targets : (a : Pending) (q : Quotient) (u v : ℕ) → IsBefore a q → a.change ≡ unlink u v ∷ [] → AreTargets a.before a.change (v ∷ [])
+unlink_targets a q u v before is =
+    let k = new_unlink a q u v before is in
+    subst (λ c. AreTargets a.before c (v ∷ [])) (sym is) (record {
+      once = one_once v;
+      members = λ n. one_listed v (is_live (without_edge a.before u v)) true refl k.onto n ∙ ap (λ b. is_live (without_edge a.before u v) n && (b || false)) (and_true (nat_eq n v));
+    })
+
+pub link_found : (a : Pending) (q : Quotient) (u v : ℕ) → IsBefore a q → a.change ≡ link u v ∷ [] → AreFoundTargets a.before a.change (v ∷ [])
+link_found a q u v before is = all_found a.before a.change (v ∷ []) (link_targets a q u v before is)
+
+pub unlink_found : (a : Pending) (q : Quotient) (u v : ℕ) → IsBefore a q → a.change ≡ unlink u v ∷ [] → AreFoundTargets a.before a.change (v ∷ [])
+unlink_found a q u v before is = all_found a.before a.change (v ∷ []) (unlink_targets a q u v before is)
+
+-- reading the parents of the end of an edge that goes
+pub unlink_light : (a : Pending) (q : Quotient) (u v : ℕ) → IsBefore a q → a.change ≡ unlink u v ∷ []
+    → 1 + parent_count (shape_of (graph_after a)) v + lost_onto a.before (graph_after a) v ≤ rounds_cost a.before a.change
+unlink_light a q u v before is =
+    read_light a.before a.change (v ∷ []) v before.graph before.graph_after before.new (unlink_found a q u v before is) (first_has v []) (new_unlink a q u v before is).onto
+
+-- a change of another number of steps than one isn't a link or unlink
+pub many_move : (c : List Step) (g : Graph) (block : List (Option ℕ)) → (length c ≡ 1 → ⊥) → KeepsParents c g block → ⊥
+many_move [] g block h k = k
+many_move (s ∷ []) g block h k = h refl
+many_move (s ∷ r ∷ ss) g block h k = k
 
 pub alone_from : (d0 d : Drafted) → d0 ≡ no_changes → d.added ≡ d0.added → d.moves ≡ d0.moves → AreSupportsAlone d
 alone_from d0 d empty added moves = record { moves = moves ∙ ap (λ (e : Drafted). e.moves) empty; added = added ∙ ap (λ (e : Drafted). e.added) empty }
@@ -73,7 +121,7 @@ few_base a q d0 x y before empty =
     let few = before.few in
     omega (arith, same, base, most, few)
 
-pub link_changed : (a : Pending) (q : Quotient) (d0 d : Drafted) (u v x y : ℕ) → IsBefore a q → a.change ≡ link u v → d0 ≡ no_changes → AreAt q.blocks.block_of u v x y
+pub link_changed : (a : Pending) (q : Quotient) (d0 d : Drafted) (u v x y : ℕ) → IsBefore a q → a.change ≡ link u v ∷ [] → d0 ≡ no_changes → AreAt q.blocks.block_of u v x y
     → ((k m : ℕ) → shown_support q d k m ≡ shown_support q d0 k m + one_if (nat_eq k x && nat_eq m y)) → AreSupportsAlone d
     → IsOver q.blocks.block_of q.blocks.labels d → ShowsChange a.before a.change q d
 link_changed a q d0 d u v x y before is empty ends raised alone over =
@@ -81,7 +129,7 @@ link_changed a q d0 d u v x y before is empty ends raised alone over =
     (changed_link a.before u v x y q d before.graph (new_link a q u v before is).absent before.fits over alone ends
     (record { raised = λ k m. raised k m ∙ ap (λ (e : Drafted). shown_support q e k m + one_if (nat_eq k x && nat_eq m y)) empty }))
 
-pub unlink_changed : (a : Pending) (q : Quotient) (d0 d : Drafted) (u v x y : ℕ) → IsBefore a q → a.change ≡ unlink u v → d0 ≡ no_changes → AreAt q.blocks.block_of u v x y
+pub unlink_changed : (a : Pending) (q : Quotient) (d0 d : Drafted) (u v x y : ℕ) → IsBefore a q → a.change ≡ unlink u v ∷ [] → d0 ≡ no_changes → AreAt q.blocks.block_of u v x y
     → ((k m : ℕ) → shown_support q d k m + one_if (nat_eq k x && nat_eq m y) ≡ shown_support q d0 k m) → AreSupportsAlone d
     → IsOver q.blocks.block_of q.blocks.labels d → ShowsChange a.before a.change q d
 unlink_changed a q d0 d u v x y before is empty ends lowered alone over =
@@ -89,14 +137,14 @@ unlink_changed a q d0 d u v x y before is empty ends lowered alone over =
     (changed_unlink a.before u v x y q d before.graph (new_unlink a q u v before is).present before.fits over alone ends
     (record { lowered = λ k m. lowered k m ∙ ap (λ (e : Drafted). shown_support q e k m) empty }))
 
-pub link_yes : (a : Pending) (q : Quotient) (u v x y n : ℕ) → IsBefore a q → a.change ≡ link u v → AreAt q.blocks.block_of u v x y → n ≡ support_at q.supports x y
+pub link_yes : (a : Pending) (q : Quotient) (u v x y n : ℕ) → IsBefore a q → a.change ≡ link u v ∷ [] → AreAt q.blocks.block_of u v x y → n ≡ support_at q.supports x y
     → IsTrue (nat_lt 0 n) → HasOther (shape_of (graph_after a)) q.blocks.block_of u v
 link_yes a q u v x y n before is ends same some =
     let more = (Decides-ltb 0 n).0 some in
     subst (λ c. HasOther (shape_of (after c a.before)) q.blocks.block_of u v) (sym is)
     (other_linked a.before u v x y q (new_link a q u v before is).absent before.fits ends (omega (arith, more, same)))
 
-pub link_no : (a : Pending) (q : Quotient) (u v x y n : ℕ) → IsBefore a q → a.change ≡ link u v → AreAt q.blocks.block_of u v x y → n ≡ support_at q.supports x y
+pub link_no : (a : Pending) (q : Quotient) (u v x y n : ℕ) → IsBefore a q → a.change ≡ link u v ∷ [] → AreAt q.blocks.block_of u v x y → n ≡ support_at q.supports x y
     → IsFalse (nat_lt 0 n) → HasOther (shape_of (graph_after a)) q.blocks.block_of u v → ⊥
 link_no a q u v x y n before is ends same none other =
     none_linked a.before u v x y q before.fits ends (sym same ∙ zero_of n none) (subst (λ c. HasOther (shape_of (after c a.before)) q.blocks.block_of u v) is other)
@@ -105,14 +153,14 @@ link_no a q u v x y n before is ends same none other =
     zero_of zero h = refl
     zero_of (suc n) h = absurd (true≢false (sym ((Decides-ltb 0 (suc n)).1 (omega arith)) ∙ h))
 
-pub unlink_counts : (a : Pending) (q : Quotient) (d0 : Drafted) (u v x y : ℕ) → IsBefore a q → a.change ≡ unlink u v → d0 ≡ no_changes → AreAt q.blocks.block_of u v x y
+pub unlink_counts : (a : Pending) (q : Quotient) (d0 : Drafted) (u v x y : ℕ) → IsBefore a q → a.change ≡ unlink u v ∷ [] → d0 ≡ no_changes → AreAt q.blocks.block_of u v x y
     → 0 < shown_support q d0 x y
 unlink_counts a q d0 u v x y before is empty ends =
     let same = ap (λ (e : Drafted). shown_support q e x y) empty in
     let some = unlink_some a.before u v x y q (new_unlink a q u v before is).present before.fits ends in
     omega (arith, same, some)
 
-pub unlink_yes : (a : Pending) (q : Quotient) (u v x : ℕ) → a.change ≡ unlink u v → at q.blocks.block_of u ≡ Some x
+pub unlink_yes : (a : Pending) (q : Quotient) (u v x : ℕ) → a.change ≡ unlink u v ∷ [] → at q.blocks.block_of u ≡ Some x
     → (w : ℕ) × IsTrue (has_edge (graph_after a) w v) × (at q.blocks.block_of w ≡ Some x) → HasOther (shape_of (graph_after a)) q.blocks.block_of u v
 unlink_yes a q u v x is at_u w =
     subst (λ c. HasOther (shape_of (after c a.before)) q.blocks.block_of u v) (sym is)
@@ -156,27 +204,16 @@ parents_few g v xs graph lists = few_lists (length g.allocated) (λ u. has_edge 
 
 -- ---- where the partition stays
 
-pub link_still : (a : Pending) (q : Quotient) (d : Drafted) (u v : ℕ) → IsBefore a q → a.change ≡ link u v → AreSupportsAlone d
+pub link_still : (a : Pending) (q : Quotient) (d : Drafted) (u v : ℕ) → IsBefore a q → a.change ≡ link u v ∷ [] → AreSupportsAlone d
     → HasOther (shape_of (graph_after a)) q.blocks.block_of u v → ShowsChange a.before a.change q d → IsDrafted a.before a.change q d
 link_still a q d u v before is alone other changed =
     subst (λ c. IsDrafted a.before c q d) (sym is)
     (still_link a.before u v q d before.graph (subst (λ c. IsGraph (after c a.before)) is before.graph_after) before.fits alone
     (subst (λ c. HasOther (shape_of (after c a.before)) q.blocks.block_of u v) is other) (subst (λ c. ShowsChange a.before c q d) is changed))
 
-pub unlink_still : (a : Pending) (q : Quotient) (d : Drafted) (u v : ℕ) → IsBefore a q → a.change ≡ unlink u v → AreSupportsAlone d
+pub unlink_still : (a : Pending) (q : Quotient) (d : Drafted) (u v : ℕ) → IsBefore a q → a.change ≡ unlink u v ∷ [] → AreSupportsAlone d
     → HasOther (shape_of (graph_after a)) q.blocks.block_of u v → ShowsChange a.before a.change q d → IsDrafted a.before a.change q d
 unlink_still a q d u v before is alone other changed =
     subst (λ c. IsDrafted a.before c q d) (sym is)
     (still_unlink a.before u v q d before.graph (subst (λ c. IsGraph (after c a.before)) is before.graph_after) before.fits alone
     (subst (λ c. HasOther (shape_of (after c a.before)) q.blocks.block_of u v) is other) (subst (λ c. ShowsChange a.before c q d) is changed))
-
-one_most : (t : Bool) → cond t 1 0 ≤ 1
-one_most true = omega arith
-one_most false = omega arith
-
--- no more than one edge to a node is lost
-pub lost_most : (c : Change) (n : ℕ) → lost_onto (lost_edge c) n ≤ 1
-lost_most (node t) n = omega arith
-lost_most (link u v) n = omega arith
-lost_most (unlink u v) n = one_most (nat_eq n v)
-lost_most (drop u) n = omega arith

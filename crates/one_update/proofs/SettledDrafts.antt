@@ -3,7 +3,7 @@ use Rattle.std.proofs.Common.{◌≡◌, ℕ, zero, suc, ◌+◌, List, [], ◌�
 use Rattle.std.specs.Prelude.{slice_get, option_and_then, position, bytes_eq}
 use Rattle.std.proofs.lemmas.Bool.{cases_lt}
 use Rattle.graph_spec.specs.Graphs.{Graph, label_of}
-use Rattle.graph_spec.specs.Changes.{Change, after}
+use Rattle.change_spec.specs.Steps.{Step, after}
 use Rattle.graph_spec.specs.Members.{at}
 use Rattle.label_graph.proofs.Positions.{text-at}
 use Rattle.bisim_spec.specs.Supports.{edges_between}
@@ -45,7 +45,7 @@ shown_inhabited block labels b h = member_at block b (member_from_label (has_mem
 shown_label : (block labels : List (Option ℕ)) (n b l : ℕ) → at block n ≡ Some b → at labels b ≡ Some l → at (inhabited_from block 0 labels) b ≡ Some l
 shown_label block labels n b l e h = inhabited_whole block labels b ∙ ap (λ t. cond t (at labels b) none_label) (member_there block b n e) ∙ h
 
-pub drafted_fits : (g : Graph) (c : Change) (q : Quotient) (d : Drafted) → IsDrafted g c q d → FitsOne (after c g) (settled_view q d)
+pub drafted_fits : (g : Graph) (c : List Step) (q : Quotient) (d : Drafted) → IsDrafted g c q d → FitsOne (after c g) (settled_view q d)
 drafted_fits g c q d drafted = record {
   view = record {
     inhabited = λ b h. shown_inhabited (shown_blocks q d) (shown_labels q d) b h;
@@ -74,8 +74,8 @@ no_member : (block : List (Option ℕ)) (b : ℕ) → has_member block b ≡ fal
 no_member block b h n e = true≢false (sym (member_there block b n e) ∙ h)
 
 -- a block without members has no support
-pub drafted_from : (g : Graph) (c : Change) (q : Quotient) (d : Drafted) → IsDrafted g c q d → (b x : ℕ) → has_member (shown_blocks q d) b ≡ false → shown_support q d b x ≡ 0
+pub drafted_from : (g : Graph) (c : List Step) (q : Quotient) (d : Drafted) → IsDrafted g c q d → (b x : ℕ) → has_member (shown_blocks q d) b ≡ false → shown_support q d b x ≡ 0
 drafted_from g c q d drafted b x h = drafted.supports.each b x ∙ no_edges (after c g) (shown_blocks q d) b x (no_member (shown_blocks q d) b h)
 
-pub drafted_onto : (g : Graph) (c : Change) (q : Quotient) (d : Drafted) → IsDrafted g c q d → (b x : ℕ) → has_member (shown_blocks q d) b ≡ false → shown_support q d x b ≡ 0
+pub drafted_onto : (g : Graph) (c : List Step) (q : Quotient) (d : Drafted) → IsDrafted g c q d → (b x : ℕ) → has_member (shown_blocks q d) b ≡ false → shown_support q d x b ≡ 0
 drafted_onto g c q d drafted b x h = drafted.supports.each x b ∙ no_edges_onto (after c g) (shown_blocks q d) x b (no_member (shown_blocks q d) b h)

@@ -4,18 +4,18 @@ use Rattle.std.specs.Prelude.{not}
 use Rattle.std.proofs.lemmas.Bool.{cases_Bool, both_ways, not-true, not_from_false}
 use Rattle.label_graph.specs.GraphViews.{label_number}
 use Rattle.graph_spec.specs.Graphs.{Graph, IsGraph}
-use Rattle.graph_spec.specs.Changes.{Change, after}
+use Rattle.change_spec.specs.Steps.{Step, after}
 use Rattle.graph_spec.specs.Members.{has, at, Lists}
 use Rattle.graph_spec.specs.Shapes.{Shape, IsNode, shape_of}
 use Rattle.graph_spec.proofs.GraphLaws.{is_shape}
 use Rattle.bisim_spec.specs.Stability.{Stable, Minimal}
 use Rattle.bisim_spec.specs.Reach.{reach}
-use Rattle.bisim_spec.proofs.ListedTargets.{same_test, some_target}
-use Rattle.bisim_spec.specs.Targets.{KeepsBlocks, target, AreTargets}
-use Rattle.bisim_spec.specs.Weights.{weight, size_of}
+use Rattle.bisim_spec.specs.Targets.{KeepsBlocks}
+use Rattle.change_spec.specs.Altered.{targets}
+use Rattle.change_spec.specs.Costs.{cost}
 use Rattle.bisim_spec.proofs.Bisimilar.{is_some_at}
 use Rattle.bisim_spec.proofs.Changed.{live_before}
-use Rattle.bisim_spec.proofs.Differs.{differs_after}
+use Rattle.change_spec.proofs.StepDiffers.{differs_after}
 use Rattle.bisim_spec.proofs.Outside.{SameOutside, IsOut, off_target, outside_reach, none_outside}
 use Rattle.bisim_spec.proofs.Together.{together_sym, together_some}
 use Rattle.one_spec.specs.Merges.{AreMergeCandidates}
@@ -29,31 +29,31 @@ use Rattle.one_spec.proofs.LabelledBlocks.{labelled_by_numbers}
 use Rattle.one_spec.proofs.MergedPairs.{merges_stable, merges_keep, outside_merges}
 use Rattle.one_spec.proofs.OneSteps.{reach_closed}
 use Rattle.one_spec.proofs.MergeCandidates.{unmarked_candidates}
-use Rattle.one_update.specs.OneDrafts.{KeepsUnreached, reached, rounds_cost}
-use Rattle.one_update.proofs.PhaseLaws.{HasMerge, HasSplit, all_among, more_times, target_weight, targets_reached}
+use Rattle.one_update.specs.OneDrafts.{AreTargets, KeepsUnreached, reached, rounds_cost}
+use Rattle.one_update.proofs.PhaseLaws.{HasMerge, HasSplit, all_found, once_within, targets_reached}
 
 -- what the split clause says of the nodes that are reached
-pub split_reached : (g : Graph) (c : Change) (targets : List ℕ) (p p2 : List (Option ℕ)) (made : List ℕ) → IsGraph (after c g) → AreTargets g c targets → HasSplit g c targets p p2 made
+pub split_reached : (g : Graph) (c : List Step) (list : List ℕ) (p p2 : List (Option ℕ)) (made : List ℕ) → IsGraph (after c g) → AreTargets g c list → HasSplit g c list p p2 made
     → IsSplitInside (shape_of (after c g)) (reached g c) p p2 [] made
-split_reached g c targets p p2 made graph2 are split =
-    split.split (reached g c) (reach_closed (shape_of (after c g)) (target c g) (is_shape (after c g) graph2)) (targets_reached g c targets (all_among g c targets are))
+split_reached g c list p p2 made graph2 are split =
+    split.split (reached g c) (reach_closed (shape_of (after c g)) (targets c g) (is_shape (after c g) graph2)) (targets_reached g c list (all_found g c list are))
 
 -- nodes out of reach are together as in the base
-unreached_same : (g : Graph) (c : Change) (p p2 : List (Option ℕ)) → KeepsUnreached g c p p2 → SameOutside p p2 (IsOut (shape_of (after c g)) (target c g))
+unreached_same : (g : Graph) (c : List Step) (p p2 : List (Option ℕ)) → KeepsUnreached g c p p2 → SameOutside p p2 (IsOut (shape_of (after c g)) (targets c g))
 unreached_same g c p p2 split = record {
   into = λ x y ox oy t. (split.outside x y (before x ox) (before y oy) ox.0 oy.0 ox.1 oy.1).1 t;
   back = λ x y ox oy t. (split.outside x y (before x ox) (before y oy) ox.0 oy.0 ox.1 oy.1).0 t;
 }
   where
-    before : (n : ℕ) → IsOut (shape_of (after c g)) (target c g) n → IsNode (shape_of g) n
-    before n o = live_before (target c g) (shape_of g) (shape_of (after c g)) (differs_after c g) n (off_target (shape_of (after c g)) (target c g) n o.1) o.0
+    before : (n : ℕ) → IsOut (shape_of (after c g)) (targets c g) n → IsNode (shape_of g) n
+    before n o = live_before (targets c g) (shape_of g) (shape_of (after c g)) (differs_after c g) n (off_target (shape_of (after c g)) (targets c g) n o.1) o.0
 
 -- the blocks of these nodes are listed
 pub record HaveBlocks (nodes : List ℕ) (p : List (Option ℕ)) (blocks : List ℕ) : Type 0 where
   pub there : (n b : ℕ) → IsTrue (has nodes n) → at p n ≡ Some b → IsTrue (has blocks b)
 
 -- of each two blocks that can be merged one has members that are all reached, so it is listed
-reached_candidates : (g : Graph) (c : Change) (p p2 : List (Option ℕ)) (nodes blocks : List ℕ) → IsGraph (after c g) → KeepsUnreached g c p p2
+reached_candidates : (g : Graph) (c : List Step) (p p2 : List (Option ℕ)) (nodes blocks : List ℕ) → IsGraph (after c g) → KeepsUnreached g c p p2
     → Stable (shape_of (after c g)) p2 → Lists (reached g c) nodes → HaveBlocks nodes p2 blocks → AreMergeCandidates (shape_of (after c g)) p2 (λ b. IsTrue (has blocks b))
 reached_candidates g c p p2 nodes blocks graph2 split stable listed have = record {
   one = λ a b can. elim (unmarked.one a b can) [
@@ -62,14 +62,14 @@ reached_candidates g c p p2 nodes blocks graph2 split stable listed have = recor
   ];
 }
   where
-    out : (n b : ℕ) → not (reached g c n) ≡ true → at p2 n ≡ Some b → IsOut (shape_of (after c g)) (target c g) n
+    out : (n b : ℕ) → not (reached g c n) ≡ true → at p2 n ≡ Some b → IsOut (shape_of (after c g)) (targets c g) n
     out n b m e = (stable.partition.only n (is_some_at (at p2 n) b e), not-true (reached g c n) m)
 
     unmarked : AreMergeCandidates (shape_of (after c g)) p2 (λ b. (n : ℕ) → at p2 n ≡ Some b → not (reached g c n) ≡ false)
     unmarked =
         unmarked_candidates (shape_of (after c g)) p2 (λ n. not (reached g c n)) (is_shape (after c g) graph2) stable.partition (λ x y a b mx my hx hy ne can.
-        none_outside (shape_of g) (shape_of (after c g)) (IsOut (shape_of (after c g)) (target c g)) p p2
-        (outside_reach (target c g) (shape_of g) (shape_of (after c g)) (is_shape (after c g) graph2) (differs_after c g)) (unreached_same g c p p2 split)
+        none_outside (shape_of g) (shape_of (after c g)) (IsOut (shape_of (after c g)) (targets c g)) p p2
+        (outside_reach (targets c g) (shape_of g) (shape_of (after c g)) (is_shape (after c g) graph2) (differs_after c g)) (unreached_same g c p p2 split)
         split.stable split.minimal x y a b (out x a mx hx) (out y b my hy) hx hy ne can)
 
     there : (b n : ℕ) → at p2 n ≡ Some b → not (reached g c n) ≡ false → IsTrue (has blocks b)
@@ -84,7 +84,7 @@ pub record IsMergedWhole (s : Shape) (inside : ℕ → Bool) (p p2 : List (Optio
   pub minimal : Minimal s p2
   pub same : SameBut p p2 inside
 
-pub merged_whole : (g : Graph) (c : Change) (p p2 p3 : List (Option ℕ)) (labels : ℕ → Option ℕ) (support : ℕ → ℕ → ℕ) (nodes blocks : List ℕ) → IsGraph (after c g)
+pub merged_whole : (g : Graph) (c : List Step) (p p2 p3 : List (Option ℕ)) (labels : ℕ → Option ℕ) (support : ℕ → ℕ → ℕ) (nodes blocks : List ℕ) → IsGraph (after c g)
     → KeepsUnreached g c p p2 → Stable (shape_of (after c g)) p2 → BlocksHaveLabels p2 labels (label_number (after c g)) → AreEdgeCounts (after c g) p2 support
     → Lists (reached g c) nodes → HaveBlocks nodes p2 blocks → HasMerge p2 p3 labels support blocks → IsMergedWhole (shape_of (after c g)) (reached g c) p2 p3
 merged_whole g c p p2 p3 labels support nodes blocks graph2 split stable block_labels supports listed have merge =
@@ -93,7 +93,7 @@ merged_whole g c p p2 p3 labels support nodes blocks graph2 split stable block_l
     let viewed = viewed_supports (after c g) p2 labels support (λ x y. nat_lt 0 (support x y)) shape2 stable (labelled_by_numbers (after c g) p2 labels block_labels) supports (λ x y. refl) in
     let done : IsMergedToEnd s2 p2 p3 = merge.merged s2 viewed (reached_candidates g c p p2 nodes blocks graph2 split stable listed have) in
     let same = unreached_same g c p p2 split in
-    let after_merges = outside_merges (shape_of g) s2 (IsOut s2 (target c g)) p p2 p3 (outside_reach (target c g) (shape_of g) s2 shape2 (differs_after c g)) same split.stable
+    let after_merges = outside_merges (shape_of g) s2 (IsOut s2 (targets c g)) p p2 p3 (outside_reach (targets c g) (shape_of g) s2 shape2 (differs_after c g)) same split.stable
     split.minimal done.merges in
     let stable3 = merges_stable s2 p2 p3 done.merges stable in
     record {
@@ -108,24 +108,24 @@ merged_whole g c p p2 p3 labels support nodes blocks graph2 split stable block_l
       };
     }
 
+-- to be in the list is to be a target
+same_test : (g : Graph) (c : List Step) (list : List ℕ) → AreTargets g c list → has list ≡ targets c g
+same_test g c list are = λ j n. are.members n j
+
 -- the list of what the targets reach
-pub reached_listed : (g : Graph) (c : Change) (targets nodes : List ℕ) → AreTargets g c targets → Lists (reach (shape_of (after c g)) (has targets)) nodes → Lists (reached g c) nodes
-reached_listed g c targets nodes are listed = subst (λ from. Lists (reach (shape_of (after c g)) from) nodes) (same_test g c targets are) listed
+pub reached_listed : (g : Graph) (c : List Step) (list nodes : List ℕ) → AreTargets g c list → Lists (reach (shape_of (after c g)) (has list)) nodes → Lists (reached g c) nodes
+reached_listed g c list nodes are listed = subst (λ from. Lists (reach (shape_of (after c g)) from) nodes) (same_test g c list are) listed
 
 -- reading what is reached once costs no more than merges may
-pub search_light : (g : Graph) (c : Change) (targets : List ℕ) (old new : ℕ) → AreTargets g c targets
-    → new ≤ old + weight (shape_of (after c g)) (reach (shape_of (after c g)) (has targets)) + 1 → new ≤ old + 3 * rounds_cost (shape_of (after c g)) (reached g c)
-search_light g c targets old new are cost =
-    let s = shape_of (after c g) in
-    let set = reached g c in
-    let cost2 : new ≤ old + weight s set + 1 = subst (λ from. new ≤ old + weight s (reach s from) + 1) (same_test g c targets are) cost in
-    let t = some_target c g in
-    let some = target_weight g c targets t.0 are (are.listed.members t.0 ∙ t.1) in
-    let more = more_times (size_of s set) (weight s set) in
-    omega (arith, some, more, cost2)
+pub search_light : (g : Graph) (c : List Step) (list : List ℕ) (old new : ℕ) → AreTargets g c list
+    → new ≤ old + cost c g (reach (shape_of (after c g)) (has list)) → new ≤ old + 3 * rounds_cost g c
+search_light g c list old new are most =
+    let most2 : new ≤ old + cost c g (reached g c) = subst (λ from. new ≤ old + cost c g (reach (shape_of (after c g)) from)) (same_test g c list are) most in
+    let one = once_within g c in
+    omega (arith, one, most2)
 
 -- Where nodes kept the blocks that they had, what a split makes of the partition is what merging asks.
-pub split_of : (g : Graph) (c : Change) (p p1 p2 : List (Option ℕ)) → Stable (shape_of g) p → Minimal (shape_of g) p → KeepsBlocks (shape_of g) (shape_of (after c g)) p p1
+pub split_of : (g : Graph) (c : List Step) (p p1 p2 : List (Option ℕ)) → Stable (shape_of g) p → Minimal (shape_of g) p → KeepsBlocks (shape_of g) (shape_of (after c g)) p p1
     → SameBut p1 p2 (reached g c) → KeepsUnreached g c p p2
 split_of g c p p1 p2 stable minimal keeps same = record {
   stable = stable;

@@ -1,21 +1,25 @@
 -- What is drafted for a change of the graph of a 1-index (K. Yi, H. He, I. Stanoi and J. Yang, "Incremental Maintenance of XML
 -- Structural Indexes", SIGMOD 2004).
-use Rattle.std.specs.Prelude.{◌≡◌, ◌<◌, ◌≤◌, ◌^◌, ◌↔◌, ℕ, ◌+◌, ◌*◌, ◌&&◌, Bool, List, length, Option, [], Some, IsFalse, IsTrue}
+use Rattle.std.specs.Prelude.{◌≡◌, ◌<◌, ◌≤◌, ◌^◌, ◌↔◌, ℕ, ◌+◌, ◌*◌, Bool, List, length, Option, [], Some, IsFalse, IsTrue, nat_eq}
+use Rattle.std.specs.List.{IsDistinct}
 use Rattle.std.specs.FinSet as set
-use Rattle.graph_spec.specs.Graphs.{Graph, IsGraph, is_live}
-use Rattle.graph_spec.specs.Changes.{Change, after}
-use Rattle.graph_spec.specs.Shapes.{Shape, IsNode, shape_of}
+use Rattle.graph_spec.specs.Graphs.{Graph, IsGraph}
+use Rattle.change_spec.specs.Steps.{Step, after}
+use Rattle.graph_spec.specs.Shapes.{IsNode, shape_of}
 use Rattle.graph_spec.specs.Members.{at, has, Lists}
 use Rattle.label_graph.specs.GraphViews.{label_number}
 use Rattle.bisim_spec.specs.Partitions.{IsPartition, Together}
 use Rattle.bisim_spec.specs.Stability.{Stable, StableBut, Minimal}
 use Rattle.bisim_spec.specs.Reach.{reach}
-use Rattle.bisim_spec.specs.Weights.{size_of, weight}
-use Rattle.bisim_spec.specs.Targets.{KeepsBlocks, target}
-use Rattle.bisim_spec.specs.OneStep.{OneStep}
+use Rattle.bisim_spec.specs.Weights.{size_of}
+use Rattle.bisim_spec.specs.Targets.{KeepsBlocks}
+use Rattle.bisim_spec.proofs.Outside.{DiffersAt}
+use Rattle.change_spec.specs.Altered.{targets}
+use Rattle.change_spec.specs.Costs.{cost}
+use Rattle.change_spec.specs.NextOne.{OneStep}
 use Rattle.bisim_spec.specs.IndexGraphs.{View, support_at}
 use Rattle.bisim_spec.specs.Fits.{FitsOne}
-use Rattle.graph_update.specs.NewChanges.{IsNew}
+use Rattle.graph_steps.specs.NewChanges.{IsNew}
 use Rattle.graph_update.specs.PendingChanges.{Pending, graph_after}
 use Rattle.quotient.specs.Quotients.{Quotient, view_of}
 use Rattle.quotient_draft.specs.Drafts.{Drafted, shown_blocks, shown_labels, shown_support}
@@ -25,7 +29,7 @@ use Rattle.one_spec.specs.EdgeCounts.{AreEdgeCounts}
 
 -- The draft shows the graph after the change, with nodes in the blocks in which they were: a new node has some block.
 -- The partition may be unstable at the targets.
-pub record ShowsChange (g : Graph) (c : Change) (q : Quotient) (d : Drafted) : Type 0 where
+pub record ShowsChange (g : Graph) (c : List Step) (q : Quotient) (d : Drafted) : Type 0 where
   pub over : IsOver q.blocks.block_of q.blocks.labels d
   pub partition : IsPartition (shape_of (after c g)) (shown_blocks q d)
   pub keeps : KeepsBlocks (shape_of g) (shape_of (after c g)) q.blocks.block_of (shown_blocks q d)
@@ -33,27 +37,33 @@ pub record ShowsChange (g : Graph) (c : Change) (q : Quotient) (d : Drafted) : T
   pub supports : AreEdgeCounts (after c g) (shown_blocks q d) (shown_support q d)
 
 -- the draft shows the next partition, with the labels of members and the numbers of edges
-pub record IsDrafted (g : Graph) (c : Change) (q : Quotient) (d : Drafted) : Type 0 where
+pub record IsDrafted (g : Graph) (c : List Step) (q : Quotient) (d : Drafted) : Type 0 where
   pub over : IsOver q.blocks.block_of q.blocks.labels d
   pub step : OneStep g q.blocks.block_of c (after c g) (shown_blocks q d)
   pub block_labels : BlocksHaveLabels (shown_blocks q d) (at (shown_labels q d)) (label_number (after c g))
   pub supports : AreEdgeCounts (after c g) (shown_blocks q d) (shown_support q d)
 
--- the list has just the targets of the change that are nodes of the graph after it, each once
-abbrev pub AreLiveTargets : Graph → Change → List ℕ → Type 0
-AreLiveTargets g c targets = Lists (λ n. is_live (after c g) n && target c g n) targets
+-- targets of the change, each once, and all nodes at which the two graphs differ in the end
+pub record AreFoundTargets (g : Graph) (c : List Step) (found : List ℕ) : Type 0 where
+  pub once : IsDistinct nat_eq found
+  pub among : (n : ℕ) → IsTrue (has found n) → IsTrue (targets c g n)
+  pub differs : DiffersAt (has found) (shape_of g) (shape_of (after c g))
+
+-- the list has just the targets of the change, each once
+abbrev pub AreTargets : Graph → List Step → List ℕ → Type 0
+AreTargets g c list = Lists (targets c g) list
 
 -- the nodes that the change reaches, in the graph that it leaves
-abbrev pub reached : Graph → Change → ℕ → Bool
-reached g c = reach (shape_of (after c g)) (target c g)
+abbrev pub reached : Graph → List Step → ℕ → Bool
+reached g c = reach (shape_of (after c g)) (targets c g)
 
--- how many numbers the set has and one more, times what there is to read at them
-abbrev pub rounds_cost : Shape → (ℕ → Bool) → ℕ
-rounds_cost s inside = (size_of s inside + 1) * weight s inside
+-- how many nodes the change reaches and one more, times what it costs there
+abbrev pub rounds_cost : Graph → List Step → ℕ
+rounds_cost g c = (size_of (shape_of (after c g)) (reached g c) + 1) * cost c g (reached g c)
 
 -- how many steps a change may take
-abbrev pub most_steps : Graph → Change → ℕ
-most_steps g c = 8 * rounds_cost (shape_of (after c g)) (reached g c)
+abbrev pub most_steps : Graph → List Step → ℕ
+most_steps g c = 8 * rounds_cost g c
 
 -- the block of u has support to that of v
 pub record IsSupported (v : View) (from onto : ℕ) : Type 0 where
@@ -74,7 +84,7 @@ pub record IsBefore (a : Pending) (q : Quotient) : Type 0 where
 
 -- The base was stable, and no two of its blocks could be merged; nodes of both graphs that the change doesn't reach are
 -- shown together exactly as in it. Nothing is said of the nodes that it reaches.
-pub record KeepsUnreached (g : Graph) (c : Change) (block shown : List (Option ℕ)) : Type 0 where
+pub record KeepsUnreached (g : Graph) (c : List Step) (block shown : List (Option ℕ)) : Type 0 where
   pub stable : Stable (shape_of g) block
   pub minimal : Minimal (shape_of g) block
   pub outside : (u v : ℕ) → IsNode (shape_of g) u → IsNode (shape_of g) v → IsNode (shape_of (after c g)) u → IsNode (shape_of (after c g)) v

@@ -2,10 +2,11 @@
 ghost use Rattle.std.specs.Prelude.{◌≡◌, ◌+◌, ◌≤◌, ◌<◌, ◌^◌, ◌∷◌, [], ℕ, Some, IsSome, IsTrue, IsFalse, IfOk, OnOk, nat_lt};
 ghost use Rattle.std.specs.List.{list_any};
 ghost use Rattle.graph_spec.specs.Graphs.{has_edge};
-ghost use Rattle.graph_spec.specs.Changes.{link, unlink};
+ghost use Rattle.change_spec.specs.Steps.{link, unlink};
+ghost use Rattle.change_spec.specs.Lost.{lost_onto};
 ghost use Rattle.graph_spec.specs.Members.{at, is_this};
 ghost use Rattle.graph_spec.specs.Shapes.{shape_of};
-ghost use Rattle.bisim_spec.specs.Targets.{HasOther, AreTargets};
+ghost use Rattle.bisim_spec.specs.Targets.{HasOther};
 ghost use Rattle.bisim_spec.specs.IndexGraphs.{support_at};
 ghost use Rattle.bisim_spec.specs.Weights.{parent_count};
 ghost use Rattle.graph_update.specs.PendingChanges.{graph_after};
@@ -37,10 +38,9 @@ pub(crate) fn draft_link(
 ) -> Result<bool, Memory>
     requires before { IsBefore after.now base.now }
     requires empty { draft.old ≡ no_changes }
-    requires links { after.now.change ≡ link u v }
+    requires links { after.now.change ≡ link u v ∷ [] }
     ensures changed { OnOk result (ShowsChange after.now.before after.now.change base.now draft.new) }
     ensures alone { OnOk result (AreSupportsAlone draft.new) }
-    ensures targets { AreTargets after.now.before after.now.change (v ∷ []) }
     ensures yes { IfOk result (λ s. IsTrue s → HasOther (shape_of (graph_after after.now)) base.now.blocks.block_of u v) }
     ensures no { IfOk result (λ s. IsFalse s → HasOther (shape_of (graph_after after.now)) base.now.blocks.block_of u v → ⊥) }
     ensures tells { OfBlocks base.now u v (λ a b. IfOk result (λ s. s ≡ nat_lt 0 (support_at base.now.supports a b))) }
@@ -85,7 +85,7 @@ fn has_parent_in<L: Ledger>(
     requires before { IsBefore after.now base.now }
     ensures yes { IsTrue result → (w : ℕ) × IsTrue (has_edge (graph_after after.now) w v) × (at base.now.blocks.block_of w ≡ Some b) }
     ensures no { IsFalse result → (w : ℕ) → IsTrue (has_edge (graph_after after.now) w v) → at base.now.blocks.block_of w ≡ Some b → ⊥ }
-    ensures cost { steps.new ≤ steps.old + parent_count (shape_of (graph_after after.now)) v + 2 }
+    ensures cost { steps.new ≤ steps.old + (1 + parent_count (shape_of (graph_after after.now)) v + lost_onto after.now.before (graph_after after.now) v) }
 {
     let parents = after.parents(v, steps);
     any_in(base, parents, b)
@@ -103,13 +103,12 @@ pub(crate) fn draft_unlink<L: Ledger>(
 ) -> Result<bool, Memory>
     requires before { IsBefore after.now base.now }
     requires empty { draft.old ≡ no_changes }
-    requires unlinks { after.now.change ≡ unlink u v }
+    requires unlinks { after.now.change ≡ unlink u v ∷ [] }
     ensures changed { OnOk result (ShowsChange after.now.before after.now.change base.now draft.new) }
     ensures alone { OnOk result (AreSupportsAlone draft.new) }
-    ensures targets { AreTargets after.now.before after.now.change (v ∷ []) }
     ensures yes { IfOk result (λ s. IsTrue s → HasOther (shape_of (graph_after after.now)) base.now.blocks.block_of u v) }
     ensures no { IfOk result (λ s. IsFalse s → HasOther (shape_of (graph_after after.now)) base.now.blocks.block_of u v → ⊥) }
-    ensures cost { steps.new ≤ steps.old + parent_count (shape_of (graph_after after.now)) v + 2 }
+    ensures cost { steps.new ≤ steps.old + (1 + parent_count (shape_of (graph_after after.now)) v + lost_onto after.now.before (graph_after after.now) v) }
 {
     let a = own_block(base, u);
     let b = own_block(base, v);

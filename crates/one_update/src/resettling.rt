@@ -2,13 +2,12 @@
 ghost use Rattle.std.specs.Prelude.{◌≡◌, ◌+◌, ◌*◌, ◌≤◌, ℕ, Some, IsTrue, OnOk, IfOk, nat_eq};
 ghost use Rattle.std.specs.List.{IsDistinct};
 ghost use Rattle.graph_spec.specs.Members.{at, has};
-ghost use Rattle.graph_spec.specs.Shapes.{shape_of};
-ghost use Rattle.bisim_spec.specs.Targets.{KeepsParents};
+ghost use Rattle.change_spec.specs.NextOne.{KeepsParents};
 ghost use Rattle.graph_update.specs.PendingChanges.{graph_after};
 ghost use Rattle.quotient_draft.specs.Drafts.{shown_blocks};
 ghost use Rattle.quotient_draft.specs.Basis.{IsOver};
 ghost use Rattle.one_merge.specs.ParentlessBlocks.{CoversBase};
-ghost use Rattle.one_update.specs.OneDrafts.{IsBefore, AreLiveTargets, ShowsChange, IsDrafted, ListsBlocksOf, reached, rounds_cost};
+ghost use Rattle.one_update.specs.OneDrafts.{IsBefore, AreFoundTargets, ShowsChange, IsDrafted, ListsBlocksOf, rounds_cost};
 
 use crate::index_tables::IndexTables;
 use graph_update::After;
@@ -74,11 +73,13 @@ pub(crate) fn resettle<L: Ledger>(
     requires before { IsBefore after.now index.now.base.now }
     requires covers { CoversBase index.now.base.now index.now.parentless.now }
     requires changed { ShowsChange after.now.before after.now.change index.now.base.now draft.old }
-    requires targets { AreLiveTargets after.now.before after.now.change targets.now }
+    requires targets { AreFoundTargets after.now.before after.now.change targets.now }
     requires moves { KeepsParents after.now.change (graph_after after.now) index.now.base.now.blocks.block_of → ⊥ }
     ensures drafted { OnOk result (IsDrafted after.now.before after.now.change index.now.base.now draft.new) }
-    ensures cost { steps.new ≤ steps.old + 4 * rounds_cost (shape_of (graph_after after.now)) (reached after.now.before after.now.change) }
+    ensures cost { steps.new ≤ steps.old + 4 * rounds_cost after.now.before after.now.change }
 {
+    // Called for its contract: edges are few.
+    let _known = after.created();
     let mut blocks = Vec::new(alloc);
     split(alloc, index.base, draft, after, targets, &mut blocks, steps)?;
     add_blocks(index.base, draft, targets, &mut blocks)?;

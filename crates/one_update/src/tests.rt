@@ -1,10 +1,9 @@
 // Two chains that are alike, until an edge leads to the second from a single node, with a third chain behind that node
 // and without.
-ghost use Rattle.std.specs.Prelude.{◌≡◌, ◌<◌};
-ghost use Rattle.graph_spec.specs.Changes.{link};
+ghost use Rattle.std.specs.Prelude.{◌≡◌, ◌∷◌, [], ◌<◌};
+ghost use Rattle.change_spec.specs.Steps.{link};
 ghost use Rattle.bisim_spec.specs.Fits.{FitsOne};
-ghost use Rattle.graph_update.specs.NewChanges.{IsNew};
-ghost use Rattle.graph_update.specs.Verdicts.{change_of};
+ghost use Rattle.graph_steps.specs.NewChanges.{IsNew};
 ghost use Rattle.quotient.specs.Quotients.{view_of};
 ghost use Rattle.quotient_draft.specs.Basis.{IsOver};
 ghost use Rattle.quotient_draft.specs.Drafts.{no_changes};
@@ -12,7 +11,8 @@ ghost use Rattle.one_update.specs.OneDrafts.{IsBefore};
 
 use super::*;
 use crate::linking::draft_link;
-use graph_update::{After, Change, Verdict, judge};
+use graph_steps::{Change, Step, Verdict, judge};
+use graph_update::After;
 use label_graph::Graph;
 use one_index::OneIndex;
 use px_base::{Limits, Memory, NodeId, Steps};
@@ -100,13 +100,13 @@ fn are_parted<L: Ledger>(
 ) -> Result<bool, Memory>
     requires before { IsBefore after.now base.now }
     requires empty { draft.old ≡ no_changes }
-    requires links { after.now.change ≡ link edge.0 edge.1 }
+    requires links { after.now.change ≡ link edge.0 edge.1 ∷ [] }
 {
     draft_link(base, draft, after, edge.0, edge.1)?;
     let before = is_shown(base, draft, firsts[0]);
-    split(alloc, base, draft, after, edge.1, steps)?;
+    split(alloc, base, draft, after, &[edge.1], steps)?;
     let parted = is_shown(base, draft, firsts[1]);
-    merge(alloc, base, draft, after, edge.1, steps)?;
+    merge(alloc, base, draft, after, &[edge.1], steps)?;
     let merged = is_shown(base, draft, firsts[2]);
     Ok(before && parted && merged && is_chain(base, draft))
 }
@@ -121,8 +121,8 @@ fn is_parting<L: Ledger>(
     steps: &mut Steps<L>,
 ) -> Result<bool, Memory>
     requires fits { FitsOne graph.now.graph (view_of base.now) }
-    requires new { IsNew (change_of change.now) graph.now.graph }
-    requires links { change_of change.now ≡ link 6 3 }
+    requires new { IsNew change.now graph.now.graph }
+    requires links { change.now ≡ link 6 3 ∷ [] }
 {
     // Called for their contracts: nodes and edges are few.
     let _known = graph.created();
@@ -142,7 +142,7 @@ fn check_link<L: Ledger>(
 ) -> Result<(), Fail>
     requires fits { FitsOne graph.now.graph (view_of base.now) }
 {
-    let change = Change::Link(6, 3);
+    let change = Change::one(alloc, Step::Link(6, 3))?;
     let Ok(Verdict::New) = judge(graph, &change, &Limits::program()) else {
         return Err("not new".into());
     };

@@ -1,10 +1,9 @@
 -- What the calls of an engine make of it: it is e before and f after.
-use Rattle.std.specs.Prelude.{ℕ, ◌≡◌, ◌≢◌, ◌≤◌, ◌↔◌, List, true, false, not, Result, Err, IfOk, OnOk}
+use Rattle.std.specs.Prelude.{ℕ, ◌≡◌, ◌≢◌, ◌≤◌, ◌↔◌, List, false, not, Result, Err, IfOk, OnOk}
 use Rattle.std.specs.List.{filter}
-use Rattle.graph_spec.specs.Changes.{Change}
+use Rattle.change_spec.specs.Steps.{Step, is_new}
 use Rattle.px_base.specs.declared.allocation.Memory.{Memory}
-use Rattle.graph_update.specs.declared.changes.Applied.{Applied}
-use Rattle.graph_update.specs.NewChanges.{is_same}
+use Rattle.graph_update.specs.declared.staging.Applied.{Applied}
 use Rattle.graph_update.specs.StagedChanges.{applied_of}
 use Rattle.bisim_spec.specs.declared.kind.Kind.{Kind}
 use Rattle.index_api.specs.declared.kinds.Via.{Via}
@@ -20,16 +19,16 @@ use Rattle.pathindex_core.specs.Updates.{IsUpdated, opened_after}
 use Rattle.pathindex_core.specs.QueryAnswers.{counting_view}
 
 -- An accepted change was made, and answered so.
-pub record IsMade (c : Change) (e f : EngineSeen) (answer : Applied) : Type 0 where
+pub record IsMade (c : List Step) (e f : EngineSeen) (answer : Applied) : Type 0 where
   -- the graph is the one after the change; the limits and the highest level stay
   pub opened : f.opened ≡ opened_after c e.opened
   -- each index is one of that graph; the partition of the 1-index moved by one step
   pub updated : EachBecomes (IsUpdated c (graph_in e.opened)) e.boxes f.boxes
   -- which kinds are kept stays
   pub kinds : kinds_of f.boxes ≡ kinds_of e.boxes
-  -- a change that alters nothing leaves all as it was
-  pub still : is_same c (graph_in e.opened) ≡ true → f ≡ e
-  -- the number of a new node, or that the change is made
+  -- a change whose steps are all idle leaves all as it was
+  pub still : is_new c (graph_in e.opened) ≡ false → f ≡ e
+  -- the numbers of its new nodes
   pub applied : answer ≡ applied_of c (graph_in e.opened)
 
 -- The index of that kind, where one is kept, was taken out.

@@ -1,8 +1,7 @@
 // Calls on each of the boxes, and the search for one of a kind.
 ghost use Rattle.std.specs.Prelude.{◌≡◌, ◌≢◌, ◌≤◌, not, true, false, length, map, All, OnOk, OnErr, IsSome, MatchOption};
 ghost use Rattle.std.specs.List.{AllPairs, filter};
-ghost use Rattle.graph_update.specs.NewChanges.{IsNew};
-ghost use Rattle.graph_update.specs.Verdicts.{change_of};
+ghost use Rattle.graph_steps.specs.NewChanges.{IsNew};
 ghost use Rattle.index_api.specs.Meanings.{IsReady, IsBuilt, IsPrepared, IsCommitted, unstaged};
 ghost use Rattle.index_api.specs.IndexKinds.{is_kind, kinds_of, has_kind};
 ghost use Rattle.pathindex_core.specs.Engines.{EachBecomes};
@@ -73,8 +72,8 @@ pub(crate) fn prepare_all<B: PathIndex>(
     change: &Change,
 ) -> Result<(), Memory>
     requires ready { All (λ m. IsReady m graph.now.graph) (map B.meaning boxes.old.items) }
-    requires new { IsNew (change_of change.now) graph.now.graph }
-    ensures ok { OnOk result (EachBecomes (λ a b. IsPrepared a b (change_of change.now) graph.now.graph)
+    requires new { IsNew change.now graph.now.graph }
+    ensures ok { OnOk result (EachBecomes (λ a b. IsPrepared a b change.now graph.now.graph)
         (map B.meaning boxes.old.items) (map B.meaning boxes.new.items)) }
     ensures err { OnErr result (map B.meaning boxes.new.items ≡ map B.meaning boxes.old.items) }
 {

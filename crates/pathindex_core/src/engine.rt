@@ -1,8 +1,7 @@
 // The engine.
-ghost use Rattle.std.specs.Prelude.{◌≡◌, ◌≢◌, ◌<◌, ◌≤◌, ◌↔◌, Ok, Err, Some, None, true, false, map, OnOk, OnErr, IfOk, IsSome};
+ghost use Rattle.std.specs.Prelude.{◌≡◌, ◌≢◌, ◌<◌, ◌≤◌, ◌↔◌, Err, Some, None, false, map, OnOk, OnErr, IfOk, IsSome};
 ghost use Rattle.std.specs.List.{AllPairs};
-ghost use Rattle.graph_update.specs.NewChanges.{is_same};
-ghost use Rattle.graph_update.specs.Verdicts.{change_of};
+ghost use Rattle.change_spec.specs.Steps.{is_new};
 ghost use Rattle.branch_query.specs.Queries.{query_of, path, branch};
 ghost use Rattle.pathindex_core.specs.QueryAnswers.{IsQueried};
 ghost use Rattle.index_api.specs.declared.kinds.Via.TheVariants.{Data as TheGraph};
@@ -40,7 +39,7 @@ use std::sync::ledger::{Blank, Ledger};
 /// An edge is added, and the 1-index is asked:
 ///
 ///     engine.open(graph, Limits::program(), 2)?;
-///     engine.update(alloc, Change::Link(3, 0))?;
+///     engine.update(alloc, Change::one(alloc, Step::Link(3, 0))?)?;
 ///     let answer = engine.path(alloc, Via::One, &expr, &mut steps)?;
 ///
 /// `crates/example_library` is a whole caller.
@@ -122,11 +121,11 @@ impl<B: PathIndex> Engine<B> {
         }
     }
 
-    /// Makes a change in the graph and in each index, and says which number a new node got. `Refused` comes exactly
-    /// if the change is refused within the engine's limits, memory or not. An error leaves all as it was. So does
-    /// the link of an edge that is there, which takes no memory. Each other change takes all its memory before the
-    /// graph or an index changes, and the partition of the 1-index, if it is kept, moves by one step (Yi, He, Stanoi
-    /// and Yang 2004).
+    /// Makes a change in the graph and in each index, and says which numbers its new nodes got. A change has up to 1,024
+    /// steps, and is accepted or refused as one. `Refused` comes exactly if it is refused within the engine's limits,
+    /// memory or not. An error leaves all as it was. So does a change of links alone whose edges are there, which takes no
+    /// memory. Each other change takes all its memory before the graph or an index changes, and the partition of the
+    /// 1-index, if it is kept, moves by one step (Yi, He, Stanoi and Yang 2004).
     ///
     /// O(i) for i indexes, and what the change takes in the graph and `prepare` and `commit` in each index. How much
     /// that is depends on what the change reaches, and not on the size of the graph, except where a table moves as it
@@ -137,9 +136,9 @@ impl<B: PathIndex> Engine<B> {
         requires open { IsSome self.old.opened }
         requires sound { IsSound (by_meaning B.meaning self.old) }
         ensures sound { IsSound (by_meaning B.meaning self.new) }
-        ensures refused { (r : Refusal) → (result ≡ Err (UpdateError.Refused r)) ↔ (outcome_in (change_of change) self.old.opened ≡ Err r) }
-        ensures made { IfOk result (IsMade (change_of change) (by_meaning B.meaning self.old) (by_meaning B.meaning self.new)) }
-        ensures same { is_same (change_of change) (graph_in self.old.opened) ≡ true → result ≡ Ok Applied.Done }
+        ensures refused { (r : Refusal) → (result ≡ Err (UpdateError.Refused r)) ↔ (outcome_in change self.old.opened ≡ Err r) }
+        ensures made { IfOk result (IsMade change (by_meaning B.meaning self.old) (by_meaning B.meaning self.new)) }
+        ensures same { is_new change (graph_in self.old.opened) ≡ false → result ≢ Err UpdateError.Memory }
         ensures err { OnErr result (by_meaning B.meaning self.new ≡ by_meaning B.meaning self.old) }
     {
         match &mut self.state {

@@ -1,15 +1,15 @@
 // A node that comes into an empty graph, and is drafted into a block, moves to another block.
-ghost use Rattle.std.specs.Prelude.{◌≡◌, ◌<◌, [], ℕ, List, IfOk};
+ghost use Rattle.std.specs.Prelude.{◌≡◌, ◌<◌, ◌∷◌, [], ℕ, List, IfOk};
 ghost use Rattle.std.specs.FinSet as set;
 ghost use Rattle.graph_spec.specs.Graphs.{empty_graph};
-ghost use Rattle.graph_spec.specs.Changes.{node};
+ghost use Rattle.change_spec.specs.Steps.{node};
 ghost use Rattle.quotient.specs.Quotients.{AreSupports};
-ghost use Rattle.graph_update.specs.NewChanges.{IsNew};
-ghost use Rattle.graph_update.specs.Verdicts.{change_of};
+ghost use Rattle.graph_steps.specs.NewChanges.{IsNew};
 
 use super::*;
 use block_partition::Blocks;
-use graph_update::{After, Change, Verdict, judge};
+use graph_steps::{Change, Step, Verdict, judge};
+use graph_update::After;
 use label_graph::{Graph, GraphView};
 use px_base::{Limits, Steps, Text};
 use quotient::Summary;
@@ -42,9 +42,9 @@ fn check_move<L: Ledger>(
     change: &Change,
     steps: &mut Steps<L>,
 ) -> Result<(), Fail>
-    requires new { IsNew (change_of change.now) graph.now.graph }
+    requires new { IsNew change.now graph.now.graph }
     requires none { graph.now.graph ≡ empty_graph }
-    requires comes { (t : List ℕ) × (change_of change.now ≡ node t) }
+    requires comes { (t : List ℕ) × (change.now ≡ node t ∷ []) }
     requires blocks { base.now.blocks.block_of ≡ [] }
     requires supports { AreSupports set.empty [] base.now.supports }
 {
@@ -68,7 +68,7 @@ fn check_new<L: Ledger>(rt: &impl Abort, alloc: Global, blank: Blank) -> Result<
 {
     let mut steps = Steps::<L>::new(blank);
     let graph = Graph::new(alloc)?;
-    let change = Change::Node(Text::from_bytes(alloc, b"a")?);
+    let change = Change::one(alloc, Step::Node(Text::from_bytes(alloc, b"a")?))?;
     let Ok(Verdict::New) = judge(&graph, &change, &Limits::program()) else {
         return Err("not new".into());
     };

@@ -1,14 +1,14 @@
 -- What each call of the engine makes of the state of a run.
-use Rattle.std.proofs.Common.{◌≡◌, Bool, true, false, List, [], ◌∷◌, Some, Ok, Err, refl, sym, ap, ◌∙◌, subst, cond, true≢false}
-use Rattle.std.specs.Prelude.{◌||◌, ◌↔◌, ℕ, All, is_err, not}
+use Rattle.std.proofs.Common.{◌≡◌, Bool, true, false, List, [], ◌∷◌, length, ◌≤◌, ◌+◌, ◌^◌, Some, Ok, Err, refl, sym, ap, ◌∙◌, subst, cond, true≢false, arith}
+use Rattle.std.specs.Prelude.{◌||◌, ◌-◌, ◌↔◌, ℕ, All, is_err, not}
+use Rattle.graph_spec.specs.Graphs.{Graph}
 use Rattle.std.specs.List.{filter}
 use Rattle.graph_spec.specs.declared.refusal.Refusal.{Refusal}
 use Rattle.graph_spec.specs.declared.refusal.Refusal.TheVariants.{NoIndex}
 use Rattle.graph_spec.specs.ProgramLimits.{program_limits}
-use Rattle.graph_spec.specs.Changes.{Change, apply}
+use Rattle.change_spec.specs.Steps.{Step, apply, after, is_new}
 use Rattle.bisim_spec.specs.declared.kind.Kind.{Kind}
-use Rattle.graph_update.specs.NewChanges.{is_same}
-use Rattle.graph_update.specs.declared.changes.Applied.{Applied}
+use Rattle.graph_update.specs.declared.staging.Applied.{Applied}
 use Rattle.graph_update.specs.StagedChanges.{applied_of}
 use Rattle.index_api.specs.declared.kinds.Via.{Via}
 use Rattle.index_api.specs.declared.kinds.Via.TheVariants.{Data}
@@ -21,14 +21,16 @@ use Rattle.pathindex_core.specs.Calls.{IsMade, IsForgotten, KeepsAllButViews}
 use Rattle.pathindex_core.specs.Updates.{IsUpdated, graph_or, outcome_in, opened_after}
 use Rattle.script_interpreter.specs.declared.printing.Printing.{Printing}
 use Rattle.script_interpreter.specs.Rules.{if_whole, rules_for}
-use Rattle.script_interpreter.specs.LineTexts.{applied_line, refused_line, ok_line, reply}
+use Rattle.script_interpreter.specs.declared.group.Scope.{Scope}
+use Rattle.script_interpreter.specs.declared.group.Scope.TheVariants.{Line}
+use Rattle.script_interpreter.specs.LineTexts.{made_lines, refused_line, ok_line, reply}
 use Rattle.script_interpreter.specs.Outputs.{Gathered, with_printed}
 use Rattle.script_interpreter.specs.States.{State, BeginsRun}
 use Rattle.script_interpreter.specs.EngineStates.{IsOpen, state_in}
 use Rattle.script_interpreter.specs.Indexes.{ShowsAnswers, ShowsExtents, unkept, ShowsSizes}
 use Rattle.script_interpreter.specs.Runs.{IsChanged, Becomes, Obeys, changes, asks_path, asks_branch, lists, measures, forgets, lacks}
-use Rattle.script_interpreter.specs.RunSteps.{query_command, Obeyed}
-use Rattle.script_interpreter.proofs.EngineLemmas.{first_state, changed_state, forgotten_state}
+use Rattle.script_interpreter.specs.RunSteps.{query_command, Changed, Obeyed}
+use Rattle.script_interpreter.proofs.EngineLemmas.{first_state, accepted_after, changed_state, forgotten_state}
 
 pub open_same : (e f : EngineSeen) → f ≡ e → IsOpen e → IsOpen f
 open_same e f h o = subst IsOpen (sym h) o
@@ -45,7 +47,7 @@ pub no_refusal : {T E P : Type 0} (x : T) (e : E) → (P → Ok x ≡ Err e) →
 no_refusal x e f p = (let z = f p in cc)
 
 -- an engine after a change that was made
-pub open_made : (c : Change) (e f : EngineSeen) (answer : Applied) → IsOpen e → IsSound f → IsMade c e f answer → IsOpen f
+pub open_made : (c : List Step) (e f : EngineSeen) (answer : Applied) → IsOpen e → IsSound f → IsMade c e f answer → IsOpen f
 open_made c e f answer o sound m = record {
   sound = sound;
   opened = record o.opened { graph = graph_or o.opened.graph (apply c o.opened.graph o.opened.limits) };
@@ -53,44 +55,72 @@ open_made c e f answer o sound m = record {
   limits_are = o.limits_are;
 }
 
-pub made_obeyed : (c : Change) (e f : EngineSeen) (answer : Applied) (old new : Gathered) → IsOpen e → IsMade c e f answer → ((r : Refusal) → outcome_in c e.opened ≡ Err r → ⊥)
-    → new ≡ with_printed old (if_whole old.printing (applied_line answer)) false → Obeyed (state_in e) (change c) old (state_in f) new
-made_obeyed c e f answer old new ready m accepted g =
+pub made_changed : (scope : Scope) (c : List Step) (e f : EngineSeen) (answer : Applied) (old new : Gathered) → IsOpen e → IsMade c e f answer → ((r : Refusal) → outcome_in c e.opened ≡ Err r → ⊥)
+    → new ≡ with_printed old (if_whole old.printing (made_lines scope answer)) false → Changed scope (state_in e) c old (state_in f) new
+made_changed scope c e f answer old new ready m accepted g =
     let o = ready.opened in
-    elim (apply c o.graph o.limits) as (λ x. apply c o.graph o.limits ≡ x → Obeyed (state_in e) (change c) old (state_in f) new) [
+    elim (apply c o.graph o.limits) as (λ x. apply c o.graph o.limits ≡ x → Changed scope (state_in e) c old (state_in f) new) [
       | Ok h ↦ λ q.
           (let p : Opened = record o { graph = h } in
           let f_is : f.opened ≡ Some p = m.opened ∙ ap (opened_after c) ready.opened_is ∙ ap (λ x. Some (record o { graph = graph_or o.graph x })) q in
           let updated = subst (λ x. EachBecomes (IsUpdated c (graph_in x)) e.boxes f.boxes) ready.opened_is m.updated in
-          let still : is_same c o.graph ≡ true → state_in (record { boxes = f.boxes; opened = Some p }) ≡ state_in (record { boxes = e.boxes; opened = Some o }) =
-          λ s. seen_as f p f_is ∙ ap state_in (m.still (ap (λ x. is_same c (graph_in x)) ready.opened_is ∙ s)) ∙ sym (seen_as e o ready.opened_is) in
+          let still : is_new c o.graph ≡ false → state_in (record { boxes = f.boxes; opened = Some p }) ≡ state_in (record { boxes = e.boxes; opened = Some o }) =
+          λ s. seen_as f p f_is ∙ ap state_in (m.still (ap (λ x. is_new c (graph_in x)) ready.opened_is ∙ s)) ∙ sym (seen_as e o ready.opened_is) in
           let moved = changed_state c o p h e.boxes f.boxes q refl updated still m.kinds in
           let changed : IsChanged (state_in e) c h (state_in f) = subst (λ t. IsChanged (state_in e) c h t) (seen_as f p f_is) (subst (λ s. IsChanged s c h (state_in (record { boxes = f.boxes; opened = Some p }))) (seen_as e o ready.opened_is) moved) in
           let outcome : apply c (state_in e).graph program_limits ≡ Ok h = ap (λ x. apply c (graph_in x) program_limits) ready.opened_is ∙ ap (apply c o.graph) (sym ready.limits_are) ∙ q in
           record {
-            printed = if_whole old.printing (applied_line (applied_of c (state_in e).graph));
+            printed = if_whole old.printing (made_lines scope (applied_of c (state_in e).graph));
             refuses = false;
-            obeys = subst (λ x. Obeys (rules_for old.printing) (state_in e) (change c) (reply old.printing c (state_in e).graph x) (is_err x) (state_in f)) outcome
-                (changes c (state_in f) (subst (λ x. Becomes (state_in e) c x (state_in f)) (sym outcome) changed));
-            gathered_is = g ∙ ap (λ a. with_printed old (if_whole old.printing (applied_line a)) false) m.applied;
+            makes = record {
+              becomes = subst (λ x. Becomes (state_in e) c x (state_in f)) (sym outcome) changed;
+              printed_is = ap (reply old.printing scope c (state_in e).graph) (sym outcome);
+              refuses_is = ap is_err (sym outcome);
+            };
+            gathered_is = g ∙ ap (λ a. with_printed old (if_whole old.printing (made_lines scope a)) false) m.applied;
           })
       | Err r ↦ λ q. absurd (accepted r (ap (outcome_in c) ready.opened_is ∙ q))
     ] refl
 
 -- a change was refused, and all is as it was
-pub refused_obeyed : (c : Change) (e f : EngineSeen) (r : Refusal) (old new : Gathered) → IsOpen e → f ≡ e → outcome_in c e.opened ≡ Err r
-    → new ≡ with_printed old (refused_line r) true → Obeyed (state_in e) (change c) old (state_in f) new
-refused_obeyed c e f r old new ready same q g =
+pub refused_changed : (scope : Scope) (c : List Step) (e f : EngineSeen) (r : Refusal) (old new : Gathered) → IsOpen e → f ≡ e → outcome_in c e.opened ≡ Err r
+    → new ≡ with_printed old (refused_line r) true → Changed scope (state_in e) c old (state_in f) new
+refused_changed scope c e f r old new ready same q g =
     let o = ready.opened in
     let outcome : apply c (state_in e).graph program_limits ≡ Err r =
     ap (λ x. apply c (graph_in x) program_limits) ready.opened_is ∙ ap (apply c o.graph) (sym ready.limits_are) ∙ ap (outcome_in c) (sym ready.opened_is) ∙ q in
     record {
       printed = refused_line r;
       refuses = true;
-      obeys = subst (λ x. Obeys (rules_for old.printing) (state_in e) (change c) (reply old.printing c (state_in e).graph x) (is_err x) (state_in f)) outcome
-          (changes c (state_in f) (subst (λ x. Becomes (state_in e) c x (state_in f)) (sym outcome) (ap state_in same)));
+      makes = record {
+        becomes = subst (λ x. Becomes (state_in e) c x (state_in f)) (sym outcome) (ap state_in same);
+        printed_is = ap (reply old.printing scope c (state_in e).graph) (sym outcome);
+        refuses_is = ap is_err (sym outcome);
+      };
       gathered_is = g;
     }
+
+-- a change of one step is a command
+pub changed_obeyed : (s : State) (x : Step) (old : Gathered) (t : State) (new : Gathered) → Changed Line s (x ∷ []) old t new → Obeyed s (change x) old t new
+changed_obeyed s x old t new c = record { printed = c.printed; refuses = c.refuses; obeys = changes x c.printed c.refuses t c.makes; gathered_is = c.gathered_is }
+
+-- the numbers that an accepted change allocates are few, if those of the graph before and after it are
+pub few_numbers : (c : List Step) (e f : EngineSeen) (answer : Applied) (before after_it : ℕ) → IsOpen e → IsMade c e f answer → ((r : Refusal) → outcome_in c e.opened ≡ Err r → ⊥)
+    → before ≡ length (graph_in e.opened).allocated → before ≤ 2 ^ 30 → after_it ≡ length (graph_in f.opened).allocated → after_it ≤ 2 ^ 30
+    → answer.first + answer.added ≤ 2 ^ 30
+few_numbers c e f answer before after_it ready m accepted b few a few_after =
+    let o = ready.opened in
+    elim (apply c o.graph o.limits) as (λ x. apply c o.graph o.limits ≡ x → answer.first + answer.added ≤ 2 ^ 30) [
+      | Ok h ↦ λ q.
+          (let f_is : graph_in f.opened ≡ h = ap graph_in (m.opened ∙ ap (opened_after c) ready.opened_is) ∙ ap (graph_or o.graph) q in
+          let e_is : graph_in e.opened ≡ o.graph = ap graph_in ready.opened_is in
+          let made_is : h ≡ after c o.graph = accepted_after c o.graph h o.limits q in
+          let first : answer.first ≡ length (graph_in e.opened).allocated = ap (λ (x : Applied). x.first) m.applied in
+          let added : answer.added ≡ length (after c (graph_in e.opened)).allocated - length (graph_in e.opened).allocated = ap (λ (x : Applied). x.added) m.applied in
+          let last : after_it ≡ length (after c (graph_in e.opened)).allocated = a ∙ ap (λ (x : Graph). length x.allocated) (f_is ∙ made_is ∙ ap (after c) (sym e_is)) in
+          omega (arith, first, added, last, b, few, few_after))
+      | Err r ↦ λ q. absurd (accepted r (ap (outcome_in c) ready.opened_is ∙ q))
+    ] refl
 
 pub open_asked : (e f : EngineSeen) → IsOpen e → IsSound f → KeepsAllButViews e f → IsOpen f
 open_asked e f o sound a = record { sound = sound; opened = o.opened; opened_is = a.opened ∙ o.opened_is; limits_are = o.limits_are }

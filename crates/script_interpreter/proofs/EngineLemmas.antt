@@ -3,7 +3,11 @@ use Rattle.std.proofs.Common.{◌≡◌, ℕ, suc, Bool, true, false, List, [], 
 use Rattle.std.specs.Prelude.{⊤, not, ◌||◌, All, option_and_then, if◌then◌else◌}
 use Rattle.std.specs.List.{filter}
 use Rattle.graph_spec.specs.Graphs.{Graph}
-use Rattle.graph_spec.specs.Changes.{Change, apply, after}
+use Rattle.graph_spec.specs.declared.limits.Limits.{Limits}
+use Rattle.change_spec.specs.Steps.{Step, apply_step, apply_all, apply, made, after, is_new}
+use Rattle.change_spec.specs.NextOne.{OneStep}
+use Rattle.change_spec.proofs.StepGraphs.{stepped, first_made}
+use Rattle.change_spec.proofs.Accepted.{accepted_all}
 use Rattle.graph_spec.specs.Shapes.{shape_of}
 use Rattle.bisim_spec.specs.declared.kind.Kind.{Kind}
 use Rattle.bisim_spec.specs.declared.kind.Kind.TheVariants as kind
@@ -16,9 +20,6 @@ use Rattle.index_api.specs.IndexKinds.{is_kind, has_kind, kinds_of, index_of, ke
 use Rattle.pathindex_core.specs.Engines.{Opened, EngineSeen, EachBecomes, IsKeptFor, graph_in, level_in}
 use Rattle.pathindex_core.specs.Updates.{IsMoved, IsUpdated}
 use Rattle.script_interpreter.specs.States.{BeginsRun, forgotten, left_out}
-use Rattle.bisim_spec.specs.OneStep.{OneStep}
-use Rattle.bisim_spec.proofs.Differs.{applied_after}
-use Rattle.graph_update.specs.NewChanges.{is_same}
 use Rattle.script_interpreter.specs.Runs.{IsChanged}
 use Rattle.script_interpreter.specs.EngineStates.{state_in}
 
@@ -156,7 +157,7 @@ abbrev blocks_found : Option Meaning → List (Option ℕ)
 blocks_found x = blocks_in (option_and_then (λ m. view_at m.views 0) x)
 
 -- the 1-index that is found moved by one step
-step_found : (c : Change) (g : Graph) (x y : Option Meaning) (m : Meaning) → Both (λ a b. IsMoved a b c g) x y → x ≡ Some m → m.kind ≡ kind.One
+step_found : (c : List Step) (g : Graph) (x y : Option Meaning) (m : Meaning) → Both (λ a b. IsMoved a b c g) x y → x ≡ Some m → m.kind ≡ kind.One
     → OneStep g (blocks_found x) c (after c g) (blocks_found y)
 step_found c g None None m neither e k = absurd (cc)
 step_found c g None (Some b) m f e k = elim f [ ]
@@ -166,7 +167,7 @@ step_found c g (Some a) (Some b) m (both _ _ r) e k =
     subst (λ z. IsViewStep z g (view_at a.views 0) c (view_at b.views 0)) (ap (λ n. n.kind) same ∙ k) r.next.step
 
 -- so did the one that is kept
-one_step : (c : Change) (g : Graph) (olds news : List Meaning) → EachBecomes (IsUpdated c g) olds news → is_same c g ≡ false → has_kind (kinds_of olds) kind.One ≡ true
+one_step : (c : List Step) (g : Graph) (olds news : List Meaning) → EachBecomes (IsUpdated c g) olds news → is_new c g ≡ true → has_kind (kinds_of olds) kind.One ≡ true
     → OneStep g (one_in olds) c (after c g) (one_in news)
 one_step c g olds news updated s h =
     let m = some_found kind.One olds h in
@@ -174,16 +175,26 @@ one_step c g olds news updated s h =
     let moved = weaker (IsUpdated c g) (λ a b. IsMoved a b c g) (λ a b u. u.moved s) olds news (pairwise _ olds news updated) in
     step_found c g (index_of olds kind.One) (index_of news kind.One) m.0 (found (λ a b. IsMoved a b c g) kind.One (λ a b r. r.kind) olds news moved) m.1 (is_one m.0.kind of_kind.1)
 
+-- steps that are accepted leave the graph that they make
+all_after : (c : List Step) (g h : Graph) (limits : Limits) → apply_all c g limits ≡ Ok h → h ≡ after c g
+all_after [] g h limits e = cc
+all_after (x ∷ xs) g h limits e =
+    let first = first_made (apply_step x g limits) (λ k. apply_all xs k limits) h e in
+    all_after xs (made x g) h limits (subst (λ k. apply_all xs k limits ≡ Ok h) (stepped x g first.0 limits first.1) first.2)
+
+pub accepted_after : (c : List Step) (g h : Graph) (limits : Limits) → apply c g limits ≡ Ok h → h ≡ after c g
+accepted_after c g h limits e = all_after c g h limits (accepted_all c g h limits e).1
+
 -- what an accepted change makes of the state
-pub changed_state : (c : Change) (o p : Opened) (h : Graph) (olds news : List Meaning) → apply c o.graph o.limits ≡ Ok h → p ≡ record o { graph = h }
-    → EachBecomes (IsUpdated c o.graph) olds news → (is_same c o.graph ≡ true → state_in (record { boxes = news; opened = Some p }) ≡ state_in (record { boxes = olds; opened = Some o }))
+pub changed_state : (c : List Step) (o p : Opened) (h : Graph) (olds news : List Meaning) → apply c o.graph o.limits ≡ Ok h → p ≡ record o { graph = h }
+    → EachBecomes (IsUpdated c o.graph) olds news → (is_new c o.graph ≡ false → state_in (record { boxes = news; opened = Some p }) ≡ state_in (record { boxes = olds; opened = Some o }))
     → kinds_of news ≡ kinds_of olds → IsChanged (state_in (record { boxes = olds; opened = Some o })) c h (state_in (record { boxes = news; opened = Some p }))
 changed_state c o p h olds news outcome is updated still kinds = record {
   graph = ap (λ x. x.graph) is;
   kinds = kinds;
   level = ap (λ x. x.k) is;
   same = still;
-  step = λ s e. subst (λ x. OneStep o.graph (one_in olds) c x (one_in news)) (sym (applied_after c o.graph o.limits h outcome)) (one_step c o.graph olds news updated s e);
+  step = λ s e. subst (λ x. OneStep o.graph (one_in olds) c x (one_in news)) (sym (accepted_after c o.graph h o.limits outcome)) (one_step c o.graph olds news updated s e);
   none = λ e.
       let empty : (boxes : List Meaning) → has_kind (kinds_of boxes) kind.One ≡ false → one_in boxes ≡ [] =
       λ boxes f. ap (λ x. blocks_in (option_and_then (λ b. view_at b.views 0) x)) (none_found kind.One boxes f) in

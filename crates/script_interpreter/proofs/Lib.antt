@@ -1,8 +1,10 @@
 pub mod EngineLemmas
 pub mod EngineCalls
 pub mod WalkCalls
+pub mod GroupLemmas
+pub mod KeptGroups
 pub mod TakenLemmas
 pub mod PrefixLemmas
 pub mod ReachedLemmas
 pub mod Examples
-pub mod BadLines
+pub mod NextLines

@@ -1,17 +1,19 @@
 -- How far a run has come, as its loop keeps it.
-use Rattle.std.proofs.Common.{◌≡◌, ℕ, ◌+◌, List, [], ◌∷◌, ◌++◌, refl, sym, ap, ◌∙◌, append_assoc, append-nil, subst, Option, None, Some, inr, Result, Ok, Err}
+use Rattle.std.proofs.Common.{◌≡◌, ℕ, ◌+◌, Bool, List, [], ◌∷◌, ◌++◌, refl, sym, ap, ◌∙◌, append_assoc, append-nil, subst, Option, None, Some, inr, Result, Ok, Err}
 use Rattle.std.specs.Prelude.{IfOk, OnOk, OnErr}
 use Rattle.std.specs.Io.KnownBytes.{Appends, prepend_known}
 use Rattle.std.proofs.KnownBytes.{Appends-nil, Appends-trans}
 use Rattle.script_interpreter.specs.Rules.{Rules}
 use Rattle.graph_spec.specs.Lines.{Line, cut}
 use Rattle.px_base.specs.Files.{AppendsPrefix}
-use Rattle.px_base.specs.ReaderStates.{IsFirst, IsOver}
+use Rattle.px_base.specs.ReaderStates.{ReaderState, IsFirst, IsOver}
 use Rattle.script_interpreter.specs.LineTexts.{bad_line}
 use Rattle.script_interpreter.specs.States.{State}
-use Rattle.script_interpreter.specs.Runs.{Progress, RunsLine, RunsLines, start, end_text, end_status, RunsPrefix}
+use Rattle.script_interpreter.specs.Runs.{Progress, Group, RunsLine, RunsLines, start, end_text, end_status, RunsPrefix}
 use Rattle.script_interpreter.specs.Observable.{RanObservable, PrefixObservable}
-use Rattle.script_interpreter.specs.RunSteps.{FirstIsBad, Writes}
+use Rattle.script_interpreter.specs.RunSteps.{progress, FirstIsBad, Writes}
+use Rattle.script_interpreter.specs.OpenGroups.{IsKeptAs}
+use Rattle.script_interpreter.specs.declared.group.OpenGroup.{OpenGroup}
 use Rattle.script_interpreter.proofs.PrefixLemmas.{prefix_of, prefix_of_taken}
 
 -- the lines of the one text are these lines and then those of the other, if the texts are observable
@@ -29,6 +31,12 @@ pub record Reached (rules : Rules) (first : State) (before after old new : Optio
   pub observable : Precede lines before after
   pub written : Appends old new prefix
   pub printed_is : printed ≡ prefix ++ gathered
+
+-- the same, where the code has the group that isn't ended
+pub record Stands (rules : Rules) (first : State) (before after old new : Option (List ℕ)) (gathered : List ℕ) (s : State) (kept : Option OpenGroup) (refused : Bool) (r : ReaderState) : Type 0 where
+  pub group : Option Group
+  pub is_kept : IsKeptAs group kept
+  pub reached : Reached rules first before after old new gathered (progress s group refused r)
 
 takes_push : {rules : Rules} (p : Progress) (lines : List Line) (printed : List ℕ) (q : Progress) (l : Line) (text : List ℕ) (r : Progress)
     → RunsLines rules p lines printed q → RunsLine rules q l text r → RunsLines rules p (lines ++ l ∷ []) (printed ++ text) r

@@ -6,6 +6,7 @@ pub mod EngineStates
 pub mod Indexes
 pub mod Walks
 pub mod Runs
+pub mod OpenGroups
 pub mod RunSteps
 pub mod Endings
 pub mod Observable

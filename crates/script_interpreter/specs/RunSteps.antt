@@ -11,13 +11,15 @@ use Rattle.script_interpreter.specs.LineTexts.{bad_line}
 use Rattle.index_api.specs.declared.kinds.Via.{Via}
 use Rattle.branch_query.specs.Queries as query
 use Rattle.branch_query.specs.Queries.{Query}
-use Rattle.script_read.specs.Commands.{Command, path, branch, SpellsNothing}
+use Rattle.script_read.specs.Commands.{Command, begin, end, path, branch}
+use Rattle.change_spec.specs.Steps.{Step}
+use Rattle.script_interpreter.specs.declared.group.Scope.{Scope}
 use Rattle.script_interpreter.specs.declared.interpreter.Outcome.{Outcome}
 use Rattle.script_interpreter.specs.declared.interpreter.Outcome.TheVariants.{Done, Bad}
 use Rattle.script_interpreter.specs.declared.script.Next.{Next}
 use Rattle.script_interpreter.specs.declared.script.Next.TheVariants.{Taken, AtBad, AtEnd}
 use Rattle.script_interpreter.specs.States.{State}
-use Rattle.script_interpreter.specs.Runs.{Progress, Obeys, Does, RunsLine, IsBad, end_text, end_status}
+use Rattle.script_interpreter.specs.Runs.{Progress, Group, Makes, Obeys, TakesLine, RunsLine, IsBad, IsBadIn, end_text, end_status}
 
 -- the new text begins with the old one
 pub record Extends (old new : List ℕ) : Type 0 where
@@ -29,6 +31,19 @@ abbrev pub query_command : Via → Query → Command
 query_command via (query.path e) = path via e
 query_command via (query.branch q) = branch via q
 
+-- the command is neither the first nor the last line of a group
+abbrev pub IsAlone : Command → Type 0
+IsAlone begin = ⊥
+IsAlone end = ⊥
+IsAlone c = ⊤
+
+-- a change was made or refused, and what it prints is gathered
+pub record Changed (scope : Scope) (s : State) (c : List Step) (old : Gathered) (t : State) (new : Gathered) : Type 0 where
+  pub printed : List ℕ
+  pub refuses : Bool
+  pub makes : Makes (rules_for old.printing) scope s c printed refuses t
+  pub gathered_is : new ≡ with_printed old printed refuses
+
 -- a command was carried out, and what it prints is gathered
 pub record Obeyed (s : State) (c : Command) (old : Gathered) (t : State) (new : Gathered) : Type 0 where
   pub printed : List ℕ
@@ -37,26 +52,26 @@ pub record Obeyed (s : State) (c : Command) (old : Gathered) (t : State) (new : 
   pub gathered_is : new ≡ with_printed old printed refuses
 
 -- a line was taken, and what it prints is gathered
-pub record IsTaken (s : State) (line : List ℕ) (old : Gathered) (t : State) (new : Gathered) : Type 0 where
+pub record IsTaken (s : State) (number : ℕ) (line : List ℕ) (group : Option Group) (old : Gathered) (t : State) (left : Option Group) (new : Gathered) : Type 0 where
   pub printed : List ℕ
   pub refuses : Bool
-  pub does : Does (rules_for old.printing) s line printed refuses t
+  pub takes : TakesLine (rules_for old.printing) s number line group printed refuses t left
   pub gathered_is : new ≡ with_printed old printed refuses
 
 -- nothing was gathered, and the state is as it was, since the line is bad
-pub record IsLeft (s : State) (line : List ℕ) (old : Gathered) (t : State) (new : Gathered) : Type 0 where
-  pub bad : SpellsNothing program_limits line
+pub record IsLeft (s : State) (line : List ℕ) (group : Option Group) (old : Gathered) (t : State) (new : Gathered) : Type 0 where
+  pub bad : IsBadIn program_limits group line
   pub state : t ≡ s
   pub gathered_is : new ≡ old
 
 -- what a line comes to
-abbrev pub LineComes : State → List ℕ → Gathered → Outcome → State → Gathered → Type 0
-LineComes s line old Done t new = IsTaken s line old t new
-LineComes s line old Bad t new = IsLeft s line old t new
+abbrev pub LineComes : State → ℕ → List ℕ → Option Group → Gathered → Outcome → State → Option Group → Gathered → Type 0
+LineComes s number line group old Done t left new = IsTaken s number line group old t left new
+LineComes s number line group old Bad t left new = IsLeft s line group old t new
 
--- how far the run has come, by its state, whether some line printed `refused`, and its reader
-abbrev pub progress : State → Bool → ReaderState → Progress
-progress s refused r = record { state = s; refused = refused; lines = r.number; bytes = r.taken }
+-- how far the run has come, by its state, the group that isn't ended, whether some line printed `refused`, and its reader
+abbrev pub progress : State → Option Group → Bool → ReaderState → Progress
+progress s group refused r = record { state = s; group = group; refused = refused; lines = r.number; bytes = r.taken }
 
 -- the first line of an observable text is bad
 abbrev pub FirstIsBad : Rules → Progress → Option (List ℕ) → Type 0

@@ -1,45 +1,52 @@
 -- A run of a script: what it prints, its status, and its last state.
-use Rattle.std.specs.Prelude.{ℕ, ◌+◌, ◌≡◌, ◌≤◌, ◌⊎◌, Bool, true, false, ◌||◌, List, [], ◌∷◌, ◌++◌, length, if◌then◌else◌, Result, Ok, Err, is_err, IsTrue}
+use Rattle.std.specs.Prelude.{ℕ, ◌+◌, ◌≡◌, ◌≤◌, ◌⊎◌, Bool, true, false, ◌||◌, List, [], ◌∷◌, ◌++◌, length, if◌then◌else◌, Option, None, Some, is_some, Result, Ok, Err, is_err, IsTrue}
 use Rattle.px_base.specs.declared.lines.TheConstants.{LINE_BYTES, SCRIPT_BYTES}
 use Rattle.script_interpreter.specs.Rules.{Rules, if_whole}
 use Rattle.graph_spec.specs.declared.refusal.Refusal.{Refusal}
 use Rattle.graph_spec.specs.declared.refusal.Refusal.TheVariants.{Limit, NoIndex}
 use Rattle.graph_spec.specs.Lines.{Line, cut}
 use Rattle.graph_spec.specs.Graphs.{Graph}
-use Rattle.graph_spec.specs.Changes.{Change, apply}
+use Rattle.graph_spec.specs.declared.limits.Limits.{Limits}
+use Rattle.change_spec.specs.Steps.{Step, apply, is_new}
+use Rattle.change_spec.specs.NextOne.{OneStep}
 use Rattle.index_api.specs.declared.kinds.Via.{Via}
 use Rattle.bisim_spec.specs.declared.kind.Kind.{Kind}
 use Rattle.bisim_spec.specs.declared.kind.Kind.TheVariants.{One}
-use Rattle.bisim_spec.specs.OneStep.{OneStep}
-use Rattle.graph_update.specs.NewChanges.{is_same}
 use Rattle.path_spec.specs.Trees.{Expr}
 use Rattle.branch_spec.specs.Trees.{Branch}
 use Rattle.branch_query.specs.Queries as query
+use Rattle.script_interpreter.specs.declared.group.Scope.{Scope}
+use Rattle.script_interpreter.specs.declared.group.Scope.TheVariants.{Line as OfLine, Group as OfGroup}
 use Rattle.script_interpreter.specs.LineTexts.{reply, refused_line, ok_line, bad_line}
 use Rattle.script_interpreter.specs.States.{State, keeps, forgotten}
 use Rattle.script_interpreter.specs.Indexes.{ShowsAnswers, ShowsExtents, ShowsSizes}
 use Rattle.script_interpreter.specs.Walks.{ShowsWhy, ShowsCheck}
-use Rattle.script_read.specs.Commands.{Command, change, path, branch, why, check, extents, sizes, forget, IsQuiet, IsSpelled, PassesLimit, SpellsNothing}
+use Rattle.script_read.specs.Commands.{Command, change, begin, end, path, branch, why, check, extents, sizes, forget, IsQuiet, IsSpelled, PassesLimit, SpellsNothing}
 
--- An accepted change leads from the state s to t, whose graph is h. The same indexes are kept. A change that alters
--- nothing leaves the whole state. Each other one moves the blocks of the 1-index, if it is kept, by one step.
-pub record IsChanged (s : State) (c : Change) (h : Graph) (t : State) : Type 0 where
+-- An accepted change leads from the state s to t, whose graph is h. The same indexes are kept. A change whose steps are all idle
+-- leaves the whole state. Each other one moves the blocks of the 1-index, if it is kept, by one step.
+pub record IsChanged (s : State) (c : List Step) (h : Graph) (t : State) : Type 0 where
   pub graph : t.graph ≡ h
   pub kinds : t.kept.kinds ≡ s.kept.kinds
   pub level : t.kept.k ≡ s.kept.k
-  pub same : is_same c s.graph ≡ true → t ≡ s
-  pub step : is_same c s.graph ≡ false → IsTrue (keeps s One) → OneStep s.graph s.kept.one c h t.kept.one
+  pub same : is_new c s.graph ≡ false → t ≡ s
+  pub step : is_new c s.graph ≡ true → IsTrue (keeps s One) → OneStep s.graph s.kept.one c h t.kept.one
   pub none : keeps s One ≡ false → t.kept.one ≡ s.kept.one
 
 -- what a change makes of the state, by its outcome: a refusal leaves it
-abbrev pub Becomes : State → Change → Result Graph Refusal → State → Type 0
+abbrev pub Becomes : State → List Step → Result Graph Refusal → State → Type 0
 Becomes s c (Ok h) t = IsChanged s c h t
 Becomes s c (Err r) t = t ≡ s
 
+-- A change, which is a line of its own or a group, may print this, which is a refusal or not, and lead to that state.
+pub record Makes (rules : Rules) (scope : Scope) (s : State) (c : List Step) (printed : List ℕ) (refuses : Bool) (t : State) : Type 0 where
+  pub becomes : Becomes s c (apply c s.graph rules.limits) t
+  pub printed_is : printed ≡ reply rules.printing scope c s.graph (apply c s.graph rules.limits)
+  pub refuses_is : refuses ≡ is_err (apply c s.graph rules.limits)
+
 -- A command in a state may print this, which is a refusal or not, and lead to that state.
 pub data Obeys (rules : Rules) (s : State) : Command → List ℕ → Bool → State → Type 0 where
-  changes : (c : Change) (t : State) → Becomes s c (apply c s.graph rules.limits) t
-      → Obeys rules s (change c) (reply rules.printing c s.graph (apply c s.graph rules.limits)) (is_err (apply c s.graph rules.limits)) t
+  changes : (x : Step) (printed : List ℕ) (refuses : Bool) (t : State) → Makes rules OfLine s (x ∷ []) printed refuses t → Obeys rules s (change x) printed refuses t
   asks_path : (via : Via) (e : Expr) (text : List ℕ) (refuses : Bool) → ShowsAnswers rules.printing s (query.path e) via text refuses → Obeys rules s (path via e) text refuses s
   asks_branch : (via : Via) (q : Branch) (text : List ℕ) (refuses : Bool) → ShowsAnswers rules.printing s (query.branch q) via text refuses → Obeys rules s (branch via q) text refuses s
   explains : (v : ℕ) (e : Expr) (text : List ℕ) (refuses : Bool) → ShowsWhy s v e text refuses → Obeys rules s (why v e) text refuses s
@@ -56,9 +63,32 @@ pub data Does (rules : Rules) (s : State) (line : List ℕ) : List ℕ → Bool 
   command : (c : Command) → IsSpelled line c → ¬ PassesLimit rules.limits line → (printed : List ℕ) (refuses : Bool) (t : State)
       → Obeys rules s c printed refuses t → Does rules s line printed refuses t
 
+-- a group that isn't ended
+pub record Group : Type 0 where
+  -- its steps so far
+  pub steps : List Step
+  -- the number of the line with its `begin`
+  pub line : ℕ
+
+-- the group with one more step
+abbrev pub with_step : Group → Step → Group
+with_step g x = record g { steps = g.steps ++ x ∷ [] }
+
+-- The line of that number, outside a group or in one, may print this, which is a refusal or not, and lead to that state and that
+-- group. The steps of a group are made at its end, as one change.
+pub data TakesLine (rules : Rules) (s : State) (number : ℕ) (line : List ℕ) : Option Group → List ℕ → Bool → State → Option Group → Type 0 where
+  outside : (printed : List ℕ) (refuses : Bool) (t : State) → Does rules s line printed refuses t → TakesLine rules s number line None printed refuses t None
+  begins : IsSpelled line begin → TakesLine rules s number line None [] false s (Some (record { steps = []; line = number }))
+  silent : (g : Group) → IsQuiet line → TakesLine rules s number line (Some g) [] false s (Some g)
+  adds : (g : Group) (x : Step) → IsSpelled line (change x) → TakesLine rules s number line (Some g) [] false s (Some (with_step g x))
+  ends : (g : Group) (printed : List ℕ) (refuses : Bool) (t : State) → IsSpelled line end → Makes rules OfGroup s g.steps printed refuses t
+      → TakesLine rules s number line (Some g) printed refuses t None
+
 -- how far a run has come
 pub record Progress : Type 0 where
   pub state : State
+  -- the group that isn't ended, if the lines so far end in one
+  pub group : Option Group
   -- whether some line printed `refused`
   pub refused : Bool
   -- the lines that were taken, and their bytes with their ends
@@ -66,7 +96,7 @@ pub record Progress : Type 0 where
   pub bytes : ℕ
 
 abbrev pub start : State → Progress
-start s = record { state = s; refused = false; lines = 0; bytes = 0 }
+start s = record { state = s; group = None; refused = false; lines = 0; bytes = 0 }
 
 -- the bytes of the script up to the end of the line
 abbrev pub bytes_with : Progress → Line → ℕ
@@ -80,14 +110,23 @@ IsWithinScript p l = (length l.text ≤ LINE_BYTES) × (bytes_with p l ≤ SCRIP
 pub record RunsLine (rules : Rules) (p : Progress) (l : Line) (printed : List ℕ) (q : Progress) : Type 0 where
   pub within : IsWithinScript p l
   pub refuses : Bool
-  pub does : Does rules p.state l.text printed refuses q.state
+  pub takes : TakesLine rules p.state (p.lines + 1) l.text p.group printed refuses q.state q.group
   pub refused : q.refused ≡ (p.refused || refuses)
   pub lines : q.lines ≡ p.lines + 1
   pub bytes : q.bytes ≡ bytes_with p l
 
--- The line ends the run: it passes a limit, or it is within them and spells nothing.
+-- the line may stand in a group: it is quiet, a step, or the end
+abbrev pub StandsInGroup : List ℕ → Type 0
+StandsInGroup line = IsQuiet line ⊎ (((x : Step) × IsSpelled line (change x)) ⊎ IsSpelled line end)
+
+-- Outside a group the line spells nothing, or the end of one; in a group it may not stand.
+abbrev pub IsBadIn : Limits → Option Group → List ℕ → Type 0
+IsBadIn limits None line = SpellsNothing limits line ⊎ IsSpelled line end
+IsBadIn limits (Some g) line = ¬ StandsInGroup line
+
+-- The line ends the run: it passes a limit, or it is within them and bad where it stands.
 abbrev pub IsBad : Rules → Progress → Line → Type 0
-IsBad rules p l = IsWithinScript p l → SpellsNothing rules.limits l.text
+IsBad rules p l = IsWithinScript p l → IsBadIn rules.limits p.group l.text
 
 -- so may these lines, one after another
 abbrev pub RunsLines : Rules → Progress → List Line → List ℕ → Progress → Type 0
@@ -95,13 +134,17 @@ RunsLines rules p [] printed q = (printed ≡ []) × (q ≡ p)
 RunsLines rules p (l ∷ ls) printed q = (text : List ℕ) × (rest : List ℕ) × (mid : Progress)
     × RunsLine rules p l text mid × RunsLines rules mid ls rest q × (printed ≡ text ++ rest)
 
--- what the end of the script prints: nothing
+-- what the end of the script prints: nothing, unless a group isn't ended, whose first line is then bad
+abbrev pub text_at_end : Option Group → List ℕ
+text_at_end None = []
+text_at_end (Some g) = bad_line g.line
+
 abbrev pub end_text : Progress → List ℕ
-end_text p = []
+end_text p = text_at_end p.group
 
 -- the status there
 abbrev pub end_status : Progress → ℕ
-end_status p = if p.refused then 1 else 0
+end_status p = if is_some p.group then 4 else (if p.refused then 1 else 0)
 
 -- The run ends here, and that prints this and gives the status: at the end of the script, or at a bad line.
 abbrev pub EndsRun : Rules → Progress → List Line → List ℕ → ℕ → Type 0

@@ -1,23 +1,30 @@
 // Carrying out the lines of a script.
-ghost use Rattle.std.specs.Prelude.{◌≡◌, ◌≢◌, ◌<◌, ◌↔◌, IfOk, OnOk, OnErr, IsTrue};
+ghost use Rattle.std.specs.Prelude.{◌≡◌, ◌≢◌, ◌<◌, ◌↔◌, ℕ, List, Option, Some};
+ghost use Rattle.std.specs.Prelude.{None, Ok, Err, IfOk, IfSome, IfNone, OnOk, OnErr, IsTrue, IsSome};
 ghost use Rattle.graph_spec.specs.Graphs.{is_live};
 ghost use Rattle.graph_spec.specs.Shapes.{shape_of};
-ghost use Rattle.graph_update.specs.Verdicts.{change_of};
+ghost use Rattle.change_spec.specs.Steps.{Step as Value_of_step};
+ghost use Rattle.graph_steps.specs.StepLists.{step_of};
 ghost use Rattle.index_api.specs.declared.kinds.Via.TheVariants.{Data};
 ghost use Rattle.branch_query.specs.Queries.{query_of};
-ghost use Rattle.script_read.specs.Commands.{change as changing, why as asking_why, check as checking};
+ghost use Rattle.script_read.specs.Commands.{change as changing, begin as beginning, end as ending, why as asking_why, check as checking};
 ghost use Rattle.script_read.specs.Commands.{extents as listing, sizes as measuring, forget as forgetting};
-ghost use Rattle.script_read.specs.ReadLines.{command_of};
+ghost use Rattle.script_read.specs.ReadLines.{command_of, ReadsCommand};
+ghost use Rattle.script_read.specs.Commands.{IsSpelled};
+ghost use Rattle.graph_spec.specs.ProgramLimits.{program_limits};
 ghost use Rattle.pathindex_core.specs.Engines.{by_meaning};
 ghost use Rattle.script_interpreter.specs.EngineStates.{state_of, IsOpen};
 ghost use Rattle.script_interpreter.specs.States.{State};
 ghost use Rattle.script_interpreter.specs.Walks.{ShowsLast};
-ghost use Rattle.script_interpreter.specs.RunSteps.{query_command, Obeyed, LineComes};
+ghost use Rattle.script_interpreter.specs.RunSteps.{query_command, IsAlone, Changed, Obeyed, LineComes};
+ghost use Rattle.script_interpreter.specs.Runs.{Group, with_step, StandsInGroup};
+ghost use Rattle.script_interpreter.specs.OpenGroups.{IsKeptAs};
 
+use crate::group::{OpenGroup, Scope};
 use crate::output::Output;
 use branch_query::Query;
 use extent_report::{answer_text, walk_text};
-use graph_update::Change;
+use graph_update::{Change, Step};
 use index_api::{Kind, PathIndex, Via};
 use label_graph::Graph;
 use path_query::PathExpr;
@@ -40,21 +47,45 @@ pub(crate) enum Outcome {
 }
 
 /// Makes a change if it is accepted, and gathers what that prints.
-fn change<B: PathIndex>(
+fn make<B: PathIndex>(
     alloc: Global,
     engine: &mut Engine<B>,
     change: Change,
+    scope: Scope,
     output: &mut Output,
 ) -> Result<(), Memory>
     requires ready { IsOpen (by_meaning B.meaning engine.old) }
     ensures ready { IsOpen (by_meaning B.meaning engine.new) }
-    ensures ok { OnOk result (Obeyed (state_of B.meaning engine.old) (changing (change_of change)) output.old (state_of B.meaning engine.new) output.new) }
+    ensures ok { OnOk result (Changed scope (state_of B.meaning engine.old) change output.old (state_of B.meaning engine.new) output.new) }
     ensures err { OnErr result (output.new ≡ output.old) }
 {
+    // Called for its contract, here and below: the numbers are few.
+    let _known = engine.graph().created();
     match engine.update(alloc, change) {
-        Ok(applied) => output.push_applied(applied),
+        Ok(applied) => {
+            let _known = engine.graph().created();
+            output.push_applied(applied, scope)
+        }
         Err(UpdateError::Refused(refusal)) => output.refuse(refusal),
         Err(UpdateError::Memory) => Err(Memory),
+    }
+}
+
+/// Makes a change of one step, which is a line of its own.
+fn change<B: PathIndex>(
+    alloc: Global,
+    engine: &mut Engine<B>,
+    step: Step,
+    output: &mut Output,
+) -> Result<(), Memory>
+    requires ready { IsOpen (by_meaning B.meaning engine.old) }
+    ensures ready { IsOpen (by_meaning B.meaning engine.new) }
+    ensures ok { OnOk result (Obeyed (state_of B.meaning engine.old) (changing (step_of step)) output.old (state_of B.meaning engine.new) output.new) }
+    ensures err { OnErr result (output.new ≡ output.old) }
+{
+    match Change::one(alloc, step) {
+        Ok(change) => make(alloc, engine, change, Scope::Line, output),
+        Err(_) => Err(Memory),
     }
 }
 
@@ -234,7 +265,7 @@ fn forget<B: PathIndex>(
     }
 }
 
-/// Carries out a command, and gathers what it prints.
+/// Carries out a command that stands alone, and gathers what it prints.
 fn obey<B: PathIndex, L: Ledger>(
     alloc: Global,
     engine: &mut Engine<B>,
@@ -245,6 +276,7 @@ fn obey<B: PathIndex, L: Ledger>(
     requires name { blank.name ≡ L.name }
     requires parts { blank.parts ≡ L.parts }
     requires some { 0 < blank.parts }
+    requires alone { IsAlone (command_of command) }
     requires ready { IsOpen (by_meaning B.meaning engine.old) }
     ensures ready { IsOpen (by_meaning B.meaning engine.new) }
     ensures ok { OnOk result (Obeyed (state_of B.meaning engine.old) (command_of command) output.old (state_of B.meaning engine.new) output.new) }
@@ -252,10 +284,12 @@ fn obey<B: PathIndex, L: Ledger>(
 {
     let mut steps = Steps::<L>::new(blank);
     match command {
-        Command::Node(label) => change(alloc, engine, Change::Node(label), output),
-        Command::Link(from, to) => change(alloc, engine, Change::Link(from, to), output),
-        Command::Unlink(from, to) => change(alloc, engine, Change::Unlink(from, to), output),
-        Command::Drop(node) => change(alloc, engine, Change::Drop(node), output),
+        Command::Node(label) => change(alloc, engine, Step::Node(label), output),
+        Command::Link(from, to) => change(alloc, engine, Step::Link(from, to), output),
+        Command::Unlink(from, to) => change(alloc, engine, Step::Unlink(from, to), output),
+        Command::Drop(node) => change(alloc, engine, Step::Drop(node), output),
+        Command::Begin => unreachable!(),
+        Command::End => unreachable!(),
         Command::Path(via, expr) => {
             ask(alloc, engine, via, &Query::Path(&expr), output, &mut steps)
         }
@@ -277,30 +311,226 @@ fn obey<B: PathIndex, L: Ledger>(
     }
 }
 
-/// Takes a line, and gathers what it prints.
+/// Whether a command is the first line of a group.
+fn is_begin(command: &Command) -> bool
+    ensures { IsTrue result ↔ (command_of command.now ≡ beginning) }
+{
+    matches!(*command, Command::Begin)
+}
+
+/// Whether a command is the last line of a group.
+fn is_end(command: &Command) -> bool
+    ensures { IsTrue result ↔ (command_of command.now ≡ ending) }
+{
+    matches!(*command, Command::End)
+}
+
+/// The step that a command is, if it is one.
+fn step(command: Command) -> Option<Step>
+    ensures found { IfSome result (λ step. command_of command ≡ changing (step_of step)) }
+    ensures absent { IfNone result ((step : Value_of_step) → command_of command ≢ changing step) }
+{
+    match command {
+        Command::Node(label) => Some(Step::Node(label)),
+        Command::Link(from, to) => Some(Step::Link(from, to)),
+        Command::Unlink(from, to) => Some(Step::Unlink(from, to)),
+        Command::Drop(node) => Some(Step::Drop(node)),
+        Command::Begin => None,
+        Command::End => None,
+        Command::Path(_, _) => None,
+        Command::Branch(_, _) => None,
+        Command::Why(_, _) => None,
+        Command::Check(_, _) => None,
+        Command::Extents(_) => None,
+        Command::Sizes => None,
+        Command::Forget(_) => None,
+    }
+}
+
+/// Carries out the command of a line that stands in no group.
+fn take_command<B: PathIndex>(
+    alloc: Global,
+    engine: &mut Engine<B>,
+    number: u32,
+    command: Command,
+    group: &mut Option<OpenGroup>,
+    output: &mut Output,
+) -> Result<Outcome, Memory>
+    requires ready { IsOpen (by_meaning B.meaning engine.old) }
+    requires none { group.old ≡ None }
+    ensures ready { IsOpen (by_meaning B.meaning engine.new) }
+    ensures ok { IfOk result (λ outcome. (line : List ℕ) → ReadsCommand program_limits line (Ok (Some command))
+        → (left : Option Group) × IsKeptAs left group.new
+        × LineComes (state_of B.meaning engine.old) number line None output.old outcome (state_of B.meaning engine.new) left output.new) }
+    ensures err { OnErr result (output.new ≡ output.old) }
+{
+    if is_begin(&command) {
+        *group = Some(OpenGroup::begin(alloc, number)?);
+        Ok(Outcome::Done)
+    } else if is_end(&command) {
+        Ok(Outcome::Bad)
+    } else {
+        obey::<B, Brand>(alloc, engine, command, output, Blank::new(1))?;
+        Ok(Outcome::Done)
+    }
+}
+
+/// Takes a line in no group that spells no command: a query whose expression passes a limit is refused.
+fn fail_outside(error: ScriptError, output: &mut Output) -> Result<Outcome, Memory>
+    ensures ok { IfOk result (λ outcome. (s : State) (number : ℕ) (line : List ℕ) → ReadsCommand program_limits line (Err error)
+        → LineComes s number line None output.old outcome s None output.new) }
+    ensures err { OnErr result (output.new ≡ output.old) }
+{
+    match error {
+        ScriptError::Limit => {
+            output.refuse(Refusal::Limit)?;
+            Ok(Outcome::Done)
+        }
+        ScriptError::Bad => Ok(Outcome::Bad),
+        ScriptError::Memory => Err(Memory),
+    }
+}
+
+/// Takes a line that stands in no group.
+fn take_outside<B: PathIndex>(
+    alloc: Global,
+    engine: &mut Engine<B>,
+    number: u32,
+    read: Result<Option<Command>, ScriptError>,
+    group: &mut Option<OpenGroup>,
+    output: &mut Output,
+) -> Result<Outcome, Memory>
+    requires ready { IsOpen (by_meaning B.meaning engine.old) }
+    requires none { group.old ≡ None }
+    ensures ready { IsOpen (by_meaning B.meaning engine.new) }
+    ensures ok { IfOk result (λ outcome. (line : List ℕ) → ReadsCommand program_limits line read
+        → (left : Option Group) × IsKeptAs left group.new
+        × LineComes (state_of B.meaning engine.old) number line None output.old outcome (state_of B.meaning engine.new) left output.new) }
+    ensures err { OnErr result (output.new ≡ output.old) }
+{
+    match read {
+        Ok(Some(command)) => take_command(alloc, engine, number, command, group, output),
+        Ok(None) => Ok(Outcome::Done),
+        Err(error) => fail_outside(error, output),
+    }
+}
+
+/// Makes the change of a group that ends.
+fn end<B: PathIndex>(
+    alloc: Global,
+    engine: &mut Engine<B>,
+    group: &mut Option<OpenGroup>,
+    output: &mut Output,
+) -> Result<(), Memory>
+    requires ready { IsOpen (by_meaning B.meaning engine.old) }
+    requires some { IsSome group.old }
+    ensures ready { IsOpen (by_meaning B.meaning engine.new) }
+    ensures ok { OnOk result ((g : Group) → IsKeptAs (Some g) group.old
+        → Changed Scope.Group (state_of B.meaning engine.old) g.steps output.old (state_of B.meaning engine.new) output.new) }
+    ensures ended { OnOk result (group.new ≡ None) }
+    ensures err { OnErr result (output.new ≡ output.old) }
+{
+    match group.take() {
+        Some(open) => make(alloc, engine, open.change, Scope::Group, output),
+        None => unreachable!(),
+    }
+}
+
+/// Keeps a step of the group that is open.
+fn keep(group: &mut Option<OpenGroup>, step: Step) -> Result<(), Memory>
+    requires some { IsSome group.old }
+    ensures ok { OnOk result ((g : Group) → IsKeptAs (Some g) group.old → IsKeptAs (Some (with_step g (step_of step))) group.new) }
+{
+    match group {
+        Some(open) => open.keep(step),
+        None => unreachable!(),
+    }
+}
+
+/// Takes the command of a line that stands in a group.
+fn take_inner<B: PathIndex>(
+    alloc: Global,
+    engine: &mut Engine<B>,
+    command: Command,
+    group: &mut Option<OpenGroup>,
+    output: &mut Output,
+) -> Result<Outcome, Memory>
+    requires ready { IsOpen (by_meaning B.meaning engine.old) }
+    requires some { IsSome group.old }
+    ensures ready { IsOpen (by_meaning B.meaning engine.new) }
+    ensures ok { IfOk result (λ outcome. (number : ℕ) (line : List ℕ) (g : Group) → IsSpelled line (command_of command) → IsKeptAs (Some g) group.old
+        → (left : Option Group) × IsKeptAs left group.new
+        × LineComes (state_of B.meaning engine.old) number line (Some g) output.old outcome (state_of B.meaning engine.new) left output.new) }
+    ensures err { OnErr result (output.new ≡ output.old) }
+{
+    if is_end(&command) {
+        end(alloc, engine, group, output)?;
+        return Ok(Outcome::Done);
+    }
+    match step(command) {
+        Some(step) => {
+            keep(group, step)?;
+            Ok(Outcome::Done)
+        }
+        None => Ok(Outcome::Bad),
+    }
+}
+
+/// Takes a line in a group that spells no command.
+fn fail_inside(error: ScriptError) -> Result<Outcome, Memory>
+    ensures outcome { IfOk result (λ outcome. outcome ≡ Outcome.Bad) }
+    ensures bad { OnOk result ((line : List ℕ) → ReadsCommand program_limits line (Err error) → ¬ StandsInGroup line) }
+{
+    match error {
+        ScriptError::Limit => Ok(Outcome::Bad),
+        ScriptError::Bad => Ok(Outcome::Bad),
+        ScriptError::Memory => Err(Memory),
+    }
+}
+
+/// Takes a line that stands in a group.
+fn take_inside<B: PathIndex>(
+    alloc: Global,
+    engine: &mut Engine<B>,
+    read: Result<Option<Command>, ScriptError>,
+    group: &mut Option<OpenGroup>,
+    output: &mut Output,
+) -> Result<Outcome, Memory>
+    requires ready { IsOpen (by_meaning B.meaning engine.old) }
+    requires some { IsSome group.old }
+    ensures ready { IsOpen (by_meaning B.meaning engine.new) }
+    ensures ok { IfOk result (λ outcome. (number : ℕ) (line : List ℕ) (g : Group) → ReadsCommand program_limits line read → IsKeptAs (Some g) group.old
+        → (left : Option Group) × IsKeptAs left group.new
+        × LineComes (state_of B.meaning engine.old) number line (Some g) output.old outcome (state_of B.meaning engine.new) left output.new) }
+    ensures err { OnErr result (output.new ≡ output.old) }
+{
+    match read {
+        Ok(Some(command)) => take_inner(alloc, engine, command, group, output),
+        Ok(None) => Ok(Outcome::Done),
+        Err(error) => fail_inside(error),
+    }
+}
+
+/// Takes the line of that number, and gathers what it prints.
 pub(crate) fn take<B: PathIndex>(
     alloc: Global,
     engine: &mut Engine<B>,
+    number: u32,
     line: &[u8],
+    group: &mut Option<OpenGroup>,
     output: &mut Output,
 ) -> Result<Outcome, Memory>
     requires ready { IsOpen (by_meaning B.meaning engine.old) }
     ensures ready { IsOpen (by_meaning B.meaning engine.new) }
-    ensures ok { IfOk result (λ outcome. LineComes (state_of B.meaning engine.old) line.now output.old outcome
-        (state_of B.meaning engine.new) output.new) }
+    ensures ok { IfOk result (λ outcome. (was : Option Group) → IsKeptAs was group.old
+        → (left : Option Group) × IsKeptAs left group.new
+        × LineComes (state_of B.meaning engine.old) number line.now was output.old outcome (state_of B.meaning engine.new) left output.new) }
     ensures err { OnErr result (output.new ≡ output.old) }
 {
-    match read(alloc, line, &Limits::program()) {
-        Ok(Some(command)) => {
-            obey::<B, Brand>(alloc, engine, command, output, Blank::new(1))?;
-            Ok(Outcome::Done)
-        }
-        Ok(None) => Ok(Outcome::Done),
-        Err(ScriptError::Limit) => {
-            output.refuse(Refusal::Limit)?;
-            Ok(Outcome::Done)
-        }
-        Err(ScriptError::Bad) => Ok(Outcome::Bad),
-        Err(ScriptError::Memory) => Err(Memory),
+    let read = read(alloc, line, &Limits::program());
+    if group.is_some() {
+        take_inside(alloc, engine, read, group, output)
+    } else {
+        take_outside(alloc, engine, number, read, group, output)
     }
 }

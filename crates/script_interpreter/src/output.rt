@@ -1,13 +1,15 @@
 // What a run prints.
-ghost use Rattle.std.specs.Prelude.{◌≡◌, ◌++◌, ◌∷◌, [], OnOk, OnErr, decimal, length, true, false};
+ghost use Rattle.std.specs.Prelude.{◌≡◌, ◌≤◌, ◌+◌, ◌^◌, ◌++◌, ◌∷◌, [], OnOk};
+ghost use Rattle.std.specs.Prelude.{OnErr, decimal, length, nat_eq, if◌then◌else◌, true, false};
 ghost use Rattle.std.specs.Io.KnownBytes.{Appends};
 ghost use Rattle.px_base.specs.Causes.{HasCause};
 ghost use Rattle.px_base.specs.Files.{AppendsPrefix};
 ghost use Rattle.script_interpreter.specs.Rules.{if_whole, prints_nodes};
-ghost use Rattle.script_interpreter.specs.LineTexts.{applied_line, bad_line, ok_line, refused_line};
+ghost use Rattle.script_interpreter.specs.LineTexts.{added_lines, made_lines, bad_line, ok_line, refused_line};
 ghost use Rattle.script_interpreter.specs.Outputs.{with_printed};
 ghost use Rattle.script_interpreter.specs.RunSteps.{Extends};
 
+use crate::group::Scope;
 use crate::printing::Printing;
 use graph_update::Applied;
 use itoa::Buffer;
@@ -75,11 +77,12 @@ impl Output {
     }
 
     /// Gathers what an accepted change did, if that is printed.
-    pub(crate) fn push_applied(&mut self, applied: Applied) -> Result<(), Memory>
-        ensures ok { OnOk result (self.new ≡ with_printed self.old (if_whole self.old.printing (applied_line applied)) false) }
+    pub(crate) fn push_applied(&mut self, applied: Applied, scope: Scope) -> Result<(), Memory>
+        requires few { applied.first + applied.added ≤ 2 ^ 30 }
+        ensures ok { OnOk result (self.new ≡ with_printed self.old (if_whole self.old.printing (made_lines scope applied)) false) }
         ensures err { OnErr result (self.new ≡ self.old) }
     {
-        push_applied(&mut self.bytes, applied, self.printing)
+        push_applied(&mut self.bytes, applied, scope, self.printing)
     }
 
     /// Gathers that a command was carried out, if that is printed.
@@ -87,7 +90,7 @@ impl Output {
         ensures ok { OnOk result (self.new ≡ with_printed self.old (if_whole self.old.printing ok_line) false) }
         ensures err { OnErr result (self.new ≡ self.old) }
     {
-        push_applied(&mut self.bytes, Applied::Done, self.printing)
+        push_ok(&mut self.bytes, self.printing)
     }
 
     /// Gathers a line of one word.
@@ -129,26 +132,95 @@ impl Output {
     }
 }
 
-/// Appends what an accepted change did, or nothing in a brief run.
-fn push_applied(out: &mut Vec<u8>, applied: Applied, printing: Printing) -> Result<(), Memory>
-    ensures ok { OnOk result (out.new.items ≡ out.old.items ++ if_whole printing (applied_line applied)) }
+/// Appends that a command was carried out, or nothing in a brief run.
+fn push_ok(out: &mut Vec<u8>, printing: Printing) -> Result<(), Memory>
+    ensures ok { OnOk result (out.new.items ≡ out.old.items ++ if_whole printing ok_line) }
     ensures err { OnErr result (out.new.items ≡ out.old.items) }
 {
     match printing {
-        Printing::Whole => push_change(out, applied),
+        Printing::Whole => push_line(out, b"ok", b""),
         Printing::Brief => Ok(()),
     }
 }
 
-/// Appends what an accepted change did.
-fn push_change(out: &mut Vec<u8>, applied: Applied) -> Result<(), Memory>
-    ensures ok { OnOk result (out.new.items ≡ out.old.items ++ applied_line applied) }
+/// Appends what an accepted change did, or nothing in a brief run.
+fn push_applied(
+    out: &mut Vec<u8>,
+    applied: Applied,
+    scope: Scope,
+    printing: Printing,
+) -> Result<(), Memory>
+    requires few { applied.first + applied.added ≤ 2 ^ 30 }
+    ensures ok { OnOk result (out.new.items ≡ out.old.items ++ if_whole printing (made_lines scope applied)) }
     ensures err { OnErr result (out.new.items ≡ out.old.items) }
 {
-    match applied {
-        Applied::Added(node) => push_number(out, b"added n", node),
-        Applied::Done => push_line(out, b"ok", b""),
+    match printing {
+        Printing::Whole => push_made(out, applied, scope),
+        Printing::Brief => Ok(()),
     }
+}
+
+/// Appends what an accepted change did, or nothing if memory runs out.
+fn push_made(out: &mut Vec<u8>, applied: Applied, scope: Scope) -> Result<(), Memory>
+    requires few { applied.first + applied.added ≤ 2 ^ 30 }
+    ensures ok { OnOk result (out.new.items ≡ out.old.items ++ made_lines scope applied) }
+    ensures err { OnErr result (out.new.items ≡ out.old.items) }
+{
+    let whole = out.len();
+    match push_some(out, applied, scope) {
+        Ok(()) => Ok(()),
+        Err(Memory) => {
+            out.truncate(whole);
+            Err(Memory)
+        }
+    }
+}
+
+/// Appends what an accepted change did, or a prefix of that if memory runs out.
+fn push_some(out: &mut Vec<u8>, applied: Applied, scope: Scope) -> Result<(), Memory>
+    requires few { applied.first + applied.added ≤ 2 ^ 30 }
+    ensures ok { OnOk result (out.new.items ≡ out.old.items ++ made_lines scope applied) }
+    ensures err { OnErr result (Extends out.old.items out.new.items) }
+{
+    match scope {
+        Scope::Line => push_one(out, applied),
+        Scope::Group => push_all(out, applied),
+    }
+}
+
+/// Appends what a line of its own did, or a prefix of that if memory runs out.
+fn push_one(out: &mut Vec<u8>, applied: Applied) -> Result<(), Memory>
+    requires few { applied.first + applied.added ≤ 2 ^ 30 }
+    ensures ok { OnOk result (out.new.items ≡ out.old.items ++ (if nat_eq applied.added 0 then ok_line else added_lines applied)) }
+    ensures err { OnErr result (Extends out.old.items out.new.items) }
+{
+    if applied.added == 0 {
+        push_parts(out, b"ok", b"")
+    } else {
+        push_added(out, applied)
+    }
+}
+
+/// Appends what a group did, or a prefix of that if memory runs out.
+fn push_all(out: &mut Vec<u8>, applied: Applied) -> Result<(), Memory>
+    requires few { applied.first + applied.added ≤ 2 ^ 30 }
+    ensures ok { OnOk result (out.new.items ≡ out.old.items ++ (added_lines applied ++ ok_line)) }
+    ensures err { OnErr result (Extends out.old.items out.new.items) }
+{
+    push_added(out, applied)?;
+    push_parts(out, b"ok", b"")
+}
+
+/// Appends the numbers that were allocated, or a prefix of that if memory runs out.
+fn push_added(out: &mut Vec<u8>, applied: Applied) -> Result<(), Memory>
+    requires few { applied.first + applied.added ≤ 2 ^ 30 }
+    ensures ok { OnOk result (out.new.items ≡ out.old.items ++ added_lines applied) }
+    ensures err { OnErr result (Extends out.old.items out.new.items) }
+{
+    'nodes: for i in 0..applied.added {
+        push_number(out, b"added n", applied.first + i)?;
+    }
+    Ok(())
 }
 
 /// Appends the two texts and LF, or nothing if memory runs out.

@@ -1,5 +1,5 @@
 // The run of a script, line by line.
-ghost use Rattle.std.specs.Prelude.{◌≡◌, ◌≢◌, ◌<◌, ◌≤◌, IfOk, OnOk, OnErr, IsErrOf, IsTrue, Err, false};
+ghost use Rattle.std.specs.Prelude.{◌≡◌, ◌≢◌, ◌<◌, ◌≤◌, Option, is_some, IfOk, OnOk, OnErr, IsErrOf, IsTrue, Err, false};
 ghost use Rattle.std.specs.Io.KnownBytes.{Appends};
 ghost use Rattle.px_base.specs.Causes.{MayHaveRisen, HasCause};
 ghost use Rattle.px_base.specs.Files.{AppendsPrefix};
@@ -7,7 +7,8 @@ ghost use Rattle.px_base.specs.ReaderStates.{stream};
 ghost use Rattle.pathindex_core.specs.Engines.{by_meaning};
 ghost use Rattle.script_interpreter.specs.Rules.{rules_for};
 ghost use Rattle.script_interpreter.specs.RunSteps.{progress, Goes, OnTaken, CanRead, Writes};
-ghost use Rattle.script_interpreter.specs.Runs.{Progress, end_status};
+ghost use Rattle.script_interpreter.specs.Runs.{Progress, Group, end_status, text_at_end};
+ghost use Rattle.script_interpreter.specs.OpenGroups.{IsKeptAs};
 ghost use Rattle.script_interpreter.specs.Endings.{status_at};
 ghost use Rattle.script_interpreter.specs.EngineStates.{state_of, IsOpen, IsIn};
 ghost use Rattle.script_interpreter.specs.LineTexts.{bad_line};
@@ -15,6 +16,7 @@ ghost use Rattle.script_interpreter.specs.Outputs.{with_printed};
 ghost use Rattle.script_interpreter.specs.Observable.{RanObservable, PrefixObservable};
 ghost use Rattle.script_interpreter.specs.declared.script.Stop.TheVariants.{Sink as SinkStop, Memory as MemoryStop};
 
+use crate::group::OpenGroup;
 use crate::interpreter::{Outcome, take};
 use crate::output::Output;
 use crate::printing::Printing;
@@ -60,7 +62,7 @@ pub enum Ending {
     Done,
     /// The script was read to its end, and some line printed a refusal.
     Refused,
-    /// A line was bad.
+    /// A line was bad, or a group wasn't ended.
     Bad,
 }
 
@@ -85,36 +87,54 @@ fn push_bad(output: &mut Output, line: u32) -> Result<Next, Stop>
     }
 }
 
+/// Gathers what the end of the script prints: where a group isn't ended, its first line is bad.
+fn push_end(group: &Option<OpenGroup>, output: &mut Output) -> Result<Next, Stop>
+    ensures ok { IfOk result (λ next. (next ≡ Next.AtEnd) × ((was : Option Group) → IsKeptAs was group.now
+        → output.new ≡ with_printed output.old (text_at_end was) false)) }
+    ensures err { OnErr result (output.new ≡ output.old) }
+    ensures memory { result ≢ Err Stop.Shelf }
+    ensures no_sink { result ≢ Err Stop.Sink }
+{
+    match group {
+        Some(open) => match output.push_bad(open.line) {
+            Ok(()) => Ok(Next::AtEnd),
+            Err(_) => Err(Stop::Memory),
+        },
+        None => Ok(Next::AtEnd),
+    }
+}
+
 /// Reads a line, and takes it.
 fn next_line<B: PathIndex, H: Shelf>(
     alloc: Global,
     reader: &mut LineReader,
     engine: &mut Engine<B>,
     shelf: &mut H,
+    group: &mut Option<OpenGroup>,
     output: &mut Output,
 ) -> Result<Next, Stop>
     requires can { CanRead reader.old (H.is_open shelf.old) }
     requires ready { IsOpen (by_meaning B.meaning engine.old) }
     ensures ready { IsOpen (by_meaning B.meaning engine.new) }
-    ensures goes { IfOk result (λ next. Goes (rules_for output.old.printing)
-        (progress (state_of B.meaning engine.old) output.old.refused reader.old) (stream reader.old (H.left shelf.old)) output.old.text next
-        (progress (state_of B.meaning engine.new) output.new.refused reader.new) (stream reader.new (H.left shelf.new)) output.new.text) }
-    ensures printing { output.new.printing ≡ output.old.printing }
+    ensures goes { IfOk result (λ next. (was : Option Group) → IsKeptAs was group.old → (left : Option Group) × IsKeptAs left group.new
+        × (output.new.printing ≡ output.old.printing) × Goes (rules_for output.old.printing)
+        (progress (state_of B.meaning engine.old) was output.old.refused reader.old) (stream reader.old (H.left shelf.old)) output.old.text next
+        (progress (state_of B.meaning engine.new) left output.new.refused reader.new) (stream reader.new (H.left shelf.new)) output.new.text) }
     ensures can { IfOk result (λ next. OnTaken next (CanRead reader.new (H.is_open shelf.new))) }
     ensures nearer { IfOk result (λ next. OnTaken next ((reader.old.taken < reader.new.taken) × (reader.new.taken ≤ SCRIPT_BYTES))) }
-    ensures gathered { OnErr result (output.new ≡ output.old) }
+    ensures gathered { OnErr result ((was : Option Group) → IsKeptAs was group.old → output.new ≡ output.old) }
     ensures files { H.files shelf.new ≡ H.files shelf.old }
     ensures fault { IsErrOf result Stop.Shelf → MayHaveRisen (H.faults shelf.old) (H.faults shelf.new) }
     ensures no_fault { result ≢ Err Stop.Shelf → H.faults shelf.new ≡ H.faults shelf.old }
     ensures no_sink { result ≢ Err Stop.Sink }
 {
     match reader.next(shelf) {
-        Ok(true) => match take(alloc, engine, reader.line(), output) {
+        Ok(true) => match take(alloc, engine, reader.number(), reader.line(), group, output) {
             Ok(Outcome::Done) => Ok(Next::Taken),
             Ok(Outcome::Bad) => push_bad(output, reader.number()),
             Err(_) => Err(Stop::Memory),
         },
-        Ok(false) => Ok(Next::AtEnd),
+        Ok(false) => push_end(group, output),
         Err(LineFault::Limit) => push_bad(output, reader.number()),
         Err(LineFault::Fault) => Err(Stop::Shelf),
         Err(LineFault::Memory) => Err(Stop::Memory),
@@ -155,10 +175,12 @@ fn finish<K: Sink>(ending: Ending, output: &mut Output, sink: &mut K) -> Result<
 }
 
 /// How a run ends at the end of its script.
-fn ending_of(refused: bool) -> Ending
-    ensures { (p : Progress) → p.refused ≡ refused → status_at result ≡ end_status p }
+fn ending_of(in_group: bool, refused: bool) -> Ending
+    ensures { (p : Progress) → is_some p.group ≡ in_group → p.refused ≡ refused → status_at result ≡ end_status p }
 {
-    if refused {
+    if in_group {
+        Ending::Bad
+    } else if refused {
         Ending::Refused
     } else {
         Ending::Done
@@ -190,12 +212,16 @@ pub fn run_lines<B: PathIndex, H: Shelf, K: Sink>(
 {
     let mut reader = LineReader::new(alloc, LINE_BYTES, SCRIPT_BYTES)?;
     let mut output = Output::new(alloc, printing);
+    let mut group: Option<OpenGroup> = None;
     'lines: loop {
         flush_if_due(&reader, &mut output, sink)?;
-        match next_line(alloc, &mut reader, engine, shelf, &mut output) {
+        match next_line(alloc, &mut reader, engine, shelf, &mut group, &mut output) {
             Ok(Next::Taken) => (),
             Ok(Next::AtBad) => return finish(Ending::Bad, &mut output, sink),
-            Ok(Next::AtEnd) => return finish(ending_of(output.is_refused()), &mut output, sink),
+            Ok(Next::AtEnd) => {
+                let ending = ending_of(group.is_some(), output.is_refused());
+                return finish(ending, &mut output, sink);
+            }
             Err(Stop::Memory) => {
                 output.flush(sink)?;
                 return Err(Stop::Memory);

@@ -3,7 +3,7 @@ use Rattle.std.proofs.Common.{◌≡◌, ◌≢◌, ℕ, ◌<◌, ◌^◌, List,
 use Rattle.std.specs.Prelude.{codes, slice_index}
 use Rattle.std.specs.List.{AllByRecursion}
 use Rattle.std.proofs.lemmas.Fmt.{decimal_injective}
-use Rattle.graph_spec.specs.Changes.{node, link, unlink, drop}
+use Rattle.change_spec.specs.Steps.{node, link, unlink, drop}
 use Rattle.path_query.specs.Labels.{SpellsLabel}
 use Rattle.graph_spec.specs.Words.{node_word}
 use Rattle.bisim_spec.specs.declared.kind.Kind.{Kind}
@@ -12,10 +12,10 @@ use Rattle.index_api.specs.declared.kinds.Via.{Via}
 use Rattle.index_api.specs.declared.kinds.Via.TheVariants.{Data, A, One, Fb}
 use Rattle.index_api.specs.Spelling.{via_word, kind_word}
 use Rattle.script_read.specs.FirstWords.{first_word, behind_word, expression_text}
-use Rattle.script_read.specs.Commands.{Command, change, path, branch, why, check, extents, sizes, forget, IsIndex, IsVia, IsQuiet, IsSpelled, SpellsPair, SpellsNodes, AsksWith, Asks, NoCommand, SpellsOnce, LabelsOnce, PathsOnce, BranchesOnce}
+use Rattle.script_read.specs.Commands.{Command, change, begin, end, path, branch, why, check, extents, sizes, forget, IsIndex, IsVia, IsQuiet, IsSpelled, SpellsPair, SpellsNodes, AsksWith, Asks, NoCommand, SpellsOnce, LabelsOnce, PathsOnce, BranchesOnce}
 use Rattle.script_read.specs.ScannedLines.{SaysNode, SaysQuery, SaysWhy, SaysCheck, IsWhole}
 use Rattle.script_read.proofs.WordLemmas.{head_word, is_split}
-use Rattle.script_read.proofs.CommandLemmas.{second_same, no_query, OpensWhole, no_part, apart, begins, opens_node, silent}
+use Rattle.script_read.proofs.CommandLemmas.{second_same, lead, no_query, OpensWhole, no_part, apart, begins, opens_node, silent}
 
 node_number : (m n : ℕ) → m < 2 ^ 32 → n < 2 ^ 32 → node_word m ≡ node_word n → m ≡ n
 node_number m n a b e = decimal_injective m n (omega arith) (omega arith) cc
@@ -73,14 +73,14 @@ one_list (x ∷ xs) (y ∷ ys) a b e =
 nodes_once : (word xs ys : List ℕ) → SpellsNodes word xs → SpellsNodes word ys → xs ≡ ys
 nodes_once word xs ys h k = one_list xs ys h.1 k.1 (sym h.0 ∙ k.0)
 
--- the first byte of `path`, `why` or `check`, which a path expression follows
+-- the first bytes of `path`, `why` or `check`, which a path expression follows
 abbrev OpensPath : ℕ → Type 0
-OpensPath b = (b ≡ 112) ⊎ ((b ≡ 119) ⊎ (b ≡ 99))
+OpensPath b = (b ≡ lead (codes "path")) ⊎ ((b ≡ lead (codes "why")) ⊎ (b ≡ lead (codes "check")))
 
 -- the word behind `node`, if there is one, spells at most one label, and the expression at most one tree
 record PartsOnce (line : List ℕ) : Type 0 where
   label : (word : List ℕ) → SaysNode line word → LabelsOnce word
-  expression : OpensPath (slice_index (first_word line) 0) → PathsOnce (expression_text line)
+  expression : OpensPath (lead (first_word line)) → PathsOnce (expression_text line)
   query : first_word line ≡ codes "branch" → BranchesOnce (expression_text line)
 
 command_one : (line : List ℕ) → PartsOnce line → (c d : Command) → IsSpelled line c → IsSpelled line d → c ≡ d
@@ -91,16 +91,22 @@ command_one line o (change (link u v)) (change (link x y)) h k = pair_one line _
 command_one line o (change (unlink u v)) (change (unlink x y)) h k = pair_one line _ u v x y (λ a b. change (unlink a b)) h k
 command_one line o (change (drop u)) (change (drop x)) h k = ap (λ n. change (drop n)) (node_number u x h.1 k.1 (ap second (sym h.0 ∙ k.0)))
 command_one line o (path v e) (path w f) h k =
-    ap (λ v. path v e) (one_way line _ v w h.0 k.0) ∙ ap (path w) (o.expression (inl (ap (λ l. slice_index l 0) h.0.0)) e f h.1 k.1)
+    ap (λ v. path v e) (one_way line _ v w h.0 k.0) ∙ ap (path w) (o.expression (inl (ap lead h.0.0)) e f h.1 k.1)
 command_one line o (branch v e) (branch w f) h k =
     ap (λ v. branch v e) (one_way line _ v w h.0 k.0) ∙ ap (branch w) (o.query h.0.0 e f h.1 k.1)
 command_one line o (why v e) (why w f) h k =
-    ap (λ n. why n e) (node_number v w h.0.2 k.0.2 (sym h.0.1 ∙ k.0.1)) ∙ ap (why w) (o.expression (inr (inl (ap (λ l. slice_index l 0) h.0.0))) e f h.1 k.1)
+    ap (λ n. why n e) (node_number v w h.0.2 k.0.2 (sym h.0.1 ∙ k.0.1)) ∙ ap (why w) (o.expression (inr (inl (ap lead h.0.0))) e f h.1 k.1)
 command_one line o (check xs e) (check ys f) h k =
-    ap (λ n. check n e) (nodes_once (first_word (behind_word line)) xs ys h.0.1 k.0.1) ∙ ap (check ys) (o.expression (inr (inr (ap (λ l. slice_index l 0) h.0.0))) e f h.1 k.1)
+    ap (λ n. check n e) (nodes_once (first_word (behind_word line)) xs ys h.0.1 k.0.1) ∙ ap (check ys) (o.expression (inr (inr (ap lead h.0.0))) e f h.1 k.1)
 command_one line o (extents v) (extents w) h k = ap extents (via_one v w (index_via v h.1) (index_via w k.1) (second_same (sym h.0 ∙ k.0)))
 command_one line o sizes sizes h k = refl
+command_one line o begin begin h k = refl
+command_one line o end end h k = refl
 command_one line o (forget v) (forget w) h k = ap forget (kind_one v w (second_same (sym h ∙ k)))
+command_one line o (change c) begin h k = absurd (apart (first_word line) _ _ (begins line (change c) h) (begins line begin k) (no_query c).no_begin)
+command_one line o (change c) end h k = absurd (apart (first_word line) _ _ (begins line (change c) h) (begins line end k) (no_query c).no_end)
+command_one line o begin (change c) h k = absurd (apart (first_word line) _ _ (begins line (change c) k) (begins line begin h) (no_query c).no_begin)
+command_one line o end (change c) h k = absurd (apart (first_word line) _ _ (begins line (change c) k) (begins line end h) (no_query c).no_end)
 command_one line o (change c) (path v e) h k = absurd (apart (first_word line) _ _ (begins line (change c) h) (begins line (path v e) k) (no_query c).no_path)
 command_one line o (change c) (branch v e) h k = absurd (apart (first_word line) _ _ (begins line (change c) h) (begins line (branch v e) k) (no_query c).no_branch)
 command_one line o (change c) (why v e) h k = absurd (apart (first_word line) _ _ (begins line (change c) h) (begins line (why v e) k) (no_query c).no_why)
@@ -118,17 +124,17 @@ command_one line o (forget v) (change c) h k = absurd (apart (first_word line) _
 command_one line o c d h k = absurd (apart (first_word line) _ _ (begins line c h) (begins line d k) (λ e. omega (arith, e)))
 
 -- no path expression follows another first word
-no_expression : (line word : List ℕ) → first_word line ≡ word → (slice_index word 0 ≢ 112) → (slice_index word 0 ≢ 119) → (slice_index word 0 ≢ 99) → OpensPath (slice_index (first_word line) 0) → ⊥
-no_expression line word e p w c (inl f) = p (ap (λ l. slice_index l 0) (sym e) ∙ f)
-no_expression line word e p w c (inr (inl f)) = w (ap (λ l. slice_index l 0) (sym e) ∙ f)
-no_expression line word e p w c (inr (inr f)) = c (ap (λ l. slice_index l 0) (sym e) ∙ f)
+no_expression : (line word : List ℕ) → first_word line ≡ word → (lead word ≢ lead (codes "path")) → (lead word ≢ lead (codes "why")) → (lead word ≢ lead (codes "check")) → OpensPath (lead (first_word line)) → ⊥
+no_expression line word e p w c (inl f) = p (ap lead (sym e) ∙ f)
+no_expression line word e p w c (inr (inl f)) = w (ap lead (sym e) ∙ f)
+no_expression line word e p w c (inr (inr f)) = c (ap lead (sym e) ∙ f)
 
 -- the parts of a line that begins with none of `node`, `path`, `branch`, `why` and `check`
-no_parts : (line word : List ℕ) → first_word line ≡ word → OpensWhole (slice_index word 0) → PartsOnce line
+no_parts : (line word : List ℕ) → first_word line ≡ word → OpensWhole (lead word) → PartsOnce line
 no_parts line word e o = record {
-  label = λ w s. absurd (o.no_node (ap (λ l. slice_index l 0) (sym e ∙ (head_word line _ _ _ _ (is_split line) s).0)));
+  label = λ w s. absurd (o.no_node (ap lead (sym e ∙ (head_word line _ _ _ _ (is_split line) s).0)));
   expression = λ f. absurd (no_expression line word e o.no_path o.no_why o.no_check f);
-  query = λ f. absurd (o.no_branch (ap (λ l. slice_index l 0) (sym e ∙ f)));
+  query = λ f. absurd (o.no_branch (ap lead (sym e ∙ f)));
 }
 
 -- one lemma for each thing that a line can say
@@ -146,7 +152,7 @@ node_once line word s once = command_one line (record {
 })
 
 -- the line begins with this word, which a path expression follows
-expression_once : (line word text : List ℕ) → first_word line ≡ word → (slice_index word 0 ≢ 110) → (slice_index word 0 ≢ 98) → text ≡ expression_text line → PathsOnce text → SpellsOnce line
+expression_once : (line word text : List ℕ) → first_word line ≡ word → (lead word ≢ lead (codes "node")) → (lead word ≢ lead (codes "branch")) → text ≡ expression_text line → PathsOnce text → SpellsOnce line
 expression_once line word text e n b s once = command_one line (record {
   label = λ w t. absurd (apart (first_word line) _ _ e (opens_node line w t) n);
   expression = λ f. subst PathsOnce s once;

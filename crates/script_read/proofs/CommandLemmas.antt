@@ -1,8 +1,8 @@
 -- From the first word of a line to what the line says.
-use Rattle.std.proofs.Common.{◌≡◌, ◌≢◌, ℕ, ◌<◌, ◌^◌, List, [], ◌∷◌, refl, sym, ap, ◌∙◌, subst, arith, Err, IsTrue}
+use Rattle.std.proofs.Common.{◌≡◌, ◌≢◌, ℕ, ◌+◌, ◌*◌, ◌<◌, ◌^◌, List, [], ◌∷◌, refl, sym, ap, ◌∙◌, subst, arith, Err, IsTrue}
 use Rattle.std.specs.Prelude.{codes, slice_index, ◌↔◌}
 use Rattle.graph_spec.specs.Words.{words}
-use Rattle.graph_spec.specs.Changes.{Change, node, link, unlink, drop}
+use Rattle.change_spec.specs.Steps.{Step, node, link, unlink, drop, relabel}
 use Rattle.bisim_spec.specs.declared.kind.Kind.{Kind}
 use Rattle.index_api.specs.declared.kinds.Via.{Via}
 use Rattle.index_api.specs.Spelling.{via_word, kind_word}
@@ -12,12 +12,12 @@ use Rattle.path_query.specs.Labels.{SpellsLabel}
 use Rattle.path_query.specs.Parsed.{Spells, is_past}
 use Rattle.branch_spec.specs.Trees.{Branch}
 use Rattle.branch_text.specs.Parsed.{Spells as SpellsQuery}
-use Rattle.script_read.specs.ScannedLines.{SaysNode, SaysQuery, SaysWhy, SaysCheck, IsWhole, OpensReport}
+use Rattle.script_read.specs.ScannedLines.{SaysNode, SaysQuery, SaysWhy, SaysCheck, IsWhole, OpensGroup}
 use Rattle.script_read.specs.ReadLines.{ReadsCommand}
 use Rattle.script_read.specs.declared.commands.ScriptError.{ScriptError}
 use Rattle.script_read.specs.declared.commands.ScriptError.TheVariants.{Bad, Limit, Memory}
 use Rattle.graph_spec.specs.Words.{node_word}
-use Rattle.script_read.specs.Commands.{Command, change, path, branch, why, check, extents, sizes, forget, IsIndex, IsVia, SaysNothing, IsQuiet, AsksWith, Asks, by_path, by_branch, by_why, by_check, SpellsNodes, SpellsPath, SpellsBranch, SpellsWhy, SpellsCheck, PassesLimit, IsSpelled, NoCommand}
+use Rattle.script_read.specs.Commands.{Command, change, begin, end, path, branch, why, check, extents, sizes, forget, IsIndex, IsVia, SaysNothing, IsQuiet, AsksWith, Asks, by_path, by_branch, by_why, by_check, SpellsNodes, SpellsPath, SpellsBranch, SpellsWhy, SpellsCheck, PassesLimit, IsSpelled, NoCommand}
 use Rattle.script_read.specs.FirstWords.{IsSplit, OpensNothing, first_word, behind_word, expression_text}
 use Rattle.script_read.proofs.WordLemmas.{head_word, is_split, words-cons}
 
@@ -38,6 +38,9 @@ keyword (change (node t)) = codes "node"
 keyword (change (link u v)) = codes "link"
 keyword (change (unlink u v)) = codes "unlink"
 keyword (change (drop u)) = codes "drop"
+keyword (change (relabel u t)) = []
+keyword begin = codes "begin"
+keyword end = codes "end"
 keyword (path via e) = codes "path"
 keyword (branch via q) = codes "branch"
 keyword (why v e) = codes "why"
@@ -50,32 +53,39 @@ keyword (forget kind) = codes "forget"
 pub second_same : {a b v w : List ℕ} → a ∷ v ∷ [] ≡ b ∷ w ∷ [] → v ≡ w
 second_same e = cc
 
--- a first byte that isn't that of `path`, `branch`, `why`, `check`, `extents`, `sizes` or `forget`
+-- the first two bytes of a word, as a number
+abbrev pub lead : List ℕ → ℕ
+lead w = slice_index w 0 * 256 + slice_index w 1
+
+-- first bytes that aren't those of a word of another command than a change
 pub record OpensChange (b : ℕ) : Type 0 where
-  pub no_path : b ≢ 112
-  pub no_branch : b ≢ 98
-  pub no_why : b ≢ 119
-  pub no_check : b ≢ 99
-  pub no_extents : b ≢ 101
-  pub no_sizes : b ≢ 115
-  pub no_forget : b ≢ 102
+  pub no_begin : b ≢ lead (codes "begin")
+  pub no_end : b ≢ lead (codes "end")
+  pub no_path : b ≢ lead (codes "path")
+  pub no_branch : b ≢ lead (codes "branch")
+  pub no_why : b ≢ lead (codes "why")
+  pub no_check : b ≢ lead (codes "check")
+  pub no_extents : b ≢ lead (codes "extents")
+  pub no_sizes : b ≢ lead (codes "sizes")
+  pub no_forget : b ≢ lead (codes "forget")
 
--- no change is a query
-pub no_query : (c : Change) → OpensChange (slice_index (keyword (change c)) 0)
-no_query (node t) = record { no_path = λ e. omega (arith, e); no_branch = λ e. omega (arith, e); no_why = λ e. omega (arith, e); no_check = λ e. omega (arith, e); no_extents = λ e. omega (arith, e); no_sizes = λ e. omega (arith, e); no_forget = λ e. omega (arith, e) }
-no_query (link u v) = record { no_path = λ e. omega (arith, e); no_branch = λ e. omega (arith, e); no_why = λ e. omega (arith, e); no_check = λ e. omega (arith, e); no_extents = λ e. omega (arith, e); no_sizes = λ e. omega (arith, e); no_forget = λ e. omega (arith, e) }
-no_query (unlink u v) = record { no_path = λ e. omega (arith, e); no_branch = λ e. omega (arith, e); no_why = λ e. omega (arith, e); no_check = λ e. omega (arith, e); no_extents = λ e. omega (arith, e); no_sizes = λ e. omega (arith, e); no_forget = λ e. omega (arith, e) }
-no_query (drop u) = record { no_path = λ e. omega (arith, e); no_branch = λ e. omega (arith, e); no_why = λ e. omega (arith, e); no_check = λ e. omega (arith, e); no_extents = λ e. omega (arith, e); no_sizes = λ e. omega (arith, e); no_forget = λ e. omega (arith, e) }
+-- a change begins with no word of another command
+pub no_query : (s : Step) → OpensChange (lead (keyword (change s)))
+no_query (node t) = record { no_begin = λ e. omega (arith, e); no_end = λ e. omega (arith, e); no_path = λ e. omega (arith, e); no_branch = λ e. omega (arith, e); no_why = λ e. omega (arith, e); no_check = λ e. omega (arith, e); no_extents = λ e. omega (arith, e); no_sizes = λ e. omega (arith, e); no_forget = λ e. omega (arith, e) }
+no_query (link u v) = record { no_begin = λ e. omega (arith, e); no_end = λ e. omega (arith, e); no_path = λ e. omega (arith, e); no_branch = λ e. omega (arith, e); no_why = λ e. omega (arith, e); no_check = λ e. omega (arith, e); no_extents = λ e. omega (arith, e); no_sizes = λ e. omega (arith, e); no_forget = λ e. omega (arith, e) }
+no_query (unlink u v) = record { no_begin = λ e. omega (arith, e); no_end = λ e. omega (arith, e); no_path = λ e. omega (arith, e); no_branch = λ e. omega (arith, e); no_why = λ e. omega (arith, e); no_check = λ e. omega (arith, e); no_extents = λ e. omega (arith, e); no_sizes = λ e. omega (arith, e); no_forget = λ e. omega (arith, e) }
+no_query (drop u) = record { no_begin = λ e. omega (arith, e); no_end = λ e. omega (arith, e); no_path = λ e. omega (arith, e); no_branch = λ e. omega (arith, e); no_why = λ e. omega (arith, e); no_check = λ e. omega (arith, e); no_extents = λ e. omega (arith, e); no_sizes = λ e. omega (arith, e); no_forget = λ e. omega (arith, e) }
+no_query (relabel u t) = record { no_begin = λ e. omega (arith, e); no_end = λ e. omega (arith, e); no_path = λ e. omega (arith, e); no_branch = λ e. omega (arith, e); no_why = λ e. omega (arith, e); no_check = λ e. omega (arith, e); no_extents = λ e. omega (arith, e); no_sizes = λ e. omega (arith, e); no_forget = λ e. omega (arith, e) }
 
--- a first byte that isn't that of `node`, `path`, `branch`, `why` or `check`
+-- first bytes that aren't those of `node`, `path`, `branch`, `why` or `check`
 pub record OpensWhole (b : ℕ) : Type 0 where
-  pub no_node : b ≢ 110
-  pub no_path : b ≢ 112
-  pub no_branch : b ≢ 98
-  pub no_why : b ≢ 119
-  pub no_check : b ≢ 99
+  pub no_node : b ≢ lead (codes "node")
+  pub no_path : b ≢ lead (codes "path")
+  pub no_branch : b ≢ lead (codes "branch")
+  pub no_why : b ≢ lead (codes "why")
+  pub no_check : b ≢ lead (codes "check")
 
-pub no_part : (c : Command) → IsWhole c → OpensWhole (slice_index (keyword c) 0)
+pub no_part : (c : Command) → IsWhole c → OpensWhole (lead (keyword c))
 no_part (change (node t)) w = absurd w
 no_part (path via e) w = absurd w
 no_part (branch via q) w = absurd w
@@ -83,15 +93,18 @@ no_part (why v e) w = absurd w
 no_part (check nodes e) w = absurd w
 no_part c w = record { no_node = λ e. omega (arith, e); no_path = λ e. omega (arith, e); no_branch = λ e. omega (arith, e); no_why = λ e. omega (arith, e); no_check = λ e. omega (arith, e) }
 
--- two words that differ in the first byte
-pub apart : (word a b : List ℕ) → word ≡ a → word ≡ b → (slice_index a 0 ≢ slice_index b 0) → ⊥
-apart word a b p q d = d (ap (λ l. slice_index l 0) (sym p ∙ q))
+-- two words that differ in the first two bytes
+pub apart : (word a b : List ℕ) → word ≡ a → word ≡ b → (lead a ≢ lead b) → ⊥
+apart word a b p q d = d (ap lead (sym p ∙ q))
 
 pub begins : (line : List ℕ) (c : Command) → IsSpelled line c → first_word line ≡ keyword c
 begins line (change (node t)) h = (head_word line _ _ _ _ (is_split line) h.1).0
 begins line (change (link u v)) h = (head_word line _ _ _ _ (is_split line) h.0).0
 begins line (change (unlink u v)) h = (head_word line _ _ _ _ (is_split line) h.0).0
 begins line (change (drop u)) h = (head_word line _ _ _ _ (is_split line) h.0).0
+begins line (change (relabel u t)) h = absurd h
+begins line begin h = (head_word line _ _ _ _ (is_split line) h).0
+begins line end h = (head_word line _ _ _ _ (is_split line) h).0
 begins line (path via e) h = h.0.0
 begins line (branch via q) h = h.0.0
 begins line (why v e) h = h.0.0
@@ -101,7 +114,7 @@ begins line sizes h = (head_word line _ _ _ _ (is_split line) h).0
 begins line (forget kind) h = (head_word line _ _ _ _ (is_split line) h).0
 
 -- a line that asks begins with `path`, `branch`, `why` or `check`
-pub asks_otherwise : (line k : List ℕ) → first_word line ≡ k → (slice_index k 0 ≢ 112) → (slice_index k 0 ≢ 98) → (slice_index k 0 ≢ 119) → (slice_index k 0 ≢ 99) → ¬ Asks line
+pub asks_otherwise : (line k : List ℕ) → first_word line ≡ k → (lead k ≢ lead (codes "path")) → (lead k ≢ lead (codes "branch")) → (lead k ≢ lead (codes "why")) → (lead k ≢ lead (codes "check")) → ¬ Asks line
 asks_otherwise line k e p b w c (by_path via x) = apart (first_word line) k _ e x.0 p
 asks_otherwise line k e p b w c (by_branch via x) = apart (first_word line) k _ e x.0 b
 asks_otherwise line k e p b w c (by_why v x) = apart (first_word line) k _ e x.0 w
@@ -125,10 +138,10 @@ module _ (line word rest : List ℕ) (loud : ¬ OpensNothing word) (is_first : w
   starts : (c : Command) → IsSpelled line c → word ≡ keyword c
   starts c h = is_first ∙ begins line c h
 
-  clash : (k : List ℕ) → word ≡ k → (c : Command) → IsSpelled line c → (slice_index k 0 ≢ slice_index (keyword c) 0) → ⊥
+  clash : (k : List ℕ) → word ≡ k → (c : Command) → IsSpelled line c → (lead k ≢ lead (keyword c)) → ⊥
   clash k e c h d = apart word k (keyword c) e (starts c h) d
 
-  no_asks : (k : List ℕ) → word ≡ k → (slice_index k 0 ≢ 112) → (slice_index k 0 ≢ 98) → (slice_index k 0 ≢ 119) → (slice_index k 0 ≢ 99) → ¬ Asks line
+  no_asks : (k : List ℕ) → word ≡ k → (lead k ≢ lead (codes "path")) → (lead k ≢ lead (codes "branch")) → (lead k ≢ lead (codes "why")) → (lead k ≢ lead (codes "check")) → ¬ Asks line
   no_asks k e p b w c = asks_otherwise line k (sym is_first ∙ e) p b w c
 
   follows : (w : List ℕ) (ws : List (List ℕ)) → words line ≡ w ∷ ws → words rest ≡ ws
@@ -268,48 +281,80 @@ module _ (line word rest : List ℕ) (loud : ¬ OpensNothing word) (is_first : w
       other (change d) h = clash _ e (change d) h (λ z. (no_query d).no_forget (sym z))
       other c h = clash _ e c h (λ d. omega (arith, d))
 
-  pub none_other : OpensReport word → word ≢ codes "extents" → word ≢ codes "sizes" → word ≢ codes "forget" → NoCommand line × (¬ Asks line)
-  none_other o x z f = ((not_quiet, other), asks)
+  pub none_begin : word ≡ codes "begin" → words rest ≢ [] → NoCommand line × (¬ Asks line)
+  none_begin e absent = ((not_quiet, other), no_asks _ e (λ d. omega (arith, d)) (λ d. omega (arith, d)) (λ d. omega (arith, d)) (λ d. omega (arith, d)))
     where
       other : (c : Command) → IsSpelled line c → ⊥
-      other (change (node t)) h = o.other.no_node (starts (change (node t)) h)
-      other (change (link u v)) h = o.other.no_link (starts (change (link u v)) h)
-      other (change (unlink u v)) h = o.other.no_unlink (starts (change (unlink u v)) h)
-      other (change (drop u)) h = o.other.no_drop (starts (change (drop u)) h)
-      other (path via e) h = o.no_path (starts (path via e) h)
-      other (branch via q) h = o.no_branch (starts (branch via q) h)
-      other (why v e) h = o.no_why (starts (why v e) h)
-      other (check nodes e) h = o.no_check (starts (check nodes e) h)
-      other (extents via) h = x (starts (extents via) h)
-      other sizes h = z (starts sizes h)
-      other (forget kind) h = f (starts (forget kind) h)
+      other begin h = absent (follows _ _ h)
+      other (change d) h = clash _ e (change d) h (λ z. (no_query d).no_begin (sym z))
+      other c h = clash _ e c h (λ d. omega (arith, d))
+
+  pub none_end : word ≡ codes "end" → words rest ≢ [] → NoCommand line × (¬ Asks line)
+  none_end e absent = ((not_quiet, other), no_asks _ e (λ d. omega (arith, d)) (λ d. omega (arith, d)) (λ d. omega (arith, d)) (λ d. omega (arith, d)))
+    where
+      other : (c : Command) → IsSpelled line c → ⊥
+      other end h = absent (follows _ _ h)
+      other (change d) h = clash _ e (change d) h (λ z. (no_query d).no_end (sym z))
+      other c h = clash _ e c h (λ d. omega (arith, d))
+
+  pub none_other : OpensGroup word → word ≢ codes "begin" → word ≢ codes "end" → NoCommand line × (¬ Asks line)
+  none_other o b z = ((not_quiet, other), asks)
+    where
+      other : (c : Command) → IsSpelled line c → ⊥
+      other (change (node t)) h = o.report.other.no_node (starts (change (node t)) h)
+      other (change (link u v)) h = o.report.other.no_link (starts (change (link u v)) h)
+      other (change (unlink u v)) h = o.report.other.no_unlink (starts (change (unlink u v)) h)
+      other (change (drop u)) h = o.report.other.no_drop (starts (change (drop u)) h)
+      other (change (relabel u t)) h = h
+      other begin h = b (starts begin h)
+      other end h = z (starts end h)
+      other (path via e) h = o.report.no_path (starts (path via e) h)
+      other (branch via q) h = o.report.no_branch (starts (branch via q) h)
+      other (why v e) h = o.report.no_why (starts (why v e) h)
+      other (check nodes e) h = o.report.no_check (starts (check nodes e) h)
+      other (extents via) h = o.no_extents (starts (extents via) h)
+      other sizes h = o.no_sizes (starts sizes h)
+      other (forget kind) h = o.no_forget (starts (forget kind) h)
 
       asks : ¬ Asks line
-      asks (by_path via a) = o.no_path (is_first ∙ a.0)
-      asks (by_branch via a) = o.no_branch (is_first ∙ a.0)
-      asks (by_why v a) = o.no_why (is_first ∙ a.0)
-      asks (by_check nodes a) = o.no_check (is_first ∙ a.0)
+      asks (by_path via a) = o.report.no_path (is_first ∙ a.0)
+      asks (by_branch via a) = o.report.no_branch (is_first ∙ a.0)
+      asks (by_why v a) = o.report.no_why (is_first ∙ a.0)
+      asks (by_check nodes a) = o.report.no_check (is_first ∙ a.0)
 
 -- a line that says nothing is no command
 pub silent : (line : List ℕ) → IsQuiet line → (c : Command) → IsSpelled line c → ⊥
-silent line q c h = loud c (subst OpensNothing (begins line c h) (quiet_opens line _ _ (is_split line) q))
+silent line q c h = loud c h (subst OpensNothing (begins line c h) (quiet_opens line _ _ (is_split line) q))
   where
-    loud : (c : Command) → OpensNothing (keyword c) → ⊥
-    loud (change (node t)) o = omega (arith, o)
-    loud (change (link u v)) o = omega (arith, o)
-    loud (change (unlink u v)) o = omega (arith, o)
-    loud (change (drop u)) o = omega (arith, o)
-    loud (path via e) o = omega (arith, o)
-    loud (branch via q) o = omega (arith, o)
-    loud (why v e) o = omega (arith, o)
-    loud (check nodes e) o = omega (arith, o)
-    loud (extents via) o = omega (arith, o)
-    loud sizes o = omega (arith, o)
-    loud (forget kind) o = omega (arith, o)
+    loud : (c : Command) → IsSpelled line c → OpensNothing (keyword c) → ⊥
+    loud (change (node t)) h o = omega (arith, o)
+    loud (change (link u v)) h o = omega (arith, o)
+    loud (change (unlink u v)) h o = omega (arith, o)
+    loud (change (drop u)) h o = omega (arith, o)
+    loud (change (relabel u t)) h o = h
+    loud begin h o = omega (arith, o)
+    loud end h o = omega (arith, o)
+    loud (path via e) h o = omega (arith, o)
+    loud (branch via q) h o = omega (arith, o)
+    loud (why v e) h o = omega (arith, o)
+    loud (check nodes e) h o = omega (arith, o)
+    loud (extents via) h o = omega (arith, o)
+    loud sizes h o = omega (arith, o)
+    loud (forget kind) h o = omega (arith, o)
 
 -- a line that asks nothing passes no limit on expressions
 pub asks_nothing : (limits : Limits) (line : List ℕ) → ¬ Asks line → ¬ PassesLimit limits line
 asks_nothing limits line absent h = absent h.0
+
+-- nor does a line that says nothing
+pub quiet_free : (line : List ℕ) → IsQuiet line → ¬ Asks line
+quiet_free line q a = opened a (quiet_opens line _ _ (is_split line) q)
+  where
+    opened : Asks line → OpensNothing (first_word line) → ⊥
+    opened (by_path via x) o = (let n : OpensNothing (codes "path") = subst OpensNothing x.0 o in omega (arith, n))
+    opened (by_branch via x) o = (let n : OpensNothing (codes "branch") = subst OpensNothing x.0 o in omega (arith, n))
+    opened (by_why v x) o = (let n : OpensNothing (codes "why") = subst OpensNothing x.0 o in omega (arith, n))
+    opened (by_check nodes x) o = (let n : OpensNothing (codes "check") = subst OpensNothing x.0 o in omega (arith, n))
 
 -- a command without an expression asks nothing
 pub free : (limits : Limits) (line : List ℕ) (c : Command) → IsSpelled line c → IsWhole c → ¬ PassesLimit limits line

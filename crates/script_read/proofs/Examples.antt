@@ -3,7 +3,7 @@ use Rattle.std.proofs.Common.{◌≡◌, ℕ, ◌<◌, ◌^◌, List, [], ◌∷
 use Rattle.std.specs.Prelude.{codes, decimal, slice_index}
 use Rattle.std.proofs.lemmas.Fmt.{decimal_digit, first_decimal}
 use Rattle.graph_spec.specs.Words.{node_word}
-use Rattle.graph_spec.specs.Changes.{node, link, unlink, drop as drop_node}
+use Rattle.change_spec.specs.Steps.{node, link, unlink, drop as drop_node, relabel}
 use Rattle.path_query.specs.Labels.{SpellsLabel}
 use Rattle.path_spec.specs.Trees.{Expr, only, last, once, label}
 use Rattle.branch_spec.specs.Trees as tree
@@ -12,7 +12,7 @@ use Rattle.bisim_spec.specs.declared.kind.Kind.{Kind}
 use Rattle.bisim_spec.specs.declared.kind.Kind.TheVariants as kind
 use Rattle.index_api.specs.declared.kinds.Via.{Via}
 use Rattle.index_api.specs.declared.kinds.Via.TheVariants.{Data, A, One, Fb}
-use Rattle.script_read.specs.Commands.{Command, change, path, branch, why, check, extents, sizes, forget, IsQuiet, IsSpelled, SpellsNodes, NoCommand}
+use Rattle.script_read.specs.Commands.{Command, change, begin, end as end_group, path, branch, why, check, extents, sizes, forget, IsQuiet, IsSpelled, SpellsNodes, NoCommand}
 use Rattle.script_read.specs.FirstWords.{expression_text}
 
 -- blanks may stand at both ends and between the words
@@ -83,6 +83,23 @@ no_third_word t h = omega (arith, ap length h.1)
 
 no_word_behind_iri : (t : List ℕ) → ¬ IsSpelled (codes "node <http://e/a> x") (change (node t))
 no_word_behind_iri t h = omega (arith, ap length h.1)
+
+-- no line gives a node another label
+no_relabel : (line : List ℕ) (u : ℕ) (t : List ℕ) → ¬ IsSpelled line (change (relabel u t))
+no_relabel line u t h = h
+
+-- `begin` and `end` stand alone
+begin_spelled : IsSpelled (codes " begin\t") begin
+begin_spelled = refl
+
+end_spelled : IsSpelled (codes "end") end_group
+end_spelled = refl
+
+no_word_behind_begin : ¬ IsSpelled (codes "begin x") begin
+no_word_behind_begin h = omega (arith, ap length h)
+
+no_longer_word : ¬ IsSpelled (codes "ends") end_group
+no_longer_word h = omega (arith, ap (λ ws. length (first ws)) h)
 
 -- a blank line and a comment are quiet
 blank_quiet : IsQuiet (codes " \t")
@@ -212,6 +229,9 @@ bad_label = (λ q. omega (arith, q), other)
     other (change (link u v)) h = omega (arith, ap length h.0)
     other (change (unlink u v)) h = omega (arith, ap length h.0)
     other (change (drop_node u)) h = omega (arith, ap (λ ws. slice_index (first ws) 0) h.0)
+    other (change (relabel u t)) h = h
+    other begin h = omega (arith, ap length h)
+    other end_group h = omega (arith, ap length h)
     other (path via e) h = omega (arith, ap (λ l. slice_index l 0) h.0.0)
     other (branch via q) h = omega (arith, ap (λ l. slice_index l 0) h.0.0)
     other (why v e) h = omega (arith, ap (λ l. slice_index l 0) h.0.0)

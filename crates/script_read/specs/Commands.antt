@@ -3,7 +3,7 @@ use Rattle.std.specs.Prelude.{ℕ, ◌≡◌, ◌<◌, ◌^◌, ◌⊎◌, ◌==
 use Rattle.std.specs.List.{slice_split, AllByRecursion}
 use Rattle.graph_spec.specs.declared.limits.Limits.{Limits}
 use Rattle.graph_spec.specs.Words.{words, node_word}
-use Rattle.graph_spec.specs.Changes.{Change, node, link, unlink, drop}
+use Rattle.change_spec.specs.Steps.{Step, node, link, unlink, drop, relabel}
 use Rattle.path_spec.specs.Trees.{Expr}
 use Rattle.path_query.specs.Labels.{SpellsLabel}
 use Rattle.path_query.specs.Parsed.{Spells, is_past}
@@ -16,8 +16,11 @@ use Rattle.index_api.specs.Spelling.{via_word, kind_word}
 use Rattle.script_read.specs.FirstWords.{first_word, behind_word, expression_text}
 
 pub data Command : Type 0 where
-  -- a change of the graph
-  change : Change → Command
+  -- a step of a change of the graph
+  change : Step → Command
+  -- the first and the last line of a group of steps
+  begin : Command
+  end : Command
   -- the answers of a path expression, asked through this
   path : Via → Expr → Command
   -- the answers of a branching query, asked through this
@@ -47,11 +50,13 @@ IsQuiet line = SaysNothing (words line)
 abbrev pub SpellsPair : List ℕ → List ℕ → ℕ → ℕ → Type 0
 SpellsPair line word u v = (words line ≡ word ∷ node_word u ∷ node_word v ∷ []) × (u < 2 ^ 32) × (v < 2 ^ 32)
 
-abbrev pub SpellsChange : List ℕ → Change → Type 0
+-- no line spells another label for a node
+abbrev pub SpellsChange : List ℕ → Step → Type 0
 SpellsChange line (node t) = (word : List ℕ) × (words line ≡ codes "node" ∷ word ∷ []) × SpellsLabel word t
 SpellsChange line (link u v) = SpellsPair line (codes "link") u v
 SpellsChange line (unlink u v) = SpellsPair line (codes "unlink") u v
 SpellsChange line (drop u) = (words line ≡ codes "drop" ∷ node_word u ∷ []) × (u < 2 ^ 32)
+SpellsChange line (relabel u t) = ⊥
 
 -- an index, whose level has 32 bits; the graph itself is none
 abbrev pub IsIndex : Via → Type 0
@@ -125,7 +130,9 @@ SpellsForget line kind = words line ≡ codes "forget" ∷ kind_word kind ∷ []
 
 -- the line is this command
 abbrev pub IsSpelled : List ℕ → Command → Type 0
-IsSpelled line (change c) = SpellsChange line c
+IsSpelled line (change s) = SpellsChange line s
+IsSpelled line begin = words line ≡ codes "begin" ∷ []
+IsSpelled line end = words line ≡ codes "end" ∷ []
 IsSpelled line (path via e) = SpellsPath line via e
 IsSpelled line (branch via q) = SpellsBranch line via q
 IsSpelled line (why v e) = SpellsWhy line v e

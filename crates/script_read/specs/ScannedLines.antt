@@ -1,7 +1,7 @@
 -- What a line says, before any memory is taken.
 use Rattle.std.specs.Prelude.{ℕ, ◌≡◌, ◌≢◌, List, [], ◌∷◌, codes}
 use Rattle.graph_spec.specs.Words.{words}
-use Rattle.graph_spec.specs.Changes.{node}
+use Rattle.change_spec.specs.Steps.{node}
 use Rattle.index_api.specs.declared.kinds.Via.{Via}
 use Rattle.script_read.specs.Commands.{Command, change, path, branch, why, check, AsksWith, AsksWhy, Asks, IsQuiet, IsSpelled, NoCommand}
 use Rattle.script_read.specs.FirstWords.{first_word, behind_word, expression_text, OpensNothing}
@@ -49,6 +49,13 @@ pub record OpensReport (word : List ℕ) : Type 0 where
   pub no_branch : word ≢ codes "branch"
   pub no_why : word ≢ codes "why"
   pub no_check : word ≢ codes "check"
+
+-- nor is it the first word of a line that asks for lists or sizes, or forgets an index
+pub record OpensGroup (word : List ℕ) : Type 0 where
+  pub report : OpensReport word
+  pub no_extents : word ≢ codes "extents"
+  pub no_sizes : word ≢ codes "sizes"
+  pub no_forget : word ≢ codes "forget"
 
 -- the line says this
 abbrev pub IsScanned : List ℕ → ScannedLine → Type 0

@@ -33,8 +33,12 @@ pub enum Command {
     Link(NodeId, NodeId),
     /// `unlink NODE NODE`: that edge is taken away.
     Unlink(NodeId, NodeId),
-    /// `drop NODE`: the node is taken away.
+    /// `drop NODE`: the node is taken away, with its edges.
     Drop(NodeId),
+    /// `begin`: the changes up to the next `end` are made as one.
+    Begin,
+    /// `end`: that change is made.
+    End,
     /// `path VIA EXPR`: the nodes in which the walks end that the expression matches, asked through the graph itself
     /// or an index.
     Path(Via, PathExpr),

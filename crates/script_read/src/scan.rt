@@ -5,7 +5,7 @@ ghost use Rattle.index_api.specs.declared.kinds.Via.{Via as AnyVia};
 ghost use Rattle.index_api.specs.Spelling.{via_word};
 ghost use Rattle.script_read.specs.Commands.{IsVia};
 ghost use Rattle.script_read.specs.FirstWords.{first_word, behind_word, without_blanks, OpensNothing};
-ghost use Rattle.script_read.specs.ScannedLines.{OpensOther, OpensReport, IsScanned};
+ghost use Rattle.script_read.specs.ScannedLines.{OpensOther, OpensReport, OpensGroup, IsScanned};
 
 use crate::commands::Command;
 use crate::indexes::{one_index, one_kind, via_of};
@@ -76,6 +76,28 @@ fn check_parts(rest: &[u8]) -> (&[u8], &[u8])
     (word, trim_blanks(text))
 }
 
+/// What a line with these parts says, of which only the first and the last line of a group are left.
+fn scan_group<'a>(word: &'a [u8], rest: &'a [u8]) -> ScannedLine<'a>
+    requires { OpensGroup word.now }
+    ensures { (line : List ℕ) → word.now ≡ first_word line → rest.now ≡ behind_word line → IsScanned line result }
+{
+    if is_word(word, "begin") {
+        if is_over(rest) {
+            ScannedLine::Whole(Command::Begin)
+        } else {
+            ScannedLine::Bad
+        }
+    } else if is_word(word, "end") {
+        if is_over(rest) {
+            ScannedLine::Whole(Command::End)
+        } else {
+            ScannedLine::Bad
+        }
+    } else {
+        ScannedLine::Bad
+    }
+}
+
 /// What a line with these parts says, which is no change and asks with no expression.
 fn scan_report<'a>(word: &'a [u8], rest: &'a [u8]) -> ScannedLine<'a>
     requires { OpensReport word.now }
@@ -98,7 +120,7 @@ fn scan_report<'a>(word: &'a [u8], rest: &'a [u8]) -> ScannedLine<'a>
             None => ScannedLine::Bad,
         }
     } else {
-        ScannedLine::Bad
+        scan_group(word, rest)
     }
 }
 

@@ -12,6 +12,8 @@ enum Short {
     Node,
     Pair(char, u32, u32),
     Drop(u32),
+    Begin,
+    End,
     Path(Via),
     Branch(Via),
     Why(u32),
@@ -31,6 +33,8 @@ fn shorten(read: Result<Option<Command>, ScriptError>) -> Short {
         Ok(Some(Command::Link(from, to))) => Short::Pair('l', from, to),
         Ok(Some(Command::Unlink(from, to))) => Short::Pair('u', from, to),
         Ok(Some(Command::Drop(node))) => Short::Drop(node),
+        Ok(Some(Command::Begin)) => Short::Begin,
+        Ok(Some(Command::End)) => Short::End,
         Ok(Some(Command::Path(via, _))) => Short::Path(via),
         Ok(Some(Command::Branch(via, _))) => Short::Branch(via),
         Ok(Some(Command::Why(node, _))) => Short::Why(node),
@@ -49,7 +53,7 @@ fn shorten(read: Result<Option<Command>, ScriptError>) -> Short {
 
 #[test]
 fn lines_are_commands(rt: HostRuntime) -> Result<(), Fail> {
-    let rows: [(&[u8], Short); 24] = [
+    let rows: [(&[u8], Short); 26] = [
         (b"", Short::Quiet),
         (b" \t# node a", Short::Quiet),
         (b" node\ta ", Short::Node),
@@ -57,6 +61,8 @@ fn lines_are_commands(rt: HostRuntime) -> Result<(), Fail> {
         (b"link n0 n4294967295", Short::Pair('l', 0, 4294967295)),
         (b"unlink n10 n2", Short::Pair('u', 10, 2)),
         (b"drop n7", Short::Drop(7)),
+        (b" begin\t", Short::Begin),
+        (b"end", Short::End),
         (b"path data a / b \t", Short::Path(Via::Data)),
         (b"path data (a|b)*//_ ", Short::Path(Via::Data)),
         (b"path one a", Short::Path(Via::One)),
@@ -90,7 +96,7 @@ fn lines_are_commands(rt: HostRuntime) -> Result<(), Fail> {
 
 #[test]
 fn near_misses_are_bad(rt: HostRuntime) -> Result<(), Fail> {
-    let lines: [&[u8]; 38] = [
+    let lines: [&[u8]; 42] = [
         b"node",
         b"node and",
         b"node a b",
@@ -101,6 +107,10 @@ fn near_misses_are_bad(rt: HostRuntime) -> Result<(), Fail> {
         b"link n0",
         b"drop 0",
         b"drop n0 n1",
+        b"begin x",
+        b"end n0",
+        b"begins",
+        b"END",
         b"path data a b",
         b"path data a**",
         b"path two a",

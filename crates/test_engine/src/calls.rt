@@ -3,7 +3,7 @@ ghost use Rattle.std.specs.Prelude.{◌≡◌, ◌≢◌, ◌<◌, true, None, I
 ghost use Rattle.index_api.specs.declared.kinds.Via.TheVariants.{Data};
 ghost use Rattle.pathindex_core.specs.Engines.{IsSound, by_meaning};
 
-use graph_update::{Applied, Change};
+use graph_update::{Applied, Change, Step};
 use index_api::{PathIndex, Via};
 use label_graph::Graph;
 use pathindex_core::{AskError, Engine, UpdateError};
@@ -49,7 +49,8 @@ pub(crate) fn node<B: PathIndex>(
     ensures sound { IsSound (by_meaning B.meaning engine.new) }
 {
     let label = Text::from_bytes(alloc, b"a").ok()?;
-    Some(engine.update(alloc, Change::Node(label)))
+    let change = Change::one(alloc, Step::Node(label)).ok()?;
+    Some(engine.update(alloc, change))
 }
 
 /// Whether one more node is added with that number.
@@ -59,7 +60,11 @@ pub(crate) fn adds_node<B: PathIndex>(engine: &mut Engine<B>, alloc: Global, num
     ensures open { IsSome engine.new.opened }
     ensures sound { IsSound (by_meaning B.meaning engine.new) }
 {
-    node(engine, alloc) == Some(Ok(Applied::Added(number)))
+    node(engine, alloc)
+        == Some(Ok(Applied {
+            first: number,
+            added: 1,
+        }))
 }
 
 /// Whether one more node isn't added, for this reason.

@@ -5,7 +5,7 @@ ghost use Rattle.pathindex_core.specs.Engines.{IsSound, by_meaning};
 use crate::calls::opens;
 use any_index::full_engine;
 use branch_text::Branch;
-use graph_update::Change;
+use graph_update::{Change, Step};
 use index_api::{Answer, PathIndex, Via};
 use label_graph::Graph;
 use path_query::PathExpr;
@@ -16,14 +16,17 @@ use std::marker::Brand;
 use std::sync::ledger::{Blank, Ledger};
 use std::test::Fail;
 
-/// Makes a change.
-pub(crate) fn makes<B: PathIndex>(engine: &mut Engine<B>, alloc: Global, change: Change) -> bool
+/// Makes a change of one step.
+pub(crate) fn makes<B: PathIndex>(engine: &mut Engine<B>, alloc: Global, step: Step) -> bool
     requires open { IsSome engine.old.opened }
     requires sound { IsSound (by_meaning B.meaning engine.old) }
     ensures open { IsSome engine.new.opened }
     ensures sound { IsSound (by_meaning B.meaning engine.new) }
 {
-    engine.update(alloc, change).is_ok()
+    match Change::one(alloc, step) {
+        Ok(change) => engine.update(alloc, change).is_ok(),
+        Err(_) => false,
+    }
 }
 
 /// Adds a node with this label.
@@ -34,7 +37,7 @@ fn adds<B: PathIndex>(engine: &mut Engine<B>, alloc: Global, label: &str) -> boo
     ensures sound { IsSound (by_meaning B.meaning engine.new) }
 {
     match Text::from_bytes(alloc, label.as_bytes()) {
-        Ok(label) => makes(engine, alloc, Change::Node(label)),
+        Ok(label) => makes(engine, alloc, Step::Node(label)),
         Err(_) => false,
     }
 }
@@ -61,9 +64,9 @@ fn links<B: PathIndex>(engine: &mut Engine<B>, alloc: Global) -> bool
     ensures open { IsSome engine.new.opened }
     ensures sound { IsSound (by_meaning B.meaning engine.new) }
 {
-    makes(engine, alloc, Change::Link(0, 1))
-        && makes(engine, alloc, Change::Link(0, 2))
-        && makes(engine, alloc, Change::Link(1, 3))
+    makes(engine, alloc, Step::Link(0, 1))
+        && makes(engine, alloc, Step::Link(0, 2))
+        && makes(engine, alloc, Step::Link(1, 3))
 }
 
 /// Adds an `a` with two children `b`, the first of which has a child `c`.

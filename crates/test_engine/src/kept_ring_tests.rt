@@ -4,7 +4,7 @@ ghost use Rattle.std.specs.Prelude.{◌≡◌, ◌<◌};
 
 use crate::one_tests::{Task, is_built, lend, makes};
 use crate::ring_tests::graph_of;
-use graph_update::Change;
+use graph_update::{Change, Step};
 use index_api::PathIndex;
 use label_graph::{Graph, GraphView};
 use one_index::{is_minimal, is_stable};
@@ -75,7 +75,7 @@ fn ring_graph(alloc: Global, edges: &[(NodeId, NodeId)]) -> Result<Graph, Fail> 
 fn an_edge_goes(rt: HostRuntime) -> Result<(), Fail> {
     let task = Rings {
         before: ring_graph(rt.alloc(), WHOLE)?,
-        change: Change::Unlink(2, 3),
+        change: Change::one(rt.alloc(), Step::Unlink(2, 3))?,
         after: ring_graph(rt.alloc(), OPEN)?,
         blocks: 4,
     };
@@ -88,7 +88,7 @@ fn an_edge_goes(rt: HostRuntime) -> Result<(), Fail> {
 fn an_edge_comes(rt: HostRuntime) -> Result<(), Fail> {
     let task = Rings {
         before: ring_graph(rt.alloc(), OPEN)?,
-        change: Change::Link(2, 3),
+        change: Change::one(rt.alloc(), Step::Link(2, 3))?,
         after: ring_graph(rt.alloc(), WHOLE)?,
         blocks: 4,
     };

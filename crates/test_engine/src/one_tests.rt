@@ -1,10 +1,9 @@
 // The 1-index by itself, without an engine: an edge that comes between blocks which have support leaves them.
 ghost use Rattle.std.specs.Prelude.{◌≡◌, ◌<◌, IsTrue};
-ghost use Rattle.graph_update.specs.Verdicts.{change_of};
 ghost use Rattle.index_api.specs.Meanings.{IsReady, IsPrepared};
 ghost use Rattle.one_maintain.specs.KeptQuotients.{meaning_of};
 
-use graph_update::{Change, Verdict, judge};
+use graph_update::{Change, Step, Verdict, judge};
 use index_api::PathIndex;
 use label_graph::Graph;
 use one_maintain::OneKept;
@@ -70,7 +69,7 @@ fn stages<L: Ledger>(index: &mut OneKept, graph: &Graph, change: &Change, blank:
     requires parts { blank.parts ≡ L.parts }
     requires some { 0 < blank.parts }
     requires ready { IsReady (meaning_of index.old.kept) graph.now.graph }
-    ensures { IsTrue result → IsPrepared (meaning_of index.old.kept) (meaning_of index.new.kept) (change_of change.now) graph.now.graph }
+    ensures { IsTrue result → IsPrepared (meaning_of index.old.kept) (meaning_of index.new.kept) change.now graph.now.graph }
 {
     let Ok(Verdict::New) = judge(graph, change, &Limits::program()) else {
         return false;
@@ -90,24 +89,25 @@ pub(crate) fn makes(index: &mut OneKept, graph: &Graph, change: &Change) -> bool
     true
 }
 
-/// Whether the twins are together before and after the second of them gets an edge to the last node.
-fn stay_twins(index: &mut OneKept, graph: &Graph) -> bool
+/// Whether the twins are together before and after the change.
+fn stay_twins(index: &mut OneKept, graph: &Graph, change: &Change) -> bool
     requires ready { IsReady (meaning_of index.old.kept) graph.now.graph }
 {
-    are_twins(index) && makes(index, graph, &Change::Link(1, 3)) && are_twins(index)
+    are_twins(index) && makes(index, graph, change) && are_twins(index)
 }
 
-/// Two nodes over two others, the second of which gets an edge to the last.
+/// Two nodes over two others, and the change by which the second gets an edge to the last.
 #[derive(Drop)]
 struct Twins {
     graph: Graph,
+    change: Change,
 }
 
 impl Task for Twins {
     type Lent = OneKept;
 
     fn carry_out(self, index: &mut OneKept) -> bool {
-        is_built(index, &self.graph) && stay_twins(index, &self.graph)
+        is_built(index, &self.graph) && stay_twins(index, &self.graph, &self.change)
     }
 }
 
@@ -124,6 +124,7 @@ fn graph_of_twins<L: Ledger>(alloc: Global, blank: Blank) -> Result<Graph, Fail>
 #[test]
 fn a_supported_link_leaves_the_blocks(rt: HostRuntime) -> Result<(), Fail> {
     let graph = graph_of_twins::<Brand>(rt.alloc(), Blank::new(1))?;
-    assert!(rt; lend(OneKept::new(rt.alloc())?, Twins { graph }));
+    let change = Change::one(rt.alloc(), Step::Link(1, 3))?;
+    assert!(rt; lend(OneKept::new(rt.alloc())?, Twins { graph, change }));
     Ok(())
 }

@@ -5,7 +5,7 @@ ghost use Rattle.pathindex_core.specs.Engines.{IsSound, by_meaning};
 use crate::calls::{lists, opens};
 use crate::full_tests::{adds_both, makes};
 use any_index::full_engine;
-use graph_update::Change;
+use graph_update::Step;
 use index_api::{PathIndex, Via};
 use label_graph::Graph;
 use pathindex_core::Engine;
@@ -44,7 +44,7 @@ fn come_apart<B: PathIndex>(engine: &mut Engine<B>, alloc: Global) -> bool
     ensures sound { IsSound (by_meaning B.meaning engine.new) }
 {
     lists(engine, alloc, Via::One, Some(TOGETHER))
-        && makes(engine, alloc, Change::Unlink(2, 3))
+        && makes(engine, alloc, Step::Unlink(2, 3))
         && lists(engine, alloc, Via::One, Some(APART))
 }
 
@@ -55,7 +55,7 @@ fn stay_apart<B: PathIndex>(engine: &mut Engine<B>, alloc: Global) -> bool
     ensures open { IsSome engine.new.opened }
     ensures sound { IsSound (by_meaning B.meaning engine.new) }
 {
-    makes(engine, alloc, Change::Link(2, 3)) && lists(engine, alloc, Via::One, Some(APART))
+    makes(engine, alloc, Step::Link(2, 3)) && lists(engine, alloc, Via::One, Some(APART))
 }
 
 /// Whether they come apart, and stay so.
@@ -97,8 +97,8 @@ fn adds_ring<B: PathIndex>(
     ensures open { IsSome engine.new.opened }
     ensures sound { IsSound (by_meaning B.meaning engine.new) }
 {
-    makes(engine, alloc, Change::Link(first, second))
-        && makes(engine, alloc, Change::Link(second, first))
+    makes(engine, alloc, Step::Link(first, second))
+        && makes(engine, alloc, Step::Link(second, first))
 }
 
 /// Adds the nodes of two rings.

@@ -153,7 +153,7 @@ const SCRIPTS: &[(&str, &str, u8)] = &[
     ),
     (
         "node a\nnode b\nlink n0 n1\ndrop n1\nunlink n0 n1\ndrop n1\nnode c\n",
-        "added n0\nadded n1\nok\nrefused in-use\nok\nok\nadded n2\n",
+        "added n0\nadded n1\nok\nok\nrefused no-node\nrefused no-node\nadded n2\n",
         1,
     ),
     (
@@ -171,6 +171,29 @@ const SCRIPTS: &[(&str, &str, u8)] = &[
         ok\nblocks 6\na n0\nb n1\nc n2 n5\na n3\nb n4\nx n6\nok\nblocks 4\na n0 n3\nb n1 n4\nc n2 n5\nx n6\n",
         0,
     ),
+    // A node takes its edges along: the lists are those before it was linked.
+    (
+        "node a\nnode b\nnode c\nlink n0 n1\nlink n1 n2\nnode a\nnode b\nnode c\nlink n3 n4\nlink n4 n5\nnode x\nlink n6 n3\ndrop n6\nextents a2\n",
+        "added n0\nadded n1\nadded n2\nok\nok\nadded n3\nadded n4\nadded n5\nok\nok\nadded n6\nok\nok\nblocks 3\na n0 n3\nb n1 n4\nc n2 n5\n",
+        0,
+    ),
+    // A group is one change, which may be refused.
+    (
+        "begin\nnode a\nnode b\n\n# a note\nlink n0 n1\nend\nextents a1\n",
+        "added n0\nadded n1\nok\nblocks 2\na n0\nb n1\n",
+        0,
+    ),
+    (
+        "node a\nbegin\nnode b\nlink n0 n9\nend\nnode c\n",
+        "added n0\nrefused no-node\nadded n1\n",
+        1,
+    ),
+    ("begin\nend\n", "ok\n", 0),
+    ("begin\nsizes\n", "bad 2\n", 4),
+    ("begin\npath data a\nend\n", "bad 2\n", 4),
+    ("begin\nnode a\n", "bad 1\n", 4),
+    ("node a\nbegin\nbegin\n", "added n0\nbad 3\n", 4),
+    ("node a\nend\n", "added n0\nbad 2\n", 4),
     // Sets of parents count, and not their number.
     (
         "node a\nnode a\nnode b\nnode b\nlink n0 n2\nlink n1 n2\nlink n0 n3\nextents a1\n",
@@ -220,6 +243,44 @@ fn scripts_and_what_they_write(rt: HostRuntime) {
     for (text, output, status) in SCRIPTS {
         assert!(rt; ends(rt.alloc(), script(text), output, *status), "{text}");
     }
+}
+
+/// A script with a group: the first lines, one line so many times, and the end.
+fn group(alloc: Global, first: &str, line: &str, count: u32) -> Result<String, Memory> {
+    let mut text = String::from_str(alloc, first)?;
+    for _ in 0..count {
+        text.push_str(line)?;
+    }
+    text.push_str("end\n")?;
+    Ok(text)
+}
+
+fn group_ends(alloc: Global, lines: (&str, &str, u32), output: &str, status: u8) -> bool {
+    match group(alloc, lines.0, lines.1, lines.2) {
+        Ok(text) => ends(alloc, script(text.as_str()), output, status),
+        Err(_) => false,
+    }
+}
+
+// A change has at most 1,024 steps.
+#[test]
+fn long_groups_are_refused(rt: HostRuntime) {
+    assert!(rt;
+        group_ends(
+            rt.alloc(),
+            ("begin\nnode a\n", "link n0 n0\n", 1023),
+            "added n0\nok\n",
+            0
+        )
+    );
+    assert!(rt;
+        group_ends(
+            rt.alloc(),
+            ("begin\n", "node a\n", 1025),
+            "refused limit\n",
+            1
+        )
+    );
 }
 
 const USAGE: &str =

@@ -2,7 +2,7 @@
 ghost use Rattle.std.specs.Prelude.{◌≡◌, ◌<◌};
 
 use affected_nodes::affected_nodes;
-use graph_update::{After, Change, Verdict, judge};
+use graph_update::{After, Change, Step, Verdict, judge};
 use px_base::{Limits, Memory, NodeId, Steps};
 use std::alloc::Global;
 use std::marker::Brand;
@@ -20,7 +20,7 @@ fn are_within<L: Ledger>(
     one: &[NodeId],
     steps: &mut Steps<L>,
 ) -> Result<bool, Memory> {
-    if target >= after.created() {
+    if !after.is_live(target) {
         return Ok(false);
     }
     let affected = affected_nodes(alloc, after, &[target], 2, steps)?;
@@ -35,7 +35,7 @@ fn check_link<L: Ledger>(rt: &impl Abort, alloc: Global, blank: Blank) -> Result
 {
     let mut steps = Steps::<L>::new(blank);
     let graph = graph_from(alloc, b"aaaa", &[(1, 2), (2, 3)], &mut steps)?;
-    let change = Change::Link(0, 1);
+    let change = Change::one(alloc, Step::Link(0, 1))?;
     let Ok(Verdict::New) = judge(&graph, &change, &Limits::program()) else {
         return Err("not new".into());
     };

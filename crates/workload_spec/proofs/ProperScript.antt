@@ -5,11 +5,11 @@ use Rattle.px_base.specs.declared.lines.TheConstants.{LINE_BYTES, SCRIPT_BYTES}
 use Rattle.graph_spec.specs.Lines.{Line, cut}
 use Rattle.graph_spec.specs.ProgramLimits.{program_limits}
 use Rattle.graph_spec.proofs.LineLemmas.{cut-feed}
-use Rattle.script_read.specs.Commands.{SpellsSomething}
+use Rattle.script_read.specs.Commands.{SpellsSomething, IsSpelled, begin, end}
 use Rattle.workload.specs.Generator.{state_after}
 use Rattle.workload.specs.MadeTexts.{after_lines, last_lines, lines_text, made_script_text, steps_onto}
 use Rattle.workload_spec.proofs.Plain.{uncut}
-use Rattle.workload_spec.proofs.ScriptLines.{AreProper, IsProperLine, script_lines}
+use Rattle.workload_spec.proofs.ScriptLines.{AreProper, IsProperLine, line_alone, script_lines}
 
 abbrev fed : List ℕ → Line
 fed line = record { text = line; end = 10 ∷ [] }
@@ -62,3 +62,15 @@ script_proper seed nodes some room i l e = proper (after_lines 20000 seed) e
         let are = script_lines nodes x some room in
         let p = each_line lines i l are (ap (λ ls. slice_get ls i) (sym (cut_lines lines are)) ∙ h) in
         (let s = p.short in omega (arith, s), inr (inl (p.command, p.spelled)))
+
+-- no line is the first or the last of a group
+pub script_alone : (seed nodes : ℕ) → 0 < nodes → nodes + 500 ≤ 2 ^ 32 → (i : ℕ) (l : Line) → slice_get (cut (made_script_text seed nodes)) i ≡ Some l
+    → (¬ IsSpelled l.text begin) × (¬ IsSpelled l.text end)
+unfolding made_script_text
+script_alone seed nodes some room i l e = alone (after_lines 20000 seed) e
+  where
+    alone : (x : ℕ) → slice_get (cut (lines_text (steps_onto nodes 500 nodes x last_lines))) i ≡ Some l → (¬ IsSpelled l.text begin) × (¬ IsSpelled l.text end)
+    alone x h =
+        let lines = steps_onto nodes 500 nodes x last_lines in
+        let are = script_lines nodes x some room in
+        line_alone l.text (each_line lines i l are (ap (λ ls. slice_get ls i) (sym (cut_lines lines are)) ∙ h))

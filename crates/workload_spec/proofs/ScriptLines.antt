@@ -1,25 +1,46 @@
 -- Each line of a made script spells a command.
-use Rattle.std.proofs.Common.{◌≡◌, ◌∙◌, ◌<◌, ◌≤◌, ◌+◌, ◌/◌, ◌^◌, ℕ, zero, suc, Bool, cond, true, List, [], ◌∷◌, ◌++◌, length, length-append, append_assoc, filter, refl, sym, ap, arith, lit<, inl}
+use Rattle.std.proofs.Common.{◌≡◌, ◌≢◌, ◌∙◌, ◌<◌, ◌≤◌, ◌+◌, ◌/◌, ◌^◌, ℕ, zero, suc, Bool, cond, true, List, [], ◌∷◌, ◌++◌, length, length-append, append_assoc, filter, refl, sym, ap, arith, lit<, inl}
 use Rattle.std.specs.Prelude.{codes, decimal, not, ◌==◌}
 use Rattle.std.specs.List.{list_all, slice_split}
 use Rattle.std.proofs.lemmas.Bool.{ne_eqb}
 use Rattle.std.proofs.lemmas.Fmt.{decimal_digit, length-decimal-le}
 use Rattle.std.proofs.Math.Nat.{mod-lt}
-use Rattle.graph_spec.specs.Changes.{node, link, unlink}
+use Rattle.change_spec.specs.Steps.{node, link, unlink}
 use Rattle.graph_spec.specs.Words.{is_blank, is_name, node_word, words}
 use Rattle.index_api.specs.declared.kinds.Via.TheVariants.{Data, A, One, Fb}
-use Rattle.script_read.specs.Commands.{Command, change, path, branch, sizes, IsSpelled}
+use Rattle.script_read.specs.Commands.{Command, change, begin, end, path, branch, sizes, IsSpelled}
+use Rattle.script_read.proofs.CommandLemmas.{keyword, lead, begins, no_query}
 use Rattle.workload.specs.Generator.{drawn, number_at, state_after}
 use Rattle.workload.specs.MadeTexts.{edge_line, label_line, last_lines, steps_onto}
 use Rattle.workload_spec.proofs.Plain.{all_linked, ink_node, is_ink, is_plain, last_split, plain_ink, word_split}
 use Rattle.workload_spec.proofs.Queries.{deep_path, deep_spelled, denied, denied_spelled, long_path, long_spelled, plain_letter}
+
+-- the command is neither the first nor the last line of a group
+abbrev pub StandsAlone : Command → Type 0
+StandsAlone begin = ⊥
+StandsAlone end = ⊥
+StandsAlone c = Unit {0}
 
 -- a command on a short line
 pub record IsProperLine (line : List ℕ) : Type 0 where
   pub plain : list_all is_plain line ≡ true
   pub short : length line ≤ 100
   pub command : Command
+  pub alone : StandsAlone command
   pub spelled : IsSpelled line command
+
+-- such a line is neither the first nor the last of a group
+pub line_alone : (line : List ℕ) → IsProperLine line → (¬ IsSpelled line begin) × (¬ IsSpelled line end)
+line_alone line p = (
+  λ b. (apart p.command p.alone).0 (ap lead (sym (begins line p.command p.spelled) ∙ begins line begin b)),
+  λ e. (apart p.command p.alone).1 (ap lead (sym (begins line p.command p.spelled) ∙ begins line end e)),
+)
+  where
+    apart : (c : Command) → StandsAlone c → (lead (keyword c) ≢ lead (codes "begin")) × (lead (keyword c) ≢ lead (codes "end"))
+    apart (change x) a = ((no_query x).no_begin, (no_query x).no_end)
+    apart begin a = absurd a
+    apart end a = absurd a
+    apart c a = (λ e. omega (arith, e), λ e. omega (arith, e))
 
 abbrev pub AreProper : List (List ℕ) → Type 0
 AreProper [] = Unit {0}
@@ -93,6 +114,7 @@ link_proper u v f g = record {
   plain = edge_plain (codes "link") u v refl (wide u f) (wide v g);
   short = edge_short (codes "link") u v (omega arith) f g;
   command = change (link u v);
+  alone = tt;
   spelled = (link_words u v (wide u f) (wide v g), f, g);
 }
 
@@ -101,6 +123,7 @@ unlink_proper u v f g = record {
   plain = edge_plain (codes "unlink") u v refl (wide u f) (wide v g);
   short = edge_short (codes "unlink") u v (omega arith) f g;
   command = change (unlink u v);
+  alone = tt;
   spelled = (unlink_words u v (wide u f) (wide v g), f, g);
 }
 
@@ -111,6 +134,7 @@ digit_label d name ink = record {
   plain = all_linked is_plain (codes "node g") (d ∷ []) refl (plain_ink (d ∷ []) (rw ink refl));
   short = omega arith;
   command = change (node (103 ∷ d ∷ []));
+  alone = tt;
   spelled = (
     103 ∷ d ∷ [],
     ap (filter filled) (word_split (codes "node") (103 ∷ d ∷ []) refl ∙ ap (λ ws. codes "node" ∷ ws) (last_split (103 ∷ d ∷ []) (rw ink refl))),
@@ -151,31 +175,31 @@ level_word = ap (λ d. 97 ∷ d) (sym (decimal_digit 2 (lit< tt)))
 
 last_proper : AreProper last_lines
 last_proper = (
-  record { plain = refl; short = omega arith; command = sizes; spelled = refl },
+  record { plain = refl; short = omega arith; command = sizes; alone = tt; spelled = refl },
   (
-    record { plain = refl; short = omega arith; command = path Data long_path; spelled = ((refl, refl, tt), long_spelled) },
+    record { plain = refl; short = omega arith; command = path Data long_path; alone = tt; spelled = ((refl, refl, tt), long_spelled) },
     (
-      record { plain = refl; short = omega arith; command = path (A 2) long_path; spelled = ((refl, level_word, lit< tt), long_spelled) },
+      record { plain = refl; short = omega arith; command = path (A 2) long_path; alone = tt; spelled = ((refl, level_word, lit< tt), long_spelled) },
       (
-        record { plain = refl; short = omega arith; command = path One long_path; spelled = ((refl, refl, tt), long_spelled) },
+        record { plain = refl; short = omega arith; command = path One long_path; alone = tt; spelled = ((refl, refl, tt), long_spelled) },
         (
-          record { plain = refl; short = omega arith; command = path Fb long_path; spelled = ((refl, refl, tt), long_spelled) },
+          record { plain = refl; short = omega arith; command = path Fb long_path; alone = tt; spelled = ((refl, refl, tt), long_spelled) },
           (
-            record { plain = refl; short = omega arith; command = path Data deep_path; spelled = ((refl, refl, tt), deep_spelled) },
+            record { plain = refl; short = omega arith; command = path Data deep_path; alone = tt; spelled = ((refl, refl, tt), deep_spelled) },
             (
-              record { plain = refl; short = omega arith; command = path (A 2) deep_path; spelled = ((refl, level_word, lit< tt), deep_spelled) },
+              record { plain = refl; short = omega arith; command = path (A 2) deep_path; alone = tt; spelled = ((refl, level_word, lit< tt), deep_spelled) },
               (
-                record { plain = refl; short = omega arith; command = path One deep_path; spelled = ((refl, refl, tt), deep_spelled) },
+                record { plain = refl; short = omega arith; command = path One deep_path; alone = tt; spelled = ((refl, refl, tt), deep_spelled) },
                 (
-                  record { plain = refl; short = omega arith; command = path Fb deep_path; spelled = ((refl, refl, tt), deep_spelled) },
+                  record { plain = refl; short = omega arith; command = path Fb deep_path; alone = tt; spelled = ((refl, refl, tt), deep_spelled) },
                   (
-                    record { plain = refl; short = omega arith; command = branch Data denied; spelled = ((refl, refl, tt), denied_spelled) },
+                    record { plain = refl; short = omega arith; command = branch Data denied; alone = tt; spelled = ((refl, refl, tt), denied_spelled) },
                     (
-                      record { plain = refl; short = omega arith; command = branch (A 2) denied; spelled = ((refl, level_word, lit< tt), denied_spelled) },
+                      record { plain = refl; short = omega arith; command = branch (A 2) denied; alone = tt; spelled = ((refl, level_word, lit< tt), denied_spelled) },
                       (
-                        record { plain = refl; short = omega arith; command = branch One denied; spelled = ((refl, refl, tt), denied_spelled) },
+                        record { plain = refl; short = omega arith; command = branch One denied; alone = tt; spelled = ((refl, refl, tt), denied_spelled) },
                         (
-                          record { plain = refl; short = omega arith; command = branch Fb denied; spelled = ((refl, refl, tt), denied_spelled) },
+                          record { plain = refl; short = omega arith; command = branch Fb denied; alone = tt; spelled = ((refl, refl, tt), denied_spelled) },
                           tt,
                         ),
                       ),

@@ -9,9 +9,11 @@ use Rattle.graph_spec.specs.declared.limits.Limits.{Limits}
 use Rattle.graph_spec.specs.declared.refusal.Refusal.{Refusal}
 use Rattle.graph_spec.specs.declared.refusal.Refusal.TheVariants.{Limit, NoNode}
 use Rattle.graph_spec.specs.Graphs.{Graph, edge_cmp, has_edge, is_live, is_seen}
-use Rattle.graph_spec.specs.Changes.{apply, edge_fits, link, node, with_edge, with_node}
+use Rattle.graph_spec.specs.Changes.{edge_fits, with_edge, with_node}
 use Rattle.graph_spec.proofs.EdgeOrder.{edge_cmp_total}
 use Rattle.graph_spec.proofs.ListLemmas.{get_seam}
+use Rattle.change_spec.specs.Steps.{apply, link, node}
+use Rattle.change_spec.proofs.SingleSteps.{one_step}
 use Rattle.triples_read.specs.declared.term.Term.{Term}
 use Rattle.triples_read.specs.declared.term.Triple.{Triple}
 use Rattle.term_table.specs.Terms.{number_of, same_term}
@@ -60,9 +62,10 @@ below m n h = search (rules, arith, h)
 
 -- ---- a node more
 
-node_added : (limits : Limits) (g : Graph) (t : List ℕ) → length g.allocated < limits.nodes → length g.seen < limits.labels → apply (node t) g limits ≡ Ok (with_node g t)
+node_added : (limits : Limits) (g : Graph) (t : List ℕ) → length g.allocated < limits.nodes → length g.seen < limits.labels → apply (node t ∷ []) g limits ≡ Ok (with_node g t)
 node_added limits g t h k =
-    ap (λ b. if b && (is_seen g.seen t || nat_lt (length g.seen) limits.labels) then Ok (with_node g t) else Err Limit) (below (length g.allocated) limits.nodes h)
+    one_step (node t) g limits
+    ∙ ap (λ b. if b && (is_seen g.seen t || nat_lt (length g.seen) limits.labels) then Ok (with_node g t) else Err Limit) (below (length g.allocated) limits.nodes h)
     ∙ ap (λ b. if is_seen g.seen t || b then Ok (with_node g t) else Err Limit) (below (length g.seen) limits.labels k)
     ∙ ap (λ b. if b then Ok (with_node g t) else Err Limit) (or-true (is_seen g.seen t))
 
@@ -104,7 +107,7 @@ record Needs (limits : Limits) (x : Term) (l : LoadState) (low nodes edges label
   pub found : number_of leads.next.terms x ≡ Some number
 
 module _ (limits : Limits) (l : LoadState) (low nodes edges labels : ℕ) (has : HasAtMost low nodes edges labels l) (node_room : nodes < limits.nodes) (label_room : labels < limits.labels) where
-  added : (t : List ℕ) → apply (node t) l.graph limits ≡ Ok (with_node l.graph t)
+  added : (t : List ℕ) → apply (node t ∷ []) l.graph limits ≡ Ok (with_node l.graph t)
   added t = (let h = has.few_nodes in let k = has.few_labels in node_added limits l.graph t (omega (arith, h, node_room)) (omega (arith, k, label_room)))
 
   need_leads : (x : Term) → Needs limits x l low (nodes + 1) edges (labels + 1)
@@ -160,9 +163,10 @@ module _ (limits : Limits) (l : LoadState) (low nodes edges labels : ℕ) (has :
 
 -- ---- an edge more
 
-edge_added : (limits : Limits) (g : Graph) (u v : ℕ) → IsTrue (is_live g u) → IsTrue (is_live g v) → set.len g.edges < limits.edges → apply (link u v) g limits ≡ Ok (with_edge g u v)
+edge_added : (limits : Limits) (g : Graph) (u v : ℕ) → IsTrue (is_live g u) → IsTrue (is_live g v) → set.len g.edges < limits.edges → apply (link u v ∷ []) g limits ≡ Ok (with_edge g u v)
 edge_added limits g u v from onto h =
-    ap (λ b. if b && is_live g v then (if edge_fits g limits u v then Ok (with_edge g u v) else Err Limit) else Err NoNode) from
+    one_step (link u v) g limits
+    ∙ ap (λ b. if b && is_live g v then (if edge_fits g limits u v then Ok (with_edge g u v) else Err Limit) else Err NoNode) from
     ∙ ap (λ b. if b then (if edge_fits g limits u v then Ok (with_edge g u v) else Err Limit) else Err NoNode) onto
     ∙ ap (λ b. if has_edge g u v || b then Ok (with_edge g u v) else Err Limit) (below (set.len g.edges) limits.edges h)
     ∙ ap (λ b. if b then Ok (with_edge g u v) else Err Limit) (or-true (has_edge g u v))

@@ -9,6 +9,7 @@ use Rattle.affected_nodes.specs.ReadCosts.{children_cost}
 use Rattle.affected_nodes.specs.AffectedSearches.{IsSpread}
 use Rattle.affected_nodes.proofs.Distances.{met_first}
 use Rattle.affected_nodes.proofs.MetChildren.{first_again}
+use Rattle.affected_nodes.proofs.SearchCosts.{starts, below}
 use Rattle.affected_nodes.proofs.ReachRounds.{IsReaching, reaching_first, reaching_next, reaching_all, reaching_few, reaching_most, reaching_part}
 use Rattle.affected_nodes.proofs.reaching.reached_nodes.Goals as goal
 
@@ -22,8 +23,8 @@ rounds-init g c = record {
 
 pub returns-in_err-spread-clause-cost : goal.returns-in_err-spread-clause-cost
 returns-in_err-spread-clause-cost g c =
-    let most = reaching_most c.args.after.now (has c.args.targets.now) c.rounds.from c.rounds.met.keys c.len.ensures.unique (is_shape (graph_after c.args.after.now) c.created-known.ensures.after)
-    c.requires.allocated c.rounds.invariant.reaching in
+    let most = reaching_most c.args.after.now (has c.args.targets.now) c.rounds.from c.rounds.met.keys c.len.ensures.unique
+    (starts c.args.after.now (has c.args.targets.now) c.created-known.ensures.new c.created-known.ensures.before c.created-known.ensures.after c.requires.live) c.rounds.invariant.reaching in
     let so_far = c.rounds.invariant.cost in
     let cost = c.spread.ensures.cost in
     omega (arith, most, so_far, cost)
@@ -31,11 +32,11 @@ returns-in_err-spread-clause-cost g c =
 pub rounds-smaller : goal.rounds-smaller
 rounds-smaller g c =
     let few = reaching_few (shape_of (graph_after c.args.after.now)) (has c.args.targets.now) c.rounds.from c.rounds.met.keys c.len.ensures.unique
-    (is_shape (graph_after c.args.after.now) c.created-known.ensures.after) c.requires.allocated c.rounds.invariant.reaching in
-    let below = c.rounds-test.true in
+    (is_shape (graph_after c.args.after.now) c.created-known.ensures.after) (below c.args.after.now (has c.args.targets.now) (starts c.args.after.now (has c.args.targets.now) c.created-known.ensures.new c.created-known.ensures.before c.created-known.ensures.after c.requires.live)) c.rounds.invariant.reaching in
+    let more = c.rounds-test.true in
     let len = c.len.ensures.len in
     let end = c.len-end.ensures.len in
-    omega (arith, few, below, len, end)
+    omega (arith, few, more, len, end)
 
 pub rounds-preserved : goal.rounds-preserved
 rounds-preserved g c =
@@ -57,8 +58,8 @@ rounds-preserved g c =
 
 pub returns-in_err-nodes-clause-cost : goal.returns-in_err-nodes-clause-cost
 returns-in_err-nodes-clause-cost g c =
-    let most = reaching_part c.args.after.now (has c.args.targets.now) c.rounds.from c.rounds.met.keys c.len.ensures.unique (is_shape (graph_after c.args.after.now) c.created-known.ensures.after)
-    c.requires.allocated c.rounds.invariant.reaching in
+    let most = reaching_part c.args.after.now (has c.args.targets.now) c.rounds.from c.rounds.met.keys c.len.ensures.unique
+    (starts c.args.after.now (has c.args.targets.now) c.created-known.ensures.new c.created-known.ensures.before c.created-known.ensures.after c.requires.live) c.rounds.invariant.reaching in
     let so_far = c.rounds.invariant.cost in
     omega (arith, most, so_far)
 
@@ -74,7 +75,7 @@ returns-clause-reached g c =
 
 pub returns-clause-cost : goal.returns-clause-cost
 returns-clause-cost g c =
-    let most = reaching_part c.args.after.now (has c.args.targets.now) c.rounds.from c.rounds.met.keys c.len.ensures.unique (is_shape (graph_after c.args.after.now) c.created-known.ensures.after)
-    c.requires.allocated c.rounds.invariant.reaching in
+    let most = reaching_part c.args.after.now (has c.args.targets.now) c.rounds.from c.rounds.met.keys c.len.ensures.unique
+    (starts c.args.after.now (has c.args.targets.now) c.created-known.ensures.new c.created-known.ensures.before c.created-known.ensures.after c.requires.live) c.rounds.invariant.reaching in
     let so_far = c.rounds.invariant.cost in
     omega (arith, most, so_far)

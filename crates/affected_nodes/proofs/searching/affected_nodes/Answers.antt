@@ -8,7 +8,7 @@ use Rattle.affected_nodes.specs.ReadCosts.{children_cost}
 use Rattle.affected_nodes.specs.AffectedSearches.{IsSpread}
 use Rattle.affected_nodes.proofs.Distances.{IsSearched, met_first, searched_first, searched_next}
 use Rattle.affected_nodes.proofs.MetChildren.{first_again}
-use Rattle.affected_nodes.proofs.SearchCosts.{search_most, first_most}
+use Rattle.affected_nodes.proofs.SearchCosts.{starts, met_most, first_most}
 use Rattle.affected_nodes.proofs.searching.affected_nodes.Goals as goal
 
 pub loop-init : goal.loop-init
@@ -24,8 +24,8 @@ loop-init g c = record {
 pub returns-in_err-spread-clause-cost : goal.returns-in_err-spread-clause-cost
 returns-in_err-spread-clause-cost g c =
     let below = c.loop-test.true in
-    let most = search_most c.args.after.now c.args.targets.now c.loop.met.keys c.loop.ends.items c.loop.counter c.loop.from c.args.k
-    (is_shape (graph_after c.args.after.now) c.created-known.ensures.after) c.requires.allocated c.loop.invariant.searched (omega (arith, below)) in
+    let most = met_most c.args.after.now c.args.targets.now c.loop.met.keys c.loop.ends.items c.loop.counter c.loop.from c.args.k
+    (starts c.args.after.now (has c.args.targets.now) c.created-known.ensures.new c.created-known.ensures.before c.created-known.ensures.after c.requires.live) c.loop.invariant.searched (omega (arith, below)) in
     let so_far = c.loop.invariant.cost in
     let cost = c.spread.ensures.cost in
     omega (arith, most, so_far, cost)
@@ -33,8 +33,8 @@ returns-in_err-spread-clause-cost g c =
 pub returns-in_err-push-2-clause-cost : goal.returns-in_err-push-2-clause-cost
 returns-in_err-push-2-clause-cost g c =
     let below = c.loop-test.true in
-    let most = search_most c.args.after.now c.args.targets.now c.loop.met.keys c.loop.ends.items c.loop.counter c.loop.from c.args.k
-    (is_shape (graph_after c.args.after.now) c.created-known.ensures.after) c.requires.allocated c.loop.invariant.searched (omega (arith, below)) in
+    let most = met_most c.args.after.now c.args.targets.now c.loop.met.keys c.loop.ends.items c.loop.counter c.loop.from c.args.k
+    (starts c.args.after.now (has c.args.targets.now) c.created-known.ensures.new c.created-known.ensures.before c.created-known.ensures.after c.requires.live) c.loop.invariant.searched (omega (arith, below)) in
     let so_far = c.loop.invariant.cost in
     let cost = c.spread.ensures.cost in
     omega (arith, most, so_far, cost)
@@ -65,6 +65,6 @@ pub returns-clause-cost : goal.returns-clause-cost
 returns-clause-cost g c =
     let within = c.loop.auto.counter-end in
     let most = first_most c.args.after.now c.args.targets.now c.loop.met.keys c.loop.ends.items c.loop.counter c.loop.from c.args.k
-    (is_shape (graph_after c.args.after.now) c.created-known.ensures.after) c.requires.allocated c.loop.invariant.searched (omega (arith, within)) in
+    (starts c.args.after.now (has c.args.targets.now) c.created-known.ensures.new c.created-known.ensures.before c.created-known.ensures.after c.requires.live) c.loop.invariant.searched (omega (arith, within)) in
     let so_far = c.loop.invariant.cost in
     omega (arith, most, so_far)

@@ -1,11 +1,11 @@
-use Rattle.std.proofs.Common.{sym, subst, refl}
+use Rattle.std.proofs.Common.{List, sym, subst, refl}
 use Rattle.graph_spec.specs.Graphs.{Graph}
-use Rattle.graph_spec.specs.Changes.{Change}
+use Rattle.change_spec.specs.Steps.{Step}
 use Rattle.bisim_spec.specs.Fits.{Fits}
 use Rattle.index_api.specs.Meanings.{Meaning, IsReady, IsPrepared, unstaged}
 use Rattle.ak_maintain.proofs.tests.prepare_in_vain.Goals as goal
 
-still_ready : (m m2 : Meaning) (g : Graph) (c : Change) → IsReady m g → IsPrepared m m2 c g → IsReady (unstaged m2) g
+still_ready : (m m2 : Meaning) (g : Graph) (c : List Step) → IsReady m g → IsPrepared m m2 c g → IsReady (unstaged m2) g
 still_ready m m2 g c ready p = record {
   fits = subst (λ k. Fits k m2.views g) (sym p.kind) (subst (λ v. Fits m.kind v g) (sym p.views) ready.fits);
   unstaged = refl;

@@ -1,11 +1,11 @@
 use Rattle.std.proofs.Common.{◌+◌, ◌≤◌, ℕ, Bool, sym, ◌∙◌, ap, subst, arith, length}
 use Rattle.graph_spec.specs.Members.{has, Lists}
 use Rattle.graph_spec.specs.Shapes.{shape_of}
-use Rattle.graph_spec.proofs.GraphLaws.{is_shape}
 use Rattle.bisim_spec.specs.Reach.{within_distance}
 use Rattle.graph_update.specs.PendingChanges.{graph_after}
 use Rattle.keyed_quotient.specs.Changes.{KeyedChanges, blocks_as_shown}
 use Rattle.ak_family.specs.Families.{level_at}
+use Rattle.affected_nodes.proofs.SearchCosts.{starts}
 use Rattle.level_update.proofs.PlacingCosts.{level_most, spent_most}
 use Rattle.level_update.proofs.DraftLevels.{moving_placed, keyed_next, keyed_all}
 use Rattle.level_update.proofs.moving.move_affected.Goals as goal
@@ -20,21 +20,20 @@ loop-i-preserved g c =
     let placed = c.in_ok-place_all.ensures.placed in
     let listed : Lists (within_distance (shape_of graph) target (c.loop-i.i + 1)) c.within-nodes.result.now =
     subst (Lists (within_distance (shape_of graph) target (c.loop-i.i + 1))) (sym c.within-nodes.ensures) (c.in_ok-found.ensures.within_distance.each (c.loop-i.i + 1) below) in
-    let most = level_most c.args.after.now c.args.targets.now (c.loop-i.i + 1) c.k-k.result c.within-nodes.result.now (is_shape graph c.created-known.ensures.after) c.requires.allocated listed below in
+    let most = level_most c.args.after.now c.args.targets.now (c.loop-i.i + 1) c.k-k.result c.within-nodes.result.now (starts c.args.after.now (has c.args.targets.now) c.created-known.ensures.new c.created-known.ensures.before c.created-known.ensures.after c.requires.live) listed below in
     let so_far = inv.cost in
     let here = c.place_all.ensures.cost in
     record {
       moving = moving_placed target graph c.args.family.now c.loop-i.draft c.place_all.new.draft i c.within-nodes.result.now inv.moving placed listed;
       keyed = keyed_next target graph c.args.family.now c.loop-i.draft c.place_all.new.draft i c.within-nodes.result.now inv.keyed placed listed;
       lowest = ap (λ (x : KeyedChanges). blocks_as_shown (level_at c.args.family.now 0) x) (placed.others 0 (λ e. absurd (omega (arith, e)))) ∙ inv.lowest;
-      none = λ e. absurd (omega (arith, e, below));
       cost = omega (arith, most, so_far, here);
     }
 
 pub returns-in_err-found-clause-cost : goal.returns-in_err-found-clause-cost
 returns-in_err-found-clause-cost g c = λ k e.
     let cost = c.affected_nodes.ensures.cost in
-    spent_most (shape_of (graph_after c.args.after.now)) c.args.targets.now c.k-k.result 0 c.args.steps.now c.affected_nodes.new.steps c.requires.some c.requires.allocated (omega arith) c.affected_nodes.ensures.none
+    spent_most c.args.after.now c.args.targets.now c.k-k.result 0 c.args.steps.now c.affected_nodes.new.steps (omega arith)
     (omega (arith, cost)) (length c.args.family.now) k c.k-k.ensures.count e
 
 pub returns-in_err-place_all-clause-cost : goal.returns-in_err-place_all-clause-cost
@@ -44,10 +43,10 @@ returns-in_err-place_all-clause-cost g c = λ k e.
     let below : c.loop-i.i + 1 ≤ c.k-k.result = omega arith in
     let listed : Lists (within_distance (shape_of graph) target (c.loop-i.i + 1)) c.within-nodes.result.now =
     subst (Lists (within_distance (shape_of graph) target (c.loop-i.i + 1))) (sym c.within-nodes.ensures) (c.in_ok-found.ensures.within_distance.each (c.loop-i.i + 1) below) in
-    let most = level_most c.args.after.now c.args.targets.now (c.loop-i.i + 1) c.k-k.result c.within-nodes.result.now (is_shape graph c.created-known.ensures.after) c.requires.allocated listed below in
+    let most = level_most c.args.after.now c.args.targets.now (c.loop-i.i + 1) c.k-k.result c.within-nodes.result.now (starts c.args.after.now (has c.args.targets.now) c.created-known.ensures.new c.created-known.ensures.before c.created-known.ensures.after c.requires.live) listed below in
     let so_far = c.loop-i.invariant.cost in
     let here = c.place_all.ensures.cost in
-    spent_most (shape_of graph) c.args.targets.now c.k-k.result (c.loop-i.i + 1) c.args.steps.now c.place_all.new.steps c.requires.some c.requires.allocated below (λ z. absurd (omega (arith, z, below)))
+    spent_most c.args.after.now c.args.targets.now c.k-k.result (c.loop-i.i + 1) c.args.steps.now c.place_all.new.steps below
     (omega (arith, most, so_far, here)) (length c.args.family.now) k c.k-k.ensures.count e
 
 pub returns-clause-keyed : goal.returns-clause-keyed
@@ -59,5 +58,5 @@ returns-clause-keyed g c =
 pub returns-clause-cost : goal.returns-clause-cost
 returns-clause-cost g c = λ k e.
     let cost = c.loop-i.invariant.cost in
-    spent_most (shape_of (graph_after c.args.after.now)) c.args.targets.now c.k-k.result c.loop-i.i c.args.steps.now c.loop-i.steps c.requires.some c.requires.allocated c.loop-i.auto.i-end c.loop-i.invariant.none cost
+    spent_most c.args.after.now c.args.targets.now c.k-k.result c.loop-i.i c.args.steps.now c.loop-i.steps c.loop-i.auto.i-end cost
     (length c.args.family.now) k c.k-k.ensures.count e

@@ -1,18 +1,19 @@
-use Rattle.std.proofs.Common.{◌≡◌, ◌+◌, ◌-◌, ◌*◌, ◌<◌, ◌⊎◌, ℕ, Option, length, arith, sym, ap, subst, ◌∙◌, refl, true, false, Bool, inl, inr, rules}
+use Rattle.std.proofs.Common.{◌≡◌, ◌-◌, ◌*◌, ◌<◌, ◌⊎◌, ℕ, Option, length, arith, sym, ap, subst, ◌∙◌, refl, true, false, Bool, inl, inr, rules}
 use Rattle.std.specs.Prelude.{nat_eq}
 use Rattle.std.specs.List.{IsDistinct, sum_by}
 use Rattle.graph_spec.specs.Members.{at, has}
 use Rattle.graph_spec.specs.Shapes.{shape_of}
 use Rattle.graph_spec.proofs.GraphLaws.{is_shape}
 use Rattle.label_graph.specs.GraphViews.{label_number}
-use Rattle.bisim_spec.specs.Weights.{weight, size_of}
+use Rattle.bisim_spec.specs.Weights.{size_of}
+use Rattle.change_spec.specs.Costs.{cost}
 use Rattle.one_spec.specs.Splits.{IsSplitInside}
 use Rattle.graph_update.specs.PendingChanges.{graph_after}
 use Rattle.quotient_draft.specs.Drafts.{shown_blocks, shown_labels}
 use Rattle.one_split.specs.SplitCosts.{round_cost}
-use Rattle.one_split.proofs.Bounds.{size_most}
-use Rattle.one_split.proofs.Total.{closed_all, made_few, most_done, cost_more, most_within, round_within, next_heavy, left_falls, few_nodes, not_done}
-use Rattle.one_split.proofs.Light.{targets_light, target_most, light_within, cost_charged}
+use Rattle.one_split.proofs.Bounds.{sound_of, moves_most}
+use Rattle.one_split.proofs.Total.{closed_all, made_few, most_done, cost_more, most_within, round_within, left_falls, few_nodes, not_done}
+use Rattle.one_split.proofs.Light.{target_most, light_within, cost_charged}
 use Rattle.one_split.proofs.Present.{ArePresent, node_present, target_present, stable_present, block_labels_present}
 use Rattle.one_split.proofs.targets.split.Goals as goal
 
@@ -41,13 +42,14 @@ returns-in_err-next-clause-cost g c = λ inside closed within.
     let nodes = c.deref.result.now in
     let shape = is_shape (graph_after c.args.after.now) c.created-known.ensures.after in
     let present : ArePresent p (has c.args.targets.now) (has nodes) = record { each = λ n. ap (λ xs. has xs n) c.deref.ensures.value ∙ c.in_ok-present.ensures.those n } in
-    let cost = c.part_all.ensures.cost in
-    let light = targets_light c.args.after.now inside nodes (subst (IsDistinct nat_eq) (sym c.deref.ensures.value) c.in_ok-present.ensures.once)
-    (λ n h. (
-      shape.below n (node_present s p (has c.args.targets.now) (has nodes) n present c.requires.stable.partition h),
-      within n (target_present p (has c.args.targets.now) (has nodes) n present h),
-    )) in
-    let fit = light_within (size_of s inside) (weight s inside) (c.part_all.new.steps - c.args.steps.now) (omega (arith, cost, light)) in
+    let took = c.part_all.ensures.cost in
+    let sound = sound_of c.args.after.now c.created-known.ensures.new c.created-known.ensures.before c.created-known.ensures.after in
+    let light = moves_most c.args.after.now inside nodes sound (record {
+      once = subst (IsDistinct nat_eq) (sym c.deref.ensures.value) c.in_ok-present.ensures.once;
+      live = λ n h. node_present s p (has c.args.targets.now) (has nodes) n present c.requires.stable.partition h;
+      within = λ n h. within n (target_present p (has c.args.targets.now) (has nodes) n present h);
+    }) in
+    let fit = light_within (size_of s inside) (cost c.args.after.now.change c.args.after.now.before inside) (c.part_all.new.steps - c.args.steps.now) (omega (arith, took, light)) in
     omega (arith, fit)
 
 pub rounds-init : goal.rounds-init
@@ -65,10 +67,10 @@ rounds-init g c =
       supports = c.in_ok-next.ensures.supports;
       made = c.in_ok-next.ensures.made;
       cost = λ inside closed within.
-          let spent = c.in_ok-next.ensures.charged (3 * weight s inside + 3) (λ n h.
-          target_most c.args.after.now inside n shape (node_present s p (has c.args.targets.now) (has nodes) n present c.requires.stable.partition h)
+          let spent = c.in_ok-next.ensures.charged (3 * cost c.args.after.now.change c.args.after.now.before inside) (λ n h.
+          target_most c.args.after.now inside n (sound_of c.args.after.now c.created-known.ensures.new c.created-known.ensures.before c.created-known.ensures.after) (node_present s p (has c.args.targets.now) (has nodes) n present c.requires.stable.partition h)
           (within n (target_present p (has c.args.targets.now) (has nodes) n present h))) in
-          cost_charged (weight s inside) (length c.part_all.new.made.items) (c.part_all.new.steps - c.args.steps.now) c.in_ok-next.next.items (omega (arith, spent));
+          cost_charged (cost c.args.after.now.change c.args.after.now.before inside) (length c.part_all.new.made.items) (c.part_all.new.steps - c.args.steps.now) c.in_ok-next.next.items (omega (arith, spent));
     }
 
 pub round-requires : goal.round-requires
@@ -100,12 +102,13 @@ returns-in_err-next-2-clause-cost g c = λ inside closed within.
     let next_is : c.deref-in-rounds-2.result.now ≡ c.rounds.next.items = c.deref-in-rounds-2.ensures.value in
     let test : c.is_done.result ≡ false = search rules in
     let some = not_done c.is_done.result c.deref-in-rounds.result.now next c.is_done.ensures test c.deref-in-rounds.ensures.value in
-    let most = round_within a inside first p next made shape inv.once split in
-    let cost = c.round.ensures.cost in
+    let sound = sound_of a c.created-known.ensures.new c.created-known.ensures.before c.created-known.ensures.after in
+    let most = round_within a inside first p next made sound inv.once split in
+    let took = c.round.ensures.cost in
     let alike = ap (sum_by (round_cost a)) next_is in
-    let fit = most_within (size_of s inside) (weight s inside) (length made) (c.rounds.steps - c.args.steps.now) (c.round.new.steps - c.args.steps.now) (sum_by (round_cost a) next) next
-    (inv.cost inside closed within) some (next_heavy s inside first p next made shape split some) (made_few s inside first p next made shape split) most
-    (omega (arith, cost, alike)) in
+    let fit = most_within (size_of s inside) (cost a.change a.before inside) (length made) (c.rounds.steps - c.args.steps.now) (c.round.new.steps - c.args.steps.now) (sum_by (round_cost a) next) next
+    (inv.cost inside closed within) some (made_few s inside first p next made shape split) most
+    (omega (arith, took, alike)) in
     omega (arith, fit)
 
 pub rounds-preserved : goal.rounds-preserved
@@ -121,7 +124,7 @@ rounds-preserved g c =
     let next_is : c.deref-in-rounds-2.result.now ≡ c.rounds.next.items = c.deref-in-rounds-2.ensures.value in
     let test : c.is_done.result ≡ false = search rules in
     let some = not_done c.is_done.result c.deref-in-rounds.result.now next c.is_done.ensures test c.deref-in-rounds.ensures.value in
-    let cost = c.round.ensures.cost in
+    let took = c.round.ensures.cost in
     let alike = ap (sum_by (round_cost a)) next_is in
     record {
       over = c.in_ok-next-2.ensures.round.over;
@@ -133,9 +136,9 @@ rounds-preserved g c =
       made = c.in_ok-next-2.ensures.round.blocks;
       cost = λ inside closed within.
           let split : IsSplitInside s inside first p next made = inv.split inside closed within in
-          cost_more (weight s inside) (length made) (length c.round.new.made.items) (c.rounds.steps - c.args.steps.now) (c.round.new.steps - c.args.steps.now) (sum_by (round_cost a) next)
-          next c.in_ok-next-2.next.items (inv.cost inside closed within) some (next_heavy s inside first p next made shape split some)
-          (round_within a inside first p next made shape inv.once split) (omega (arith, cost, alike)) c.in_ok-next-2.ensures.round.least c.in_ok-next-2.ensures.round.more;
+          cost_more (cost a.change a.before inside) (length made) (length c.round.new.made.items) (c.rounds.steps - c.args.steps.now) (c.round.new.steps - c.args.steps.now) (sum_by (round_cost a) next)
+          next c.in_ok-next-2.next.items (inv.cost inside closed within) some
+          (round_within a inside first p next made (sound_of a c.created-known.ensures.new c.created-known.ensures.before c.created-known.ensures.after) inv.once split) (omega (arith, took, alike)) c.in_ok-next-2.ensures.round.least c.in_ok-next-2.ensures.round.more;
     }
 
 pub rounds-smaller : goal.rounds-smaller
@@ -164,7 +167,7 @@ returns-clause-cost g c = λ inside closed within.
     let shape = is_shape (graph_after c.args.after.now) c.created-known.ensures.after in
     let inv = c.rounds.invariant in
     let split = inv.split inside closed within in
-    let fit = most_done (size_of s inside) (weight s inside) (length c.rounds.made.items) (c.rounds.steps - c.args.steps.now) c.rounds.next.items
+    let fit = most_done (size_of s inside) (cost c.args.after.now.change c.args.after.now.before inside) (length c.rounds.made.items) (c.rounds.steps - c.args.steps.now) c.rounds.next.items
     (made_few s inside (shown_blocks c.args.base.now c.args.draft.now) (shown_blocks c.args.base.now c.rounds.draft) c.rounds.next.items c.rounds.made.items shape split)
-    (size_most s inside) (inv.cost inside closed within) in
+    (inv.cost inside closed within) in
     omega (arith, fit)

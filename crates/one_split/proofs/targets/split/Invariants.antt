@@ -4,7 +4,7 @@ use Rattle.std.specs.List.{IsDistinct}
 use Rattle.graph_spec.specs.Members.{at, has}
 use Rattle.graph_spec.specs.Shapes.{shape_of}
 use Rattle.label_graph.specs.GraphViews.{label_number}
-use Rattle.bisim_spec.specs.Weights.{weight}
+use Rattle.change_spec.specs.Costs.{cost}
 use Rattle.one_spec.specs.BlockLabels.{BlocksHaveLabels}
 use Rattle.one_spec.specs.Splits.{IsClosed, IsSplitInside}
 use Rattle.one_spec.specs.EdgeCounts.{AreEdgeCounts}
@@ -25,7 +25,7 @@ invariant-rounds g l = record {
   supports : AreEdgeCounts (graph_after l.after) (shown_blocks l.base l.draft) (shown_support l.base l.draft);
   made : AreBlocks (at (shown_labels l.base l.draft)) l.made.items;
   cost : (inside : ℕ → Bool) → IsClosed (shape_of (graph_after l.after)) inside → ((n : ℕ) → IsTrue (has l.targets n) → IsTrue (inside n))
-      → HasCost (weight (shape_of (graph_after l.after)) inside) (length l.made.items) (l.steps - l.fn.steps) l.next.items;
+      → HasCost (cost l.after.change l.after.before inside) (length l.made.items) (l.steps - l.fn.steps) l.next.items;
 }
 
 abbrev pub decreases-rounds : goal.decreases-rounds

@@ -1,12 +1,10 @@
-use Rattle.std.proofs.Common.{arith, ◌∷◌, []}
-use Rattle.one_spec.proofs.Sums.{first_has}
-use Rattle.one_update.proofs.PendingChanges.{unlink_live, unlink_still}
-use Rattle.one_update.proofs.PhaseLaws.{read_light}
+use Rattle.std.proofs.Common.{arith}
+use Rattle.one_update.proofs.PendingChanges.{unlink_found, unlink_light, unlink_still}
 use Rattle.one_update.proofs.drafting.drop_edge.Goals as goal
 
 pub returns-in_err-draft_unlink-clause-cost : goal.returns-in_err-draft_unlink-clause-cost
 returns-in_err-draft_unlink-clause-cost g c =
-    let light = read_light c.args.after.now.before c.args.after.now.change (c.args.v ∷ []) c.args.v c.draft_unlink.ensures.targets (first_has c.args.v []) in
+    let light = unlink_light c.args.after.now c.args.index.now.base.now c.args.u c.args.v c.requires.before c.requires.unlinks in
     let cost = c.draft_unlink.ensures.cost in
     omega (arith, light, cost)
 
@@ -17,16 +15,16 @@ returns-then-branch-clause-drafted g c =
 
 pub returns-then-branch-clause-cost : goal.returns-then-branch-clause-cost
 returns-then-branch-clause-cost g c =
-    let light = read_light c.args.after.now.before c.args.after.now.change (c.args.v ∷ []) c.args.v c.draft_unlink.ensures.targets (first_has c.args.v []) in
+    let light = unlink_light c.args.after.now c.args.index.now.base.now c.args.u c.args.v c.requires.before c.requires.unlinks in
     let cost = c.draft_unlink.ensures.cost in
     omega (arith, light, cost)
 
 pub returns-clause-cost : goal.returns-clause-cost
 returns-clause-cost g c =
-    let light = read_light c.args.after.now.before c.args.after.now.change (c.args.v ∷ []) c.args.v c.draft_unlink.ensures.targets (first_has c.args.v []) in
+    let light = unlink_light c.args.after.now c.args.index.now.base.now c.args.u c.args.v c.requires.before c.requires.unlinks in
     let cost = c.draft_unlink.ensures.cost in
     let rest = c.resettle.ensures.cost in
     omega (arith, light, cost, rest)
 
 pub resettle-requires-clause-targets : goal.resettle-requires-clause-targets
-resettle-requires-clause-targets g c = unlink_live c.args.after.now c.args.index.now.base.now c.args.u c.args.v c.requires.before c.requires.unlinks
+resettle-requires-clause-targets g c = unlink_found c.args.after.now c.args.index.now.base.now c.args.u c.args.v c.requires.before c.requires.unlinks

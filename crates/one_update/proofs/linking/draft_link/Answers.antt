@@ -1,14 +1,8 @@
-use Rattle.one_update.proofs.PendingChanges.{alone_from, few_base, link_changed, link_target, link_yes, link_no}
+use Rattle.one_update.proofs.PendingChanges.{alone_from, few_base, link_changed, link_yes, link_no}
 use Rattle.one_update.proofs.linking.draft_link.Goals as goal
 
 pub raise-requires-clause-few : goal.raise-requires-clause-few
 raise-requires-clause-few c = few_base c.args.after.now c.args.base.now c.args.draft.now c.own_block-a.result c.own_block-b.result c.requires.before c.requires.empty
-
-pub returns-in_err-raise-clause-targets : goal.returns-in_err-raise-clause-targets
-returns-in_err-raise-clause-targets c = link_target c.args.after.now c.args.base.now c.args.u c.args.v c.requires.before c.requires.links
-
-pub returns-clause-targets : goal.returns-clause-targets
-returns-clause-targets c = link_target c.args.after.now c.args.base.now c.args.u c.args.v c.requires.before c.requires.links
 
 pub returns-clause-changed : goal.returns-clause-changed
 returns-clause-changed c =

@@ -1,16 +1,10 @@
-use Rattle.one_update.proofs.PendingChanges.{alone_from, unlink_counts, unlink_changed, unlink_target, unlink_yes, unlink_no}
+use Rattle.one_update.proofs.PendingChanges.{alone_from, unlink_counts, unlink_changed, unlink_yes, unlink_no}
 use Rattle.one_update.proofs.linking.draft_unlink.Goals as goal
 
 pub lower-requires-clause-some : goal.lower-requires-clause-some
 lower-requires-clause-some g c =
     unlink_counts c.args.after.now c.args.base.now c.args.draft.now c.args.u c.args.v c.own_block-a.result c.own_block-b.result c.requires.before c.requires.unlinks c.requires.empty
     (record { from = c.own_block-a.ensures.block; onto = c.own_block-b.ensures.block })
-
-pub returns-in_err-lower-clause-targets : goal.returns-in_err-lower-clause-targets
-returns-in_err-lower-clause-targets g c = unlink_target c.args.after.now c.args.base.now c.args.u c.args.v c.requires.before c.requires.unlinks
-
-pub returns-clause-targets : goal.returns-clause-targets
-returns-clause-targets g c = unlink_target c.args.after.now c.args.base.now c.args.u c.args.v c.requires.before c.requires.unlinks
 
 pub returns-clause-changed : goal.returns-clause-changed
 returns-clause-changed g c =

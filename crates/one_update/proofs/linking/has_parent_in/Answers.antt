@@ -1,6 +1,6 @@
 use Rattle.std.proofs.Common.{sym, ◌∙◌, arith}
 use Rattle.graph_update.specs.PendingChanges.{graph_after}
-use Rattle.one_update.proofs.PendingChanges.{parent_yes, parent_no, parents_few, lost_most}
+use Rattle.one_update.proofs.PendingChanges.{parent_yes, parent_no, parents_few}
 use Rattle.one_update.proofs.linking.has_parent_in.Goals as goal
 
 pub returns-clause-yes : goal.returns-clause-yes
@@ -12,6 +12,5 @@ returns-clause-no g c = λ h. parent_no (graph_after c.args.after.now) c.args.ba
 pub returns-clause-cost : goal.returns-clause-cost
 returns-clause-cost g c =
     let few = parents_few (graph_after c.args.after.now) c.args.v _ c.requires.before.graph_after c.parents-parents.ensures.parents in
-    let lost = lost_most c.args.after.now.change c.args.v in
     let cost = c.parents-parents.ensures.cost in
-    omega (arith, few, lost, cost)
+    omega (arith, few, cost)

@@ -3,7 +3,8 @@ use Rattle.graph_spec.specs.Members.{at, has}
 use Rattle.label_graph.specs.GraphViews.{label_number}
 use Rattle.graph_update.specs.PendingChanges.{graph_after}
 use Rattle.quotient_draft.specs.Drafts.{shown_blocks, shown_labels, shown_support}
-use Rattle.one_update.proofs.PhaseLaws.{stable_there, block_labels_but, few_after, has_graph, live_among, reach_cost, stepped, AreAdded}
+use Rattle.one_spec.specs.FirstCandidates.{AreFirstCandidates}
+use Rattle.one_update.proofs.PhaseLaws.{stable_there, block_labels_but, has_graph, reach_cost, stepped}
 use Rattle.one_update.proofs.resettling.resettle.Goals as goal
 
 pub split-requires : goal.split-requires
@@ -21,34 +22,34 @@ split-requires g c = record {
 pub returns-in_err-split-clause-cost : goal.returns-in_err-split-clause-cost
 returns-in_err-split-clause-cost g c =
     reach_cost c.args.after.now.before c.args.after.now.change c.args.targets.now c.args.steps.now c.split.new.steps c.requires.before.graph_after
-    (live_among c.args.after.now.before c.args.after.now.change c.args.targets.now c.requires.targets) c.split.ensures.cost
+    c.requires.targets c.split.ensures.cost
 
 pub returns-in_err-add_blocks-clause-cost : goal.returns-in_err-add_blocks-clause-cost
 returns-in_err-add_blocks-clause-cost g c =
     reach_cost c.args.after.now.before c.args.after.now.change c.args.targets.now c.args.steps.now c.split.new.steps c.requires.before.graph_after
-    (live_among c.args.after.now.before c.args.after.now.change c.args.targets.now c.requires.targets) c.split.ensures.cost
+    c.requires.targets c.split.ensures.cost
 
 pub returns-in_err-merge-clause-cost : goal.returns-in_err-merge-clause-cost
 returns-in_err-merge-clause-cost g c =
     reach_cost c.args.after.now.before c.args.after.now.change c.args.targets.now c.args.steps.now c.split.new.steps c.requires.before.graph_after
-    (live_among c.args.after.now.before c.args.after.now.change c.args.targets.now c.requires.targets) c.split.ensures.cost
+    c.requires.targets c.split.ensures.cost
 
 pub returns-clause-cost : goal.returns-clause-cost
 returns-clause-cost g c =
     reach_cost c.args.after.now.before c.args.after.now.change c.args.targets.now c.args.steps.now c.split.new.steps c.requires.before.graph_after
-    (live_among c.args.after.now.before c.args.after.now.change c.args.targets.now c.requires.targets) c.split.ensures.cost
+    c.requires.targets c.split.ensures.cost
 
 pub merge-requires-clause-graph : goal.merge-requires-clause-graph
 merge-requires-clause-graph g c =
     has_graph (graph_after c.args.after.now) (shown_blocks c.args.index.now.base.now c.split.new.draft) (at (shown_labels c.args.index.now.base.now c.split.new.draft))
-    (shown_support c.args.index.now.base.now c.split.new.draft) c.in_ok-split.ensures.supports (few_after c.args.after.now.change c.args.after.now.before c.requires.before.new c.requires.before.few)
+    (shown_support c.args.index.now.base.now c.split.new.draft) c.in_ok-split.ensures.supports c.created-known.ensures.few_edges
     c.in_ok-split.ensures.block_labels
 
 pub returns-clause-drafted : goal.returns-clause-drafted
 returns-clause-drafted g c =
     let a = c.args.after.now in
     let q = c.args.index.now.base.now in
-    let added = subst (AreAdded c.args.targets.now (shown_blocks q c.split.new.draft) c.split.new.made.items) (sym c.deref.ensures.value)
+    let added = subst (AreFirstCandidates (has c.args.targets.now) (shown_blocks q c.split.new.draft) c.split.new.made.items) (sym c.deref.ensures.value)
     (record { made_there = c.in_ok-add_blocks.ensures.kept; targets_there = c.in_ok-add_blocks.ensures.there }) in
     record {
       over = c.in_ok-merge.ensures.over;

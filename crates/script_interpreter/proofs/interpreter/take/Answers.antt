@@ -1,26 +1,26 @@
-use Rattle.std.proofs.Common.{refl, subst}
+use Rattle.std.proofs.Common.{sym, subst}
+use Rattle.std.proofs.lemmas.Result.{IfOk-weaker}
 use Rattle.graph_spec.specs.declared.limits.Limits.{Limits}
-use Rattle.script_read.specs.Commands.{PassesLimit, SpellsNothing}
-use Rattle.script_interpreter.proofs.TakenLemmas.{quiet_taken, obeyed_taken, over_taken}
+use Rattle.script_read.specs.ReadLines.{ReadsCommand}
+use Rattle.script_interpreter.specs.EngineStates.{state_of}
+use Rattle.script_interpreter.proofs.KeptGroups.{comes_inside, comes_outside, has_none}
 use Rattle.script_interpreter.proofs.interpreter.take.Goals as goal
 
-pub returns-in_ok-obey-in-Ok-Some-clause-ok : goal.returns-in_ok-obey-in-Ok-Some-clause-ok
-returns-in_ok-obey-in-Ok-Some-clause-ok g c =
-    let reads = rw c.in-Ok-Some.field-0-is at c.in-Ok-Some.ensures.reads in
-    obeyed_taken _ c.args.line.now _ c.args.output.now _ _ reads.0
-    (subst {A = Limits} (λ l. ¬ PassesLimit l c.args.line.now) c.program.ensures reads.1) c.in_ok-obey-in-Ok-Some.ensures.ok
+pub take_outside-requires-clause-none : goal.take_outside-requires-clause-none
+take_outside-requires-clause-none g c = has_none c.args.group.now (sym c.if-is_some.ensures)
 
-pub returns-in-Ok-None-clause-ok : goal.returns-in-Ok-None-clause-ok
-returns-in-Ok-None-clause-ok g c = quiet_taken _ c.args.line.now c.args.output.now (rw c.in-Ok-None.field-0-is at c.in-Ok-None.ensures.reads)
+pub returns-then-is_some-clause-ok : goal.returns-then-is_some-clause-ok
+returns-then-is_some-clause-ok g c =
+    let reads = subst {A = Limits} (λ l. ReadsCommand l c.args.line.now c.read-read.result) c.program.ensures c.read-read.ensures.reads in
+    IfOk-weaker c.take_inside.result _ _
+    (λ outcome h. comes_inside (state_of g.B.PathIndex.meaning c.args.engine.now) c.args.number c.args.line.now c.args.group.now c.args.output.now outcome
+    (state_of g.B.PathIndex.meaning c.take_inside.new.engine) c.take_inside.new.group c.take_inside.new.output (sym c.if-is_some.ensures) (λ group k. h c.args.number c.args.line.now group reads k))
+    c.take_inside.ensures.ok
 
-pub returns-in_ok-refuse-in-Err-Limit-clause-ok : goal.returns-in_ok-refuse-in-Err-Limit-clause-ok
-returns-in_ok-refuse-in-Err-Limit-clause-ok g c =
-    over_taken _ c.args.line.now c.args.output.now _
-    (subst {A = Limits} (λ l. PassesLimit l c.args.line.now) c.program.ensures (rw c.in-Err-Limit.field-0-is at c.in-Err-Limit.ensures.reads)) c.in_ok-refuse-in-Err-Limit.ensures.ok
-
-pub returns-in-Err-Bad-clause-ok : goal.returns-in-Err-Bad-clause-ok
-returns-in-Err-Bad-clause-ok g c = record {
-  bad = subst {A = Limits} (λ l. SpellsNothing l c.args.line.now) c.program.ensures (rw c.in-Err-Bad.field-0-is at c.in-Err-Bad.ensures.reads);
-  state = refl;
-  gathered_is = refl;
-}
+pub returns-else-is_some-clause-ok : goal.returns-else-is_some-clause-ok
+returns-else-is_some-clause-ok g c =
+    let reads = subst {A = Limits} (λ l. ReadsCommand l c.args.line.now c.read-read.result) c.program.ensures c.read-read.ensures.reads in
+    IfOk-weaker c.take_outside.result _ _
+    (λ outcome h. comes_outside (state_of g.B.PathIndex.meaning c.args.engine.now) c.args.number c.args.line.now c.args.group.now c.args.output.now outcome
+    (state_of g.B.PathIndex.meaning c.take_outside.new.engine) c.take_outside.new.group c.take_outside.new.output (sym c.if-is_some.ensures) (h c.args.line.now reads))
+    c.take_outside.ensures.ok

@@ -1,4 +1,4 @@
-use Rattle.std.proofs.Common.{◌≡◌, ◌∙◌, ap, sym, rules}
+use Rattle.std.proofs.Common.{◌≡◌, ◌∙◌, ap, sym, rules, None}
 use Rattle.std.specs.Prelude.{is_some}
 use Rattle.std.proofs.lemmas.Result.{err_from_is_err_and}
 use Rattle.pathindex_core.specs.Engines.{by_meaning}
@@ -9,6 +9,7 @@ use Rattle.script_interpreter.specs.Runs.{end_status}
 use Rattle.script_interpreter.specs.Rules.{rules_for}
 use Rattle.script_interpreter.specs.RunSteps.{progress}
 use Rattle.script_interpreter.proofs.ReachedLemmas.{reached-start, reached-more, reached-written, ran-over, ran-bad, prefix-part, prefix-bad, prefix-over, part_written, nothing_written, all_written, ok_fact, err_fact}
+use Rattle.script_interpreter.proofs.KeptGroups.{kept_some}
 use Rattle.script_interpreter.proofs.script.run_lines.Goals as goal
 
 pub returns-in_err-reader-clause-part : goal.returns-in_err-reader-clause-part
@@ -18,7 +19,11 @@ returns-in_err-reader-clause-part g c =
 
 pub lines-init : goal.lines-init
 lines-init g c = record {
-  reached = rw (c.in_ok-reader.ensures, c.new-output.ensures) (reached-start (rules_for c.args.printing) (state_in (by_meaning g.B.PathIndex.meaning c.args.engine.now)) (g.H.Shelf.left c.args.shelf.now) (g.K.Sink.written c.args.sink.now));
+  stands = record {
+    group = None;
+    is_kept = tt;
+    reached = rw (c.in_ok-reader.ensures, c.new-output.ensures) (reached-start (rules_for c.args.printing) (state_in (by_meaning g.B.PathIndex.meaning c.args.engine.now)) (g.H.Shelf.left c.args.shelf.now) (g.K.Sink.written c.args.sink.now));
+  };
   printing = ap (λ o. o.printing) c.new-output.ensures;
   ready = c.requires.ready;
   can = rw c.in_ok-reader.ensures (search rules);
@@ -31,14 +36,19 @@ lines-init g c = record {
 pub returns-in_err-flush_if_due-clause-part : goal.returns-in_err-flush_if_due-clause-part
 returns-in_err-flush_if_due-clause-part g c =
     let p = err_from_is_err_and c.from_residual-in_err-flush_if_due.result c.from_residual-in_err-flush_if_due.ensures.1 in
-    rw p.1 (prefix-part _ _ c.lines.invariant.reached _ (part_written _ _ _ c.in_err-flush_if_due.ensures.part))
+    rw p.1 (prefix-part _ _ c.lines.invariant.stands.reached _ (part_written _ _ _ c.in_err-flush_if_due.ensures.part))
 
 pub lines-preserved : goal.lines-preserved
 lines-preserved g c =
-    let goes = rw (c.in-Ok-Taken.field-0-is, c.in_ok-flush_if_due.ensures.kept, c.lines.invariant.printing) at c.in-Ok-Taken.ensures.goes in
+    let step = c.in-Ok-Taken.ensures.goes c.lines.invariant.stands.group c.lines.invariant.stands.is_kept in
+    let goes = rw (c.in-Ok-Taken.field-0-is, c.in_ok-flush_if_due.ensures.kept, c.lines.invariant.printing) at step.3 in
     record {
-      reached = reached-more (reached-written c.lines.invariant.reached _ _ c.in_ok-flush_if_due.ensures.written) goes.0 goes.1 _ _ _ goes.2 goes.3 goes.4;
-      printing = c.next_line.ensures.printing ∙ ap (λ o. o.printing) c.in_ok-flush_if_due.ensures.kept ∙ c.lines.invariant.printing;
+      stands = record {
+        group = step.0;
+        is_kept = step.1;
+        reached = reached-more (reached-written c.lines.invariant.stands.reached _ _ c.in_ok-flush_if_due.ensures.written) goes.0 goes.1 _ _ _ goes.2 goes.3 goes.4;
+      };
+      printing = step.2 ∙ ap (λ o. o.printing) c.in_ok-flush_if_due.ensures.kept ∙ c.lines.invariant.printing;
       ready = c.next_line.ensures.ready;
       can = rw c.in-Ok-Taken.field-0-is at c.in-Ok-Taken.ensures.can;
       taken = (rw c.in-Ok-Taken.field-0-is at c.in-Ok-Taken.ensures.nearer).1;
@@ -49,45 +59,49 @@ lines-preserved g c =
 
 pub returns-in-Ok-AtBad-clause-ran : goal.returns-in-Ok-AtBad-clause-ran
 returns-in-Ok-AtBad-clause-ran g c =
-    let goes = rw (c.in-Ok-AtBad.field-0-is, c.in_ok-flush_if_due.ensures.kept, c.lines.invariant.printing) at c.in-Ok-AtBad.ensures.goes in
+    let step = c.in-Ok-AtBad.ensures.goes c.lines.invariant.stands.group c.lines.invariant.stands.is_kept in
+    let goes = rw (c.in-Ok-AtBad.field-0-is, c.in_ok-flush_if_due.ensures.kept, c.lines.invariant.printing) at step.3 in
     ok_fact c.finish.result Bad _ _ c.finish.ensures.ending c.finish.ensures.all
-    (λ w. ran-bad _ _ (reached-written c.lines.invariant.reached _ _ c.in_ok-flush_if_due.ensures.written) goes.0 _ _ goes.2 w _ (record { is_open = ap is_some c.next_line.ensures.ready.opened_is; state = goes.1 }))
+    (λ w. ran-bad _ _ (reached-written c.lines.invariant.stands.reached _ _ c.in_ok-flush_if_due.ensures.written) goes.0 _ _ goes.2 w _ (record { is_open = ap is_some c.next_line.ensures.ready.opened_is; state = goes.1 }))
 
 pub returns-in-Ok-AtBad-clause-part : goal.returns-in-Ok-AtBad-clause-part
 returns-in-Ok-AtBad-clause-part g c =
-    let goes = rw (c.in-Ok-AtBad.field-0-is, c.in_ok-flush_if_due.ensures.kept, c.lines.invariant.printing) at c.in-Ok-AtBad.ensures.goes in
+    let step = c.in-Ok-AtBad.ensures.goes c.lines.invariant.stands.group c.lines.invariant.stands.is_kept in
+    let goes = rw (c.in-Ok-AtBad.field-0-is, c.in_ok-flush_if_due.ensures.kept, c.lines.invariant.printing) at step.3 in
     err_fact c.finish.result _ _ c.finish.ensures.part
-    (λ w. prefix-bad _ _ (reached-written c.lines.invariant.reached _ _ c.in_ok-flush_if_due.ensures.written) goes.0 _ _ goes.2 (part_written _ _ _ w))
+    (λ w. prefix-bad _ _ (reached-written c.lines.invariant.stands.reached _ _ c.in_ok-flush_if_due.ensures.written) goes.0 _ _ goes.2 (part_written _ _ _ w))
 
 pub returns-in-Ok-AtEnd-clause-ran : goal.returns-in-Ok-AtEnd-clause-ran
 returns-in-Ok-AtEnd-clause-ran g c =
-    let goes = rw (c.in-Ok-AtEnd.field-0-is, c.in_ok-flush_if_due.ensures.kept) at c.in-Ok-AtEnd.ensures.goes in
-    let p = progress (state_in (by_meaning g.B.PathIndex.meaning c.lines.engine)) c.lines.output.refused c.lines.reader in
-    let q = progress (state_in (by_meaning g.B.PathIndex.meaning c.next_line.new.engine)) c.next_line.new.output.refused c.next_line.new.reader in
-    let e : status_at c.ending_of.result ≡ end_status p = c.ending_of.ensures q (sym c.is_refused.ensures) ∙ goes.2 in
-    ok_fact c.finish-in-Ok-AtEnd.result c.ending_of.result _ _ c.finish-in-Ok-AtEnd.ensures.ending c.finish-in-Ok-AtEnd.ensures.all
-    (λ w. rw e (ran-over _ _ (reached-written c.lines.invariant.reached _ _ c.in_ok-flush_if_due.ensures.written) goes.0 _ _ goes.3 w _ (record { is_open = ap is_some c.next_line.ensures.ready.opened_is; state = goes.1 })))
+    let step = c.in-Ok-AtEnd.ensures.goes c.lines.invariant.stands.group c.lines.invariant.stands.is_kept in
+    let goes = rw (c.in-Ok-AtEnd.field-0-is, c.in_ok-flush_if_due.ensures.kept) at step.3 in
+    let p = progress (state_in (by_meaning g.B.PathIndex.meaning c.lines.engine)) c.lines.invariant.stands.group c.lines.output.refused c.lines.reader in
+    let q = progress (state_in (by_meaning g.B.PathIndex.meaning c.next_line.new.engine)) step.0 c.next_line.new.output.refused c.next_line.new.reader in
+    let e : status_at c.ending_of-ending.result ≡ end_status p = c.ending_of-ending.ensures q (kept_some step.0 c.next_line.new.group step.1 ∙ sym c.is_some.ensures) (sym c.is_refused.ensures) ∙ goes.2 in
+    ok_fact c.finish-in-Ok-AtEnd.result c.ending_of-ending.result _ _ c.finish-in-Ok-AtEnd.ensures.ending c.finish-in-Ok-AtEnd.ensures.all
+    (λ w. rw e (ran-over _ _ (reached-written c.lines.invariant.stands.reached _ _ c.in_ok-flush_if_due.ensures.written) goes.0 _ _ goes.3 w _ (record { is_open = ap is_some c.next_line.ensures.ready.opened_is; state = goes.1 })))
 
 pub returns-in-Ok-AtEnd-clause-part : goal.returns-in-Ok-AtEnd-clause-part
 returns-in-Ok-AtEnd-clause-part g c =
-    let goes = rw (c.in-Ok-AtEnd.field-0-is, c.in_ok-flush_if_due.ensures.kept) at c.in-Ok-AtEnd.ensures.goes in
+    let step = c.in-Ok-AtEnd.ensures.goes c.lines.invariant.stands.group c.lines.invariant.stands.is_kept in
+    let goes = rw (c.in-Ok-AtEnd.field-0-is, c.in_ok-flush_if_due.ensures.kept) at step.3 in
     err_fact c.finish-in-Ok-AtEnd.result _ _ c.finish-in-Ok-AtEnd.ensures.part
-    (λ w. prefix-over _ _ (reached-written c.lines.invariant.reached _ _ c.in_ok-flush_if_due.ensures.written) goes.0 _ _ goes.3 (part_written _ _ _ w))
+    (λ w. prefix-over _ _ (reached-written c.lines.invariant.stands.reached _ _ c.in_ok-flush_if_due.ensures.written) goes.0 _ _ goes.3 (part_written _ _ _ w))
 
 pub returns-in_err-flush-in-Err-Memory-clause-part : goal.returns-in_err-flush-in-Err-Memory-clause-part
 returns-in_err-flush-in-Err-Memory-clause-part g c =
     let p = err_from_is_err_and c.from_residual-in_err-flush-in-Err-Memory.result c.from_residual-in_err-flush-in-Err-Memory.ensures.1 in
-    rw p.1 (prefix-part _ _ (reached-written c.lines.invariant.reached _ _ c.in_ok-flush_if_due.ensures.written) _
-    (part_written _ _ _ (rw c.in-Err-Memory.ensures.gathered at c.in_err-flush-in-Err-Memory.ensures.part)))
+    rw p.1 (prefix-part _ _ (reached-written c.lines.invariant.stands.reached _ _ c.in_ok-flush_if_due.ensures.written) _
+    (part_written _ _ _ (rw (c.in-Err-Memory.ensures.gathered c.lines.invariant.stands.group c.lines.invariant.stands.is_kept) at c.in_err-flush-in-Err-Memory.ensures.part)))
 
 pub returns-in-Err-Memory-clause-part : goal.returns-in-Err-Memory-clause-part
 returns-in-Err-Memory-clause-part g c =
-    prefix-part _ _ (reached-written c.lines.invariant.reached _ _ c.in_ok-flush_if_due.ensures.written) _
-    (all_written _ _ _ (rw c.in-Err-Memory.ensures.gathered at c.in_ok-flush-in-Err-Memory.ensures.all))
+    prefix-part _ _ (reached-written c.lines.invariant.stands.reached _ _ c.in_ok-flush_if_due.ensures.written) _
+    (all_written _ _ _ (rw (c.in-Err-Memory.ensures.gathered c.lines.invariant.stands.group c.lines.invariant.stands.is_kept) at c.in_ok-flush-in-Err-Memory.ensures.all))
 
 pub returns-in-Err-clause-part : goal.returns-in-Err-clause-part
 returns-in-Err-clause-part g c =
-    prefix-part _ _ (reached-written c.lines.invariant.reached _ _ c.in_ok-flush_if_due.ensures.written) _ (nothing_written _ _)
+    prefix-part _ _ (reached-written c.lines.invariant.stands.reached _ _ c.in_ok-flush_if_due.ensures.written) _ (nothing_written _ _)
 
 pub returns-in-Ok-AtEnd-clause-sink_fault : goal.returns-in-Ok-AtEnd-clause-sink_fault
 returns-in-Ok-AtEnd-clause-sink_fault g c e =

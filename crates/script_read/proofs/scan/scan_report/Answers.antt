@@ -1,7 +1,7 @@
 use Rattle.std.proofs.Common.{refl, sym, true≢false, ◌∷◌, []}
 use Rattle.std.specs.Prelude.{codes}
 use Rattle.index_api.specs.Spelling.{via_word, kind_word}
-use Rattle.script_read.proofs.CommandLemmas.{words_opened, none_extents, none_sizes, none_forget, none_other}
+use Rattle.script_read.proofs.CommandLemmas.{words_opened, none_extents, none_sizes, none_forget}
 use Rattle.script_read.proofs.scan.scan_report.Goals as goal
 
 pub returns-in-Some : goal.returns-in-Some
@@ -29,7 +29,10 @@ returns-in-Some-one_kind c line w r =
 pub returns-in-None-one_kind : goal.returns-in-None-one_kind
 returns-in-None-one_kind c line w r = none_forget line _ _ c.requires.other.loud w r (c.if-is_word-3.ensures.0 refl) c.in-None-one_kind.ensures.absent
 
-pub returns-else-is_word-3 : goal.returns-else-is_word-3
-returns-else-is_word-3 c line w r =
-    none_other line _ _ c.requires.other.loud w r c.requires
-    (λ e. true≢false (sym (c.if-is_word.ensures.1 e))) (λ e. true≢false (sym (c.if-is_word-2.ensures.1 e))) (λ e. true≢false (sym (c.if-is_word-3.ensures.1 e)))
+pub scan_group-requires : goal.scan_group-requires
+scan_group-requires c = record {
+  report = c.requires;
+  no_extents = λ e. true≢false (sym (c.if-is_word.ensures.1 e));
+  no_sizes = λ e. true≢false (sym (c.if-is_word-2.ensures.1 e));
+  no_forget = λ e. true≢false (sym (c.if-is_word-3.ensures.1 e));
+}

@@ -1,5 +1,4 @@
 use Rattle.std.proofs.Common.{rules, ◌≡◌, ◌+◌, None, length, sym, ap, ◌∙◌, subst}
-use Rattle.graph_update.specs.Verdicts.{change_of}
 use Rattle.ak_family.specs.LevelDrafts.{AreSeenAs}
 use Rattle.level_update.specs.FamilyDrafts.{FamilyFits}
 use Rattle.ak_maintain.specs.KeptFamilies.{KeptFamily}
@@ -27,7 +26,7 @@ pub returns-clause-staged : goal.returns-clause-staged
 returns-clause-staged g c =
     let family = c.drafted_with_reserved.new.family in
     let same = subst (λ (k : KeptFamily). AreSeenAs k.base family) c.self.view_is c.drafted_with_reserved.ensures.same in
-    prepared c.args.self.now family c.in_ok-draft.draft c.args.graph.now.graph (change_of c.args.change.now) c.requires.ready same c.in_ok-draft.ensures.fits
+    prepared c.args.self.now family c.in_ok-draft.draft c.args.graph.now.graph c.args.change.now c.requires.ready same c.in_ok-draft.ensures.fits
 
 pub returns-clause-cost : goal.returns-clause-cost
 returns-clause-cost g c = λ k e.

@@ -1,6 +1,6 @@
 use Rattle.std.proofs.Common.{◌≡◌, rules, Some}
 use Rattle.std.specs.Prelude.{IsErrOf}
-use Rattle.graph_spec.specs.Changes.{node}
+use Rattle.change_spec.specs.Steps.{node}
 use Rattle.triples_read.specs.declared.term.Term.{Term}
 use Rattle.graph_load.specs.declared.limited_changes.Stop.TheVariants.{Limit}
 use Rattle.graph_load.specs.TripleGraphs.{need, changed, linked, predicate_label}

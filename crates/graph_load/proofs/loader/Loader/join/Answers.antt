@@ -1,6 +1,6 @@
 use Rattle.std.proofs.Common.{rules}
 use Rattle.std.specs.Prelude.{IsErrOf}
-use Rattle.graph_spec.specs.Changes.{link}
+use Rattle.change_spec.specs.Steps.{link}
 use Rattle.graph_load.specs.declared.limited_changes.Stop.TheVariants.{Limit}
 use Rattle.graph_load.specs.TripleGraphs.{need, changed}
 use Rattle.graph_load.specs.Loaders.{IsStopped}

@@ -1,9 +1,11 @@
-use Rattle.graph_update.proofs.ChangedGraphs.{graph_changed}
-use Rattle.graph_update.specs.Verdicts.{change_of}
+use Rattle.std.proofs.Common.{◌≤◌, ◌^◌, subst}
+use Rattle.graph_update.proofs.PendingLaws.{new_edges, new_graph}
 use Rattle.graph_update.proofs.pending.After.created.Goals as goal
 
-pub returns-in-Node-clause-after : goal.returns-in-Node-clause-after
-returns-in-Node-clause-after c = rw (← c.self.view_is) (graph_changed (change_of c.self.inside.change.now) c.self.inside.graph.now.graph c.self.invariant.sound c.self.invariant.new)
+pub returns-clause-few_edges : goal.returns-clause-few_edges
+returns-clause-few_edges c =
+    rw (← c.self.view_is) (new_edges c.self.inside.change.now c.self.inside.graph.now.graph c.self.invariant.new
+    (subst (λ k. k ≤ 2 ^ 30) c.edge_count-known.ensures.count c.edge_count-known.ensures.few))
 
-pub returns-in_default-clause-after : goal.returns-in_default-clause-after
-returns-in_default-clause-after c = rw (← c.self.view_is) (graph_changed (change_of c.self.inside.change.now) c.self.inside.graph.now.graph c.self.invariant.sound c.self.invariant.new)
+pub returns-clause-after : goal.returns-clause-after
+returns-clause-after c = rw (← c.self.view_is) (new_graph c.self.inside.change.now c.self.inside.graph.now.graph c.self.invariant.new c.self.invariant.sound)

@@ -1,6 +1,5 @@
 use Rattle.std.proofs.Common.{◌≡◌, true, false, refl, sym, subst, ap, ◌∙◌}
 use Rattle.bisim_spec.specs.Fits.{FitsOne}
-use Rattle.graph_update.specs.Verdicts.{change_of}
 use Rattle.quotient.specs.Quotients.{view_of}
 use Rattle.quotient_draft.specs.Drafts.{settled_view}
 use Rattle.one_update.specs.OneDrafts.{IsSupported}
@@ -33,7 +32,7 @@ invariant_of-self-in-Err g c =
 pub returns-in-Ok-clause-staged : goal.returns-in-Ok-clause-staged
 returns-in-Ok-clause-staged g c =
     let graph = c.args.graph.now.graph in
-    let change = change_of c.args.change.now in
+    let change = c.args.change.now in
     let k2 : KeptQuotient = record { base = c.fill.new.base; draft = c.fill.new.draft; staged = true } in
     let same = subst (λ (k : KeptQuotient). view_of k2.base ≡ view_of k.base) c.self.view_is c.fill.ensures.same in
     let step = subst (λ (k : KeptQuotient). MovesByOneStep graph change k.base (settled_view k2.base k2.draft)) c.self.view_is c.in-Ok.ensures.step in

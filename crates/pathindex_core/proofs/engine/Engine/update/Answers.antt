@@ -1,5 +1,4 @@
 use Rattle.std.proofs.Common.{map, sym, subst}
-use Rattle.graph_update.specs.Verdicts.{change_of}
 use Rattle.pathindex_core.specs.Engines.{Opened, IsSound, engine_seen, by_meaning}
 use Rattle.pathindex_core.proofs.Sound.{sound_updated, kinds_updated, made}
 use Rattle.pathindex_core.proofs.engine.Engine.update.Goals as goal
@@ -17,4 +16,4 @@ pub returns-clause-made : goal.returns-clause-made
 returns-clause-made g c =
     let o : Opened = record { graph = c.in-Some.open.graph.graph; limits = c.in-Some.open.limits; k = c.in-Some.open.k } in
     rw (← c.self.view_is, c.in-Some.is)
-    (made c.update.result (change_of c.args.change) o _ _ _ c.update.ensures.graph c.update.ensures.updated (kinds_updated c.update.result _ _ _ c.update.ensures.ready c.update.ensures.err_boxes) c.update.ensures.still_graph c.update.ensures.still_boxes c.update.ensures.applied)
+    (made c.update.result c.args.change o _ _ _ c.update.ensures.graph c.update.ensures.updated (kinds_updated c.update.result _ _ _ c.update.ensures.ready c.update.ensures.err_boxes) c.update.ensures.still_graph c.update.ensures.still_boxes c.update.ensures.applied)

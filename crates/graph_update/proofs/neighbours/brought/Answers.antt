@@ -1,0 +1,20 @@
+use Rattle.std.proofs.Common.{◌∙◌, ap, sym, false, take, List}
+use Rattle.change_spec.specs.Shown.{edge_after, edge_by}
+use Rattle.graph_steps.specs.StepLists.{step_of, steps_of}
+use Rattle.graph_steps.specs.declared.changes.Step.{Step as Asked}
+use Rattle.graph_steps.proofs.FrontSteps.{more_at, all_taken}
+use Rattle.graph_update.proofs.ShownLaws.{edge_more}
+use Rattle.graph_update.proofs.neighbours.brought.Goals as goal
+
+pub loop-i-preserved : goal.loop-i-preserved
+loop-i-preserved c =
+    let ss = c.args.steps.now in
+    let i = c.loop-i.i in
+    let s = c.index-steps-i.result in
+    c.edge_behind-present.ensures ∙ ap (edge_by (step_of s) c.args.p c.args.n) c.loop-i.invariant
+    ∙ sym (edge_more (steps_of (take i ss)) (step_of s) c.args.p c.args.n false)
+    ∙ ap (λ k. edge_after k c.args.p c.args.n false) (sym (more_at ss i s c.loop-i-test.true c.index-steps-i.is))
+
+pub returns : goal.returns
+returns c =
+    c.loop-i.invariant ∙ ap (λ (ss : List Asked). edge_after (steps_of ss) c.args.p c.args.n false) (all_taken c.args.steps.now c.loop-i.i c.loop-i-test.false)

@@ -1,0 +1,91 @@
+// Groups of steps, made in two calls.
+use super::*;
+use graph_steps::has_edge;
+use label_graph::Graph;
+use px_base::{Limits, Text};
+use std::alloc::Global;
+use std::process::Abort;
+use std::test::Fail;
+
+const FEW: Limits = Limits {
+    nodes: 8,
+    edges: 4,
+    labels: 3,
+    expr_bytes: 1,
+    expr_depth: 1,
+};
+
+fn node(alloc: Global, label: &[u8]) -> Result<Step, Fail> {
+    Ok(Step::Node(Text::from_bytes(alloc, label)?))
+}
+
+// Makes a change that alters the graph.
+fn make(alloc: Global, graph: &mut Graph, change: &Change) -> Result<Applied, Fail> {
+    let Ok(Verdict::New) = judge(graph, change, &FEW) else {
+        return Err("not new".into());
+    };
+    let staged = stage(alloc, graph, change)?;
+    Ok(commit(graph, staged))
+}
+
+// Stages a change, and drops what is staged.
+fn stage_and_drop(alloc: Global, graph: &mut Graph, change: &Change) -> Result<(), Fail> {
+    let Ok(Verdict::New) = judge(graph, change, &FEW) else {
+        return Err("not new".into());
+    };
+    let _staged = stage(alloc, graph, change)?;
+    Ok(())
+}
+
+// A hub, with an edge to each of two nodes and one back, and an idle step.
+fn with_hub(alloc: Global) -> Result<Change, Fail> {
+    let mut change = Change::one(alloc, node(alloc, b"hub")?)?;
+    change.push(node(alloc, b"a")?)?;
+    change.push(node(alloc, b"a")?)?;
+    change.push(Step::Link(0, 1))?;
+    change.push(Step::Link(0, 2))?;
+    change.push(Step::Link(0, 1))?;
+    change.push(Step::Link(2, 0))?;
+    Ok(change)
+}
+
+// One more node, which is linked, and the hub goes.
+fn without_hub(alloc: Global) -> Result<Change, Fail> {
+    let mut change = Change::one(alloc, node(alloc, b"b")?)?;
+    change.push(Step::Link(3, 1))?;
+    change.push(Step::Drop(0))?;
+    change.push(Step::Link(1, 2))?;
+    Ok(change)
+}
+
+fn make_groups(rt: &impl Abort, alloc: Global, graph: &mut Graph) -> Result<(), Fail> {
+    assert!(rt; make(alloc, graph, &with_hub(alloc)?)? == Applied { first: 0, added: 3 });
+    assert!(rt; graph.edge_count() == 3 && has_edge(graph, &[], 2, 0));
+    assert!(rt; make(alloc, graph, &without_hub(alloc)?)? == Applied { first: 3, added: 1 });
+    assert!(rt; graph.edge_count() == 2 && graph.node_count() == 3);
+    assert!(rt; has_edge(graph, &[], 3, 1) && has_edge(graph, &[], 1, 2));
+    Ok(())
+}
+
+#[test]
+fn groups(rt: HostRuntime) -> Result<(), Fail> {
+    let mut graph = Graph::new(rt.alloc())?;
+    make_groups(&rt, rt.alloc(), &mut graph)
+}
+
+// The labels of a change that is dropped don't come back.
+fn stage_again(rt: &impl Abort, alloc: Global, graph: &mut Graph) -> Result<(), Fail> {
+    stage_and_drop(alloc, graph, &with_hub(alloc)?)?;
+    assert!(rt; graph.created() == 0);
+    let second = Change::one(alloc, node(alloc, b"a")?)?;
+    assert!(rt; make(alloc, graph, &second)? == Applied { first: 0, added: 1 });
+    assert!(rt; graph.labels().find(&Text::from_bytes(alloc, b"a")?) == Some(0));
+    assert!(rt; graph.labels().len() == 1);
+    Ok(())
+}
+
+#[test]
+fn staged_twice(rt: HostRuntime) -> Result<(), Fail> {
+    let mut graph = Graph::new(rt.alloc())?;
+    stage_again(&rt, rt.alloc(), &mut graph)
+}

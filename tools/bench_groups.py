@@ -1,0 +1,95 @@
+#!/usr/bin/env python3
+"""Has bin/pathindex change generated graphs by groups, and prints what a group takes beside the same changes one by one, and what a
+change at a node with many edges takes beside a first list of them. The gate doesn't run this.
+
+    bench_groups.py [PROGRAM [EDGES]]
+
+PROGRAM is run in place of bin/pathindex. EDGES says how many edges that node has, 200,000 where it isn't given. Times are processor
+times, the best of some turns, and differences of whole processes: of the A(k)-indexes up to A(2) alone, and of the 1-index alone.
+"""
+import os
+import pathlib
+import random
+import subprocess
+import sys
+import tempfile
+
+from bench_indexes import best_of
+from bench_updates import KEPT, MAKE, ROOT, hub_graph, node_count, write
+
+TRIPLES = 20_000
+STEPS = 1_024
+GROUPS = 8
+TURNS = 5
+EDGES = 200_000
+HUB = 2  # the number of the object of all triples
+HUB_TURNS = 3
+
+
+def changes(nodes, pick):
+    """Lines of one group: edges that come at random places, and nodes."""
+    for _ in range(STEPS // 2):
+        yield f"link n{pick.randrange(nodes)} n{pick.randrange(nodes)}"
+        yield f"node g{pick.randrange(4)}"
+
+
+def grouped(lines):
+    return ["begin", *lines, "end"]
+
+
+def measure(program, folder, graph, scripts, turns, what):
+    """Prints what each script takes beyond the load."""
+    for name, (flags, first, _) in KEPT.items():
+        commands = {"": [program, write(folder, "none", first), "--graph", graph, *flags]}
+        for script, lines in scripts.items():
+            path = write(folder, script.replace(" ", "_"), first + "".join(line + "\n" for line in lines))
+            commands[script] = [program, path, "--graph", graph, *flags]
+        taken = best_of(commands, turns)
+        load = taken[""][0]
+        figures = ", ".join(f"{script} {(taken[script][0] - load) * 1e3:,.1f} ms" for script in scripts)
+        print(f"{what}, {name}: {figures}", flush=True)
+
+
+def measure_groups(program, folder):
+    graph = os.path.join(folder, "made.nt")
+    with open(graph, "wb") as out:
+        subprocess.run([sys.executable, MAKE, str(TRIPLES)], stdout=out, check=True)
+    nodes = node_count(program, write(folder, "sizes", "sizes\n"), graph)
+    pick = random.Random(1)
+    groups = [list(changes(nodes, pick)) for _ in range(GROUPS)]
+    scripts = {
+        "in groups": [line for group in groups for line in grouped(group)],
+        "one by one": [line for group in groups for line in group],
+    }
+    measure(program, folder, graph, scripts, TURNS, f"{TRIPLES:,} triples, {GROUPS} groups of {STEPS:,} changes")
+
+
+def measure_hub(program, folder, edges):
+    """A graph whose one object has the nodes of all triples as its parents, and nodes that are linked to it."""
+    graph = write(folder, "hub.nt", "".join(hub_graph(edges)))
+    first = node_count(program, write(folder, "sizes", "sizes\n"), graph)
+    nodes = ["node spoke"] * STEPS
+    links = [f"link n{first + i} n{HUB}" for i in range(STEPS)]
+    scripts = {
+        "the new nodes": nodes,
+        "and one link": nodes + links[:1],
+        "and all links in a group": nodes + grouped(links),
+        "and the drop of the hub": nodes + [f"drop n{HUB}"],
+    }
+    measure(program, folder, graph, scripts, HUB_TURNS, f"a hub of {edges:,} parents, and {STEPS:,} more")
+
+
+def main():
+    if len(sys.argv) > 3 or len(sys.argv) == 3 and not sys.argv[2].isdigit():
+        sys.exit(__doc__)
+    program = pathlib.Path(sys.argv[1]).resolve() if len(sys.argv) > 1 else ROOT / "bin" / "pathindex"
+    edges = int(sys.argv[2]) if len(sys.argv) == 3 else EDGES
+    if not os.access(program, os.X_OK):
+        sys.exit(f"bench_groups.py: {program} is missing; make run builds bin/pathindex")
+    with tempfile.TemporaryDirectory() as folder:
+        measure_groups(program, folder)
+        measure_hub(program, folder, edges)
+
+
+if __name__ == "__main__":
+    main()
