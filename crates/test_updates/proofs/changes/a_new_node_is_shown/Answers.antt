@@ -1,0 +1,5 @@
+use Rattle.std.proofs.Common.{◌∙◌, ap, Ok}
+use Rattle.test_updates.proofs.changes.a_new_node_is_shown.Goals as goal
+
+pub new-after-requires : goal.new-after-requires
+new-after-requires g c = record { new = c.judge.ensures.new (c.in-Ok-New.is ∙ ap Ok c.in-Ok-New.field-0-is) }
