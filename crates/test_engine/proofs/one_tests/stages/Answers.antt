@@ -1,0 +1,5 @@
+use Rattle.std.proofs.Common.{Ok, ap, ◌∙◌}
+use Rattle.test_engine.proofs.one_tests.stages.Goals as goal
+
+pub prepare_counted-requires-clause-new : goal.prepare_counted-requires-clause-new
+prepare_counted-requires-clause-new g c = c.judge.ensures.new (c.in-Ok-New.is ∙ ap Ok c.in-Ok-New.field-0-is)
