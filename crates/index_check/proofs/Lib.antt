@@ -1,0 +1,11 @@
+pub mod RisingLists
+pub mod WrittenKeys
+pub mod NumberedNodes
+pub mod NeighbourBlocks
+pub mod OuterKeys
+pub mod ComparedLaws
+pub mod LevelLaws
+pub mod Stable
+pub mod MergeLaws
+pub mod MinimalLaws
+pub mod Renamed

@@ -1,0 +1,24 @@
+use Rattle.std.proofs.Common.{arith}
+use Rattle.bisim_spec.specs.declared.sides.Side.TheVariants.{Parents}
+use Rattle.index_check.proofs.NeighbourBlocks.{neighbour_block}
+use Rattle.index_check.proofs.OuterKeys.{outer_neighbour_block}
+use Rattle.index_check.proofs.NumberedNodes.{numbered_more, numbered_all, numbered_refines}
+use Rattle.index_check.proofs.outer.refine_by_outer.Goals as goal
+
+pub loop-n-preserved : goal.loop-n-preserved
+loop-n-preserved g c = record {
+  numbered = rw c.in_ok-push.ensures.items (numbered_more _ _ _ _ _ _ _ _ c.loop-n.invariant.numbered c.in_ok-number.ensures.ok);
+  distinct = c.in_ok-number.ensures.distinct;
+}
+
+pub returns : goal.returns
+returns g c =
+    numbered_refines _ _ _ _ _
+    (outer_neighbour_block c.args.block.now (g.G.Digraph.edge c.args.g.now)
+    (neighbour_block Parents (g.G.Digraph.label_at c.args.g.now) (g.G.Digraph.edge c.args.g.now) c.args.block.now (g.met.G.Digraph.ends c.args.g.now) c.requires.base))
+    c.loop-n.invariant.distinct.apart
+    (numbered_all _ _ _ _ _ _ c.loop-n.invariant.numbered (λ m h.
+    let below = g.met.G.Digraph.below c.args.g.now m (c.requires.own m h) in
+    let end = c.loop-n-test.false in
+    let size = c.size-n-end.ensures in
+    omega (arith, below, end, size)))

@@ -1,0 +1,32 @@
+-- Parents of a node in other blocks, and in its own.
+use Rattle.std.specs.Prelude.{ℕ, ◌≡◌, ◌&&◌, not, Bool, List, Option, Some, None, IsTrue, if◌then◌else◌}
+use Rattle.graph_spec.specs.Members.{at, is_this}
+use Rattle.bisim_spec.specs.Partitions.{Together}
+use Rattle.bisim_spec.specs.Tests.{together}
+
+-- p is a parent of n in another block
+abbrev pub is_outer_parent : List (Option ℕ) → (ℕ → ℕ → Bool) → ℕ → ℕ → Bool
+is_outer_parent block edge p n = edge p n && not (together block p n)
+
+-- some parent of the node is in its block
+abbrev pub HasInnerParent : List (Option ℕ) → (ℕ → ℕ → Bool) → ℕ → Type 0
+HasInnerParent block edge n = (p : ℕ) × IsTrue (edge p n) × Together block p n
+
+-- the label of n, where it has a parent in its block, and none where it has none
+pub record IsInnerLabel (block : List (Option ℕ)) (label : ℕ → Option ℕ) (edge : ℕ → ℕ → Bool) (n : ℕ) (o : Option ℕ) : Type 0 where
+  pub some : (x : ℕ) → o ≡ Some x → (label n ≡ Some x) × HasInnerParent block edge n
+  pub every : (x : ℕ) → label n ≡ Some x → HasInnerParent block edge n → o ≡ Some x
+
+-- the labels of the nodes that have a parent in their own block, and none for others
+pub record AreInnerLabels (block : List (Option ℕ)) (label : ℕ → Option ℕ) (edge : ℕ → ℕ → Bool) (inner : List (Option ℕ)) : Type 0 where
+  pub some : (n x : ℕ) → at inner n ≡ Some x → (label n ≡ Some x) × HasInnerParent block edge n
+  pub every : (n x p : ℕ) → label n ≡ Some x → IsTrue (edge p n) → Together block p n → at inner n ≡ Some x
+
+-- the block where it isn't the own one, else none
+abbrev pub outer_block : Option ℕ → Option ℕ → Option ℕ
+outer_block own None = None
+outer_block own (Some b) = if is_this b own then None else Some b
+
+-- the block of p, where it isn't that of n
+abbrev pub outer_block_at : List (Option ℕ) → ℕ → ℕ → Option ℕ
+outer_block_at block n p = outer_block (at block n) (at block p)

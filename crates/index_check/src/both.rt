@@ -1,0 +1,74 @@
+// Full bisimilarity by parents and children.
+ghost use Rattle.std.specs.Prelude.{◌↔◌, ℕ, IfOk, IsTrue, IsSome};
+ghost use Rattle.graph_spec.specs.Members.{at};
+ghost use Rattle.index_check.specs.Refinement.{Refines, IsNextLevel};
+ghost use Rattle.index_check.specs.NeighbourSides.{is_neighbour};
+ghost use Rattle.bisim_spec.specs.declared.sides.Side.TheVariants.{Children};
+ghost use Rattle.bisim_spec.specs.Bisimilarity.{Both, FB};
+ghost use Rattle.bisim_spec.specs.Partitions.{IsPartition, Agrees};
+ghost use Rattle.index_check.specs.NumberedShapes.{digraph_shape};
+
+use crate::comparing::{are_same, determines};
+use crate::levels::label_list;
+use crate::refining::refine;
+use bisim_spec::Side;
+use label_graph::Digraph;
+use px_base::Memory;
+use std::alloc::Global;
+
+// The partition `own`, refined by the blocks of children.
+fn refine_children<G: Digraph>(
+    alloc: Global,
+    g: &G,
+    own: &[Option<u32>],
+    base: &[Option<u32>],
+) -> Result<Vec<Option<u32>>, Memory>
+    requires own { (n : ℕ) → IsSome (at own.now n) → IsSome (G.label_at g.now n) }
+    requires base { (n : ℕ) → IsSome (G.label_at g.now n) → IsSome (at base.now n) }
+    ensures { IfOk result (λ next. Refines (at own.now) base.now (is_neighbour Children (G.edge g.now)) next.items) }
+{
+    refine(alloc, g, Side::Children, own, base)
+}
+
+// The level above one.
+fn next_both<G: Digraph>(
+    alloc: Global,
+    g: &G,
+    block: &[Option<u32>],
+) -> Result<Vec<Option<u32>>, Memory>
+    requires partition { IsPartition (digraph_shape G.Digraph g.now) block.now }
+    ensures partition { IfOk result (λ l. IsPartition (digraph_shape G.Digraph g.now) l.items) }
+    ensures agrees { IfOk result (λ l. IsNextLevel Both (digraph_shape G.Digraph g.now) block.now l.items) }
+{
+    let mid = refine(alloc, g, Side::Parents, block, block)?;
+    let next = refine_children(alloc, g, &mid, block)?;
+    Ok(next)
+}
+
+// The level from which on no level parts more nodes.
+fn settled<G: Digraph>(alloc: Global, g: &G) -> Result<Vec<Option<u32>>, Memory>
+    ensures { IfOk result (λ l. Agrees (digraph_shape G.Digraph g.now) l.items (FB (digraph_shape G.Digraph g.now))) }
+{
+    let mut block = label_list(alloc, g)?;
+    for j in 0..g.size() {
+        let next = next_both(alloc, g, &block)?;
+        let stays = determines(alloc, &block, &next)?;
+        if stays {
+            return Ok(block);
+        }
+        block = next;
+    }
+    Ok(block)
+}
+
+/// Whether the blocks are the classes of nodes that are fully bisimilar by parents and children, as in the forward and backward
+/// index (Kaushik et al., SIGMOD 2002). The list is as for `fits_level`. `Memory` comes only where memory runs out. Expected
+/// O(r (n + m log m) + b) for n node numbers, m edges, block numbers below b, and r levels until none parts more nodes: r is at most
+/// n; it takes the memory of `fits_level`, with the keys of two levels.
+pub fn fits_both<G: Digraph>(alloc: Global, g: &G, block: &[Option<u32>]) -> Result<bool, Memory>
+    requires partition { IsPartition (digraph_shape G.Digraph g.now) block.now }
+    ensures { IfOk result (λ yes. IsTrue yes ↔ Agrees (digraph_shape G.Digraph g.now) block.now (FB (digraph_shape G.Digraph g.now))) }
+{
+    let right = settled(alloc, g)?;
+    are_same(alloc, &right, block)
+}
