@@ -1,0 +1,13 @@
+-- Shapes that are the same up to the numbers of their nodes.
+use Rattle.std.specs.Prelude.{ℕ, ◌≡◌}
+use Rattle.graph_spec.specs.Shapes.{Shape, IsNode}
+
+-- The relation pairs each node of the one shape with one node of the other, and those of a pair agree in their label and in their
+-- edges: it is an isomorphism of labelled graphs.
+pub record IsIsomorphism (s t : Shape) (pairs : ℕ → ℕ → Type 0) : Type 0 where
+  pub there : (u : ℕ) → IsNode s u → (v : ℕ) × IsNode t v × pairs u v
+  pub back : (v : ℕ) → IsNode t v → (u : ℕ) × IsNode s u × pairs u v
+  pub one : (u v w : ℕ) → pairs u v → pairs u w → v ≡ w
+  pub only : (u v w : ℕ) → pairs u w → pairs v w → u ≡ v
+  pub label : (u v : ℕ) → pairs u v → s.label u ≡ t.label v
+  pub edge : (u v x y : ℕ) → pairs u v → pairs x y → s.edge u x ≡ t.edge v y

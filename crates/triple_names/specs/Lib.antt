@@ -1,0 +1,6 @@
+pub mod Items
+pub mod Names
+pub mod TripleChanges
+pub mod Represented
+pub mod Histories
+pub mod Isomorphic

@@ -1,0 +1,11 @@
+//! Triples that are inserted into a graph and deleted from it: the numbers of terms and of triples, the changes, and that the
+//! graph represents just the triples that are present. Definitions and laws; no code.
+//!
+//! Laws in `proofs/`:
+//! - `InsertKept`, `DeleteKept`: an accepted insert of a triple leaves a graph that represents the triples with it; an accepted
+//!   delete, without it.
+//! - `HistoryLaws`: so do lists of inserts and deletes; two graphs that represent the same triples are isomorphic.
+//! - `ItemLaws`, `NumberLaws`, `ImageSteps`: what has a node; what a list has once a key has got a number; a node more, an edge
+//!   more, a node less.
+//! - `Examples`: worked values, and near misses.
+#![tactic(auto)]
