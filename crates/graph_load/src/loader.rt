@@ -12,11 +12,10 @@ pub(crate) mod ahead;
 
 use crate::hashed::HashedTriple;
 use crate::known::{Key, Known};
-use crate::limited_changes::{Stop, add_node, make};
+use crate::limited_changes::{Stop, add_node, link};
 use crate::loader::ahead::Hints;
 use crate::predicates::Predicates;
 use crate::term_changes::TermChanges;
-use graph_update::{Change, Step};
 use label_graph::Graph;
 use px_base::{Limits, Memory, NodeId, Text};
 use std::alloc::Global;
@@ -179,14 +178,13 @@ impl Loader {
     }
 
     // Adds an edge.
-    fn link(&mut self, alloc: Global, limits: &Limits, from: NodeId, to: NodeId) -> Result<(), Stop>
+    fn link(&mut self, limits: &Limits, from: NodeId, to: NodeId) -> Result<(), Stop>
         requires sound { IsSoundLoader self.old }
         ensures steps { OnOk result (LoaderStep (changed limits.now (link from to)) self.old self.new) }
         ensures terms { OnOk result (self.new.terms ≡ self.old.terms) }
         ensures limit { IsErrOf result Stop.Limit → IsStopped (changed limits.now (link from to)) self.old }
     {
-        let change = Change::one(alloc, Step::Link(from, to))?;
-        make(alloc, &mut self.graph, &change, limits)
+        link(&mut self.graph, from, to, limits)
     }
 
     // Makes a node of the object of a triple, and adds the edges from its subject to its own node and on to
@@ -208,8 +206,8 @@ impl Loader {
     {
         let found = self.find_again(object, found);
         let onto = self.need(alloc, limits, object, found)?;
-        self.link(alloc, limits, from, node)?;
-        self.link(alloc, limits, node, onto.number)?;
+        self.link(limits, from, node)?;
+        self.link(limits, node, onto.number)?;
         Ok(onto.place)
     }
 
