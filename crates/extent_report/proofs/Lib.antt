@@ -2,10 +2,10 @@ pub mod Examples
 pub mod NodeTextLemmas
 pub mod AnswerExamples
 mod Chained
-mod NumberedTexts
+pub mod NumberedTexts
 mod NodeWords
 mod Summed
-mod RisingLists
+pub mod RisingLists
 mod LeastMembers
 pub mod AgreeingShapes
 mod ListedSummaries

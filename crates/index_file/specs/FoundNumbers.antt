@@ -1,0 +1,21 @@
+-- Numbers that are read from text: those past 10^18, which is past every count and limit, are read as 10^18.
+use Rattle.std.specs.Prelude.{ℕ, ◌≡◌, if◌then◌else◌, nat_le}
+
+-- the number, or 10^18 where it is past that
+abbrev pub saturated : ℕ → ℕ
+saturated n = if nat_le n 1000000000000000000 then n else 1000000000000000000
+
+-- r is read of the one number of which P holds
+pub record IsFound (P : ℕ → Type 0) (r : ℕ) : Type 0 where
+  pub number : ℕ
+  pub holds : P number
+  pub only : (n : ℕ) → P n → n ≡ number
+  pub is : r ≡ saturated number
+
+-- the two are read of the one pair of numbers of which P holds
+pub record AreFound (P : ℕ → ℕ → Type 0) (p : ℕ × ℕ) : Type 0 where
+  pub first : ℕ
+  pub second : ℕ
+  pub hold : P first second
+  pub only : (n m : ℕ) → P n m → (n ≡ first) × (m ≡ second)
+  pub are : (p.0 ≡ saturated first) × (p.1 ≡ saturated second)

@@ -1,0 +1,84 @@
+-- What an index file holds, and which of its lines is refused.
+use Rattle.std.specs.Prelude.{ℕ, ◌≡◌, ◌≤◌, ◌+◌, ◌⊎◌, List, [], ◌∷◌, length, Option, None, Some, IsTrue, IsFalse}
+use Rattle.px_base.specs.declared.lines.TheConstants.{LINE_BYTES, GRAPH_BYTES}
+use Rattle.graph_spec.specs.declared.limits.Limits.{Limits}
+use Rattle.graph_spec.specs.Lines.{Line, cut}
+use Rattle.index_file.specs.SavedFiles.{SavedFile}
+use Rattle.index_file.specs.Statements.{Statement, Says}
+use Rattle.index_file.specs.Readings.{Reading, nothing_read, next_reading, exceeds, is_complete, file_of}
+
+-- the lines are taken, one after another
+abbrev pub TakesAll : List Line → Reading → Reading → Type 0
+TakesAll [] r last = r ≡ last
+TakesAll (l ∷ ls) r last = (s : Statement) × (mid : Reading) × Says l.text s × (next_reading s r ≡ Some mid) × TakesAll ls mid last
+
+-- the text is an index file that holds this
+pub record Spelled (text : List ℕ) (file : SavedFile) : Type 0 where
+  pub last : Reading
+  pub takes : TakesAll (cut text) nothing_read last
+  pub complete : IsTrue (is_complete last)
+  pub holds : file ≡ file_of last
+
+pub data Outcome : Type 0 where
+  -- the file holds this
+  holds : SavedFile → Outcome
+  -- the line of that number can't stand there, or is missing
+  syntax : ℕ → Outcome
+  -- the line of that number passes a limit
+  limit : ℕ → Outcome
+
+-- how far a file is read
+pub record Place : Type 0 where
+  pub reading : Reading
+  -- the lines that were taken, and their bytes with their ends
+  pub lines : ℕ
+  pub bytes : ℕ
+
+abbrev pub at_start : Place
+at_start = record { reading = nothing_read; lines = 0; bytes = 0 }
+
+-- past the line, with this read
+abbrev pub past : Place → Line → Reading → Place
+past p l reading = record { reading = reading; lines = p.lines + 1; bytes = p.bytes + length l.text + length l.end }
+
+abbrev pub IsWithinFile : Place → Line → Type 0
+IsWithinFile p l = (length l.text ≤ LINE_BYTES) × (p.bytes + length l.text + length l.end ≤ GRAPH_BYTES)
+
+-- the line is taken, and leaves this
+pub record IsTaken (limits : Limits) (line : List ℕ) (old new : Reading) : Type 0 where
+  pub statement : Statement
+  pub says : Says line statement
+  pub within : IsFalse (exceeds limits statement old)
+  pub next : next_reading statement old ≡ Some new
+
+-- the line passes a limit
+pub record IsOver (limits : Limits) (line : List ℕ) (old : Reading) : Type 0 where
+  pub statement : Statement
+  pub says : Says line statement
+  pub over : IsTrue (exceeds limits statement old)
+
+-- whatever the line says, it passes no limit, and can't stand here
+abbrev pub IsWrong : Limits → List ℕ → Reading → Type 0
+IsWrong limits line old = (s : Statement) → Says line s → IsFalse (exceeds limits s old) × (next_reading s old ≡ None)
+
+-- What becomes of a line that is within the limits on lines. What follows is said of the place behind it.
+pub data ReadsLine (limits : Limits) (p : Place) (l : Line) (rest : Place → Outcome → Type 0) : Outcome → Type 0 where
+  takes : (r : Reading) → IsTaken limits l.text p.reading r → (o : Outcome) → rest (past p l r) o → ReadsLine limits p l rest o
+  over : IsOver limits l.text p.reading → ReadsLine limits p l rest (limit (p.lines + 1))
+  wrong : IsWrong limits l.text p.reading → ReadsLine limits p l rest (syntax (p.lines + 1))
+
+-- the file may end here, or ends too early
+pub data Ends (p : Place) : Outcome → Type 0 where
+  complete : IsTrue (is_complete p.reading) → Ends p (holds (file_of p.reading))
+  early : IsFalse (is_complete p.reading) → Ends p (syntax (p.lines + 1))
+
+-- The lines from the place on give this. The first line that is refused decides.
+abbrev pub ReadsFrom : Limits → List Line → Place → Outcome → Type 0
+ReadsFrom limits [] p o = Ends p o
+ReadsFrom limits (l ∷ ls) p o =
+    ((¬ IsWithinFile p l) × (o ≡ limit (p.lines + 1)))
+    ⊎ (IsWithinFile p l × ReadsLine limits p l (ReadsFrom limits ls) o)
+
+-- the text gives this
+abbrev pub Reads : Limits → List ℕ → Outcome → Type 0
+Reads limits text o = ReadsFrom limits (cut text) at_start o
