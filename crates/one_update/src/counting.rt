@@ -84,7 +84,7 @@ pub(crate) fn raise_edges(
     ensures raised { OnOk result (EdgesHaveCome after.now effects.now base.now draft.new) }
 {
     // Called for its contract: edges are few.
-    let _known = after.edge_count();
+    let _known = after.created();
     let added = effects.added();
     'raises: for edge in added {
         raise_edge(base, draft, edge.0, edge.1)?;

@@ -45,7 +45,7 @@ pub fn move_node<L: Ledger>(
     ensures cost { steps.new ≤ steps.old + parents_cost after.now n + children_cost after.now n }
 {
     // Called for its contract: there are few edges, so that no support grows too large.
-    let _known = after.edge_count();
+    let _known = after.created();
     let own = block_of(base, draft, n);
     read_parents(&mut neighbours.parents, after, n, steps)?;
     read_children(&mut neighbours.children, after, n, steps)?;

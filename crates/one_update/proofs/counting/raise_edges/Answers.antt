@@ -30,9 +30,7 @@ raise_edge-requires-clause-onto c =
 
 pub raise_edge-requires-clause-few : goal.raise_edge-requires-clause-few
 raise_edge-requires-clause-few c =
-    let count = c.edge_count-known.ensures.count in
-    let few = c.edge_count-known.ensures.few in
-    let most : set.len (graph_after c.args.after.now).edges ≤ 2 ^ 30 = omega (arith, count, few) in
+    let most : set.len (graph_after c.args.after.now).edges ≤ 2 ^ 30 = c.created-known.ensures.few_edges in
     index_few c.args.after.now.before (graph_after c.args.after.now) c.args.effects.now c.args.base.now c.raises.draft c.raises.edge-index c.requires.effects most c.raises.invariant.way
 
 pub raises-preserved : goal.raises-preserved

@@ -23,7 +23,7 @@ pub shift_neighbours-requires-clause-few : goal.shift_neighbours-requires-clause
 shift_neighbours-requires-clause-few g c = λ x y p2 d.
     let edges = (graph_after c.args.after.now).edges in
     let p = shown_blocks c.args.base.now c.args.draft.now in
-    let few : set.len edges ≤ 2 ^ 30 = subst (λ m. m ≤ 2 ^ 30) c.edge_count-known.ensures.count c.edge_count-known.ensures.few in
+    let few : set.len edges ≤ 2 ^ 30 = c.created-known.ensures.few_edges in
     let lp : Lists (λ u. set.contains edges (u, c.args.n)) c.deref.result.now = subst (Lists (λ u. set.contains edges (u, c.args.n))) (sym c.deref.ensures.value) c.in_ok-read_parents.ensures.parents in
     let reserved = room_for edges c.args.n c.deref.result.now c.read_children.new.list.items lp c.in_ok-read_children.ensures.children p p2 x y few in
     let same = c.requires.supports.each x y in
@@ -53,7 +53,7 @@ shift_neighbours-requires-2-clause-few g c = λ x y p2 d0.
     let p = shown_blocks q c.args.draft.now in
     let parents = c.deref.result.now in
     let children = c.deref-2.result.now in
-    let few : set.len edges ≤ 2 ^ 30 = subst (λ m. m ≤ 2 ^ 30) c.edge_count-known.ensures.count c.edge_count-known.ensures.few in
+    let few : set.len edges ≤ 2 ^ 30 = c.created-known.ensures.few_edges in
     let lp : Lists (λ u. set.contains edges (u, n)) parents = subst (Lists (λ u. set.contains edges (u, n))) (sym c.deref.ensures.value) c.in_ok-read_parents.ensures.parents in
     let lc : Lists (λ u. set.contains edges (n, u)) children = subst (Lists (λ u. set.contains edges (n, u))) (sym c.deref-2.ensures.value) c.in_ok-read_children.ensures.children in
     let d = moved_same n c.block_of-own.result c.args.b p (shown_blocks q c.shift_neighbours.new.draft) p2 (ap (with_moves q.blocks.block_of) c.in_ok-shift_neighbours.ensures.moves) d0 in
